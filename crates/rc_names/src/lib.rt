@@ -1,0 +1,16 @@
+//! Names of services, the kinds of services, and a table of names in byte order.
+#![tactic(auto)]
+
+mod kind;
+mod name;
+mod names;
+#[cfg(test)]
+mod tests;
+
+pub use kind::Kind;
+pub use name::{Name, NameFault};
+pub use names::{MAX_NAMES, Names};
+use std::alloc::AllocError;
+
+/// Want of memory, the only refusal of the calls that answer it. Nothing has changed.
+pub type NoMem = AllocError;

@@ -1,0 +1,89 @@
+ghost use Rattle.std.specs.Prelude.{◌≡◌, ◌↔◌, IfOk, IfErr, IsTrue};
+ghost use Rattle.rc_names.specs.Name.{HasNameBytes, IsName, IsWrongBy};
+
+use std::alloc::Global;
+use std::marker::Model;
+use thiserror::Error;
+
+// The most bytes of a name.
+const MAX_BYTES: usize = 255;
+
+// How the names begin that no service may have.
+const RESERVED: &str = "s6rc-";
+
+/// Why a text is no name. The first fault in this order is the one that is reported.
+#[derive(Clone, Copy, PartialEq, Eq, Debug, Error)]
+pub enum NameFault {
+    #[error("a name has at least one byte")]
+    Empty = 1,
+    #[error("a name has at most 255 bytes")]
+    Long = 2,
+    #[error("a name has no control character, space or slash, and begins with neither `-` nor `#`")]
+    BadByte = 3,
+    #[error("names that begin with `s6rc-` are reserved")]
+    Reserved = 4,
+    #[error("out of memory")]
+    Memory = 5,
+}
+
+/// The name of a service.
+#[derive(Debug, Drop)]
+pub struct Name {
+    text: String,
+}
+
+impl Model for Name {
+    ghost use Rattle.std.specs.Prelude.{ℕ, List};
+    ghost use Rattle.std.specs.String.{string_bytes};
+    ghost use Rattle.rc_names.specs.Name.{IsName};
+
+    ghost Value = { List ℕ };
+
+    ghost view = { λ name. string_bytes name.text };
+
+    ghost invariant = { λ name. IsName (string_bytes name.text) };
+}
+
+impl Name {
+    /// Reads a text as a name.
+    pub fn read(alloc: Global, text: &str) -> Result<Name, NameFault>
+        ensures name { IfOk result (λ name. (name ≡ text.now) × IsName text.now) }
+        ensures fault { IfErr result (λ fault. IsWrongBy fault text.now) }
+    {
+        if text.is_empty() {
+            return Err(NameFault::Empty);
+        }
+        if text.len() > MAX_BYTES {
+            return Err(NameFault::Long);
+        }
+        if !has_name_bytes(text.as_bytes()) {
+            return Err(NameFault::BadByte);
+        }
+        if text.starts_with(RESERVED) {
+            return Err(NameFault::Reserved);
+        }
+        match String::from_str(alloc, text) {
+            Ok(text) => Ok(Name { text }),
+            Err(_) => Err(NameFault::Memory),
+        }
+    }
+
+    /// The name as text.
+    pub fn text(&self) -> &str
+        ensures bytes { result.now ≡ self.now }
+        ensures name { IsName self.now }
+    {
+        self.text.as_str()
+    }
+}
+
+// Whether these bytes may stand in a name, the first of them at its start.
+fn has_name_bytes(bytes: &[u8]) -> bool
+    ensures { IsTrue result ↔ HasNameBytes bytes.now }
+{
+    let starts_well = !matches!(bytes.first(), Some(b'-' | b'#'));
+    starts_well
+        && bytes
+            .iter()
+            .all(|&byte| byte > 32 && byte != b'/' && byte != 127)
+}

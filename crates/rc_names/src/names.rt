@@ -1,0 +1,95 @@
+ghost use Rattle.std.specs.Prelude.{◌≡◌, ◌+◌, ◌<◌, ◌↔◌, [], false, length, Contains, IfOk, OnOk, OnErr, IfSome, IfNone, IsTrue, slice_get, if◌then◌else◌};
+ghost use Rattle.rc_names.specs.Names.{Adds, AreNames};
+
+use crate::NoMem;
+use crate::name::Name;
+use indexmap::IndexMap;
+use std::alloc::Global;
+use std::marker::Model;
+
+/// The most names that a table holds.
+pub const MAX_NAMES: u16 = 4096;
+
+/// A table of names in byte order. A name's id is its place.
+#[derive(Debug, Drop)]
+pub struct Names {
+    alloc: Global,
+    table: IndexMap<String, Name>,
+}
+
+impl Model for Names {
+    ghost use Rattle.std.specs.Prelude.{◌≡◌, ℕ, List, map};
+    ghost use Rattle.std.specs.String.{string_bytes};
+    ghost use Rattle.indexmap.specs.IndexMap.{keys, values};
+    ghost use Rattle.rc_names.specs.Names.{AreNames};
+
+    ghost Value = { List (List ℕ) };
+
+    ghost view = { λ names. values names.table };
+
+    ghost invariant = { λ names. (map string_bytes (keys names.table) ≡ values names.table) × AreNames (values names.table) };
+}
+
+impl Names {
+    /// A table of no names, which keeps the allocator.
+    pub fn new(alloc: Global) -> Names
+        ensures { result ≡ [] }
+    {
+        Names {
+            alloc,
+            table: IndexMap::new(alloc),
+        }
+    }
+
+    /// Puts a name in. True: it is new.
+    pub fn add(&mut self, name: Name) -> Result<bool, NoMem>
+        requires { length self.old < MAX_NAMES }
+        ensures added { IfOk result (λ added. IsTrue added ↔ (Contains self.old name → ⊥)) }
+        ensures holds { OnOk result (Adds self.old name self.new) }
+        ensures len { IfOk result (λ added. length self.new ≡ length self.old + (if added then 1 else 0)) }
+        ensures names { AreNames self.new }
+
+        // A name that is there needs no memory.
+        ensures present { Contains self.old name → (result ≡ Ok false) × (self.new ≡ self.old) }
+        ensures err { OnErr result (self.new ≡ self.old) }
+    {
+        if self.find(name.text()).is_some() {
+            return Ok(false);
+        }
+        let key = String::from_str(self.alloc, name.text())?;
+        self.table.insert_sorted(key, name)?;
+        Ok(true)
+    }
+
+    /// The id of a text, if it is among the names.
+    pub fn find(&self, text: &str) -> Option<u16>
+        ensures found { IfSome result (λ id. slice_get self.now id ≡ Some text.now) }
+        ensures missing { IfNone result (Contains self.now text.now → ⊥) }
+    {
+        let place = self.table.get_index_of(text)?;
+        Some(place as u16)
+    }
+
+    /// The name with an id.
+    pub fn name_of(&self, id: u16) -> &Name
+        requires { id < length self.now }
+        ensures { slice_get self.now id ≡ Some result.now }
+    {
+        &self.table[id as usize]
+    }
+
+    /// How many names there are. The ids are those below it.
+    pub fn len(&self) -> u16
+        ensures len { result ≡ length self.now }
+        ensures names { AreNames self.now }
+    {
+        self.table.len() as u16
+    }
+
+    /// Whether there are no names.
+    pub fn is_empty(&self) -> bool
+        ensures { IsTrue result ↔ (self.now ≡ []) }
+    {
+        self.table.is_empty()
+    }
+}
