@@ -1,0 +1,9 @@
+pub mod RowLemmas
+pub mod Counting
+pub mod Paths
+pub mod Rounds
+pub mod PairLemmas
+pub mod Reversing
+pub mod Orders
+pub mod Acyclic
+pub mod Rings

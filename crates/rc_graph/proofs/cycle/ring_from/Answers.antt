@@ -1,0 +1,31 @@
+use Rattle.std.proofs.Common.{◌≡◌, ◌∙◌, ℕ, ◌<◌, List, length, refl, inl, inr, sym, arith}
+use Rattle.std.specs.Global.{Vec}
+use Rattle.std.proofs.lemmas.Result.{IfOk-weaker}
+use Rattle.rc_graph.specs.Rows.{rows}
+use Rattle.rc_graph.proofs.RowLemmas.{length-rows, row_is, row_known, row_needs}
+use Rattle.rc_graph.proofs.Counting.{fewer_left}
+use Rattle.rc_graph.proofs.Rings.{walk_goes_on, walk_closes}
+use Rattle.rc_graph.proofs.cycle.ring_from.Goals as goal
+
+in_table : (vectors : List (Vec ℕ)) (s : ℕ) → s < length (rows vectors) → s < length vectors
+in_table vectors s h = let n : length (rows vectors) ≡ length vectors = length-rows vectors in omega arith
+
+pub left_need-at-requires-clause-known : goal.left_need-at-requires-clause-known
+left_need-at-requires-clause-known c =
+    row_known _ _ _ _ (row_is c.args.needs.now c.loop-path.at c.index-needs-at.result c.as_slice.result.now (in_table _ _ c.loop-path.invariant.known) c.index-needs-at.is c.as_slice.ensures.value)
+    c.requires.lists.known c.requires.bound
+
+pub loop-path-smaller : goal.loop-path-smaller
+loop-path-smaller c =
+    fewer_left _ _ c.loop-path.at c.insert.ensures.bound (λ s h. (c.insert.ensures.members s).1 (inl h)) ((c.insert.ensures.members c.loop-path.at).1 (inr refl)) (c.loop-path-test.ensures.fresh.0 refl)
+
+pub loop-path-preserved : goal.loop-path-preserved
+loop-path-preserved c =
+    let e = row_is c.args.needs.now c.loop-path.at c.index-needs-at.result c.as_slice.result.now (in_table _ _ c.loop-path.invariant.known) c.index-needs-at.is c.as_slice.ensures.value in
+    let needed = (row_needs c.args.needs.now c.loop-path.at c.as_slice.result.now e c.left_need-at.result).1 c.left_need-at.ensures.listed in
+    rw c.in_ok-push.ensures.items (walk_goes_on _ _ _ _ _ _ _ c.loop-path.invariant (c.loop-path-test.ensures.fresh.0 refl) c.insert.ensures.members c.insert.ensures.bound
+    needed (c.requires.lists.known _ _ needed) c.left_need-at.ensures.left)
+
+pub returns : goal.returns
+returns c = IfOk-weaker c.from_first.result _ _ (λ ring part.
+    rw part.3 (walk_closes _ _ _ _ _ part.0 part.1 c.loop-path.invariant (sym c.deref.ensures.value ∙ part.2))) c.from_first.ensures

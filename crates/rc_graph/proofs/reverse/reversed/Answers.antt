@@ -1,0 +1,20 @@
+use Rattle.std.proofs.Common.{◌≡◌, ◌∙◌, length, arith, sym, ap}
+use Rattle.std.proofs.lemmas.List.{take_at}
+use Rattle.rc_graph.specs.Rows.{rows}
+use Rattle.rc_graph.proofs.RowLemmas.{length-rows, row_is, row_known}
+use Rattle.rc_graph.proofs.Reversing.{added_lent, one_reversed, all_reversed}
+use Rattle.rc_graph.proofs.reverse.reversed.Goals as goal
+
+pub add_needing-requires-clause-known : goal.add_needing-requires-clause-known
+add_needing-requires-clause-known c =
+    row_known _ _ _ _ (row_is c.args.needs.now c.loop-s.s c.index-needs-s.result c.as_slice.result.now c.loop-s-test.true c.index-needs-s.is c.as_slice.ensures.value) c.requires.known
+    (ap length c.deref_mut.ensures.value ∙ (sym (length-rows c.loop-s.needed_by.items) ∙ (c.loop-s.invariant.few ∙ length-rows c.args.needs.now)))
+
+pub loop-s-preserved : goal.loop-s-preserved
+loop-s-preserved c =
+    rw (take_at _ _ _ (c.add_needing.auto.needed_by ∙ c.deref_mut.ensures.len)) (one_reversed _ _ _ _ c.loop-s.invariant
+    (added_lent c.loop-s.needed_by.items c.deref_mut.result.now c.add_needing.new.needed_by _ c.as_slice.result.now _ c.deref_mut.ensures.value c.add_needing.auto.needed_by
+    (row_is c.args.needs.now c.loop-s.s c.index-needs-s.result c.as_slice.result.now c.loop-s-test.true c.index-needs-s.is c.as_slice.ensures.value) c.add_needing.ensures.lists c.in_ok-add_needing.ensures.pairs))
+
+pub returns : goal.returns
+returns c = all_reversed _ _ _ (let n : length (rows c.args.needs.now) ≡ length c.args.needs.now = length-rows c.args.needs.now in omega (arith, c.loop-s-test.false)) c.loop-s.invariant

@@ -1,0 +1,129 @@
+ghost use Rattle.std.specs.Prelude.{◌≡◌, ℕ, ◌<◌, ◌≤◌, ◌⊎◌, ◌↔◌, List, [], length, replicate, IfOk, IfErr, OnOk, OnErr};
+ghost use Rattle.rc_graph.specs.Needs.{Needs, AreNeeds, IsAcyclic};
+ghost use Rattle.rc_set.specs.Set.{Has};
+ghost use Rattle.rc_graph.specs.Cycle.{IsCycle};
+ghost use Rattle.rc_graph.specs.Order.{IsOrder};
+ghost use Rattle.rc_graph.specs.Placing.{IsStuck};
+ghost use Rattle.rc_graph.specs.Rows.{rows};
+
+use crate::cycle::{Cycle, cycle_from};
+use crate::graph::Graph;
+use crate::order::{first_left, placing_of};
+use crate::pairs::{add_pair, no_pairs};
+use crate::reverse::reversed;
+use rc_set::{NoMem, Set};
+use std::alloc::Global;
+use std::marker::Model;
+use thiserror::Error;
+
+/// Why a draft is no graph. The draft is gone.
+#[derive(Debug, Drop, Error)]
+pub enum GraphFault {
+    /// Some service needs itself along a path.
+    #[error("services need each other in a circle")]
+    Cycle(Cycle),
+    /// There was no room for the graph.
+    #[error("out of memory")]
+    Memory,
+}
+
+/// Pairs of services, one needing the other, that are to become a graph.
+#[derive(Debug, Drop)]
+pub struct Draft {
+    alloc: Global,
+    needs: Vec<Vec<u16>>,
+}
+
+impl Model for Draft {
+    ghost use Rattle.std.specs.Prelude.{ℕ, List};
+    ghost use Rattle.rc_graph.specs.Needs.{AreNeeds};
+    ghost use Rattle.rc_graph.specs.Rows.{rows};
+
+    ghost Value = { List (List ℕ) };
+
+    ghost view = { λ d. rows d.needs.items };
+
+    ghost invariant = { λ d. AreNeeds (rows d.needs.items) };
+}
+
+impl Draft {
+    /// A draft of services from 0 to below `services`, in which none needs another.
+    pub fn new(alloc: Global, services: u16) -> Result<Draft, NoMem>
+        requires { services ≤ 4096 }
+        ensures { IfOk result (λ draft. draft ≡ replicate services []) }
+    {
+        let needs = no_pairs(alloc, services)?;
+        Ok(Draft { alloc, needs })
+    }
+
+    /// How many services there are, at most 4,096.
+    pub fn len(&self) -> u16
+        ensures count { result ≡ length self.now }
+        ensures lists { AreNeeds self.now }
+    {
+        self.needs.len() as u16
+    }
+
+    /// Says that a service needs another. A pair that comes again changes nothing.
+    pub fn need(&mut self, service: u16, needed: u16) -> Result<(), NoMem>
+        requires service { service < length self.old }
+        requires needed { needed < length self.old }
+        ensures bound { length self.new ≡ length self.old }
+        ensures pairs { OnOk result ((s t : ℕ) → Needs self.new s t ↔ (Needs self.old s t ⊎ ((s ≡ service) × (t ≡ needed)))) }
+        ensures err { OnErr result (self.new ≡ self.old) }
+    {
+        add_pair(&mut self.needs, service, needed)
+    }
+
+    /// The graph of these pairs, or a cycle among them.
+    pub fn finish(self) -> Result<Graph, GraphFault>
+        ensures graph { IfOk result (λ graph. graph ≡ self) }
+        ensures acyclic { OnOk result (IsAcyclic self) }
+        ensures cycle { (cycle : List ℕ) → result ≡ Err (GraphFault.Cycle cycle) → IsCycle self cycle }
+    {
+        let alloc = self.alloc;
+        let placing = match placing_of(alloc, &self.needs) {
+            Ok(placing) => placing,
+            Err(_) => return Err(GraphFault::Memory),
+        };
+        match first_left(&placing.placed) {
+            None => graph_of(alloc, self.needs, placing.order),
+            Some(start) => Err(fault_from(alloc, &self.needs, &placing.placed, start)),
+        }
+    }
+}
+
+/// The graph, where every service is placed.
+fn graph_of(alloc: Global, needs: Vec<Vec<u16>>, order: Vec<u16>) -> Result<Graph, GraphFault>
+    requires lists { AreNeeds (rows needs.items) }
+    requires order { IsOrder (rows needs.items) order.items }
+    ensures graph { IfOk result (λ graph. graph ≡ rows needs.items) }
+    ensures err { IfErr result (λ fault. fault ≡ GraphFault.Memory) }
+{
+    match reversed(alloc, &needs) {
+        Ok(needed_by) => Ok(Graph {
+            needs,
+            needed_by,
+            order,
+        }),
+        Err(_) => Err(GraphFault::Memory),
+    }
+}
+
+/// A cycle among the services that are not placed, where there is room to show it.
+fn fault_from(alloc: Global, needs: &[Vec<u16>], placed: &Set, start: u16) -> GraphFault
+    requires lists { AreNeeds (rows needs.now) }
+    requires bound { length placed.now ≡ length needs.now }
+    requires stuck { IsStuck (rows needs.now) placed.now }
+    requires start { start < length needs.now }
+    requires left { Has placed.now start → ⊥ }
+    ensures { (cycle : List ℕ) → result ≡ GraphFault.Cycle cycle → IsCycle (rows needs.now) cycle }
+{
+    match cycle_from(alloc, needs, placed, start) {
+        Ok(cycle) => GraphFault::Cycle(cycle),
+        Err(_) => GraphFault::Memory,
+    }
+}
+
+#[cfg(test)]
+mod tests;

@@ -1,0 +1,3 @@
+pub mod PlanSets
+pub mod Plan
+pub mod Target

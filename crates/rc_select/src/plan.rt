@@ -1,0 +1,89 @@
+ghost use Rattle.std.specs.Prelude.{◌≡◌, ℕ, length, IfOk};
+ghost use Rattle.rc_set.specs.Set.{Has};
+ghost use Rattle.rc_graph.specs.Closure.{IsClosed};
+ghost use Rattle.rc_select.specs.Plan.{LeadsTo, Nothing};
+ghost use Rattle.rc_select.specs.Target.{Target};
+
+use rc_graph::Graph;
+use rc_set::{NoMem, Set};
+use std::alloc::Global;
+use std::marker::Model;
+
+/// What a change does to the services that are up.
+#[derive(Debug, Drop)]
+pub struct Plan {
+    opening: Set,
+    lower: Set,
+    raise: Set,
+    kept: Set,
+}
+
+impl Model for Plan {
+    ghost use Rattle.rc_select.specs.PlanSets.{PlanSets};
+
+    ghost Value = { PlanSets };
+
+    ghost view = { λ p. record { opening = p.opening; lower = p.lower; raise = p.raise; kept = p.kept } };
+}
+
+impl Plan {
+    /// What is up before the change.
+    pub fn opening(&self) -> &Set
+        ensures { result.now ≡ self.now.opening }
+    {
+        &self.opening
+    }
+
+    /// What the change takes down.
+    pub fn lower(&self) -> &Set
+        ensures { result.now ≡ self.now.lower }
+    {
+        &self.lower
+    }
+
+    /// What the change brings up.
+    pub fn raise(&self) -> &Set
+        ensures { result.now ≡ self.now.raise }
+    {
+        &self.raise
+    }
+
+    /// What stays up although the change would have taken it down.
+    pub fn kept(&self) -> &Set
+        ensures { result.now ≡ self.now.kept }
+    {
+        &self.kept
+    }
+}
+
+/// The plan from one set of services to another. It keeps nothing.
+pub fn between(alloc: Global, graph: &Graph, from: &Set, to: &Set) -> Result<Plan, NoMem>
+    requires from_bound { length from.now ≡ length graph.now }
+    requires to_bound { length to.now ≡ length graph.now }
+    requires from_closed { IsClosed graph.now (Has from.now) }
+    requires to_closed { IsClosed graph.now (Has to.now) }
+    ensures { IfOk result (LeadsTo from.now (Has to.now) Nothing) }
+{
+    let mut lower = from.copy(alloc)?;
+    lower.without(to);
+    let mut raise = to.copy(alloc)?;
+    raise.without(from);
+    Ok(Plan {
+        opening: from.copy(alloc)?,
+        lower,
+        raise,
+        kept: Set::empty(alloc, graph.len())?,
+    })
+}
+
+/// The plan that brings services up with all that they need, and takes nothing down.
+pub fn plan_up(alloc: Global, graph: &Graph, up: &Set, wanted: &Set) -> Result<Plan, NoMem>
+    requires up_bound { length up.now ≡ length graph.now }
+    requires wanted_bound { length wanted.now ≡ length graph.now }
+    requires up_closed { IsClosed graph.now (Has up.now) }
+    ensures { IfOk result (LeadsTo up.now (Target graph.now (Has up.now) (Has wanted.now)) Nothing) }
+{
+    let mut target = graph.up_of(alloc, wanted)?;
+    target.join(up);
+    between(alloc, graph, up, &target)
+}
