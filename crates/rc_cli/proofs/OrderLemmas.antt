@@ -1,0 +1,108 @@
+-- What byte order gives: texts that each stand before the next are in order, and lists in order with the same members are equal.
+use Rattle.std.proofs.Common.{◌≡◌, ◌∙◌, ℕ, ◌+◌, ◌-◌, ◌<◌, ◌≤◌, ◌↔◌, ◌⊎◌, inl, inr, List, [], ◌∷◌, ◌++◌, length, get_or, take, Contains, zero, suc, arith, refl, sym, ap, subst, add-one}
+use Rattle.std.proofs.lemmas.Bool.{cases_lt}
+use Rattle.std.proofs.lemmas.Cmp.{nat_list_cmp_total}
+use Rattle.std.proofs.lemmas.List.{take_more, length-take, get_or-take, get_or_default}
+use Rattle.std.proofs.lemmas.List.Elements.{Contains-append_left, Contains-push, Contains-push_cases}
+use Rattle.std.specs.Ordering.{ordering_reverse}
+use Rattle.std.specs.declared.cmp.Ordering.TheVariants.{Less, Greater}
+use Rattle.rc_names.specs.Names.{IsBefore, IsInByteOrder, Adds}
+
+-- no two texts stand before each other
+pub not_both : (a b : List ℕ) → IsBefore a b → IsBefore b a → ⊥
+not_both a b up down = let bad : Less ≡ Greater = sym up ∙ nat_list_cmp_total.antisymm a b ∙ ap ordering_reverse down in cc
+
+-- each text stands before the next one, up to a place
+abbrev pub AscendsTo : List (List ℕ) → ℕ → Type 0
+AscendsTo texts end = (k : ℕ) (d : List ℕ) → k + 1 < end → IsBefore (get_or texts k d) (get_or texts (k + 1) d)
+
+before_later : (texts : List (List ℕ)) (i j : ℕ) (d : List ℕ) → AscendsTo texts (length texts) → i < j → j < length texts → IsBefore (get_or texts i d) (get_or texts j d)
+before_later texts i zero d next low within = absurd (omega arith)
+before_later texts i (suc j) d next low within =
+    let step : IsBefore (get_or texts j d) (get_or texts (suc j) d) = rw add-one at (next j d (omega arith)) in
+    elim (cases_lt i j) [
+      | inl lower ↦ nat_list_cmp_total.trans (get_or texts i d) (get_or texts j d) (get_or texts (suc j) d) (before_later texts i j d next lower (omega arith)) step
+      | inr upper ↦ let same : i ≡ j = omega arith in rw same step
+    ]
+
+-- one more text stands behind the one before it
+pub ascends_more : (texts : List (List ℕ)) (i : ℕ) → 0 < i → AscendsTo texts i → ((d : List ℕ) → IsBefore (get_or texts (i - 1) d) (get_or texts i d)) → AscendsTo texts (i + 1)
+ascends_more texts i some before here = λ k d low. elim (cases_lt (k + 1) i) [
+  | inl lower ↦ before k d lower
+  | inr upper ↦
+      let last : k ≡ i - 1 = omega arith in
+      let next : k + 1 ≡ i = omega arith in
+      rw (next, last) (here d)
+]
+
+-- texts that each stand before the next one are in order
+pub in_order_by_next : (texts : List (List ℕ)) (end : ℕ) → AscendsTo texts end → length texts ≤ end → IsInByteOrder texts
+in_order_by_next texts end next all = λ i j d low within. before_later texts i j d (λ k e inside. next k e (omega arith)) low within
+
+-- a text in order stands behind the one before it
+pub order_next : (texts : List (List ℕ)) (i : ℕ) (d e : List ℕ) → 0 < i → i < length texts → IsInByteOrder texts → IsBefore (get_or texts (i - 1) d) (get_or texts i e)
+order_next texts i d e some within order = rw (get_or_default texts i e d within) (order (i - 1) i d (omega arith) within)
+
+has_head : (x : List ℕ) (xs : List (List ℕ)) → Contains (x ∷ xs) x
+has_head x xs = (0, omega arith, refl)
+
+has_later : (x : List ℕ) (xs : List (List ℕ)) (t : List ℕ) → Contains xs t → Contains (x ∷ xs) t
+has_later x xs t (k, within, here) = (suc k, omega arith, here)
+
+head_or_later : (x : List ℕ) (xs : List (List ℕ)) (t : List ℕ) → Contains (x ∷ xs) t → (t ≡ x) ⊎ Contains xs t
+head_or_later x xs t (zero, within, here) = inl (sym here)
+head_or_later x xs t (suc k, within, here) = inr (k, omega arith, here)
+
+has_none : (t : List ℕ) → Contains [] t → ⊥
+has_none t (k, within, here) = omega arith
+
+head_before : (x : List ℕ) (xs : List (List ℕ)) (t : List ℕ) → IsInByteOrder (x ∷ xs) → Contains xs t → IsBefore x t
+head_before x xs t order (k, within, here) = subst (λ (y : List ℕ). IsBefore x y) here (order 0 (suc k) t (omega arith) (omega arith))
+
+tail_in_order : (x : List ℕ) (xs : List (List ℕ)) → IsInByteOrder (x ∷ xs) → IsInByteOrder xs
+tail_in_order x xs order = λ i j d low within. order (suc i) (suc j) d (omega arith) (omega arith)
+
+same_heads : (x y : List ℕ) (xs ys : List (List ℕ)) → IsInByteOrder (x ∷ xs) → IsInByteOrder (y ∷ ys) → Contains (y ∷ ys) x → Contains (x ∷ xs) y → x ≡ y
+same_heads x y xs ys first second in_second in_first = elim (head_or_later y ys x in_second) [
+  | inl same ↦ same
+  | inr in_ys ↦ elim (head_or_later x xs y in_first) [
+    | inl same ↦ sym same
+    | inr in_xs ↦ absurd (not_both x y (head_before x xs y first in_xs) (head_before y ys x second in_ys))
+  ]
+]
+
+tail_within : (x y : List ℕ) (xs ys : List (List ℕ)) → IsInByteOrder (x ∷ xs) → y ≡ x → ((t : List ℕ) → Contains (x ∷ xs) t → Contains (y ∷ ys) t) → (t : List ℕ) → Contains xs t → Contains ys t
+tail_within x y xs ys order heads within t has = elim (head_or_later y ys t (within t (has_later x xs t has))) [
+  | inl same ↦
+      let up : IsBefore x t = head_before x xs t order has in
+      let itself : IsBefore x x = subst (λ (z : List ℕ). IsBefore x z) (same ∙ heads) up in
+      absurd (not_both x x itself itself)
+  | inr later ↦ later
+]
+
+-- texts in order are known by their members
+pub in_order_same : (xs ys : List (List ℕ)) → IsInByteOrder xs → IsInByteOrder ys → ((t : List ℕ) → Contains xs t ↔ Contains ys t) → xs ≡ ys
+in_order_same [] [] first second same = refl
+in_order_same [] (y ∷ ys) first second same = absurd (has_none y ((same y).1 (has_head y ys)))
+in_order_same (x ∷ xs) [] first second same = absurd (has_none x ((same x).0 (has_head x xs)))
+in_order_same (x ∷ xs) (y ∷ ys) first second same =
+    let heads : x ≡ y = same_heads x y xs ys first second ((same x).0 (has_head x xs)) ((same y).1 (has_head y ys)) in
+    let tails : xs ≡ ys = in_order_same xs ys (tail_in_order x xs first) (tail_in_order y ys second)
+    (λ t. (tail_within x y xs ys first (sym heads) (λ r. (same r).0) t, tail_within y x ys xs second heads (λ r. (same r).1) t)) in
+    cc
+
+front_in_order : (texts : List (List ℕ)) (n : ℕ) → IsInByteOrder texts → IsInByteOrder (take n texts)
+front_in_order texts n order = λ i j d low within.
+    let inside : j < n = omega (arith, length-take n texts) in
+    rw (get_or-take n texts i d (omega arith), get_or-take n texts j d inside) (order i j d low (omega (arith, length-take n texts)))
+
+-- the front of texts in order, with the next text added, is the front up to that text
+pub front_adds : (texts old new : List (List ℕ)) (i : ℕ) (text : List ℕ) → IsInByteOrder texts → i < length texts → get_or texts i text ≡ text → old ≡ take i texts
+    → Adds old text new → IsInByteOrder new → new ≡ take (i + 1) texts
+front_adds texts old new i text order within here before adds after =
+    let more : take (i + 1) texts ≡ take i texts ++ text ∷ [] = take_more texts i text within ∙ ap (λ t. take i texts ++ t ∷ []) here in
+    let sum : take (i + 1) texts ≡ old ++ text ∷ [] = more ∙ ap (λ ts. ts ++ text ∷ []) (sym before) in
+    in_order_same new (take (i + 1) texts) after (front_in_order texts (i + 1) order) (λ t. rw sum (
+      λ has. elim ((adds t).0 has) [ inl in_old ↦ Contains-append_left old (text ∷ []) t in_old | inr same ↦ subst (Contains (old ++ text ∷ [])) (sym same) (Contains-push old text) ],
+      λ has. elim (Contains-push_cases old text t has) [ inl in_old ↦ (adds t).1 (inl in_old) | inr same ↦ (adds t).1 (inr (sym same)) ],
+    ))

@@ -1,0 +1,11 @@
+pub mod Words
+pub mod Input
+pub mod Thin
+pub mod ThinLine
+pub mod ThinReading
+pub mod Named
+pub mod Database
+pub mod DatabaseFaults
+pub mod Answer
+pub mod PlanText
+pub mod PlanFaults

@@ -1,0 +1,171 @@
+//! A whole input under a bound, and an answer written whole.
+ghost use Rattle.std.specs.Prelude.{◌≡◌, ◌≢◌, ◌+◌, ◌<◌, ◌≤◌, ◌↔◌, length, IsTrue, IfOk, IfErr, IfSome, OnOk, vec_len};
+ghost use Rattle.std.specs.IoError.{error_kind};
+ghost use Rattle.std.specs.Io.{ReadsAtMost, WritesAtMost};
+ghost use Rattle.std.specs.Io.KnownBytes.{Appends, IsAtEnd, ReadConsumes, WriteAppends};
+ghost use Rattle.rc_cli.specs.Input.{AppendsFront, ConsumesAtMost, MovesPiece, fault_line};
+
+use std::alloc::Global;
+use std::io;
+use std::io::{ErrorKind, Read, Write};
+use thiserror::Error;
+
+#[cfg(test)]
+mod tests;
+
+/// The bytes that an input may have at most.
+pub const MAX_INPUT: usize = 16_777_216;
+
+/// The bytes that one read asks for at most.
+const MAX_PIECE: usize = 8_192;
+
+/// The interrupted calls in a row that are each tried again.
+const MAX_INTERRUPTS: usize = 1_000;
+
+/// An input that could not be taken whole.
+#[derive(Clone, Copy, Debug, PartialEq, Eq, Error)]
+pub enum InputFault {
+    /// It has more than `MAX_INPUT` bytes.
+    #[error("TooLong")]
+    TooLong,
+    /// A read failed.
+    #[error("Read")]
+    Read,
+    /// There was no memory to hold it.
+    #[error("Memory")]
+    Memory,
+}
+
+/// Reads all there is, up to the read that gives no byte.
+pub fn read_all<R: Read>(alloc: Global, reader: &mut R) -> Result<Vec<u8>, InputFault>
+    ensures whole { IfOk result (λ bytes.
+        IfSome (R.remaining reader.old) (λ input. bytes.items ≡ input)) }
+    ensures end { OnOk result (IsAtEnd (R.remaining reader.new)) }
+    ensures within { IfOk result (λ bytes. vec_len bytes ≤ MAX_INPUT) }
+    ensures too_long { result ≡ Err InputFault.TooLong
+        → IfSome (R.remaining reader.old) (λ input. MAX_INPUT < length input) }
+
+    // Whatever the result, one byte past the bound is the last that is taken.
+    ensures taken { ConsumesAtMost (R.remaining reader.old) (R.remaining reader.new)
+        (MAX_INPUT + 1) }
+{
+    let mut bytes = Vec::new(alloc);
+    while bytes.len() <= MAX_INPUT {
+        let room = MAX_INPUT + 1 - bytes.len();
+        match take_piece(reader, room, &mut bytes) {
+            Ok(0) => return Ok(bytes),
+            Ok(_) => {}
+            Err(fault) => return Err(fault),
+        }
+    }
+    Err(InputFault::TooLong)
+}
+
+/// Moves the reader's next piece to the end of `bytes`, and returns its length: at most `room`, and
+/// 0 at the reader's end.
+fn take_piece<R: Read>(
+    reader: &mut R,
+    room: usize,
+    bytes: &mut Vec<u8>,
+) -> Result<usize, InputFault>
+    requires { 0 < room }
+    ensures moved { IfOk result (MovesPiece (R.remaining reader.old) (R.remaining reader.new)
+        bytes.old.items bytes.new.items) }
+    ensures fits { IfOk result (λ count. count ≤ room) }
+    ensures end { IfOk result (λ count. count ≡ 0 → IsAtEnd (R.remaining reader.new)) }
+    ensures fault { IfErr result (λ e. e ≢ InputFault.TooLong) }
+    ensures taken { ConsumesAtMost (R.remaining reader.old) (R.remaining reader.new) room }
+{
+    let mut buffer = [0; MAX_PIECE];
+    let most = room.min(MAX_PIECE);
+    let Ok(count) = read_some(reader, &mut buffer[..most]) else {
+        return Err(InputFault::Read);
+    };
+    match bytes.extend_from_slice(&buffer[..count]) {
+        Ok(()) => Ok(count),
+        Err(_) => Err(InputFault::Memory),
+    }
+}
+
+/// One read, tried again where a signal interrupts it.
+fn read_some<R: Read>(reader: &mut R, buffer: &mut [u8]) -> io::Result<usize>
+    ensures bound { ReadsAtMost result buffer.new }
+    ensures bytes { ReadConsumes (R.remaining reader.old) (R.remaining reader.new) result
+        buffer.new }
+{
+    for _ in 0..MAX_INTERRUPTS {
+        match reader.read(buffer) {
+            Err(e) if is_interrupted(&e) => {}
+            outcome => return outcome,
+        }
+    }
+    reader.read(buffer)
+}
+
+/// Writes all of `bytes`, and flushes.
+pub fn write_whole<W: Write>(writer: &mut W, bytes: &[u8]) -> io::Result<()>
+    ensures whole { OnOk result (Appends (W.contents writer.old) (W.contents writer.new)
+        bytes.now) }
+
+    // Whatever the result, a front of the bytes is all that is written.
+    ensures front { AppendsFront (W.contents writer.old) (W.contents writer.new) bytes.now }
+{
+    write_every(writer, bytes)?;
+    writer.flush()
+}
+
+/// Writes the line `undorc: WHAT`. A line that cannot be written is let go.
+pub fn tell<F: Write>(faults: &mut F, what: &[u8])
+    ensures { AppendsFront (F.contents faults.old) (F.contents faults.new) (fault_line what.now) }
+{
+    let _ = write_fault(faults, what);
+}
+
+/// Writes the line `undorc: WHAT`, and flushes.
+fn write_fault<F: Write>(faults: &mut F, what: &[u8]) -> io::Result<()>
+    ensures whole { OnOk result (Appends (F.contents faults.old) (F.contents faults.new)
+        (fault_line what.now)) }
+    ensures front { AppendsFront (F.contents faults.old) (F.contents faults.new)
+        (fault_line what.now) }
+{
+    write_every(faults, b"undorc: ")?;
+    write_every(faults, what)?;
+    write_whole(faults, b"\n")
+}
+
+/// Writes all of `bytes`.
+fn write_every<W: Write>(writer: &mut W, bytes: &[u8]) -> io::Result<()>
+    ensures whole { OnOk result (Appends (W.contents writer.old) (W.contents writer.new)
+        bytes.now) }
+    ensures front { AppendsFront (W.contents writer.old) (W.contents writer.new) bytes.now }
+{
+    let mut rest = bytes;
+    while !rest.is_empty() {
+        match write_some(writer, rest)? {
+            0 => return Err(io::Error::from(ErrorKind::WriteZero)),
+            count => rest = &rest[count..],
+        }
+    }
+    Ok(())
+}
+
+/// One write, tried again where a signal interrupts it.
+fn write_some<W: Write>(writer: &mut W, bytes: &[u8]) -> io::Result<usize>
+    ensures bound { WritesAtMost result bytes.now }
+    ensures bytes { WriteAppends (W.contents writer.old) (W.contents writer.new) result
+        bytes.now }
+{
+    for _ in 0..MAX_INTERRUPTS {
+        match writer.write(bytes) {
+            Err(e) if is_interrupted(&e) => {}
+            outcome => return outcome,
+        }
+    }
+    writer.write(bytes)
+}
+
+fn is_interrupted(error: &io::Error) -> bool
+    ensures { IsTrue result ↔ (error_kind error.now ≡ ErrorKind.Interrupted) }
+{
+    error.kind() == ErrorKind::Interrupted
+}
