@@ -6,9 +6,9 @@ use Rattle.rc_select.specs.Target.{Target}
 -- the target of a closed set is closed
 pub target_closed : (needs : List (List ℕ)) (IsUp Wanted : ℕ → Type 0) → IsClosed needs IsUp → IsClosed needs (Target needs IsUp Wanted)
 target_closed needs IsUp Wanted closed s t target need = elim target [
-    | inl up ↦ inl (closed s t up need)
-    | inr wanted ↦ inr (up_is_closed needs Wanted s t wanted need)
-  ]
+  | inl up ↦ inl (closed s t up need)
+  | inr wanted ↦ inr (up_is_closed needs Wanted s t wanted need)
+]
 
 -- and so is a set that has just the target's services
 pub same_closed : (needs : List (List ℕ)) (In Also : ℕ → Type 0) → ((s : ℕ) → In s → Also s) → ((s : ℕ) → Also s → In s) → IsClosed needs In → IsClosed needs Also

@@ -89,3 +89,30 @@ fn a_draft_may_be_empty(rt: HostRuntime) -> Result<(), Fail> {
     assert!(rt; graph.order().is_empty());
     Ok(())
 }
+
+fn set_of(alloc: Global, bound: u16, ids: &[u16]) -> Result<Set, NoMem>
+    requires { bound ≤ 4096 }
+    ensures bound { IfOk result (λ set. length set ≡ bound) }
+{
+    let mut set = Set::empty(alloc, bound)?;
+    for id in ids {
+        if *id < bound {
+            set.insert(*id);
+        }
+    }
+    Ok(set)
+}
+
+#[test]
+fn closures_follow_the_needs(rt: HostRuntime) -> Result<(), Fail> {
+    let alloc = rt.alloc();
+    let graph = draft_of(alloc, 5, &SAMPLE)?.finish()?;
+    assert_eq!(rt; graph.len(), 5);
+    let up = graph.up_of(alloc, &set_of(alloc, 5, &[0])?)?;
+    assert_eq!(rt; up.ids(alloc)?.as_slice(), [0, 2, 3].as_slice());
+    let down = graph.down_of(alloc, &set_of(alloc, 5, &[2])?)?;
+    assert_eq!(rt; down.ids(alloc)?.as_slice(), [0, 2, 4].as_slice());
+    assert!(rt; graph.closed(&set_of(alloc, 5, &[1, 3])?));
+    assert!(rt; !graph.closed(&set_of(alloc, 5, &[0, 2])?));
+    Ok(())
+}
