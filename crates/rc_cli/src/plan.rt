@@ -74,6 +74,10 @@ pub fn plan_run<R: Read, W: Write, F: Write>(
     ensures refused { result ≡ 1 → IfSome (R.remaining reader.old)
         (λ input. TellsFault (names_asked (map string_bytes words.now)) input (F.contents faults.old) (F.contents faults.new)) }
 
+    // A refusal writes no answer, and a wrong command line leaves the input alone.
+    ensures unwritten { (result ≡ 1) ⊎ (result ≡ 100) → W.contents writer.new ≡ W.contents writer.old }
+    ensures unread { result ≡ 100 → R.remaining reader.new ≡ R.remaining reader.old }
+
     ensures wrong { result ≡ 100 → IsWrongLine (map string_bytes words.now) }
     ensures right { result ≢ 100 → result ≢ 111 → IsWrongLine (map string_bytes words.now) → ⊥ }
     ensures statuses { (result ≡ 0) ⊎ (result ≡ 1) ⊎ (result ≡ 100) ⊎ (result ≡ 111) }

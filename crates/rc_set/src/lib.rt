@@ -13,9 +13,6 @@ use std::mem;
 /// Want of memory, the only refusal of the calls that answer it. Nothing has changed.
 pub type NoMem = AllocError;
 
-/// The most services that a set may be about.
-pub const MAX_BOUND: u16 = 4096;
-
 /// A set of ids below a bound that is fixed when the set is made.
 #[derive(Debug, Drop)]
 pub struct Set {
