@@ -87,3 +87,6 @@ pub fn plan_up(alloc: Global, graph: &Graph, up: &Set, wanted: &Set) -> Result<P
     target.join(up);
     between(alloc, graph, up, &target)
 }
+
+#[cfg(test)]
+mod tests;
