@@ -129,8 +129,10 @@ fn draft_of(alloc: Global, services: &[ThinService], names: &Names) -> Result<Dr
     requires sorted { IsInByteOrder names.now }
     ensures draft { IfOk result (λ draft. IsGraphOf (service_texts services.now) draft) }
     ensures complete { OnOk result (IsComplete (service_texts services.now)) }
-    ensures dangling { result ≡ Err DatabaseFault.Dangling → IsComplete (service_texts services.now) → ⊥ }
-    ensures faults { IfErr result (λ fault. (fault ≡ DatabaseFault.Dangling) ⊎ (fault ≡ DatabaseFault.Memory)) }
+    ensures dangling { result ≡ Err DatabaseFault.Dangling →
+        IsComplete (service_texts services.now) → ⊥ }
+    ensures faults { IfErr result (λ fault. (fault ≡ DatabaseFault.Dangling) ⊎ (fault
+        ≡ DatabaseFault.Memory)) }
 {
     let mut draft = match Draft::new(alloc, services.len() as u16) {
         Ok(draft) => draft,
@@ -156,10 +158,12 @@ fn add_needs(
     requires service { service < length draft.old }
     requires sorted { IsInByteOrder names.now }
     ensures bound { length draft.new ≡ length draft.old }
-    ensures pairs { OnOk result ((s t : ℕ) → Needs draft.new s t ↔ (Needs draft.old s t ⊎ ((s ≡ service) × IsNamed names.now needs.now t))) }
+    ensures pairs { OnOk result ((s t : ℕ) → Needs draft.new s t ↔ (Needs draft.old s t ⊎ ((s
+        ≡ service) × IsNamed names.now needs.now t))) }
     ensures known { OnOk result (AreNamed names.now needs.now) }
     ensures dangling { result ≡ Err DatabaseFault.Dangling → AreNamed names.now needs.now → ⊥ }
-    ensures faults { IfErr result (λ fault. (fault ≡ DatabaseFault.Dangling) ⊎ (fault ≡ DatabaseFault.Memory)) }
+    ensures faults { IfErr result (λ fault. (fault ≡ DatabaseFault.Dangling) ⊎ (fault
+        ≡ DatabaseFault.Memory)) }
 {
     for need in needs {
         match names.find(need.text()) {

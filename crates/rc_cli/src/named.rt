@@ -18,7 +18,8 @@ pub(crate) enum NamedFault<'a> {
 
 /// The lines of a list of words: empty ones do not count, and the last may lack its newline.
 pub(crate) fn word_lines<'a>(alloc: Global, bytes: &'a [u8]) -> Result<Vec<&'a [u8]>, NoMem>
-    ensures { IfOk result (λ lines. map (λ line. line.now) lines.items ≡ word_lines bytes.entry.now) }
+    ensures { IfOk result (λ lines. map (λ line. line.now) lines.items
+        ≡ word_lines bytes.entry.now) }
 {
     bytes
         .split(|byte| *byte == b'\n')
@@ -33,9 +34,11 @@ pub(crate) fn named_set<'a>(
     words: &[&'a [u8]],
 ) -> Result<Set, NamedFault<'a>>
     ensures bound { IfOk result (λ set. length set ≡ length names.now) }
-    ensures members { IfOk result (λ set. Holds set (IsNamed names.now (map (λ w. w.now) words.now))) }
+    ensures members { IfOk result (λ set. Holds set
+        (IsNamed names.now (map (λ w. w.now) words.now))) }
     ensures known { IfOk result (λ set. AreNamed names.now (map (λ w. w.now) words.now)) }
-    ensures fault { IfErr result (λ fault. IsNamedFault fault names.now (map (λ w. w.now) words.now)) }
+    ensures fault { IfErr result (λ fault. IsNamedFault fault names.now
+        (map (λ w. w.now) words.now)) }
 {
     let mut set = match Set::empty(alloc, names.len()) {
         Ok(set) => set,

@@ -75,7 +75,8 @@ pub fn plan_run<R: Read, W: Write, F: Write>(
         (λ input. TellsFault (names_asked (map string_bytes words.now)) input (F.contents faults.old) (F.contents faults.new)) }
 
     // A refusal writes no answer, and a wrong command line leaves the input alone.
-    ensures unwritten { (result ≡ 1) ⊎ (result ≡ 100) → W.contents writer.new ≡ W.contents writer.old }
+    ensures unwritten { (result ≡ 1) ⊎ (result ≡ 100) → W.contents writer.new
+        ≡ W.contents writer.old }
     ensures unread { result ≡ 100 → R.remaining reader.new ≡ R.remaining reader.old }
 
     ensures wrong { result ≡ 100 → IsWrongLine (map string_bytes words.now) }
@@ -108,8 +109,10 @@ pub fn plan_run<R: Read, W: Write, F: Write>(
 
 /// The line of the plan for an input and the names asked for.
 fn plan_of<'a>(alloc: Global, asked: &[&'a str], input: &'a [u8]) -> Result<Vec<u8>, PlanFault<'a>>
-    ensures plan { IfOk result (λ line. IsPlanOf (map (λ n. n.now) asked.entry.now) input.entry.now line.items) }
-    ensures fault { IfErr result (λ fault. IsRefused fault (map (λ n. n.now) asked.entry.now) input.entry.now) }
+    ensures plan { IfOk result (λ line. IsPlanOf (map
+        (λ n. n.now) asked.entry.now) input.entry.now line.items) }
+    ensures fault { IfErr result (λ fault. IsRefused fault (map
+        (λ n. n.now) asked.entry.now) input.entry.now) }
 {
     let (services, taken) = match read_thin_front(alloc, input) {
         Ok(read) => read,
@@ -130,7 +133,8 @@ fn plan_of<'a>(alloc: Global, asked: &[&'a str], input: &'a [u8]) -> Result<Vec<
 
 /// The bytes of texts.
 fn bytes_of<'a>(alloc: Global, texts: &[&'a str]) -> Result<Vec<&'a [u8]>, NoMem>
-    ensures { IfOk result (λ bytes. map (λ b. b.now) bytes.items ≡ map (λ t. t.now) texts.entry.now) }
+    ensures { IfOk result (λ bytes. map (λ b. b.now) bytes.items ≡ map
+        (λ t. t.now) texts.entry.now) }
 {
     texts.iter().map(|text| text.as_bytes()).collect(alloc)
 }
@@ -143,8 +147,10 @@ fn line_for<'a>(
     asked: &[&'a [u8]],
 ) -> Result<Vec<u8>, PlanFault<'a>>
     requires { length database.now.names ≡ length database.now.graph }
-    ensures plan { IfOk result (λ line. IsLineFor database.now.names database.now.graph (map (λ w. w.now) ups.entry.now) (map (λ w. w.now) asked.entry.now) line.items) }
-    ensures fault { IfErr result (λ fault. IsNameFault fault database.now.names database.now.graph (map (λ w. w.now) ups.entry.now) (map (λ w. w.now) asked.entry.now)) }
+    ensures plan { IfOk result (λ line. IsLineFor database.now.names database.now.graph
+        (map (λ w. w.now) ups.entry.now) (map (λ w. w.now) asked.entry.now) line.items) }
+    ensures fault { IfErr result (λ fault. IsNameFault fault database.now.names database.now.graph
+        (map (λ w. w.now) ups.entry.now) (map (λ w. w.now) asked.entry.now)) }
 {
     let up = match named_set(alloc, &database.names, ups) {
         Ok(up) => up,
@@ -167,7 +173,8 @@ fn line_for<'a>(
 }
 
 fn of_form<'a>(fault: FormFault) -> PlanFault<'a>
-    ensures { (asked : List (List ℕ)) (input : List ℕ) → IsFormFault fault input → IsRefused result asked input }
+    ensures { (asked : List (List ℕ)) (input : List ℕ) → IsFormFault fault input →
+        IsRefused result asked input }
 {
     match fault {
         FormFault::Bad(offset) => PlanFault::Bad(offset),
@@ -178,7 +185,8 @@ fn of_form<'a>(fault: FormFault) -> PlanFault<'a>
 }
 
 fn of_database<'a>(fault: DatabaseFault) -> PlanFault<'a>
-    ensures { (asked : List (List ℕ)) (input : List ℕ) (services : List ServiceText) → BeginsWith services input → IsDatabaseFault fault services → IsRefused result asked input }
+    ensures { (asked : List (List ℕ)) (input : List ℕ) (services : List ServiceText) →
+        BeginsWith services input → IsDatabaseFault fault services → IsRefused result asked input }
 {
     match fault {
         DatabaseFault::NotSorted => PlanFault::NotSorted,
@@ -189,8 +197,10 @@ fn of_database<'a>(fault: DatabaseFault) -> PlanFault<'a>
 }
 
 fn of_named<'a>(fault: NamedFault<'a>) -> PlanFault<'a>
-    ensures ups { (names graph ups asked : List (List ℕ)) → IsNamedFault fault.entry names ups → IsNameFault result names graph ups asked }
-    ensures asked { (names graph ups asked : List (List ℕ)) → AreUp names graph ups → IsNamedFault fault.entry names asked → IsNameFault result names graph ups asked }
+    ensures ups { (names graph ups asked : List (List ℕ)) → IsNamedFault fault.entry names ups →
+        IsNameFault result names graph ups asked }
+    ensures asked { (names graph ups asked : List (List ℕ)) → AreUp names graph ups →
+        IsNamedFault fault.entry names asked → IsNameFault result names graph ups asked }
 {
     match fault {
         NamedFault::Unknown(word) => PlanFault::Unknown(word),
@@ -214,7 +224,8 @@ fn write_answer<W: Write, F: Write>(writer: &mut W, faults: &mut F, line: &[u8])
 
 /// Tells why there is no plan.
 fn tell_fault<F: Write>(alloc: Global, faults: &mut F, fault: PlanFault<'_>) -> u8
-    ensures refused { result ≡ 1 → (fault.entry ≢ PlanFault.Memory) × AppendsFront (F.contents faults.old) (F.contents faults.new) (fault_line (fault_text fault.entry)) }
+    ensures refused { result ≡ 1 → (fault.entry ≢ PlanFault.Memory)
+        × AppendsFront (F.contents faults.old) (F.contents faults.new) (fault_line (fault_text fault.entry)) }
     ensures statuses { (result ≡ 1) ⊎ (result ≡ 111) }
 {
     if let PlanFault::Memory = fault {

@@ -39,7 +39,8 @@ pub(crate) fn read_thin_front(
     alloc: Global,
     bytes: &[u8],
 ) -> Result<(Vec<ThinService>, usize), FormFault>
-    ensures ok { IfOk result (λ read. IsThin (service_texts read.0.items) × (read.1 ≤ length bytes.now)
+    ensures ok { IfOk result (λ read. IsThin (service_texts read.0.items)
+        × (read.1 ≤ length bytes.now)
         × (bytes.now ≡ thin_text (service_texts read.0.items) ++ drop read.1 bytes.now)) }
     ensures fault { IfErr result (λ fault. IsFormFault fault bytes.now) }
 {
@@ -69,7 +70,8 @@ fn first_line_of(bytes: &[u8]) -> Result<&[u8], FormFault>
 // How many services there are, and what follows that line.
 fn count_line_of<'a>(bytes: &[u8], rest: &'a [u8]) -> Result<(usize, &'a [u8]), FormFault>
     requires { bytes.now ≡ first_line ++ rest.now }
-    ensures ok { IfOk result (λ read. (read.0 ≤ 4096) × (rest.now ≡ count_line read.0 ++ read.1.now)) }
+    ensures ok { IfOk result (λ read. (read.0 ≤ 4096)
+        × (rest.now ≡ count_line read.0 ++ read.1.now)) }
     ensures fault { IfErr result (λ fault. IsFormFault fault bytes.now) }
 {
     match number_line_of(rest, b"services ") {
@@ -90,7 +92,8 @@ fn services_of<'a>(
 ) -> Result<(Vec<ThinService>, &'a [u8]), FormFault>
     requires few { count ≤ 4096 }
     requires front { bytes.now ≡ first_line ++ count_line count ++ rest.now }
-    ensures ok { IfOk result (λ read. (length read.0.items ≡ count) × All IsServiceText (service_texts read.0.items)
+    ensures ok { IfOk result (λ read. (length read.0.items ≡ count)
+        × All IsServiceText (service_texts read.0.items)
         × (bytes.now ≡ first_line ++ count_line count ++ blocks (service_texts read.0.items) ++ read.1.now)) }
     ensures fault { IfErr result (λ fault. IsFormFault fault bytes.now) }
 {
@@ -109,7 +112,8 @@ fn services_of<'a>(
 
 // The service's name, whose line begins at this offset, and what follows that line.
 fn name_line_of(alloc: Global, bytes: &[u8], at: usize) -> Result<(Name, &[u8]), FormFault>
-    ensures ok { IfOk result (λ read. IsName read.0 × (bytes.now ≡ name_line read.0 ++ read.1.now)) }
+    ensures ok { IfOk result (λ read. IsName read.0
+        × (bytes.now ≡ name_line read.0 ++ read.1.now)) }
     ensures fault { IfErr result (λ fault. IsRefusedLine fault at (HasNo OfName bytes.now)) }
 {
     let Some(rest) = rest_after(bytes, b"service ") else {
@@ -125,7 +129,8 @@ fn name_line_of(alloc: Global, bytes: &[u8], at: usize) -> Result<(Name, &[u8]),
 
 // What the service needs, whose line begins at this offset, and what follows that line.
 fn needs_line_of(alloc: Global, bytes: &[u8], at: usize) -> Result<(Vec<Name>, &[u8]), FormFault>
-    ensures ok { IfOk result (λ read. All IsName read.0.items × (bytes.now ≡ needs_line read.0.items ++ read.1.now)) }
+    ensures ok { IfOk result (λ read. All IsName read.0.items
+        × (bytes.now ≡ needs_line read.0.items ++ read.1.now)) }
     ensures fault { IfErr result (λ fault. IsRefusedLine fault at (HasNo OfNeeds bytes.now)) }
 {
     let Some(mut rest) = rest_after(bytes, b"needs") else {
@@ -163,8 +168,10 @@ fn name_of(alloc: Global, word: &[u8], at: usize) -> Result<Name, FormFault>
 
 // The number behind a text, and what follows its line.
 fn number_line_of<'a>(bytes: &'a [u8], text: &[u8]) -> Option<(&'a [u8], &'a [u8])>
-    ensures found { IfSome result (λ read. IsNumber read.0.now × (bytes.now ≡ text.now ++ read.0.now ++ 10 ∷ read.1.now)) }
-    ensures none { IfNone result ((number : List ℕ) (after : List ℕ) → IsNumber number → bytes.now ≡ text.now ++ number ++ 10 ∷ after → ⊥) }
+    ensures found { IfSome result (λ read. IsNumber read.0.now
+        × (bytes.now ≡ text.now ++ read.0.now ++ 10 ∷ read.1.now)) }
+    ensures none { IfNone result ((number : List ℕ) (after : List ℕ) → IsNumber number →
+        bytes.now ≡ text.now ++ number ++ 10 ∷ after → ⊥) }
 {
     let (word, rest) = word_of(rest_after(bytes, text)?);
     let behind = rest_after(rest, b"\n")?;
@@ -211,7 +218,8 @@ fn word_of(bytes: &[u8]) -> (&[u8], &[u8])
 
 // What follows the text at the front.
 fn rest_after<'a>(bytes: &'a [u8], text: &[u8]) -> Option<&'a [u8]>
-    ensures { MatchOption result ((rest : List ℕ) → bytes.now ≡ text.now ++ rest → ⊥) (λ rest. bytes.now ≡ text.now ++ rest.now) }
+    ensures { MatchOption result ((rest : List ℕ) → bytes.now ≡ text.now ++ rest → ⊥)
+        (λ rest. bytes.now ≡ text.now ++ rest.now) }
 {
     bytes.strip_prefix(text)
 }

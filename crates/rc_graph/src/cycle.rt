@@ -90,7 +90,8 @@ fn left_need(list: &[u16], placed: &Set) -> u16
 /// A path from where a service stands on it.
 fn from_first(alloc: Global, path: &[u16], service: u16) -> Result<Vec<u16>, NoMem>
     requires { Contains path.now service }
-    ensures { IfOk result (λ part. (before : List ℕ) × (after : List ℕ) × (path.now ≡ before ++ service ∷ after) × (part.items ≡ service ∷ after)) }
+    ensures { IfOk result (λ part. (before : List ℕ) × (after : List ℕ)
+        × (path.now ≡ before ++ service ∷ after) × (part.items ≡ service ∷ after)) }
 {
     for i in 0..path.len() {
         if path[i] == service {

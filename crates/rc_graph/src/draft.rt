@@ -69,7 +69,8 @@ impl Draft {
         requires service { service < length self.old }
         requires needed { needed < length self.old }
         ensures bound { length self.new ≡ length self.old }
-        ensures pairs { OnOk result ((s t : ℕ) → Needs self.new s t ↔ (Needs self.old s t ⊎ ((s ≡ service) × (t ≡ needed)))) }
+        ensures pairs { OnOk result ((s t : ℕ) → Needs self.new s t ↔
+            (Needs self.old s t ⊎ ((s ≡ service) × (t ≡ needed)))) }
         ensures err { OnErr result (self.new ≡ self.old) }
     {
         add_pair(&mut self.needs, service, needed)
@@ -79,7 +80,8 @@ impl Draft {
     pub fn finish(self) -> Result<Graph, GraphFault>
         ensures graph { IfOk result (λ graph. graph ≡ self) }
         ensures acyclic { OnOk result (IsAcyclic self) }
-        ensures cycle { (cycle : List ℕ) → result ≡ Err (GraphFault.Cycle cycle) → IsCycle self cycle }
+        ensures cycle { (cycle : List ℕ) → result ≡ Err (GraphFault.Cycle cycle) →
+            IsCycle self cycle }
     {
         let alloc = self.alloc;
         let placing = match placing_of(alloc, &self.needs) {

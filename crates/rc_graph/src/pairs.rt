@@ -33,7 +33,8 @@ pub(crate) fn add_pair(lists: &mut [Vec<u16>], from: u16, to: u16) -> Result<(),
 fn insert_ascending(ids: &mut Vec<u16>, id: u16) -> Result<(), NoMem>
     requires { IsAscending ids.old.items }
     ensures ascending { IsAscending ids.new.items }
-    ensures members { OnOk result ((s : ℕ) → Contains ids.new.items s ↔ (Contains ids.old.items s ⊎ (s ≡ id))) }
+    ensures members { OnOk result ((s : ℕ) → Contains ids.new.items s ↔ (Contains ids.old.items s
+        ⊎ (s ≡ id))) }
     ensures err { OnErr result (ids.new.items ≡ ids.old.items) }
 {
     if let Err(at) = ids.binary_search(&id) {

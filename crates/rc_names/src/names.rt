@@ -46,7 +46,8 @@ impl Names {
         requires { length self.old < MAX_NAMES }
         ensures added { IfOk result (λ added. IsTrue added ↔ (Contains self.old name → ⊥)) }
         ensures holds { OnOk result (Adds self.old name self.new) }
-        ensures len { IfOk result (λ added. length self.new ≡ length self.old + (if added then 1 else 0)) }
+        ensures len { IfOk result (λ added. length self.new
+            ≡ length self.old + (if added then 1 else 0)) }
         ensures names { AreNames self.new }
 
         // A name that is there needs no memory.

@@ -7,5 +7,6 @@ ghost use Rattle.rc_select.specs.Target.{Target};
 
 /// The target of a closed set is closed.
 pub fn target_is_closed()
-    ensures { (needs : List (List ℕ)) (up wanted : List Bool) → IsClosed needs (Has up) → IsClosed needs (Target needs (Has up) (Has wanted)) }
+    ensures { (needs : List (List ℕ)) (up wanted : List Bool) → IsClosed needs (Has up) →
+        IsClosed needs (Target needs (Has up) (Has wanted)) }
 {}
