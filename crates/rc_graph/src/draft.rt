@@ -7,13 +7,14 @@ ghost use Rattle.rc_graph.specs.Placing.{IsStuck};
 ghost use Rattle.rc_graph.specs.Rows.{rows};
 
 use crate::cycle::{Cycle, cycle_from};
-use crate::graph::Graph;
+use crate::graph::{Graph, Lists};
 use crate::order::{first_left, placing_of};
 use crate::pairs::{add_pair, no_pairs};
 use crate::reverse::reversed;
 use rc_set::{NoMem, Set};
 use std::alloc::Global;
 use std::marker::Model;
+use std::sync::Arc;
 use thiserror::Error;
 
 /// Why a draft is no graph. The draft is gone.
@@ -102,12 +103,17 @@ fn graph_of(alloc: Global, needs: Vec<Vec<u16>>, order: Vec<u16>) -> Result<Grap
     ensures graph { IfOk result (λ graph. graph ≡ rows needs.items) }
     ensures err { IfErr result (λ fault. fault ≡ GraphFault.Memory) }
 {
-    match reversed(alloc, &needs) {
-        Ok(needed_by) => Ok(Graph {
-            needs,
-            needed_by,
-            order,
-        }),
+    let needed_by = match reversed(alloc, &needs) {
+        Ok(needed_by) => needed_by,
+        Err(_) => return Err(GraphFault::Memory),
+    };
+    let lists = Lists {
+        needs,
+        needed_by,
+        order,
+    };
+    match Arc::new(alloc, lists) {
+        Ok(lists) => Ok(Graph { lists }),
         Err(_) => Err(GraphFault::Memory),
     }
 }

@@ -8,13 +8,21 @@ use crate::closure::{closure_of, is_closed};
 use rc_set::{NoMem, Set};
 use std::alloc::Global;
 use std::marker::Model;
+use std::sync::Arc;
 
-/// Which service needs which, without cycles. Services are numbers from 0 on.
+/// Which service needs which, without cycles. Services are numbers from 0 on. A value is a handle:
+/// those that `share` makes of one another are one graph in memory, which goes with the last of them.
 ///
-/// Time: `needs`, `needed_by`, `order` and `len` take one step. `closed` grows with the pairs.
+/// Time: `share`, `needs`, `needed_by`, `order` and `len` take one step. `closed` grows with the pairs.
 /// `up_of` and `down_of` go over the pairs in rounds, at most one more than there are services.
 #[derive(Debug, Drop)]
 pub struct Graph {
+    pub(crate) lists: Arc<Lists, Global>,
+}
+
+/// What the handles to one graph share: what each service needs, who needs it, and the order.
+#[derive(Debug, Drop)]
+pub(crate) struct Lists {
     pub(crate) needs: Vec<Vec<u16>>,
     pub(crate) needed_by: Vec<Vec<u16>>,
     pub(crate) order: Vec<u16>,
@@ -22,23 +30,33 @@ pub struct Graph {
 
 impl Model for Graph {
     ghost use Rattle.std.specs.Prelude.{ℕ, List};
+    ghost use Rattle.std.specs.Arc.{arc_value};
     ghost use Rattle.rc_graph.specs.Rows.{rows};
     ghost use Rattle.rc_graph.specs.Graph.{IsGraph};
 
     ghost Value = { List (List ℕ) };
 
-    ghost view = { λ g. rows g.needs.items };
+    ghost view = { λ g. rows (arc_value g.lists).needs.items };
 
-    ghost invariant = { λ g. IsGraph (rows g.needs.items) (rows g.needed_by.items) g.order.items };
+    ghost invariant = { λ g. let lists = arc_value g.lists in IsGraph (rows lists.needs.items) (rows lists.needed_by.items) lists.order.items };
 }
 
 impl Graph {
+    /// Another handle to the same graph, which copies nothing. Refused only where the count of
+    /// handles can grow no more.
+    pub fn share(&self) -> Result<Graph, NoMem>
+        ensures { IfOk result (λ graph. graph ≡ self.now) }
+    {
+        let lists = Arc::try_clone(&self.lists)?;
+        Ok(Graph { lists })
+    }
+
     /// How many services there are, at most 4,096.
     pub fn len(&self) -> u16
         ensures count { result ≡ length self.now }
         ensures lists { AreNeeds self.now }
     {
-        self.needs.len() as u16
+        self.lists.needs.len() as u16
     }
 
     /// What a service needs, ascending.
@@ -47,7 +65,7 @@ impl Graph {
         ensures list { result.now ≡ slice_index_or self.now service [] }
         ensures ascending { IsAscending result.now }
     {
-        self.needs[service as usize].as_slice()
+        self.lists.needs[service as usize].as_slice()
     }
 
     /// What needs a service, ascending.
@@ -56,7 +74,7 @@ impl Graph {
         ensures ascending { IsAscending result.now }
         ensures same { (s : ℕ) → Contains result.now s ↔ Needs self.now s service }
     {
-        self.needed_by[service as usize].as_slice()
+        self.lists.needed_by[service as usize].as_slice()
     }
 
     /// Each service once, after all that it needs.
@@ -64,7 +82,7 @@ impl Graph {
         ensures order { IsOrder self.now result.now }
         ensures acyclic { IsAcyclic self.now }
     {
-        self.order.as_slice()
+        self.lists.order.as_slice()
     }
 
     /// Whether a set has all that its members need. Time grows with the pairs.
@@ -72,7 +90,7 @@ impl Graph {
         requires { length set.now ≡ length self.now }
         ensures { IsTrue result ↔ IsClosed self.now (Has set.now) }
     {
-        is_closed(set, &self.needs)
+        is_closed(set, &self.lists.needs)
     }
 
     /// A set with all that its members reach along needs.
@@ -81,7 +99,7 @@ impl Graph {
         ensures bound { IfOk result (λ closure. length closure ≡ length self.now) }
         ensures members { IfOk result (λ closure. Holds closure (UpFrom self.now (Has set.now))) }
     {
-        closure_of(alloc, set, &self.needs)
+        closure_of(alloc, set, &self.lists.needs)
     }
 
     /// A set with all that reach one of its members.
@@ -90,6 +108,6 @@ impl Graph {
         ensures bound { IfOk result (λ closure. length closure ≡ length self.now) }
         ensures members { IfOk result (λ closure. Holds closure (DownFrom self.now (Has set.now))) }
     {
-        closure_of(alloc, set, &self.needed_by)
+        closure_of(alloc, set, &self.lists.needed_by)
     }
 }

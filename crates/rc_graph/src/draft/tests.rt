@@ -51,6 +51,23 @@ fn a_graph_tells_who_needs_whom(rt: HostRuntime) -> Result<(), Fail> {
 }
 
 #[test]
+fn a_shared_graph_outlives_the_first_handle(rt: HostRuntime) -> Result<(), Fail> {
+    let graph = draft_of(rt.alloc(), 5, &SAMPLE)?.finish()?;
+    let shared = graph.share()?;
+    for s in 0..graph.len() {
+        assert_eq!(rt; shared.needs(s), graph.needs(s));
+        assert_eq!(rt; shared.needed_by(s), graph.needed_by(s));
+    }
+    let order = Vec::from_slice(rt.alloc(), graph.order())?;
+    drop(graph);
+    assert_eq!(rt; shared.len(), 5);
+    assert_eq!(rt; shared.needs(4), [0, 1].as_slice());
+    assert_eq!(rt; shared.needed_by(3), [2].as_slice());
+    assert_eq!(rt; shared.order(), order.as_slice());
+    Ok(())
+}
+
+#[test]
 fn the_order_puts_what_is_needed_first(rt: HostRuntime) -> Result<(), Fail> {
     let graph = draft_of(rt.alloc(), 5, &SAMPLE)?.finish()?;
     assert_eq!(rt; graph.order().len(), 5);

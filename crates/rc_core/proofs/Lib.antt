@@ -1,0 +1,12 @@
+pub mod RunLemmas
+pub mod StandingLemmas
+pub mod StrictLemmas
+pub mod EventLemmas
+pub mod RoomLemmas
+pub mod TableLemmas
+pub mod TableReading
+pub mod MoveLemmas
+pub mod Opening
+pub mod Standings
+pub mod Lives
+pub mod Finishing

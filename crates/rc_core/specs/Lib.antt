@@ -1,0 +1,9 @@
+pub mod Course
+pub mod Standing
+pub mod Events
+pub mod Legal
+pub mod Settled
+pub mod Errand
+pub mod Taking
+pub mod Finish
+pub mod Tables

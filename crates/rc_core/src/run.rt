@@ -1,0 +1,192 @@
+ghost use Rattle.std.specs.Prelude.{◌≡◌, ◌<◌, ◌⊎◌, ◌↔◌, ℕ, [], length, take, IsTrue, IfOk, IfSome, IfNone, OnOk, OnErr};
+ghost use Rattle.rc_set.specs.Set.{Has};
+ghost use Rattle.rc_graph.specs.Closure.{IsClosed};
+ghost use Rattle.rc_core.specs.declared.event.Event.{Event};
+ghost use Rattle.rc_core.specs.Course.{course_of, TargetOf};
+ghost use Rattle.rc_core.specs.Standing.{standing_of};
+ghost use Rattle.rc_core.specs.Events.{IsWorker, IsFree};
+ghost use Rattle.rc_core.specs.Legal.{IsLegal, IsRun};
+ghost use Rattle.rc_core.specs.Settled.{with_event, IsStrictlyClosed, IsSettled};
+ghost use Rattle.rc_core.specs.Taking.{IsAnswered};
+
+use crate::ended::Ended;
+use crate::event::{Event, Outcome};
+use crate::job::Job;
+use crate::standing::Standing;
+use crate::tables::Tables;
+use crate::took::Took;
+use rc_graph::Graph;
+use rc_select::Plan;
+use rc_set::{NoMem, Set};
+use std::alloc::Global;
+use std::marker::Model;
+use thiserror::Error;
+
+/// The event may not come now. Nothing has changed.
+#[derive(Clone, Copy, Debug, PartialEq, Eq, Error)]
+#[error("the event is not legal now")]
+pub struct NotLegal;
+
+/// A change on its way: what was to move, and the events so far.
+///
+/// It borrows nothing. No call but `open` takes memory.
+/// Time: `take`, `step` of a take, and `settled` grow with the services and their pairs; the others take one step,
+/// and `take_apart` grows with the services.
+#[derive(Debug, Drop)]
+pub struct Run {
+    pub(crate) graph: Graph,
+    pub(crate) opening: Set,
+    pub(crate) lower: Set,
+    pub(crate) raise: Set,
+    pub(crate) deadline: Option<u64>,
+    pub(crate) tables: Tables,
+    pub(crate) trace: Vec<Event>,
+    /// Room for the lists of the end.
+    pub(crate) failed_room: Vec<u16>,
+    pub(crate) left_room: Vec<u16>,
+}
+
+impl Model for Run {
+    ghost use Rattle.std.specs.Prelude.{length};
+    ghost use Rattle.rc_core.specs.Settled.{RunSoFar};
+    ghost use Rattle.rc_core.specs.Tables.{IsKept, IsRoomFor};
+
+    ghost Value = { RunSoFar };
+
+    ghost view = { λ r. record {
+      course = record { needs = r.graph; up = r.opening; lower = r.lower; raise = r.raise; deadline = r.deadline };
+      events = r.trace.items;
+    } };
+
+    ghost invariant = { λ r. IsKept (record { needs = r.graph; up = r.opening; lower = r.lower; raise = r.raise; deadline = r.deadline })
+        r.trace r.tables
+        × IsRoomFor (length r.graph) r.failed_room × IsRoomFor (length r.graph) r.left_room };
+}
+
+impl Run {
+    /// A run of a plan, in which nothing has happened yet. With a deadline it may be stopped from that moment on.
+    /// All the room that it will need is made here: two events for each service that is to move, and one to stop.
+    pub fn open(
+        alloc: Global,
+        graph: &Graph,
+        plan: &Plan,
+        deadline: Option<u64>,
+    ) -> Result<Run, NoMem>
+        requires opening_bound { length plan.now.opening ≡ length graph.now }
+        requires lower_bound { length plan.now.lower ≡ length graph.now }
+        requires raise_bound { length plan.now.raise ≡ length graph.now }
+        requires opening { IsClosed graph.now (Has plan.now.opening) }
+        requires target { IsClosed graph.now (TargetOf (course_of graph.now plan.now deadline)) }
+        ensures { IfOk result (λ run. run ≡ record { course = course_of graph.now plan.now deadline; events = [] }) }
+    {
+        let tables = Tables::new(alloc, plan.opening(), plan.lower(), plan.raise())?;
+        let events = 2 * tables.left.len() as usize + 1;
+        let services = graph.len() as usize;
+        Ok(Run {
+            graph: graph.share()?,
+            opening: plan.opening().copy(alloc)?,
+            lower: plan.lower().copy(alloc)?,
+            raise: plan.raise().copy(alloc)?,
+            deadline,
+            tables,
+            trace: Vec::with_capacity(alloc, events)?,
+            failed_room: Vec::with_capacity(alloc, services)?,
+            left_room: Vec::with_capacity(alloc, services)?,
+        })
+    }
+
+    /// Asks for a job on behalf of a worker, from 1 to 64, that holds nothing. Of several jobs it gives any.
+    pub fn take(&mut self, worker: u8) -> Result<Took, NotLegal>
+        ensures answer { IfOk result (λ took. IsAnswered self.old worker took self.new) }
+        ensures ok { OnOk result (IsWorker worker × IsFree self.old.events worker) }
+        ensures err { OnErr result (IsWorker worker × IsFree self.old.events worker → ⊥) }
+        ensures same { OnErr result (self.new ≡ self.old) }
+    {
+        if !self.is_free(worker) {
+            return Err(NotLegal);
+        }
+        match self.next_move() {
+            Some(next) => {
+                self.add(Event::Take(worker, next.service));
+                Ok(Took::Job(Job::new(worker, next.service, next.way)))
+            }
+            None if self.holds_some() => Ok(Took::Wait),
+            None => Ok(Took::Settled),
+        }
+    }
+
+    /// Tells how the transition ended of the service that a worker holds.
+    pub fn done(&mut self, worker: u8, service: u16, outcome: Outcome) -> Result<(), NotLegal>
+        ensures ok { OnOk result (IsLegal self.old.course self.old.events (Event.Done worker service outcome)) }
+        ensures made { OnOk result (self.new ≡ with_event self.old (Event.Done worker service outcome)) }
+        ensures err { OnErr result (IsLegal self.old.course self.old.events (Event.Done worker service outcome) → ⊥) }
+        ensures same { OnErr result (self.new ≡ self.old) }
+    {
+        self.step(Event::Done(worker, service, outcome))
+    }
+
+    /// Stops the run at a moment, in milliseconds, that has reached the deadline. Nothing is taken from then on.
+    pub fn stop(&mut self, worker: u8, moment: u64) -> Result<(), NotLegal>
+        ensures ok { OnOk result (IsLegal self.old.course self.old.events (Event.Stop worker moment)) }
+        ensures made { OnOk result (self.new ≡ with_event self.old (Event.Stop worker moment)) }
+        ensures err { OnErr result (IsLegal self.old.course self.old.events (Event.Stop worker moment) → ⊥) }
+        ensures same { OnErr result (self.new ≡ self.old) }
+    {
+        self.step(Event::Stop(worker, moment))
+    }
+
+    /// Makes one event, if it is legal now.
+    pub fn step(&mut self, event: Event) -> Result<(), NotLegal>
+        ensures ok { OnOk result (IsLegal self.old.course self.old.events event) }
+        ensures made { OnOk result (self.new ≡ with_event self.old event) }
+        ensures err { OnErr result (IsLegal self.old.course self.old.events event → ⊥) }
+        ensures same { OnErr result (self.new ≡ self.old) }
+    {
+        if !self.is_legal(event) {
+            return Err(NotLegal);
+        }
+        self.add(event);
+        Ok(())
+    }
+
+    /// Where a service stands now.
+    pub fn standing(&self, service: u16) -> Standing
+        requires { service < length self.now.course.needs }
+        ensures { result ≡ standing_of self.now.course self.now.events service }
+    {
+        self.tables.standings[service as usize]
+    }
+
+    /// Whether nothing is held, and nothing may be taken any more.
+    pub fn settled(&self) -> bool
+        ensures { IsTrue result ↔ IsSettled self.now.course self.now.events }
+    {
+        !self.holds_some() && self.next_move().is_none()
+    }
+
+    /// The events so far, in order.
+    pub fn trace(&self) -> &[Event]
+        ensures events { result.now ≡ self.now.events }
+        ensures run { IsRun self.now.course self.now.events }
+        ensures closed { (k : ℕ) → IsStrictlyClosed self.now.course (take k self.now.events) }
+    {
+        self.trace.as_slice()
+    }
+
+    /// The end of a settled run, which tells what has become of each service.
+    pub fn finish(self) -> Ended
+        requires { IsSettled self.course self.events }
+        ensures { result ≡ self }
+    {
+        Ended { run: self }
+    }
+
+    /// Adds a legal event. Takes no memory.
+    fn add(&mut self, event: Event)
+        requires { IsLegal self.old.course self.old.events event }
+        ensures { self.new ≡ with_event self.old event }
+    {
+        self.tables.note(event);
+        self.trace.push_reserved(event);
+    }
+}
