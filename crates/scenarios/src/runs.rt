@@ -1,6 +1,6 @@
 //! Runs on the sample: db needs net, net needs root, web needs db and log.
 
-ghost use Rattle.std.specs.Prelude.{◌≡◌, ◌<◌, length, IfOk};
+ghost use Rattle.std.specs.Prelude.{◌≤◌, length};
 
 use crate::sample::{DB, LOG, NET, ROOT, SAMPLE, WEB, graph_of, run_between, run_on, taken};
 use rc_core::{Event, NotLegal, Outcome, Run, Standing, Took};
@@ -79,9 +79,7 @@ fn must_end(rt: &impl Abort, alloc: Global, run: Run, want: &Want) -> Result<(),
     Ok(())
 }
 
-fn make(run: &mut Run, events: &[Event]) -> Result<(), NotLegal>
-    ensures { IfOk result (λ done. run.new.course ≡ run.old.course) }
-{
+fn make(run: &mut Run, events: &[Event]) -> Result<(), NotLegal> {
     for event in events {
         run.step(*event)?;
     }
@@ -214,18 +212,23 @@ fn a_run_stops_once_at_its_deadline(rt: HostRuntime) -> Result<(), Fail> {
     must_be_settled(&rt, &mut run)
 }
 
-// Makes an event, and tells where two services then stand.
-fn after(
+// Makes events, after each of which the first two services must stand so.
+fn must_stand(
+    rt: &impl Abort,
     run: &mut Run,
-    event: Event,
-    services: (u16, u16),
-) -> Result<(Standing, Standing), NotLegal>
-    requires first { services.0 < length run.old.course.needs }
-    requires second { services.1 < length run.old.course.needs }
-    ensures { IfOk result (λ standings. run.new.course ≡ run.old.course) }
+    rows: &[(Event, Standing, Standing)],
+) -> Result<(), NotLegal>
+    requires { 2 ≤ length run.old.course.needs }
 {
-    run.step(event)?;
-    Ok((run.standing(services.0), run.standing(services.1)))
+    for (event, first, second) in rows {
+        run.step(*event)?;
+        assert_eq!(rt;
+            (run.standing(0), run.standing(1)),
+            (*first, *second),
+            "{event:?}"
+        );
+    }
+    Ok(())
 }
 
 #[test]
@@ -234,19 +237,19 @@ fn a_service_stands_where_the_events_say(rt: HostRuntime) -> Result<(), Fail> {
     assert_eq!(rt; graph.len(), 2);
     let mut run = run_between(&rt, rt.alloc(), &graph, &[0], &[1], None)?;
     let rows = [
-        (Event::Take(64, 0), (Standing::Sinking, Standing::Down)),
+        (Event::Take(64, 0), Standing::Sinking, Standing::Down),
         (
             Event::Done(64, 0, Outcome::Ok),
-            (Standing::Down, Standing::Down),
+            Standing::Down,
+            Standing::Down,
         ),
-        (Event::Take(1, 1), (Standing::Down, Standing::Rising)),
+        (Event::Take(1, 1), Standing::Down, Standing::Rising),
         (
             Event::Done(1, 1, Outcome::NotStarted),
-            (Standing::Down, Standing::Down),
+            Standing::Down,
+            Standing::Down,
         ),
     ];
-    for (event, want) in rows {
-        assert_eq!(rt; after(&mut run, event, (0, 1))?, want);
-    }
+    must_stand(&rt, &mut run, &rows)?;
     Ok(())
 }
