@@ -2,11 +2,14 @@ pub mod RunLemmas
 pub mod StandingLemmas
 pub mod StrictLemmas
 pub mod EventLemmas
-pub mod RoomLemmas
-pub mod TableLemmas
+pub mod Places
+pub mod Noting
+pub mod Members
+pub mod Standings
 pub mod TableReading
+pub mod Rooms
+pub mod Keeping
 pub mod MoveLemmas
 pub mod Opening
-pub mod Standings
 pub mod Lives
 pub mod Finishing

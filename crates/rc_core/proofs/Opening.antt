@@ -1,4 +1,4 @@
-use Rattle.std.proofs.Common.{◌≡◌, ◌∙◌, ℕ, ◌+◌, ◌*◌, ◌<◌, ◌≤◌, [], Bool, true, false, cond, zero, suc, Some, None, is_some, length, replicate, count_by, Contains, slice_index_or, arith, rules, ap, sym}
+use Rattle.std.proofs.Common.{◌≡◌, ◌∙◌, ℕ, ◌+◌, ◌*◌, ◌≤◌, [], Bool, true, false, cond, zero, suc, Some, None, is_some, length, replicate, count_by, Contains, slice_index_or, arith, rules, ap, sym}
 use Rattle.std.specs.Global.{Vec}
 use Rattle.std.specs.Vec.{vec_len, vec_capacity}
 use Rattle.rc_core.specs.declared.event.Event.{Event}

@@ -1,6 +1,6 @@
 //! Which events are legal now.
 
-ghost use Rattle.std.specs.Prelude.{◌≤◌, ◌↔◌, IsTrue};
+ghost use Rattle.std.specs.Prelude.{◌↔◌, IsTrue};
 ghost use Rattle.rc_core.specs.declared.event.Event.{Event};
 ghost use Rattle.rc_core.specs.Events.{IsWorker, IsFree, IsHeldBy, SomeHeld};
 ghost use Rattle.rc_core.specs.Legal.{IsLegal};

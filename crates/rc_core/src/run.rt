@@ -1,4 +1,4 @@
-ghost use Rattle.std.specs.Prelude.{◌≡◌, ◌<◌, ◌⊎◌, ◌↔◌, ℕ, [], length, take, IsTrue, IfOk, IfSome, IfNone, OnOk, OnErr};
+ghost use Rattle.std.specs.Prelude.{◌≡◌, ◌<◌, ◌↔◌, ℕ, [], length, take, IsTrue, IfOk, OnOk, OnErr};
 ghost use Rattle.rc_set.specs.Set.{Has};
 ghost use Rattle.rc_graph.specs.Closure.{IsClosed};
 ghost use Rattle.rc_core.specs.declared.event.Event.{Event};

@@ -1,4 +1,4 @@
-use Rattle.std.proofs.Common.{ℕ, List, ◌⊎◌, inl, inr}
+use Rattle.std.proofs.Common.{ℕ, List, inl, inr}
 use Rattle.rc_graph.specs.Closure.{IsClosed}
 use Rattle.rc_graph.proofs.Paths.{up_is_closed}
 use Rattle.rc_select.specs.Target.{Target}

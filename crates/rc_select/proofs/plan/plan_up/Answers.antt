@@ -1,4 +1,4 @@
-use Rattle.std.proofs.Common.{ℕ, inl, inr}
+use Rattle.std.proofs.Common.{inl, inr}
 use Rattle.rc_set.specs.Set.{Has}
 use Rattle.rc_select.specs.Target.{Target}
 use Rattle.rc_select.proofs.TargetLemmas.{target_closed, same_closed}
