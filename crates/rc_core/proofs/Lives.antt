@@ -3,13 +3,16 @@ use Rattle.std.proofs.lemmas.List.{get_or_past}
 use Rattle.std.proofs.lemmas.Bool.{cases_lt}
 use Rattle.rc_set.specs.Set.{Has, Holds}
 use Rattle.rc_set.proofs.Members.{has_within}
+use Rattle.std.specs.Global.{Vec}
+use Rattle.rc_graph.specs.Closure.{IsClosed}
 use Rattle.rc_core.specs.declared.standing.Standing.{Standing}
 use Rattle.rc_core.specs.declared.standing.Standing.TheVariants.{Down, Rising, Up, Sinking}
 use Rattle.rc_core.specs.declared.event.Event.{Event}
 use Rattle.rc_core.specs.declared.tables.Tables.{Tables}
 use Rattle.rc_core.specs.Course.{Course}
 use Rattle.rc_core.specs.Settled.{IsLive}
-use Rattle.rc_core.specs.Tables.{AreTables}
+use Rattle.rc_core.specs.Tables.{AreTables, IsKept}
+use Rattle.rc_core.proofs.StrictLemmas.{strict_of, live_closed}
 
 -- up, or on its way down
 abbrev pub StandsLive : Standing → Type 0
@@ -79,3 +82,7 @@ all_live standings bound set whole lives s =
 -- what stands live in the tables is live by the events
 pub live_those : (c : Course) (events : List Event) (t : Tables) (set : List Bool) → AreTables c events t → Holds set (λ s. StandsLive (slice_index_or t.standings.items s Down)) → Holds set (IsLive c events)
 live_those c events t set tables holds s = subst (λ (standing : Standing). Has set s ↔ StandsLive standing) (tables.standing s) (holds s)
+
+-- what is live in a run is closed
+pub closed_live : (c : Course) (trace : Vec Event) (t : Tables) (set : List Bool) → IsKept c trace t → Holds set (IsLive c trace.items) → IsClosed c.needs (Has set)
+closed_live c trace t set kept live s needed has need = (live needed).1 (live_closed c trace.items (strict_of c trace.items kept.course.opening kept.run) s needed ((live s).0 has) need)

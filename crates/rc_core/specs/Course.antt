@@ -24,11 +24,13 @@ IsPlanned c s = Has c.lower s ⊎ Has c.raise s
 abbrev pub TargetOf : Course → ℕ → Type 0
 TargetOf c s = (Has c.up s × (Has c.lower s → ⊥)) ⊎ Has c.raise s
 
--- sets of services of the graph; what is up at first is closed, and so is the target
+-- sets of services of the graph; what is to go down is up, what is to come up is not; what is up at first is closed, and so is the target
 pub record IsCourse (c : Course) : Type 0 where
   pub lists : AreNeeds c.needs
   pub up_bound : length c.up ≡ length c.needs
   pub lower_bound : length c.lower ≡ length c.needs
   pub raise_bound : length c.raise ≡ length c.needs
+  pub falls : (s : ℕ) → Has c.lower s → Has c.up s
+  pub rises : (s : ℕ) → Has c.raise s → Has c.up s → ⊥
   pub opening : IsClosed c.needs (Has c.up)
   pub target : IsClosed c.needs (TargetOf c)

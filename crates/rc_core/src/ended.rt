@@ -1,5 +1,7 @@
 ghost use Rattle.std.specs.Prelude.{◌≡◌, ◌≤◌, ◌⊎◌, ◌↔◌, length, slice_index_or, IsTrue, vec_len, vec_capacity};
-ghost use Rattle.rc_set.specs.Set.{Holds, Lists};
+ghost use Rattle.rc_set.specs.Set.{Has, Holds, Lists};
+ghost use Rattle.rc_graph.specs.Closure.{IsClosed};
+ghost use Rattle.rc_core.specs.Course.{IsCourse};
 ghost use Rattle.rc_core.specs.Events.{HasFailed, IsStopped};
 ghost use Rattle.rc_core.specs.Legal.{IsLeft};
 ghost use Rattle.rc_core.specs.Settled.{IsLive, IsSettled};
@@ -45,9 +47,11 @@ pub struct Finish {
 impl Ended {
     /// What the run has come to. Takes no memory.
     pub fn take_apart(self) -> Finish
+        ensures course { IsCourse self.course }
         ensures settled { IsSettled self.course self.events }
         ensures bound { length result.live ≡ length self.course.needs }
         ensures live { Holds result.live (IsLive self.course self.events) }
+        ensures closed { IsClosed self.course.needs (Has result.live) }
         ensures failed { ListsThose (HasFailed self.events) result.failed.items }
         ensures left { ListsThose (IsLeft self.course self.events) result.left.items }
         ensures stopped { IsTrue result.stopped ↔ IsStopped self.events }

@@ -3,8 +3,9 @@ ghost use Rattle.std.specs.Prelude.{◌≡◌};
 use rc_graph::Way;
 use std::marker::Model;
 
-/// A transition that a worker is to make. Only a run gives jobs, each once, so who has one may make it.
-/// Tell the run how it ended. A job may be dropped: the worker holds the service all the same.
+/// A transition that a worker is to make. `Run::take` alone makes jobs, one for each take that it makes, and a job
+/// can't be copied. Tell the run by `done` how the transition ended. A job may be dropped: the worker holds the
+/// service all the same.
 #[derive(Debug, Drop)]
 pub struct Job {
     worker: u8,

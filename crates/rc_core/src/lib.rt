@@ -1,7 +1,7 @@
 //! A run: the events by which the services of a plan go down and come up, each in its turn.
 //!
 //! A run is pure. Workers ask it for jobs, and tell it how each one ended. It keeps the list of these events, its trace,
-//! and takes no event that may not come. No call after `Run::open` takes memory.
+//! and takes no event that may not come. No call after `Run::open` can be refused for want of memory.
 #![tactic(auto)]
 
 mod ended;

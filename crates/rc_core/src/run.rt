@@ -2,7 +2,7 @@ ghost use Rattle.std.specs.Prelude.{◌≡◌, ◌<◌, ◌↔◌, ℕ, [], leng
 ghost use Rattle.rc_set.specs.Set.{Has};
 ghost use Rattle.rc_graph.specs.Closure.{IsClosed};
 ghost use Rattle.rc_core.specs.declared.event.Event.{Event};
-ghost use Rattle.rc_core.specs.Course.{course_of, TargetOf};
+ghost use Rattle.rc_core.specs.Course.{course_of, TargetOf, IsCourse};
 ghost use Rattle.rc_core.specs.Standing.{standing_of};
 ghost use Rattle.rc_core.specs.Events.{IsWorker, IsFree};
 ghost use Rattle.rc_core.specs.Legal.{IsLegal, IsRun};
@@ -29,7 +29,7 @@ pub struct NotLegal;
 
 /// A change on its way: what was to move, and the events so far.
 ///
-/// It borrows nothing. No call but `open` takes memory.
+/// It borrows nothing. No call but `open` can be refused for want of memory.
 /// Time: `take`, `step` of a take, and `settled` grow with the services and their pairs; the others take one step,
 /// and `take_apart` grows with the services.
 #[derive(Debug, Drop)]
@@ -72,9 +72,7 @@ impl Run {
         plan: &Plan,
         deadline: Option<u64>,
     ) -> Result<Run, NoMem>
-        requires opening_bound { length plan.now.opening ≡ length graph.now }
-        requires lower_bound { length plan.now.lower ≡ length graph.now }
-        requires raise_bound { length plan.now.raise ≡ length graph.now }
+        requires bound { length plan.now.opening ≡ length graph.now }
         requires opening { IsClosed graph.now (Has plan.now.opening) }
         requires target { IsClosed graph.now (TargetOf (course_of graph.now plan.now deadline)) }
         ensures { IfOk result (λ run. run ≡ record { course = course_of graph.now plan.now deadline; events = [] }) }
@@ -115,7 +113,7 @@ impl Run {
         }
     }
 
-    /// Tells how the transition ended of the service that a worker holds.
+    /// Tells how the transition of the service that a worker holds ended.
     pub fn done(&mut self, worker: u8, service: u16, outcome: Outcome) -> Result<(), NotLegal>
         ensures ok { OnOk result (IsLegal self.old.course self.old.events (Event.Done worker service outcome)) }
         ensures made { OnOk result (self.new ≡ with_event self.old (Event.Done worker service outcome)) }
@@ -125,7 +123,8 @@ impl Run {
         self.step(Event::Done(worker, service, outcome))
     }
 
-    /// Stops the run at a moment, in milliseconds, that has reached the deadline. Nothing is taken from then on.
+    /// A worker, from 1 to 64, stops the run at a moment, in milliseconds, that has reached the deadline.
+    /// Nothing is taken from then on. A run that is settled may still be stopped, and then counts as stopped.
     pub fn stop(&mut self, worker: u8, moment: u64) -> Result<(), NotLegal>
         ensures ok { OnOk result (IsLegal self.old.course self.old.events (Event.Stop worker moment)) }
         ensures made { OnOk result (self.new ≡ with_event self.old (Event.Stop worker moment)) }
@@ -167,6 +166,7 @@ impl Run {
     /// The events so far, in order.
     pub fn trace(&self) -> &[Event]
         ensures events { result.now ≡ self.now.events }
+        ensures course { IsCourse self.now.course }
         ensures run { IsRun self.now.course self.now.events }
         ensures closed { (k : ℕ) → IsStrictlyClosed self.now.course (take k self.now.events) }
     {

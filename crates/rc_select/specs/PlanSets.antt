@@ -1,4 +1,5 @@
-use Rattle.std.specs.Prelude.{List, Bool}
+use Rattle.std.specs.Prelude.{◌≡◌, ℕ, List, Bool, length}
+use Rattle.rc_set.specs.Set.{Has}
 
 -- a plan as its four sets: what is up at first, what goes down, what comes up, what is kept
 pub record PlanSets : Type 0 where
@@ -6,3 +7,11 @@ pub record PlanSets : Type 0 where
   pub lower : List Bool
   pub raise : List Bool
   pub kept : List Bool
+
+-- sets of one bound; what goes down was up, and what comes up was not
+pub record IsPlan (plan : PlanSets) : Type 0 where
+  pub lower_bound : length plan.lower ≡ length plan.opening
+  pub raise_bound : length plan.raise ≡ length plan.opening
+  pub kept_bound : length plan.kept ≡ length plan.opening
+  pub falls : (s : ℕ) → Has plan.lower s → Has plan.opening s
+  pub rises : (s : ℕ) → Has plan.raise s → Has plan.opening s → ⊥

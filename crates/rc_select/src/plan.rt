@@ -2,6 +2,7 @@ ghost use Rattle.std.specs.Prelude.{◌≡◌, ℕ, length, IfOk};
 ghost use Rattle.rc_set.specs.Set.{Has};
 ghost use Rattle.rc_graph.specs.Closure.{IsClosed};
 ghost use Rattle.rc_select.specs.Plan.{LeadsTo, Nothing};
+ghost use Rattle.rc_select.specs.PlanSets.{IsPlan};
 ghost use Rattle.rc_select.specs.Target.{Target};
 
 use rc_graph::Graph;
@@ -19,17 +20,20 @@ pub struct Plan {
 }
 
 impl Model for Plan {
-    ghost use Rattle.rc_select.specs.PlanSets.{PlanSets};
+    ghost use Rattle.rc_select.specs.PlanSets.{PlanSets, IsPlan};
 
     ghost Value = { PlanSets };
 
     ghost view = { λ p. record { opening = p.opening; lower = p.lower; raise = p.raise; kept = p.kept } };
+
+    ghost invariant = { λ p. IsPlan (record { opening = p.opening; lower = p.lower; raise = p.raise; kept = p.kept }) };
 }
 
 impl Plan {
-    /// What is up before the change.
+    /// What is up before the change. What goes down was up, what comes up was not, and all four sets have one bound.
     pub fn opening(&self) -> &Set
-        ensures { result.now ≡ self.now.opening }
+        ensures set { result.now ≡ self.now.opening }
+        ensures plan { IsPlan self.now }
     {
         &self.opening
     }
