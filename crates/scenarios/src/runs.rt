@@ -253,3 +253,10 @@ fn a_service_stands_where_the_events_say(rt: HostRuntime) -> Result<(), Fail> {
     must_stand(&rt, &mut run, &rows)?;
     Ok(())
 }
+
+#[test]
+fn a_refusal_says_so(rt: HostRuntime) -> Result<(), Fail> {
+    let text = format!(in rt.alloc(); "{NotLegal}")?;
+    assert_eq!(rt; text.as_str(), "the event is not legal now");
+    Ok(())
+}
