@@ -13,3 +13,6 @@ pub mod MoveLemmas
 pub mod Opening
 pub mod Lives
 pub mod Finishing
+pub mod OrderInduction
+pub mod Stories
+pub mod Targets
