@@ -15,4 +15,4 @@ pub mod Lives
 pub mod Finishing
 pub mod OrderInduction
 pub mod Stories
-pub mod Targets
+pub mod Ends

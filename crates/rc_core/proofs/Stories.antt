@@ -1,6 +1,7 @@
-use Rattle.std.proofs.Common.{◌≡◌, ◌≢◌, ◌∙◌, ℕ, ◌⊎◌, inl, inr, List, [], ◌∷◌, ◌++◌, Bool, true, false, Contains, refl, ap, sym, subst}
+use Rattle.std.proofs.Common.{◌≡◌, ◌≢◌, ◌∙◌, ℕ, ◌⊎◌, inl, inr, List, [], ◌∷◌, ◌++◌, Bool, true, false, if◌then◌else◌, slice_index_or, Contains, refl, ap, sym, subst}
 use Rattle.std.proofs.lemmas.Bool.{cases_eq}
 use Rattle.std.proofs.lemmas.List.Elements.{Contains-push}
+use Rattle.rc_core.specs.declared.standing.Standing.TheVariants.{Down, Up}
 use Rattle.rc_core.specs.declared.event.Outcome.{Outcome}
 use Rattle.rc_core.specs.declared.event.Event.{Event}
 use Rattle.rc_core.specs.declared.event.Event.TheVariants.{Take, Done, Stop}
@@ -32,6 +33,7 @@ pub record IsBack (c : Course) (events : List Event) (s : ℕ) : Type 0 where
   pub outcome : Outcome
   pub at : Contains events (Done by s outcome)
   pub alone : (v : ℕ) → Contains events (Take v s) → v ≡ by
+  pub once : (v : ℕ) (o : Outcome) → Contains events (Done v s o) → is_success o ≡ is_success outcome
   pub stands : standing_of c events s ≡ ended (is_success outcome) (taken (opening_of c s))
 
 -- what a run has done with a service so far
@@ -59,6 +61,7 @@ kept c events s e away story = elim story [
     outcome = back.outcome;
     at = still_there events e (Done back.by s back.outcome) back.at;
     alone = λ v h. back.alone v (away.takes v h);
+    once = λ v o h. back.once v o (away.ends v o h);
     stands = away.same ∙ back.stands;
   }))
 ]
@@ -100,14 +103,18 @@ taken_here c events w s run story legal =
     ]
 
 -- who ends a service is the one that took it, and it is back from then on
-ended_here : (c : Course) (events : List Event) (w s : ℕ) (o : Outcome) → Story c events s → IsLegal c events (Done w s o) → Story c (events ++ Done w s o ∷ []) s
-ended_here c events w s o story legal = elim story [
+ended_here : (c : Course) (events : List Event) (w s : ℕ) (o : Outcome) → IsRun c events → Story c events s → IsLegal c events (Done w s o) → Story c (events ++ Done w s o ∷ []) s
+ended_here c events w s o run story legal = elim story [
   | inl stayed ↦ absurd (stayed.fresh (w, legal.1.0))
   | inr (inl out) ↦ inr (inr (record {
     by = w;
     outcome = o;
     at = Contains-push events (Done w s o);
     alone = λ v h. out.alone v (take_then_done events w s o v s h) ∙ sym (out.alone w legal.1.0);
+    once = λ v p h. elim (done_then_done events w s o v s p h) [
+      | inl before ↦ absurd (out.holder.1 p (subst (λ (u : ℕ). Contains events (Done u s p)) (out.alone v (done_was_taken c events v s p run before)) before))
+      | inr now ↦ now.2
+    ];
     stands = standing_done_here c events w s o ∙ ap (ended (is_success o)) out.stands;
   }))
   | inr (inr back) ↦ absurd (legal.1.1 back.outcome (subst (λ (v : ℕ). Contains events (Done v s back.outcome)) (sym (back.alone w legal.1.0)) back.at))
@@ -119,7 +126,7 @@ story_step c s events (Take w x) run story legal = elim (cases_eq x s) [
   | inr other ↦ kept c events s (Take w x) (take_elsewhere c events w x s other) story
 ]
 story_step c s events (Done w x o) run story legal = elim (cases_eq x s) [
-  | inl same ↦ subst (λ (y : ℕ). Story c (events ++ Done w y o ∷ []) s) (sym same) (ended_here c events w s o story (subst (λ (y : ℕ). IsLegal c events (Done w y o)) same legal))
+  | inl same ↦ subst (λ (y : ℕ). Story c (events ++ Done w y o ∷ []) s) (sym same) (ended_here c events w s o run story (subst (λ (y : ℕ). IsLegal c events (Done w y o)) same legal))
   | inr other ↦ kept c events s (Done w x o) (done_elsewhere c events w x s o other) story
 ]
 story_step c s events (Stop w m) run story legal = kept c events s (Stop w m) (stop_elsewhere c events w m s) story
@@ -128,29 +135,47 @@ story_step c s events (Stop w m) run story legal = kept c events s (Stop w m) (s
 pub story_of : (c : Course) (events : List Event) (s : ℕ) → IsRun c events → Story c events s
 story_of c events s run = run_induction c (λ before. Story c before s) (inl (record { fresh = λ h. none_happened (Take h.0 s) h.1; stands = refl })) (story_step c s) events run
 
--- the service was taken, and has arrived
+-- the service stands where it stood at first: it was never taken, or it failed
+pub record Stood (c : Course) (events : List Event) (s : ℕ) : Type 0 where
+  pub stands : standing_of c events s ≡ opening_of c s
+  pub why : (WasTaken events s → ⊥) ⊎ HasFailed events s
+
+-- the service was taken, did not fail, and has arrived
 pub record Moved (c : Course) (events : List Event) (s : ℕ) : Type 0 where
   pub was : WasTaken events s
+  pub well : HasFailed events s → ⊥
   pub stands : standing_of c events s ≡ ended true (taken (opening_of c s))
 
--- a service that is on no way: it stayed, or arrived
+-- a service that is on no way: it stands where it stood, or arrived
 abbrev pub IsAtRest : Course → List Event → ℕ → Type 0
-IsAtRest c events s = Stayed c events s ⊎ Moved c events s
+IsAtRest c events s = Stood c events s ⊎ Moved c events s
 
 success_or_not : (well : Bool) → (well ≡ true) ⊎ (well ≡ false)
 success_or_not true = inl refl
 success_or_not false = inr refl
 
--- where nothing is held and nothing failed each service is at rest
-pub at_rest : (c : Course) (events : List Event) → IsRun c events → NoneHeld events → ((s : ℕ) → HasFailed events s → ⊥) → (s : ℕ) → IsAtRest c events s
-at_rest c events run none_held none_failed s = elim (story_of c events s run) [
-  | inl stayed ↦ inl stayed
+-- without success a service is back where it stood at first
+back_again : (flag : Bool) → ended false (taken (if flag then Up else Down)) ≡ (if flag then Up else Down)
+back_again true = refl
+back_again false = refl
+
+back_at_rest : (c : Course) (events : List Event) (s : ℕ) → IsRun c events → IsBack c events s → IsAtRest c events s
+back_at_rest c events s run back = elim (success_or_not (is_success back.outcome)) [
+  | inl well ↦ inr (record {
+    was = (back.by, done_was_taken c events back.by s back.outcome run back.at);
+    well = λ failed. let bad : true ≡ false = sym (back.once failed.0 failed.1 failed.2 ∙ well) ∙ failed.3 in cc;
+    stands = back.stands ∙ ap (λ (flag : Bool). ended flag (taken (opening_of c s))) well;
+  })
+  | inr badly ↦ inl (record {
+    stands = back.stands ∙ ap (λ (flag : Bool). ended flag (taken (opening_of c s))) badly ∙ back_again (slice_index_or c.up s false);
+    why = inr (back.by, back.outcome, back.at, badly);
+  })
+]
+
+-- where nothing is held each service is at rest
+pub at_rest : (c : Course) (events : List Event) → IsRun c events → NoneHeld events → (s : ℕ) → IsAtRest c events s
+at_rest c events run none_held s = elim (story_of c events s run) [
+  | inl stayed ↦ inl (record { stands = stayed.stands; why = inl stayed.fresh })
   | inr (inl out) ↦ absurd (none_held out.by s out.holder)
-  | inr (inr back) ↦ elim (success_or_not (is_success back.outcome)) [
-    | inl well ↦ inr (record {
-      was = (back.by, done_was_taken c events back.by s back.outcome run back.at);
-      stands = back.stands ∙ ap (λ (flag : Bool). ended flag (taken (opening_of c s))) well;
-    })
-    | inr badly ↦ absurd (none_failed s (back.by, back.outcome, back.at, badly))
-  ]
+  | inr (inr back) ↦ back_at_rest c events s run back
 ]

@@ -6,4 +6,5 @@ pub mod Settled
 pub mod Errand
 pub mod Taking
 pub mod Finish
+pub mod End
 pub mod Tables

@@ -6,6 +6,7 @@ ghost use Rattle.rc_graph.specs.Closure.{IsClosed};
 ghost use Rattle.rc_graph.specs.Order.{IsOrder};
 ghost use Rattle.rc_core.specs.declared.event.Event.{Event};
 ghost use Rattle.rc_core.specs.Course.{Course, IsCourse, TargetOf};
+ghost use Rattle.rc_core.specs.End.{EndOf};
 ghost use Rattle.rc_core.specs.Events.{HasFailed, IsStopped};
 ghost use Rattle.rc_core.specs.Legal.{IsRun};
 ghost use Rattle.rc_core.specs.Settled.{IsStrictlyClosed, IsLive, IsSettled};
@@ -16,6 +17,13 @@ pub fn runs_are_strictly_closed()
         IsRun c events → IsStrictlyClosed c (take k events) }
     ensures live { (c : Course) (events : List Event) (k : ℕ) → IsClosed c.needs (Has c.up) →
         IsRun c events → IsClosed c.needs (IsLive c (take k events)) }
+{}
+
+/// A settled run that was not stopped ends as the services that failed say, whatever the order of its events was.
+pub fn runs_end_by_what_failed()
+    ensures { (c : Course) (order : List ℕ) (events : List Event) → IsCourse c → IsOrder c.needs order →
+        IsSettled c events → (IsStopped events → ⊥) →
+        (s : ℕ) → IsLive c events s ↔ EndOf c (HasFailed events) s }
 {}
 
 /// A settled run that was not stopped, and in which nothing failed, ends in its target: nothing is left over.
