@@ -2,7 +2,9 @@
 
 ghost use Rattle.std.specs.Prelude.{◌≤◌, length};
 
-use crate::sample::{DB, LOG, NET, ROOT, SAMPLE, WEB, graph_of, run_between, run_on, taken};
+use crate::sample::{
+    DB, LOG, NET, ROOT, SAMPLE, WEB, graph_of, run_between, run_on, set_of, taken, widest_fan,
+};
 use rc_core::{Event, NotLegal, Outcome, Run, Standing, Took};
 use rc_graph::Graph;
 use std::alloc::Global;
@@ -258,5 +260,31 @@ fn a_service_stands_where_the_events_say(rt: HostRuntime) -> Result<(), Fail> {
 fn a_refusal_says_so(rt: HostRuntime) -> Result<(), Fail> {
     let text = format!(in rt.alloc(); "{NotLegal}")?;
     assert_eq!(rt; text.as_str(), "the event is not legal now");
+    Ok(())
+}
+
+// All that need the first service, with it.
+fn whole_fan(alloc: Global, graph: &Graph) -> Result<Vec<u16>, Fail> {
+    let first = set_of(alloc, graph.len(), &[0])?;
+    Ok(graph.down_of(alloc, &first)?.ids(alloc)?)
+}
+
+#[test]
+fn as_many_services_as_there_may_be_are_planned(rt: HostRuntime) -> Result<(), Fail> {
+    let graph = widest_fan(rt.alloc())?;
+    let all = whole_fan(rt.alloc(), &graph)?;
+    assert_eq!(rt; (all.len(), all.last().copied()), (4096, Some(4095)));
+    let mut run = run_between(&rt, rt.alloc(), &graph, &[], &all, None)?;
+    let jobs = run_on(rt.alloc(), &mut run, 1)?;
+    assert_eq!(rt; jobs.as_slice(), [0].as_slice());
+    make(
+        &mut run,
+        &[Event::Take(64, 4095), Event::Done(64, 4095, Outcome::Ok)],
+    )?;
+    refuse(
+        &rt,
+        &mut run,
+        &[Event::Take(64, 4095), Event::Take(64, 4096)],
+    );
     Ok(())
 }

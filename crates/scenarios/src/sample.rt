@@ -89,3 +89,12 @@ pub(crate) fn run_on(alloc: Global, run: &mut Run, jobs: usize) -> Result<Vec<u1
     }
     Ok(services)
 }
+
+// As many services as there may be, of which each but the first needs the first.
+pub(crate) fn widest_fan(alloc: Global) -> Result<Graph, Fail> {
+    let mut pairs = Vec::new(alloc);
+    for service in 1..4096 {
+        pairs.push((service, 0))?;
+    }
+    graph_of(alloc, 4096, &pairs)
+}
