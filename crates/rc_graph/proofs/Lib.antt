@@ -7,3 +7,4 @@ pub mod Reversing
 pub mod Orders
 pub mod Acyclic
 pub mod Rings
+pub mod Inductions

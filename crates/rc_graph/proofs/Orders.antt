@@ -1,11 +1,11 @@
-use Rattle.std.proofs.Common.{◌≡◌, ◌≢◌, ℕ, ◌+◌, ◌<◌, ◌≤◌, ◌⊎◌, List, [], ◌∷◌, ◌++◌, Bool, true, false, not, count_by, Contains, All, inl, inr, arith, sym, subst, slice_index_or, slice_index, length, refl, take}
+use Rattle.std.proofs.Common.{◌≡◌, ◌≢◌, ℕ, ◌+◌, ◌<◌, ◌≤◌, ◌⊎◌, List, [], ◌∷◌, ◌++◌, Bool, true, not, count_by, Contains, All, inl, inr, arith, sym, subst, slice_index_or, slice_index, length, refl, take}
 use Rattle.std.specs.Bool.{OnTrue, OnFalse}
-use Rattle.std.proofs.lemmas.Bool.{cases_lt, cases_order, OnFalse_at, OnFalse_from, false≢true}
-use Rattle.std.proofs.lemmas.List.{get_or_past, get_or_append_left, get_or_push, take-append-le, take_at, length_push}
+use Rattle.std.proofs.lemmas.Bool.{cases_lt, cases_order, OnFalse_at, OnFalse_from}
+use Rattle.std.proofs.lemmas.List.{get_or_append_left, get_or_push, take-append-le, take_at, length_push}
 use Rattle.std.proofs.lemmas.List.Elements.{Contains-append_left, Contains-append_right, Contains-push, Contains-push_cases, Contains-get_or, All-cons}
 use Rattle.std.proofs.lemmas.List.Quantifiers.{all_pairs_push}
 use Rattle.rc_set.specs.Set.{Has, Holds}
-use Rattle.rc_set.proofs.Members.{has_or_lacks}
+use Rattle.rc_set.proofs.Members.{has_or_lacks, has_within}
 use Rattle.rc_graph.specs.Needs.{Needs}
 use Rattle.rc_graph.specs.Order.{IsOrder}
 use Rattle.rc_graph.specs.Placing.{IsPlacing, IsStuckAt}
@@ -88,13 +88,6 @@ round_passed needs before mid new earlier order some s round placing same stuck 
         | inr (inr high) ↦ absurd (omega arith)
       ]);
     }
-
--- a set's members are below its bound
-has_within : (set : List Bool) (s : ℕ) → Has set s → s < length set
-has_within set s h = elim (cases_lt s (length set)) [
-  | inl low ↦ low
-  | inr past ↦ absurd (false≢true (rw (get_or_past set s false past) at h))
-]
 
 -- where every service is placed, the placing is an order of them all
 pub order_from_placing : (needs : List (List ℕ)) (order : List ℕ) (placed : List Bool) → IsPlacing needs order placed → ((s : ℕ) → s < length placed → Has placed s) → IsOrder needs order

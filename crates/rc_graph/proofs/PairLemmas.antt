@@ -1,4 +1,4 @@
-use Rattle.std.proofs.Common.{◌≡◌, ◌∙◌, ℕ, ◌+◌, ◌<◌, ◌≤◌, ◌⊎◌, ◌↔◌, List, [], ◌∷◌, Contains, inl, inr, arith, sym, subst, slice_index_or, slice_set, length, length-set, zero, suc, Ok, Err, ◌-◌, Result, OnOk, OnErr}
+use Rattle.std.proofs.Common.{◌≡◌, ◌∙◌, ℕ, ◌+◌, ◌<◌, ◌≤◌, ◌⊎◌, ◌↔◌, List, [], ◌∷◌, Contains, inl, inr, arith, sym, subst, slice_index_or, slice_set, length, length-set, zero, suc, Ok, Err, ◌-◌, Result, IsOk, OnOk, OnErr}
 use Rattle.std.specs.List.{insert}
 use Rattle.std.specs.Global.{Vec}
 use Rattle.std.specs.List.Sorted.{IsBinarySearchResult}
@@ -33,16 +33,35 @@ ascending_insert xs i y le up below above a b d h in_range =
       ])
     ]
 
--- an id put in where a search among ascending ones ended
-pub ascending_searched : (xs slice : List ℕ) (y i : ℕ) → IsAscending xs → slice ≡ xs → IsBinarySearchResult (λ x. nat_cmp x y) slice (Err i) → IsAscending (insert xs i y)
-ascending_searched xs slice y i up same search_ended =
+-- a place for an id among others: those before it are lower, and those from it on are higher
+pub record IsGap (xs : List ℕ) (i y : ℕ) : Type 0 where
+  pub within : i ≤ length xs
+  pub below : (k d : ℕ) → k < i → slice_index_or xs k d < y
+  pub above : (k d : ℕ) → i ≤ k → k < length xs → y < slice_index_or xs k d
+
+-- where a search among ascending ones ended without a find
+pub gap_searched : (xs slice : List ℕ) (y i : ℕ) → IsAscending xs → slice ≡ xs → IsBinarySearchResult (λ x. nat_cmp x y) slice (Err i) → IsGap xs i y
+gap_searched xs slice y i up same search_ended =
     let found = searched xs y (Err i) (let P : List ℕ → Type 0 = λ s. IsBinarySearchResult (λ x. nat_cmp x y) s (Err i) in subst P same search_ended) (λ a b le h. elim (cases_lt a b) [
       | inl low ↦ let up_here : slice_index_or xs a 0 < slice_index_or xs b 0 = up a b 0 low h in omega arith
       | inr high ↦ let same : a ≡ b = omega arith in rw same (omega arith)
     ]) in
-    ascending_insert xs i y found.0 up
-    (λ k d h. let low : slice_index_or xs k 0 < y = found.1 k h in rw (get_or_default xs k d 0 (let le : i ≤ length xs = found.0 in omega arith)) low)
-    (λ k d h in_range. rw (get_or_default xs k d 0 in_range) (found.2 k h in_range))
+    record {
+      within = found.0;
+      below = λ k d h. let low : slice_index_or xs k 0 < y = found.1 k h in rw (get_or_default xs k d 0 (let le : i ≤ length xs = found.0 in omega arith)) low;
+      above = λ k d h in_range. rw (get_or_default xs k d 0 in_range) (found.2 k h in_range);
+    }
+
+-- the id put in there
+pub ascending_gap : (xs : List ℕ) (i y : ℕ) → IsAscending xs → IsGap xs i y → IsAscending (insert xs i y)
+ascending_gap xs i y up gap = ascending_insert xs i y gap.within up gap.below gap.above
+
+-- an id that has such a place is not among them
+pub gap_lacks : (xs : List ℕ) (i y : ℕ) → IsGap xs i y → Contains xs y → ⊥
+gap_lacks xs i y gap has = elim (cases_lt has.0 i) [
+  | inl low ↦ let less : slice_index_or xs has.0 y < y = gap.below has.0 y low in omega (arith, has.2)
+  | inr high ↦ let more : y < slice_index_or xs has.0 y = gap.above has.0 y (omega arith) has.1 in omega (arith, has.2)
+]
 
 -- the empty list has nothing
 pub no_member : (t : ℕ) → Contains [] t → ⊥
@@ -121,10 +140,20 @@ pairs_put vectors from to d v (Ok x) from_in members =
     rw (rows_set vectors from v) (put_pairs (rows vectors) from to v.items (omega arith) (rw (row_at vectors from d from_in) members))
 pairs_put vectors from to d v (Err e) from_in members = tt
 
--- they are as they were where memory was lacking
+-- the table as it was, where a row was written as it was
+rows_same : (vectors : List (Vec ℕ)) (from : ℕ) (d v : Vec ℕ) → from < length vectors → v.items ≡ (slice_index_or vectors from d).items → rows (slice_set vectors from v) ≡ rows vectors
+rows_same vectors from d v from_in same = rows_set vectors from v ∙ (rw (same, ← row_at vectors from d from_in) (set-get_or (rows vectors) from []))
+
+-- its lists are as they were where memory was lacking
 pub rows_kept : {T E : Type 0} (vectors : List (Vec ℕ)) (from : ℕ) (d v : Vec ℕ) (r : Result T E) → from < length vectors → OnErr r (v.items ≡ (slice_index_or vectors from d).items) → OnErr r (rows (slice_set vectors from v) ≡ rows vectors)
 rows_kept vectors from d v (Ok x) from_in err = tt
-rows_kept vectors from d v (Err e) from_in err = rows_set vectors from v ∙ (rw (err, ← row_at vectors from d from_in) (set-get_or (rows vectors) from []))
+rows_kept vectors from d v (Err e) from_in err = rows_same vectors from d v from_in err
+
+-- and where the pair was there
+pub rows_again : {T E : Type 0} (vectors : List (Vec ℕ)) (from to : ℕ) (d v : Vec ℕ) (r : Result T E) → from < length vectors → (Contains (slice_index_or vectors from d).items to → IsOk r × (v.items ≡ (slice_index_or vectors from d).items)) → Needs (rows vectors) from to → IsOk r × (rows (slice_set vectors from v) ≡ rows vectors)
+rows_again vectors from to d v r from_in again needs =
+    let was = again (rw (row_at vectors from d from_in) at needs) in
+    (was.0, rows_same vectors from d v from_in was.1)
 
 -- each vector of the table is ascending
 pub row_ascending : (vectors : List (Vec ℕ)) (s : ℕ) (d : Vec ℕ) → s < length vectors → AreNeeds (rows vectors) → IsAscending (slice_index_or vectors s d).items

@@ -8,14 +8,10 @@ use Rattle.rc_set.specs.Set.{Has, Holds}
 use Rattle.rc_graph.specs.Needs.{Needs, EachNeedsNext}
 use Rattle.rc_graph.specs.Order.{AreDistinct}
 use Rattle.rc_graph.specs.Cycle.{IsRing, IsCycle}
+use Rattle.rc_graph.proofs.Paths.{each_join}
 use Rattle.rc_graph.proofs.PairLemmas.{no_member}
 
--- two paths, where the second begins as the first ends
-paths_joined : (needs : List (List ℕ)) (xs : List ℕ) (x : ℕ) (ys : List ℕ) → EachNeedsNext needs (xs ++ x ∷ []) → EachNeedsNext needs (x ∷ ys) → EachNeedsNext needs (xs ++ x ∷ ys)
-paths_joined needs [] x ys front back = back
-paths_joined needs (a ∷ []) x ys front back = (front.0, back)
-paths_joined needs (a ∷ b ∷ rest) x ys front back = (front.0, paths_joined needs (b ∷ rest) x ys front.1 back)
-
+-- the parts of a path in front of a service and from it on
 path_front : (needs : List (List ℕ)) (xs : List ℕ) (x : ℕ) (ys : List ℕ) → EachNeedsNext needs (xs ++ x ∷ ys) → EachNeedsNext needs (xs ++ x ∷ [])
 path_front needs [] x ys path = tt
 path_front needs (a ∷ []) x ys path = (path.0, tt)
@@ -87,7 +83,7 @@ walk_goes_on needs placed path seen new at next walk fresh members bound needed 
         ]),
       );
       once = all_pairs_push (λ a b. a ≢ b) path at walk.once (λ k d h same. fresh (subst (Has seen) same ((walk.members (slice_index_or path k d)).1 (Contains-get_or path k d h))));
-      next = rw (append_assoc path (at ∷ []) (next ∷ [])) (paths_joined needs path at (next ∷ []) walk.next (needed, tt));
+      next = rw (append_assoc path (at ∷ []) (next ∷ [])) (each_join needs path at (next ∷ []) walk.next (needed, tt));
       known = known;
       left = left;
     }
@@ -106,7 +102,7 @@ turned_path needs (f ∷ mid) x after ring =
     let path : EachNeedsNext needs ((f ∷ mid) ++ x ∷ (after ++ f ∷ [])) = rw (append_assoc (f ∷ mid) (x ∷ after) (f ∷ [])) at ring.1 in
     let front : EachNeedsNext needs ((f ∷ mid) ++ x ∷ []) = path_front needs (f ∷ mid) x (after ++ f ∷ []) path in
     let back : EachNeedsNext needs ((x ∷ after) ++ f ∷ []) = path_back needs (f ∷ mid) x (after ++ f ∷ []) path in
-    rw (append_assoc after (f ∷ mid) (x ∷ [])) (paths_joined needs (x ∷ after) f (mid ++ x ∷ []) back front)
+    rw (append_assoc after (f ∷ mid) (x ∷ [])) (each_join needs (x ∷ after) f (mid ++ x ∷ []) back front)
 
 ring_distinct : (needs : List (List ℕ)) (ring : List ℕ) → IsRing needs ring → AreDistinct ring
 ring_distinct needs [] ring = absurd ring

@@ -1,4 +1,4 @@
-ghost use Rattle.std.specs.Prelude.{◌≡◌, ℕ, ◌<◌, ◌≤◌, ◌⊎◌, ◌↔◌, List, [], length, replicate, IfOk, IfErr, OnOk, OnErr};
+ghost use Rattle.std.specs.Prelude.{◌≡◌, ℕ, ◌<◌, ◌≤◌, ◌⊎◌, ◌↔◌, List, [], length, replicate, IsOk, IfOk, IfErr, OnOk, OnErr};
 ghost use Rattle.rc_graph.specs.Needs.{Needs, AreNeeds, IsAcyclic};
 ghost use Rattle.rc_set.specs.Set.{Has};
 ghost use Rattle.rc_graph.specs.Cycle.{IsCycle};
@@ -65,7 +65,7 @@ impl Draft {
         self.needs.len() as u16
     }
 
-    /// Says that a service needs another. A pair that comes again changes nothing.
+    /// Says that a service needs another. A pair that comes again changes nothing, and takes no memory.
     pub fn need(&mut self, service: u16, needed: u16) -> Result<(), NoMem>
         requires service { service < length self.old }
         requires needed { needed < length self.old }
@@ -73,6 +73,7 @@ impl Draft {
         ensures pairs { OnOk result ((s t : ℕ) → Needs self.new s t ↔
             (Needs self.old s t ⊎ ((s ≡ service) × (t ≡ needed)))) }
         ensures err { OnErr result (self.new ≡ self.old) }
+        ensures again { Needs self.old service needed → IsOk result × (self.new ≡ self.old) }
     {
         add_pair(&mut self.needs, service, needed)
     }
@@ -132,6 +133,3 @@ fn fault_from(alloc: Global, needs: &[Vec<u16>], placed: &Set, start: u16) -> Gr
         Err(_) => GraphFault::Memory,
     }
 }
-
-#[cfg(test)]
-mod tests;

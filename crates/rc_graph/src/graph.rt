@@ -55,6 +55,7 @@ impl Graph {
     pub fn len(&self) -> u16
         ensures count { result ≡ length self.now }
         ensures lists { AreNeeds self.now }
+        ensures acyclic { IsAcyclic self.now }
     {
         self.lists.needs.len() as u16
     }

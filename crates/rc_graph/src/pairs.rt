@@ -1,4 +1,4 @@
-ghost use Rattle.std.specs.Prelude.{◌≡◌, ℕ, ◌<◌, ◌≤◌, ◌⊎◌, ◌↔◌, List, [], length, replicate, IfOk, OnOk, OnErr, Contains};
+ghost use Rattle.std.specs.Prelude.{◌≡◌, ℕ, ◌<◌, ◌≤◌, ◌⊎◌, ◌↔◌, List, [], length, replicate, IsOk, IfOk, OnOk, OnErr, Contains};
 ghost use Rattle.rc_set.specs.Set.{IsAscending};
 ghost use Rattle.rc_graph.specs.Needs.{Needs, AreNeeds};
 ghost use Rattle.rc_graph.specs.Rows.{rows};
@@ -25,6 +25,7 @@ pub(crate) fn add_pair(lists: &mut [Vec<u16>], from: u16, to: u16) -> Result<(),
     ensures lists { AreNeeds (rows lists.new) }
     ensures pairs { OnOk result ((s t : ℕ) → Needs (rows lists.new) s t ↔ (Needs (rows lists.old) s t ⊎ ((s ≡ from) × (t ≡ to)))) }
     ensures err { OnErr result (rows lists.new ≡ rows lists.old) }
+    ensures again { Needs (rows lists.old) from to → IsOk result × (rows lists.new ≡ rows lists.old) }
 {
     insert_ascending(&mut lists[from as usize], to)
 }
@@ -36,6 +37,7 @@ fn insert_ascending(ids: &mut Vec<u16>, id: u16) -> Result<(), NoMem>
     ensures members { OnOk result ((s : ℕ) → Contains ids.new.items s ↔ (Contains ids.old.items s
         ⊎ (s ≡ id))) }
     ensures err { OnErr result (ids.new.items ≡ ids.old.items) }
+    ensures again { Contains ids.old.items id → IsOk result × (ids.new.items ≡ ids.old.items) }
 {
     if let Err(at) = ids.binary_search(&id) {
         ids.insert(at, id)?;

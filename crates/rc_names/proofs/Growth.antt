@@ -25,7 +25,7 @@ use Rattle.rc_names.specs.Name.{IsName}
 use Rattle.rc_names.specs.Names.{IsBefore, IsInByteOrder, AreNames, Adds}
 
 module _ {X : Type 0} where
-  map-insert : {Y : Type 0} (f : X → Y) (xs : List X) (i : ℕ) (x : X) → map f (insert xs i x) ≡ insert (map f xs) i (f x)
+  pub map-insert : {Y : Type 0} (f : X → Y) (xs : List X) (i : ℕ) (x : X) → map f (insert xs i x) ≡ insert (map f xs) i (f x)
   map-insert f xs i x = map-append f (take i xs) (x ∷ drop i xs) ∙ (λ n. sym (take-map f i xs) n ++ f x ∷ sym (drop-map f i xs) n)
 
   only : (x y : X) → Contains (x ∷ []) y → y ≡ x
@@ -45,7 +45,7 @@ module _ {X : Type 0} where
 
 module _ {K V : Type 0} (same : K → K → Bool) (es : List (K × V)) (key : K) (value : V) where
   -- `insert_sorted` puts a new key in at the place that it answers
-  insert_sorted-new : (to i : ℕ) → ((j : ℕ) (d : K) → j < length es → same key (get_or (keys_of es) j d) ≡ false)
+  pub insert_sorted-new : (to i : ℕ) → ((j : ℕ) (d : K) → j < length es → same key (get_or (keys_of es) j d) ≡ false)
       → i ≤ length (keys_of es) → to ≡ index_before (position_or_len (same key) (keys_of es)) i
       → (to ≤ length es) × (move_index (insert_entry same es key value) (position_or_len (same key) (keys_of es)) to ≡ insert es to (key, value))
   insert_sorted-new to i none within place =
@@ -65,7 +65,7 @@ module _ {K V : Type 0} (same : K → K → Bool) (es : List (K × V)) (key : K)
       (omega arith, rw (pushed, at_end, goes) moved)
 
 -- a text that is neither after nor equal to another is before it
-before_from : (a b : List ℕ) → is_lt (slice_cmp nat_cmp b a) ≡ false → bytes_eq a b ≡ false → IsBefore a b
+pub before_from : (a b : List ℕ) → is_lt (slice_cmp nat_cmp b a) ≡ false → bytes_eq a b ≡ false → IsBefore a b
 before_from a b not_after differ = by (slice_cmp nat_cmp a b) refl
   where
     by : (o : Ordering) → slice_cmp nat_cmp a b ≡ o → o ≡ Less
@@ -85,7 +85,7 @@ module _ {K : Type 0} (bytes : K → List ℕ) where
       ap is_lt (nat_list_cmp_total.antisymm (bytes (get_or ks (k + 1) d)) (bytes (get_or ks k d)) ∙ ap ordering_reverse before)
 
   -- keys that are sorted by their bytes and differ show texts in byte order
-  IsInByteOrder-from_sorted : (ks : List K) → IsSorted (λ x y. slice_cmp nat_cmp (bytes x) (bytes y)) ks
+  pub IsInByteOrder-from_sorted : (ks : List K) → IsSorted (λ x y. slice_cmp nat_cmp (bytes x) (bytes y)) ks
       → IsDistinct (λ x y. bytes_eq (bytes x) (bytes y)) ks → IsInByteOrder (map bytes ks)
   IsInByteOrder-from_sorted ks sorted distinct = λ i j d first within.
       let inside : j < length ks = omega (arith, length-map ks bytes) in
@@ -106,7 +106,7 @@ module _ {K : Type 0} (bytes : K → List ℕ) where
     pub longer : length new ≡ length old + 1
 
   -- a new name is no key's text
-  none_same : (ks : List K) (texts : List (List ℕ)) (key : K) (name : List ℕ) → map bytes ks ≡ texts → bytes key ≡ name → (Contains texts name → ⊥)
+  pub none_same : (ks : List K) (texts : List (List ℕ)) (key : K) (name : List ℕ) → map bytes ks ≡ texts → bytes key ≡ name → (Contains texts name → ⊥)
       → (j : ℕ) (d : K) → j < length ks → bytes_eq (bytes key) (bytes (get_or ks j d)) ≡ false
   none_same ks texts key name seen shows fresh j d within =
       false_from_ne_true (bytes_eq (bytes key) (bytes (get_or ks j d))) (λ equal.

@@ -4,8 +4,6 @@
 mod kind;
 mod name;
 mod names;
-#[cfg(test)]
-mod tests;
 
 pub use kind::Kind;
 pub use name::{Name, NameFault};

@@ -104,7 +104,7 @@ impl Set {
 
     /// The ids, each once, ascending.
     pub fn ids(&self, alloc: Global) -> Result<Vec<u16>, NoMem>
-        ensures { IfOk result (λ ids. Lists self.now ids.items) }
+        ensures { IfOk result (λ ids. Lists (Has self.now) ids.items) }
     {
         ids_of(alloc, &self.flags)
     }
@@ -152,7 +152,7 @@ fn clear_flags(flags: &mut [bool], others: &[bool])
 
 fn ids_of(alloc: Global, flags: &[bool]) -> Result<Vec<u16>, NoMem>
     requires { length flags.now ≤ 4096 }
-    ensures { IfOk result (λ ids. Lists flags.now ids.items) }
+    ensures { IfOk result (λ ids. Lists (Has flags.now) ids.items) }
 {
     let mut ids = Vec::new(alloc);
     for id in 0..flags.len() {
@@ -175,6 +175,3 @@ fn are_same(flags: &[bool], others: &[bool]) -> bool
 {
     flags == others
 }
-
-#[cfg(test)]
-mod tests;

@@ -1,10 +1,12 @@
-use Rattle.std.proofs.Common.{◌≡◌, ◌∙◌, ℕ, ◌<◌, List, length, refl, inl, inr, sym, arith}
+use Rattle.std.proofs.Common.{◌≡◌, ◌∙◌, ℕ, ◌<◌, List, Contains, length, refl, inl, inr, sym, subst, arith}
 use Rattle.std.specs.Global.{Vec}
+use Rattle.std.proofs.lemmas.Bool.{false≢true}
 use Rattle.std.proofs.lemmas.Result.{IfOk-weaker}
+use Rattle.rc_set.proofs.Members.{has_or_lacks}
 use Rattle.rc_graph.specs.Rows.{rows}
 use Rattle.rc_graph.proofs.RowLemmas.{length-rows, row_is, row_known, row_needs}
 use Rattle.rc_graph.proofs.Counting.{fewer_left}
-use Rattle.rc_graph.proofs.Rings.{walk_goes_on, walk_closes}
+use Rattle.rc_graph.proofs.Rings.{walk_begins, walk_goes_on, walk_closes}
 use Rattle.rc_graph.proofs.cycle.ring_from.Goals as goal
 
 in_table : (vectors : List (Vec ℕ)) (s : ℕ) → s < length (rows vectors) → s < length vectors
@@ -14,6 +16,23 @@ pub left_need-at-requires-clause-known : goal.left_need-at-requires-clause-known
 left_need-at-requires-clause-known c =
     row_known _ _ _ _ (row_is c.args.needs.now c.loop-path.at c.index-needs-at.result c.as_slice.result.now (in_table _ _ c.loop-path.invariant.known) c.index-needs-at.is c.as_slice.ensures.value)
     c.requires.lists.known c.requires.bound
+
+pub loop-path-init : goal.loop-path-init
+loop-path-init c =
+    let n : length (rows c.args.needs.now) ≡ length c.args.needs.now = length-rows c.args.needs.now in
+    rw c.new-path.ensures.items (walk_begins (rows c.args.needs.now) c.args.placed.now c.in_ok-seen.seen c.args.start (c.in_ok-seen.ensures.bound ∙ sym n) c.in_ok-seen.ensures.members (omega arith) c.requires.left)
+
+pub left_need-at-requires-clause-some : goal.left_need-at-requires-clause-some
+left_need-at-requires-clause-some c =
+    let e = row_is c.args.needs.now c.loop-path.at c.index-needs-at.result c.as_slice.result.now (in_table _ _ c.loop-path.invariant.known) c.index-needs-at.is c.as_slice.ensures.value in
+    let some = c.requires.stuck c.loop-path.at c.loop-path.invariant.known c.loop-path.invariant.left in
+    (some.0, (row_needs c.args.needs.now c.loop-path.at c.as_slice.result.now e some.0).0 some.1, some.2)
+
+pub from_first-requires : goal.from_first-requires
+from_first-requires c = elim (has_or_lacks c.loop-path.seen c.loop-path.at) [
+  | inl has ↦ subst (λ (path : List ℕ). Contains path c.loop-path.at) (sym c.deref.ensures.value) ((c.loop-path.invariant.members c.loop-path.at).0 has)
+  | inr lacks ↦ absurd (false≢true (c.loop-path-test.ensures.fresh.1 lacks))
+]
 
 pub loop-path-smaller : goal.loop-path-smaller
 loop-path-smaller c =
