@@ -1,0 +1,30 @@
+-- What the kinds of a database's services are.
+use Rattle.std.proofs.Common.{◌≡◌, ◌≢◌, ℕ, Some, slice_get, refl, subst}
+use Rattle.std.proofs.lemmas.Option.{slice_get_within, get_or_from_slice_get}
+use Rattle.rc_names.specs.declared.kind.Kind.{Kind}
+use Rattle.rc_names.specs.declared.kind.Kind.TheVariants.{Oneshot, Longrun, Bundle}
+use Rattle.rc_db.specs.Service.{Service}
+use Rattle.rc_db.specs.Database.{Database, IsDatabase}
+
+-- a service is no bundle
+pub no_bundle : (d : Database) (s : ℕ) (service : Service) → IsDatabase d → slice_get d.services s ≡ Some service → service.kind ≢ Bundle
+no_bundle d s service held there =
+    let P : Service → Type 0 = λ x. x.kind ≢ Bundle in
+    subst P (get_or_from_slice_get d.services s service service there) (held.fit.kinds s service (slice_get_within d.services s service there))
+
+-- what is no oneshot is a longrun, and the other way round
+pub longrun_or : (d : Database) (s : ℕ) (service : Service) → IsDatabase d → slice_get d.services s ≡ Some service → service.kind ≢ Oneshot → service.kind ≡ Longrun
+longrun_or d s service held there other = by service.kind refl
+  where
+    by : (k : Kind) → service.kind ≡ k → k ≡ Longrun
+    by Oneshot e = absurd (other e)
+    by Longrun e = refl
+    by Bundle e = absurd (no_bundle d s service held there e)
+
+pub oneshot_or : (d : Database) (s : ℕ) (service : Service) → IsDatabase d → slice_get d.services s ≡ Some service → service.kind ≢ Longrun → service.kind ≡ Oneshot
+oneshot_or d s service held there other = by service.kind refl
+  where
+    by : (k : Kind) → service.kind ≡ k → k ≡ Oneshot
+    by Oneshot e = refl
+    by Longrun e = absurd (other e)
+    by Bundle e = absurd (no_bundle d s service held there e)

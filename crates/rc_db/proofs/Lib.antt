@@ -1,0 +1,12 @@
+pub mod ByteOrder
+pub mod Entries
+pub mod Fits
+pub mod Growing
+pub mod KindLemmas
+pub mod Listing
+pub mod Pipelines
+pub mod Places
+pub mod Reaching
+pub mod Tables
+pub mod Values
+pub mod Words

@@ -1,0 +1,9 @@
+pub mod Service
+pub mod Bundles
+pub mod Database
+pub mod Named
+pub mod Pipeline
+pub mod Queries
+pub mod QueryFaults
+pub mod Parts
+pub mod Merging

@@ -1,0 +1,118 @@
+ghost use Rattle.std.specs.Prelude.{◌≡◌, ◌<◌, ◌↔◌, length, map, string_bytes, slice_get, All, Some, IsTrue, IfOk, IfErr, OnOk, OnErr};
+ghost use Rattle.rc_set.specs.Set.{Holds};
+ghost use Rattle.rc_db.specs.Bundles.{AreBelow};
+ghost use Rattle.rc_db.specs.Database.{FitTogether, IsDatabase, IsEssential};
+ghost use Rattle.rc_db.specs.Named.{IsKnown, Selected};
+ghost use Rattle.rc_db.specs.QueryFaults.{IsNamesFault};
+ghost use Rattle.rc_db.specs.Parts.{database_of};
+
+use crate::fault::QueryFault;
+use crate::fit::fit_together;
+use crate::named::{first_unknown, set_of};
+use crate::parts::{Parts, Unfit};
+use crate::service::Service;
+use crate::table::Table;
+use rc_graph::Graph;
+use rc_names::Names;
+use rc_set::Set;
+use std::alloc::Global;
+use std::marker::Model;
+
+/// Services with their names, what they need, and the bundles that were compiled with them.
+#[derive(Debug, Drop)]
+pub struct Db {
+    parts: Parts,
+}
+
+impl Model for Db {
+    ghost use Rattle.rc_db.specs.Database.{Database, IsDatabase};
+    ghost use Rattle.rc_db.specs.Parts.{database_of};
+
+    ghost Value = { Database };
+
+    ghost view = { λ d. database_of d.parts };
+
+    ghost invariant = { λ d. IsDatabase (database_of d.parts) };
+}
+
+impl Db {
+    /// The database of these parts. Takes no memory.
+    pub fn join(parts: Parts) -> Result<Db, Unfit>
+        ensures database { IfOk result (λ db. db ≡ database_of parts) }
+        ensures fit { OnOk result (FitTogether (database_of parts)) }
+        ensures unfit { OnErr result (FitTogether (database_of parts) → ⊥) }
+    {
+        if fit_together(&parts) {
+            Ok(Db { parts })
+        } else {
+            Err(Unfit)
+        }
+    }
+
+    /// The services' names. A service is its name's place.
+    pub fn names(&self) -> &Names
+        ensures names { result.now ≡ self.now.names }
+        ensures database { IsDatabase self.now }
+    {
+        &self.parts.names
+    }
+
+    /// Which service needs which.
+    pub fn graph(&self) -> &Graph
+        ensures graph { result.now ≡ self.now.needs }
+        ensures database { IsDatabase self.now }
+    {
+        &self.parts.graph
+    }
+
+    /// The bundles.
+    pub fn table(&self) -> &Table
+        ensures table { result.now ≡ self.now.table }
+        ensures database { IsDatabase self.now }
+    {
+        &self.parts.table
+    }
+
+    /// What is said of a service.
+    pub fn service(&self, id: u16) -> &Service
+        requires { id < length self.now.names }
+        ensures { slice_get self.now.services id ≡ Some result.now }
+    {
+        &self.parts.services[id as usize]
+    }
+
+    /// Whether a service stays up where a change would take it down by the way.
+    pub fn is_essential(&self, id: u16) -> bool
+        requires { id < length self.now.names }
+        ensures { IsTrue result ↔ IsEssential self.now id }
+    {
+        self.service(id).essential
+    }
+
+    /// The services that words stand for by a table of bundles, which need not be the database's own.
+    /// A word that is a service's and a bundle's name stands for both.
+    pub fn selected(
+        &self,
+        alloc: Global,
+        table: &Table,
+        words: &[String],
+    ) -> Result<Set, QueryFault>
+        requires { AreBelow (length self.now.names) table.now }
+        ensures members { IfOk result (λ set. Holds set
+            (Selected self.now.names table.now (map string_bytes words.now))) }
+        ensures bound { IfOk result (λ set. length set ≡ length self.now.names) }
+        ensures known { OnOk result
+            (All (IsKnown self.now.names table.now) (map string_bytes words.now)) }
+        ensures fault { IfErr result
+            (IsNamesFault self.now.names table.now (map string_bytes words.now)) }
+    {
+        let names = self.names();
+        if let Some(place) = first_unknown(names, table, words) {
+            return Err(QueryFault::Unknown(place));
+        }
+        match set_of(alloc, names, table, words) {
+            Ok(set) => Ok(set),
+            Err(_) => Err(QueryFault::Memory),
+        }
+    }
+}

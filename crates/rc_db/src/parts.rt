@@ -1,0 +1,21 @@
+use crate::service::Service;
+use crate::table::Table;
+use rc_graph::Graph;
+use rc_names::Names;
+use thiserror::Error;
+
+/// What a database is made of. A service is its place among the names: its description and what it
+/// needs stand at that place.
+#[derive(Debug, Drop)]
+pub struct Parts {
+    pub names: Names,
+    pub services: Vec<Service>,
+    pub graph: Graph,
+    pub table: Table,
+}
+
+/// The parts do not fit together: lengths or bounds differ, a service's kind is a bundle, a producer
+/// writes for what is no longrun or isn't needed, or a bundle has the name of a service. They are gone.
+#[derive(Clone, Copy, PartialEq, Eq, Debug, Error)]
+#[error("the parts do not fit together")]
+pub struct Unfit;

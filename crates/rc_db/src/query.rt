@@ -1,0 +1,118 @@
+//! Queries of one name.
+
+ghost use Rattle.std.specs.Prelude.{◌≡◌, ◌≢◌, ℕ, List, Bool, Some, slice_get, string_bytes, IfOk, IfErr, OnOk};
+ghost use Rattle.rc_set.specs.Set.{Has, Lists};
+ghost use Rattle.rc_db.specs.Service.{Service as Facts, limit_of, script_of};
+ghost use Rattle.rc_db.specs.Bundles.{value_of};
+ghost use Rattle.rc_db.specs.Database.{IsDatabase};
+ghost use Rattle.rc_db.specs.Queries.{IsKindOf, IsServiceNamed};
+ghost use Rattle.rc_db.specs.QueryFaults.{AnyName, OfService, OfBundle, OfOneshot, IsSuch, IsQueryFault};
+
+use crate::db::Db;
+use crate::fault::QueryFault;
+use crate::named::{has_bundle, has_name};
+use rc_graph::Way;
+use rc_names::Kind;
+use std::alloc::Global;
+
+impl Db {
+    /// The kind of a name. Takes no memory.
+    pub fn kind(&self, name: &str) -> Result<Kind, QueryFault>
+        ensures kind { IfOk result (λ kind. IsKindOf self.now name.now kind) }
+        ensures fault { IfErr result (λ fault. IsQueryFault self.now AnyName name.now fault) }
+        ensures room { IfErr result (λ fault. fault ≢ QueryFault.Memory) }
+    {
+        match self.names().find(name) {
+            Some(id) => Ok(self.service(id).kind),
+            None => {
+                if has_bundle(self.table(), name) {
+                    Ok(Kind::Bundle)
+                } else {
+                    Err(QueryFault::Unknown(0))
+                }
+            }
+        }
+    }
+
+    /// How long a service may take on its way, in milliseconds; 0 is no limit. Takes no memory.
+    pub fn limit(&self, name: &str, way: Way) -> Result<u32, QueryFault>
+        ensures limit { IfOk result (λ limit. (service : Facts) ×
+            IsServiceNamed self.now name.now service × (limit ≡ limit_of service way)) }
+        ensures fault { IfErr result (λ fault. IsQueryFault self.now OfService name.now fault) }
+        ensures room { IfErr result (λ fault. fault ≢ QueryFault.Memory) }
+    {
+        let service = self.service(self.service_named(name)?);
+        match way {
+            Way::Raise => Ok(service.limit_up),
+            Way::Lower => Ok(service.limit_down),
+        }
+    }
+
+    /// Whether a service is essential. Takes no memory.
+    pub fn flags(&self, name: &str) -> Result<bool, QueryFault>
+        ensures flags { IfOk result (λ essential. (service : Facts) ×
+            IsServiceNamed self.now name.now service × (essential ≡ service.essential)) }
+        ensures fault { IfErr result (λ fault. IsQueryFault self.now OfService name.now fault) }
+        ensures room { IfErr result (λ fault. fault ≢ QueryFault.Memory) }
+    {
+        let service = self.service(self.service_named(name)?);
+        Ok(service.essential)
+    }
+
+    /// The services of a bundle, ascending.
+    pub fn contents(&self, alloc: Global, name: &str) -> Result<Vec<u16>, QueryFault>
+        ensures ids { IfOk result (λ ids. (set : List Bool) ×
+            (value_of self.now.table name.now ≡ Some set) × Lists (Has set) ids.items) }
+        ensures fault { IfErr result (λ fault. IsQueryFault self.now OfBundle name.now fault) }
+    {
+        match self.table().get(name) {
+            Some(set) => match set.ids(alloc) {
+                Ok(ids) => Ok(ids),
+                Err(_) => Err(QueryFault::Memory),
+            },
+            None => {
+                if has_name(self.names(), name) {
+                    Err(QueryFault::NotBundle)
+                } else {
+                    Err(QueryFault::Unknown(0))
+                }
+            }
+        }
+    }
+
+    /// The text that is run for a oneshot on its way, empty where there is none.
+    pub fn script(&self, alloc: Global, name: &str, way: Way) -> Result<String, QueryFault>
+        ensures text { IfOk result (λ text. (service : Facts) ×
+            IsServiceNamed self.now name.now service × (string_bytes text ≡ script_of service way)) }
+        ensures oneshot { OnOk result (IsSuch self.now OfOneshot name.now) }
+        ensures fault { IfErr result (λ fault. IsQueryFault self.now OfOneshot name.now fault) }
+    {
+        let service = self.service(self.service_named(name)?);
+        if !service.is_oneshot() {
+            return Err(QueryFault::NotOneshot);
+        }
+        match service.script(alloc, way) {
+            Ok(text) => Ok(text),
+            Err(_) => Err(QueryFault::Memory),
+        }
+    }
+
+    /// The service of a name.
+    pub(crate) fn service_named(&self, name: &str) -> Result<u16, QueryFault>
+        ensures database { IsDatabase self.now }
+        ensures service { IfOk result (λ s. slice_get self.now.names s ≡ Some name.now) }
+        ensures fault { IfErr result (λ fault. IsQueryFault self.now OfService name.now fault) }
+        ensures room { IfErr result (λ fault. fault ≢ QueryFault.Memory) }
+    {
+        match self.names().find(name) {
+            Some(id) => Ok(id),
+            None => {
+                if has_bundle(self.table(), name) {
+                    Err(QueryFault::NotAtomic)
+                } else {
+                    Err(QueryFault::Unknown(0))
+                }
+            }
+        }
+    }
+}

@@ -1,0 +1,85 @@
+ghost use Rattle.std.specs.Prelude.{◌≡◌, ◌↔◌, IsTrue, IfOk, string_bytes};
+ghost use Rattle.rc_db.specs.Service.{script_of};
+
+use rc_graph::Way;
+use rc_names::Kind;
+use rc_set::NoMem;
+use std::alloc::Global;
+use std::marker::Model;
+
+/// What a database says of one service, beside its name and what it needs.
+#[derive(Debug, Drop)]
+pub struct Service {
+    /// A oneshot or a longrun.
+    pub kind: Kind,
+    /// Whether it stays up where a change would take it down by the way.
+    pub essential: bool,
+    /// How long it may take to come up, in milliseconds; 0 is no limit.
+    pub limit_up: u32,
+    /// How long it may take to go down, in milliseconds; 0 is no limit.
+    pub limit_down: u32,
+    /// What a oneshot runs to come up.
+    pub text_up: Option<String>,
+    /// What a oneshot runs to go down.
+    pub text_down: Option<String>,
+    /// The longrun that reads what this one writes.
+    pub producer_for: Option<u16>,
+}
+
+impl Model for Service {
+    ghost use Rattle.rc_db.specs.Service.{Service as Facts};
+    ghost use Rattle.std.specs.Prelude.{◌<◌, ◌^◌};
+    ghost use Rattle.std.specs.Option.{option_map};
+    ghost use Rattle.std.specs.String.{string_bytes};
+
+    ghost Value = { Facts };
+
+    ghost view = { λ s. record {
+      kind = s.kind;
+      essential = s.essential;
+      limit_up = s.limit_up;
+      limit_down = s.limit_down;
+      text_up = option_map string_bytes s.text_up;
+      text_down = option_map string_bytes s.text_down;
+      producer_for = s.producer_for;
+    } };
+
+    ghost invariant = { λ s. (s.limit_up < 2 ^ 32) × (s.limit_down < 2 ^ 32) };
+}
+
+impl Service {
+    /// Whether it is a oneshot.
+    pub fn is_oneshot(&self) -> bool
+        ensures { IsTrue result ↔ (self.now.kind ≡ Kind.Oneshot) }
+    {
+        self.kind == Kind::Oneshot
+    }
+
+    /// Whether it is a longrun.
+    pub fn is_longrun(&self) -> bool
+        ensures { IsTrue result ↔ (self.now.kind ≡ Kind.Longrun) }
+    {
+        self.kind == Kind::Longrun
+    }
+
+    /// Whether it is of a kind.
+    pub(crate) fn is_of(&self, kind: Kind) -> bool
+        ensures { IsTrue result ↔ (self.now.kind ≡ kind) }
+    {
+        self.kind == kind
+    }
+
+    /// The text that is run for it on its way, empty where there is none.
+    pub fn script(&self, alloc: Global, way: Way) -> Result<String, NoMem>
+        ensures { IfOk result (λ text. string_bytes text ≡ script_of self.now way) }
+    {
+        let text = match way {
+            Way::Raise => &self.text_up,
+            Way::Lower => &self.text_down,
+        };
+        match text {
+            Some(text) => String::from_str(alloc, text.as_str()),
+            None => Ok(String::new(alloc)),
+        }
+    }
+}

@@ -1,0 +1,167 @@
+ghost use Rattle.std.specs.Prelude.{◌≡◌, ◌<◌, ◌↔◌, ◌⊎◌, ℕ, [], ◌∷◌, ◌++◌, length, All, Contains, Some, None, IfOk, OnOk, OnErr, IsTrue, slice_get};
+ghost use Rattle.std.specs.Option.{option_copied};
+ghost use Rattle.rc_names.specs.Names.{IsBefore};
+ghost use Rattle.rc_db.specs.Bundles.{names_of, value_of, IsTable, IsChangedAt};
+
+use indexmap::IndexMap;
+use rc_names::Name;
+use rc_set::{NoMem, Set};
+use std::alloc::{AllocError, Global};
+use std::marker::Model;
+use std::mem;
+
+/// The most bundles that a table holds.
+pub const MAX_BUNDLES: u16 = 4096;
+
+/// Bundles in byte order of their names.
+///
+/// Time: `len` and `at` take one step, `get` looks a name up, `set` and `clear` move the bundles behind
+/// the name, `same` and `copy` grow with the table.
+#[derive(Debug, Drop)]
+pub struct Table {
+    alloc: Global,
+    bundles: IndexMap<String, (Name, Set)>,
+}
+
+impl Model for Table {
+    ghost use Rattle.std.specs.Prelude.{◌≡◌, map};
+    ghost use Rattle.std.specs.String.{string_bytes};
+    ghost use Rattle.indexmap.specs.IndexMap.{keys, values};
+    ghost use Rattle.rc_db.specs.Bundles.{Bundles, names_of, IsTable};
+
+    ghost Value = { Bundles };
+
+    ghost view = { λ t. values t.bundles };
+
+    ghost invariant = { λ t. (map string_bytes (keys t.bundles) ≡ names_of (values t.bundles)) × IsTable (values t.bundles) };
+}
+
+impl Table {
+    /// A table of no bundles, which keeps the allocator.
+    pub fn new(alloc: Global) -> Table
+        ensures { result ≡ [] }
+    {
+        Table {
+            alloc,
+            bundles: IndexMap::new(alloc),
+        }
+    }
+
+    /// The set of a name, if a bundle has that name.
+    pub fn get(&self, name: &str) -> Option<&Set>
+        ensures { option_copied result ≡ value_of self.now name.now }
+    {
+        let bundle = self.bundles.get(name)?;
+        Some(&bundle.1)
+    }
+
+    /// How many bundles there are. Their places are those below it.
+    pub fn len(&self) -> u16
+        ensures len { result ≡ length self.now }
+        ensures table { IsTable self.now }
+    {
+        self.bundles.len() as u16
+    }
+
+    /// Whether there are no bundles.
+    pub fn is_empty(&self) -> bool
+        ensures { IsTrue result ↔ (self.now ≡ []) }
+    {
+        self.bundles.is_empty()
+    }
+
+    /// The bundle at a place, with its name.
+    pub fn at(&self, place: u16) -> (&Name, &Set)
+        requires { place < length self.now }
+        ensures { slice_get self.now place ≡ Some (result.0.now, result.1.now) }
+    {
+        let bundle = &self.bundles[place as usize];
+        (&bundle.0, &bundle.1)
+    }
+
+    /// Whether two tables have the same bundles, each with the same set.
+    pub fn same(&self, other: &Table) -> bool
+        ensures { IsTrue result ↔ (self.now ≡ other.now) }
+    {
+        if self.len() != other.len() {
+            return false;
+        }
+        for place in 0..self.len() {
+            if !same_bundle(self.at(place), other.at(place)) {
+                return false;
+            }
+        }
+        true
+    }
+
+    /// Another table of the same bundles.
+    pub fn copy(&self, alloc: Global) -> Result<Table, NoMem>
+        ensures { IfOk result (λ table. table ≡ self.now) }
+    {
+        let mut table = Table::new(alloc);
+        for place in 0..self.len() {
+            let (name, set) = self.at(place);
+            table.push(name, set)?;
+        }
+        Ok(table)
+    }
+
+    /// Gives a name a set, and tells the one that it had.
+    pub fn set(&mut self, name: &Name, set: Set) -> Result<Option<Set>, NoMem>
+        requires { Contains (names_of self.old) name.now ⊎ (length self.old < MAX_BUNDLES) }
+        ensures value { IfOk result (λ value. value ≡ value_of self.old name.now) }
+        ensures table { OnOk result (IsChangedAt self.old name.now (Some set) self.new) }
+        ensures same { OnErr result (self.new ≡ self.old) }
+    {
+        if let Some(place) = self.bundles.get_index_of(name.text()) {
+            let old = mem::replace(&mut self.bundles[place].1, set);
+            return Ok(Some(old));
+        }
+        let key = String::from_str(self.alloc, name.text())?;
+        let name = copy_of(self.alloc, name)?;
+        self.bundles.insert_sorted(key, (name, set))?;
+        Ok(None)
+    }
+
+    /// Takes a name out, and tells the set that it had. Takes no memory.
+    pub fn clear(&mut self, name: &str) -> Option<Set>
+        ensures value { result ≡ value_of self.old name.now }
+        ensures table { IsChangedAt self.old name.now None self.new }
+    {
+        match self.bundles.shift_remove(name) {
+            Some((_, set)) => Some(set),
+            None => None,
+        }
+    }
+}
+
+impl Table {
+    // Adds a bundle behind all others.
+    fn push(&mut self, name: &Name, set: &Set) -> Result<(), NoMem>
+        requires room { length self.old < MAX_BUNDLES }
+        requires last { All (λ other. IsBefore other name.now) (names_of self.old) }
+        ensures { OnOk result (self.new ≡ self.old ++ (name.now, set.now) ∷ []) }
+    {
+        let key = String::from_str(self.alloc, name.text())?;
+        let bundle = (copy_of(self.alloc, name)?, set.copy(self.alloc)?);
+        self.bundles.insert(key, bundle)?;
+        Ok(())
+    }
+}
+
+/// Whether two bundles have one name and one set.
+fn same_bundle(one: (&Name, &Set), other: (&Name, &Set)) -> bool
+    ensures { IsTrue result ↔ ((one.entry.0.now ≡ other.entry.0.now) × (one.entry.1.now ≡ other.entry.1.now)) }
+{
+    one.0.text() == other.0.text() && one.1.bound() == other.1.bound() && one.1.same(other.1)
+}
+
+/// The same name once more.
+fn copy_of(alloc: Global, name: &Name) -> Result<Name, NoMem>
+    ensures { IfOk result (λ copy. copy ≡ name.now) }
+{
+    match Name::read(alloc, name.text()) {
+        Ok(copy) => Ok(copy),
+        Err(_) => Err(AllocError),
+    }
+}
