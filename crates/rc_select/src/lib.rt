@@ -1,8 +1,13 @@
-//! Plans: which services a change lowers and which it raises.
+//! Plans: which services a change lowers, which it raises, and which it keeps.
 #![tactic(auto)]
 
 pub mod laws;
-mod plan;
+mod plans;
+mod request;
+mod select;
+mod sides;
 
-pub use crate::plan::{Plan, between, plan_up};
+pub use crate::plans::{Plan, between, plan_up};
+pub use crate::request::{Mode, PlanFault, Request};
+pub use crate::select::plan;
 pub use rc_set::NoMem;

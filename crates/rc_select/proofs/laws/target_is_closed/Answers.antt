@@ -1,6 +1,7 @@
 use Rattle.rc_set.specs.Set.{Has}
+use Rattle.rc_select.specs.Ask.{IsEssentialUp, IsWanted}
 use Rattle.rc_select.proofs.TargetLemmas.{target_closed}
 use Rattle.rc_select.proofs.laws.target_is_closed.Goals as goal
 
 pub returns : goal.returns
-returns c needs up wanted closed = target_closed needs (Has up) (Has wanted) closed
+returns c d table up ask closed = target_closed d.needs (Has up) (IsEssentialUp d (Has up)) (IsWanted d.names table (Has up) ask) ask.mode ask.prune closed

@@ -1,10 +1,11 @@
-ghost use Rattle.std.specs.Prelude.{◌≡◌, ℕ, length, IfOk};
+ghost use Rattle.std.specs.Prelude.{◌≡◌, ℕ, false, length, IfOk};
 ghost use Rattle.rc_set.specs.Set.{Has};
 ghost use Rattle.rc_graph.specs.Closure.{IsClosed};
 ghost use Rattle.rc_select.specs.Plan.{LeadsTo, Nothing};
 ghost use Rattle.rc_select.specs.PlanSets.{IsPlan};
 ghost use Rattle.rc_select.specs.Target.{Target};
 
+use crate::request::Mode;
 use rc_graph::Graph;
 use rc_set::{NoMem, Set};
 use std::alloc::Global;
@@ -30,7 +31,8 @@ impl Model for Plan {
 }
 
 impl Plan {
-    /// What is up before the change. What goes down was up, what comes up was not, and all four sets have one bound.
+    /// What is up before the change. What goes down was up, what comes up was not, what is kept was up and does not
+    /// go down, and all four sets have one bound.
     pub fn opening(&self) -> &Set
         ensures set { result.now ≡ self.now.opening }
         ensures plan { IsPlan self.now }
@@ -68,6 +70,30 @@ pub fn between(alloc: Global, graph: &Graph, from: &Set, to: &Set) -> Result<Pla
     requires to_closed { IsClosed graph.now (Has to.now) }
     ensures { IfOk result (LeadsTo from.now (Has to.now) Nothing) }
 {
+    let kept = Set::empty(alloc, graph.len())?;
+    leading(alloc, from, to, kept)
+}
+
+/// The plan that brings services up with all that they need, and takes nothing down.
+pub fn plan_up(alloc: Global, graph: &Graph, up: &Set, wanted: &Set) -> Result<Plan, NoMem>
+    requires up_bound { length up.now ≡ length graph.now }
+    requires wanted_bound { length wanted.now ≡ length graph.now }
+    requires up_closed { IsClosed graph.now (Has up.now) }
+    ensures { IfOk result (LeadsTo up.now (Target graph.now (Has up.now) Nothing Mode.Up false (Has wanted.now)) Nothing) }
+{
+    let mut target = graph.up_of(alloc, wanted)?;
+    target.join(up);
+    between(alloc, graph, up, &target)
+}
+
+/// The plan from one set of services to another that keeps these.
+pub(crate) fn leading(alloc: Global, from: &Set, to: &Set, kept: Set) -> Result<Plan, NoMem>
+    requires to_bound { length to.now ≡ length from.now }
+    requires kept_bound { length kept ≡ length from.now }
+    requires kept_up { (s : ℕ) → Has kept s → Has from.now s }
+    requires kept_stays { (s : ℕ) → Has kept s → Has to.now s }
+    ensures { IfOk result (LeadsTo from.now (Has to.now) (Has kept)) }
+{
     let mut lower = from.copy(alloc)?;
     lower.without(to);
     let mut raise = to.copy(alloc)?;
@@ -76,21 +102,6 @@ pub fn between(alloc: Global, graph: &Graph, from: &Set, to: &Set) -> Result<Pla
         opening: from.copy(alloc)?,
         lower,
         raise,
-        kept: Set::empty(alloc, graph.len())?,
+        kept,
     })
 }
-
-/// The plan that brings services up with all that they need, and takes nothing down.
-pub fn plan_up(alloc: Global, graph: &Graph, up: &Set, wanted: &Set) -> Result<Plan, NoMem>
-    requires up_bound { length up.now ≡ length graph.now }
-    requires wanted_bound { length wanted.now ≡ length graph.now }
-    requires up_closed { IsClosed graph.now (Has up.now) }
-    ensures { IfOk result (LeadsTo up.now (Target graph.now (Has up.now) (Has wanted.now)) Nothing) }
-{
-    let mut target = graph.up_of(alloc, wanted)?;
-    target.join(up);
-    between(alloc, graph, up, &target)
-}
-
-#[cfg(test)]
-mod tests;

@@ -1,0 +1,32 @@
+-- Sets that are computed from others, and plans that lead to them.
+use Rattle.std.proofs.Common.{◌↔◌, ℕ, Bool, List, inl, inr}
+use Rattle.rc_set.specs.Set.{Has, Holds}
+use Rattle.rc_set.proofs.Members.{has_or_lacks}
+use Rattle.rc_select.specs.Plan.{LeadsTo}
+use Rattle.rc_select.specs.PlanSets.{PlanSets}
+
+-- what is left without what goes and is not held: what is there and, where it is to go, is held
+pub left_over : (IsUp Goes IsHeld : ℕ → Type 0) (goes held gone left : List Bool) → Holds goes Goes → Holds held IsHeld → Holds gone (λ s. Has goes s × (Has held s → ⊥))
+    → Holds left (λ s. IsUp s × (Has gone s → ⊥)) → Holds left (λ s. IsUp s × (Goes s → IsHeld s))
+left_over IsUp Goes IsHeld goes held gone left holds_goes holds_held holds_gone holds_left s = (
+  λ has. let h = (holds_left s).0 has in (
+    h.0,
+    λ g. elim (has_or_lacks held s) [
+      | inl there ↦ (holds_held s).0 there
+      | inr absent ↦ absurd (h.1 ((holds_gone s).1 ((holds_goes s).1 g, absent)))
+    ],
+  ),
+  λ h. (holds_left s).1 (h.0, λ has. let g = (holds_gone s).0 has in g.1 ((holds_held s).1 (h.1 ((holds_goes s).0 g.0)))),
+)
+
+-- the same facts make the same plan
+pub leads_same : (up : List Bool) (T U K L : ℕ → Type 0) (plan : PlanSets) → LeadsTo up T K plan → ((s : ℕ) → T s ↔ U s) → ((s : ℕ) → K s ↔ L s) → LeadsTo up U L plan
+leads_same up T U K L plan leads target kept = record {
+  opening = leads.opening;
+  lower = λ s. (λ has. let h = (leads.lower s).0 has in (h.0, λ u. h.1 ((target s).1 u)), λ h. (leads.lower s).1 (h.0, λ t. h.1 ((target s).0 t)));
+  raise = λ s. (λ has. let h = (leads.raise s).0 has in ((target s).0 h.0, h.1), λ h. (leads.raise s).1 ((target s).1 h.0, h.1));
+  kept = λ s. (λ has. (kept s).0 ((leads.kept s).0 has), λ l. (leads.kept s).1 ((kept s).1 l));
+  lower_bound = leads.lower_bound;
+  raise_bound = leads.raise_bound;
+  kept_bound = leads.kept_bound;
+}

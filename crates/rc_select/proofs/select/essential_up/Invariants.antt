@@ -1,0 +1,11 @@
+use Rattle.std.proofs.Common.{◌≡◌, ◌<◌, length}
+use Rattle.rc_set.specs.Set.{Has, Holds}
+use Rattle.rc_select.specs.Ask.{IsEssentialUp}
+use Rattle.rc_select.proofs.select.essential_up.Given as goal
+
+-- the set has the essential services before this one that are up
+abbrev pub invariant-loop-service : goal.invariant-loop-service
+invariant-loop-service l = record {
+  bound : length l.set ≡ length l.db.names;
+  members : Holds l.set (λ s. (s < l.service) × IsEssentialUp l.db (Has l.up) s);
+}

@@ -1,0 +1,15 @@
+use Rattle.rc_set.specs.Set.{Has}
+use Rattle.rc_select.specs.Ask.{IsEssentialUp, IsWanted, ask_of}
+use Rattle.rc_select.proofs.TargetLemmas.{same_target, same_kept}
+use Rattle.rc_select.proofs.SidesLemmas.{leads_same}
+use Rattle.rc_select.proofs.select.plan.Goals as goal
+
+pub returns-clause-plan : goal.returns-clause-plan
+returns-clause-plan c =
+    let needs = c.args.db.now.needs in
+    let request = c.args.request.now in
+    let essential = c.in_ok-essential.ensures.members in
+    let wanted = c.in_ok-wanted.ensures.members in
+    leads_same _ _ _ _ _ _ (rw (← c.graph.ensures.graph) c.in_ok-plan.ensures)
+    (same_target needs (Has c.args.up.now) (Has c.in_ok-essential.essential) (IsEssentialUp c.args.db.now (Has c.args.up.now)) (Has c.in_ok-wanted.wanted) (IsWanted c.args.db.now.names c.args.table.now (Has c.args.up.now) (ask_of request)) essential wanted request.mode request.prune)
+    (same_kept needs (Has c.args.up.now) (Has c.in_ok-essential.essential) (IsEssentialUp c.args.db.now (Has c.args.up.now)) (Has c.in_ok-wanted.wanted) (IsWanted c.args.db.now.names c.args.table.now (Has c.args.up.now) (ask_of request)) essential wanted request.mode request.prune)

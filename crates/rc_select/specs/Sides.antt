@@ -1,0 +1,11 @@
+use Rattle.std.specs.Prelude.{◌≡◌, ℕ, Bool, List, length}
+use Rattle.rc_set.specs.Set.{Has, Holds}
+use Rattle.rc_select.specs.declared.request.Mode.{Mode}
+use Rattle.rc_select.specs.Target.{Target, Kept}
+
+-- the sets are the target and what is kept
+pub record AreSides (needs : List (List ℕ)) (up essential : List Bool) (mode : Mode) (prune : Bool) (wanted target kept : List Bool) : Type 0 where
+  pub leads : Holds target (Target needs (Has up) (Has essential) mode prune (Has wanted))
+  pub keeps : Holds kept (Kept needs (Has essential) mode prune (Has wanted))
+  pub target_bound : length target ≡ length needs
+  pub kept_bound : length kept ≡ length needs

@@ -1,0 +1,123 @@
+ghost use Rattle.std.specs.Prelude.{◌≡◌, ℕ, List, length, map, All, IfOk, IfErr, OnOk, string_bytes};
+ghost use Rattle.rc_set.specs.Set.{Has, Holds};
+ghost use Rattle.rc_graph.specs.Closure.{IsClosed};
+ghost use Rattle.rc_db.specs.Bundles.{AreBelow, Bundles};
+ghost use Rattle.rc_db.specs.Database.{IsDatabase};
+ghost use Rattle.rc_db.specs.QueryFaults.{IsNamesFault};
+ghost use Rattle.rc_db.specs.Named.{IsKnown, IsUnknownAt};
+ghost use Rattle.rc_select.specs.Plan.{LeadsTo};
+ghost use Rattle.rc_select.specs.Target.{Target, Kept};
+ghost use Rattle.rc_select.specs.Ask.{ask_of, IsEssentialUp, IsWanted, IsPlanOf};
+ghost use Rattle.rc_select.specs.PlanFaults.{CanPlan, IsPlanFault, IsWantedFault};
+
+use crate::plans::{Plan, leading};
+use crate::request::{Mode, PlanFault, Request};
+use crate::sides::{Sides, sides_of};
+use rc_db::{Db, QueryFault, Table};
+use rc_graph::Graph;
+use rc_set::{NoMem, Set};
+use std::alloc::Global;
+
+/// The plan of a request, from what is up. The bundles are those of the table, which may differ from the database's.
+pub fn plan(
+    alloc: Global,
+    db: &Db,
+    table: &Table,
+    up: &Set,
+    request: &Request,
+) -> Result<Plan, PlanFault>
+    requires bound { length up.now ≡ length db.now.names }
+    requires bundles { AreBelow (length db.now.names) table.now }
+    requires closed { IsClosed db.now.needs (Has up.now) }
+    ensures plan { IfOk result (IsPlanOf db.now table.now up.now (ask_of request.now)) }
+    ensures can { OnOk result (CanPlan db.now.names table.now (ask_of request.now)) }
+    ensures fault { IfErr result (IsPlanFault db.now.names table.now (ask_of request.now)) }
+{
+    if request.prune && request.mode != Mode::Up {
+        return Err(PlanFault::PruneNeedsUp);
+    }
+    let wanted = wanted(alloc, db, table, up, request)?;
+    let essential = essential_up(alloc, db, up)?;
+    let plan = planned(
+        alloc,
+        db.graph(),
+        up,
+        &essential,
+        request.mode,
+        request.prune,
+        &wanted,
+    )?;
+    Ok(plan)
+}
+
+/// The services that are wanted.
+fn wanted(
+    alloc: Global,
+    db: &Db,
+    table: &Table,
+    up: &Set,
+    request: &Request,
+) -> Result<Set, PlanFault>
+    requires bound { length up.now ≡ length db.now.names }
+    requires bundles { AreBelow (length db.now.names) table.now }
+    ensures bound { IfOk result (λ set. length set ≡ length db.now.names) }
+    ensures members { IfOk result (λ set. Holds set (IsWanted db.now.names table.now (Has up.now) (ask_of request.now))) }
+    ensures known { OnOk result (All (IsKnown db.now.names table.now) (map string_bytes request.now.names.items)) }
+    ensures fault { IfErr result (IsWantedFault db.now.names table.now (map string_bytes request.now.names.items)) }
+{
+    let mut wanted = match db.selected(alloc, table, &request.names) {
+        Ok(set) => set,
+        Err(fault) => return Err(fault_of(fault)),
+    };
+    if request.all {
+        wanted.join(up);
+    }
+    Ok(wanted)
+}
+
+/// What a refusal of the words says of the plan.
+fn fault_of(fault: QueryFault) -> PlanFault
+    ensures { (names : List (List ℕ)) (table : Bundles) (words : List (List ℕ)) → IsNamesFault names table words fault → IsWantedFault names table words result }
+{
+    match fault {
+        QueryFault::Unknown(place) => PlanFault::Unknown(place),
+        _ => PlanFault::Memory,
+    }
+}
+
+/// The essential services that are up.
+fn essential_up(alloc: Global, db: &Db, up: &Set) -> Result<Set, NoMem>
+    requires { length up.now ≡ length db.now.names }
+    ensures bound { IfOk result (λ set. length set ≡ length db.now.names) }
+    ensures members { IfOk result (λ set. Holds set (IsEssentialUp db.now (Has up.now))) }
+    ensures database { IsDatabase db.now }
+{
+    let mut set = Set::empty(alloc, db.names().len())?;
+    for service in 0..db.names().len() {
+        if up.contains(service) && db.is_essential(service) {
+            set.insert(service);
+        }
+    }
+    Ok(set)
+}
+
+/// The plan from what is up to what a mode makes of it.
+fn planned(
+    alloc: Global,
+    graph: &Graph,
+    up: &Set,
+    essential: &Set,
+    mode: Mode,
+    prune: bool,
+    wanted: &Set,
+) -> Result<Plan, NoMem>
+    requires up_bound { length up.now ≡ length graph.now }
+    requires essential_bound { length essential.now ≡ length graph.now }
+    requires wanted_bound { length wanted.now ≡ length graph.now }
+    requires essential_up { (s : ℕ) → Has essential.now s → Has up.now s }
+    ensures { IfOk result (LeadsTo up.now (Target graph.now (Has up.now) (Has essential.now) mode prune (Has wanted.now))
+        (Kept graph.now (Has essential.now) mode prune (Has wanted.now))) }
+{
+    let Sides { target, kept } = sides_of(alloc, graph, up, essential, mode, prune, wanted)?;
+    leading(alloc, up, &target, kept)
+}
