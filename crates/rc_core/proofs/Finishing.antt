@@ -1,16 +1,15 @@
 use Rattle.std.proofs.Common.{◌≡◌, ℕ, ◌<◌, ◌≤◌, List, Bool, length, arith, rules, subst, sym}
 use Rattle.std.proofs.lemmas.List.{nil_from_length}
-use Rattle.rc_set.specs.Set.{Holds, Lists}
+use Rattle.rc_set.specs.Set.{Has, Holds, Lists}
 use Rattle.rc_set.proofs.Members.{has_within}
 use Rattle.rc_set.proofs.Listing.{ListsBelow}
-use Rattle.rc_core.specs.Finish.{ListsThose}
 
 -- the empty list has the ids below 0
 pub none_listed : (set : List Bool) (ids : List ℕ) → length ids ≡ 0 → ListsBelow set 0 ids
 none_listed set ids empty = subst (ListsBelow set 0) (sym (nil_from_length ids empty)) (record { ascending = search rules; below = search rules; same = λ s. (search rules, λ h. let low : s < 0 = h.1 in absurd (omega arith)) })
 
 -- the ids below the bound of a set are all of them
-pub all_listed : (set : List Bool) (bound : ℕ) (ids : List ℕ) → length set ≤ bound → ListsBelow set bound ids → Lists set ids
+pub all_listed : (set : List Bool) (bound : ℕ) (ids : List ℕ) → length set ≤ bound → ListsBelow set bound ids → Lists (Has set) ids
 all_listed set bound ids whole lists =
     record {
       ascending = lists.ascending;
@@ -21,7 +20,7 @@ all_listed set bound ids whole lists =
     }
 
 -- the ids of a set, where it is known what it holds
-pub listed_those : (P : ℕ → Type 0) (set : List Bool) (ids : List ℕ) → Holds set P → Lists set ids → ListsThose P ids
+pub listed_those : (P : ℕ → Type 0) (set : List Bool) (ids : List ℕ) → Holds set P → Lists (Has set) ids → Lists P ids
 listed_those P set ids holds lists =
     record {
       ascending = lists.ascending;

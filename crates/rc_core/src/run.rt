@@ -4,9 +4,10 @@ ghost use Rattle.rc_graph.specs.Closure.{IsClosed};
 ghost use Rattle.rc_core.specs.declared.event.Event.{Event};
 ghost use Rattle.rc_core.specs.Course.{course_of, TargetOf, IsCourse};
 ghost use Rattle.rc_core.specs.Standing.{standing_of};
-ghost use Rattle.rc_core.specs.Events.{IsWorker, IsFree};
+ghost use Rattle.rc_core.specs.End.{EndOf};
+ghost use Rattle.rc_core.specs.Events.{IsWorker, IsFree, HasFailed, IsStopped};
 ghost use Rattle.rc_core.specs.Legal.{IsLegal, IsRun};
-ghost use Rattle.rc_core.specs.Settled.{with_event, IsStrictlyClosed, IsSettled};
+ghost use Rattle.rc_core.specs.Settled.{with_event, IsStrictlyClosed, IsLive, IsSettled};
 ghost use Rattle.rc_core.specs.Taking.{IsAnswered};
 
 use crate::ended::Ended;
@@ -173,11 +174,16 @@ impl Run {
         self.trace.as_slice()
     }
 
-    /// The end of a settled run, which tells what has become of each service.
+    /// The end of a settled run, which tells what has become of each service. Without a stop what is live hangs on
+    /// what failed alone, and not on the order of events.
     pub fn finish(self) -> Ended
         requires { IsSettled self.course self.events }
-        ensures { result ≡ self }
+        ensures run { result ≡ self }
+        ensures end { (IsStopped self.events → ⊥) →
+            (s : ℕ) → IsLive self.course self.events s ↔ EndOf self.course (HasFailed self.events) s }
     {
+        // What the trace tells of the course is what the clause on the end stands on.
+        let _ = self.trace();
         Ended { run: self }
     }
 
