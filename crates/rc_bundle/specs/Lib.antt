@@ -1,0 +1,3 @@
+pub mod Edit
+pub mod Walk
+pub mod Bundling

@@ -1,0 +1,141 @@
+ghost use Rattle.std.specs.Prelude.{◌≡◌, ◌⊎◌, ◌<◌, ◌≤◌, ℕ, length, map, All, IfOk, IfErr, OnOk, OnErr, string_bytes};
+ghost use Rattle.rc_db.specs.Bundles.{AreBelow};
+ghost use Rattle.rc_db.specs.Named.{IsKnown};
+ghost use Rattle.rc_bundle.specs.Edit.{IsEdit};
+ghost use Rattle.rc_bundle.specs.Bundling.{Defines, Removes, CanAdd, CanDelete, IsAddFault, IsDeleteFault, IsBundle};
+
+use crate::edit::Edit;
+use crate::fault::BundleFault;
+use crate::words::{first_missing, first_service, first_unknown, is_bundle, is_service};
+use rc_db::{Db, MAX_BUNDLES, NoMem, Table};
+use rc_names::Name;
+use std::alloc::{AllocError, Global};
+
+/// Defines a bundle: its name stands for the services of its contents from then on. A name that is a bundle's
+/// already gets new contents only where that is forced; a bundle may then name itself, and means what it was.
+pub fn add(
+    alloc: Global,
+    table: &mut Table,
+    db: &Db,
+    name: &Name,
+    contents: &[String],
+    force: bool,
+) -> Result<Edit, BundleFault>
+    requires bundles { AreBelow (length db.now.names) table.old }
+    ensures table { OnOk result (Defines db.now.names table.old name.now (map string_bytes contents.now) table.new) }
+    ensures edit { IfOk result (IsEdit table.old table.new) }
+    ensures can { OnOk result (CanAdd db.now.names table.old name.now (map string_bytes contents.now) force) }
+    ensures bundles { AreBelow (length db.now.names) table.new }
+    ensures fault { IfErr result (IsAddFault db.now.names table.old name.now (map string_bytes contents.now) force) }
+    ensures same { OnErr result (table.new ≡ table.old) }
+{
+    check_add(table, db, name, contents, force)?;
+    let (new, edit) = defined(alloc, table, db, name, contents)?;
+    *table = new;
+    Ok(edit)
+}
+
+/// Removes bundles. Names of no bundle are passed over only where that is forced; a name given twice counts once.
+pub fn delete(
+    alloc: Global,
+    table: &mut Table,
+    db: &Db,
+    names: &[String],
+    force: bool,
+) -> Result<Edit, BundleFault>
+    requires bundles { AreBelow (length db.now.names) table.old }
+    ensures table { OnOk result (Removes table.old (map string_bytes names.now) table.new) }
+    ensures edit { IfOk result (IsEdit table.old table.new) }
+    ensures can { OnOk result (CanDelete db.now.names table.old (map string_bytes names.now) force) }
+    ensures bundles { AreBelow (length db.now.names) table.new }
+    ensures fault { IfErr result (IsDeleteFault db.now.names table.old (map string_bytes names.now) force) }
+    ensures same { OnErr result (table.new ≡ table.old) }
+{
+    check_delete(table, db, names, force)?;
+    let (new, edit) = removed(alloc, table, names)?;
+    *table = new;
+    Ok(edit)
+}
+
+/// Tests a definition, which takes no memory.
+fn check_add(
+    table: &Table,
+    db: &Db,
+    name: &Name,
+    contents: &[String],
+    force: bool,
+) -> Result<(), BundleFault>
+    ensures can { OnOk result (CanAdd db.now.names table.now name.now (map string_bytes contents.now) force) }
+    ensures fault { IfErr result (IsAddFault db.now.names table.now name.now (map string_bytes contents.now) force) }
+{
+    if is_service(db, name.text()) {
+        return Err(BundleFault::IsAtomic(0));
+    }
+    let is_there = is_bundle(table, name.text());
+    if is_there && !force {
+        return Err(BundleFault::Exists);
+    }
+    if let Some(place) = first_unknown(db, table, contents) {
+        return Err(BundleFault::Unknown(place + 1));
+    }
+    if !is_there && table.len() >= MAX_BUNDLES {
+        return Err(BundleFault::Full);
+    }
+    Ok(())
+}
+
+/// Tests a removal, which takes no memory.
+fn check_delete(table: &Table, db: &Db, names: &[String], force: bool) -> Result<(), BundleFault>
+    ensures can { OnOk result (CanDelete db.now.names table.now (map string_bytes names.now) force) }
+    ensures fault { IfErr result (IsDeleteFault db.now.names table.now (map string_bytes names.now) force) }
+{
+    if let Some(place) = first_service(db, names) {
+        return Err(BundleFault::IsAtomic(place));
+    }
+    if force {
+        return Ok(());
+    }
+    match first_missing(table, names) {
+        Some(place) => Err(BundleFault::Missing(place)),
+        None => Ok(()),
+    }
+}
+
+/// The table with a bundle defined, and the edit that leads to it.
+fn defined(
+    alloc: Global,
+    table: &Table,
+    db: &Db,
+    name: &Name,
+    contents: &[String],
+) -> Result<(Table, Edit), NoMem>
+    requires known { All (IsKnown db.now.names table.now) (map string_bytes contents.now) }
+    requires place { 4096 ≤ length table.now → IsBundle table.now name.now }
+    requires bundles { AreBelow (length db.now.names) table.now }
+    ensures table { IfOk result (λ done. Defines db.now.names table.now name.now (map string_bytes contents.now) done.0) }
+    ensures edit { IfOk result (λ done. IsEdit table.now done.0 done.1) }
+    ensures bundles { IfOk result (λ done. AreBelow (length db.now.names) done.0) }
+{
+    let set = match db.selected(alloc, table, contents) {
+        Ok(set) => set,
+        Err(_) => return Err(AllocError),
+    };
+    let mut new = table.copy(alloc)?;
+    new.set(name, set)?;
+    let edit = Edit::between(alloc, table, &new)?;
+    Ok((new, edit))
+}
+
+/// The table with bundles removed, and the edit that leads to it.
+fn removed(alloc: Global, table: &Table, names: &[String]) -> Result<(Table, Edit), NoMem>
+    ensures table { IfOk result (λ done. Removes table.now (map string_bytes names.now) done.0) }
+    ensures edit { IfOk result (λ done. IsEdit table.now done.0 done.1) }
+    ensures bounds { IfOk result (λ done. (bound : ℕ) → AreBelow bound table.now → AreBelow bound done.0) }
+{
+    let mut new = table.copy(alloc)?;
+    for name in names {
+        let _ = new.clear(name.as_str());
+    }
+    let edit = Edit::between(alloc, table, &new)?;
+    Ok((new, edit))
+}

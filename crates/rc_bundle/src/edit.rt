@@ -1,0 +1,170 @@
+ghost use Rattle.std.specs.Prelude.{◌≡◌, ◌<◌, ◌≤◌, ◌⊎◌, ◌↔◌, ℕ, length, Some, IfOk, OnOk, OnErr, IsTrue, slice_get};
+ghost use Rattle.std.specs.Option.{option_copied};
+ghost use Rattle.rc_names.specs.Names.{IsInByteOrder};
+ghost use Rattle.rc_bundle.specs.Edit.{IsEdit, altered};
+ghost use Rattle.rc_bundle.specs.Walk.{IsNextName, IsNoted, moved};
+
+use rc_db::Table;
+use rc_names::Name;
+use rc_set::{NoMem, Set};
+use std::alloc::{AllocError, Global};
+use std::cmp::Ordering;
+use std::marker::Model;
+
+/// A name whose set alters.
+#[derive(Debug, Drop)]
+struct Change {
+    name: Name,
+    before: Option<Set>,
+    after: Option<Set>,
+}
+
+impl Model for Change {
+    ghost use Rattle.rc_bundle.specs.Edit.{Alteration};
+
+    ghost Value = { Alteration };
+
+    ghost view = { λ a. record { name = a.name; before = a.before; after = a.after } };
+}
+
+/// What a change alters in a table of bundles: each name whose set alters, with the set before and the set after,
+/// in byte order. It is empty where nothing alters.
+#[derive(Debug, Drop)]
+pub struct Edit {
+    changes: Vec<Change>,
+}
+
+impl Model for Edit {
+    ghost use Rattle.std.specs.Prelude.{List};
+    ghost use Rattle.rc_names.specs.Names.{IsInByteOrder};
+    ghost use Rattle.rc_bundle.specs.Edit.{Alteration, altered};
+
+    ghost Value = { List Alteration };
+
+    ghost view = { λ e. e.changes.items };
+
+    ghost invariant = { λ e. IsInByteOrder (altered e.changes.items) };
+}
+
+impl Edit {
+    /// How many names alter.
+    pub fn len(&self) -> usize
+        ensures len { result ≡ length self.now }
+        ensures order { IsInByteOrder (altered self.now) }
+    {
+        self.changes.len()
+    }
+
+    /// The altered name at a place in byte order, with its set before and its set after. None: there it is no bundle.
+    pub fn at(&self, place: usize) -> (&Name, Option<&Set>, Option<&Set>)
+        requires { place < length self.now }
+        ensures { slice_get self.now place ≡ Some (record { name = result.0.now; before = option_copied result.1; after = option_copied result.2 }) }
+    {
+        let change = &self.changes[place];
+        (&change.name, change.before.as_ref(), change.after.as_ref())
+    }
+
+    /// The edit from the first table to the second.
+    pub fn between(alloc: Global, from: &Table, to: &Table) -> Result<Edit, NoMem>
+        ensures { IfOk result (IsEdit from.now to.now) }
+    {
+        let from_len = from.len();
+        let to_len = to.len();
+        let mut changes = Vec::new(alloc);
+        let (mut i, mut j) = (0, 0);
+        while i < from_len || j < to_len {
+            let (name, before, after) = next_name(from, i, to, j);
+            note(alloc, &mut changes, name, before, after)?;
+            i = place_after(i, before);
+            j = place_after(j, after);
+        }
+        Ok(Edit { changes })
+    }
+}
+
+/// The least of the names at two places of two tables, with its sets.
+fn next_name<'a>(
+    from: &'a Table,
+    i: u16,
+    to: &'a Table,
+    j: u16,
+) -> (&'a Name, Option<&'a Set>, Option<&'a Set>)
+    requires { (i < length from.now) ⊎ (j < length to.now) }
+    ensures { IsNextName from.now i to.now j result.0.now (option_copied result.1) (option_copied result.2) }
+{
+    if i >= from.len() {
+        let (name, after) = to.at(j);
+        return (name, None, Some(after));
+    }
+    let (name, before) = from.at(i);
+    if j >= to.len() {
+        return (name, Some(before), None);
+    }
+    let (other, after) = to.at(j);
+    match name.text().cmp(other.text()) {
+        Ordering::Less => (name, Some(before), None),
+        Ordering::Equal => (name, Some(before), Some(after)),
+        Ordering::Greater => (other, None, Some(after)),
+    }
+}
+
+/// The place one on, where a set stood there.
+fn place_after(place: u16, set: Option<&Set>) -> u16
+    requires { place ≤ 4096 }
+    ensures { result ≡ moved place (option_copied set.entry) }
+{
+    match set {
+        Some(_) => place + 1,
+        None => place,
+    }
+}
+
+/// Notes a name whose sets differ.
+fn note(
+    alloc: Global,
+    changes: &mut Vec<Change>,
+    name: &Name,
+    before: Option<&Set>,
+    after: Option<&Set>,
+) -> Result<(), NoMem>
+    ensures { OnOk result (IsNoted changes.old.items changes.new.items name.now (option_copied before.entry) (option_copied after.entry)) }
+{
+    if are_same(before, after) {
+        return Ok(());
+    }
+    changes.push(Change {
+        name: copy_name(alloc, name)?,
+        before: copy_set(alloc, before)?,
+        after: copy_set(alloc, after)?,
+    })?;
+    Ok(())
+}
+
+/// Whether a name has the same set, or none, on both sides.
+fn are_same(before: Option<&Set>, after: Option<&Set>) -> bool
+    ensures { IsTrue result ↔ (option_copied before.entry ≡ option_copied after.entry) }
+{
+    match (before, after) {
+        (Some(before), Some(after)) => before.bound() == after.bound() && before.same(after),
+        (None, None) => true,
+        _ => false,
+    }
+}
+
+fn copy_set(alloc: Global, set: Option<&Set>) -> Result<Option<Set>, NoMem>
+    ensures { IfOk result (λ copy. copy ≡ option_copied set.entry) }
+{
+    match set {
+        Some(set) => Ok(Some(set.copy(alloc)?)),
+        None => Ok(None),
+    }
+}
+
+fn copy_name(alloc: Global, name: &Name) -> Result<Name, NoMem>
+    ensures { IfOk result (λ copy. copy ≡ name.now) }
+{
+    match Name::read(alloc, name.text()) {
+        Ok(copy) => Ok(copy),
+        Err(_) => Err(AllocError),
+    }
+}

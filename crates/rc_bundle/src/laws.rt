@@ -1,0 +1,10 @@
+//! Laws of the definitions, for the crates above. The functions do nothing when they run.
+
+ghost use Rattle.std.specs.Prelude.{List};
+ghost use Rattle.rc_db.specs.Bundles.{Bundles};
+ghost use Rattle.rc_bundle.specs.Edit.{Alteration, IsEdit, edit_back};
+
+/// The edit from one table to another, turned round, is the edit back.
+pub fn edits_turn_round()
+    ensures { (old new : Bundles) (edit : List Alteration) → IsEdit old new edit → IsEdit new old (edit_back edit) }
+{}
