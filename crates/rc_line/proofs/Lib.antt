@@ -1,0 +1,16 @@
+pub mod Lines
+pub mod Walking
+pub mod Members
+pub mod SetLemmas
+pub mod Exact
+pub mod Listing
+pub mod Marks
+pub mod Counts
+pub mod Rewriting
+pub mod Writing
+pub mod Steps
+pub mod Stacks
+pub mod Closings
+pub mod Openings
+pub mod Places
+pub mod Fronts

@@ -1,0 +1,108 @@
+use Rattle.std.proofs.Common.{◌≡◌, ◌≢◌, ◌⊎◌, ◌∙◌, ℕ, suc, Bool, List, [], ◌∷◌, ◌++◌, length, take, drop, inl, inr, ap, sym, subst}
+use Rattle.rc_db.specs.Bundles.{IsTable}
+use Rattle.rc_line.specs.State.{State}
+use Rattle.rc_line.specs.Line.{Line, IsNext, IsLine, AreStates, states, cursor}
+use Rattle.rc_line.specs.Moves.{EndsIn, Undoes, Redoes, put_between, with_live}
+use Rattle.rc_line.proofs.Lines.{push_append, take_front, drop_front, next_states, next_cursor, states_front, states_back, states_join, states_one, states_more, states_first}
+
+-- a line is one whether the cursor is on one state or on the next
+line_next : (line next : Line) → IsNext line next → IsLine line → IsLine next
+line_next line next h is_line =
+    let moved : AreStates (length line.current.live) (states next) = subst (AreStates (length line.current.live)) (sym (next_states line next h)) is_line in
+    let bound : length next.current.live ≡ length line.current.live = (states_first (length line.current.live) next.current next.after (states_back (length line.current.live) next.before next.current next.after moved)).0 in
+    subst (λ n. AreStates n (states next)) (sym bound) moved
+
+line_back : (line next : Line) → IsNext line next → IsLine next → IsLine line
+line_back line next h is_line =
+    let moved : AreStates (length next.current.live) (states line) = subst (AreStates (length next.current.live)) (next_states line next h) is_line in
+    let bound : length line.current.live ≡ length next.current.live = (states_first (length next.current.live) line.current line.after (states_back (length next.current.live) line.before line.current line.after moved)).0 in
+    subst (λ n. AreStates n (states line)) (sym bound) moved
+
+-- the states of a line with one more between two neighbours
+split_states : (line next : Line) (end : State) → IsNext line next → states (put_between line end next) ≡ line.before ++ line.current ∷ end ∷ line.after
+split_states line next end h = ap (λ before. before ++ end ∷ line.after) h.left ∙ push_append line.before line.current (end ∷ line.after)
+
+-- a line stays one with a state more between two neighbours
+split_keeps : (line next : Line) (end : State) → IsNext line next → IsLine line → length end.live ≡ length line.current.live → IsTable end.table → end ≢ line.current → end ≢ next.current → IsLine (put_between line end next)
+split_keeps line next end h is_line same table left right =
+    let bound : ℕ = length line.current.live in
+    let behind : AreStates bound (line.current ∷ line.after) = states_back bound line.before line.current line.after is_line in
+    let first = states_first bound line.current line.after behind in
+    let rest : AreStates bound (next.current ∷ next.after) = states_back bound (line.current ∷ []) next.current next.after (subst (λ after. AreStates bound (line.current ∷ after)) h.reached behind) in
+    let on : AreStates bound (end ∷ line.after) = subst (λ after. AreStates bound (end ∷ after)) (sym h.reached) (states_more bound end next.current next.after same table right rest) in
+    let all : AreStates bound (line.before ++ line.current ∷ end ∷ line.after) = states_join bound line.before line.current (end ∷ line.after) (states_front bound line.before line.current line.after is_line) (states_more bound line.current end line.after first.0 first.1 (λ e. left (sym e)) on) in
+    subst (λ n. AreStates n (states (put_between line end next))) (sym same) (subst (AreStates bound) (sym (split_states line next end h)) all)
+
+table_of : (line : Line) → IsLine line → IsTable line.current.table
+table_of line is_line = (states_first (length line.current.live) line.current line.after (states_back (length line.current.live) line.before line.current line.after is_line)).1
+
+pub ends_keep : (line new : Line) (end : State) → IsLine line → length end.live ≡ length line.current.live → IsTable end.table → EndsIn line end new → IsLine new
+ends_keep line new end is_line same table ends = elim ends [
+  | inl stays ↦ subst IsLine (sym stays.1) is_line
+  | inr adds ↦
+      let bound : ℕ = length line.current.live in
+      let first = states_first bound line.current line.after (states_back bound line.before line.current line.after is_line) in
+      let two : AreStates bound (line.current ∷ end ∷ []) = states_more bound line.current end [] first.0 first.1 (λ e. adds.0 (sym e)) (states_one bound end same table) in
+      let all : AreStates bound (line.before ++ line.current ∷ end ∷ []) = states_join bound line.before line.current (end ∷ []) (states_front bound line.before line.current line.after is_line) two in
+      subst IsLine (sym adds.1) (subst (λ n. AreStates n ((line.before ++ line.current ∷ []) ++ end ∷ [])) (sym same) (subst (AreStates bound) (sym (push_append line.before line.current (end ∷ []))) all))
+]
+
+pub undo_keeps : (line new : Line) (live : List Bool) → IsLine line → length live ≡ length line.current.live → Undoes line live new → IsLine new
+undo_keeps line new live is_line same u = let back : Line = u.0 in let is_back : IsLine back = line_back back line u.1 is_line in elim u.2 [
+  | inl there ↦ subst IsLine (sym there.1) is_back
+  | inr other ↦ elim other [
+    | inl here ↦ subst IsLine (sym here.2) is_line
+    | inr between ↦
+        let next_bound : length line.current.live ≡ length back.current.live = (states_first (length back.current.live) line.current line.after (states_back (length back.current.live) line.before line.current line.after (subst (AreStates (length back.current.live)) (sym (next_states back line u.1)) is_back))).0 in
+        subst IsLine (sym between.2) (split_keeps back line (with_live line live) u.1 is_back (same ∙ next_bound) (table_of line is_line) (λ e. between.0 (ap (λ s. s.live) e)) (λ e. between.1 (ap (λ s. s.live) e)))
+  ]
+]
+
+pub redo_keeps : (line new : Line) (live : List Bool) → IsLine line → length live ≡ length line.current.live → Redoes line live new → IsLine new
+redo_keeps line new live is_line same r = let on : Line = r.0 in elim r.2 [
+  | inl there ↦ subst IsLine (sym there.1) (line_next line on r.1 is_line)
+  | inr other ↦ elim other [
+    | inl here ↦ subst IsLine (sym here.2) is_line
+    | inr between ↦ subst IsLine (sym between.2) (split_keeps line on (with_live line live) r.1 is_line same (table_of line is_line) (λ e. between.1 (ap (λ s. s.live) e)) (λ e. between.0 (ap (λ s. s.live) e)))
+  ]
+]
+
+-- the states with one more, by the place of the next one
+split_at : (line next : Line) (end : State) → IsNext line next → states (put_between line end next) ≡ take (cursor next) (states next) ++ end ∷ drop (cursor next) (states next)
+split_at line next end h =
+    let front : take (cursor next) (states next) ≡ next.before = take_front next.before (next.current ∷ next.after) in
+    let rest : drop (cursor next) (states next) ≡ line.after = drop_front next.before (next.current ∷ next.after) ∙ sym h.reached in
+    ap (λ before. before ++ end ∷ line.after) (sym front) ∙ ap (λ after. take (cursor next) (states next) ++ end ∷ after) (sym rest)
+
+pub undo_by_place : (line new : Line) (live : List Bool) → Undoes line live new →
+    ((states new ≡ states line) × (cursor line ≡ suc (cursor new)))
+    ⊎ (new ≡ line)
+    ⊎ ((states new ≡ take (cursor line) (states line) ++ new.current ∷ drop (cursor line) (states line)) × (cursor new ≡ cursor line))
+undo_by_place line new live u = let back : Line = u.0 in elim u.2 [
+  | inl there ↦ inl (ap states there.1 ∙ sym (next_states back line u.1), next_cursor back line u.1 ∙ ap (λ l. suc (cursor l)) (sym there.1))
+  | inr other ↦ elim other [
+    | inl here ↦ inr (inl here.2)
+    | inr between ↦ inr (inr (
+      ap states between.2 ∙ split_at back line (with_live line live) u.1 ∙ ap (λ end. take (cursor line) (states line) ++ end ∷ drop (cursor line) (states line)) (sym (ap (λ l. l.current) between.2)),
+      ap cursor between.2,
+    ))
+  ]
+]
+
+pub redo_by_place : (line new : Line) (live : List Bool) → Redoes line live new →
+    ((states new ≡ states line) × (cursor new ≡ suc (cursor line)))
+    ⊎ (new ≡ line)
+    ⊎ ((states new ≡ take (suc (cursor line)) (states line) ++ new.current ∷ drop (suc (cursor line)) (states line)) × (cursor new ≡ suc (cursor line)))
+redo_by_place line new live r = let on : Line = r.0 in elim r.2 [
+  | inl there ↦ inl (ap states there.1 ∙ next_states line on r.1, ap cursor there.1 ∙ next_cursor line on r.1)
+  | inr other ↦ elim other [
+    | inl here ↦ inr (inl here.2)
+    | inr between ↦ inr (inr (
+      ap states between.2 ∙ split_at line on (with_live line live) r.1
+          ∙ ap (λ all. take (cursor on) all ++ with_live line live ∷ drop (cursor on) all) (next_states line on r.1)
+          ∙ ap (λ k. take k (states line) ++ with_live line live ∷ drop k (states line)) (next_cursor line on r.1)
+          ∙ ap (λ end. take (suc (cursor line)) (states line) ++ end ∷ drop (suc (cursor line)) (states line)) (sym (ap (λ l. l.current) between.2)),
+      ap cursor between.2 ∙ next_cursor line on r.1,
+    ))
+  ]
+]

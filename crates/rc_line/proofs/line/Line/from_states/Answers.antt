@@ -1,0 +1,37 @@
+use Rattle.std.proofs.Common.{◌∙◌, ◌++◌, ap, sym}
+use Rattle.rc_line.specs.State.{states_of}
+use Rattle.rc_line.specs.Line.{Line, states}
+use Rattle.rc_line.specs.Opening.{Journal}
+use Rattle.rc_line.specs.Keeping.{state}
+use Rattle.rc_line.proofs.Fronts.{one_less, differs_from_next, same_bound, states_of-push}
+use Rattle.rc_line.proofs.line.Line.from_states.Goals as goal
+
+pub loop-live-init : goal.loop-live-init
+loop-live-init c = record {
+  first = ap (λ (j : Journal). j.line.before) c.new-line.ensures;
+  closed = ap (λ (j : Journal). j.is_open) c.new-line.ensures;
+  whole = ap (λ (j : Journal). states_of c.take_last-live.new.self.items ++ states j.line) c.new-line.ensures
+      ∙ sym (states_of-push c.take_last-live.new.self.items c.take_last-live.result) ∙ ap states_of (sym c.take_last-live.ensures.items);
+}
+
+pub prepend-requires-clause-differ : goal.prepend-requires-clause-differ
+prepend-requires-clause-differ c =
+    let line : Line = c.loop-live.line.line in
+    let whole = one_less c.loop-live.held.items c.pop.new.self.items (c.in-Some.live, c.in-Some.table) (states_of c.args.held.items) line c.loop-live.invariant.first c.loop-live.invariant.whole c.in-Some.ensures.items in
+    differs_from_next (states_of c.pop.new.self.items) (state c.in-Some.live c.in-Some.table) line.current line.after (states_of c.args.held.items) c.requires.differ whole
+
+pub prepend-requires-clause-bound : goal.prepend-requires-clause-bound
+prepend-requires-clause-bound c =
+    let line : Line = c.loop-live.line.line in
+    let whole = one_less c.loop-live.held.items c.pop.new.self.items (c.in-Some.live, c.in-Some.table) (states_of c.args.held.items) line c.loop-live.invariant.first c.loop-live.invariant.whole c.in-Some.ensures.items in
+    same_bound c.requires.bound.0 (states_of c.pop.new.self.items) (state c.in-Some.live c.in-Some.table) line.current line.after (states_of c.args.held.items) c.requires.bound.1 whole
+
+pub loop-live-preserved : goal.loop-live-preserved
+loop-live-preserved c =
+    let line : Line = c.loop-live.line.line in
+    let whole = one_less c.loop-live.held.items c.pop.new.self.items (c.in-Some.live, c.in-Some.table) (states_of c.args.held.items) line c.loop-live.invariant.first c.loop-live.invariant.whole c.in-Some.ensures.items in
+    record {
+      first = ap (λ (l : Line). l.before) c.in_ok-prepend.ensures.line;
+      closed = c.in_ok-prepend.ensures.closed;
+      whole = ap (λ (l : Line). states_of c.pop.new.self.items ++ states l) c.in_ok-prepend.ensures.line ∙ whole;
+    }

@@ -1,0 +1,155 @@
+use Rattle.std.specs.Prelude.{◌≡◌, ◌≢◌, ◌+◌, ◌≤◌, ℕ, suc, Contains, slice_get, drop, List, [], ◌∷◌, reverse, Bool, true, false, Option, Some, None, length, slice_set, vec_len, vec_capacity}
+use Rattle.std.specs.Global.{Vec}
+use Rattle.std.specs.Ordering.{nat_cmp}
+use Rattle.std.specs.Cmp.Lexicographic.{slice_cmp}
+use Rattle.std.specs.FinMap.{FinMap, insert, remove, entries, from_entries}
+use Rattle.rc_line.specs.declared.aim.Aim.{Aim}
+use Rattle.rc_line.specs.declared.aim.Aim.TheVariants.{Change, Edit, Undo, Redo}
+use Rattle.rc_line.specs.declared.room.Room.{Room}
+use Rattle.rc_db.specs.Bundles.{Bundles, IsTable, value_of}
+use Rattle.rc_bundle.specs.Edit.{Alteration}
+use Rattle.rc_set.specs.Set.{Lists}
+use Rattle.rc_line.specs.State.{State, Entry, IsGained, IsEntry}
+use Rattle.rc_line.specs.Line.{Line, states}
+
+-- How a line is kept, for its view alone: the current state, and two stacks of entries. No public contract speaks of it.
+
+-- which of its two values an alteration leads to
+abbrev pub towards : Bool → Alteration → Option (List Bool)
+towards true a = a.after
+towards false a = a.before
+
+-- bundles as a map from names
+abbrev pub Rows : Type 0
+Rows = FinMap (slice_cmp nat_cmp) (List Bool)
+
+-- the rows after a name was given this value, none among the values
+abbrev pub put : Rows → List ℕ → Option (List Bool) → Rows
+put rows name None = remove rows name
+put rows name (Some set) = insert rows name set
+
+-- the rows after one value of each alteration was put in
+abbrev pub written : (Alteration → Option (List Bool)) → List Alteration → Rows → Rows
+written value [] rows = rows
+written value (a ∷ edit) rows = written value edit (put rows a.name (value a))
+
+-- the table after one value of each alteration was put in
+abbrev pub rewritten : (Alteration → Option (List Bool)) → List Alteration → Bundles → Bundles
+rewritten value edit table = entries (written value edit (from_entries table))
+
+-- a set with the flags at these ids written over
+abbrev pub marked : Bool → List ℕ → List Bool → List Bool
+marked flag [] set = set
+marked flag (s ∷ ids) set = marked flag ids (slice_set set s flag)
+
+-- the state that an entry leads to
+unfoldable pub forth : Entry → State → State
+forth e s = record { live = marked true e.raised (marked false e.lowered s.live); table = rewritten (towards true) e.edit s.table }
+
+-- the state that an entry comes from
+unfoldable pub back : Entry → State → State
+back e s = record { live = marked true e.lowered (marked false e.raised s.live); table = rewritten (towards false) e.edit s.table }
+
+-- two states that differ, of one bound and with tables that are such, and their entry
+pub record IsStep (from to : State) (e : Entry) : Type 0 where
+  pub bound : length to.live ≡ length from.live
+  pub differ : from ≢ to
+  pub from_table : IsTable from.table
+  pub to_table : IsTable to.table
+  pub entry : IsEntry from to e
+
+-- the states that entries lead through, the nearest first
+abbrev pub walk : (Entry → State → State) → List Entry → State → List State
+walk step [] s = []
+walk step (e ∷ es) s = step e s ∷ walk step es (step e s)
+
+-- each entry is the difference of the two states that it stands between, the nearest first, those that lead to a state
+abbrev pub Behind : List Entry → State → Type 0
+Behind [] s = Unit {0}
+Behind (e ∷ es) s = IsStep (back e s) s e × Behind es (back e s)
+
+-- the same of those that lead on
+abbrev pub Ahead : List Entry → State → Type 0
+Ahead [] s = Unit {0}
+Ahead (e ∷ es) s = IsStep s (forth e s) e × Ahead es (forth e s)
+
+-- the line of a state between the entries that lead to it and those that lead on, the nearest last in both stacks
+abbrev pub line_of : List Entry → List Entry → State → Line
+line_of done undone s = record { before = reverse (walk back (reverse done) s); current = s; after = walk forth (reverse undone) s }
+
+-- the entries fit the state between them
+pub record Fits (done undone : List Entry) (s : State) : Type 0 where
+  pub behind : Behind (reverse done) s
+  pub ahead : Ahead (reverse undone) s
+  pub table : IsTable s.table
+
+-- there is room for one more
+abbrev pub HasSpare : Vec Entry → Type 0
+HasSpare v = vec_len v + 1 ≤ vec_capacity v
+
+-- the stacks fit the current state, and an open line has room for one more in both
+pub record IsKept (done undone : Vec Entry) (s : State) (is_open : Bool) : Type 0 where
+  pub fits : Fits done.items undone.items s
+  pub done_room : is_open ≡ true → HasSpare done
+  pub undone_room : is_open ≡ true → HasSpare undone
+
+-- an empty list with room for this many
+pub record HasRoom (bound : ℕ) (ids : Vec ℕ) : Type 0 where
+  pub empty : vec_len ids ≡ 0
+  pub capacity : bound ≤ vec_capacity ids
+
+-- both lists of an entry are empty, with room for this many
+pub record AreRooms (bound : ℕ) (room : Room) : Type 0 where
+  pub raised : HasRoom bound room.raised
+  pub lowered : HasRoom bound room.lowered
+
+-- how many ids there is room for in the entry that leads to where a move ends
+abbrev pub near_room : Aim → ℕ → ℕ
+near_room Change bound = bound
+near_room Edit bound = 0
+near_room Undo bound = bound
+near_room Redo bound = bound
+
+-- how many there is room for in the entry that leads on from there
+abbrev pub far_room : Aim → ℕ → ℕ
+far_room Change bound = 0
+far_room Edit bound = 0
+far_room Undo bound = bound
+far_room Redo bound = bound
+
+-- an entry with the states that it stands between, at a place of the line
+abbrev pub IsStepAt : Line → ℕ → Entry → Type 0
+IsStepAt line place entry = (a : State) × (b : State) × (slice_get (states line) place ≡ Some a) × (slice_get (states line) (suc place) ≡ Some b) × IsStep a b entry
+
+-- at this place an edit leads the name to this value
+abbrev pub IsLedAt : Bool → List Alteration → ℕ → List ℕ → Option (List Bool) → Type 0
+IsLedAt ahead edit place name value = (a : Alteration) × (slice_get edit place ≡ Some a) × (a.name ≡ name) × (towards ahead a ≡ value)
+
+-- an edit leads from the values of one table to another table, which has the one value of each alteration, and the same value for every other name
+pub record LeadsTo (ahead : Bool) (edit : List Alteration) (from to : Bundles) : Type 0 where
+  pub is_table : IsTable to
+  pub named : (a : Alteration) → Contains edit a → value_of to a.name ≡ towards ahead a
+  pub others : (name : List ℕ) → ((a : Alteration) → Contains edit a → a.name ≢ name) → value_of from name ≡ value_of to name
+
+-- on the way there, names are taken from this place on: the first table has no name that the other lacks but those
+pub record TakesFrom (ahead : Bool) (edit : List Alteration) (place : ℕ) (from to : Bundles) : Type 0 where
+  pub leads : LeadsTo ahead edit from to
+  pub within : (name : List ℕ) → ((a : Alteration) → Contains (drop place edit) a → a.name ≢ name) → value_of to name ≡ None → value_of from name ≡ None
+
+-- then sets are put from this place on: the first table has no name that the other lacks, and the other's sets but for the names from there on
+pub record PutsFrom (ahead : Bool) (edit : List Alteration) (place : ℕ) (from to : Bundles) : Type 0 where
+  pub leads : LeadsTo ahead edit from to
+  pub within : (name : List ℕ) → value_of to name ≡ None → value_of from name ≡ None
+  pub done : (name : List ℕ) → ((a : Alteration) → Contains (drop place edit) a → a.name ≢ name) → value_of from name ≡ value_of to name
+
+-- a state by its two parts
+abbrev pub state : List Bool → Bundles → State
+state live table = record { live = live; table = table }
+
+-- from one state to another these ids come up and those go down, and the edit leads there
+pub record Turns (ahead : Bool) (up down : List ℕ) (edit : List Alteration) (from to : State) : Type 0 where
+  pub bound : length to.live ≡ length from.live
+  pub rises : Lists (IsGained from.live to.live) up
+  pub falls : Lists (IsGained to.live from.live) down
+  pub is_table : IsTable from.table
+  pub leads : LeadsTo ahead edit from.table to.table

@@ -1,0 +1,5 @@
+pub mod State
+pub mod Line
+pub mod Moves
+pub mod Opening
+pub mod Keeping

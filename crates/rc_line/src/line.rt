@@ -1,0 +1,496 @@
+ghost use Rattle.std.specs.Prelude.{◌≡◌, ◌≢◌, ◌⊎◌, ◌<◌, ◌≤◌, ◌+◌, ◌↔◌, true, false, [], ◌∷◌, Some, None, Err, length, slice_get, IfOk, OnOk, OnErr};
+ghost use Rattle.rc_db.specs.Bundles.{Bundles, IsTable};
+ghost use Rattle.rc_bundle.specs.Edit.{IsEdit};
+ghost use Rattle.rc_line.specs.Line.{states, cursor, IsLine, IsNext, IsEntryAt};
+ghost use Rattle.rc_line.specs.Moves.{Changes, Edits, Undoes, Redoes};
+ghost use Rattle.rc_line.specs.Opening.{table_or, target_of, IsOpened, Closes, IsEditFrom, AimsAt};
+ghost use Rattle.rc_line.specs.Keeping.{state, HasSpare, AreRooms, IsStepAt};
+
+use crate::aim::Aim;
+use crate::entry::{Entry, spend_all};
+use crate::fault::LineFault;
+use crate::opening::Open;
+use crate::room::Room;
+use crate::sets::overwrite;
+use crate::tables::{led, replace};
+use rc_bundle::Edit;
+use rc_db::Table;
+use rc_select::Plan;
+use rc_set::{NoMem, Set};
+use std::alloc::Global;
+use std::marker::Model;
+
+/// A line of states with a cursor on the current one.
+///
+/// Time: an opening and a closing grow with the entry beside the cursor and with the services; `state` walks.
+pub struct Line {
+    live: Set,
+    table: Table,
+    /// What leads to the current state, the nearest last.
+    done: Vec<Entry>,
+    /// What leads on from it, the nearest last.
+    undone: Vec<Entry>,
+    /// Whether a move is under way.
+    is_open: bool,
+}
+
+impl Model for Line {
+    ghost use Rattle.rc_line.specs.Opening.{Journal};
+    ghost use Rattle.rc_line.specs.Keeping.{state, line_of, IsKept};
+
+    ghost Value = { Journal };
+
+    ghost view = { λ l. record { line = line_of l.done.items l.undone.items (state l.live l.table); is_open = l.is_open } };
+
+    ghost invariant = { λ l. IsKept l.done l.undone (state l.live l.table) l.is_open };
+}
+
+impl Drop for Line {
+    fn drop(self) {
+        let Line {
+            live: _,
+            table: _,
+            mut done,
+            mut undone,
+            is_open: _,
+        } = self;
+        spend_all(&mut done);
+        done.destroy_empty();
+        spend_all(&mut undone);
+        undone.destroy_empty();
+    }
+}
+
+impl Line {
+    /// The line of one state.
+    pub fn new(alloc: Global, live: Set, table: Table) -> Line
+        ensures { result ≡ record { line = record { before = []; current = record { live = live; table = table }; after = [] }; is_open = false } }
+    {
+        // A table tells by its length that it is one.
+        let _ = table.len();
+        Line {
+            live,
+            table,
+            done: Vec::new(alloc),
+            undone: Vec::new(alloc),
+            is_open: false,
+        }
+    }
+
+    /// The services that are live in the current state.
+    pub fn live(&self) -> &Set
+        ensures { result.now ≡ self.now.line.current.live }
+    {
+        &self.live
+    }
+
+    /// The bundles of the current state.
+    pub fn table(&self) -> &Table
+        ensures { result.now ≡ self.now.line.current.table }
+    {
+        &self.table
+    }
+
+    /// How many states the line has.
+    pub fn states(&self) -> usize
+        ensures count { result ≡ length (states self.now.line) }
+        ensures line { IsLine self.now.line }
+    {
+        self.done.len() + self.undone.len() + 1
+    }
+
+    /// The place of the current state.
+    pub fn cursor(&self) -> usize
+        ensures { result ≡ cursor self.now.line }
+    {
+        self.done.len()
+    }
+
+    /// Whether a move is under way.
+    pub fn is_open(&self) -> bool
+        ensures { result ≡ self.now.is_open }
+    {
+        self.is_open
+    }
+
+    /// The entry from the state at a place to the one after it.
+    pub fn entry(&self, place: usize) -> &Entry
+        requires closed { self.now.is_open ≡ false }
+        requires place { place + 1 < length (states self.now.line) }
+        ensures { IsEntryAt self.now.line place result.now }
+    {
+        self.step_at(place)
+    }
+
+    /// The state at a place.
+    pub fn state(&self, alloc: Global, place: usize) -> Result<(Set, Table), NoMem>
+        requires closed { self.now.is_open ≡ false }
+        requires place { place < length (states self.now.line) }
+        ensures { IfOk result (λ s. slice_get (states self.now.line) place ≡ Some (record { live = s.0; table = s.1 })) }
+    {
+        let live = self.live().copy(alloc)?;
+        let table = self.table().copy(alloc)?;
+        if place < self.cursor() {
+            self.walk_back(alloc, place, live, table)
+        } else {
+            self.walk_on(alloc, place, live, table)
+        }
+    }
+
+    /// Opens a change by a plan. All the room that its end needs is made here.
+    pub fn open_new(&mut self, alloc: Global, plan: &Plan) -> Result<Open, LineFault>
+        requires closed { self.old.is_open ≡ false }
+        requires bound { length plan.now.opening ≡ length self.old.line.current.live }
+        ensures opened { IfOk result (IsOpened self.new) }
+        ensures aim { IfOk result (λ opening. opening.aim ≡ Aim.Change) }
+        ensures line { self.new.line ≡ self.old.line }
+        ensures memory { OnErr result (result ≡ Err LineFault.Memory) }
+        ensures err { OnErr result (self.new ≡ self.old) }
+    {
+        let live = plan.opening().copy(alloc)?;
+        let opening = self.opened(alloc, Aim::Change, live, None)?;
+        Ok(opening)
+    }
+
+    /// Opens an edit that was made from the current table. All the room that its end needs is made here.
+    pub fn open_edit(&mut self, alloc: Global, edit: &Edit) -> Result<Open, LineFault>
+        requires closed { self.old.is_open ≡ false }
+        requires made { (table : Bundles) × IsEditFrom self.old.line edit.now table }
+        ensures opened { IfOk result (IsOpened self.new) }
+        ensures aim { IfOk result (λ opening. opening.aim ≡ Aim.Edit) }
+        ensures edit { IfOk result (λ opening. IsEditFrom self.old.line edit.now (target_of opening self.old.line.current).table) }
+        ensures line { self.new.line ≡ self.old.line }
+        ensures memory { OnErr result (result ≡ Err LineFault.Memory) }
+        ensures err { OnErr result (self.new ≡ self.old) }
+    {
+        let live = self.live.copy(alloc)?;
+        let table = led(alloc, &self.table, edit, true)?;
+        let opening = self.opened(alloc, Aim::Edit, live, table)?;
+        Ok(opening)
+    }
+
+    /// Opens the way to the state before. All the room that its end needs is made here.
+    pub fn open_undo(&mut self, alloc: Global) -> Result<Open, LineFault>
+        requires { self.old.is_open ≡ false }
+        ensures opened { IfOk result (IsOpened self.new) }
+        ensures aim { IfOk result (λ opening. opening.aim ≡ Aim.Undo) }
+        ensures line { self.new.line ≡ self.old.line }
+        ensures nothing { (result ≡ Err LineFault.NothingToUndo) ↔ (self.old.line.before ≡ []) }
+        ensures faults { OnErr result ((result ≡ Err LineFault.NothingToUndo) ⊎ (result ≡ Err LineFault.Memory)) }
+        ensures err { OnErr result (self.new ≡ self.old) }
+    {
+        let Some(entry) = self.done.last() else {
+            return Err(LineFault::NothingToUndo);
+        };
+        let (live, table) = entry.before(alloc, &self.live, &self.table)?;
+        let opening = self.opened(alloc, Aim::Undo, live, table)?;
+        Ok(opening)
+    }
+
+    /// Opens the way to the state after. All the room that its end needs is made here.
+    pub fn open_redo(&mut self, alloc: Global) -> Result<Open, LineFault>
+        requires { self.old.is_open ≡ false }
+        ensures opened { IfOk result (IsOpened self.new) }
+        ensures aim { IfOk result (λ opening. opening.aim ≡ Aim.Redo) }
+        ensures line { self.new.line ≡ self.old.line }
+        ensures nothing { (result ≡ Err LineFault.NothingToRedo) ↔ (self.old.line.after ≡ []) }
+        ensures faults { OnErr result ((result ≡ Err LineFault.NothingToRedo) ⊎ (result ≡ Err LineFault.Memory)) }
+        ensures err { OnErr result (self.new ≡ self.old) }
+    {
+        let Some(entry) = self.undone.last() else {
+            return Err(LineFault::NothingToRedo);
+        };
+        let (live, table) = entry.after(alloc, &self.live, &self.table)?;
+        let opening = self.opened(alloc, Aim::Redo, live, table)?;
+        Ok(opening)
+    }
+
+    /// Ends a change, an undo or a redo with what is live now. Takes no memory.
+    pub fn close(&mut self, opening: Open, live: &Set)
+        requires opened { IsOpened self.old opening }
+        requires aim { opening.aim ≢ Aim.Edit }
+        requires bound { length live.now ≡ length self.old.line.current.live }
+        ensures moved { Closes opening.aim self.old.line live.now self.new.line }
+        ensures closed { self.new.is_open ≡ false }
+    {
+        let Open {
+            aim,
+            live: target,
+            table,
+            near,
+            far,
+            no_edit,
+        } = opening;
+        match aim {
+            Aim::Change | Aim::Edit => self.close_change(near, no_edit, live),
+            Aim::Undo => self.close_undo(target, table, near, far, no_edit, live),
+            Aim::Redo => self.close_redo(target, table, near, far, no_edit, live),
+        }
+    }
+
+    /// Ends an edit. Takes no memory.
+    pub fn close_edit(&mut self, opening: Open, edit: Edit)
+        requires opened { IsOpened self.old opening }
+        requires aim { opening.aim ≡ Aim.Edit }
+        requires edit { IsEdit self.old.line.current.table (target_of opening self.old.line.current).table edit }
+        ensures moved { Edits self.old.line (target_of opening self.old.line.current).table self.new.line }
+        ensures closed { self.new.is_open ≡ false }
+    {
+        let Open {
+            aim: _,
+            live: _,
+            table,
+            near,
+            far: _,
+            no_edit: _,
+        } = opening;
+        self.is_open = false;
+        if edit.len() == 0 {
+            return;
+        }
+        let Room { raised, lowered } = near;
+        spend_all(&mut self.undone);
+        self.done.push_reserved(Entry {
+            raised,
+            lowered,
+            edit,
+        });
+        replace(&mut self.table, table);
+    }
+
+    /// Leaves the line as it was before the opening. Takes no memory.
+    pub fn give_up(&mut self, opening: Open)
+        requires { IsOpened self.old opening }
+        ensures line { self.new.line ≡ self.old.line }
+        ensures closed { self.new.is_open ≡ false }
+    {
+        opening.spend();
+        self.is_open = false;
+    }
+
+    /// Opens a move that aims at a state. No table: the current one.
+    fn opened(
+        &mut self,
+        alloc: Global,
+        aim: Aim,
+        live: Set,
+        table: Option<Table>,
+    ) -> Result<Open, NoMem>
+        requires { self.old.is_open ≡ false }
+        ensures opening { IfOk result (λ opening. opening ≡ record { aim = aim; live = live; table = table }) }
+        ensures open { OnOk result (self.new.is_open ≡ true) }
+        ensures line { self.new.line ≡ self.old.line }
+        ensures err { OnErr result (self.new ≡ self.old) }
+    {
+        make_room(&mut self.done, &mut self.undone)?;
+        let opening = Open::new(alloc, aim, live, table)?;
+        self.is_open = true;
+        Ok(opening)
+    }
+
+    fn close_change(&mut self, room: Room, edit: Edit, live: &Set)
+        requires open { self.old.is_open ≡ true }
+        requires room { AreRooms (length live.now) room }
+        requires bound { length live.now ≡ length self.old.line.current.live }
+        requires edit { edit ≡ [] }
+        ensures moved { Changes self.old.line live.now self.new.line }
+        ensures closed { self.new.is_open ≡ false }
+    {
+        self.is_open = false;
+        if self.live.same(live) {
+            return;
+        }
+        let entry = room.entry(&self.live, live, edit);
+        spend_all(&mut self.undone);
+        self.done.push_reserved(entry);
+        overwrite(&mut self.live, live);
+    }
+
+    fn close_undo(
+        &mut self,
+        target: Set,
+        table: Option<Table>,
+        near: Room,
+        far: Room,
+        no_edit: Edit,
+        live: &Set,
+    )
+        requires open { self.old.is_open ≡ true }
+        requires aim { AimsAt Aim.Undo self.old.line (state target (table_or table self.old.line.current.table)) }
+        requires bound { length live.now ≡ length self.old.line.current.live }
+        requires near { AreRooms (length target) near }
+        requires far { AreRooms (length target) far }
+        requires no_edit { no_edit ≡ [] }
+        ensures moved { Undoes self.old.line live.now self.new.line }
+        ensures closed { self.new.is_open ≡ false }
+    {
+        self.is_open = false;
+        let entry = self.done.take_last();
+        if target.same(live) {
+            self.undone.push_reserved(entry);
+            self.live = target;
+            replace(&mut self.table, table);
+            return;
+        }
+        if self.live.same(live) {
+            self.done.push_reserved(entry);
+            return;
+        }
+        let Entry {
+            raised: _,
+            lowered: _,
+            edit,
+        } = entry;
+        self.done.push_reserved(near.entry(&target, live, edit));
+        self.undone
+            .push_reserved(far.entry(live, &self.live, no_edit));
+        overwrite(&mut self.live, live);
+    }
+
+    fn close_redo(
+        &mut self,
+        target: Set,
+        table: Option<Table>,
+        near: Room,
+        far: Room,
+        no_edit: Edit,
+        live: &Set,
+    )
+        requires open { self.old.is_open ≡ true }
+        requires aim { AimsAt Aim.Redo self.old.line (state target (table_or table self.old.line.current.table)) }
+        requires bound { length live.now ≡ length self.old.line.current.live }
+        requires near { AreRooms (length target) near }
+        requires far { AreRooms (length target) far }
+        requires no_edit { no_edit ≡ [] }
+        ensures moved { Redoes self.old.line live.now self.new.line }
+        ensures closed { self.new.is_open ≡ false }
+    {
+        self.is_open = false;
+        let entry = self.undone.take_last();
+        if target.same(live) {
+            self.done.push_reserved(entry);
+            self.live = target;
+            replace(&mut self.table, table);
+            return;
+        }
+        if self.live.same(live) {
+            self.undone.push_reserved(entry);
+            return;
+        }
+        let Entry {
+            raised: _,
+            lowered: _,
+            edit,
+        } = entry;
+        self.done
+            .push_reserved(near.entry(&self.live, live, no_edit));
+        self.undone.push_reserved(far.entry(live, &target, edit));
+        overwrite(&mut self.live, live);
+    }
+
+    /// Puts a state in front of a line that stands on its first one, and stands on it.
+    pub(crate) fn prepend(&mut self, alloc: Global, live: Set, table: Table) -> Result<(), NoMem>
+        requires closed { self.old.is_open ≡ false }
+        requires first { self.old.line.before ≡ [] }
+        requires bound { length live ≡ length self.old.line.current.live }
+        requires differ { state live table ≢ self.old.line.current }
+        ensures line { OnOk result (self.new.line ≡ record { before = []; current = state live table; after = self.old.line.current ∷ self.old.line.after }) }
+        ensures closed { self.new.is_open ≡ false }
+    {
+        // A table tells by its length that it is one.
+        let _ = table.len();
+        self.undone.reserve(1)?;
+        let entry = Entry::between(alloc, &live, &table, &self.live, &self.table)?;
+        self.undone.push_reserved(entry);
+        self.live = live;
+        self.table = table;
+        Ok(())
+    }
+
+    /// Goes one state on.
+    pub(crate) fn go_on(&mut self, alloc: Global) -> Result<(), NoMem>
+        requires closed { self.old.is_open ≡ false }
+        requires more { self.old.line.after ≢ [] }
+        ensures line { OnOk result (IsNext self.old.line self.new.line) }
+        ensures closed { self.new.is_open ≡ false }
+    {
+        let entry = self.step_at(self.cursor());
+        let (live, table) = entry.after(alloc, self.live(), self.table())?;
+        self.done.reserve(1)?;
+        let entry = self.undone.take_last();
+        self.done.push_reserved(entry);
+        self.live = live;
+        replace(&mut self.table, table);
+        Ok(())
+    }
+
+    /// The entry at a place, also while the line is open.
+    pub(crate) fn step_at(&self, place: usize) -> &Entry
+        requires { place + 1 < length (states self.now.line) }
+        ensures { IsStepAt self.now.line place result.now }
+    {
+        let done = self.done.len();
+        if place < done {
+            &self.done[place]
+        } else {
+            &self.undone[self.undone.len() - 1 - (place - done)]
+        }
+    }
+
+    /// The state at a place up to the cursor, from the current one.
+    fn walk_back(
+        &self,
+        alloc: Global,
+        place: usize,
+        mut live: Set,
+        mut table: Table,
+    ) -> Result<(Set, Table), NoMem>
+        requires place { place ≤ cursor self.now.line }
+        requires from { state live table ≡ self.now.line.current }
+        ensures { IfOk result (λ s. slice_get (states self.now.line) place ≡ Some (state s.0 s.1)) }
+    {
+        let mut at = self.cursor();
+        while at > place {
+            at -= 1;
+            let (before, other) = self.step_at(at).before(alloc, &live, &table)?;
+            live = before;
+            replace(&mut table, other);
+        }
+        Ok((live, table))
+    }
+
+    /// The state at a place from the cursor on, from the current one.
+    pub(crate) fn walk_on(
+        &self,
+        alloc: Global,
+        place: usize,
+        mut live: Set,
+        mut table: Table,
+    ) -> Result<(Set, Table), NoMem>
+        requires low { cursor self.now.line ≤ place }
+        requires high { place < length (states self.now.line) }
+        requires from { state live table ≡ self.now.line.current }
+        ensures { IfOk result (λ s. slice_get (states self.now.line) place ≡ Some (state s.0 s.1)) }
+    {
+        let mut at = self.cursor();
+        while at < place {
+            let (after, other) = self.step_at(at).after(alloc, &live, &table)?;
+            live = after;
+            replace(&mut table, other);
+            at += 1;
+        }
+        Ok((live, table))
+    }
+}
+
+/// Makes room for one more entry in both stacks.
+fn make_room(done: &mut Vec<Entry>, undone: &mut Vec<Entry>) -> Result<(), NoMem>
+    ensures done { done.new.items ≡ done.old.items }
+    ensures undone { undone.new.items ≡ undone.old.items }
+    ensures done_room { OnOk result (HasSpare done.new) }
+    ensures undone_room { OnOk result (HasSpare undone.new) }
+{
+    done.reserve(1)?;
+    undone.reserve(1)?;
+    Ok(())
+}

@@ -1,0 +1,80 @@
+//! Lines that are made of whole states.
+
+ghost use Rattle.std.specs.Prelude.{◌≡◌, ◌<◌, ◌≤◌, ℕ, [], false, length, All, IfOk, OnOk};
+ghost use Rattle.rc_db.specs.Bundles.{IsTable};
+ghost use Rattle.rc_line.specs.State.{states_of};
+ghost use Rattle.rc_line.specs.Line.{DifferInTurn, states, cursor};
+ghost use Rattle.rc_line.specs.Opening.{table_or};
+
+use crate::line::Line;
+use rc_db::Table;
+use rc_set::{NoMem, Set};
+use std::alloc::Global;
+
+impl Line {
+    /// The line of some states, with the cursor at a place. On want of memory the states are gone.
+    pub fn from_states(
+        alloc: Global,
+        mut held: Vec<(Set, Table)>,
+        place: usize,
+    ) -> Result<Line, NoMem>
+        requires cursor { place < length held.items }
+        requires differ { DifferInTurn (states_of held.items) }
+        requires bound { (bound : ℕ) × All (λ state. length state.live ≡ bound) (states_of held.items) }
+        ensures states { IfOk result (λ line. states line.line ≡ states_of held.items) }
+        ensures cursor { IfOk result (λ line. cursor line.line ≡ place) }
+        ensures closed { IfOk result (λ line. line.is_open ≡ false) }
+    {
+        let (live, table) = held.take_last();
+        let mut line = Line::new(alloc, live, table);
+        while let Some((live, table)) = held.pop() {
+            line.prepend(alloc, live, table)?;
+        }
+        go_to(alloc, &mut line, place)?;
+        Ok(line)
+    }
+
+    /// Another line of the same states, with the cursor at the same place. It is not open.
+    pub fn copy(&self, alloc: Global) -> Result<Line, NoMem>
+        ensures { IfOk result (λ line. line ≡ record { line = self.now.line; is_open = false }) }
+    {
+        let mut at = self.states() - 1;
+        let live = self.live().copy(alloc)?;
+        let table = self.table().copy(alloc)?;
+        let (live, table) = self.walk_on(alloc, at, live, table)?;
+        let mut line = Line::new(alloc, live, table);
+        while at > 0 {
+            at -= 1;
+            let (live, table) = self.step_at(at).before(alloc, line.live(), line.table())?;
+            let table = table_of(alloc, table, line.table())?;
+            line.prepend(alloc, live, table)?;
+        }
+        go_to(alloc, &mut line, self.cursor())?;
+        Ok(line)
+    }
+}
+
+/// Goes on to a place.
+fn go_to(alloc: Global, line: &mut Line, place: usize) -> Result<(), NoMem>
+    requires closed { line.old.is_open ≡ false }
+    requires first { line.old.line.before ≡ [] }
+    requires place { place < length (states line.old.line) }
+    ensures states { OnOk result (states line.new.line ≡ states line.old.line) }
+    ensures cursor { OnOk result (cursor line.new.line ≡ place) }
+    ensures closed { line.new.is_open ≡ false }
+{
+    while line.cursor() < place {
+        line.go_on(alloc)?;
+    }
+    Ok(())
+}
+
+/// The table that a move leads to, also where it is the one at hand.
+fn table_of(alloc: Global, next: Option<Table>, table: &Table) -> Result<Table, NoMem>
+    ensures { IfOk result (λ whole. whole ≡ table_or next table.now) }
+{
+    match next {
+        Some(next) => Ok(next),
+        None => table.copy(alloc),
+    }
+}
