@@ -1,0 +1,16 @@
+pub mod Among
+pub mod Neighbours
+pub mod Deadlines
+pub mod Edits
+pub mod Excluding
+pub mod States
+pub mod Courses
+pub mod Keeping
+pub mod Entries
+pub mod Entering
+pub mod Splits
+pub mod Playing
+pub mod Arriving
+pub mod Undos
+pub mod Promising
+pub mod Replaying

@@ -1,0 +1,89 @@
+use Rattle.std.proofs.Common.{◌≡◌, ◌∙◌, Bool, List, take, Result, inl, inr, ap, sym, subst}
+use Rattle.rc_set.specs.Set.{Holds}
+use Rattle.rc_core.specs.Course.{course_of, TargetOf}
+use Rattle.rc_core.specs.Settled.{IsStrictlyClosed}
+use Rattle.rc_core.proofs.StrictLemmas.{prefix_strict}
+use Rattle.rc_db.specs.Database.{Database, IsDatabase}
+use Rattle.rc_line.specs.Line.{Line}
+use Rattle.rc_line.specs.Moves.{with_live}
+use Rattle.rc_session.specs.declared.refusal.Refusal.{Refusal}
+use Rattle.rc_session.specs.Commands.{Command, Change, Undo, Redo, Add, Delete, HasRun, events_of}
+use Rattle.rc_session.specs.Report.{Told}
+use Rattle.rc_session.specs.Task.{EndsWith, MovesTo}
+use Rattle.rc_session.specs.Doing.{Runs, MakesEdit, IsLineOf}
+use Rattle.rc_session.specs.Plays.{Plays}
+use Rattle.rc_session.specs.Promise.{RanInOrder, RunsAreOrderly, IsPromised, HoldsAllAlong}
+use Rattle.rc_session.proofs.Keeping.{task_opening, opening_closed, plays_keep}
+use Rattle.rc_session.proofs.Entering.{ends_in, change_entered, edit_entered}
+use Rattle.rc_session.proofs.Courses.{task_is_course}
+use Rattle.rc_session.proofs.Arriving.{ends_in_target}
+use Rattle.rc_session.proofs.Splits.{undo_leaves}
+use Rattle.rc_session.proofs.Undos.{undos_restore, redos_restore}
+use Rattle.rc_session.proofs.Playing.{play_parts}
+
+-- the new state has what is live after the run
+moved_live : (line : Line) (command : Command) (live : List Bool) (new : Line) → MovesTo line command live new → new.current.live ≡ live
+moved_live line (Change ask events) live new moved = ap (λ s. s.live) (ends_in line new (with_live line live) moved)
+moved_live line (Undo limit events) live new u = elim u.2 [
+  | inl there ↦ ap (λ l. l.current.live) there.1 ∙ sym there.0
+  | inr other ↦ elim other [
+    | inl here ↦ ap (λ l. l.current.live) here.2 ∙ sym here.1
+    | inr between ↦ ap (λ l. l.current.live) between.2
+  ]
+]
+moved_live line (Redo limit events) live new r = elim r.2 [
+  | inl there ↦ ap (λ l. l.current.live) there.1 ∙ sym there.0
+  | inr other ↦ elim other [
+    | inl here ↦ ap (λ l. l.current.live) here.2 ∙ sym here.1
+    | inr between ↦ ap (λ l. l.current.live) between.2
+  ]
+]
+moved_live line (Add name contents force) live new moved = absurd moved
+moved_live line (Delete words force) live new moved = absurd moved
+
+-- an edit is no run
+no_edit_run : (d : Database) (line new : Line) (command : Command) (told : Told) → HasRun command → MakesEdit d line command told new → ⊥
+no_edit_run d line new (Change ask events) told has edit = edit.altered
+no_edit_run d line new (Undo limit events) told has edit = edit.altered
+no_edit_run d line new (Redo limit events) told has edit = edit.altered
+no_edit_run d line new (Add name contents force) told has edit = has
+no_edit_run d line new (Delete words force) told has edit = has
+
+ran_in_order : (d : Database) (line new : Line) (command : Command) (told : Told) → IsDatabase d → IsLineOf d line → Runs d line command told new → RanInOrder d line command told new
+ran_in_order d line new command told is_db of run =
+    let c = course_of d.needs run.plan run.deadline in
+    let opening = task_opening d line command 0 run.plan run.deadline run.task in
+    let live_is : new.current.live ≡ run.live = moved_live line command run.live new run.moved in
+    record {
+      plan = run.plan;
+      deadline = run.deadline;
+      task = run.task;
+      given = run.is_told.trace;
+      ends = subst (λ live. EndsWith c told.trace live) (sym live_is) (subst (λ events. EndsWith c events run.live) (sym run.is_told.trace) run.ends);
+      strict = λ k. subst (λ events. IsStrictlyClosed c (take k events)) (sym run.is_told.trace)
+          (prefix_strict c (events_of command) k (opening_closed d line of run.plan opening) run.ends.settled.run);
+      arrives = λ failed stopped. subst (λ live. Holds live (TargetOf c)) (sym live_is)
+          (ends_in_target c run.plan (events_of command) run.live told (task_is_course d line command 0 run.plan run.deadline is_db of run.task) run.ends run.is_told failed stopped);
+    }
+
+pub runs_orderly : (d : Database) (line : Line) → IsDatabase d → IsLineOf d line → RunsAreOrderly d line
+runs_orderly d line is_db of command told new has does = elim does [
+  | inl run ↦ ran_in_order d line new command told is_db of run
+  | inr edit ↦ absurd (no_edit_run d line new command told has edit)
+]
+
+pub promised : (d : Database) (line : Line) → IsDatabase d → IsLineOf d line → IsPromised d line
+promised d line is_db of = record {
+  orderly = runs_orderly d line is_db of;
+  changes = change_entered d line;
+  edits = edit_entered d line;
+  undos = undos_restore d is_db line of;
+  redos = redos_restore d is_db line of;
+  remains = undo_leaves d line;
+}
+
+pub all_along : (d : Database) (line new : Line) (commands : List Command) (answers : List (Result Told Refusal)) → IsDatabase d → IsLineOf d line → Plays d line commands answers new → HoldsAllAlong d line commands answers new
+all_along d line new commands answers is_db of plays k =
+    let parts = play_parts d k commands answers line new plays in
+    let here_of : IsLineOf d parts.0 = plays_keep d (take k commands) (take k answers) line parts.0 of parts.1 in
+    (parts.0, here_of, parts.1, parts.2, promised d parts.0 is_db here_of)

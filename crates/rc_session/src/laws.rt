@@ -1,0 +1,101 @@
+//! Laws of the definitions, the headline first. The functions do nothing when they run.
+
+ghost use Rattle.std.specs.Prelude.{◌≡◌, ℕ, List, [], Option, Some, length, take, drop, slice_get, Result};
+ghost use Rattle.rc_db.specs.Database.{Database, IsDatabase};
+ghost use Rattle.rc_select.specs.PlanSets.{PlanSets};
+ghost use Rattle.rc_core.specs.declared.event.Event.{Event};
+ghost use Rattle.rc_core.specs.Course.{IsCourse, course_of};
+ghost use Rattle.rc_core.specs.Settled.{IsSettled};
+ghost use Rattle.rc_line.specs.State.{IsEditOnly};
+ghost use Rattle.rc_line.specs.Line.{Line, IsNext};
+ghost use Rattle.rc_session.specs.declared.refusal.Refusal.{Refusal};
+ghost use Rattle.rc_session.specs.Commands.{Command, Undo, Redo};
+ghost use Rattle.rc_session.specs.Report.{Told};
+ghost use Rattle.rc_session.specs.Task.{IsTask, deadline_of};
+ghost use Rattle.rc_session.specs.Doing.{Runs, Does, IsLineOf};
+ghost use Rattle.rc_session.specs.Refusals.{Refuses};
+ghost use Rattle.rc_session.specs.Plays.{Answers, Plays};
+ghost use Rattle.rc_session.specs.Promise.{RunsAreOrderly, ChangesAreEntered, EditsAreEntered, UndosRestore, RedosRestore, UndosLeaveWhatRemains, HoldsAllAlong};
+
+/// The headline. For every database, every line of it and every list of commands, with whatever events: each change runs in dependency
+/// order and keeps what is live strictly closed; its entry names exactly what it altered; undos that all go well restore, one after the
+/// other, each state that the line keeps, live set and bundles, and redos the same forwards; and a failed undo leaves exactly the inverse
+/// of what remains.
+pub fn headline()
+    ensures { (d : Database) (line new : Line) (commands : List Command) (answers : List (Result Told Refusal)) →
+        IsDatabase d → IsLineOf d line → Plays d line commands answers new → HoldsAllAlong d line commands answers new }
+{}
+
+/// What runs is a settled run of its command's task, strictly closed at each moment, and the new state has what is live in the end.
+pub fn told_runs_are_settled()
+    ensures { (d : Database) (line : Line) → IsDatabase d → IsLineOf d line → RunsAreOrderly d line }
+{}
+
+/// The entry of a change names exactly what it is told to have altered, and not what was planned.
+pub fn change_enters_what_it_altered()
+    ensures { (d : Database) (line : Line) → ChangesAreEntered d line }
+{}
+
+/// The entry of an edit names exactly the bundles that it altered.
+pub fn edit_enters_what_it_altered()
+    ensures { (d : Database) (line : Line) → EditsAreEntered d line }
+{}
+
+/// Undos that all go well restore, one after the other, the states that the line keeps, and leave the line's states alone.
+pub fn undos_restore()
+    ensures { (d : Database) (line : Line) → IsDatabase d → IsLineOf d line → UndosRestore d line }
+{}
+
+/// The same holds forwards.
+pub fn redos_restore()
+    ensures { (d : Database) (line : Line) → IsDatabase d → IsLineOf d line → RedosRestore d line }
+{}
+
+/// An undo that does not come to the state before leaves, before the cursor, exactly the inverse of what remains to be undone.
+pub fn failed_undo_leaves_what_remains()
+    ensures { (d : Database) (line : Line) → UndosLeaveWhatRemains d line }
+{}
+
+/// A play is its steps: what is said of one command, from a line of the database, reaches each command of a list.
+pub fn plays_go_step_by_step()
+    ensures parts { (d : Database) (line new : Line) (commands : List Command) (answers : List (Result Told Refusal)) (k : ℕ) →
+        Plays d line commands answers new →
+        (here : Line) × Plays d line (take k commands) (take k answers) here × Plays d here (drop k commands) (drop k answers) new }
+    ensures step { (d : Database) (line new : Line) (commands : List Command) (answers : List (Result Told Refusal)) (k : ℕ) (command : Command) (answer : Result Told Refusal) →
+        IsDatabase d → IsLineOf d line → Plays d line commands answers new → slice_get commands k ≡ Some command → slice_get answers k ≡ Some answer →
+        (here : Line) × (next : Line) × IsLineOf d here × Plays d line (take k commands) (take k answers) here × Answers d here command answer next }
+{}
+
+/// Each command, done or refused, leads from a line of the database to one, and so do several.
+pub fn commands_keep_lines()
+    ensures one { (d : Database) (line new : Line) (command : Command) (answer : Result Told Refusal) →
+        IsDatabase d → IsLineOf d line → Answers d line command answer new → IsLineOf d new }
+    ensures several { (d : Database) (line new : Line) (commands : List Command) (answers : List (Result Told Refusal)) →
+        IsDatabase d → IsLineOf d line → Plays d line commands answers new → IsLineOf d new }
+{}
+
+/// A command that is done has no cause to be refused.
+pub fn what_is_done_is_not_refused()
+    ensures { (d : Database) (line new : Line) (command : Command) (told : Told) (refusal : Refusal) →
+        Does d line command told new → Refuses d line command refusal → ⊥ }
+{}
+
+/// The run that a command asks for is a course, so it can be opened, and where nothing hinders it it ends in its target.
+pub fn tasks_are_courses()
+    ensures { (d : Database) (line : Line) (command : Command) (start : ℕ) (plan : PlanSets) (deadline : Option ℕ) →
+        IsDatabase d → IsLineOf d line → IsTask d line command start plan deadline → IsCourse (course_of d.needs plan deadline) }
+{}
+
+/// A settled run that begins later is one that begins at the moment 0.
+pub fn later_runs_are_runs()
+    ensures { (needs : List (List ℕ)) (plan : PlanSets) (start limit : ℕ) (events : List Event) →
+        IsSettled (course_of needs plan (deadline_of start limit)) events → IsSettled (course_of needs plan (deadline_of 0 limit)) events }
+{}
+
+/// The undo or redo of an edit takes no events, whatever limit it is given.
+pub fn ways_of_edits_take_no_events()
+    ensures undo { (d : Database) (line back new : Line) (limit : ℕ) (events : List Event) (told : Told) →
+        IsNext back line → IsEditOnly line.current back.current → Runs d line (Undo limit events) told new → events ≡ [] }
+    ensures redo { (d : Database) (line on new : Line) (limit : ℕ) (events : List Event) (told : Told) →
+        IsNext line on → IsEditOnly line.current on.current → Runs d line (Redo limit events) told new → events ≡ [] }
+{}
