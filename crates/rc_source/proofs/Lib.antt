@@ -1,0 +1,7 @@
+pub mod Digits
+pub mod Exits
+pub mod FileFlaws
+pub mod Known
+pub mod Lines
+pub mod Members
+pub mod TextSets

@@ -1,0 +1,7 @@
+use Rattle.std.proofs.Common.{◌≡◌, ◌↔◌, ◌⊎◌, ◌∙◌, ℕ, List, Contains, map, subst, string_bytes}
+use Rattle.rc_source.proofs.file.add_names_at.Goals as goal
+
+pub returns-clause-names : goal.returns-clause-names
+returns-clause-names g c = λ source known.
+    subst (λ l. (name : List ℕ) → Contains (map string_bytes c.add_names.new.set.keys) name ↔ (Contains (map string_bytes c.args.set.now.keys) name ⊎ Contains l name))
+    (c.deref.ensures.value ∙ c.in_ok-names.ensures.names source known) c.in_ok-add_names.ensures
