@@ -1,0 +1,66 @@
+-- What is read of a line, and what refuses it, from its words.
+use Rattle.std.proofs.Common.{◌≡◌, ◌∙◌, ℕ, List, [], ◌∷◌, ◌++◌, length, get_or, arith, refl, sym, ap, append_assoc}
+use Rattle.std.proofs.lemmas.List.{append-nil}
+use Rattle.rc_dbform.specs.declared.fault.FormFault.{FormFault}
+use Rattle.rc_dbform.specs.declared.fault.FormFault.TheVariants.{Bad, Version, TooMany, Memory}
+use Rattle.rc_dbform.specs.Text.{Line, words, worded, text_behind, spell, spells}
+use Rattle.rc_dbform.specs.Reading.{IsRead, IsRefused, IsNumber, HasNumber, IsNoNumber, HasOtherVersion, HasTooMany, one}
+use Rattle.rc_dbform.specs.Words.{IsPlain, ArePlain, BeginsWith, IsNoLine}
+use Rattle.rc_dbform.proofs.Sequences.{HasNo, stuck_line}
+use Rattle.rc_dbform.proofs.WordLines.{no_such_line, no_line, words_once, each_cons}
+
+-- a word and a number
+pub plain_numbered : (word number : List ℕ) → IsPlain word → IsNumber number → ArePlain (word ∷ number ∷ [])
+plain_numbered word number plain is =
+    let digits : IsPlain number = λ k d within. let digit = is.each k d within in (omega arith, omega arith) in
+    record { some = omega arith; each = each_cons word (number ∷ []) plain (each_cons number [] digits (λ k d within. absurd (omega arith))) }
+
+-- a kind of line that is no line of a number: its words are words, and there is one
+pub record IsKind {A : Type 0} (Is : A → Type 0) (line : A → Line) : Type 0 where
+  pub plain : (a : A) → Is a → ArePlain (words (line a))
+  pub some : A
+  pub is_some : Is some
+  pub no_version : (bytes : List ℕ) → HasOtherVersion (line some) bytes → ⊥
+  pub no_count : (bytes : List ℕ) → HasTooMany (line some) bytes → ⊥
+
+-- the line is read, with the text behind it
+pub read_with_text : {A : Type 0} (Is : A → Type 0) (line : A → Line) (bytes middle rest : List ℕ) (ws : List (List ℕ)) (a : A) → BeginsWith bytes ws middle → Is a → ws ≡ words (line a)
+    → middle ≡ text_behind (line a) ++ rest → IsRead Is (one line) bytes a rest
+read_with_text Is line bytes middle rest ws a begins is same behind = (
+  is,
+  begins.1 ∙ ap (λ (l : List (List ℕ)). worded l ++ middle) same ∙ ap (λ (l : List ℕ). worded (words (line a)) ++ l) behind
+      ∙ sym (append_assoc (worded (words (line a))) (text_behind (line a)) rest) ∙ ap (λ (l : List ℕ). l ++ rest) (sym (append-nil (spell (line a)))),
+)
+
+module _ {A : Type 0} (Is : A → Type 0) (line : A → Line) (kind : IsKind Is line) where
+  refused : (bytes : List ℕ) (left : ℕ) → left ≡ length bytes → HasNo Is line bytes → IsRefused Is (one line) bytes (Bad left)
+  refused bytes left is missing = (bytes, line kind.some, stuck_line Is line bytes kind.some kind.is_some missing, is, kind.no_version bytes, kind.no_count bytes)
+
+  -- other words stand here, or other bytes behind them
+  pub other_line : (bytes rest : List ℕ) (ws : List (List ℕ)) → BeginsWith bytes ws rest → ((a : A) (tail : List ℕ) → Is a → ws ≡ words (line a) → rest ≡ text_behind (line a) ++ tail → ⊥)
+      → IsRefused Is (one line) bytes (Bad (length bytes))
+  other_line bytes rest ws begins other = refused bytes (length bytes) refl (no_such_line Is line kind.plain bytes ws rest begins other)
+
+  -- no line stands here
+  pub no_line_here : (bytes : List ℕ) (fault : FormFault) → IsNoLine bytes fault → IsRefused Is (one line) bytes fault
+  no_line_here bytes (Bad left) none = refused bytes left none.0 (no_line Is line kind.plain bytes none.1)
+  no_line_here bytes Version none = absurd none
+  no_line_here bytes TooMany none = absurd none
+  no_line_here bytes Memory none = tt
+
+-- the one word behind this word
+behind_word : (word number : List ℕ) (ws : List (List ℕ)) → ws ≡ word ∷ number ∷ [] → get_or ws 1 [] ≡ number
+behind_word word number ws same = ap (λ (l : List (List ℕ)). get_or l 1 []) same
+
+module _ (word bytes : List ℕ) (plain : IsPlain word) where
+  -- a line of a word and a number has these words
+  pub number_words : (Such : List ℕ → Type 0) (ws : List (List ℕ)) (rest : List ℕ) → BeginsWith bytes ws rest → HasNumber word Such bytes → (number : List ℕ) × IsNumber number × Such number × (ws ≡ word ∷ number ∷ [])
+  number_words Such ws rest begins (number, after, is, such, same) =
+      (number, is, such, (words_once ws (word ∷ number ∷ []) rest after begins.0 (plain_numbered word number plain is) (sym begins.1 ∙ same)).0)
+
+  -- where no line stands, there is no number
+  pub no_number_here : (fault : FormFault) → IsNoLine bytes fault → IsNoNumber word bytes fault
+  no_number_here (Bad left) none = (none.0, λ has. none.1 (word ∷ has.0 ∷ []) has.1 has.4)
+  no_number_here Version none = absurd none
+  no_number_here TooMany none = absurd none
+  no_number_here Memory none = tt

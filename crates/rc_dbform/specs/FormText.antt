@@ -1,0 +1,10 @@
+use Rattle.std.specs.Prelude.{ℕ, List, string_bytes}
+use Rattle.std.specs.Option.{option_map}
+use Rattle.rc_dbform.specs.declared.forms.BodyForm.{BodyForm}
+use Rattle.rc_dbform.specs.declared.forms.BodyForm.TheVariants as forms
+use Rattle.rc_dbform.specs.Text.{Body, OfLongrun, OfOneshot}
+
+-- what follows the needs of a service, as it was read
+abbrev pub body_text : BodyForm → Body
+body_text (forms.Longrun producer_for) = OfLongrun producer_for
+body_text (forms.Oneshot up down) = OfOneshot (string_bytes up) (option_map string_bytes down)

@@ -1,0 +1,172 @@
+//! What a database text says, read front to back.
+ghost use Rattle.std.specs.Prelude.{◌≡◌, ◌≤◌, ◌∷◌, [], IfOk, IfErr};
+ghost use Rattle.std.specs.List.{flat_map};
+ghost use Rattle.rc_names.specs.declared.kind.Kind.TheVariants as kinds;
+ghost use Rattle.rc_dbform.specs.Text.{ServiceCount, BundleCount, IsBody, IsServiceText, IsBundleText, IsDbText, AreFew, body_lines, service_lines, bundle_lines, counted, db_lines};
+ghost use Rattle.rc_dbform.specs.Reading.{IsRead, IsRefused, AreSo};
+ghost use Rattle.rc_dbform.specs.FormText.{body_text};
+
+use crate::fault::FormFault;
+use crate::lines::{
+    BundleForm, Head, bundle_line, count_line, down_line, first_line, head_line, last_line,
+    needs_line, producer_line, up_line,
+};
+use rc_names::{Kind, Name};
+use std::alloc::Global;
+use std::marker::Model;
+
+/// What follows the needs of a service.
+#[derive(Debug, Drop)]
+pub enum BodyForm {
+    Longrun(Option<Name>),
+    Oneshot(String, Option<String>),
+}
+
+/// A service as the text gives it.
+#[derive(Debug, Drop)]
+pub struct ServiceForm {
+    pub head: Head,
+    pub needs: Vec<Name>,
+    pub body: BodyForm,
+}
+
+impl Model for ServiceForm {
+    ghost use Rattle.rc_dbform.specs.Text.{ServiceText};
+    ghost use Rattle.rc_dbform.specs.FormText.{body_text};
+
+    ghost Value = { ServiceText };
+
+    ghost view = { λ s. record { head = s.head; needs = s.needs.items; body = body_text s.body } };
+}
+
+/// A database as its text gives it.
+#[derive(Debug, Drop)]
+pub struct DbForm {
+    pub services: Vec<ServiceForm>,
+    pub bundles: Vec<BundleForm>,
+}
+
+impl Model for DbForm {
+    ghost use Rattle.rc_dbform.specs.Text.{DbText};
+
+    ghost Value = { DbText };
+
+    ghost view = { λ f. record { services = f.services.items; bundles = f.bundles.items } };
+}
+
+/// What the text at the front says, and what follows it.
+pub fn read_form(alloc: Global, bytes: &[u8]) -> Result<(DbForm, &[u8]), FormFault>
+    ensures ok { IfOk result (λ read. IsRead IsDbText db_lines bytes.now read.0 read.1.now) }
+    ensures fault { IfErr result (IsRefused IsDbText db_lines bytes.now) }
+{
+    let first = first_line(alloc, bytes)?;
+    let (services, rest) = all_services(alloc, first)?;
+    let (bundles, rest) = all_bundles(alloc, rest)?;
+    let last = last_line(alloc, rest)?;
+    Ok((DbForm { services, bundles }, last))
+}
+
+// The services behind their count, and what follows them.
+fn all_services(alloc: Global, bytes: &[u8]) -> Result<(Vec<ServiceForm>, &[u8]), FormFault>
+    ensures ok { IfOk result (λ read. IsRead (AreFew IsServiceText) (counted ServiceCount service_lines) bytes.now read.0.items read.1.now) }
+    ensures fault { IfErr result (IsRefused (AreFew IsServiceText) (counted ServiceCount service_lines) bytes.now) }
+{
+    let (count, rest) = count_line(alloc, bytes, b"services")?;
+    let (services, rest) = services_of(alloc, rest, count)?;
+    Ok((services, rest))
+}
+
+// The bundles behind their count, and what follows them.
+fn all_bundles(alloc: Global, bytes: &[u8]) -> Result<(Vec<BundleForm>, &[u8]), FormFault>
+    ensures ok { IfOk result (λ read. IsRead (AreFew IsBundleText) (counted BundleCount bundle_lines) bytes.now read.0.items read.1.now) }
+    ensures fault { IfErr result (IsRefused (AreFew IsBundleText) (counted BundleCount bundle_lines) bytes.now) }
+{
+    let (count, rest) = count_line(alloc, bytes, b"bundles")?;
+    let (bundles, rest) = bundles_of(alloc, rest, count)?;
+    Ok((bundles, rest))
+}
+
+// So many services, and what follows them.
+fn services_of(
+    alloc: Global,
+    bytes: &[u8],
+    count: u32,
+) -> Result<(Vec<ServiceForm>, &[u8]), FormFault>
+    ensures ok { IfOk result (λ read. IsRead (AreSo IsServiceText count) (flat_map service_lines) bytes.now read.0.items read.1.now) }
+    ensures fault { IfErr result (IsRefused (AreSo IsServiceText count) (flat_map service_lines) bytes.now) }
+{
+    let mut services = Vec::new(alloc);
+    let mut rest = bytes;
+    for _ in 0..count {
+        let (service, behind) = service_of(alloc, rest)?;
+        if services.push(service).is_err() {
+            return Err(FormFault::Memory);
+        }
+        rest = behind;
+    }
+    Ok((services, rest))
+}
+
+// So many bundles, and what follows them.
+fn bundles_of(
+    alloc: Global,
+    bytes: &[u8],
+    count: u32,
+) -> Result<(Vec<BundleForm>, &[u8]), FormFault>
+    ensures ok { IfOk result (λ read. IsRead (AreSo IsBundleText count) (flat_map bundle_lines) bytes.now read.0.items read.1.now) }
+    ensures fault { IfErr result (IsRefused (AreSo IsBundleText count) (flat_map bundle_lines) bytes.now) }
+{
+    let mut bundles = Vec::new(alloc);
+    let mut rest = bytes;
+    for _ in 0..count {
+        let (bundle, behind) = bundle_line(alloc, rest)?;
+        if bundles.push(bundle).is_err() {
+            return Err(FormFault::Memory);
+        }
+        rest = behind;
+    }
+    Ok((bundles, rest))
+}
+
+// A service, and what follows it.
+fn service_of(alloc: Global, bytes: &[u8]) -> Result<(ServiceForm, &[u8]), FormFault>
+    ensures ok { IfOk result (λ read. IsRead IsServiceText service_lines bytes.now read.0 read.1.now) }
+    ensures fault { IfErr result (IsRefused IsServiceText service_lines bytes.now) }
+{
+    let (head, rest) = head_line(alloc, bytes)?;
+    let (needs, rest) = needs_line(alloc, rest)?;
+    let (body, rest) = body_of(alloc, rest, head.kind())?;
+    Ok((ServiceForm { head, needs, body }, rest))
+}
+
+// What follows the needs of a service of this kind, and what follows that.
+fn body_of(alloc: Global, bytes: &[u8], kind: Kind) -> Result<(BodyForm, &[u8]), FormFault>
+    requires { (kind ≡ kinds.Bundle) → ⊥ }
+    ensures ok { IfOk result (λ read. IsRead (IsBody kind) body_lines bytes.now (body_text read.0) read.1.now) }
+    ensures fault { IfErr result (IsRefused (IsBody kind) body_lines bytes.now) }
+{
+    match kind {
+        Kind::Oneshot => oneshot_of(alloc, bytes),
+        Kind::Longrun => longrun_of(alloc, bytes),
+        Kind::Bundle => unreachable!(),
+    }
+}
+
+// What follows the needs of a oneshot, and what follows that.
+fn oneshot_of(alloc: Global, bytes: &[u8]) -> Result<(BodyForm, &[u8]), FormFault>
+    ensures ok { IfOk result (λ read. IsRead (IsBody kinds.Oneshot) body_lines bytes.now (body_text read.0) read.1.now) }
+    ensures fault { IfErr result (IsRefused (IsBody kinds.Oneshot) body_lines bytes.now) }
+{
+    let (up, rest) = up_line(alloc, bytes)?;
+    let (down, rest) = down_line(alloc, rest)?;
+    Ok((BodyForm::Oneshot(up, down), rest))
+}
+
+// What follows the needs of a longrun, and what follows that.
+fn longrun_of(alloc: Global, bytes: &[u8]) -> Result<(BodyForm, &[u8]), FormFault>
+    ensures ok { IfOk result (λ read. IsRead (IsBody kinds.Longrun) body_lines bytes.now (body_text read.0) read.1.now) }
+    ensures fault { IfErr result (IsRefused (IsBody kinds.Longrun) body_lines bytes.now) }
+{
+    let (producer_for, rest) = producer_line(alloc, bytes)?;
+    Ok((BodyForm::Longrun(producer_for), rest))
+}
