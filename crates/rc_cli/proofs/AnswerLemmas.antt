@@ -1,4 +1,4 @@
-use Rattle.std.proofs.Common.{◌≡◌, ◌∙◌, ℕ, ◌+◌, ◌<◌, List, Bool, [], ◌∷◌, ◌++◌, Some, length, map, take, slice_get, get_or, All, Contains, ap, subst, arith}
+use Rattle.std.proofs.Common.{◌≡◌, ◌∙◌, ℕ, ◌+◌, ◌<◌, List, Bool, [], ◌∷◌, ◌++◌, Some, length, take, slice_get, get_or, All, ap}
 use Rattle.std.proofs.lemmas.Grind.{flat_map-append}
 use Rattle.std.proofs.lemmas.List.{append-nil, map-append, take_more}
 use Rattle.std.proofs.lemmas.List.Elements.{Contains-get_or}
@@ -19,5 +19,5 @@ one_more_name names ids i name within at =
     ∙ ap (λ (n : List ℕ). flat_map (λ m. 32 ∷ m) (names_at names (take i ids)) ++ n) (append-nil (32 ∷ get_or names (get_or ids i 0) []) ∙ ap (λ (n : List ℕ). 32 ∷ n) found)))
 
 -- listed ids are below the set's bound
-pub listed_within : (set : List Bool) (ids : List ℕ) → Lists set ids → All (λ id. id < length set) ids
+pub listed_within : (set : List Bool) (ids : List ℕ) → Lists (Has set) ids → All (λ id. id < length set) ids
 listed_within set ids lists k d within = has_within set _ ((lists.same _).0 (Contains-get_or ids k d within))

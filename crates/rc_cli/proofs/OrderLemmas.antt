@@ -1,11 +1,14 @@
 -- What byte order gives: texts that each stand before the next are in order, and lists in order with the same members are equal.
-use Rattle.std.proofs.Common.{◌≡◌, ◌∙◌, ℕ, ◌+◌, ◌-◌, ◌<◌, ◌≤◌, ◌↔◌, ◌⊎◌, inl, inr, List, [], ◌∷◌, ◌++◌, length, get_or, take, Contains, zero, suc, arith, refl, sym, ap, subst, add-one}
+use Rattle.std.proofs.Common.{◌≡◌, ◌∙◌, ℕ, ◌+◌, ◌<◌, ◌≤◌, ◌↔◌, ◌⊎◌, inl, inr, List, [], ◌∷◌, ◌++◌, length, get_or, take, Contains, Bool, true, false, IsTrue, zero, suc, arith, refl, sym, ap, subst, add-one}
 use Rattle.std.proofs.lemmas.Bool.{cases_lt}
 use Rattle.std.proofs.lemmas.Cmp.{nat_list_cmp_total}
-use Rattle.std.proofs.lemmas.List.{take_more, length-take, get_or-take, get_or_default}
+use Rattle.std.proofs.lemmas.List.{take_more, length-take, get_or-take}
 use Rattle.std.proofs.lemmas.List.Elements.{Contains-append_left, Contains-push, Contains-push_cases}
-use Rattle.std.specs.Ordering.{ordering_reverse}
-use Rattle.std.specs.declared.cmp.Ordering.TheVariants.{Less, Greater}
+use Rattle.std.specs.List.{IsAllAdjacentAnswer}
+use Rattle.std.specs.Cmp.Lexicographic.{slice_cmp}
+use Rattle.std.specs.Ordering.{is_lt, nat_cmp, ordering_reverse}
+use Rattle.std.specs.declared.cmp.Ordering.{Ordering}
+use Rattle.std.specs.declared.cmp.Ordering.TheVariants.{Less, Equal, Greater}
 use Rattle.rc_names.specs.Names.{IsBefore, IsInByteOrder, Adds}
 
 -- no two texts stand before each other
@@ -25,23 +28,39 @@ before_later texts i (suc j) d next low within =
       | inr upper ↦ let same : i ≡ j = omega arith in rw same step
     ]
 
--- one more text stands behind the one before it
-pub ascends_more : (texts : List (List ℕ)) (i : ℕ) → 0 < i → AscendsTo texts i → ((d : List ℕ) → IsBefore (get_or texts (i - 1) d) (get_or texts i d)) → AscendsTo texts (i + 1)
-ascends_more texts i some before here = λ k d low. elim (cases_lt (k + 1) i) [
-  | inl lower ↦ before k d lower
-  | inr upper ↦
-      let last : k ≡ i - 1 = omega arith in
-      let next : k + 1 ≡ i = omega arith in
-      rw (next, last) (here d)
-]
+-- whether a text stands before another
+abbrev pub before : List ℕ → List ℕ → Bool
+before a b = is_lt (slice_cmp nat_cmp a b)
+
+not_lt : (o : Ordering) → (o ≡ Less → IsTrue false) → false ≡ is_lt o
+not_lt Less h = h refl
+not_lt Equal h = refl
+not_lt Greater h = refl
+
+-- an answer that is true just where a text stands before another
+pub answers_before : (a b : List ℕ) (answer : Bool) → (IsTrue answer ↔ IsBefore a b) → answer ≡ before a b
+answers_before a b true told = sym (ap is_lt (told.0 refl))
+answers_before a b false told = not_lt (slice_cmp nat_cmp a b) told.1
 
 -- texts that each stand before the next one are in order
 pub in_order_by_next : (texts : List (List ℕ)) (end : ℕ) → AscendsTo texts end → length texts ≤ end → IsInByteOrder texts
 in_order_by_next texts end next all = λ i j d low within. before_later texts i j d (λ k e inside. next k e (omega arith)) low within
 
--- a text in order stands behind the one before it
-pub order_next : (texts : List (List ℕ)) (i : ℕ) (d e : List ℕ) → 0 < i → i < length texts → IsInByteOrder texts → IsBefore (get_or texts (i - 1) d) (get_or texts i e)
-order_next texts i d e some within order = rw (get_or_default texts i e d within) (order (i - 1) i d (omega arith) within)
+lt_only : (o : Ordering) → true ≡ is_lt o → o ≡ Less
+lt_only Less h = refl
+lt_only Equal h = absurd (let no : true ≡ false = h in cc)
+lt_only Greater h = absurd (let no : true ≡ false = h in cc)
+
+-- texts of which each and the next were found in order are in order, and no others
+pub sorted_answer : (texts : List (List ℕ)) (answer : Bool) → IsAllAdjacentAnswer (λ a b found. found ≡ before a b) texts answer → IsTrue answer ↔ IsInByteOrder texts
+sorted_answer texts true each = (λ _. in_order_by_next texts (length texts) (λ k d low. lt_only _ (each k d low)) (omega arith), λ _. refl)
+sorted_answer texts false (k, within, apart) = (
+  λ bad. let no : false ≡ true = bad in cc,
+  λ order.
+      let up : IsBefore (get_or texts k []) (get_or texts (k + 1) []) = order k (k + 1) [] (omega arith) within in
+      let no : false ≡ true = apart [] ∙ ap is_lt up in
+      cc,
+)
 
 has_head : (x : List ℕ) (xs : List (List ℕ)) → Contains (x ∷ xs) x
 has_head x xs = (0, omega arith, refl)

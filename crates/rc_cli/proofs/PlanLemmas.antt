@@ -1,10 +1,14 @@
-use Rattle.std.proofs.Common.{◌≡◌, ℕ, List, Option, None, Some, IfSome, subst}
+use Rattle.std.proofs.Common.{◌≡◌, ℕ, List, Option, None, Some, IfSome, inl, inr, sym, subst, Result, Ok, Err, IfErr}
+use Rattle.std.specs.Result.{IsErrAnd}
+use Rattle.rc_cli.specs.declared.named.NamedFault.{NamedFault}
+use Rattle.rc_cli.specs.declared.named.NamedFault.TheVariants as named
 use Rattle.rc_cli.specs.declared.plan.PlanFault.{PlanFault}
 use Rattle.rc_cli.specs.declared.plan.PlanFault.TheVariants.{Bad, Version, NotSorted, Cyclic, TooMany, Dangling, Unknown, NotClosed, Memory}
 use Rattle.rc_cli.specs.Thin.{ServiceText}
 use Rattle.rc_cli.specs.Database.{service_names}
-use Rattle.rc_cli.specs.PlanText.{IsLineFor, IsPlanOf, Spells}
-use Rattle.rc_cli.specs.PlanFaults.{IsNameFault, IsRefused}
+use Rattle.rc_cli.specs.Named.{IsNamedFault}
+use Rattle.rc_cli.specs.PlanText.{AreUp, IsLineFor, IsPlanOf, Spells}
+use Rattle.rc_cli.specs.PlanFaults.{IsNameFault, IsRefused, IsToldAs}
 
 -- a line for a spelled database is the plan of the input
 pub plan_from_line : (services : List ServiceText) (names graph ups words asked : List (List ℕ)) (input line : List ℕ) → Spells services graph ups input
@@ -41,3 +45,20 @@ refused_from_names services names graph ups words asked input fault spelled name
 pub if_some_then : {T : Type 0} (o : Option T) (P Q : T → Type 0) → ((x : T) → P x → Q x) → IfSome o P → IfSome o Q
 if_some_then None P Q then h = tt
 if_some_then (Some x) P Q then h = then x h
+
+-- what a fault of words that are up is told as
+pub ups_refused : (fault : NamedFault) (refusal : PlanFault) (names graph ups asked : List (List ℕ)) → IsToldAs fault refusal → IsNamedFault fault names ups
+    → IsNameFault refusal names graph ups asked
+ups_refused (named.Unknown word) refusal names graph ups asked told wrong = subst (λ (f : PlanFault). IsNameFault f names graph ups asked) (sym told) (inl wrong)
+ups_refused named.Memory refusal names graph ups asked told wrong = subst (λ (f : PlanFault). IsNameFault f names graph ups asked) (sym told) tt
+
+-- what a fault of words that are asked for is told as
+pub asked_refused : (fault : NamedFault) (refusal : PlanFault) (names graph ups asked : List (List ℕ)) → IsToldAs fault refusal → AreUp names graph ups → IsNamedFault fault names asked
+    → IsNameFault refusal names graph ups asked
+asked_refused (named.Unknown word) refusal names graph ups asked told up wrong = subst (λ (f : PlanFault). IsNameFault f names graph ups asked) (sym told) (inr (up, wrong))
+asked_refused named.Memory refusal names graph ups asked told up wrong = subst (λ (f : PlanFault). IsNameFault f names graph ups asked) (sym told) tt
+
+-- what follows of the error that a question mark hands on
+pub err_then : {T E : Type 0} (r : Result T E) (P Q : E → Type 0) → ((e : E) → P e → Q e) → IsErrAnd r P → IfErr r Q
+err_then (Ok x) P Q then h = absurd h
+err_then (Err e) P Q then h = then e h

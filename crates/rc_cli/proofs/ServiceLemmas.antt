@@ -1,16 +1,17 @@
 -- What is seen of the services of a text, place by place.
-use Rattle.std.proofs.Common.{◌≡◌, ◌∙◌, ℕ, ◌-◌, ◌<◌, List, length, get_or, slice_get, Some, All, arith, sym, ap, subst}
+use Rattle.std.proofs.Common.{◌≡◌, ◌∙◌, ◌↔◌, ℕ, ◌+◌, ◌<◌, Bool, true, false, IsTrue, List, [], ◌∷◌, length, get_or, slice_get, Some, All, arith, ap, subst}
 use Rattle.std.proofs.lemmas.List.{get_or-map, length-map}
 use Rattle.std.proofs.lemmas.List.Elements.{All-map}
 use Rattle.std.proofs.lemmas.Option.{slice_get-map, slice_get-get_or}
+use Rattle.std.specs.List.{IsAllAdjacentAnswer}
 use Rattle.std.specs.Option.{option_map}
-use Rattle.rc_names.specs.Names.{IsBefore, IsInByteOrder}
+use Rattle.rc_names.specs.Names.{IsInByteOrder}
 use Rattle.rc_cli.specs.declared.thin.ThinService.{ThinService}
 use Rattle.rc_cli.specs.Named.{AreNamed}
 use Rattle.rc_cli.specs.Thin.{ServiceText}
 use Rattle.rc_cli.specs.ThinReading.{service_texts}
 use Rattle.rc_cli.specs.Database.{service_names, IsComplete}
-use Rattle.rc_cli.proofs.OrderLemmas.{order_next}
+use Rattle.rc_cli.proofs.OrderLemmas.{before, sorted_answer}
 
 -- a service as the text gives it
 abbrev pub text_of : ThinService → ServiceText
@@ -41,12 +42,21 @@ module _ (services : List ThinService) (i : ℕ) (e : ThinService) (within : i <
   needs_named complete =
       subst (λ (t : ServiceText). AreNamed (service_names (service_texts services)) t.needs) (text_at (text_of e)) (complete i (text_of e) (omega (arith, length-texts services)))
 
--- a name in order stands behind the one before it
-pub names_next : (services : List ThinService) (i : ℕ) (e f : ThinService) → 0 < i → i < length services → IsInByteOrder (service_names (service_texts services))
-    → IsBefore (get_or services (i - 1) e).name (get_or services i f).name
-names_next services i e f some within order =
-    rw (sym (name_at services (i - 1) e (omega arith) e.name), sym (name_at services i f within f.name))
-    (order_next (service_names (service_texts services)) i e.name f.name some (omega (arith, length-names services)) order)
+-- what was found of services and the next is what was found of their names
+names_adjacent : (services : List ThinService) (answer : Bool) → IsAllAdjacentAnswer (λ s t found. found ≡ before s.name t.name) services answer
+    → IsAllAdjacentAnswer (λ a b found. found ≡ before a b) (service_names (service_texts services)) answer
+names_adjacent [] true each = λ k d low. absurd (omega arith)
+names_adjacent (s ∷ ss) true each = λ k d low.
+    let within : k + 1 < length (s ∷ ss) = omega (arith, length-names (s ∷ ss)) in
+    rw (name_at (s ∷ ss) k s (omega arith) d, name_at (s ∷ ss) (k + 1) s within d) (each k s within)
+names_adjacent [] false (k, within, apart) = absurd (omega arith)
+names_adjacent (s ∷ ss) false (k, within, apart) =
+    (k, omega (arith, length-names (s ∷ ss)), λ d. rw (name_at (s ∷ ss) k s (omega arith) d, name_at (s ∷ ss) (k + 1) s within d) (apart s))
+
+-- services of which each and the next were found in order have names in order, and no others
+pub sorted_services : (services : List ThinService) (answer : Bool) → IsAllAdjacentAnswer (λ s t found. found ≡ before s.name t.name) services answer
+    → IsTrue answer ↔ IsInByteOrder (service_names (service_texts services))
+sorted_services services answer each = sorted_answer (service_names (service_texts services)) answer (names_adjacent services answer each)
 
 -- what each service has is what each service as the text gives it has
 pub each_text : (P : List (List ℕ) → Type 0) (services : List ThinService) → All (λ s. P s.needs.items) services → All (λ t. P t.needs) (service_texts services)

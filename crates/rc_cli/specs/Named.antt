@@ -1,4 +1,4 @@
-use Rattle.std.specs.Prelude.{◌≡◌, ◌==◌, nat_lt, ℕ, List, ◌∷◌, ◌++◌, Some, slice_get, length, map, All, Contains, filter}
+use Rattle.std.specs.Prelude.{◌≡◌, ◌==◌, nat_lt, ℕ, List, ◌∷◌, ◌++◌, Some, slice_get, length, All, Contains, filter}
 use Rattle.std.specs.List.{slice_split}
 use Rattle.rc_cli.specs.declared.named.NamedFault.{NamedFault}
 use Rattle.rc_cli.specs.declared.named.NamedFault.TheVariants.{Unknown, Memory}

@@ -2,6 +2,8 @@ use Rattle.std.specs.Prelude.{◌≡◌, ◌≢◌, ◌++◌, ℕ, List, Option,
 use Rattle.std.specs.Fmt.{decimal}
 use Rattle.rc_cli.specs.declared.plan.PlanFault.{PlanFault}
 use Rattle.rc_cli.specs.declared.plan.PlanFault.TheVariants.{Bad, Version, NotSorted, Cyclic, TooMany, Dangling, Unknown, NotClosed, Memory}
+use Rattle.rc_cli.specs.declared.named.NamedFault.{NamedFault}
+use Rattle.rc_cli.specs.declared.named.NamedFault.TheVariants as named
 use Rattle.rc_cli.specs.Input.{AppendsFront, fault_line}
 use Rattle.rc_cli.specs.Thin.{ServiceText, IsThin, thin_text}
 use Rattle.rc_cli.specs.ThinReading.{IsBadAt, HasOtherVersion, HasTooMany}
@@ -31,6 +33,11 @@ IsNameFault (Unknown word) names graph ups asked = IsUnknown names graph ups ask
 IsNameFault NotClosed names graph ups asked = IsNotClosed names graph ups
 IsNameFault Memory names graph ups asked = Unit {0}
 IsNameFault other names graph ups asked = ⊥
+
+-- a fault of named words, as a refusal
+abbrev pub IsToldAs : NamedFault → PlanFault → Type 0
+IsToldAs (named.Unknown word) fault = fault ≡ Unknown word
+IsToldAs named.Memory fault = fault ≡ Memory
 
 -- how a refusal is told
 abbrev pub fault_text : PlanFault → List ℕ

@@ -1,9 +1,10 @@
-use Rattle.std.specs.Prelude.{◌≡◌, ◌++◌, ◌⊎◌, ℕ, List, Bool, Option}
+use Rattle.std.specs.Prelude.{◌≡◌, ◌++◌, ◌⊎◌, ℕ, List, Bool, false, Option}
 use Rattle.std.specs.Io.KnownBytes.{Appends}
 use Rattle.rc_set.specs.Set.{Has, Holds}
 use Rattle.rc_graph.specs.Closure.{IsClosed}
 use Rattle.rc_select.specs.PlanSets.{PlanSets}
 use Rattle.rc_select.specs.Plan.{LeadsTo, Nothing}
+use Rattle.rc_select.specs.declared.request.Mode.TheVariants.{Up}
 use Rattle.rc_select.specs.Target.{Target}
 use Rattle.rc_cli.specs.Thin.{ServiceText, thin_text}
 use Rattle.rc_cli.specs.Database.{IsDatabase, service_names}
@@ -24,7 +25,7 @@ pub record IsLineFor (names graph ups asked : List (List ℕ)) (line : List ℕ)
   pub asked_known : AreNamed names asked
   pub up_is : Holds up (IsNamed names ups)
   pub wanted_is : Holds wanted (IsNamed names asked)
-  pub leads : LeadsTo up (Target graph (Has up) (Has wanted)) Nothing plan
+  pub leads : LeadsTo up (Target graph (Has up) Nothing Up false (Has wanted)) Nothing plan
   pub raised : IsRaiseLine names plan.raise line
 
 -- the first word that names no service, those that are up looked at before those asked for

@@ -5,6 +5,7 @@ ghost use Rattle.rc_graph.specs.Needs.{Needs};
 ghost use Rattle.rc_cli.specs.Named.{AreNamed, IsNamed};
 ghost use Rattle.rc_cli.specs.Thin.{IsThin};
 ghost use Rattle.rc_cli.specs.ThinReading.{service_texts};
+ghost use Rattle.rc_cli.specs.declared.database.DatabaseFault.TheVariants.{Memory};
 ghost use Rattle.rc_cli.specs.Database.{IsComplete, IsDatabase, IsGraphOf, IsSorted, service_names};
 ghost use Rattle.rc_cli.specs.DatabaseFaults.{IsDatabaseFault};
 
@@ -31,6 +32,14 @@ pub(crate) enum DatabaseFault {
     Memory,
 }
 
+impl From<AllocError> for DatabaseFault {
+    ghost from_gives = { λ _ fault. fault ≡ Memory };
+
+    fn from(_: AllocError) -> DatabaseFault {
+        DatabaseFault::Memory
+    }
+}
+
 /// The database of the services that a text gives.
 pub(crate) fn database_of(
     alloc: Global,
@@ -44,14 +53,8 @@ pub(crate) fn database_of(
     if !is_sorted(services) {
         return Err(DatabaseFault::NotSorted);
     }
-    let names = match names_of(alloc, services) {
-        Ok(names) => names,
-        Err(_) => return Err(DatabaseFault::Memory),
-    };
-    let draft = match draft_of(alloc, services, &names) {
-        Ok(draft) => draft,
-        Err(fault) => return Err(fault),
-    };
+    let names = names_of(alloc, services)?;
+    let draft = draft_of(alloc, services, &names)?;
     match draft.finish() {
         Ok(graph) => Ok(Database { names, graph }),
         Err(GraphFault::Cycle(_)) => Err(DatabaseFault::Cyclic),
@@ -70,12 +73,7 @@ fn is_sorted(services: &[ThinService]) -> bool
 fn names_ascend(services: &[ThinService]) -> bool
     ensures { IsTrue result ↔ IsInByteOrder (service_names (service_texts services.now)) }
 {
-    for i in 1..services.len() {
-        if !is_before(&services[i - 1].name, &services[i].name) {
-            return false;
-        }
-    }
-    true
+    services.is_sorted_by(|first, second| is_before(&first.name, &second.name))
 }
 
 /// Whether the needs of each service ascend.
@@ -91,12 +89,7 @@ fn needs_ascend(services: &[ThinService]) -> bool
 fn ascend(names: &[Name]) -> bool
     ensures { IsTrue result ↔ IsInByteOrder names.now }
 {
-    for i in 1..names.len() {
-        if !is_before(&names[i - 1], &names[i]) {
-            return false;
-        }
-    }
-    true
+    names.is_sorted_by(is_before)
 }
 
 /// Whether a name comes before another.
@@ -134,15 +127,9 @@ fn draft_of(alloc: Global, services: &[ThinService], names: &Names) -> Result<Dr
     ensures faults { IfErr result (λ fault. (fault ≡ DatabaseFault.Dangling) ⊎ (fault
         ≡ DatabaseFault.Memory)) }
 {
-    let mut draft = match Draft::new(alloc, services.len() as u16) {
-        Ok(draft) => draft,
-        Err(_) => return Err(DatabaseFault::Memory),
-    };
+    let mut draft = Draft::new(alloc, services.len() as u16)?;
     for s in 0..services.len() {
-        match add_needs(&mut draft, s as u16, services[s].needs.as_slice(), names) {
-            Ok(()) => {}
-            Err(fault) => return Err(fault),
-        }
+        add_needs(&mut draft, s as u16, services[s].needs.as_slice(), names)?;
     }
     Ok(draft)
 }
@@ -167,10 +154,7 @@ fn add_needs(
 {
     for need in needs {
         match names.find(need.text()) {
-            Some(needed) => match draft.need(service, needed) {
-                Ok(()) => {}
-                Err(_) => return Err(DatabaseFault::Memory),
-            },
+            Some(needed) => draft.need(service, needed)?,
             None => return Err(DatabaseFault::Dangling),
         }
     }

@@ -1,17 +1,14 @@
 //! A whole input under a bound, and an answer written whole.
 ghost use Rattle.std.specs.Prelude.{◌≡◌, ◌≢◌, ◌+◌, ◌<◌, ◌≤◌, ◌↔◌, length, IsTrue, IfOk, IfErr, IfSome, OnOk, vec_len};
 ghost use Rattle.std.specs.IoError.{error_kind};
-ghost use Rattle.std.specs.Io.{ReadsAtMost, WritesAtMost};
-ghost use Rattle.std.specs.Io.KnownBytes.{Appends, IsAtEnd, ReadConsumes, WriteAppends};
-ghost use Rattle.rc_cli.specs.Input.{AppendsFront, ConsumesAtMost, MovesPiece, fault_line};
+ghost use Rattle.std.specs.Io.{ReadsAtMost};
+ghost use Rattle.std.specs.Io.KnownBytes.{Appends, IsAtEnd, ReadConsumes};
+ghost use Rattle.rc_cli.specs.declared.input.InputFault.TheVariants.{Memory};
+ghost use Rattle.rc_cli.specs.Input.{AppendsFront, ConsumesAtMost, MovesPiece, fault_line, input_text};
 
-use std::alloc::Global;
+use std::alloc::{AllocError, Global};
 use std::io;
 use std::io::{ErrorKind, Read, Write};
-use thiserror::Error;
-
-#[cfg(test)]
-mod tests;
 
 /// The bytes that an input may have at most.
 pub const MAX_INPUT: usize = 16_777_216;
@@ -19,21 +16,37 @@ pub const MAX_INPUT: usize = 16_777_216;
 /// The bytes that one read asks for at most.
 const MAX_PIECE: usize = 8_192;
 
-/// The interrupted calls in a row that are each tried again.
+/// The interrupted reads in a row that are each tried again.
 const MAX_INTERRUPTS: usize = 1_000;
 
 /// An input that could not be taken whole.
-#[derive(Clone, Copy, Debug, PartialEq, Eq, Error)]
+#[derive(Clone, Copy)]
 pub enum InputFault {
     /// It has more than `MAX_INPUT` bytes.
-    #[error("TooLong")]
     TooLong,
     /// A read failed.
-    #[error("Read")]
     Read,
     /// There was no memory to hold it.
-    #[error("Memory")]
     Memory,
+}
+
+impl From<AllocError> for InputFault {
+    ghost from_gives = { λ _ fault. fault ≡ Memory };
+
+    fn from(_: AllocError) -> InputFault {
+        InputFault::Memory
+    }
+}
+
+/// A fault of the input in words.
+pub fn input_word(fault: InputFault) -> &'static [u8]
+    ensures { result.now ≡ input_text fault }
+{
+    match fault {
+        InputFault::TooLong => b"TooLong",
+        InputFault::Read => b"Read",
+        InputFault::Memory => b"Memory",
+    }
 }
 
 /// Reads all there is, up to the read that gives no byte.
@@ -52,10 +65,8 @@ pub fn read_all<R: Read>(alloc: Global, reader: &mut R) -> Result<Vec<u8>, Input
     let mut bytes = Vec::new(alloc);
     while bytes.len() <= MAX_INPUT {
         let room = MAX_INPUT + 1 - bytes.len();
-        match take_piece(reader, room, &mut bytes) {
-            Ok(0) => return Ok(bytes),
-            Ok(_) => {}
-            Err(fault) => return Err(fault),
+        if take_piece(reader, room, &mut bytes)? == 0 {
+            return Ok(bytes);
         }
     }
     Err(InputFault::TooLong)
@@ -81,10 +92,8 @@ fn take_piece<R: Read>(
     let Ok(count) = read_some(reader, &mut buffer[..most]) else {
         return Err(InputFault::Read);
     };
-    match bytes.extend_from_slice(&buffer[..count]) {
-        Ok(()) => Ok(count),
-        Err(_) => Err(InputFault::Memory),
-    }
+    bytes.extend_from_slice(&buffer[..count])?;
+    Ok(count)
 }
 
 /// One read, tried again where a signal interrupts it.
@@ -133,7 +142,8 @@ fn write_fault<F: Write>(faults: &mut F, what: &[u8]) -> io::Result<()>
     write_whole(faults, b"\n")
 }
 
-/// Writes all of `bytes`.
+/// Writes all of `bytes`. A write that fails or takes nothing is not tried again, nor is one that a
+/// signal interrupts.
 fn write_every<W: Write>(writer: &mut W, bytes: &[u8]) -> io::Result<()>
     ensures whole { OnOk result (Appends (W.contents writer.old) (W.contents writer.new)
         bytes.now) }
@@ -141,27 +151,12 @@ fn write_every<W: Write>(writer: &mut W, bytes: &[u8]) -> io::Result<()>
 {
     let mut rest = bytes;
     while !rest.is_empty() {
-        match write_some(writer, rest)? {
+        match writer.write(rest)? {
             0 => return Err(io::Error::from(ErrorKind::WriteZero)),
             count => rest = &rest[count..],
         }
     }
     Ok(())
-}
-
-/// One write, tried again where a signal interrupts it.
-fn write_some<W: Write>(writer: &mut W, bytes: &[u8]) -> io::Result<usize>
-    ensures bound { WritesAtMost result bytes.now }
-    ensures bytes { WriteAppends (W.contents writer.old) (W.contents writer.new) result
-        bytes.now }
-{
-    for _ in 0..MAX_INTERRUPTS {
-        match writer.write(bytes) {
-            Err(e) if is_interrupted(&e) => {}
-            outcome => return outcome,
-        }
-    }
-    writer.write(bytes)
 }
 
 fn is_interrupted(error: &io::Error) -> bool

@@ -10,7 +10,8 @@ pub fn thin_text_is_unique()
         thin_text a ++ x ≡ thin_text b ++ y → x ≡ y }
 {}
 
-/// No fault in form lies in bytes that begin with a thin text, so want of memory alone may refuse it.
+/// No fault in form lies in bytes that begin with a thin text. Its names may still not ascend, and what
+/// is needed may still be no service.
 pub fn thin_text_is_not_refused()
     ensures bad { (services : List ServiceText) (rest : List ℕ) (offset : ℕ) → IsThin services →
         IsBadAt (thin_text services ++ rest) offset → ⊥ }

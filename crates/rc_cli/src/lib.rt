@@ -7,8 +7,6 @@ mod input;
 pub mod laws;
 mod named;
 mod plan;
-#[cfg(test)]
-mod streams;
 mod thin;
 mod words;
 

@@ -1,11 +1,12 @@
 //! Words that name services.
 ghost use Rattle.std.specs.Prelude.{◌≡◌, ◌<◌, ℕ, List, length, map, slice_get, Some, All, Contains, IfOk, IfErr, IfSome, IfNone};
 ghost use Rattle.rc_set.specs.Set.{Holds};
+ghost use Rattle.rc_cli.specs.declared.named.NamedFault.TheVariants.{Memory};
 ghost use Rattle.rc_cli.specs.Named.{IsNamed, AreNamed, IsNamedFault, word_lines};
 
 use rc_names::Names;
 use rc_set::{NoMem, Set};
-use std::alloc::Global;
+use std::alloc::{AllocError, Global};
 use std::str;
 
 /// Why words are no set of services.
@@ -14,6 +15,14 @@ pub(crate) enum NamedFault<'a> {
     /// The first word that names no service.
     Unknown(&'a [u8]),
     Memory,
+}
+
+impl From<AllocError> for NamedFault<'_> {
+    ghost from_gives = { λ _ fault. fault ≡ Memory };
+
+    fn from(_: AllocError) -> Self {
+        NamedFault::Memory
+    }
 }
 
 /// The lines of a list of words: empty ones do not count, and the last may lack its newline.
@@ -40,10 +49,7 @@ pub(crate) fn named_set<'a>(
     ensures fault { IfErr result (λ fault. IsNamedFault fault names.now
         (map (λ w. w.now) words.now)) }
 {
-    let mut set = match Set::empty(alloc, names.len()) {
-        Ok(set) => set,
-        Err(_) => return Err(NamedFault::Memory),
-    };
+    let mut set = Set::empty(alloc, names.len())?;
     for word in words {
         match find(names, word) {
             Some(id) => set.insert(id),

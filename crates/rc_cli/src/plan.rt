@@ -3,22 +3,22 @@ ghost use Rattle.std.specs.Prelude.{◌≡◌, ◌≢◌, ◌⊎◌, ℕ, List, 
 ghost use Rattle.std.specs.Io.KnownBytes.{Appends};
 ghost use Rattle.rc_cli.specs.Input.{AppendsFront, fault_line};
 ghost use Rattle.rc_cli.specs.Words.{IsWrongLine, names_asked};
-ghost use Rattle.rc_cli.specs.PlanText.{AreUp, IsLineFor, IsPlanOf, WritesPlan};
-ghost use Rattle.rc_cli.specs.Named.{IsNamedFault};
-ghost use Rattle.rc_cli.specs.PlanFaults.{BeginsWith, IsNameFault, IsRefused, TellsFault, fault_text};
+ghost use Rattle.rc_cli.specs.PlanText.{IsLineFor, IsPlanOf, WritesPlan};
+ghost use Rattle.rc_cli.specs.PlanFaults.{BeginsWith, IsNameFault, IsRefused, IsToldAs, TellsFault, fault_text};
+ghost use Rattle.rc_cli.specs.declared.plan.PlanFault.TheVariants.{Memory};
 ghost use Rattle.rc_cli.specs.Thin.{ServiceText};
 ghost use Rattle.rc_cli.specs.ThinReading.{IsFormFault};
 ghost use Rattle.rc_cli.specs.DatabaseFaults.{IsDatabaseFault};
 
 use crate::answer::raise_line;
 use crate::database::{Database, DatabaseFault, database_of};
-use crate::input::{InputFault, read_all, tell, write_whole};
+use crate::input::{input_word, read_all, tell, write_whole};
 use crate::named::{NamedFault, named_set, word_lines};
 use crate::thin::{FormFault, read_thin_front};
 use crate::words::{asked, is_memory, write_usage};
 use rc_select::plan_up;
 use rc_set::NoMem;
-use std::alloc::Global;
+use std::alloc::{AllocError, Global};
 use std::io::{Read, Write};
 
 /// Why there is no plan to print.
@@ -41,6 +41,51 @@ pub enum PlanFault<'a> {
     /// What is up lacks something that it needs.
     NotClosed,
     Memory,
+}
+
+impl From<AllocError> for PlanFault<'_> {
+    ghost from_gives = { λ _ fault. fault ≡ Memory };
+
+    fn from(_: AllocError) -> Self {
+        PlanFault::Memory
+    }
+}
+
+impl From<FormFault> for PlanFault<'_> {
+    ghost from_gives = { λ form fault. (asked : List (List ℕ)) (input : List ℕ) → IsFormFault form input → IsRefused fault asked input };
+
+    fn from(fault: FormFault) -> Self {
+        match fault {
+            FormFault::Bad(offset) => PlanFault::Bad(offset),
+            FormFault::Version => PlanFault::Version,
+            FormFault::TooMany => PlanFault::TooMany,
+            FormFault::Memory => PlanFault::Memory,
+        }
+    }
+}
+
+impl From<DatabaseFault> for PlanFault<'_> {
+    ghost from_gives = { λ database fault. (asked : List (List ℕ)) (input : List ℕ) (services : List ServiceText) → BeginsWith services input → IsDatabaseFault database services → IsRefused fault asked input };
+
+    fn from(fault: DatabaseFault) -> Self {
+        match fault {
+            DatabaseFault::NotSorted => PlanFault::NotSorted,
+            DatabaseFault::Dangling => PlanFault::Dangling,
+            DatabaseFault::Cyclic => PlanFault::Cyclic,
+            DatabaseFault::Memory => PlanFault::Memory,
+        }
+    }
+}
+
+impl<'a> From<NamedFault<'a>> for PlanFault<'a> {
+    ghost from_gives = { IsToldAs };
+
+    fn from(fault: NamedFault<'a>) -> Self {
+        match fault {
+            NamedFault::Unknown(word) => PlanFault::Unknown(word),
+            NamedFault::Memory => PlanFault::Memory,
+        }
+    }
 }
 
 /// Done.
@@ -97,7 +142,7 @@ pub fn plan_run<R: Read, W: Write, F: Write>(
     let input = match read_all(alloc, reader) {
         Ok(input) => input,
         Err(fault) => {
-            tell(faults, word_of(fault));
+            tell(faults, input_word(fault));
             return FAILED;
         }
     };
@@ -114,20 +159,10 @@ fn plan_of<'a>(alloc: Global, asked: &[&'a str], input: &'a [u8]) -> Result<Vec<
     ensures fault { IfErr result (λ fault. IsRefused fault (map
         (λ n. n.now) asked.entry.now) input.entry.now) }
 {
-    let (services, taken) = match read_thin_front(alloc, input) {
-        Ok(read) => read,
-        Err(fault) => return Err(of_form(fault)),
-    };
-    let database = match database_of(alloc, &services) {
-        Ok(database) => database,
-        Err(fault) => return Err(of_database(fault)),
-    };
-    let Ok(ups) = word_lines(alloc, &input[taken..]) else {
-        return Err(PlanFault::Memory);
-    };
-    let Ok(wanted) = bytes_of(alloc, asked) else {
-        return Err(PlanFault::Memory);
-    };
+    let (services, taken) = read_thin_front(alloc, input)?;
+    let database = database_of(alloc, &services)?;
+    let ups = word_lines(alloc, &input[taken..])?;
+    let wanted = bytes_of(alloc, asked)?;
     line_for(alloc, &database, &ups, &wanted)
 }
 
@@ -152,60 +187,13 @@ fn line_for<'a>(
     ensures fault { IfErr result (λ fault. IsNameFault fault database.now.names database.now.graph
         (map (λ w. w.now) ups.entry.now) (map (λ w. w.now) asked.entry.now)) }
 {
-    let up = match named_set(alloc, &database.names, ups) {
-        Ok(up) => up,
-        Err(fault) => return Err(of_named(fault)),
-    };
+    let up = named_set(alloc, &database.names, ups)?;
     if !database.graph.closed(&up) {
         return Err(PlanFault::NotClosed);
     }
-    let wanted = match named_set(alloc, &database.names, asked) {
-        Ok(wanted) => wanted,
-        Err(fault) => return Err(of_named(fault)),
-    };
-    let Ok(plan) = plan_up(alloc, &database.graph, &up, &wanted) else {
-        return Err(PlanFault::Memory);
-    };
-    match raise_line(alloc, &database.names, plan.raise()) {
-        Ok(line) => Ok(line),
-        Err(_) => Err(PlanFault::Memory),
-    }
-}
-
-fn of_form<'a>(fault: FormFault) -> PlanFault<'a>
-    ensures { (asked : List (List ℕ)) (input : List ℕ) → IsFormFault fault input →
-        IsRefused result asked input }
-{
-    match fault {
-        FormFault::Bad(offset) => PlanFault::Bad(offset),
-        FormFault::Version => PlanFault::Version,
-        FormFault::TooMany => PlanFault::TooMany,
-        FormFault::Memory => PlanFault::Memory,
-    }
-}
-
-fn of_database<'a>(fault: DatabaseFault) -> PlanFault<'a>
-    ensures { (asked : List (List ℕ)) (input : List ℕ) (services : List ServiceText) →
-        BeginsWith services input → IsDatabaseFault fault services → IsRefused result asked input }
-{
-    match fault {
-        DatabaseFault::NotSorted => PlanFault::NotSorted,
-        DatabaseFault::Dangling => PlanFault::Dangling,
-        DatabaseFault::Cyclic => PlanFault::Cyclic,
-        DatabaseFault::Memory => PlanFault::Memory,
-    }
-}
-
-fn of_named<'a>(fault: NamedFault<'a>) -> PlanFault<'a>
-    ensures ups { (names graph ups asked : List (List ℕ)) → IsNamedFault fault.entry names ups →
-        IsNameFault result names graph ups asked }
-    ensures asked { (names graph ups asked : List (List ℕ)) → AreUp names graph ups →
-        IsNamedFault fault.entry names asked → IsNameFault result names graph ups asked }
-{
-    match fault {
-        NamedFault::Unknown(word) => PlanFault::Unknown(word),
-        NamedFault::Memory => PlanFault::Memory,
-    }
+    let wanted = named_set(alloc, &database.names, asked)?;
+    let plan = plan_up(alloc, &database.graph, &up, &wanted)?;
+    Ok(raise_line(alloc, &database.names, plan.raise())?)
 }
 
 /// Writes the answer whole, or tells that it could not.
@@ -264,14 +252,3 @@ fn text_of(alloc: Global, fault: PlanFault<'_>) -> Result<Vec<u8>, NoMem>
         PlanFault::Memory => Vec::from_slice(alloc, b"Memory"),
     }
 }
-
-fn word_of(fault: InputFault) -> &'static [u8] {
-    match fault {
-        InputFault::TooLong => b"TooLong",
-        InputFault::Read => b"Read",
-        InputFault::Memory => b"Memory",
-    }
-}
-
-#[cfg(test)]
-mod tests;

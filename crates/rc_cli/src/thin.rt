@@ -6,9 +6,6 @@ ghost use Rattle.rc_cli.specs.ThinLine.{IsWord, EndsWord, IsRefusedLine};
 ghost use Rattle.rc_cli.specs.ThinReading.{IsNumber, IsFormFault, HasNo, service_texts};
 ghost use Rattle.rc_cli.specs.ThinReading.Due.{OfName, OfNeeds};
 
-#[cfg(test)]
-mod tests;
-
 use rc_names::{Name, NameFault};
 use std::alloc::Global;
 

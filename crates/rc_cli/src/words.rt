@@ -100,6 +100,3 @@ pub fn is_memory(error: &Error) -> bool
 pub fn write_usage<W: Write>(error: &Error, faults: &mut W) {
     let _ = write!(faults, "{error}");
 }
-
-#[cfg(test)]
-mod tests;

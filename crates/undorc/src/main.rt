@@ -1,10 +1,13 @@
 //! `undorc`: hands the process's words and streams to the library.
 #![tactic(auto)]
 
+mod own_name;
+
+use crate::own_name::OwnName;
 use rc_cli::plan_run;
-use std::env;
 use std::io::ErrorKind;
 use std::process::ExitCode;
+use std::{env, io};
 
 /// A wrong command line.
 const WRONG_LINE: u8 = 100;
@@ -21,29 +24,23 @@ fn main(rt: HostRuntime) -> ExitCode {
             &mut rt.stdout(),
             &mut rt.stderr(),
         ),
-        Err(status) => status,
+        Err(error) => tell(&rt, &error),
     };
     ExitCode::from(status)
 }
 
-/// The words of the command line, or the status where there are none to be had.
-fn words(rt: &HostRuntime) -> Result<Vec<String>, u8> {
-    let words = match env::args(rt) {
-        Ok(words) => words.collect(rt.alloc()),
-        Err(error) if error.kind() == ErrorKind::InvalidData => {
-            let _ = rt.eprintln("undorc: a word of the command line is not UTF-8");
-            return Err(WRONG_LINE);
-        }
-        Err(_) => {
-            let _ = rt.eprintln("undorc: Memory");
-            return Err(FAILED);
-        }
-    };
-    match words {
-        Ok(words) => Ok(words),
-        Err(_) => {
-            let _ = rt.eprintln("undorc: Memory");
-            Err(FAILED)
-        }
+/// The words of the command line, the first of them the program's own name.
+fn words(rt: &HostRuntime) -> io::Result<Vec<String>> {
+    let words = env::args(&(OwnName::new(rt), rt.alloc()))?;
+    Ok(words.collect(rt.alloc())?)
+}
+
+/// Tells why there are no words, and answers the status.
+fn tell(rt: &HostRuntime, error: &io::Error) -> u8 {
+    if error.kind() == ErrorKind::InvalidData {
+        let _ = rt.eprintln("undorc: a word of the command line is not UTF-8");
+        return WRONG_LINE;
     }
+    let _ = rt.eprintln("undorc: Memory");
+    FAILED
 }

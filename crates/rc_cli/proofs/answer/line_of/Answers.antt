@@ -1,6 +1,4 @@
-use Rattle.std.proofs.Common.{◌≡◌, ◌∙◌, ◌∷◌, ◌++◌, ◌+◌, [], ℕ, List, get_or, take, append_assoc}
-use Rattle.std.specs.List.{flat_map}
-use Rattle.rc_cli.specs.Answer.{names_at}
+use Rattle.std.proofs.Common.{append_assoc}
 use Rattle.rc_cli.proofs.AnswerLemmas.{one_more_name}
 use Rattle.rc_cli.proofs.answer.line_of.Goals as goal
 

@@ -1,4 +1,4 @@
-use Rattle.std.proofs.Common.{ℕ, List, All, ◌<◌, length, subst, sym, ◌∙◌}
+use Rattle.std.proofs.Common.{ℕ, List, All, ◌<◌, length, subst, sym}
 use Rattle.rc_cli.proofs.AnswerLemmas.{listed_within}
 use Rattle.rc_cli.proofs.answer.raise_line.Goals as goal
 

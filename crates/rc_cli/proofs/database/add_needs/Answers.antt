@@ -15,7 +15,7 @@ loop-need-preserved c =
     let more : take (c.loop-need.need-index + 1) c.args.needs.now ≡ front ++ c.need-item.result ∷ [] =
     take_more c.args.needs.now c.loop-need.need-index c.need-item.result c.loop-need-test.true ∙ ap (λ (n : List ℕ). front ++ n ∷ []) (sym c.need-item.is) in
     rw more (added_one c.args.names.now c.args.service c.args.draft.now c.loop-need.draft c.need.new.self front c.need-item.result c.in-Some.needed c.requires.sorted c.loop-need.invariant
-    (c.in-Some.ensures.found ∙ ap Some c.text.ensures.bytes) c.need.ensures.bound c.in-Ok.ensures.pairs)
+    (c.in-Some.ensures.found ∙ ap Some c.text.ensures.bytes) c.need.ensures.bound c.in_ok-need-in-Some.ensures.pairs)
 
 pub returns-clause-pairs : goal.returns-clause-pairs
 returns-clause-pairs c =

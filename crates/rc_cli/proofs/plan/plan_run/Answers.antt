@@ -1,4 +1,4 @@
-use Rattle.std.proofs.Common.{◌≡◌, ◌∙◌, ℕ, List, map, string_bytes, ap, subst}
+use Rattle.std.proofs.Common.{◌∙◌, ℕ, List, map, string_bytes, ap, subst}
 use Rattle.rc_cli.specs.PlanFaults.{IsRefused, TellsFault}
 use Rattle.rc_cli.specs.Words.{names_asked}
 use Rattle.rc_cli.proofs.PlanLemmas.{if_some_then}
