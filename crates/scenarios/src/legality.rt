@@ -3,9 +3,10 @@
 ghost use Rattle.std.specs.Prelude.{◌≤◌};
 
 use crate::plain::{Plain, is_legal};
-use crate::sample::{graph_of, run_between};
+use crate::sample::run_between;
 use rc_core::{Event, Outcome};
 use rc_graph::Graph;
+use samples::graph_of;
 use std::alloc::Global;
 use std::process::Abort;
 use std::test::Fail;

@@ -1,52 +1,17 @@
-//! Small graphs, and runs on them.
+//! Runs on small graphs.
 
-ghost use Rattle.std.specs.Prelude.{◌≡◌, ◌≤◌, ◌<◌, [], length, IfOk};
+ghost use Rattle.std.specs.Prelude.{◌≡◌, length};
+ghost use Rattle.rc_set.specs.Set.{Has};
+ghost use Rattle.rc_graph.specs.Closure.{IsClosed};
 
-use rc_core::{Outcome, Run, Took};
-use rc_graph::{Draft, Graph};
+use rc_core::{Event, NotLegal, Run};
+use rc_graph::Graph;
 use rc_select::between;
 use rc_set::{NoMem, Set};
+use samples::set_of;
 use std::alloc::Global;
 use std::process::Abort;
 use std::test::Fail;
-
-// In the order of their names.
-pub(crate) const DB: u16 = 0;
-
-pub(crate) const LOG: u16 = 1;
-
-pub(crate) const NET: u16 = 2;
-
-pub(crate) const ROOT: u16 = 3;
-
-pub(crate) const WEB: u16 = 4;
-
-pub(crate) const SAMPLE: [(u16, u16); 4] = [(NET, ROOT), (DB, NET), (WEB, DB), (WEB, LOG)];
-
-pub(crate) fn graph_of(alloc: Global, services: u16, pairs: &[(u16, u16)]) -> Result<Graph, Fail>
-    requires { services ≤ 4096 }
-{
-    let mut draft = Draft::new(alloc, services)?;
-    for (service, needed) in pairs {
-        if *service < draft.len() && *needed < draft.len() {
-            draft.need(*service, *needed)?;
-        }
-    }
-    Ok(draft.finish()?)
-}
-
-pub(crate) fn set_of(alloc: Global, bound: u16, ids: &[u16]) -> Result<Set, NoMem>
-    requires { bound ≤ 4096 }
-    ensures { IfOk result (λ set. length set ≡ bound) }
-{
-    let mut set = Set::empty(alloc, bound)?;
-    for id in ids {
-        if *id < set.bound() {
-            set.insert(*id);
-        }
-    }
-    Ok(set)
-}
 
 // A run from one closed set to another.
 pub(crate) fn run_between(
@@ -56,45 +21,33 @@ pub(crate) fn run_between(
     from: &[u16],
     to: &[u16],
     deadline: Option<u64>,
-) -> Result<Run, Fail>
-    ensures { IfOk result (λ run. length run.course.needs ≡ length graph.now) }
-{
+) -> Result<Run, Fail> {
     let from = set_of(alloc, graph.len(), from)?;
     let to = set_of(alloc, graph.len(), to)?;
-    assert!(rt; graph.closed(&from) && graph.closed(&to));
-    let plan = between(alloc, graph, &from, &to)?;
-    Ok(Run::open(alloc, graph, &plan, deadline)?)
+    assert!(rt; graph.closed(&from));
+    assert!(rt; graph.closed(&to));
+    Ok(open_between(alloc, graph, &from, &to, deadline)?)
 }
 
-// The service that a worker is given.
-pub(crate) fn taken(run: &mut Run, worker: u8) -> Result<Option<u16>, Fail>
-    ensures { IfOk result (λ service. run.new.course ≡ run.old.course) }
+fn open_between(
+    alloc: Global,
+    graph: &Graph,
+    from: &Set,
+    to: &Set,
+    deadline: Option<u64>,
+) -> Result<Run, NoMem>
+    requires from_bound { length from.now ≡ length graph.now }
+    requires to_bound { length to.now ≡ length graph.now }
+    requires from_closed { IsClosed graph.now (Has from.now) }
+    requires to_closed { IsClosed graph.now (Has to.now) }
 {
-    match run.take(worker)? {
-        Took::Job(job) => Ok(Some(job.service())),
-        Took::Wait | Took::Settled => Ok(None),
-    }
+    let plan = between(alloc, graph, from, to)?;
+    Run::open(alloc, graph, &plan, deadline)
 }
 
-// One worker takes what it is given, and each transition succeeds, until there is no job. The services in their order.
-pub(crate) fn run_on(alloc: Global, run: &mut Run, jobs: usize) -> Result<Vec<u16>, Fail>
-    ensures { IfOk result (λ services. run.new.course ≡ run.old.course) }
-{
-    let mut services = Vec::new(alloc);
-    for _ in 0..jobs {
-        if let Some(service) = taken(run, 1)? {
-            run.done(1, service, Outcome::Ok)?;
-            services.push(service)?;
-        }
+pub(crate) fn make(run: &mut Run, events: &[Event]) -> Result<(), NotLegal> {
+    for event in events {
+        run.step(*event)?;
     }
-    Ok(services)
-}
-
-// As many services as there may be, of which each but the first needs the first.
-pub(crate) fn widest_fan(alloc: Global) -> Result<Graph, Fail> {
-    let mut pairs = Vec::new(alloc);
-    for service in 1..4096 {
-        pairs.push((service, 0))?;
-    }
-    graph_of(alloc, 4096, &pairs)
+    Ok(())
 }

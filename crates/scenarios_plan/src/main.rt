@@ -1,0 +1,96 @@
+//! Runs `undorc plan` over readers and writers that give pieces, are interrupted, or fail, and prints
+//! of each run its status, what was written and what was told.
+#![tactic(auto)]
+
+mod devices;
+
+use crate::devices::{Sink, Source};
+use rc_cli::plan_run;
+use std::io::ErrorKind;
+use std::io::ErrorKind::{BrokenPipe, Interrupted};
+use std::{io, str};
+
+/// Five services, and that `root` is up.
+const INPUT: &str =
+    "undorc-db 0\nservices 5\nservice db\nneeds net\nservice log\nneeds\nservice net\nneeds root\nservice root\nneeds\nservice web\nneeds db log\nend\nroot\n";
+
+const ALL: usize = 4_096;
+
+const EVER: usize = usize::MAX;
+
+/// Readers: the bytes that a read gives at most, how often each is interrupted before it does, and how
+/// many do so before all fail.
+static READERS: [(&str, usize, usize, usize); 9] = [
+    ("in pieces of 1 byte", 1, 0, EVER),
+    ("in pieces of 7 bytes", 7, 0, EVER),
+    ("in pieces of 100 bytes", 100, 0, EVER),
+    ("each read interrupted once", ALL, 1, EVER),
+    ("each read interrupted 1,000 times", ALL, 1_000, EVER),
+    ("each read interrupted 1,001 times", ALL, 1_001, EVER),
+    ("the first read fails", ALL, 0, 0),
+    ("the third byte fails", 1, 0, 2),
+    ("the read at the end fails", ALL, 0, 1),
+];
+
+/// Writers: the bytes that a write takes at most, the calls that do well, flushes among them, and how
+/// all later ones fail.
+static WRITERS: [(&str, usize, usize, ErrorKind); 8] = [
+    ("2 bytes a write", 2, EVER, BrokenPipe),
+    ("a write that takes nothing", 0, EVER, BrokenPipe),
+    ("the first write fails", ALL, 0, BrokenPipe),
+    ("the third write fails", 2, 2, BrokenPipe),
+    ("the flush fails", ALL, 1, BrokenPipe),
+    ("the first write is interrupted", ALL, 0, Interrupted),
+    ("the third write is interrupted", 2, 2, Interrupted),
+    ("the flush is interrupted", ALL, 1, Interrupted),
+];
+
+/// Writers of faults, where the first read fails: the bytes that a write takes at most, and the calls
+/// that do well.
+static TELLERS: [(&str, usize, usize); 3] = [
+    ("nothing can be told", ALL, 0),
+    ("the second part of what is told fails", ALL, 1),
+    ("1 byte of what is told a write", 1, EVER),
+];
+
+fn main(rt: HostRuntime) -> io::Result<()> {
+    let alloc = rt.alloc();
+    for (what, piece, interrupts, good) in READERS {
+        let reader = Source::new(INPUT.as_bytes(), piece, interrupts, good);
+        let writer = Sink::new(alloc, ALL, EVER, BrokenPipe);
+        let faults = Sink::new(alloc, ALL, EVER, BrokenPipe);
+        show(&rt, what, reader, writer, faults)?;
+    }
+    for (what, piece, good, error) in WRITERS {
+        let reader = Source::new(INPUT.as_bytes(), ALL, 0, EVER);
+        let writer = Sink::new(alloc, piece, good, error);
+        let faults = Sink::new(alloc, ALL, EVER, BrokenPipe);
+        show(&rt, what, reader, writer, faults)?;
+    }
+    for (what, piece, good) in TELLERS {
+        let reader = Source::new(INPUT.as_bytes(), ALL, 0, 0);
+        let writer = Sink::new(alloc, ALL, EVER, BrokenPipe);
+        let faults = Sink::new(alloc, piece, good, BrokenPipe);
+        show(&rt, what, reader, writer, faults)?;
+    }
+    Ok(())
+}
+
+/// One run, in a line.
+fn show(
+    rt: &(impl Print + AllocGlobal),
+    what: &str,
+    mut reader: Source<'_>,
+    mut writer: Sink,
+    mut faults: Sink,
+) -> io::Result<()> {
+    let alloc = rt.alloc();
+    let mut words = Vec::new(alloc);
+    for word in ["undorc", "plan", "web"] {
+        words.push(String::from_str(alloc, word)?)?;
+    }
+    let status = plan_run(alloc, &words, None, &mut reader, &mut writer, &mut faults);
+    let written = str::from_utf8(&writer.taken).unwrap_or("no text");
+    let told = str::from_utf8(&faults.taken).unwrap_or("no text");
+    println!(rt; "{what}: {status} {written:?} {told:?}")
+}

@@ -1,0 +1,5 @@
+//! Texts and what is read of them.
+#![tactic(auto)]
+
+#[cfg(test)]
+mod forms;
