@@ -3,19 +3,22 @@
 PREFIX ?= /usr/local
 PROGRAM := crates/undorc/out/undorc
 SAMPLES := docs/samples
+SOURCES := $(shell find crates -name out -prune -o -type f -print) crates.txt
 
 .PHONY: build demo test install
 
-# Only a proved crate is built, so the first build proves everything below the program.
-build:
-	@mkdir -p crates/undorc/out
-	cd crates/undorc && rt run -- plan < ../../$(SAMPLES)/thin.txt > out/build.log 2>&1 || { cat out/build.log; exit 1; }
+# Only a proved crate is built, so the first build proves everything below the program. `make test`
+# builds the program too.
+build: $(PROGRAM)
+
+$(PROGRAM): $(SOURCES)
+	@sh tests/build.sh
 
 demo: build
 	cat $(SAMPLES)/thin.txt $(SAMPLES)/up-root.txt | $(PROGRAM) plan -u web
 
 test:
-	rt ci
+	@sh tests/all.sh
 
 install: build
 	install -D -m 755 $(PROGRAM) "$(DESTDIR)$(PREFIX)/bin/undorc"

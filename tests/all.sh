@@ -1,0 +1,35 @@
+#!/bin/sh
+# The whole gate: every proof and stored run, and then the built program from outside.
+# The last line is 'N passed, M failed' over both, and the status is 0 where all passed.
+set -eu
+cd "$(dirname "$0")/.."
+room=$(mktemp -d)
+trap 'rm -rf "$room"' EXIT
+passed=0
+failed=0
+
+# Runs a command whose last line counts what passed and what failed, and adds that up. A command that
+# ends badly without saying what failed is one failure.
+count() {
+    echo 1 > "$room/status"
+    { status=0; "$@" || status=$?; echo "$status" > "$room/status"; } 2>&1 | tee "$room/said"
+    line=$(tail -n 1 "$room/said")
+    good=$(echo "$line" | sed -n 's/^\([0-9]*\) passed, [0-9]* failed$/\1/p')
+    bad=$(echo "$line" | sed -n 's/^[0-9]* passed, \([0-9]*\) failed$/\1/p')
+    if [ -z "$good" ] || { [ "$(cat "$room/status")" -ne 0 ] && [ "$bad" = 0 ]; }; then
+        echo "FAILED: $*: it ended with status $(cat "$room/status"), and did not say what failed"
+        bad=$((${bad:-0} + 1))
+    fi
+    passed=$((passed + ${good:-0}))
+    failed=$((failed + bad))
+}
+
+# The gate builds the program twice, by LLVM and by Rattle's own compiler.
+count rt ci
+count sh tests/program.sh crates/undorc/out/undorc
+if [ -f crates/undorc/out/undorc.by-rattle ]; then
+    count sh tests/program.sh crates/undorc/out/undorc.by-rattle
+fi
+
+echo "$passed passed, $failed failed"
+[ "$failed" -eq 0 ]

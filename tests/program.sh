@@ -1,0 +1,269 @@
+#!/bin/sh
+# Runs the built program from outside: words and input in, status and both outputs out.
+# The last line is 'N passed, M failed', and the status is 0 where none failed.
+set -eu
+program=$(realpath "$1")
+samples=$(realpath "$(dirname "$0")/../docs/samples")
+room=$(mktemp -d)
+trap 'rm -rf "$room"' EXIT
+cd "$room"
+passed=0
+failed=0
+
+# Texts are written as printf's %b reads them, each on one line.
+sample=$(sed 's/$/\\n/' "$samples/thin.txt" | tr -d '\n')
+one='undorc-db 0\nservices 1\n'
+strange=$(printf '\377')
+
+# with OLD NEW: the sample with other words in one place.
+with() {
+    printf '%s' "$sample" | sed "s/$1/$2/"
+}
+
+# judge WHAT STATUS: the files `status`, `out` and `err` against what is wanted.
+judge() {
+    if [ "$(cat status)" -eq "$2" ] && cmp -s out out.wanted && cmp -s err err.wanted; then
+        passed=$((passed + 1))
+        return
+    fi
+    failed=$((failed + 1))
+    echo "FAILED: $1: status $(cat status), not $2; it wrote and told:"
+    cat out err
+}
+
+# One run: status, output, fault line, input, and the words.
+expect() {
+    wanted=$1
+    printf '%b' "$2" > out.wanted
+    printf '%b' "$3" > err.wanted
+    printf '%b' "$4" > in
+    shift 4
+    echo 0 > status
+    "$program" "$@" < in > out 2> err || echo $? > status
+    judge "undorc $*" "$wanted"
+}
+
+# A run on the sample, with `root` up: status, output, fault line, and the words.
+on_sample() {
+    wanted=$1
+    output=$2
+    fault=$3
+    shift 3
+    expect "$wanted" "$output" "$fault" "${sample}root\n" "$@"
+}
+
+# A text that is refused: the fault and the text.
+refused() {
+    expect 1 '' "undorc: $1\n" "$2" plan web
+}
+
+# A wrong command line: it ends with 100, something is told, nothing written, and nothing read.
+wrong() {
+    printf '%b' "$sample" > in
+    echo 0 > status
+    { "$program" "$@" > out 2> err || echo $? > status; cat > rest; } < in
+    if cmp -s in rest && [ -s err ]; then
+        cp err err.wanted
+    else
+        echo 'a line on standard error, and all of the input left' > err.wanted
+    fi
+    : > out.wanted
+    judge "undorc $*" 100
+}
+
+# What is told of a wrong command line has this line.
+says() {
+    passed=$((passed + 1))
+    if ! grep -q -e "$1" err; then
+        passed=$((passed - 1))
+        failed=$((failed + 1))
+        echo "FAILED: no line of the message is like '$1':"
+        cat err
+    fi
+}
+
+# Plans, and the words that ask for them.
+on_sample 0 'raise db log net web\n' '' plan -u web
+on_sample 0 'raise db log net web\n' '' plan web
+on_sample 0 'raise db log net web\n' '' plan web -u
+on_sample 0 'raise db log net web\n' '' plan -u -- web
+on_sample 0 'raise db log net web\n' '' plan web log
+on_sample 0 'raise db log net web\n' '' plan log -u web
+on_sample 0 'raise db log net\n' '' plan log db
+on_sample 0 'raise log\n' '' plan -u log
+on_sample 0 '' '' plan -u root
+on_sample 0 '' '' plan
+on_sample 0 '' '' plan -u
+expect 0 'raise db log net root web\n' '' "$sample" plan -u web
+expect 0 'raise db net web\n' '' "$sample"'\nroot\n\nroot\nlog' plan -u web
+expect 0 'raise db\n' '' "$sample"'net\nroot' plan -u db
+expect 0 '' '' 'undorc-db 0\nservices 0\nend\n' plan
+
+# Names that are no service, and sets that are not closed.
+on_sample 1 '' 'undorc: Unknown nosuch\n' plan -u nosuch
+on_sample 1 '' 'undorc: Unknown -x\n' plan -- -x
+on_sample 1 '' 'undorc: Unknown plan\n' plan plan help
+on_sample 1 '' 'undorc: Unknown help\n' plan web help
+on_sample 1 '' 'undorc: Unknown \n' plan ''
+expect 1 '' 'undorc: Unknown web\n' 'undorc-db 0\nservices 0\nend\n' plan -u web
+expect 1 '' 'undorc: Unknown \0377\n' 'undorc-db 0\nservices 0\nend\n\0377\n' plan
+expect 1 '' 'undorc: Unknown  root\n' "$sample"' root\n' plan -u web
+expect 1 '' 'undorc: Unknown nowhere\n' "$sample"'net\nnowhere\n' plan -u nosuch
+expect 1 '' 'undorc: NotClosed\n' "$sample"'net\n' plan -u web
+expect 1 '' 'undorc: NotClosed\n' "$sample"'net\n' plan -u nosuch
+
+# Databases that are none.
+refused Cyclic "$(with 'root\\nneeds\\n' 'root\\nneeds web\\n')"
+refused Dangling "$(with 'needs net' 'needs nat')"
+refused NotSorted "$(with 'needs db log' 'needs log db')"
+refused NotSorted "$(with 'needs db log' 'needs db db')"
+refused NotSorted "$(with 'service web' 'service net')"
+refused TooMany "$(with 'services 5' 'services 4097')"
+refused Version "$(with 'undorc-db 0' 'undorc-db 1')"
+refused 'Bad 12' "$(with 'services 5' 'services 05')"
+refused 'Bad 0' "$(with 'undorc-db 0' 'undorc-db')"
+refused 'Bad 34' "$(with 'needs net' 'needs net ')"
+refused 'Bad 44' "$(with 'service log' 'service -log')"
+
+# The first line.
+refused 'Bad 0' 'undorc-db 0'
+refused 'Bad 0' 'undorc-db 1'
+refused 'Bad 0' 'undorc-db 00\n'
+refused 'Bad 0' 'undorc-db 01\n'
+refused 'Bad 0' 'undorc-db -1\n'
+refused 'Bad 0' 'undorc-db\n'
+refused 'Bad 0' 'undorc-db \n'
+refused 'Bad 0' 'undorc-db 0 \n'
+refused Version 'undorc-db 1\n'
+refused Version 'undorc-db 10\nx'
+refused Version 'undorc-db 99999999999999999999\n'
+
+# The count.
+refused TooMany 'undorc-db 0\nservices 4097\n'
+refused TooMany 'undorc-db 0\nservices 99999999999999999999\n'
+refused 'Bad 12' 'undorc-db 0\nservices 04\n'
+refused 'Bad 12' 'undorc-db 0\nservices \n'
+refused 'Bad 12' 'undorc-db 0\nservices 4097'
+refused 'Bad 26' 'undorc-db 0\nservices 4096\n'
+refused 'Bad 23' 'undorc-db 0\nservices 0\n'
+refused 'Bad 23' 'undorc-db 0\nservices 0\nend'
+refused 'Bad 23' 'undorc-db 0\nservices 0\nservice a\n'
+refused 'Bad 23' "$one"'end\n'
+
+# Lines of services.
+refused 'Bad 23' "$one"'service s6rc-x\nneeds\nend\n'
+refused 'Bad 23' "$one"'service \nneeds\nend\n'
+refused 'Bad 23' "$one"'service a b\nneeds\nend\n'
+refused 'Bad 23' "$one"'service \0377\nneeds\nend\n'
+refused 'Bad 33' "$one"'service a\nneeds  net\nend\n'
+refused 'Bad 33' "$one"'service a\nneeds net \nend\n'
+refused 'Bad 33' "$one"'service a\nneeds \nend\n'
+refused 'Bad 33' "$one"'service a\nneedsb\nend\n'
+refused 'Bad 33' "$one"'service a\nneeds net\tb\nend\n'
+refused 'Bad 33' "$one"'service a\nneeds b/c\nend\n'
+refused 'Bad 41' "$one"'service a\nneeds b\nend \n'
+
+# A text that is cut short is bad at its last line, wherever it is cut.
+cut=0
+at=0
+while read -r line; do
+    end=$((at + ${#line} + 1))
+    for length in $(seq "$at" $((end - 1))); do
+        head -c "$length" "$samples/thin.txt" > in
+        "$program" plan < in > out 2> err || true
+        [ "$(cat out err)" = "undorc: Bad $at" ] || cut=$((cut + 1))
+    done
+    at=$end
+done < "$samples/thin.txt"
+echo "$cut" > status
+: > out
+: > err
+: > out.wanted
+: > err.wanted
+judge 'texts that are cut short (the status is the number of those told otherwise)' 0
+
+# Names of 255 bytes, and 4,096 services.
+long=$(printf '%0255d' 0)
+expect 0 "raise $long\n" '' "${one}service $long\nneeds\nend\n" plan "$long"
+refused 'Bad 23' "${one}service 1$long\nneeds\nend\n"
+refused 'Bad 33' "${one}"'service a\nneeds 1'"$long"'\nend\n'
+services() {
+    printf 'undorc-db 0\\nservices %d\\n' "$1"
+    awk -v count="$1" 'BEGIN { for (i = 1; i <= count; i++) printf "service s%04d\\nneeds\\n", i }'
+    printf 'end\\n'
+}
+expect 0 'raise s0001 s4096\n' '' "$(services 4096)" plan s4096 s0001
+expect 1 '' 'undorc: TooMany\n' "$(services 4097)" plan s0001
+
+# Wrong command lines. The path by which the program is started is none of its words.
+wrong
+wrong frob
+wrong -u plan
+wrong plan -d web
+wrong plan --up web
+wrong plan -u -u web
+wrong plan -uu
+wrong plan -u=web
+wrong plan -uweb
+wrong -h
+wrong --help
+wrong help
+wrong help plan
+wrong plan -h
+wrong plan --help
+says '^Usage: undorc plan \[OPTIONS\] \[NAME\]\.\.\.$'
+says '^  -u  '
+wrong plan "$strange"
+says '^undorc: a word of the command line is not UTF-8$'
+ln -s "$program" "$strange"
+known=$program
+program=./$strange
+on_sample 0 'raise db log net web\n' '' plan -u web
+wrong plan --help
+says '^Usage: undorc plan '
+program=$known
+
+# The bound of an input: one byte more is the last that is taken.
+head -c 16777216 /dev/zero | tr '\0' '\n' > whole
+echo 0 > status
+"$program" plan < whole > out 2> err || echo $? > status
+: > out.wanted
+echo 'undorc: Bad 0' > err.wanted
+judge 'an input of 16,777,216 bytes' 1
+printf '\n12345' >> whole
+echo 0 > status
+{ "$program" plan 2> err || echo $? > status; cat; } < whole > out
+printf 12345 > out.wanted
+echo 'undorc: TooLong' > err.wanted
+judge 'an input of 16,777,217 bytes, and the five behind it' 111
+
+# Devices that fail.
+printf '%b' "${sample}root\n" > in
+: > out
+: > out.wanted
+fault() {
+    printf '%b' "$2" > err.wanted
+    judge "$1" "$3"
+}
+echo 0 > status
+"$program" plan -u web < in > /dev/full 2> err || echo $? > status
+fault 'a full output' 'undorc: Write\n' 111
+echo 0 > status
+"$program" plan -u web < in >&- 2> err || echo $? > status
+fault 'a closed output' 'undorc: Write\n' 111
+echo 0 > status
+"$program" plan -u web <&- > out 2> err || echo $? > status
+fault 'a closed input' 'undorc: Read\n' 111
+echo 0 > status
+"$program" plan -u web < / > out 2> err || echo $? > status
+fault 'an input that cannot be read' 'undorc: Read\n' 111
+: > err
+echo 0 > status
+"$program" plan -u nosuch < in > out 2> /dev/full || echo $? > status
+fault 'a refusal that cannot be told' '' 1
+echo 0 > status
+"$program" plan -u nosuch < in > out 2>&- || echo $? > status
+fault 'a refusal that nobody is to be told' '' 1
+
+echo "$passed passed, $failed failed"
+[ "$failed" -eq 0 ]
