@@ -1,16 +1,13 @@
 -- Bundles that are defined and removed.
-use Rattle.std.proofs.Common.{◌≡◌, ◌≢◌, ◌↔◌, ◌⊎◌, inl, inr, ℕ, Bool, Bor, true, false, List, [], ◌∷◌, ◌++◌, length, get_or, Contains, Option, Some, None, arith, refl, sym, ap, subst, ◌∙◌}
+use Rattle.std.proofs.Common.{◌≡◌, ◌≢◌, ◌⊎◌, inl, inr, ℕ, Bool, List, [], ◌∷◌, ◌++◌, length, get_or, Contains, Option, Some, None, arith, refl, sym, ap, subst, ◌∙◌}
 use Rattle.std.proofs.lemmas.Bool.{cases_Bool, true≢false}
 use Rattle.std.proofs.lemmas.List.Elements.{Contains-push, Contains-push_cases, Contains-append_left}
 use Rattle.std.proofs.lemmas.Option.{slice_get-get_or}
 use Rattle.std.proofs.lemmas.Slice.Eq.{bytes_eq-Decides}
 use Rattle.std.specs.Str.{bytes_eq}
 use Rattle.rc_db.specs.Bundles.{Bundles, value_of, IsTable, AreBelow, IsChangedAt}
-use Rattle.rc_bundle.specs.Bundling.{IsBundle, Removes}
-use Rattle.rc_db.proofs.Values.{named_by_value}
-use Rattle.rc_db.proofs.Words.{value_of-named, bound_of_value}
-use Rattle.std.specs.Option.{option_copied, is_some}
-use Rattle.std.specs.Bool.{IsTrue}
+use Rattle.rc_bundle.specs.Bundling.{Removes}
+use Rattle.rc_db.proofs.Words.{bound_of_value}
 use Rattle.rc_bundle.proofs.Places.{value_at}
 
 -- a name is another name or not
@@ -19,11 +16,6 @@ same_or_not a b = elim (cases_Bool (bytes_eq a b)) [
   | inl same ↦ inl ((bytes_eq-Decides a b).0 same)
   | inr other ↦ inr (λ e. true≢false (sym ((bytes_eq-Decides a b).1 e) ∙ other))
 ]
-
--- what a look-up answers tells whether the name is a bundle's
-pub told_by_get : (t : Bundles) (name : List ℕ) (found : Option (Bor (List Bool))) → option_copied found ≡ value_of t name → IsTrue (is_some found) ↔ IsBundle t name
-told_by_get t name None get = (λ no. let bad : false ≡ true = no in cc, λ there. let value = value_of-named t name there in let bad : ◌≡◌ {A = Option (List Bool)} None (Some value.0) = get ∙ value.1 in cc)
-told_by_get t name (Some set) get = (λ yes. named_by_value t name set.now (sym get), λ there. refl)
 
 -- where all values have a bound, the table has it
 pub below_from_values : (t : Bundles) (bound : ℕ) → IsTable t → ((name : List ℕ) (set : List Bool) → value_of t name ≡ Some set → length set ≡ bound) → AreBelow bound t

@@ -2,8 +2,9 @@ use Rattle.std.specs.Prelude.{◌≡◌, ◌≤◌, ℕ, suc, Bool, false, List,
 use Rattle.rc_set.specs.Set.{Holds}
 use Rattle.rc_bundle.specs.declared.fault.BundleFault.{BundleFault}
 use Rattle.rc_bundle.specs.declared.fault.BundleFault.TheVariants.{IsAtomic, Exists, Missing, Unknown, Memory, Full}
-use Rattle.rc_db.specs.Bundles.{Bundles, names_of, value_of, IsChangedAt}
+use Rattle.rc_db.specs.Bundles.{Bundles, names_of, value_of, IsTable, IsChangedAt}
 use Rattle.rc_db.specs.Named.{Selected, IsKnown, IsFirst, IsUnknownAt}
+use Rattle.rc_bundle.specs.Edit.{Alteration, IsEdit}
 
 -- the name of a bundle
 abbrev pub IsBundle : Bundles → List ℕ → Type 0
@@ -20,6 +21,13 @@ pub record Defines (names : List (List ℕ)) (old : Bundles) (name : List ℕ) (
 pub record Removes (old : Bundles) (words : List (List ℕ)) (new : Bundles) : Type 0 where
   pub gone : (name : List ℕ) → Contains words name → value_of new name ≡ None
   pub others : (name : List ℕ) → (Contains words name → ⊥) → value_of new name ≡ value_of old name
+
+-- the edit leads from the old table to one of which this holds
+pub record LeadsWhere (Wanted : Bundles → Type 0) (old : Bundles) (edit : List Alteration) : Type 0 where
+  pub table : Bundles
+  pub is_table : IsTable table
+  pub wanted : Wanted table
+  pub made : IsEdit old table edit
 
 -- the name may be defined: it is no service's and, where nothing is forced, no bundle's
 pub record MayBeDefined (names : List (List ℕ)) (table : Bundles) (name : List ℕ) (force : Bool) : Type 0 where

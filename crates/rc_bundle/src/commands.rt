@@ -1,14 +1,14 @@
 ghost use Rattle.std.specs.Prelude.{◌≡◌, ◌⊎◌, ◌<◌, ◌≤◌, ℕ, length, map, All, IfOk, IfErr, OnOk, OnErr, string_bytes};
-ghost use Rattle.rc_db.specs.Bundles.{AreBelow};
+ghost use Rattle.rc_db.specs.Bundles.{AreBelow, IsTable};
 ghost use Rattle.rc_db.specs.Named.{IsKnown};
 ghost use Rattle.rc_bundle.specs.Edit.{IsEdit};
-ghost use Rattle.rc_bundle.specs.Bundling.{Defines, Removes, CanAdd, CanDelete, IsAddFault, IsDeleteFault, IsBundle};
+ghost use Rattle.rc_bundle.specs.Bundling.{Defines, Removes, LeadsWhere, CanAdd, CanDelete, IsAddFault, IsDeleteFault, IsBundle};
 
 use crate::edit::Edit;
 use crate::fault::BundleFault;
-use crate::words::{first_missing, first_service, first_unknown, is_bundle, is_service};
-use rc_db::{Db, MAX_BUNDLES, NoMem, Table};
-use rc_names::Name;
+use crate::words::{first_missing, first_service};
+use rc_db::{Db, MAX_BUNDLES, NoMem, Table, first_unknown, has_bundle, has_name};
+use rc_names::{Name, Names};
 use std::alloc::{AllocError, Global};
 
 /// Defines a bundle: its name stands for the services of its contents from then on. A name that is a bundle's
@@ -52,8 +52,44 @@ pub fn delete(
     ensures same { OnErr result (table.new ≡ table.old) }
 {
     check_delete(table, db, names, force)?;
-    let (new, edit) = removed(alloc, table, names)?;
+    let (new, edit) = cleared(alloc, table, names)?;
     *table = new;
+    Ok(edit)
+}
+
+/// The edit that `add` would make, with the table left as it is.
+pub fn added(
+    alloc: Global,
+    table: &Table,
+    db: &Db,
+    name: &Name,
+    contents: &[String],
+    force: bool,
+) -> Result<Edit, BundleFault>
+    requires bundles { AreBelow (length db.now.names) table.now }
+    ensures edit { IfOk result (LeadsWhere (Defines db.now.names table.now name.now (map string_bytes contents.now)) table.now) }
+    ensures can { OnOk result (CanAdd db.now.names table.now name.now (map string_bytes contents.now) force) }
+    ensures fault { IfErr result (IsAddFault db.now.names table.now name.now (map string_bytes contents.now) force) }
+{
+    check_add(table, db, name, contents, force)?;
+    let (_, edit) = defined(alloc, table, db, name, contents)?;
+    Ok(edit)
+}
+
+/// The edit that `delete` would make, with the table left as it is.
+pub fn removed(
+    alloc: Global,
+    table: &Table,
+    db: &Db,
+    names: &[String],
+    force: bool,
+) -> Result<Edit, BundleFault>
+    ensures edit { IfOk result (LeadsWhere (Removes table.now (map string_bytes names.now)) table.now) }
+    ensures can { OnOk result (CanDelete db.now.names table.now (map string_bytes names.now) force) }
+    ensures fault { IfErr result (IsDeleteFault db.now.names table.now (map string_bytes names.now) force) }
+{
+    check_delete(table, db, names, force)?;
+    let (_, edit) = cleared(alloc, table, names)?;
     Ok(edit)
 }
 
@@ -68,14 +104,28 @@ fn check_add(
     ensures can { OnOk result (CanAdd db.now.names table.now name.now (map string_bytes contents.now) force) }
     ensures fault { IfErr result (IsAddFault db.now.names table.now name.now (map string_bytes contents.now) force) }
 {
-    if is_service(db, name.text()) {
+    check_among(db.names(), table, name, contents, force)
+}
+
+/// Tests a definition among the names of services.
+fn check_among(
+    names: &Names,
+    table: &Table,
+    name: &Name,
+    contents: &[String],
+    force: bool,
+) -> Result<(), BundleFault>
+    ensures can { OnOk result (CanAdd names.now table.now name.now (map string_bytes contents.now) force) }
+    ensures fault { IfErr result (IsAddFault names.now table.now name.now (map string_bytes contents.now) force) }
+{
+    if has_name(names, name.text()) {
         return Err(BundleFault::IsAtomic(0));
     }
-    let is_there = is_bundle(table, name.text());
+    let is_there = has_bundle(table, name.text());
     if is_there && !force {
         return Err(BundleFault::Exists);
     }
-    if let Some(place) = first_unknown(db, table, contents) {
+    if let Some(place) = first_unknown(names, table, contents) {
         return Err(BundleFault::Unknown(place + 1));
     }
     if !is_there && table.len() >= MAX_BUNDLES {
@@ -114,6 +164,7 @@ fn defined(
     requires bundles { AreBelow (length db.now.names) table.now }
     ensures table { IfOk result (λ done. Defines db.now.names table.now name.now (map string_bytes contents.now) done.0) }
     ensures edit { IfOk result (λ done. IsEdit table.now done.0 done.1) }
+    ensures is_table { IfOk result (λ done. IsTable done.0) }
     ensures bundles { IfOk result (λ done. AreBelow (length db.now.names) done.0) }
 {
     let set = match db.selected(alloc, table, contents) {
@@ -127,9 +178,10 @@ fn defined(
 }
 
 /// The table with bundles removed, and the edit that leads to it.
-fn removed(alloc: Global, table: &Table, names: &[String]) -> Result<(Table, Edit), NoMem>
+fn cleared(alloc: Global, table: &Table, names: &[String]) -> Result<(Table, Edit), NoMem>
     ensures table { IfOk result (λ done. Removes table.now (map string_bytes names.now) done.0) }
     ensures edit { IfOk result (λ done. IsEdit table.now done.0 done.1) }
+    ensures is_table { IfOk result (λ done. IsTable done.0) }
     ensures bounds { IfOk result (λ done. (bound : ℕ) → AreBelow bound table.now → AreBelow bound done.0) }
 {
     let mut new = table.copy(alloc)?;

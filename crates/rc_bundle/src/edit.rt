@@ -4,10 +4,10 @@ ghost use Rattle.rc_names.specs.Names.{IsInByteOrder};
 ghost use Rattle.rc_bundle.specs.Edit.{IsEdit, altered};
 ghost use Rattle.rc_bundle.specs.Walk.{IsNextName, IsNoted, moved};
 
-use rc_db::Table;
+use rc_db::{Table, copy_name};
 use rc_names::Name;
 use rc_set::{NoMem, Set};
-use std::alloc::{AllocError, Global};
+use std::alloc::Global;
 use std::cmp::Ordering;
 use std::marker::Model;
 
@@ -157,14 +157,5 @@ fn copy_set(alloc: Global, set: Option<&Set>) -> Result<Option<Set>, NoMem>
     match set {
         Some(set) => Ok(Some(set.copy(alloc)?)),
         None => Ok(None),
-    }
-}
-
-fn copy_name(alloc: Global, name: &Name) -> Result<Name, NoMem>
-    ensures { IfOk result (λ copy. copy ≡ name.now) }
-{
-    match Name::read(alloc, name.text()) {
-        Ok(copy) => Ok(copy),
-        Err(_) => Err(AllocError),
     }
 }

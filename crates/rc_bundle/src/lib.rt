@@ -7,7 +7,7 @@ mod fault;
 pub mod laws;
 mod words;
 
-pub use crate::commands::{add, delete};
+pub use crate::commands::{add, added, delete, removed};
 pub use crate::edit::Edit;
 pub use crate::fault::BundleFault;
 pub use rc_set::NoMem;

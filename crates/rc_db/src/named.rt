@@ -10,14 +10,14 @@ use rc_set::{NoMem, Set};
 use std::alloc::Global;
 
 /// Whether a text is among names.
-pub(crate) fn has_name(names: &Names, text: &str) -> bool
+pub fn has_name(names: &Names, text: &str) -> bool
     ensures { IsTrue result ↔ Contains names.now text.now }
 {
     names.find(text).is_some()
 }
 
 /// Whether a text is the name of a bundle.
-pub(crate) fn has_bundle(table: &Table, text: &str) -> bool
+pub fn has_bundle(table: &Table, text: &str) -> bool
     ensures { IsTrue result ↔ Contains (names_of table.now) text.now }
 {
     table.get(text).is_some()
@@ -31,7 +31,7 @@ fn is_known(names: &Names, table: &Table, text: &str) -> bool
 }
 
 /// The place of the first word that is no name.
-pub(crate) fn first_unknown(names: &Names, table: &Table, words: &[String]) -> Option<usize>
+pub fn first_unknown(names: &Names, table: &Table, words: &[String]) -> Option<usize>
     ensures some { IfSome result
         (IsUnknownAt names.now table.now (map string_bytes words.now)) }
     ensures none { IfNone result

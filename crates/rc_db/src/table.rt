@@ -118,7 +118,7 @@ impl Table {
             return Ok(Some(old));
         }
         let key = String::from_str(self.alloc, name.text())?;
-        let name = copy_of(self.alloc, name)?;
+        let name = copy_name(self.alloc, name)?;
         self.bundles.insert_sorted(key, (name, set))?;
         Ok(None)
     }
@@ -143,7 +143,7 @@ impl Table {
         ensures { OnOk result (self.new ≡ self.old ++ (name.now, set.now) ∷ []) }
     {
         let key = String::from_str(self.alloc, name.text())?;
-        let bundle = (copy_of(self.alloc, name)?, set.copy(self.alloc)?);
+        let bundle = (copy_name(self.alloc, name)?, set.copy(self.alloc)?);
         self.bundles.insert(key, bundle)?;
         Ok(())
     }
@@ -157,7 +157,7 @@ fn same_bundle(one: (&Name, &Set), other: (&Name, &Set)) -> bool
 }
 
 /// The same name once more.
-fn copy_of(alloc: Global, name: &Name) -> Result<Name, NoMem>
+pub fn copy_name(alloc: Global, name: &Name) -> Result<Name, NoMem>
     ensures { IfOk result (λ copy. copy ≡ name.now) }
 {
     match Name::read(alloc, name.text()) {

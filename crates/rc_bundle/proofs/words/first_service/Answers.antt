@@ -5,7 +5,7 @@ use Rattle.rc_bundle.proofs.words.first_service.Goals as goal
 pub loop-place-preserved : goal.loop-place-preserved
 loop-place-preserved c =
     all_next string_bytes _ (λ word. Contains c.args.db.now.names word → ⊥) _ _ (omega arith) c.index-words-place.is c.loop-place.invariant
-    (subst (λ (word : List ℕ). Contains c.args.db.now.names word → ⊥) c.as_str.ensures.value (λ there. true≢false (sym (c.is_service.ensures.1 there) ∙ c.if-is_service.false)))
+    (subst (λ (word : List ℕ). Contains c.args.db.now.names word → ⊥) c.as_str.ensures.value (λ there. true≢false (sym (c.has_name.ensures.1 (subst (λ (names : List (List ℕ)). Contains names c.as_str.result.now) (sym c.names.ensures.names) there)) ∙ c.if-has_name.false)))
 
 pub returns-clause-none : goal.returns-clause-none
 returns-clause-none c = all_end string_bytes _ (λ word. Contains c.args.db.now.names word → ⊥) _ (omega arith) c.loop-place.invariant

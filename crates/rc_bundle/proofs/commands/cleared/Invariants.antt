@@ -1,6 +1,6 @@
 use Rattle.std.proofs.Common.{take, map, string_bytes}
 use Rattle.rc_bundle.specs.Bundling.{Removes}
-use Rattle.rc_bundle.proofs.commands.removed.Given as goal
+use Rattle.rc_bundle.proofs.commands.cleared.Given as goal
 
 -- the names before this one are removed
 abbrev pub invariant-loop-name : goal.invariant-loop-name
