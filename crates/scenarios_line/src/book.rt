@@ -1,0 +1,98 @@
+//! A line on which moves are made.
+
+ghost use Rattle.std.specs.Prelude.{◌≡◌, false, length};
+
+use rc_bundle::Edit;
+use rc_db::Table;
+use rc_line::{Line, LineFault};
+use rc_select::Plan;
+use rc_set::{NoMem, Set};
+use std::alloc::Global;
+
+/// A line of which no move is under way.
+#[derive(Drop)]
+pub(crate) struct Book {
+    line: Line,
+    ghost closed: { line.is_open ≡ false },
+}
+
+impl Book {
+    /// The line of one state.
+    pub(crate) fn new(alloc: Global, live: Set, table: Table) -> Book {
+        let line = Line::new(alloc, live, table);
+        Book { line }
+    }
+
+    /// The line of two states, on the second. Where both have the same services there is the second alone.
+    pub(crate) fn of_two(
+        alloc: Global,
+        first: (Set, Table),
+        second: (Set, Table),
+    ) -> Result<Book, NoMem>
+        requires { length second.0 ≡ length first.0 }
+    {
+        if first.0.same(&second.0) {
+            return Ok(Book::new(alloc, second.0, second.1));
+        }
+        let line = Line::from_states(alloc, vec![in alloc; first, second]?, 1)?;
+        Ok(Book { line })
+    }
+
+    /// A line of the same states, on the same one.
+    pub(crate) fn copy(&self, alloc: Global) -> Result<Book, NoMem> {
+        let line = self.line.copy(alloc)?;
+        Ok(Book { line })
+    }
+
+    pub(crate) fn line(&self) -> &Line
+        ensures line { result.now ≡ self.now.line }
+        ensures closed { result.now.is_open ≡ false }
+    {
+        &self.line
+    }
+
+    /// A change by a plan, with what is live in the end.
+    pub(crate) fn change(&mut self, alloc: Global, plan: &Plan, live: &Set) -> Result<(), LineFault>
+        requires plan { length plan.now.opening ≡ length self.old.line.line.current.live }
+        requires bound { length live.now ≡ length self.old.line.line.current.live }
+    {
+        let opening = self.line.open_new(alloc, plan)?;
+        self.line.close(opening, live);
+        Ok(())
+    }
+
+    /// An edit that leads to these bundles.
+    pub(crate) fn edit(&mut self, alloc: Global, table: &Table) -> Result<(), LineFault> {
+        // A table tells by its length that it is one.
+        let _ = table.len();
+        let edit = Edit::between(alloc, self.line.table(), table)?;
+        let opening = self.line.open_edit(alloc, &edit)?;
+        self.line.close_edit(opening, edit);
+        Ok(())
+    }
+
+    /// The way back, with what is live in the end.
+    pub(crate) fn undo(&mut self, alloc: Global, live: &Set) -> Result<(), LineFault>
+        requires { length live.now ≡ length self.old.line.line.current.live }
+    {
+        let opening = self.line.open_undo(alloc)?;
+        self.line.close(opening, live);
+        Ok(())
+    }
+
+    /// The way on, with what is live in the end.
+    pub(crate) fn redo(&mut self, alloc: Global, live: &Set) -> Result<(), LineFault>
+        requires { length live.now ≡ length self.old.line.line.current.live }
+    {
+        let opening = self.line.open_redo(alloc)?;
+        self.line.close(opening, live);
+        Ok(())
+    }
+
+    /// Opens the way back, and gives it up.
+    pub(crate) fn give_up(&mut self, alloc: Global) -> Result<(), LineFault> {
+        let opening = self.line.open_undo(alloc)?;
+        self.line.give_up(opening);
+        Ok(())
+    }
+}
