@@ -12,7 +12,7 @@ entry_turned from to entry = (
   λ h. record { raised = h.lowered; lowered = h.raised; edit = subst (IsEdit from.table to.table) (back_twice entry.edit) (turns_round to.table from.table (entry_back entry).edit h.edit) },
 )
 
-same_state : (a b : State) → Some a ≡ Some b → a ≡ b
+pub same_state : (a b : State) → Some a ≡ Some b → a ≡ b
 same_state a b same = ap (λ o. unwrap_or o a) same
 
 -- the current state is at the cursor
@@ -20,11 +20,11 @@ pub at_cursor : (line : Line) → slice_get (states line) (cursor line) ≡ Some
 at_cursor line = get_middle line.before line.current line.after
 
 -- the state before it, among the states of the later line
-before_cursor : (back line : Line) → IsNext back line → slice_get (states line) (cursor back) ≡ Some back.current
+pub before_cursor : (back line : Line) → IsNext back line → slice_get (states line) (cursor back) ≡ Some back.current
 before_cursor back line h = subst (λ all. slice_get all (cursor back) ≡ Some back.current) (sym (next_states back line h)) (at_cursor back)
 
 -- and the one after, among those of the earlier line
-after_cursor : (line on : Line) → IsNext line on → slice_get (states line) (suc (cursor line)) ≡ Some on.current
+pub after_cursor : (line on : Line) → IsNext line on → slice_get (states line) (suc (cursor line)) ≡ Some on.current
 after_cursor line on h =
     subst (λ k. slice_get (states line) k ≡ Some on.current) (next_cursor line on h)
     (subst (λ all. slice_get all (cursor on) ≡ Some on.current) (next_states line on h) (at_cursor on))

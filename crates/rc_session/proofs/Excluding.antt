@@ -2,6 +2,10 @@ use Rattle.std.proofs.Common.{◌≡◌, ◌∙◌, ◌<◌, ◌↔◌, ℕ, zer
 use Rattle.rc_set.specs.Set.{Has}
 use Rattle.rc_select.specs.PlanSets.{PlanSets}
 use Rattle.rc_select.specs.Plan.{LeadsTo, Nothing}
+use Rattle.rc_select.specs.Ask.{Ask}
+use Rattle.rc_select.specs.PlanFaults.{CanPlan}
+use Rattle.rc_bundle.specs.Bundling.{CanAdd, CanDelete}
+use Rattle.rc_core.specs.declared.event.Event.{Event}
 use Rattle.rc_core.specs.Course.{course_of}
 use Rattle.rc_core.specs.Settled.{IsSettled}
 use Rattle.rc_db.specs.Database.{Database}
@@ -21,7 +25,7 @@ use Rattle.rc_line.proofs.Exact.{equal_or_not}
 use Rattle.rc_session.proofs.Neighbours.{one_back, one_on}
 
 -- what all have, the one at a place has
-found : (xs : List (List ℕ)) (k : ℕ) (x : List ℕ) → slice_get xs k ≡ Some x → (k < length xs) × (slice_index_or xs k x ≡ x)
+pub found : {X : Type 0} (xs : List X) (k : ℕ) (x : X) → slice_get xs k ≡ Some x → (k < length xs) × (slice_index_or xs k x ≡ x)
 found [] k x same = let bad : None ≡ Some x = same in cc
 found (y ∷ xs) zero x same = (omega arith, ap (λ o. unwrap_or o y) same)
 found (y ∷ xs) (suc k) x same = let rest = found xs k x same in let below : k < length xs = rest.0 in (omega arith, rest.1)
@@ -71,31 +75,44 @@ run_not_run d line new command told (BadEvent place) run h =
 run_not_run d line new command told (NotSettled place) run h = h.3.1 (settled_alike d line command run.plan h.0 run.deadline h.1 run.task h.2 run.ends.settled)
 run_not_run d line new command told other run h = absurd h.3
 
-run_not_own : (d : Database) (line new : Line) (command : Command) (told : Told) (refusal : Refusal) → Runs d line command told new → IsOwnFault d line command refusal → ⊥
-run_not_own d line new (Change ask events) told PruneNeedsUp run h = run.task.0.prunes h
-run_not_own d line new (Change ask events) told (Unknown place) run h = all_but (IsKnown d.names line.current.table) (λ word. IsKnown d.names line.current.table word → ⊥) ask.words place (λ x known unknown. unknown known) run.task.0.known h.1
-run_not_own d line new (Undo limit events) told NothingToUndo run h =
-    let lengths : 0 ≡ length (run.task.0.before ++ run.task.0.current ∷ []) = ap length (sym h ∙ run.task.1.left) in absurd (omega (arith, lengths, length_push run.task.0.before run.task.0.current))
-run_not_own d line new (Redo limit events) told NothingToRedo run h =
-    let lengths : 0 ≡ suc (length run.task.0.after) = ap length (sym h ∙ run.task.1.reached) in absurd (omega (arith, lengths))
-run_not_own d line new (Add name contents force) told refusal run h = absurd run.task
-run_not_own d line new (Delete words force) told refusal run h = absurd run.task
-run_not_own d line new (Change ask events) told other run h = absurd h
-run_not_own d line new (Undo limit events) told other run h = absurd h
-run_not_own d line new (Redo limit events) told other run h = absurd h
+-- what can be planned has no fault
+pub can_not_own : (d : Database) (line : Line) (ask : Ask) (events : List Event) (refusal : Refusal) → CanPlan d.names line.current.table ask → IsOwnFault d line (Change ask events) refusal → ⊥
+can_not_own d line ask events PruneNeedsUp can h = can.prunes h
+can_not_own d line ask events (Unknown place) can h = all_but (IsKnown d.names line.current.table) (λ word. IsKnown d.names line.current.table word → ⊥) ask.words place (λ x known unknown. unknown known) can.known h.1
+can_not_own d line ask events other can h = absurd h
+
+-- a command that asks for a run can be begun
+pub task_not_own : (d : Database) (line : Line) (command : Command) (start : ℕ) (p : PlanSets) (deadline : Option ℕ) (refusal : Refusal) → IsTask d line command start p deadline → IsOwnFault d line command refusal → ⊥
+task_not_own d line (Change ask events) start p deadline refusal task h = can_not_own d line ask events refusal task.0 h
+task_not_own d line (Undo limit events) start p deadline NothingToUndo task h =
+    let lengths : 0 ≡ length (task.0.before ++ task.0.current ∷ []) = ap length (sym h ∙ task.1.left) in absurd (omega (arith, lengths, length_push task.0.before task.0.current))
+task_not_own d line (Redo limit events) start p deadline NothingToRedo task h =
+    let lengths : 0 ≡ suc (length task.0.after) = ap length (sym h ∙ task.1.reached) in absurd (omega (arith, lengths))
+task_not_own d line (Add name contents force) start p deadline refusal task h = absurd task
+task_not_own d line (Delete words force) start p deadline refusal task h = absurd task
+task_not_own d line (Undo limit events) start p deadline other task h = absurd h
+task_not_own d line (Redo limit events) start p deadline other task h = absurd h
+
+-- what may be defined has no fault
+pub add_not_own : (d : Database) (line : Line) (name : List ℕ) (contents : List (List ℕ)) (force : Bool) (refusal : Refusal) → CanAdd d.names line.current.table name contents force → IsOwnFault d line (Add name contents force) refusal → ⊥
+add_not_own d line name contents force (IsAtomic place) can h = can.name_may.free h.1
+add_not_own d line name contents force Exists can h = can.name_may.fresh h.1 h.2
+add_not_own d line name contents force (Unknown place) can h = all_but (IsKnown d.names line.current.table) (λ word. IsKnown d.names line.current.table word → ⊥) contents h.1.0 (λ x known unknown. unknown known) can.known h.1.2
+add_not_own d line name contents force Full can h = h.2 (can.place h.3)
+add_not_own d line name contents force other can h = absurd h
+
+-- and neither has what may be removed
+pub delete_not_own : (d : Database) (line : Line) (words : List (List ℕ)) (force : Bool) (refusal : Refusal) → CanDelete d.names line.current.table words force → IsOwnFault d line (Delete words force) refusal → ⊥
+delete_not_own d line words force (IsAtomic place) can h = all_but (λ word. Contains d.names word → ⊥) (Contains d.names) words place (λ x free is. free is) can.free h
+delete_not_own d line words force (Missing place) can h = all_but _ _ words place (λ x is no. no is) (can.there h.1) h.2
+delete_not_own d line words force other can h = absurd h
 
 edit_not_own : (d : Database) (line new : Line) (command : Command) (told : Told) (refusal : Refusal) → MakesEdit d line command told new → IsOwnFault d line command refusal → ⊥
 edit_not_own d line new (Change ask events) told refusal edit h = absurd edit.altered
 edit_not_own d line new (Undo limit events) told refusal edit h = absurd edit.altered
 edit_not_own d line new (Redo limit events) told refusal edit h = absurd edit.altered
-edit_not_own d line new (Add name contents force) told (IsAtomic place) edit h = edit.altered.0.name_may.free h.1
-edit_not_own d line new (Add name contents force) told Exists edit h = edit.altered.0.name_may.fresh h.1 h.2
-edit_not_own d line new (Add name contents force) told (Unknown place) edit h = all_but (IsKnown d.names line.current.table) (λ word. IsKnown d.names line.current.table word → ⊥) contents h.1.0 (λ x known unknown. unknown known) edit.altered.0.known h.1.2
-edit_not_own d line new (Add name contents force) told Full edit h = h.2 (edit.altered.0.place h.3)
-edit_not_own d line new (Delete words force) told (IsAtomic place) edit h = all_but (λ word. Contains d.names word → ⊥) (Contains d.names) words place (λ x free is. free is) edit.altered.0.free h
-edit_not_own d line new (Delete words force) told (Missing place) edit h = all_but _ _ words place (λ x is no. no is) (edit.altered.0.there h.1) h.2
-edit_not_own d line new (Add name contents force) told other edit h = absurd h
-edit_not_own d line new (Delete words force) told other edit h = absurd h
+edit_not_own d line new (Add name contents force) told refusal edit h = add_not_own d line name contents force refusal edit.altered.0 h
+edit_not_own d line new (Delete words force) told refusal edit h = delete_not_own d line words force refusal edit.altered.0 h
 
 edit_not_run : (d : Database) (line new : Line) (command : Command) (told : Told) (refusal : Refusal) → MakesEdit d line command told new → IsRunFault d line command refusal → ⊥
 edit_not_run d line new (Change ask events) told refusal edit h = absurd edit.altered
@@ -106,6 +123,6 @@ edit_not_run d line new (Delete words force) told refusal edit h = absurd h.2
 
 pub done_not_refused : (d : Database) (line new : Line) (command : Command) (told : Told) (refusal : Refusal) → Does d line command told new → Refuses d line command refusal → ⊥
 done_not_refused d line new command told refusal does refuses = elim does [
-  | inl run ↦ elim refuses [ inl own ↦ run_not_own d line new command told refusal run own | inr bad ↦ run_not_run d line new command told refusal run bad ]
+  | inl run ↦ elim refuses [ inl own ↦ task_not_own d line command 0 run.plan run.deadline refusal run.task own | inr bad ↦ run_not_run d line new command told refusal run bad ]
   | inr edit ↦ elim refuses [ inl own ↦ edit_not_own d line new command told refusal edit own | inr bad ↦ edit_not_run d line new command told refusal edit bad ]
 ]

@@ -1,7 +1,7 @@
 pub mod Among
 pub mod Neighbours
 pub mod Deadlines
-pub mod Edits
+pub mod NoEvents
 pub mod Excluding
 pub mod States
 pub mod Courses
@@ -14,3 +14,14 @@ pub mod Arriving
 pub mod Undos
 pub mod Promising
 pub mod Replaying
+pub mod Beginning
+pub mod Hindering
+pub mod Ways
+pub mod Completing
+pub mod Telling
+pub mod Carrying
+pub mod Opened
+pub mod Stillness
+pub mod EditEntries
+pub mod EditHinders
+pub mod Obeying

@@ -1,6 +1,6 @@
-use Rattle.std.proofs.Common.{◌≡◌, ◌∙◌, ℕ, Bool, List, [], ◌∷◌, ◌++◌, length, All, Option, None, Some, Contains, inl, inr, refl, ap, sym, subst}
+use Rattle.std.proofs.Common.{◌≡◌, ◌∙◌, ℕ, Bool, List, [], ◌∷◌, ◌++◌, length, All, Option, None, Some, Contains, inl, inr, ap, sym, subst}
 use Rattle.std.proofs.lemmas.List.Elements.{All-cons, All-nil}
-use Rattle.rc_db.specs.Bundles.{Bundles, IsTable, names_of, value_of}
+use Rattle.rc_db.specs.Bundles.{Bundles, IsTable, value_of}
 use Rattle.rc_db.specs.Database.{Database, AreApart}
 use Rattle.rc_bundle.specs.Bundling.{Removes}
 use Rattle.rc_db.proofs.Values.{named_by_value}

@@ -1,4 +1,4 @@
-use Rattle.std.specs.Prelude.{◌≡◌, ◌⊎◌, ℕ, Bool, true, false, List, map, Option, Result, Ok, Err}
+use Rattle.std.specs.Prelude.{◌≡◌, ◌⊎◌, ℕ, Bool, true, false, List, [], length, replicate, map, Option, Result, Ok, Err}
 use Rattle.rc_db.specs.Database.{Database}
 use Rattle.rc_select.specs.PlanSets.{PlanSets}
 use Rattle.rc_line.specs.declared.aim.Aim.{Aim}
@@ -21,6 +21,10 @@ pub record Holding : Type 0 where
   pub begun : Bool
   pub spoiled : Bool
 
+-- the line that a database begins with: nothing is live, and the bundles are its own
+abbrev pub first_line : Database → Line
+first_line d = record { before = []; current = record { live = replicate (length d.names) false; table = d.table }; after = [] }
+
 -- a run that was begun: its plan and its deadline, and what the line was opened for
 pub record Task : Type 0 where
   pub plan : PlanSets
@@ -40,6 +44,14 @@ pub record IsBegun (h : Holding) (command : Command) (start : ℕ) (task : Task)
   pub asked : IsTask h.database h.line command start task.plan task.deadline
   pub aims : IsAimOf command task.opening.aim
   pub opened : IsOpened (record { line = h.line; is_open = h.begun }) task.opening
+
+-- the run was begun by this session, for some command and at some moment
+abbrev pub IsOfSession : Holding → Task → Type 0
+IsOfSession h task = (command : Command) × (start : ℕ) × IsBegun h command start task
+
+-- the same session with a run begun
+abbrev pub with_run : Holding → Holding
+with_run h = record { database = h.database; line = h.line; begun = true; spoiled = h.spoiled }
 
 -- the same session with another line, and nothing begun
 abbrev pub with_line : Holding → Line → Holding

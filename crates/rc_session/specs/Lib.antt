@@ -5,4 +5,5 @@ pub mod Doing
 pub mod Refusals
 pub mod Plays
 pub mod Holding
+pub mod Room
 pub mod Promise

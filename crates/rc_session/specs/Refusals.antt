@@ -1,8 +1,10 @@
 use Rattle.std.specs.Prelude.{◌≡◌, ◌⊎◌, ℕ, [], List, length, take, Option, Some, slice_get}
 use Rattle.rc_db.specs.Database.{Database}
 use Rattle.rc_select.specs.PlanSets.{PlanSets}
+use Rattle.rc_select.specs.declared.request.PlanFault.{PlanFault}
 use Rattle.rc_select.specs.declared.request.PlanFault.TheVariants as plan
 use Rattle.rc_select.specs.PlanFaults.{IsPlanFault}
+use Rattle.rc_bundle.specs.declared.fault.BundleFault.{BundleFault}
 use Rattle.rc_bundle.specs.declared.fault.BundleFault.TheVariants as bundle
 use Rattle.rc_bundle.specs.Bundling.{IsAddFault, IsDeleteFault}
 use Rattle.rc_core.specs.declared.event.Event.{Event}
@@ -12,7 +14,7 @@ use Rattle.rc_core.specs.Settled.{IsSettled}
 use Rattle.rc_line.specs.State.{IsEditOnly}
 use Rattle.rc_line.specs.Line.{Line, IsNext}
 use Rattle.rc_session.specs.declared.refusal.Refusal.{Refusal}
-use Rattle.rc_session.specs.declared.refusal.Refusal.TheVariants.{BadEvent, NotSettled, PruneNeedsUp, Unknown, IsAtomic, Exists, Missing, Full, NothingToUndo, NothingToRedo, NotEdit}
+use Rattle.rc_session.specs.declared.refusal.Refusal.TheVariants.{BadEvent, NotSettled, PruneNeedsUp, Unknown, IsAtomic, Exists, Missing, Full, NothingToUndo, NothingToRedo, NotEdit, Memory}
 use Rattle.rc_session.specs.Commands.{Command, Change, Undo, Redo, Add, Delete, events_of}
 use Rattle.rc_session.specs.Task.{IsTask}
 
@@ -29,6 +31,21 @@ IsOwnFault d line (Add name contents force) Full = IsAddFault d.names line.curre
 IsOwnFault d line (Delete words force) (IsAtomic place) = IsDeleteFault d.names line.current.table words force (bundle.IsAtomic place)
 IsOwnFault d line (Delete words force) (Missing place) = IsDeleteFault d.names line.current.table words force (bundle.Missing place)
 IsOwnFault d line command other = ⊥
+
+-- how it is told why there is no plan
+abbrev pub of_plan : PlanFault → Refusal
+of_plan plan.PruneNeedsUp = PruneNeedsUp
+of_plan (plan.Unknown place) = Unknown place
+of_plan plan.Memory = Memory
+
+-- how it is told why bundles are not defined or removed
+abbrev pub of_bundle : BundleFault → Refusal
+of_bundle (bundle.IsAtomic place) = IsAtomic place
+of_bundle bundle.Exists = Exists
+of_bundle (bundle.Missing place) = Missing place
+of_bundle (bundle.Unknown place) = Unknown place
+of_bundle bundle.Memory = Memory
+of_bundle bundle.Full = Full
 
 -- at this place stands the first event that is not legal after those before it
 abbrev pub IsFirstIllegal : Course → List Event → ℕ → Type 0

@@ -1,0 +1,103 @@
+//! Sessions, and what they tell.
+
+ghost use Rattle.std.specs.Prelude.{◌≡◌, false, Ok, IfOk, All};
+ghost use Rattle.rc_db.specs.Database.{IsDatabase};
+ghost use Rattle.rc_line.specs.Line.{states};
+ghost use Rattle.rc_session.specs.Doing.{IsStateOf, IsLineOf};
+ghost use Rattle.rc_session.specs.Holding.{first_line};
+
+use rc_db::{Db, Table};
+use rc_line::Line;
+use rc_set::{NoMem, Set};
+use std::alloc::Global;
+use std::marker::Model;
+
+/// A database with its line, on which commands are carried out.
+#[derive(Drop)]
+pub struct Session {
+    pub(crate) db: Db,
+    /// It is open while a run is begun.
+    pub(crate) journal: Line,
+    /// Whether a run was lost, so that nobody can tell what is live.
+    pub(crate) spoiled: bool,
+}
+
+impl Model for Session {
+    ghost use Rattle.rc_db.specs.Database.{IsDatabase};
+    ghost use Rattle.rc_session.specs.Doing.{IsLineOf};
+    ghost use Rattle.rc_session.specs.Holding.{Holding};
+
+    ghost Value = { Holding };
+
+    ghost view = { λ s. record { database = s.db; line = s.journal.line; begun = s.journal.is_open; spoiled = s.spoiled } };
+
+    ghost invariant = { λ s. IsDatabase s.db × IsLineOf s.db s.journal.line };
+}
+
+impl Session {
+    /// A session in which nothing is live yet.
+    pub fn new(alloc: Global, db: Db) -> Result<Session, NoMem>
+        ensures { IfOk result (λ session. session ≡ record { database = db; line = first_line db; begun = false; spoiled = false }) }
+    {
+        let live = Set::empty(alloc, db.graph().len())?;
+        let table = db.table().copy(alloc)?;
+        Ok(Session {
+            db,
+            journal: Line::new(alloc, live, table),
+            spoiled: false,
+        })
+    }
+
+    /// A session that goes on with a line. Takes no memory.
+    pub fn resume(db: Db, journal: Line) -> Result<Session, NoMem>
+        requires closed { journal.is_open ≡ false }
+        requires states { All (IsStateOf db) (states journal.line) }
+        ensures { result ≡ Ok (record { database = db; line = journal.line; begun = false; spoiled = false }) }
+    {
+        // A database tells by its graph that it is one, and a line by the number of its states.
+        let _ = db.graph();
+        let _ = journal.states();
+        Ok(Session {
+            db,
+            journal,
+            spoiled: false,
+        })
+    }
+
+    /// The database.
+    pub fn db(&self) -> &Db
+        ensures db { result.now ≡ self.now.database }
+        ensures database { IsDatabase self.now.database }
+    {
+        &self.db
+    }
+
+    /// What is live. While a run is begun it is what was live before.
+    pub fn live(&self) -> &Set
+        ensures { result.now ≡ self.now.line.current.live }
+    {
+        self.journal.live()
+    }
+
+    /// The bundles of the current state.
+    pub fn table(&self) -> &Table
+        ensures { result.now ≡ self.now.line.current.table }
+    {
+        self.journal.table()
+    }
+
+    /// The line of the states that were.
+    pub fn journal(&self) -> &Line
+        ensures journal { result.now ≡ record { line = self.now.line; is_open = self.now.begun } }
+        ensures states { IsLineOf self.now.database self.now.line }
+    {
+        &self.journal
+    }
+
+    /// Whether a run is begun that is not ended yet.
+    pub fn is_open(&self) -> bool
+        ensures { result ≡ self.now.begun }
+    {
+        self.journal.is_open()
+    }
+}
