@@ -1,0 +1,71 @@
+//! What a change comes to by the rules, from what fails alone: no order, no workers.
+
+ghost use Rattle.std.specs.Prelude.{◌<◌, length};
+
+use crate::draw::Change;
+use rc_set::NoMem;
+use std::alloc::Global;
+
+/// What is live in the end, what failed, and what was never tried, each ascending.
+#[derive(Drop)]
+pub struct End {
+    pub live: Vec<u16>,
+    pub failed: Vec<u16>,
+    pub left: Vec<u16>,
+}
+
+/// A service goes down where it does not fail and all that need it are down or go down. It comes up where it does not
+/// fail and all that it needs is up or comes up. It is tried where nothing else keeps it.
+pub fn end_of(alloc: Global, change: &Change) -> Result<End, NoMem> {
+    let moved = moved_of(alloc, change)?;
+    let mut end = End {
+        live: Vec::new(alloc),
+        failed: Vec::new(alloc),
+        left: Vec::new(alloc),
+    };
+    for service in 0..change.graph.len() {
+        let is_up = change.up.contains(&service);
+        if is_up != moved.contains(&service) {
+            end.live.push(service)?;
+        }
+        if is_up != change.to.contains(&service) && !moved.contains(&service) {
+            if is_free(change, &moved, service) {
+                end.failed.push(service)?;
+            } else {
+                end.left.push(service)?;
+            }
+        }
+    }
+    Ok(end)
+}
+
+/// The services that go down or come up: in each round one more on each way through the graph.
+fn moved_of(alloc: Global, change: &Change) -> Result<Vec<u16>, NoMem> {
+    let mut moved = Vec::new(alloc);
+    for _ in 0..change.graph.len() {
+        for service in 0..change.graph.len() {
+            if change.up.contains(&service) != change.to.contains(&service)
+                && !moved.contains(&service)
+                && !change.fails.contains(&service)
+                && is_free(change, &moved, service)
+            {
+                moved.push(service)?;
+            }
+        }
+    }
+    Ok(moved)
+}
+
+/// Whether nothing else keeps a service where it is: what needs it, if it is to go down, or what it needs, if it is to
+/// come up.
+fn is_free(change: &Change, moved: &[u16], service: u16) -> bool
+    requires { service < length change.now.graph }
+{
+    let graph = &change.graph;
+    let is_up = |other: &u16| change.up.contains(other) != moved.contains(other);
+    if change.up.contains(&service) {
+        !graph.needed_by(service).iter().any(is_up)
+    } else {
+        graph.needs(service).iter().all(is_up)
+    }
+}

@@ -1,0 +1,91 @@
+//! Carries drawn changes out in many orders, with drawn transitions that fail, and prints how many ended
+//! as the plain rules say that what fails makes them end, whatever the order.
+#![tactic(auto)]
+
+use rc_core::Finish;
+use rc_set::NoMem;
+use samples_drawn::{Change, Draw, End, carry_out, end_of};
+use std::alloc::Global;
+use std::test::Fail;
+
+const SEED: u64 = 20_261_122;
+
+const CHANGES: u32 = 300;
+
+const ORDERS: u32 = 6;
+
+/// How many orders were tried, and what they came to.
+#[derive(Default, Drop)]
+struct Tally {
+    alike: u32,
+    otherwise: u32,
+    failed: bool,
+    blocked: bool,
+    lowered: bool,
+    raised: bool,
+}
+
+fn main(rt: HostRuntime) -> Result<(), Fail> {
+    let mut draw = Draw::new(SEED);
+    let mut tally = Tally::default();
+    for _ in 0..CHANGES {
+        let change = Change::drawn(rt.alloc(), &mut draw)?;
+        let end = end_of(rt.alloc(), &change)?;
+        note_kinds(&mut tally, &change, &end);
+        try_orders(rt.alloc(), &mut draw, &change, &end, &mut tally)?;
+    }
+    println!(rt; "seed {SEED}, {CHANGES} changes, {ORDERS} orders each, by one to four workers")?;
+    println!(rt; "end as the rules say: {}", tally.alike)?;
+    println!(rt; "end otherwise: {}", tally.otherwise)?;
+    println!(rt;
+        "some fail: {}, some are blocked: {}",
+        tally.failed, tally.blocked
+    )?;
+    println!(rt;
+        "some go down: {}, some come up: {}",
+        tally.lowered, tally.raised
+    )?;
+    Ok(())
+}
+
+/// Notes what kinds of ends there were, so that it can be seen that the draws are not all alike.
+fn note_kinds(tally: &mut Tally, change: &Change, end: &End) {
+    tally.failed |= !end.failed.is_empty();
+    tally.blocked |= !end.left.is_empty();
+    tally.lowered |= change.up.iter().any(|s| !end.live.contains(s));
+    tally.raised |= end.live.iter().any(|s| !change.up.contains(s));
+}
+
+/// Carries a change out in several orders, each by another number of workers.
+fn try_orders(
+    alloc: Global,
+    draw: &mut Draw,
+    change: &Change,
+    end: &End,
+    tally: &mut Tally,
+) -> Result<(), Fail> {
+    for _ in 0..ORDERS {
+        let workers = 1 + draw.below(4);
+        let finish = carry_out(alloc, draw, change, workers)?;
+        if ends_so(alloc, finish, end)? {
+            tally.alike = tally.alike.saturating_add(1);
+        } else {
+            tally.otherwise = tally.otherwise.saturating_add(1);
+        }
+    }
+    Ok(())
+}
+
+/// Whether a run came to this end.
+fn ends_so(alloc: Global, finish: Option<Finish>, end: &End) -> Result<bool, NoMem> {
+    let Some(finish) = finish else {
+        return Ok(false);
+    };
+    let live = finish.live.ids(alloc)?;
+    Ok(
+        live == end.live
+            && finish.failed == end.failed
+            && finish.left == end.left
+            && !finish.stopped,
+    )
+}

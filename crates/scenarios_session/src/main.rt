@@ -1,0 +1,330 @@
+//! Gives commands to sessions on the sample, each session from the start, and prints each answer, the live
+//! services, the bundles and the journal. Where a command brings no events, drawn workers make them, with
+//! the transitions that fail.
+#![tactic(auto)]
+
+mod book;
+mod show;
+
+use crate::Command::{
+    Add, Auto, AutoRedo, AutoUndo, By, Delete, Dry, Journal, RedoBy, RedoEdit, Show, UndoBy,
+    UndoEdit,
+};
+use crate::book::Book;
+use crate::show::{show_answer, show_done, show_journal, show_plan, show_state};
+use rc_core::Event::{Done, Stop, Take};
+use rc_core::{Event, Outcome};
+use rc_names::Name;
+use rc_select::Mode::{Down, DownAll, Up};
+use rc_select::{Mode, Request};
+use rc_session::{Refusal, Report};
+use samples::{LOG, NET, ROOT, WEB};
+use samples_db::{sample, words_of};
+use std::alloc::Global;
+use std::test::Fail;
+
+/// A change as it is asked for: which way, whether it prunes, whether all that is up is wanted too, the names.
+type Ask<'a> = (Mode, bool, bool, &'a [&'a str]);
+
+/// A command on a session.
+#[derive(Clone, Copy)]
+enum Command<'a> {
+    /// A change, with the services whose transition fails.
+    Auto(Ask<'a>, &'a [u16]),
+    AutoUndo(&'a [u16]),
+    AutoRedo(&'a [u16]),
+    /// A change with its limit and its events.
+    By(Ask<'a>, u32, &'a [Event]),
+    UndoBy(&'a [Event]),
+    RedoBy(&'a [Event]),
+    UndoEdit,
+    RedoEdit,
+    Add(&'a str, &'a [&'a str], bool),
+    Delete(&'a [&'a str], bool),
+    Dry(Ask<'a>),
+    Journal,
+    /// The live services and the bundles.
+    Show,
+}
+
+const ALL_UP: Command = Auto((Up, false, false, &["site"]), &[]);
+
+const OK: Outcome = Outcome::Ok;
+
+/// What each session shows, and its commands.
+static SESSIONS: [(&str, &[Command]); 18] = [
+    ("all come up", &[ALL_UP, Journal]),
+    (
+        "a change that alters nothing keeps what can be redone",
+        &[
+            ALL_UP,
+            ALL_UP,
+            AutoUndo(&[]),
+            Auto((Down, false, false, &["site"]), &[]),
+            AutoRedo(&[]),
+        ],
+    ),
+    ("down", &[ALL_UP, Auto((Down, false, false, &["net"]), &[])]),
+    (
+        "essential services stay",
+        &[
+            ALL_UP,
+            Dry((Down, false, false, &["root"])),
+            Auto((Down, false, false, &["root"]), &[]),
+        ],
+    ),
+    (
+        "all down, and undone",
+        &[
+            ALL_UP,
+            Auto((DownAll, false, true, &[]), &[]),
+            AutoUndo(&[]),
+        ],
+    ),
+    ("pruned", &[ALL_UP, Auto((Up, true, false, &["log"]), &[])]),
+    (
+        "one fails to come up",
+        &[
+            Auto((Up, false, false, &["web"]), &[NET]),
+            Journal,
+            AutoUndo(&[]),
+        ],
+    ),
+    (
+        "a failed undo is split",
+        &[
+            ALL_UP,
+            AutoUndo(&[LOG]),
+            Journal,
+            AutoRedo(&[]),
+            AutoUndo(&[]),
+            AutoUndo(&[LOG]),
+            Journal,
+            AutoUndo(&[]),
+            Show,
+            Journal,
+        ],
+    ),
+    (
+        "edits of bundles",
+        &[
+            Add("site", &["log"], true),
+            Show,
+            UndoEdit,
+            Show,
+            AutoRedo(&[]),
+            Delete(&["site"], false),
+            AutoUndo(&[]),
+            UndoEdit,
+            Show,
+            Journal,
+            Add("net", &["log"], false),
+            Add("site", &["log"], false),
+            Delete(&["site", "nosuch"], false),
+            Show,
+            Delete(&["nosuch"], true),
+            RedoEdit,
+            Show,
+        ],
+    ),
+    (
+        "stopped, refused, undone and redone by events",
+        &[
+            By(
+                (Up, false, false, &["web"]),
+                5,
+                &[Take(1, ROOT), Stop(2, 5), Done(1, ROOT, OK)],
+            ),
+            By((Up, false, false, &["web"]), 0, &[Stop(1, 5)]),
+            UndoBy(&[Take(1, ROOT), Done(1, ROOT, OK)]),
+            RedoBy(&[Take(3, ROOT), Done(3, ROOT, OK)]),
+            Show,
+            Journal,
+        ],
+    ),
+    (
+        "refused in their order",
+        &[
+            UndoBy(&[]),
+            By((Down, true, false, &["web"]), 0, &[]),
+            By(
+                (Up, false, false, &["web"]),
+                0,
+                &[Take(1, ROOT), Done(1, ROOT, OK), Take(1, WEB)],
+            ),
+            By((Up, false, false, &["web"]), 0, &[Take(1, ROOT)]),
+            Show,
+            Journal,
+        ],
+    ),
+    (
+        "nothing to do, and what is no name",
+        &[
+            ALL_UP,
+            Auto((Up, false, true, &[]), &[]),
+            By((Up, false, false, &["nosuch"]), 0, &[]),
+            AutoRedo(&[]),
+            Dry((Up, false, false, &["site", "nosuch"])),
+            Dry((Down, true, false, &[])),
+        ],
+    ),
+    (
+        "one fails to go down",
+        &[
+            ALL_UP,
+            Auto((Down, false, false, &["net"]), &[WEB]),
+            Journal,
+        ],
+    ),
+    (
+        "pruned from another service",
+        &[
+            Auto((Up, false, false, &["net"]), &[]),
+            Auto((Up, true, false, &["log"]), &[]),
+            AutoUndo(&[]),
+        ],
+    ),
+    (
+        "a change cuts what could be redone",
+        &[
+            Auto((Up, false, false, &["log"]), &[]),
+            AutoUndo(&[]),
+            Auto((Up, false, false, &["root"]), &[]),
+            AutoRedo(&[]),
+        ],
+    ),
+    (
+        "what is no edit, and the undo of an edit with an event",
+        &[
+            UndoEdit,
+            RedoEdit,
+            Auto((Up, false, false, &["log"]), &[]),
+            UndoEdit,
+            Add("x", &["log", "db"], false),
+            UndoBy(&[Take(1, LOG)]),
+            UndoBy(&[]),
+            RedoBy(&[Stop(1, 5)]),
+            RedoEdit,
+            Journal,
+        ],
+    ),
+    (
+        "a bundle that was edited is what is asked for",
+        &[
+            Add("site", &["log"], true),
+            Auto((Up, false, false, &["site"]), &[]),
+            AutoUndo(&[]),
+            UndoEdit,
+            Dry((Up, false, false, &["site"])),
+        ],
+    ),
+    (
+        "an edit between a change and its undo",
+        &[
+            Auto((Up, false, false, &["log"]), &[]),
+            Add("x", &["db"], false),
+            Auto((Up, false, false, &["x"]), &[]),
+            AutoUndo(&[ROOT]),
+            Journal,
+            AutoUndo(&[]),
+            Show,
+        ],
+    ),
+];
+
+fn main(rt: HostRuntime) -> Result<(), Fail> {
+    for (what, commands) in &SESSIONS {
+        println!(rt; "== {what}")?;
+        let mut book = Book::new(rt.alloc(), sample(rt.alloc())?)?;
+        obey_all(&rt, &mut book, commands)?;
+    }
+    Ok(())
+}
+
+fn obey_all(
+    rt: &(impl Print + AllocGlobal),
+    book: &mut Book,
+    commands: &[Command<'_>],
+) -> Result<(), Fail> {
+    for command in commands {
+        obey(rt, book, *command)?;
+    }
+    Ok(())
+}
+
+/// One command, and what it comes to.
+fn obey(
+    rt: &(impl Print + AllocGlobal),
+    book: &mut Book,
+    command: Command<'_>,
+) -> Result<(), Fail> {
+    match command {
+        Auto(_, _) | AutoUndo(_) | AutoRedo(_) | By(_, _, _) | UndoBy(_) | RedoBy(_) => {
+            let answer = run(rt.alloc(), book, command)?;
+            Ok(show_answer(rt, book.session.db(), answer)?)
+        }
+        UndoEdit | RedoEdit | Add(_, _, _) | Delete(_, _) => {
+            let answer = edit(rt.alloc(), book, command)?;
+            Ok(show_done(rt, answer)?)
+        }
+        Dry(ask) => {
+            let request = request_of(rt.alloc(), ask, 0)?;
+            let plan = book.session.dry(rt.alloc(), &request);
+            Ok(show_plan(rt, book.session.db(), plan)?)
+        }
+        Journal => Ok(show_journal(rt, &book.session)?),
+        Show => Ok(show_state(rt, &book.session)?),
+    }
+}
+
+/// A command that runs.
+fn run(
+    alloc: Global,
+    book: &mut Book,
+    command: Command<'_>,
+) -> Result<Result<Report, Refusal>, Fail> {
+    match command {
+        Auto(ask, fails) => {
+            let request = request_of(alloc, ask, 0)?;
+            Ok(book.change(alloc, &request, fails))
+        }
+        By(ask, limit, events) => {
+            let request = request_of(alloc, ask, limit)?;
+            Ok(book.session.change_by(alloc, &request, events))
+        }
+        AutoUndo(fails) => Ok(book.step_back(alloc, fails)),
+        AutoRedo(fails) => Ok(book.step_on(alloc, fails)),
+        UndoBy(events) => Ok(book.session.undo_by(alloc, 0, events)),
+        RedoBy(events) => Ok(book.session.redo_by(alloc, 0, events)),
+        _ => Ok(Err(Refusal::Strange)),
+    }
+}
+
+/// A command that edits bundles.
+fn edit(alloc: Global, book: &mut Book, command: Command<'_>) -> Result<Result<(), Refusal>, Fail> {
+    match command {
+        UndoEdit => Ok(book.session.undo_edit(alloc)),
+        RedoEdit => Ok(book.session.redo_edit(alloc)),
+        Add(name, contents, force) => {
+            let name = Name::read(alloc, name)?;
+            let contents = words_of(alloc, contents)?;
+            Ok(book.session.bundle_add(alloc, &name, &contents, force))
+        }
+        Delete(names, force) => {
+            let names = words_of(alloc, names)?;
+            Ok(book.session.bundle_delete(alloc, &names, force))
+        }
+        _ => Ok(Err(Refusal::Strange)),
+    }
+}
+
+fn request_of(alloc: Global, ask: Ask<'_>, limit: u32) -> Result<Request, Fail> {
+    let (mode, prune, all, names) = ask;
+    Ok(Request {
+        mode,
+        prune,
+        all,
+        names: words_of(alloc, names)?,
+        limit,
+    })
+}
