@@ -1,5 +1,5 @@
 -- What ordered keys show as texts: `bytes` reads a key.
-use Rattle.std.proofs.Common.{◌≡◌, ◌≢◌, ℕ, ◌<◌, ◌⊎◌, ◌↔◌, ⊎_elim, inl, inr, Bool, true, false, ◌||◌, cond, List, [], ◌∷◌, ◌++◌, length, map, Contains, All, arith, refl, sym, ap, subst, ◌∙◌, true≢false, Option, Some, None}
+use Rattle.std.proofs.Common.{◌≡◌, ◌≢◌, ℕ, ◌⊎◌, ◌↔◌, ⊎_elim, inl, inr, Bool, true, false, ◌||◌, cond, List, [], ◌∷◌, map, Contains, arith, refl, sym, ap, subst, ◌∙◌, true≢false, Option, Some}
 use Rattle.std.proofs.lemmas.List.Elements.{All-from_recursion, All-map}
 use Rattle.std.proofs.lemmas.List.Kept.{AllPairs-cons}
 use Rattle.std.specs.List.{list_any}

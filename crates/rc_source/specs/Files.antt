@@ -1,11 +1,12 @@
-use Rattle.std.specs.Prelude.{◌≡◌, ◌<◌, ◌⊎◌, ℕ, List, [], ◌∷◌, false, length, All, Contains, Option, Some, None}
+use Rattle.std.specs.Prelude.{◌≡◌, ◌<◌, ◌⊎◌, ℕ, List, false, length, All, Contains, Option, Some, None}
 use Rattle.rc_names.specs.Name.{IsName}
 use Rattle.rc_source.specs.declared.fault.Flaw.{Flaw}
 use Rattle.rc_source.specs.declared.fault.Flaw.TheVariants.{Io, NotText, TooLong, BadName, NoType, BadType, NoUp, NoRun, BadTimeout}
 use Rattle.rc_source.specs.Tree.{Source, file_at, listed}
 use Rattle.rc_source.specs.TreeFaults.{IsTooLong}
 use Rattle.rc_source.specs.Texts.{IsText, IsLimit, unended, kind_of_word, names_in}
-use Rattle.rc_source.specs.Kinds.{Holds, KindWord, UpText, DownText, Anything, Limit, Flag, Names, NameEach, OneName, is_hidden}
+use Rattle.rc_source.specs.Stops.{StopsFirst}
+use Rattle.rc_source.specs.Kinds.{Holds, KindWord, UpText, Anything, Limit, Flag, Names, NameEach, OneName, is_hidden}
 
 -- the flaw of a file that is missing and may not be
 abbrev pub missing_flaw : Holds → Option Flaw
@@ -59,10 +60,8 @@ StopsAtFile source name file flaw = IsFileFlaw source name file flaw ⊎ (flaw �
 
 -- all files pass
 abbrev pub FilesPass : Source → List ℕ → List (List ℕ × Holds) → Type 0
-FilesPass source name [] = Unit {0}
-FilesPass source name (file ∷ rest) = FilePasses source name file × FilesPass source name rest
+FilesPass source name files = All (FilePasses source name) files
 
 -- reading files in order stops by the flaw at the first that does not pass
 abbrev pub StopsInFiles : Source → List ℕ → List (List ℕ × Holds) → Flaw → Type 0
-StopsInFiles source name [] flaw = ⊥
-StopsInFiles source name (file ∷ rest) flaw = StopsAtFile source name file flaw ⊎ (FilePasses source name file × StopsInFiles source name rest flaw)
+StopsInFiles source name files flaw = StopsFirst (FilePasses source name) (λ file. StopsAtFile source name file flaw) files

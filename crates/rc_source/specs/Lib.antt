@@ -3,6 +3,8 @@ pub mod Shown
 pub mod TreeFaults
 pub mod Texts
 pub mod Kinds
+pub mod Stops
 pub mod Files
 pub mod Tests
 pub mod Meaning
+pub mod Said

@@ -1,9 +1,9 @@
-use Rattle.std.specs.Prelude.{◌≡◌, ◌≢◌, ◌<◌, ◌^◌, ◌↔◌, ◌⊎◌, ℕ, Bool, true, false, List, [], ◌∷◌, ◌++◌, All, AllPairs, Contains, Option, Some, None, IsSome, IfSome, IsTrue, codes, slice_get, map, flat_map, if◌then◌else◌}
+use Rattle.std.specs.Prelude.{◌≡◌, ◌≢◌, ◌<◌, ◌^◌, ◌↔◌, ◌⊎◌, ℕ, Bool, false, List, [], ◌++◌, All, AllPairs, Contains, Option, Some, None, IsSome, IfSome, IsTrue, codes, slice_get, map, flat_map, if◌then◌else◌}
 use Rattle.std.specs.Option.{is_some}
 use Rattle.std.specs.List.{AllZip}
 use Rattle.std.specs.Str.Parse.{digits_value}
 use Rattle.rc_names.specs.declared.kind.Kind.{Kind}
-use Rattle.rc_names.specs.declared.kind.Kind.TheVariants.{Oneshot, Longrun, Bundle}
+use Rattle.rc_names.specs.declared.kind.Kind.TheVariants.{Oneshot, Bundle}
 use Rattle.rc_names.specs.Name.{IsName}
 use Rattle.rc_names.specs.Names.{IsInByteOrder}
 use Rattle.rc_source.specs.Tree.{Source, file_at, listed}

@@ -1,4 +1,4 @@
-use Rattle.std.specs.Prelude.{◌≡◌, ◌⊎◌, not, ℕ, List, [], ◌∷◌, ◌++◌, map, filter, flat_map, All, Contains, codes, string_bytes, slice_get, Some}
+use Rattle.std.specs.Prelude.{◌≡◌, ◌⊎◌, not, ℕ, List, [], ◌∷◌, ◌++◌, map, filter, All, Contains, codes, string_bytes, slice_get, Some}
 use Rattle.rc_names.specs.Name.{IsName}
 use Rattle.rc_source.specs.declared.fault.Flaw.{Flaw}
 use Rattle.rc_source.specs.declared.fault.Flaw.TheVariants.{Io, NotText, TooLong, BadName, Twice, NoType, BadType, NoUp, NoRun, BadTimeout, Memory}
@@ -7,6 +7,7 @@ use Rattle.rc_source.specs.declared.fault.SourceFault.TheVariants as fault
 use Rattle.rc_source.specs.Tree.{Source}
 use Rattle.rc_source.specs.TreeFaults.{HasFailed}
 use Rattle.rc_source.specs.Kinds.{Holds, KindWord, files_for, kind_of, is_hidden}
+use Rattle.rc_source.specs.Stops.{StopsFirst}
 use Rattle.rc_source.specs.Files.{IsFileFlaw}
 
 -- the names of a source's entries in the order of reading, hidden ones left out
@@ -101,13 +102,11 @@ carried fault.Memory = []
 
 -- all tests pass
 abbrev pub AllPass : List Test → Type 0
-AllPass [] = Unit {0}
-AllPass (test ∷ rest) = Passes test × AllPass rest
+AllPass tests = All Passes tests
 
 -- reading stops at the first test that does not pass, by the flaw, and tells the name of its entry
-abbrev pub StopsFirst : List Test → Flaw → List ℕ → Type 0
-StopsFirst [] flaw name = ⊥
-StopsFirst (test ∷ rest) flaw name = (StopsAt test flaw × (name ≡ test.name)) ⊎ (Passes test × StopsFirst rest flaw name)
+abbrev pub StopsInTests : List Test → Flaw → List ℕ → Type 0
+StopsInTests tests flaw name = StopsFirst Passes (λ test. StopsAt test flaw × (name ≡ test.name)) tests
 
 -- some device failed
 abbrev pub SomeFailed : List ℕ → List ℕ → Type 0

@@ -1,4 +1,4 @@
-use Rattle.std.specs.Prelude.{◌≡◌, ◌≢◌, ◌<◌, ◌≤◌, ◌-◌, ◌||◌, ◌==◌, not, false, ℕ, Bool, List, [], ◌∷◌, length, map, filter, reverse, take, All, Option, Some, None, codes, slice_index, if◌then◌else◌}
+use Rattle.std.specs.Prelude.{◌≢◌, ◌<◌, ◌≤◌, ◌-◌, ◌||◌, ◌==◌, not, false, ℕ, Bool, List, [], ◌∷◌, length, map, filter, reverse, take, All, Option, Some, None, codes, slice_index, if◌then◌else◌}
 use Rattle.std.specs.Str.{IsUtf8, bytes_eq}
 use Rattle.std.specs.List.{slice_split}
 use Rattle.std.specs.Str.Parse.{digits_value}

@@ -76,3 +76,14 @@ pub enum SourceFault {
     #[error("Memory")]
     Memory,
 }
+
+impl From<AllocError> for SourceFault {
+    ghost use Rattle.std.specs.Prelude.{◌≡◌};
+    ghost use Rattle.rc_source.specs.declared.fault.SourceFault.TheVariants.{Memory};
+
+    ghost from_gives = { λ _ fault. fault ≡ Memory };
+
+    fn from(_fault: AllocError) -> SourceFault {
+        SourceFault::Memory
+    }
+}

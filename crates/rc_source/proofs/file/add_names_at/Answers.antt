@@ -1,4 +1,4 @@
-use Rattle.std.proofs.Common.{◌≡◌, ◌↔◌, ◌⊎◌, ◌∙◌, ℕ, List, Contains, map, subst, string_bytes}
+use Rattle.std.proofs.Common.{◌↔◌, ◌⊎◌, ◌∙◌, ℕ, List, Contains, map, subst, string_bytes}
 use Rattle.rc_source.proofs.file.add_names_at.Goals as goal
 
 pub returns-clause-names : goal.returns-clause-names

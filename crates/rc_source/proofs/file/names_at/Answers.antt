@@ -1,4 +1,4 @@
-use Rattle.std.proofs.Common.{◌≡◌, ◌∙◌, Some, sym, ap, subst, All, string_bytes}
+use Rattle.std.proofs.Common.{◌∙◌, sym, ap, subst, All, string_bytes}
 use Rattle.std.specs.Option.{IfSome, option_map}
 use Rattle.std.proofs.lemmas.Result.{on_ok_weaker}
 use Rattle.rc_names.specs.Name.{IsName}

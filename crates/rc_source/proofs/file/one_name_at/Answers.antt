@@ -1,4 +1,4 @@
-use Rattle.std.proofs.Common.{◌≡◌, ◌∙◌, Some, sym, ap, subst, string_bytes, slice_get}
+use Rattle.std.proofs.Common.{◌∙◌, sym, ap, subst, string_bytes, slice_get}
 use Rattle.std.specs.Option.{IfSome, option_map}
 use Rattle.std.proofs.lemmas.Result.{on_ok_weaker, IfOk-weaker}
 use Rattle.rc_source.specs.Tree.{file_at}

@@ -1,4 +1,4 @@
-use Rattle.std.proofs.Common.{◌≡◌, ◌≤◌, ◌∙◌, inr, ap, subst, arith, vec_len}
+use Rattle.std.proofs.Common.{◌≤◌, ◌∙◌, inr, ap, subst, arith, vec_len}
 use Rattle.std.specs.Option.{IfSome, option_map}
 use Rattle.rc_source.proofs.Exits.{exit}
 use Rattle.rc_source.proofs.file.text_at.Goals as goal

@@ -1,7 +1,6 @@
-use Rattle.std.proofs.Common.{◌≡◌, Some, None, length, take, sym, ap, ◌∙◌, lit<}
+use Rattle.std.proofs.Common.{Some, None, sym, lit<}
 use Rattle.std.proofs.Math.Seq.{take-length}
 use Rattle.std.proofs.lemmas.Str.Pattern.{split_once_first}
-use Rattle.std.proofs.lemmas.Grind.{common_steps}
 use Rattle.rc_source.proofs.memory_tree.first_part.Goals as goal
 
 pub returns-in-Some : goal.returns-in-Some

@@ -1,4 +1,4 @@
-use Rattle.std.proofs.Common.{◌≡◌, ℕ, ◌==◌, ◌++◌, Bool, true, false, cond, drop, length, Some, None, sym, ap, ◌∙◌, refl}
+use Rattle.std.proofs.Common.{◌≡◌, ◌==◌, ◌++◌, true, false, drop, length, Some, sym, ap, ◌∙◌, refl}
 use Rattle.std.specs.List.{starts_with, before_first}
 use Rattle.std.specs.Prelude.{nat_eq}
 use Rattle.std.proofs.lemmas.Str.Pattern.{starts_text}

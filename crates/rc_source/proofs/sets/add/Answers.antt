@@ -1,7 +1,7 @@
-use Rattle.std.proofs.Common.{◌≡◌, ◌↔◌, Bool, true, false, not, Contains, map, sym, ap, subst, ◌∙◌, refl, true≢false, string_bytes}
+use Rattle.std.proofs.Common.{◌≡◌, ◌↔◌, Bool, true, false, not, Contains, map, sym, subst, ◌∙◌, refl, true≢false, string_bytes}
 use Rattle.std.specs.BTreeSet.{insert_key}
 use Rattle.std.specs.Bool.{IsTrue}
-use Rattle.rc_names.specs.Names.{Adds, IsInByteOrder}
+use Rattle.rc_names.specs.Names.{Adds}
 use Rattle.rc_source.proofs.TextSets.{IsInByteOrder-from_keys, Adds-insert_key, Contains-from_any, any-from_Contains, by_bytes}
 use Rattle.rc_source.proofs.sets.add.Goals as goal
 

@@ -1,4 +1,4 @@
-use Rattle.std.proofs.Common.{◌≡◌, ◌∷◌, ◌∙◌, All, map, sym, ap, subst, string_bytes}
+use Rattle.std.proofs.Common.{◌∷◌, ◌∙◌, All, map, sym, ap, subst, string_bytes}
 use Rattle.std.proofs.lemmas.List.Elements.{All-push}
 use Rattle.rc_names.specs.Name.{IsName}
 use Rattle.rc_source.proofs.Members.{moved_on}

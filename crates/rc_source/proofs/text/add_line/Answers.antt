@@ -1,4 +1,4 @@
-use Rattle.std.proofs.Common.{◌≡◌, ◌∙◌, sym, ap, reverse}
+use Rattle.std.proofs.Common.{◌∙◌, sym, ap, reverse}
 use Rattle.rc_names.specs.Name.{IsName}
 use Rattle.rc_source.specs.Texts.{trimmed, without_blanks}
 use Rattle.rc_source.proofs.Exits.{exit}

@@ -1,8 +1,8 @@
-use Rattle.std.proofs.Common.{◌≡◌, ◌==◌, ◌++◌, ◌∙◌, ◌∷◌, [], sym, ap, subst, map, filter, take, get_or, All, ℕ, List}
+use Rattle.std.proofs.Common.{◌==◌, ◌++◌, ◌∙◌, ◌∷◌, [], sym, ap, subst, map, filter, take, get_or, All}
 use Rattle.std.specs.List.{slice_split}
 use Rattle.std.proofs.lemmas.List.Elements.{All-append}
 use Rattle.rc_names.specs.Name.{IsName}
-use Rattle.rc_source.specs.Texts.{counts, trimmed, names_in}
+use Rattle.rc_source.specs.Texts.{counts, trimmed}
 use Rattle.rc_source.proofs.Exits.{exit}
 use Rattle.rc_source.proofs.Lines.{named, named_more, one_of_all}
 use Rattle.rc_source.proofs.text.names_of.Goals as goal

@@ -1,4 +1,4 @@
-use Rattle.std.proofs.Common.{◌≡◌, List, ℕ, map, ap, subst, string_bytes}
+use Rattle.std.proofs.Common.{map, ap, subst, string_bytes}
 use Rattle.rc_names.specs.Names.{Adds}
 use Rattle.rc_source.proofs.memory_tree.MemoryTree.folder.Goals as goal
 

@@ -1,4 +1,4 @@
-use Rattle.std.proofs.Common.{◌≡◌, ◌<◌, ℕ, List, length, Some, None, Option, sym, ap, subst, ◌∙◌, string_bytes, arith}
+use Rattle.std.proofs.Common.{◌≡◌, ◌<◌, ℕ, List, length, Some, None, sym, ap, subst, ◌∙◌, string_bytes, arith}
 use Rattle.std.specs.Option.{option_map}
 use Rattle.rc_source.specs.Tree.{Source, path_of, value_at}
 use Rattle.rc_source.specs.TreeFaults.{IsTooLong}

@@ -1,4 +1,4 @@
-use Rattle.std.proofs.Common.{◌≡◌, ◌↔◌, List, ℕ, Contains, map, sym, ap, subst, ◌∙◌, string_bytes}
+use Rattle.std.proofs.Common.{◌≡◌, ◌↔◌, List, ℕ, Contains, map, sym, subst, string_bytes}
 use Rattle.rc_names.specs.Names.{IsInByteOrder}
 use Rattle.rc_source.specs.Tree.{Source, IsSource, AreEntries}
 use Rattle.rc_source.specs.Shown.{shown_files}

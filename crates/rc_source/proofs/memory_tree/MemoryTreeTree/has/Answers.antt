@@ -1,7 +1,7 @@
-use Rattle.std.proofs.Common.{◌≡◌, ◌↔◌, sym, ap, subst, ◌∙◌, string_bytes}
+use Rattle.std.proofs.Common.{◌↔◌, subst, ◌∙◌, string_bytes}
 use Rattle.std.specs.Bool.{IsTrue}
 use Rattle.std.specs.Option.{IsSome}
-use Rattle.rc_source.specs.Tree.{Source, file_at, path_of, value_at}
+use Rattle.rc_source.specs.Tree.{Source, path_of, value_at}
 use Rattle.rc_source.specs.Shown.{shown_files}
 use Rattle.rc_source.proofs.Known.{of_known, some_iff}
 use Rattle.rc_source.proofs.TextSets.{value_at-shown}

@@ -1,0 +1,14 @@
+use Rattle.std.proofs.Common.{Contains, map, codes, ap, string_bytes}
+use Rattle.rc_source.specs.Tree.{file_at}
+use Rattle.rc_source.specs.Meaning.{given_in}
+use Rattle.rc_source.proofs.Exits.{exit}
+use Rattle.rc_source.proofs.Folders.{lists_one}
+use Rattle.rc_source.proofs.entry.consumer_for_at.Goals as goal
+
+pub returns-in_err-add_names_at-clause-fault : goal.returns-in_err-add_names_at-clause-fault
+returns-in_err-add_names_at-clause-fault g c = exit c.from_residual.result c.in_err-add_names_at.field-0.0 _ c.from_residual.ensures.1 c.in_err-add_names_at.ensures.fault
+
+pub returns-clause-names : goal.returns-clause-names
+returns-clause-names g c = λ source known.
+    lists_one (Contains (given_in (file_at source c.args.entry.now (codes "consumer-for")))) (map string_bytes c.new-set.result.keys) (map string_bytes c.add_names_at.new.set.keys) c.in_ok-names.field-0.items
+    (ap (map string_bytes) c.new-set.ensures.empty) c.in_ok-names.ensures.names c.in_ok-names.ensures.order (c.in_ok-add_names_at.ensures.names source known)

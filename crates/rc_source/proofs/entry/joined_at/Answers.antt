@@ -1,0 +1,27 @@
+use Rattle.std.proofs.Common.{◌≡◌, ◌∙◌, inl, inr, false, Contains, map, ap, string_bytes}
+use Rattle.rc_source.specs.Tree.{file_at, listed}
+use Rattle.rc_source.specs.Kinds.{Names, NameEach, is_hidden}
+use Rattle.rc_source.specs.Meaning.{given_in}
+use Rattle.rc_source.proofs.Exits.{exit}
+use Rattle.rc_source.proofs.EntryFiles.{two_pass}
+use Rattle.rc_source.proofs.Folders.{lists_both}
+use Rattle.rc_source.proofs.entry.joined_at.Goals as goal
+
+pub returns-in_err-add_names_at-clause-fault : goal.returns-in_err-add_names_at-clause-fault
+returns-in_err-add_names_at-clause-fault g c = exit c.from_residual.result c.in_err-add_names_at.field-0.0 _ c.from_residual.ensures.1
+    (λ no_memory source known. inl (c.in_err-add_names_at.ensures.fault no_memory source known))
+
+pub returns-in_err-add_folder_at-clause-fault : goal.returns-in_err-add_folder_at-clause-fault
+returns-in_err-add_folder_at-clause-fault g c = exit c.from_residual-in_err-add_folder_at.result c.in_err-add_folder_at.field-0.0 _ c.from_residual-in_err-add_folder_at.ensures.1
+    (λ no_memory source known. inr (c.in_ok-add_names_at.ensures.passes source known, inl (c.in_err-add_folder_at.ensures.fault no_memory source (c.in_ok-add_names_at.ensures.same ∙ known))))
+
+pub returns-clause-names : goal.returns-clause-names
+returns-clause-names g c = λ source known.
+    lists_both (Contains (given_in (file_at source c.args.entry.now c.args.file.now))) (λ name. Contains (listed source c.args.entry.now c.args.folder.now) name × (is_hidden name ≡ false))
+    (map string_bytes c.new-set.result.keys) (map string_bytes c.add_names_at.new.set.keys) (map string_bytes c.add_folder_at.new.set.keys) c.in_ok-names.field-0.items
+    (ap (map string_bytes) c.new-set.ensures.empty) c.in_ok-names.ensures.names c.in_ok-names.ensures.order
+    (c.in_ok-add_names_at.ensures.names source known) (c.in_ok-add_folder_at.ensures.names source (c.in_ok-add_names_at.ensures.same ∙ known))
+
+pub returns-clause-passes : goal.returns-clause-passes
+returns-clause-passes g c = λ source known. two_pass source c.args.entry.now (c.args.file.now, Names) (c.args.folder.now, NameEach)
+    (c.in_ok-add_names_at.ensures.passes source known) (c.in_ok-add_folder_at.ensures.passes source (c.in_ok-add_names_at.ensures.same ∙ known))
