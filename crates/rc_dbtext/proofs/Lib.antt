@@ -1,0 +1,14 @@
+mod Orders
+mod Naming
+mod Drafting
+mod Joining
+mod Bundling
+mod Sorting
+mod Spelled
+mod Reading
+mod Zips
+mod Completing
+mod Lawful
+mod LineLemmas
+mod Unique
+mod Writing

@@ -1,0 +1,5 @@
+pub mod Spelling
+pub mod Meaning
+pub mod TextFaults
+pub mod Parts
+pub mod Lines

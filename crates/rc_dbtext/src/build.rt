@@ -1,0 +1,198 @@
+//! The names, the graph and the services of a database, made of what a text says.
+ghost use Rattle.std.specs.Prelude.{◌≡◌, ◌<◌, ◌≤◌, ◌↔◌, ◌⊎◌, ℕ, length, All, Contains, IfOk, IfSome, OnOk, MatchOption, Some, None, slice_get, string_bytes};
+ghost use Rattle.std.specs.List.{AllZip};
+ghost use Rattle.std.specs.Option.{option_map};
+ghost use Rattle.rc_names.specs.Names.{AreNames, IsInByteOrder};
+ghost use Rattle.rc_graph.specs.Needs.{Needs};
+ghost use Rattle.rc_dbform.specs.Text.{IsHead, IsServiceText};
+ghost use Rattle.rc_dbtext.specs.Meaning.{IsCyclic, service_names};
+ghost use Rattle.rc_dbtext.specs.Parts.{AreNeedsOf, FeedsKnown, IsNamed, IsServiceOf};
+ghost use Rattle.rc_dbtext.specs.Spelling.{head_of};
+
+use rc_db::{NoMem, Service};
+use rc_dbform::{BodyForm, Head, ServiceForm};
+use rc_graph::{Draft, Graph, GraphFault};
+use rc_names::{Name, Names};
+use std::alloc::{AllocError, Global};
+
+/// The table of the names of services, which ascend.
+pub(crate) fn names_of(alloc: Global, services: &[ServiceForm]) -> Result<Names, NoMem>
+    requires few { length services.now ≤ 4096 }
+    requires sorted { IsInByteOrder (service_names services.now) }
+    ensures { IfOk result (λ names. names ≡ service_names services.now) }
+{
+    let mut names = Names::new(alloc);
+    for service in services {
+        let name = copy_of(alloc, name_of(service))?;
+        names.add(name)?;
+    }
+    Ok(names)
+}
+
+// The name of a service.
+fn name_of(service: &ServiceForm) -> &Name
+    ensures { result.now ≡ service.now.head.name }
+{
+    &service.head.name
+}
+
+// The same name once more.
+fn copy_of(alloc: Global, name: &Name) -> Result<Name, NoMem>
+    ensures { IfOk result (λ copy. copy ≡ name.now) }
+{
+    match Name::read(alloc, name.text()) {
+        Ok(copy) => Ok(copy),
+        Err(_) => Err(AllocError),
+    }
+}
+
+/// Which service needs which, or nothing where they need each other in a circle.
+pub(crate) fn graph_of(
+    alloc: Global,
+    services: &[ServiceForm],
+    names: &Names,
+) -> Result<Option<Graph>, NoMem>
+    requires names { names.now ≡ service_names services.now }
+    requires sorted { All (λ s. IsInByteOrder s.needs) services.now }
+    requires known { All (λ s. All (Contains names.now) s.needs) services.now }
+    ensures { IfOk result (λ graph. MatchOption graph (IsCyclic services.now)
+        (λ graph. AreNeedsOf names.now services.now graph)) }
+{
+    let draft = draft_of(alloc, services, names)?;
+    match draft.finish() {
+        Ok(graph) => Ok(Some(graph)),
+        Err(GraphFault::Cycle(_)) => Ok(None),
+        Err(GraphFault::Memory) => Err(AllocError),
+    }
+}
+
+// The pairs of the services, each need looked up among the names.
+fn draft_of(alloc: Global, services: &[ServiceForm], names: &Names) -> Result<Draft, NoMem>
+    requires names { names.now ≡ service_names services.now }
+    requires sorted { All (λ s. IsInByteOrder s.needs) services.now }
+    requires known { All (λ s. All (Contains names.now) s.needs) services.now }
+    ensures { IfOk result (λ draft. AreNeedsOf names.now services.now draft) }
+{
+    let mut draft = Draft::new(alloc, names.len())?;
+    for s in 0..services.len() {
+        let service = &services[s];
+        add_needs(&mut draft, s as u16, service.needs.as_slice(), names)?;
+    }
+    // Each list ascends.
+    let _count = draft.len();
+    Ok(draft)
+}
+
+// The needs of one service, which are all names.
+fn add_needs(draft: &mut Draft, service: u16, needs: &[Name], names: &Names) -> Result<(), NoMem>
+    requires bound { length draft.old ≡ length names.now }
+    requires service { service < length draft.old }
+    requires known { All (Contains names.now) needs.now }
+    ensures bound { length draft.new ≡ length draft.old }
+    ensures pairs { OnOk result ((s t : ℕ) → Needs draft.new s t ↔
+        (Needs draft.old s t ⊎ ((s ≡ service) × IsNamed names.now needs.now t))) }
+{
+    for need in needs {
+        draft.need(service, id_of(need, names))?;
+    }
+    Ok(())
+}
+
+/// The id of a text that is among the names.
+pub(crate) fn id_of(text: &Name, names: &Names) -> u16
+    requires { Contains names.now text.now }
+    ensures found { slice_get names.now result ≡ Some text.now }
+    ensures names { AreNames names.now }
+{
+    let _count = names.len();
+    match names.find(text.text()) {
+        Some(id) => id,
+        None => unreachable!(),
+    }
+}
+
+/// What the text says of services, one by one.
+pub(crate) fn services_of(
+    alloc: Global,
+    forms: &[ServiceForm],
+    names: &Names,
+) -> Result<Vec<Service>, NoMem>
+    requires texts { All IsServiceText forms.now }
+    requires fed { All (λ s. FeedsKnown names.now s.body) forms.now }
+    ensures { IfOk result (λ services. AllZip (IsServiceOf names.now) forms.now services.items) }
+{
+    let mut services = Vec::new(alloc);
+    for form in forms {
+        let service = service_of(alloc, form, names)?;
+        services.push(service)?;
+    }
+    Ok(services)
+}
+
+// What the text says of a service.
+fn service_of(alloc: Global, form: &ServiceForm, names: &Names) -> Result<Service, NoMem>
+    requires text { IsServiceText form.now }
+    requires fed { FeedsKnown names.now form.now.body }
+    ensures { IfOk result (IsServiceOf names.now form.now) }
+{
+    match &form.body {
+        BodyForm::Longrun(fed) => {
+            let producer_for = fed_id(fed, names);
+            Ok(service_with(&form.head, None, None, producer_for))
+        }
+        BodyForm::Oneshot(up, down) => {
+            let up = String::from_str(alloc, up.as_str())?;
+            let down = text_once_more(alloc, down)?;
+            Ok(service_with(&form.head, Some(up), down, None))
+        }
+    }
+}
+
+// The id of the longrun that is fed, which is among the names.
+fn fed_id(fed: &Option<Name>, names: &Names) -> Option<u16>
+    requires { IfSome fed.now (Contains names.now) }
+    ensures { MatchOption fed.now (result ≡ None)
+        (λ name. (id : ℕ) × (result ≡ Some id) × (slice_get names.now id ≡ Some name)) }
+{
+    match fed {
+        Some(name) => Some(id_of(name, names)),
+        None => None,
+    }
+}
+
+// The same text once more, if there is one.
+fn text_once_more(alloc: Global, text: &Option<String>) -> Result<Option<String>, NoMem>
+    ensures { IfOk result (λ copy. option_map string_bytes copy
+        ≡ option_map string_bytes text.now) }
+{
+    match text {
+        Some(text) => Ok(Some(String::from_str(alloc, text.as_str())?)),
+        None => Ok(None),
+    }
+}
+
+// The service of a first line, with its texts and what it feeds.
+fn service_with(
+    head: &Head,
+    text_up: Option<String>,
+    text_down: Option<String>,
+    producer_for: Option<u16>,
+) -> Service
+    requires { IsHead head.now }
+    ensures head { head_of head.now.name result ≡ head.now }
+    ensures up { result.text_up ≡ option_map string_bytes text_up }
+    ensures down { result.text_down ≡ option_map string_bytes text_down }
+    ensures fed { result.producer_for ≡ producer_for }
+{
+    let limit_up = head.limit_up;
+    let limit_down = head.limit_down;
+    Service {
+        kind: head.kind,
+        essential: head.essential,
+        limit_up,
+        limit_down,
+        text_up,
+        text_down,
+        producer_for,
+    }
+}

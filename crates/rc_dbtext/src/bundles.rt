@@ -1,0 +1,67 @@
+//! The bundles of a database, made of what a text says.
+ghost use Rattle.std.specs.Prelude.{◌≡◌, ◌<◌, ◌≤◌, ◌++◌, ◌∷◌, [], Bool, List, length, map, All, Contains, IfOk, OnOk};
+ghost use Rattle.rc_names.specs.Names.{IsBefore, IsInByteOrder};
+ghost use Rattle.rc_db.specs.Bundles.{AreBelow, names_of};
+ghost use Rattle.rc_dbtext.specs.Meaning.{bundle_names};
+ghost use Rattle.rc_dbtext.specs.Spelling.{bundle_text, members, name_at};
+
+use crate::build::id_of;
+use rc_db::laws::tables_are_their_values;
+use rc_db::{NoMem, Table};
+use rc_dbform::BundleForm;
+use rc_names::{Name, Names};
+use rc_set::Set;
+use std::alloc::Global;
+
+/// The table of the bundles, whose names and members ascend.
+pub(crate) fn table_of(alloc: Global, forms: &[BundleForm], names: &Names) -> Result<Table, NoMem>
+    requires few { length forms.now ≤ 4096 }
+    requires sorted { IsInByteOrder (bundle_names forms.now) }
+    requires each { All (λ b. IsInByteOrder b.members) forms.now }
+    requires known { All (λ b. All (Contains names.now) b.members) forms.now }
+    ensures bundles { IfOk result (λ table. map (bundle_text names.now) table ≡ forms.now) }
+    ensures bounds { IfOk result (AreBelow (length names.now)) }
+{
+    let mut table = Table::new(alloc);
+    for form in forms {
+        add_bundle(alloc, &mut table, form, names)?;
+    }
+    Ok(table)
+}
+
+// One bundle more.
+fn add_bundle(
+    alloc: Global,
+    table: &mut Table,
+    form: &BundleForm,
+    names: &Names,
+) -> Result<(), NoMem>
+    requires room { length table.old < 4096 }
+    requires last { All (λ other. IsBefore other form.now.name) (names_of table.old) }
+    requires sorted { IsInByteOrder form.now.members }
+    requires known { All (Contains names.now) form.now.members }
+    ensures { OnOk result ((set : List Bool) × (table.new ≡ table.old ++ (form.now.name, set) ∷ [])
+        × (length set ≡ length names.now) × (map (name_at names.now) (members set) ≡ form.now.members)) }
+{
+    let set = set_of(alloc, form.members.as_slice(), names)?;
+    // Both tables are in order, and a table is what it has under each name.
+    tables_are_their_values();
+    let _before = table.len();
+    table.set(&form.name, set)?;
+    let _after = table.len();
+    Ok(())
+}
+
+// The set of members, which are all names.
+fn set_of(alloc: Global, texts: &[Name], names: &Names) -> Result<Set, NoMem>
+    requires sorted { IsInByteOrder texts.now }
+    requires known { All (Contains names.now) texts.now }
+    ensures bound { IfOk result (λ set. length set ≡ length names.now) }
+    ensures members { IfOk result (λ set. map (name_at names.now) (members set) ≡ texts.now) }
+{
+    let mut set = Set::empty(alloc, names.len())?;
+    for text in texts {
+        set.insert(id_of(text, names));
+    }
+    Ok(set)
+}

@@ -1,0 +1,17 @@
+//! The text of a database: bytes to a database and back.
+#![tactic(auto)]
+
+mod build;
+mod bundles;
+mod complete;
+mod fault;
+pub mod laws;
+mod lines;
+mod read;
+mod sorted;
+mod write;
+
+pub use crate::fault::TextFault;
+pub use crate::read::{read_db, read_db_front};
+pub use crate::write::write_db;
+pub use rc_db::NoMem;

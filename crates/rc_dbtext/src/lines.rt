@@ -1,0 +1,210 @@
+//! The lines of a text, written at the end of bytes.
+ghost use Rattle.std.specs.Prelude.{◌≡◌, ◌<◌, ◌∷◌, ◌++◌, [], length, map, All, IfSome, OnOk, codes, string_bytes, unwrap_or};
+ghost use Rattle.std.specs.Fmt.{decimal};
+ghost use Rattle.std.specs.Option.{option_map};
+ghost use Rattle.rc_dbform.specs.Text.{OfDown, OfNeeds, OfProducer, OfService, OfUp, body_lines, spell, spells, worded};
+ghost use Rattle.rc_dbform.specs.Text as text;
+ghost use Rattle.rc_dbtext.specs.Lines.{spaced};
+ghost use Rattle.rc_dbtext.specs.Spelling.{body_of, head_of, name_at};
+
+use rc_db::{NoMem, Service};
+use rc_names::{Kind, Name, Names};
+use std::alloc::Global;
+
+/// The first line of a service.
+#[tactic(auto, using(crate::proofs::LineLemmas::six_words))]
+pub(crate) fn push_head(
+    alloc: Global,
+    out: &mut Vec<u8>,
+    name: &Name,
+    service: &Service,
+) -> Result<(), NoMem>
+    ensures { OnOk result (out.new.items ≡ out.old.items ++ spell (OfService (head_of name.now service.now))) }
+{
+    let up = service.limit_up.to_string(alloc)?;
+    let down = service.limit_down.to_string(alloc)?;
+    out.extend_from_slice(b"service")?;
+    push_word(out, name.text().as_bytes())?;
+    push_word(out, kind_word(service.kind))?;
+    push_word(out, flag_word(service.essential))?;
+    push_word(out, up.as_bytes())?;
+    push_word(out, down.as_bytes())?;
+    out.extend_from_slice(b"\n")?;
+    Ok(())
+}
+
+/// What a service needs.
+#[tactic(auto, using(crate::proofs::LineLemmas::needs_line))]
+pub(crate) fn push_needs(out: &mut Vec<u8>, names: &Names, needs: &[u16]) -> Result<(), NoMem>
+    requires { All (λ id. id < length names.now) needs.now }
+    ensures { OnOk result (out.new.items ≡ out.old.items ++ spell (OfNeeds (map (name_at names.now) needs.now))) }
+{
+    out.extend_from_slice(b"needs")?;
+    push_ids(out, names, needs)?;
+    out.extend_from_slice(b"\n")?;
+    Ok(())
+}
+
+/// A bundle.
+#[tactic(auto, using(crate::proofs::LineLemmas::bundle_line))]
+pub(crate) fn push_bundle(
+    out: &mut Vec<u8>,
+    names: &Names,
+    name: &Name,
+    members: &[u16],
+) -> Result<(), NoMem>
+    requires { All (λ id. id < length names.now) members.now }
+    ensures { OnOk result (out.new.items ≡ out.old.items
+        ++ worded (codes "bundle" ∷ name.now ∷ map (name_at names.now) members.now)) }
+{
+    out.extend_from_slice(b"bundle")?;
+    push_word(out, name.text().as_bytes())?;
+    push_ids(out, names, members)?;
+    out.extend_from_slice(b"\n")?;
+    Ok(())
+}
+
+/// What follows the needs of a service.
+pub(crate) fn push_body(
+    alloc: Global,
+    out: &mut Vec<u8>,
+    names: &Names,
+    service: &Service,
+) -> Result<(), NoMem>
+    requires { IfSome service.now.producer_for (λ id. id < length names.now) }
+    ensures { OnOk result (out.new.items ≡ out.old.items
+        ++ spells (body_lines (body_of names.now service.now.kind service.now))) }
+{
+    match service.kind {
+        Kind::Oneshot => {
+            push_up(alloc, out, &service.text_up)?;
+            push_down(alloc, out, &service.text_down)
+        }
+        Kind::Longrun | Kind::Bundle => push_producer(out, names, service.producer_for),
+    }
+}
+
+// What a longrun feeds.
+fn push_producer(out: &mut Vec<u8>, names: &Names, producer_for: Option<u16>) -> Result<(), NoMem>
+    requires { IfSome producer_for (λ id. id < length names.now) }
+    ensures { OnOk result (out.new.items ≡ out.old.items
+        ++ spell (OfProducer (option_map (name_at names.now) producer_for))) }
+{
+    push_line(out, b"producer", fed_word(names, producer_for))
+}
+
+// The name of what is fed, or a dash.
+fn fed_word<'a>(names: &'a Names, producer_for: Option<u16>) -> &'a [u8]
+    requires { IfSome producer_for (λ id. id < length names.now) }
+    ensures { result.now ≡ text.or_dash (option_map (name_at names.now) producer_for) }
+{
+    match producer_for {
+        Some(id) => word_at(names, id),
+        None => b"-",
+    }
+}
+
+// The name of a service, as bytes.
+fn word_at(names: &Names, id: u16) -> &[u8]
+    requires { id < length names.now }
+    ensures { result.now ≡ name_at names.now id }
+{
+    names.name_of(id).text().as_bytes()
+}
+
+// The text for the way up of a oneshot, empty where there is none.
+fn push_up(alloc: Global, out: &mut Vec<u8>, text: &Option<String>) -> Result<(), NoMem>
+    ensures { OnOk result (out.new.items ≡ out.old.items
+        ++ spell (OfUp (unwrap_or (option_map string_bytes text.now) []))) }
+{
+    match text {
+        Some(text) => push_text(alloc, out, b"up", text.as_bytes()),
+        None => push_text(alloc, out, b"up", b""),
+    }
+}
+
+// The text for the way down of a oneshot, or a dash.
+fn push_down(alloc: Global, out: &mut Vec<u8>, text: &Option<String>) -> Result<(), NoMem>
+    ensures { OnOk result (out.new.items ≡ out.old.items
+        ++ spell (OfDown (option_map string_bytes text.now))) }
+{
+    match text {
+        Some(text) => push_text(alloc, out, b"down", text.as_bytes()),
+        None => push_line(out, b"down", b"-"),
+    }
+}
+
+// A text behind the line that says how long it is.
+fn push_text(alloc: Global, out: &mut Vec<u8>, word: &[u8], text: &[u8]) -> Result<(), NoMem>
+    ensures { OnOk result (out.new.items ≡ out.old.items
+        ++ (worded (word.now ∷ decimal (length text.now) ∷ []) ++ (text.now ++ 10 ∷ []))) }
+{
+    let long = text.len().to_string(alloc)?;
+    push_line(out, word, long.as_bytes())?;
+    out.extend_from_slice(text)?;
+    out.extend_from_slice(b"\n")?;
+    Ok(())
+}
+
+/// A count behind its word.
+pub(crate) fn push_count(
+    alloc: Global,
+    out: &mut Vec<u8>,
+    word: &[u8],
+    count: u16,
+) -> Result<(), NoMem>
+    ensures { OnOk result (out.new.items ≡ out.old.items
+        ++ worded (word.now ∷ decimal count ∷ [])) }
+{
+    let number = count.to_string(alloc)?;
+    push_line(out, word, number.as_bytes())
+}
+
+/// A line of two words.
+#[tactic(auto, using(crate::proofs::LineLemmas::two_words))]
+pub(crate) fn push_line(out: &mut Vec<u8>, first: &[u8], second: &[u8]) -> Result<(), NoMem>
+    ensures { OnOk result (out.new.items ≡ out.old.items
+        ++ worded (first.now ∷ second.now ∷ [])) }
+{
+    out.extend_from_slice(first)?;
+    push_word(out, second)?;
+    out.extend_from_slice(b"\n")?;
+    Ok(())
+}
+
+// The names of services, a space before each.
+fn push_ids(out: &mut Vec<u8>, names: &Names, ids: &[u16]) -> Result<(), NoMem>
+    requires { All (λ id. id < length names.now) ids.now }
+    ensures { OnOk result (out.new.items ≡ out.old.items ++ spaced (map (name_at names.now) ids.now)) }
+{
+    for id in ids {
+        push_word(out, word_at(names, *id))?;
+    }
+    Ok(())
+}
+
+// A space and a word.
+fn push_word(out: &mut Vec<u8>, word: &[u8]) -> Result<(), NoMem>
+    ensures { OnOk result (out.new.items ≡ out.old.items ++ 32 ∷ word.now) }
+{
+    out.extend_from_slice(b" ")?;
+    out.extend_from_slice(word)
+}
+
+// How a kind is written.
+fn kind_word(kind: Kind) -> &'static [u8]
+    ensures { result.now ≡ text.kind_word kind }
+{
+    match kind {
+        Kind::Oneshot => b"oneshot",
+        Kind::Longrun => b"longrun",
+        Kind::Bundle => b"bundle",
+    }
+}
+
+// How the flag is written.
+fn flag_word(essential: bool) -> &'static [u8]
+    ensures { result.now ≡ text.flag_word essential }
+{
+    if essential { b"essential" } else { b"plain" }
+}

@@ -1,0 +1,134 @@
+//! From bytes to a database.
+ghost use Rattle.std.specs.Prelude.{◌≡◌, ◌≤◌, ◌+◌, ◌++◌, ℕ, List, [], length, IfOk, IfErr};
+ghost use Rattle.rc_names.specs.Names.{AreNames};
+ghost use Rattle.rc_db.specs.Database.{FitTogether, IsWritable};
+ghost use Rattle.rc_db.specs.Parts.{database_of};
+ghost use Rattle.rc_dbform.specs.Text.{IsDbText};
+ghost use Rattle.rc_dbtext.specs.Meaning.{IsComplete, IsSorted, service_names};
+ghost use Rattle.rc_dbtext.specs.Parts.{AreNeedsOf};
+ghost use Rattle.rc_dbtext.specs.Spelling.{spelling, text_of};
+ghost use Rattle.rc_dbtext.specs.TextFaults.{BeginsWith, HasFormFault, IsFrontFault, IsMeaningFault, IsWholeFault};
+
+use crate::build::{graph_of, names_of, services_of};
+use crate::bundles::table_of;
+use crate::complete::is_complete;
+use crate::fault::TextFault;
+use crate::sorted::is_sorted;
+use rc_db::{Db, NoMem, Parts};
+use rc_dbform::{DbForm, FormFault, read_form};
+use rc_graph::Graph;
+use rc_names::Names;
+use std::alloc::Global;
+
+/// The database whose text the bytes are.
+pub fn read_db(alloc: Global, bytes: &[u8]) -> Result<Db, TextFault>
+    ensures ok { IfOk result (λ db. IsWritable db × (bytes.now ≡ spelling db)) }
+    ensures fault { IfErr result (IsWholeFault bytes.now) }
+{
+    let form = match whole_form(alloc, bytes) {
+        Ok(form) => form,
+        Err(fault) => return Err(fault),
+    };
+    match db_of(alloc, &form) {
+        Ok(db) => Ok(db),
+        Err(fault) => Err(fault),
+    }
+}
+
+// What a text says that is all of the bytes.
+fn whole_form(alloc: Global, bytes: &[u8]) -> Result<DbForm, TextFault>
+    ensures ok { IfOk result (λ form. BeginsWith bytes.now form []) }
+    ensures fault { IfErr result (IsWholeFault bytes.now) }
+{
+    let (form, rest) = match read_form(alloc, bytes) {
+        Ok(read) => read,
+        Err(fault) => return Err(told(fault, bytes)),
+    };
+    if rest.is_empty() {
+        Ok(form)
+    } else {
+        Err(TextFault::Bad(bytes.len() - rest.len()))
+    }
+}
+
+/// The database whose text stands at the front of the bytes, and how long that text is.
+pub fn read_db_front(alloc: Global, bytes: &[u8]) -> Result<(Db, usize), TextFault>
+    ensures ok { IfOk result (λ read. IsWritable read.0 × (read.1 ≡ length (spelling read.0))
+        × ((rest : List ℕ) × (bytes.now ≡ spelling read.0 ++ rest))) }
+    ensures fault { IfErr result (IsFrontFault bytes.now) }
+{
+    let (form, rest) = match read_form(alloc, bytes) {
+        Ok(read) => read,
+        Err(fault) => return Err(told(fault, bytes)),
+    };
+    match db_of(alloc, &form) {
+        Ok(db) => Ok((db, bytes.len() - rest.len())),
+        Err(fault) => Err(fault),
+    }
+}
+
+// A fault of the form, told by where the line begins.
+fn told(fault: FormFault, bytes: &[u8]) -> TextFault
+    requires { HasFormFault bytes.now fault }
+    ensures front { IsFrontFault bytes.now result }
+    ensures whole { IsWholeFault bytes.now result }
+{
+    match fault {
+        FormFault::Bad(left) => TextFault::Bad(bytes.len() - left),
+        FormFault::Version => TextFault::Version,
+        FormFault::TooMany => TextFault::TooMany,
+        FormFault::Memory => TextFault::Memory,
+    }
+}
+
+// The database of what a text says.
+fn db_of(alloc: Global, form: &DbForm) -> Result<Db, TextFault>
+    requires { IsDbText form.now }
+    ensures ok { IfOk result (λ db. IsWritable db × (text_of db ≡ form.now)) }
+    ensures fault { IfErr result (IsMeaningFault form.now) }
+{
+    if !is_sorted(form) {
+        return Err(TextFault::NotSorted);
+    }
+    let Ok(names) = names_of(alloc, form.services.as_slice()) else {
+        return Err(TextFault::Memory);
+    };
+    if !is_complete(form, &names) {
+        return Err(TextFault::Dangling);
+    }
+    let graph = match graph_of(alloc, form.services.as_slice(), &names) {
+        Ok(Some(graph)) => graph,
+        Ok(None) => return Err(TextFault::Cyclic),
+        Err(_) => return Err(TextFault::Memory),
+    };
+    match joined(alloc, form, names, graph) {
+        Ok(db) => Ok(db),
+        Err(_) => Err(TextFault::Memory),
+    }
+}
+
+// The database of what a text says, with its names and its graph.
+fn joined(alloc: Global, form: &DbForm, names: Names, graph: Graph) -> Result<Db, NoMem>
+    requires text { IsDbText form.now }
+    requires sorted { IsSorted form.now }
+    requires complete { IsComplete form.now }
+    requires names { names ≡ service_names form.now.services }
+    requires needs { AreNeedsOf names form.now.services graph }
+    ensures { IfOk result (λ db. IsWritable db × (text_of db ≡ form.now)) }
+{
+    // The names ascend, and what is needed is a service.
+    let _count = names.len();
+    let _lists = graph.len();
+    let services = services_of(alloc, form.services.as_slice(), &names)?;
+    let table = table_of(alloc, form.bundles.as_slice(), &names)?;
+    let parts = Parts {
+        names,
+        services,
+        graph,
+        table,
+    };
+    match Db::join(parts) {
+        Ok(db) => Ok(db),
+        Err(_) => unreachable!(),
+    }
+}

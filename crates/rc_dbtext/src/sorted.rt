@@ -1,0 +1,77 @@
+//! Whether the names of a text ascend.
+ghost use Rattle.std.specs.Prelude.{◌↔◌, All, IsTrue};
+ghost use Rattle.rc_names.specs.Names.{IsBefore, IsInByteOrder};
+ghost use Rattle.rc_dbtext.specs.Meaning.{IsSorted, bundle_names, service_names};
+
+use rc_dbform::{BundleForm, DbForm, ServiceForm};
+use rc_names::Name;
+use std::cmp::Ordering;
+
+/// Whether all lists of names ascend.
+pub(crate) fn is_sorted(form: &DbForm) -> bool
+    ensures { IsTrue result ↔ IsSorted form.now }
+{
+    services_are_sorted(form.services.as_slice()) && bundles_are_sorted(form.bundles.as_slice())
+}
+
+// Whether services and what they need ascend.
+fn services_are_sorted(services: &[ServiceForm]) -> bool
+    ensures { IsTrue result ↔ (IsInByteOrder (service_names services.now)
+        × All (λ s. IsInByteOrder s.needs) services.now) }
+{
+    services_ascend(services) && needs_ascend(services)
+}
+
+// Whether bundles and their members ascend.
+fn bundles_are_sorted(bundles: &[BundleForm]) -> bool
+    ensures { IsTrue result ↔ (IsInByteOrder (bundle_names bundles.now)
+        × All (λ b. IsInByteOrder b.members) bundles.now) }
+{
+    bundles_ascend(bundles) && members_ascend(bundles)
+}
+
+// Whether the names of services ascend.
+fn services_ascend(services: &[ServiceForm]) -> bool
+    ensures { IsTrue result ↔ IsInByteOrder (service_names services.now) }
+{
+    services.is_sorted_by(|first, second| is_before(&first.head.name, &second.head.name))
+}
+
+// Whether the needs of each service ascend.
+fn needs_ascend(services: &[ServiceForm]) -> bool
+    ensures { IsTrue result ↔ All (λ s. IsInByteOrder s.needs) services.now }
+{
+    services
+        .iter()
+        .all(|service| ascend(service.needs.as_slice()))
+}
+
+// Whether the names of bundles ascend.
+fn bundles_ascend(bundles: &[BundleForm]) -> bool
+    ensures { IsTrue result ↔ IsInByteOrder (bundle_names bundles.now) }
+{
+    bundles.is_sorted_by(|first, second| is_before(&first.name, &second.name))
+}
+
+// Whether the members of each bundle ascend.
+fn members_ascend(bundles: &[BundleForm]) -> bool
+    ensures { IsTrue result ↔ All (λ b. IsInByteOrder b.members) bundles.now }
+{
+    bundles
+        .iter()
+        .all(|bundle| ascend(bundle.members.as_slice()))
+}
+
+// Whether names ascend.
+fn ascend(names: &[Name]) -> bool
+    ensures { IsTrue result ↔ IsInByteOrder names.now }
+{
+    names.is_sorted_by(is_before)
+}
+
+// Whether a name comes before another.
+fn is_before(first: &Name, second: &Name) -> bool
+    ensures { IsTrue result ↔ IsBefore first.now second.now }
+{
+    first.text().cmp(second.text()) == Ordering::Less
+}
