@@ -15,7 +15,7 @@ $(PROGRAM): $(SOURCES)
 	@sh tests/build.sh
 
 demo: build
-	cat $(SAMPLES)/thin.txt $(SAMPLES)/up-root.txt | $(PROGRAM) plan -u web
+	cat $(SAMPLES)/sample.txt $(SAMPLES)/up-root.txt | $(PROGRAM) plan -u web
 
 test:
 	@sh tests/all.sh

@@ -34,5 +34,5 @@ below=$(awk -F: '
 for crate in $below; do
     prove "$crate" rt lib < /dev/null
 done
-prove undorc rt run -- plan < docs/samples/thin.txt
+prove undorc rt run -- plan < docs/samples/sample.txt
 touch crates/undorc/out/undorc

@@ -11,8 +11,12 @@ passed=0
 failed=0
 
 # Texts are written as printf's %b reads them, each on one line.
-sample=$(sed 's/$/\\n/' "$samples/thin.txt" | tr -d '\n')
-one='undorc-db 0\nservices 1\n'
+sample=$(sed 's/$/\\n/' "$samples/sample.txt" | tr -d '\n')
+first='undorc-db 1\n'
+none="${first}services 0\nbundles 0\nend\n"
+one="${first}services 1\n"
+longrun='needs\nproducer -\n'
+last='bundles 0\nend\n'
 strange=$(printf '\377')
 
 # with OLD NEW: the sample with other words in one place.
@@ -52,6 +56,15 @@ on_sample() {
     expect "$wanted" "$output" "$fault" "${sample}root\n" "$@"
 }
 
+# The same with all services up.
+all_up() {
+    wanted=$1
+    output=$2
+    fault=$3
+    shift 3
+    expect "$wanted" "$output" "$fault" "${sample}db\nlog\nnet\nroot\nweb\n" "$@"
+}
+
 # A text that is refused: the fault and the text.
 refused() {
     expect 1 '' "undorc: $1\n" "$2" plan web
@@ -89,92 +102,126 @@ on_sample 0 'raise db log net web\n' '' plan web -u
 on_sample 0 'raise db log net web\n' '' plan -u -- web
 on_sample 0 'raise db log net web\n' '' plan web log
 on_sample 0 'raise db log net web\n' '' plan log -u web
+on_sample 0 'raise db log net web\n' '' plan site
 on_sample 0 'raise db log net\n' '' plan log db
 on_sample 0 'raise log\n' '' plan -u log
 on_sample 0 '' '' plan -u root
 on_sample 0 '' '' plan
 on_sample 0 '' '' plan -u
+on_sample 0 '' '' plan -d web
 expect 0 'raise db log net root web\n' '' "$sample" plan -u web
 expect 0 'raise db net web\n' '' "$sample"'\nroot\n\nroot\nlog' plan -u web
 expect 0 'raise db\n' '' "$sample"'net\nroot' plan -u db
-expect 0 '' '' 'undorc-db 0\nservices 0\nend\n' plan
+expect 0 '' '' "$none" plan
+all_up 0 'lower db net web\n' '' plan -d net
+all_up 0 'lower db net web\nkept root\n' '' plan -d root
+all_up 0 'lower db log net root web\n' '' plan -D root log
+all_up 0 'lower db net root web\n' '' plan -D root
+all_up 0 'lower db log net root web\n' '' plan -Da
+all_up 0 'lower db log net root web\n' '' plan -a -D
+all_up 0 'lower db log net web\nkept root\n' '' plan -da
+all_up 0 'lower db net web\nkept root\n' '' plan -pu log
+all_up 0 'lower db net web\nkept root\n' '' plan -p log
+all_up 0 'lower db log net web\nkept root\n' '' plan -p
+all_up 0 '' '' plan -pa
+all_up 0 '' '' plan -ua
+expect 0 'lower net\nraise log\nkept root\n' '' "$sample"'net\nroot\n' plan -pu log
 
-# Names that are no service, and sets that are not closed.
+# Names that are none, and sets that are not closed.
 on_sample 1 '' 'undorc: Unknown nosuch\n' plan -u nosuch
+on_sample 1 '' 'undorc: Unknown never\n' plan -D web never nosuch
 on_sample 1 '' 'undorc: Unknown -x\n' plan -- -x
 on_sample 1 '' 'undorc: Unknown plan\n' plan plan help
 on_sample 1 '' 'undorc: Unknown help\n' plan web help
 on_sample 1 '' 'undorc: Unknown \n' plan ''
-expect 1 '' 'undorc: Unknown web\n' 'undorc-db 0\nservices 0\nend\n' plan -u web
-expect 1 '' 'undorc: Unknown \0377\n' 'undorc-db 0\nservices 0\nend\n\0377\n' plan
+expect 1 '' 'undorc: Unknown web\n' "$none" plan -u web
+expect 1 '' 'undorc: Unknown \0377\n' "$none"'\0377\n' plan
 expect 1 '' 'undorc: Unknown  root\n' "$sample"' root\n' plan -u web
+expect 1 '' 'undorc: Unknown site\n' "$sample"'site\n' plan -u web
 expect 1 '' 'undorc: Unknown nowhere\n' "$sample"'net\nnowhere\n' plan -u nosuch
 expect 1 '' 'undorc: NotClosed\n' "$sample"'net\n' plan -u web
 expect 1 '' 'undorc: NotClosed\n' "$sample"'net\n' plan -u nosuch
+expect 1 '' 'undorc: NotClosed\n' "$sample"'net\n' plan -pd nosuch
+on_sample 1 '' 'undorc: PruneNeedsUp\n' plan -pd web
+on_sample 1 '' 'undorc: PruneNeedsUp\n' plan -p -D
+on_sample 1 '' 'undorc: PruneNeedsUp\n' plan -pd nosuch
 
 # Databases that are none.
-refused Cyclic "$(with 'root\\nneeds\\n' 'root\\nneeds web\\n')"
+refused Cyclic "$(with 'essential 0 0\\nneeds\\n' 'essential 0 0\\nneeds web\\n')"
 refused Dangling "$(with 'needs net' 'needs nat')"
+refused Dangling "$(with 'bundle site web' 'bundle web web')"
+refused Dangling "$(with 'bundle site web' 'bundle site wed')"
+refused Dangling "$(with 'producer log' 'producer net')"
+refused Dangling "$(with 'needs db log' 'needs db')"
 refused NotSorted "$(with 'needs db log' 'needs log db')"
 refused NotSorted "$(with 'needs db log' 'needs db db')"
 refused NotSorted "$(with 'service web' 'service net')"
+refused NotSorted "$(with 'bundle site web' 'bundle site web db')"
 refused TooMany "$(with 'services 5' 'services 4097')"
-refused Version "$(with 'undorc-db 0' 'undorc-db 1')"
+refused TooMany "$(with 'bundles 1' 'bundles 4097')"
+refused Version "$(with 'undorc-db 1' 'undorc-db 0')"
+refused Version "$(with 'undorc-db 1' 'undorc-db 9')"
 refused 'Bad 12' "$(with 'services 5' 'services 05')"
-refused 'Bad 0' "$(with 'undorc-db 0' 'undorc-db')"
-refused 'Bad 34' "$(with 'needs net' 'needs net ')"
-refused 'Bad 44' "$(with 'service log' 'service -log')"
+refused 'Bad 0' "$(with 'undorc-db 1' 'undorc-db')"
+refused 'Bad 52' "$(with 'needs net' 'needs net ')"
+refused 'Bad 73' "$(with 'service log' 'service -log')"
+refused 'Bad 23' "$(with 'db longrun' 'db daemon')"
 
 # The first line.
-refused 'Bad 0' 'undorc-db 0'
 refused 'Bad 0' 'undorc-db 1'
+refused 'Bad 0' 'undorc-db 0'
 refused 'Bad 0' 'undorc-db 00\n'
 refused 'Bad 0' 'undorc-db 01\n'
 refused 'Bad 0' 'undorc-db -1\n'
 refused 'Bad 0' 'undorc-db\n'
 refused 'Bad 0' 'undorc-db \n'
-refused 'Bad 0' 'undorc-db 0 \n'
-refused Version 'undorc-db 1\n'
+refused 'Bad 0' 'undorc-db 1 \n'
+refused Version 'undorc-db 0\n'
 refused Version 'undorc-db 10\nx'
 refused Version 'undorc-db 99999999999999999999\n'
 
 # The count.
-refused TooMany 'undorc-db 0\nservices 4097\n'
-refused TooMany 'undorc-db 0\nservices 99999999999999999999\n'
-refused 'Bad 12' 'undorc-db 0\nservices 04\n'
-refused 'Bad 12' 'undorc-db 0\nservices \n'
-refused 'Bad 12' 'undorc-db 0\nservices 4097'
-refused 'Bad 26' 'undorc-db 0\nservices 4096\n'
-refused 'Bad 23' 'undorc-db 0\nservices 0\n'
-refused 'Bad 23' 'undorc-db 0\nservices 0\nend'
-refused 'Bad 23' 'undorc-db 0\nservices 0\nservice a\n'
-refused 'Bad 23' "$one"'end\n'
+refused TooMany "${first}"'services 4097\n'
+refused TooMany "${first}"'services 99999999999999999999\n'
+refused 'Bad 12' "${first}"'services 04\n'
+refused 'Bad 12' "${first}"'services \n'
+refused 'Bad 12' "${first}"'services 4097'
+refused 'Bad 26' "${first}"'services 4096\n'
+refused 'Bad 23' "${first}"'services 0\n'
+refused 'Bad 23' "${first}"'services 0\nend\n'
+refused 'Bad 33' "${first}"'services 0\nbundles 0\nend'
+refused 'Bad 23' "$one$last"
 
 # Lines of services.
-refused 'Bad 23' "$one"'service s6rc-x\nneeds\nend\n'
-refused 'Bad 23' "$one"'service \nneeds\nend\n'
-refused 'Bad 23' "$one"'service a b\nneeds\nend\n'
-refused 'Bad 23' "$one"'service \0377\nneeds\nend\n'
-refused 'Bad 33' "$one"'service a\nneeds  net\nend\n'
-refused 'Bad 33' "$one"'service a\nneeds net \nend\n'
-refused 'Bad 33' "$one"'service a\nneeds \nend\n'
-refused 'Bad 33' "$one"'service a\nneedsb\nend\n'
-refused 'Bad 33' "$one"'service a\nneeds net\tb\nend\n'
-refused 'Bad 33' "$one"'service a\nneeds b/c\nend\n'
-refused 'Bad 41' "$one"'service a\nneeds b\nend \n'
+refused 'Bad 23' "$one"'service s6rc-x longrun plain 0 0\n'"$longrun$last"
+refused 'Bad 23' "$one"'service  longrun plain 0 0\n'"$longrun$last"
+refused 'Bad 23' "$one"'service a longrun plain 0\n'"$longrun$last"
+refused 'Bad 23' "$one"'service a longrun plain 00 0\n'"$longrun$last"
+refused 'Bad 23' "$one"'service a longrun plain 4294967296 0\n'"$longrun$last"
+refused 'Bad 23' "$one"'service \0377 longrun plain 0 0\n'"$longrun$last"
+refused 'Bad 51' "$one"'service a longrun plain 0 0\nneeds \nproducer -\n'"$last"
+refused 'Bad 57' "$one"'service a longrun plain 0 0\nneeds\nup 0\n\ndown -\n'"$last"
+refused 'Bad 57' "$one"'service a oneshot plain 0 0\nneeds\nproducer -\n'"$last"
+refused 'Bad 57' "$one"'service a oneshot plain 0 0\nneeds\nup 1\n\ndown -\n'"$last"
+expect 0 'raise a\n' '' "$one"'service a oneshot plain 4294967295 0\nneeds\nup 4\nend\n\ndown 0\n\n'"$last" plan a
 
-# A text that is cut short is bad at its last line, wherever it is cut.
+# A text that is cut short is bad at its last line, wherever it is cut; a script counts with the line above it.
 cut=0
 at=0
+end=0
 while read -r line; do
-    end=$((at + ${#line} + 1))
-    for length in $(seq "$at" $((end - 1))); do
-        head -c "$length" "$samples/thin.txt" > in
+    case $line in
+        true | '') ;;
+        *) at=$end ;;
+    esac
+    next=$((end + ${#line} + 1))
+    for length in $(seq "$end" $((next - 1))); do
+        head -c "$length" "$samples/sample.txt" > in
         "$program" plan < in > out 2> err || true
         [ "$(cat out err)" = "undorc: Bad $at" ] || cut=$((cut + 1))
     done
-    at=$end
-done < "$samples/thin.txt"
+    end=$next
+done < "$samples/sample.txt"
 echo "$cut" > status
 : > out
 : > err
@@ -184,22 +231,45 @@ judge 'texts that are cut short (the status is the number of those told otherwis
 
 # Names of 255 bytes, and 4,096 services.
 long=$(printf '%0255d' 0)
-expect 0 "raise $long\n" '' "${one}service $long\nneeds\nend\n" plan "$long"
-refused 'Bad 23' "${one}service 1$long\nneeds\nend\n"
-refused 'Bad 33' "${one}"'service a\nneeds 1'"$long"'\nend\n'
+expect 0 "raise $long\n" '' "${one}service $long longrun plain 0 0\n$longrun$last" plan "$long"
+refused 'Bad 23' "${one}service 1$long longrun plain 0 0\n$longrun$last"
+refused 'Bad 51' "${one}"'service a longrun plain 0 0\nneeds 1'"$long"'\nproducer -\n'"$last"
 services() {
-    printf 'undorc-db 0\\nservices %d\\n' "$1"
-    awk -v count="$1" 'BEGIN { for (i = 1; i <= count; i++) printf "service s%04d\\nneeds\\n", i }'
-    printf 'end\\n'
+    printf 'undorc-db 1\\nservices %d\\n' "$1"
+    awk -v count="$1" 'BEGIN { for (i = 1; i <= count; i++) printf "service s%04d longrun plain 0 0\\nneeds\\nproducer -\\n", i }'
+    printf '%s' "$last"
 }
 expect 0 'raise s0001 s4096\n' '' "$(services 4096)" plan s4096 s0001
 expect 1 '' 'undorc: TooMany\n' "$(services 4097)" plan s0001
+
+# A database in a file of its own: all of the input is then names that are up.
+printf '%b' "$sample" > base
+expect 0 'raise db log net web\n' '' 'root\n' plan -b base web
+expect 0 'raise db log net web\n' '' 'root' plan web -bbase
+expect 0 'lower root\n' '' 'root\n' plan -D root -b base
+expect 1 '' 'undorc: Unknown undorc-db 1\n' "$sample" plan -b base
+expect 1 '' 'undorc: NotClosed\n' 'net\n' plan -b base
+printf x >> base
+expect 1 '' 'undorc: Bad 330\n' 'nosuch\n' plan -b base nosuch
+expect 111 '' 'undorc: Io\n' 'root\n' plan -b nowhere web
+expect 111 '' 'undorc: Io\n' 'root\n' plan -b . web
 
 # Wrong command lines. The path by which the program is started is none of its words.
 wrong
 wrong frob
 wrong -u plan
-wrong plan -d web
+wrong plan -ud web
+wrong plan -u -D web
+wrong plan -dD web
+wrong plan -uDd
+wrong plan -d -d web
+wrong plan -b
+wrong plan web -b
+wrong plan -b base -b base
+wrong plan -b nowhere -ud
+wrong plan -b nowhere -x
+wrong plan -t 5
+wrong dry web
 wrong plan --up web
 wrong plan -u -u web
 wrong plan -uu
@@ -213,6 +283,9 @@ wrong plan -h
 wrong plan --help
 says '^Usage: undorc plan \[OPTIONS\] \[NAME\]\.\.\.$'
 says '^  -u  '
+says '^  -b <FILE>  '
+wrong plan -ud
+says '^undorc: -u, -d and -D exclude each other$'
 wrong plan "$strange"
 says '^undorc: a word of the command line is not UTF-8$'
 ln -s "$program" "$strange"

@@ -1,14 +1,5 @@
 pub mod WordsLemmas
+pub mod AskedLemmas
 pub mod InputLemmas
 pub mod NamedLemmas
-pub mod AnswerLemmas
 pub mod PlanLemmas
-pub mod OrderLemmas
-pub mod ServiceLemmas
-pub mod DraftLemmas
-pub mod ThinLines
-pub mod ThinNumbers
-pub mod ThinPlaces
-pub mod ThinRefusals
-pub mod ThinTexts
-pub mod ThinWords

@@ -1,11 +1,7 @@
 pub mod Words
+pub mod Asked
 pub mod Input
-pub mod Thin
-pub mod ThinLine
-pub mod ThinReading
 pub mod Named
-pub mod Database
-pub mod DatabaseFaults
-pub mod Answer
+pub mod Base
 pub mod PlanText
 pub mod PlanFaults

@@ -1,43 +1,57 @@
-use Rattle.std.specs.Prelude.{◌≡◌, ◌≢◌, ◌++◌, ℕ, List, Option, codes}
+use Rattle.std.specs.Prelude.{◌≡◌, ◌≢◌, ◌++◌, ◌⊎◌, ℕ, List, Option, Some, codes, slice_get}
+use Rattle.std.specs.Borrow.{Bor}
 use Rattle.std.specs.Fmt.{decimal}
-use Rattle.rc_cli.specs.declared.plan.PlanFault.{PlanFault}
-use Rattle.rc_cli.specs.declared.plan.PlanFault.TheVariants.{Bad, Version, NotSorted, Cyclic, TooMany, Dangling, Unknown, NotClosed, Memory}
+use Rattle.rc_graph.specs.Closure.{IsClosed}
+use Rattle.rc_db.specs.Database.{Database}
+use Rattle.rc_db.specs.Named.{IsUnknownAt}
+use Rattle.rc_select.specs.Ask.{Ask}
+use Rattle.rc_select.specs.PlanFaults.{PrunesWrongly}
+use Rattle.rc_select.specs.declared.request.PlanFault.{PlanFault as WantFault}
+use Rattle.rc_select.specs.declared.request.PlanFault.TheVariants as wrong
+use Rattle.rc_dbtext.specs.declared.fault.TextFault.{TextFault}
+use Rattle.rc_dbtext.specs.declared.fault.TextFault.TheVariants as text
 use Rattle.rc_cli.specs.declared.named.NamedFault.{NamedFault}
 use Rattle.rc_cli.specs.declared.named.NamedFault.TheVariants as named
+use Rattle.rc_cli.specs.declared.plan.PlanFault.{PlanFault}
+use Rattle.rc_cli.specs.declared.plan.PlanFault.TheVariants.{Bad, Version, NotSorted, Cyclic, TooMany, Dangling, Unknown, NotClosed, PruneNeedsUp, Memory}
+use Rattle.rc_cli.specs.Asked.{plan_asked}
+use Rattle.rc_cli.specs.Base.{IsTextFault, Spells}
 use Rattle.rc_cli.specs.Input.{AppendsFront, fault_line}
-use Rattle.rc_cli.specs.Thin.{ServiceText, IsThin, thin_text}
-use Rattle.rc_cli.specs.ThinReading.{IsBadAt, HasOtherVersion, HasTooMany}
-use Rattle.rc_cli.specs.Database.{IsSorted, IsComplete, service_names}
-use Rattle.rc_cli.specs.DatabaseFaults.{IsCyclic}
-use Rattle.rc_cli.specs.PlanText.{Spells, IsUnknown, IsNotClosed}
+use Rattle.rc_cli.specs.Named.{AreNamed, IsFirstUnknown, IsNamed, word_lines}
+use Rattle.rc_cli.specs.PlanText.{AreUp}
 
--- the input begins with a thin text of these services
-abbrev pub BeginsWith : List ServiceText → List ℕ → Type 0
-BeginsWith services input = (rest : List ℕ) × IsThin services × (input ≡ thin_text services ++ rest)
+-- a fault of the text, as a refusal
+abbrev pub IsTextRefusal : TextFault → PlanFault → Type 0
+IsTextRefusal (text.Bad offset) fault = fault ≡ Bad offset
+IsTextRefusal text.Version fault = fault ≡ Version
+IsTextRefusal text.NotSorted fault = fault ≡ NotSorted
+IsTextRefusal text.Cyclic fault = fault ≡ Cyclic
+IsTextRefusal text.TooMany fault = fault ≡ TooMany
+IsTextRefusal text.Dangling fault = fault ≡ Dangling
+IsTextRefusal text.Memory fault = fault ≡ Memory
 
--- when each refusal comes: those of the text, then those of the names that are up, then those of the names asked for
-abbrev pub IsRefused : PlanFault → List (List ℕ) → List ℕ → Type 0
-IsRefused (Bad offset) asked input = IsBadAt input offset
-IsRefused Version asked input = HasOtherVersion input
-IsRefused TooMany asked input = HasTooMany input
-IsRefused NotSorted asked input = (services : List ServiceText) × BeginsWith services input × (IsSorted services → ⊥)
-IsRefused Dangling asked input = (services : List ServiceText) × BeginsWith services input × IsSorted services × (IsComplete services → ⊥)
-IsRefused Cyclic asked input = (services : List ServiceText) × BeginsWith services input × IsSorted services × IsComplete services × IsCyclic services
-IsRefused (Unknown word) asked input = (services : List ServiceText) × (graph : List (List ℕ)) × (ups : List (List ℕ)) × Spells services graph ups input × IsUnknown (service_names services) graph ups asked word.now
-IsRefused NotClosed asked input = (services : List ServiceText) × (graph : List (List ℕ)) × (ups : List (List ℕ)) × Spells services graph ups input × IsNotClosed (service_names services) graph ups
-IsRefused Memory asked input = Unit {0}
+-- a fault of the names that are up: the first that is no service, then that one of them lacks something that it needs
+abbrev pub IsUpFault : PlanFault → List (List ℕ) → List (List ℕ) → List (List ℕ) → Type 0
+IsUpFault (Unknown word) names needs ups = IsFirstUnknown names ups word.now
+IsUpFault NotClosed names needs ups = AreNamed names ups × (IsClosed needs (IsNamed names ups) → ⊥)
+IsUpFault Memory names needs ups = Unit {0}
+IsUpFault other names needs ups = ⊥
 
--- when each refusal comes that concerns names alone
-abbrev pub IsNameFault : PlanFault → List (List ℕ) → List (List ℕ) → List (List ℕ) → List (List ℕ) → Type 0
-IsNameFault (Unknown word) names graph ups asked = IsUnknown names graph ups asked word.now
-IsNameFault NotClosed names graph ups asked = IsNotClosed names graph ups
-IsNameFault Memory names graph ups asked = Unit {0}
-IsNameFault other names graph ups asked = ⊥
+-- a fault of what is asked: that it prunes downwards, then the first word that is the name of nothing
+abbrev pub IsAskFault : PlanFault → Database → Ask → Type 0
+IsAskFault PruneNeedsUp d ask = PrunesWrongly ask
+IsAskFault (Unknown word) d ask = (PrunesWrongly ask → ⊥) × ((place : ℕ) × IsUnknownAt d.names d.table ask.words place × (slice_get ask.words place ≡ Some word.now))
+IsAskFault Memory d ask = Unit {0}
+IsAskFault other d ask = ⊥
 
--- a fault of named words, as a refusal
-abbrev pub IsToldAs : NamedFault → PlanFault → Type 0
-IsToldAs (named.Unknown word) fault = fault ≡ Unknown word
-IsToldAs named.Memory fault = fault ≡ Memory
+-- when a refusal comes that concerns names: those of what is up, and then those of what is asked
+abbrev pub IsNameFault : PlanFault → Database → List (List ℕ) → Ask → Type 0
+IsNameFault fault d ups ask = IsUpFault fault d.names d.needs ups ⊎ (AreUp d.names d.needs ups × IsAskFault fault d ask)
+
+-- when each refusal comes: those of the text, and then those of names
+abbrev pub IsRefused : PlanFault → Ask → Option (List ℕ) → List ℕ → Type 0
+IsRefused fault ask base input = ((wrong : TextFault) × IsTextFault base input wrong × IsTextRefusal wrong fault)
+    ⊎ ((d : Database) × (rest : List ℕ) × Spells base input d rest × IsNameFault fault d (word_lines rest) ask)
 
 -- how a refusal is told
 abbrev pub fault_text : PlanFault → List ℕ
@@ -49,8 +63,21 @@ fault_text Dangling = codes "Dangling"
 fault_text Cyclic = codes "Cyclic"
 fault_text (Unknown word) = codes "Unknown " ++ word.now
 fault_text NotClosed = codes "NotClosed"
+fault_text PruneNeedsUp = codes "PruneNeedsUp"
 fault_text Memory = codes "Memory"
 
 -- a refusal holds, and a writer gains a front of the line that tells it
-abbrev pub TellsFault : List (List ℕ) → List ℕ → Option (List ℕ) → Option (List ℕ) → Type 0
-TellsFault asked input old new = (fault : PlanFault) × IsRefused fault asked input × (fault ≢ Memory) × AppendsFront old new (fault_line (fault_text fault))
+abbrev pub TellsFault : List (List ℕ) → Option (List ℕ) → List ℕ → Option (List ℕ) → Option (List ℕ) → Type 0
+TellsFault words base input old new = (ask : Ask) × (fault : PlanFault) × (plan_asked words ≡ Some ask) × IsRefused fault ask base input
+    × (fault ≢ Memory) × AppendsFront old new (fault_line (fault_text fault))
+
+-- a fault of the names that are up, as a refusal
+abbrev pub IsToldAs : NamedFault → PlanFault → Type 0
+IsToldAs (named.Unknown word) fault = fault ≡ Unknown word
+IsToldAs named.Memory fault = fault ≡ Memory
+
+-- a fault of the plan, as a refusal: the unknown word is told by itself
+abbrev pub IsFaultOf : WantFault → Ask → PlanFault → Type 0
+IsFaultOf wrong.PruneNeedsUp ask fault = fault ≡ PruneNeedsUp
+IsFaultOf (wrong.Unknown place) ask fault = (word : Bor (List ℕ)) × (slice_get ask.words place ≡ Some word.now) × (fault ≡ Unknown word)
+IsFaultOf wrong.Memory ask fault = fault ≡ Memory

@@ -3,8 +3,8 @@ ghost use Rattle.std.specs.Prelude.{◌≡◌, ◌≢◌, ◌+◌, ◌<◌, ◌�
 ghost use Rattle.std.specs.IoError.{error_kind};
 ghost use Rattle.std.specs.Io.{ReadsAtMost};
 ghost use Rattle.std.specs.Io.KnownBytes.{Appends, IsAtEnd, ReadConsumes};
-ghost use Rattle.rc_cli.specs.declared.input.InputFault.TheVariants.{Memory};
-ghost use Rattle.rc_cli.specs.Input.{AppendsFront, ConsumesAtMost, MovesPiece, fault_line, input_text};
+ghost use Rattle.rc_cli.specs.declared.input.Failure.TheVariants.{Memory};
+ghost use Rattle.rc_cli.specs.Input.{AppendsFront, ConsumesAtMost, MovesPiece, fault_line, failure_text};
 
 use std::alloc::{AllocError, Global};
 use std::io;
@@ -19,43 +19,46 @@ const MAX_PIECE: usize = 8_192;
 /// The interrupted reads in a row that are each tried again.
 const MAX_INTERRUPTS: usize = 1_000;
 
-/// An input that could not be taken whole.
+/// Why a command ends without an answer although nothing is refused.
 #[derive(Clone, Copy)]
-pub enum InputFault {
-    /// It has more than `MAX_INPUT` bytes.
+pub enum Failure {
+    /// The input has more than `MAX_INPUT` bytes.
     TooLong,
     /// A read failed.
     Read,
-    /// There was no memory to hold it.
+    /// A write failed, took nothing, or was interrupted.
+    Write,
+    /// There was no memory.
     Memory,
 }
 
-impl From<AllocError> for InputFault {
+impl From<AllocError> for Failure {
     ghost from_gives = { λ _ fault. fault ≡ Memory };
 
-    fn from(_: AllocError) -> InputFault {
-        InputFault::Memory
+    fn from(_: AllocError) -> Failure {
+        Failure::Memory
     }
 }
 
-/// A fault of the input in words.
-pub fn input_word(fault: InputFault) -> &'static [u8]
-    ensures { result.now ≡ input_text fault }
+/// A failure in words.
+pub fn failure_word(fault: Failure) -> &'static [u8]
+    ensures { result.now ≡ failure_text fault }
 {
     match fault {
-        InputFault::TooLong => b"TooLong",
-        InputFault::Read => b"Read",
-        InputFault::Memory => b"Memory",
+        Failure::TooLong => b"TooLong",
+        Failure::Read => b"Read",
+        Failure::Write => b"Write",
+        Failure::Memory => b"Memory",
     }
 }
 
 /// Reads all there is, up to the read that gives no byte.
-pub fn read_all<R: Read>(alloc: Global, reader: &mut R) -> Result<Vec<u8>, InputFault>
+pub fn read_all<R: Read>(alloc: Global, reader: &mut R) -> Result<Vec<u8>, Failure>
     ensures whole { IfOk result (λ bytes.
         IfSome (R.remaining reader.old) (λ input. bytes.items ≡ input)) }
     ensures end { OnOk result (IsAtEnd (R.remaining reader.new)) }
     ensures within { IfOk result (λ bytes. vec_len bytes ≤ MAX_INPUT) }
-    ensures too_long { result ≡ Err InputFault.TooLong
+    ensures too_long { result ≡ Err Failure.TooLong
         → IfSome (R.remaining reader.old) (λ input. MAX_INPUT < length input) }
 
     // Whatever the result, one byte past the bound is the last that is taken.
@@ -69,28 +72,24 @@ pub fn read_all<R: Read>(alloc: Global, reader: &mut R) -> Result<Vec<u8>, Input
             return Ok(bytes);
         }
     }
-    Err(InputFault::TooLong)
+    Err(Failure::TooLong)
 }
 
 /// Moves the reader's next piece to the end of `bytes`, and returns its length: at most `room`, and
 /// 0 at the reader's end.
-fn take_piece<R: Read>(
-    reader: &mut R,
-    room: usize,
-    bytes: &mut Vec<u8>,
-) -> Result<usize, InputFault>
+fn take_piece<R: Read>(reader: &mut R, room: usize, bytes: &mut Vec<u8>) -> Result<usize, Failure>
     requires { 0 < room }
     ensures moved { IfOk result (MovesPiece (R.remaining reader.old) (R.remaining reader.new)
         bytes.old.items bytes.new.items) }
     ensures fits { IfOk result (λ count. count ≤ room) }
     ensures end { IfOk result (λ count. count ≡ 0 → IsAtEnd (R.remaining reader.new)) }
-    ensures fault { IfErr result (λ e. e ≢ InputFault.TooLong) }
+    ensures fault { IfErr result (λ e. e ≢ Failure.TooLong) }
     ensures taken { ConsumesAtMost (R.remaining reader.old) (R.remaining reader.new) room }
 {
     let mut buffer = [0; MAX_PIECE];
     let most = room.min(MAX_PIECE);
     let Ok(count) = read_some(reader, &mut buffer[..most]) else {
-        return Err(InputFault::Read);
+        return Err(Failure::Read);
     };
     bytes.extend_from_slice(&buffer[..count])?;
     Ok(count)

@@ -1,14 +1,14 @@
 //! The commands of `undorc`, over readers and writers that the program hands in.
 #![tactic(auto)]
 
-mod answer;
-mod database;
+mod asked;
+mod base;
+mod ending;
 mod input;
-pub mod laws;
 mod named;
 mod plan;
-mod thin;
 mod words;
 
+pub use crate::asked::base_file;
 pub use crate::input::MAX_INPUT;
 pub use crate::plan::plan_run;

@@ -1,23 +1,28 @@
-//! The command `plan`: what bringing services up would raise.
-ghost use Rattle.std.specs.Prelude.{◌≡◌, ◌≢◌, ◌⊎◌, ℕ, List, length, map, None, string_bytes, IfOk, IfErr, IfSome};
-ghost use Rattle.std.specs.Io.KnownBytes.{Appends};
-ghost use Rattle.rc_cli.specs.Input.{AppendsFront, fault_line};
-ghost use Rattle.rc_cli.specs.Words.{IsWrongLine, names_asked};
-ghost use Rattle.rc_cli.specs.PlanText.{IsLineFor, IsPlanOf, WritesPlan};
-ghost use Rattle.rc_cli.specs.PlanFaults.{BeginsWith, IsNameFault, IsRefused, IsToldAs, TellsFault, fault_text};
+//! The command `plan`: what a change would lower, raise and keep.
+ghost use Rattle.std.specs.Prelude.{◌≡◌, ◌≢◌, ◌⊎◌, ◌<◌, ◌≤◌, ◌+◌, ℕ, None, length, map, string_bytes, IfOk, IfErr, IfSome};
+ghost use Rattle.std.specs.Io.KnownBytes.{Appends, IsAtEnd};
+ghost use Rattle.rc_set.specs.Set.{Has};
+ghost use Rattle.rc_graph.specs.Closure.{IsClosed};
+ghost use Rattle.rc_select.specs.Ask.{ask_of};
+ghost use Rattle.rc_cli.specs.Asked.{plan_asked};
+ghost use Rattle.rc_cli.specs.Base.{bytes_of};
+ghost use Rattle.rc_cli.specs.Input.{AppendsFront, ConsumesAtMost, TellsFailure, WritesAll, WritesFront, fault_line};
+ghost use Rattle.rc_cli.specs.PlanText.{IsAnswer, IsPlanFor, IsPlanIn, IsTextFor, IsUpSet};
+ghost use Rattle.rc_cli.specs.PlanFaults.{IsAskFault, IsFaultOf, IsNameFault, IsRefused, IsTextRefusal, IsToldAs, IsUpFault, TellsFault, fault_text};
 ghost use Rattle.rc_cli.specs.declared.plan.PlanFault.TheVariants.{Memory};
-ghost use Rattle.rc_cli.specs.Thin.{ServiceText};
-ghost use Rattle.rc_cli.specs.ThinReading.{IsFormFault};
-ghost use Rattle.rc_cli.specs.DatabaseFaults.{IsDatabaseFault};
 
-use crate::answer::raise_line;
-use crate::database::{Database, DatabaseFault, database_of};
-use crate::input::{input_word, read_all, tell, write_whole};
+use crate::asked::{plan_asked, tell_words};
+use crate::base::database_of;
+use crate::ending::{FAILED, REFUSED, fail, write_answer};
+use crate::input::{Failure, MAX_INPUT, read_all, tell};
 use crate::named::{NamedFault, named_set, word_lines};
-use crate::thin::{FormFault, read_thin_front};
-use crate::words::{asked, is_memory, write_usage};
-use rc_select::plan_up;
-use rc_set::NoMem;
+use rc_answers::plan_text;
+use rc_db::Db;
+use rc_dbtext::TextFault;
+use rc_graph::Graph;
+use rc_names::Names;
+use rc_select::{NoMem, Plan, PlanFault as WantFault, Request, plan};
+use rc_set::Set;
 use std::alloc::{AllocError, Global};
 use std::io::{Read, Write};
 
@@ -32,14 +37,16 @@ pub enum PlanFault<'a> {
     NotSorted,
     /// A service needs itself along a path.
     Cyclic,
-    /// There are more than 4,096 services.
+    /// There are more than 4,096 services, or as many bundles.
     TooMany,
-    /// What is needed is no service.
+    /// What is needed is no service, or not one that fits.
     Dangling,
-    /// A word names no service.
+    /// A word names nothing.
     Unknown(&'a [u8]),
     /// What is up lacks something that it needs.
     NotClosed,
+    /// Only a change upwards prunes.
+    PruneNeedsUp,
     Memory,
 }
 
@@ -51,28 +58,18 @@ impl From<AllocError> for PlanFault<'_> {
     }
 }
 
-impl From<FormFault> for PlanFault<'_> {
-    ghost from_gives = { λ form fault. (asked : List (List ℕ)) (input : List ℕ) → IsFormFault form input → IsRefused fault asked input };
+impl From<TextFault> for PlanFault<'_> {
+    ghost from_gives = { IsTextRefusal };
 
-    fn from(fault: FormFault) -> Self {
+    fn from(fault: TextFault) -> Self {
         match fault {
-            FormFault::Bad(offset) => PlanFault::Bad(offset),
-            FormFault::Version => PlanFault::Version,
-            FormFault::TooMany => PlanFault::TooMany,
-            FormFault::Memory => PlanFault::Memory,
-        }
-    }
-}
-
-impl From<DatabaseFault> for PlanFault<'_> {
-    ghost from_gives = { λ database fault. (asked : List (List ℕ)) (input : List ℕ) (services : List ServiceText) → BeginsWith services input → IsDatabaseFault database services → IsRefused fault asked input };
-
-    fn from(fault: DatabaseFault) -> Self {
-        match fault {
-            DatabaseFault::NotSorted => PlanFault::NotSorted,
-            DatabaseFault::Dangling => PlanFault::Dangling,
-            DatabaseFault::Cyclic => PlanFault::Cyclic,
-            DatabaseFault::Memory => PlanFault::Memory,
+            TextFault::Bad(offset) => PlanFault::Bad(offset),
+            TextFault::Version => PlanFault::Version,
+            TextFault::NotSorted => PlanFault::NotSorted,
+            TextFault::Cyclic => PlanFault::Cyclic,
+            TextFault::TooMany => PlanFault::TooMany,
+            TextFault::Dangling => PlanFault::Dangling,
+            TextFault::Memory => PlanFault::Memory,
         }
     }
 }
@@ -88,19 +85,10 @@ impl<'a> From<NamedFault<'a>> for PlanFault<'a> {
     }
 }
 
-/// Done.
-const DONE: u8 = 0;
-/// Refused, with a line that says why.
-const REFUSED: u8 = 1;
-/// A wrong command line.
-const WRONG_LINE: u8 = 100;
-/// A device failed, the input is too long, or memory ran out.
-const FAILED: u8 = 111;
-
 /// Runs `undorc plan` on its words, and answers the status.
 ///
-/// The input is a database text and behind it the names that are up, one a line. What goes up is
-/// written to `writer`, and why nothing was written to `faults`.
+/// The database is `base`, where there is one, and else the front of the input. Behind it the input has
+/// the names that are up, one a line. The plan is written to `writer`, and why there is none to `faults`.
 pub fn plan_run<R: Read, W: Write, F: Write>(
     alloc: Global,
     words: &[String],
@@ -109,126 +97,142 @@ pub fn plan_run<R: Read, W: Write, F: Write>(
     writer: &mut W,
     faults: &mut F,
 ) -> u8
-    requires { base ≡ None }
+    ensures statuses { (result ≡ 0) ⊎ (result ≡ 1) ⊎ (result ≡ 100) ⊎ (result ≡ 111) }
 
-    // What was written is the line of the plan for what the input spells and the words ask for.
-    ensures done { result ≡ 0 → IfSome (R.remaining reader.old)
-        (λ input. WritesPlan (names_asked (map string_bytes words.now)) input (W.contents writer.old) (W.contents writer.new)) }
+    // What was written is the plan for what the words ask, and nothing was told.
+    ensures done { result ≡ 0 → IfSome (R.remaining reader.old) (λ input. WritesAll
+        (IsAnswer (map string_bytes words.now) (bytes_of base.entry) input) (W.contents writer.old) (W.contents writer.new)) }
+    ensures untold { result ≡ 0 → F.contents faults.new ≡ F.contents faults.old }
 
-    // A refusal holds, and a front of its line was written, or all of it.
-    ensures refused { result ≡ 1 → IfSome (R.remaining reader.old)
-        (λ input. TellsFault (names_asked (map string_bytes words.now)) input (F.contents faults.old) (F.contents faults.new)) }
+    // A refusal holds, and a front of its line was told, or all of it.
+    ensures refused { result ≡ 1 → IfSome (R.remaining reader.old) (λ input. TellsFault
+        (map string_bytes words.now) (bytes_of base.entry) input (F.contents faults.old) (F.contents faults.new)) }
 
-    // A refusal writes no answer, and a wrong command line leaves the input alone.
-    ensures unwritten { (result ≡ 1) ⊎ (result ≡ 100) → W.contents writer.new
-        ≡ W.contents writer.old }
+    // A wrong command line is found before anything is read.
+    ensures wrong { result ≡ 100 → plan_asked (map string_bytes words.now) ≡ None }
+    ensures right { result ≢ 100 → result ≢ 111 → plan_asked (map string_bytes words.now) ≢ None }
     ensures unread { result ≡ 100 → R.remaining reader.new ≡ R.remaining reader.old }
 
-    ensures wrong { result ≡ 100 → IsWrongLine (map string_bytes words.now) }
-    ensures right { result ≢ 100 → result ≢ 111 → IsWrongLine (map string_bytes words.now) → ⊥ }
-    ensures statuses { (result ≡ 0) ⊎ (result ≡ 1) ⊎ (result ≡ 100) ⊎ (result ≡ 111) }
+    // A failure is told by its line, and what was written is nothing or a front of the plan.
+    ensures failed { result ≡ 111 → TellsFailure (R.remaining reader.old) (F.contents faults.old) (F.contents faults.new) }
+    ensures begun { result ≡ 111 → (W.contents writer.new ≡ W.contents writer.old) ⊎ IfSome (R.remaining reader.old) (λ input. WritesFront
+        (IsAnswer (map string_bytes words.now) (bytes_of base.entry) input) (W.contents writer.old) (W.contents writer.new)) }
+    ensures unwritten { (result ≡ 1) ⊎ (result ≡ 100) → W.contents writer.new ≡ W.contents writer.old }
+
+    // An input that was answered was read to its end, and whatever the status, one byte past the bound is the last that is taken.
+    ensures within { (result ≡ 0) ⊎ (result ≡ 1) → IfSome (R.remaining reader.old) (λ input. length input ≤ MAX_INPUT) }
+    ensures end { (result ≡ 0) ⊎ (result ≡ 1) → IsAtEnd (R.remaining reader.new) }
+    ensures taken { ConsumesAtMost (R.remaining reader.old) (R.remaining reader.new) (MAX_INPUT + 1) }
 {
-    let names = match asked(alloc, words) {
-        Ok(names) => names,
-        Err(error) => {
-            if is_memory(&error) {
-                tell(faults, b"Memory");
-                return FAILED;
-            }
-            write_usage(&error, faults);
-            return WRONG_LINE;
-        }
+    let request = match plan_asked(alloc, words) {
+        Ok(request) => request,
+        Err(fault) => return tell_words(faults, &fault),
     };
     let input = match read_all(alloc, reader) {
         Ok(input) => input,
-        Err(fault) => {
-            tell(faults, input_word(fault));
-            return FAILED;
-        }
+        Err(failure) => return fail(faults, failure),
     };
-    match plan_of(alloc, &names, &input) {
-        Ok(line) => write_answer(writer, faults, &line),
+    match plan_of(alloc, &request, base, &input) {
+        Ok(text) => write_answer(writer, faults, &text),
         Err(fault) => tell_fault(alloc, faults, fault),
     }
 }
 
-/// The line of the plan for an input and the names asked for.
-fn plan_of<'a>(alloc: Global, asked: &[&'a str], input: &'a [u8]) -> Result<Vec<u8>, PlanFault<'a>>
-    ensures plan { IfOk result (λ line. IsPlanOf (map
-        (λ n. n.now) asked.entry.now) input.entry.now line.items) }
-    ensures fault { IfErr result (λ fault. IsRefused fault (map
-        (λ n. n.now) asked.entry.now) input.entry.now) }
-{
-    let (services, taken) = read_thin_front(alloc, input)?;
-    let database = database_of(alloc, &services)?;
-    let ups = word_lines(alloc, &input[taken..])?;
-    let wanted = bytes_of(alloc, asked)?;
-    line_for(alloc, &database, &ups, &wanted)
-}
-
-/// The bytes of texts.
-fn bytes_of<'a>(alloc: Global, texts: &[&'a str]) -> Result<Vec<&'a [u8]>, NoMem>
-    ensures { IfOk result (λ bytes. map (λ b. b.now) bytes.items ≡ map
-        (λ t. t.now) texts.entry.now) }
-{
-    texts.iter().map(|text| text.as_bytes()).collect(alloc)
-}
-
-/// The line of the plan that raises what is asked for, where these are up.
-fn line_for<'a>(
+/// The lines of the plan for what is asked.
+fn plan_of<'a>(
     alloc: Global,
-    database: &Database,
-    ups: &[&'a [u8]],
-    asked: &[&'a [u8]],
+    request: &'a Request,
+    base: Option<&[u8]>,
+    input: &'a [u8],
 ) -> Result<Vec<u8>, PlanFault<'a>>
-    requires { length database.now.names ≡ length database.now.graph }
-    ensures plan { IfOk result (λ line. IsLineFor database.now.names database.now.graph
-        (map (λ w. w.now) ups.entry.now) (map (λ w. w.now) asked.entry.now) line.items) }
-    ensures fault { IfErr result (λ fault. IsNameFault fault database.now.names database.now.graph
-        (map (λ w. w.now) ups.entry.now) (map (λ w. w.now) asked.entry.now)) }
+    ensures plan { IfOk result (λ text. IsPlanFor (ask_of request.entry.now) (bytes_of base.entry) input.entry.now text.items) }
+    ensures fault { IfErr result (λ fault. IsRefused fault (ask_of request.entry.now) (bytes_of base.entry) input.entry.now) }
 {
-    let up = named_set(alloc, &database.names, ups)?;
-    if !database.graph.closed(&up) {
-        return Err(PlanFault::NotClosed);
-    }
-    let wanted = named_set(alloc, &database.names, asked)?;
-    let plan = plan_up(alloc, &database.graph, &up, &wanted)?;
-    Ok(raise_line(alloc, &database.names, plan.raise())?)
+    let (db, rest) = database_of(alloc, base, input)?;
+    let ups = word_lines(alloc, rest)?;
+    text_for(alloc, &db, &ups, request)
 }
 
-/// Writes the answer whole, or tells that it could not.
-fn write_answer<W: Write, F: Write>(writer: &mut W, faults: &mut F, line: &[u8]) -> u8
-    ensures done { result ≡ 0 → Appends (W.contents writer.old) (W.contents writer.new) line.now }
-    ensures statuses { (result ≡ 0) ⊎ (result ≡ 111) }
+/// The lines of the plan for what is asked, where these are up.
+fn text_for<'a>(
+    alloc: Global,
+    db: &Db,
+    ups: &[&'a [u8]],
+    request: &'a Request,
+) -> Result<Vec<u8>, PlanFault<'a>>
+    ensures plan { IfOk result (λ text. IsTextFor db.now (map (λ w. w.now) ups.entry.now) (ask_of request.entry.now) text.items) }
+    ensures fault { IfErr result (λ fault. IsNameFault fault db.now (map (λ w. w.now) ups.entry.now) (ask_of request.entry.now)) }
 {
-    match write_whole(writer, line) {
-        Ok(()) => DONE,
-        Err(_) => {
-            tell(faults, b"Write");
-            FAILED
-        }
+    let up = up_set(alloc, db.names(), db.graph(), ups)?;
+    let plan = planned(alloc, db, &up, request)?;
+    Ok(plan_text(alloc, db.names(), &plan)?)
+}
+
+/// The set of the services that are up.
+fn up_set<'a>(
+    alloc: Global,
+    names: &Names,
+    graph: &Graph,
+    ups: &[&'a [u8]],
+) -> Result<Set, PlanFault<'a>>
+    requires { length names.now ≡ length graph.now }
+    ensures up { IfOk result (IsUpSet names.now graph.now (map (λ w. w.now) ups.entry.now)) }
+    ensures fault { IfErr result (λ fault. IsUpFault fault names.now graph.now (map (λ w. w.now) ups.entry.now)) }
+{
+    let up = named_set(alloc, names, ups)?;
+    if graph.closed(&up) {
+        Ok(up)
+    } else {
+        Err(PlanFault::NotClosed)
+    }
+}
+
+/// The plan of what is asked, where these services are up.
+fn planned<'a>(
+    alloc: Global,
+    db: &Db,
+    up: &Set,
+    request: &'a Request,
+) -> Result<Plan, PlanFault<'a>>
+    requires bound { length up.now ≡ length db.now.names }
+    requires closed { IsClosed db.now.needs (Has up.now) }
+    ensures plan { IfOk result (IsPlanIn db.now up.now (ask_of request.entry.now)) }
+    ensures fault { IfErr result (λ fault. IsAskFault fault db.now (ask_of request.entry.now)) }
+{
+    match plan(alloc, db, db.table(), up, request) {
+        Ok(plan) => Ok(plan),
+        Err(fault) => Err(fault_of(fault, request)),
+    }
+}
+
+/// A refusal of the plan, with the word that it tells.
+fn fault_of<'a>(fault: WantFault, request: &'a Request) -> PlanFault<'a>
+    requires { (place : ℕ) → fault ≡ WantFault.Unknown place → place < length request.now.names.items }
+    ensures { IsFaultOf fault (ask_of request.entry.now) result }
+{
+    match fault {
+        WantFault::PruneNeedsUp => PlanFault::PruneNeedsUp,
+        WantFault::Unknown(place) => PlanFault::Unknown(request.names[place].as_bytes()),
+        WantFault::Memory => PlanFault::Memory,
     }
 }
 
 /// Tells why there is no plan.
 fn tell_fault<F: Write>(alloc: Global, faults: &mut F, fault: PlanFault<'_>) -> u8
+    ensures statuses { (result ≡ 1) ⊎ (result ≡ 111) }
     ensures refused { result ≡ 1 → (fault.entry ≢ PlanFault.Memory)
         × AppendsFront (F.contents faults.old) (F.contents faults.new) (fault_line (fault_text fault.entry)) }
-    ensures statuses { (result ≡ 1) ⊎ (result ≡ 111) }
+    ensures failed { result ≡ 111 → AppendsFront (F.contents faults.old) (F.contents faults.new) (fault_line (fault_text PlanFault.Memory)) }
 {
     if let PlanFault::Memory = fault {
-        tell(faults, b"Memory");
-        return FAILED;
+        return fail(faults, Failure::Memory);
     }
     match text_of(alloc, fault) {
         Ok(text) => {
             tell(faults, &text);
             REFUSED
         }
-        Err(_) => {
-            tell(faults, b"Memory");
-            FAILED
-        }
+        Err(_) => fail(faults, Failure::Memory),
     }
 }
 
@@ -238,17 +242,18 @@ fn text_of(alloc: Global, fault: PlanFault<'_>) -> Result<Vec<u8>, NoMem>
 {
     match fault {
         PlanFault::Bad(offset) => Ok(format!(in alloc; "Bad {offset}")?.into_bytes()),
-        PlanFault::Version => Vec::from_slice(alloc, b"Version"),
-        PlanFault::NotSorted => Vec::from_slice(alloc, b"NotSorted"),
-        PlanFault::Cyclic => Vec::from_slice(alloc, b"Cyclic"),
-        PlanFault::TooMany => Vec::from_slice(alloc, b"TooMany"),
-        PlanFault::Dangling => Vec::from_slice(alloc, b"Dangling"),
         PlanFault::Unknown(word) => {
             let mut text = Vec::from_slice(alloc, b"Unknown ")?;
             text.extend_from_slice(word)?;
             Ok(text)
         }
+        PlanFault::Version => Vec::from_slice(alloc, b"Version"),
+        PlanFault::NotSorted => Vec::from_slice(alloc, b"NotSorted"),
+        PlanFault::Cyclic => Vec::from_slice(alloc, b"Cyclic"),
+        PlanFault::TooMany => Vec::from_slice(alloc, b"TooMany"),
+        PlanFault::Dangling => Vec::from_slice(alloc, b"Dangling"),
         PlanFault::NotClosed => Vec::from_slice(alloc, b"NotClosed"),
+        PlanFault::PruneNeedsUp => Vec::from_slice(alloc, b"PruneNeedsUp"),
         PlanFault::Memory => Vec::from_slice(alloc, b"Memory"),
     }
 }

@@ -1,102 +1,176 @@
 //! The words of the command line, read by `clap`.
-ghost use Rattle.std.specs.Prelude.{◌≡◌, ◌≢◌, ◌↔◌, map, false, string_bytes, IfErr, IfOk, IsTrue};
-ghost use Rattle.clap.specs.Words.{app_of, found_of, kind_of, rows_of, rule_of};
-ghost use Rattle.clap.specs.Words.{subcommand_rows_of};
+ghost use Rattle.std.specs.Prelude.{◌≡◌, ◌≢◌, ◌↔◌, map, false, None, Some, option_map, string_bytes, IfErr, IfNone, IfOk, IfSome, IsTrue};
+ghost use Rattle.clap.specs.Words.{app_of, found_of, kind_of, rows_of, rule_of, subcommand_rows_of, subcommand_of};
+ghost use Rattle.clap.specs.Words.{fault_of, with_rule};
 ghost use Rattle.clap.specs.declared.builder.Command.TheViews.{out-Command as fields_of};
-ghost use Rattle.rc_cli.specs.Words.{IsWrongLine, name_list, names_asked, names_entered};
-ghost use Rattle.rc_cli.specs.Words.{names_of, plan_command, program, up_flag};
+ghost use Rattle.rc_cli.specs.Words.{base_option, flag, has_fault, is_on, plan_command, program};
+ghost use Rattle.rc_cli.specs.Words.{rows_named, with_names, with_ways, word_list, words_in};
 
 use clap::error::ErrorKind;
 use clap::{Arg, ArgAction, ArgMatches, Command, Error};
 use std::alloc::{AllocError, Global};
-use std::io::Write;
 
-/// The names that the words ask for, or what `clap` says of the words. The first word is the
-/// program's own name.
-pub fn asked<'a>(alloc: Global, words: &'a [String]) -> Result<Vec<&'a str>, Error>
-    ensures names { IfOk result (λ names.
-        map (λ n. n.now) names.items ≡ names_asked (map string_bytes words.entry.now)) }
-    ensures right { IfOk result (λ _. ¬ IsWrongLine (map string_bytes words.entry.now)) }
+/// What `clap` makes of the words. The first word is the program's own name.
+pub(crate) fn matches_of<'a>(alloc: Global, words: &'a [String]) -> Result<ArgMatches<'a>, Error>
+    ensures rows { IfOk result (λ m. subcommand_rows_of m
+        ≡ subcommand_of program (map string_bytes words.entry.now)) }
+    ensures right { IfOk result (λ _. has_fault (fault_of program
+        (map string_bytes words.entry.now)) ≡ false) }
     ensures wrong { IfErr result (λ e. kind_of e ≢ ErrorKind.OutOfMemory
-        → IsWrongLine (map string_bytes words.entry.now)) }
+        → IsTrue (has_fault (fault_of program (map string_bytes words.entry.now)))) }
 {
     let command = undorc_command(alloc)?;
-    let matches = command.try_get_matches_from(words)?;
-    Ok(names_in(alloc, &matches)?)
+    command.try_get_matches_from(words)
 }
 
-// The program, with its one command.
+// The program, with its commands.
 fn undorc_command<'a>(alloc: Global) -> Result<Command<'a>, AllocError>
     ensures { IfOk result (λ c. app_of c ≡ program) }
 {
-    let command = plan_command(alloc)?;
+    let plan = plan_command(alloc)?;
     Command::new(alloc, "undorc")
         .about("A manager of services that shows its plan")
         .subcommand_required(true)
-        .subcommand(command)
+        .subcommand(plan)
 }
 
 fn plan_command<'a>(alloc: Global) -> Result<Command<'a>, AllocError>
     ensures app { IfOk result (λ c. app_of c ≡ plan_command) }
     ensures local { IfOk result (λ c. (fields_of c).has_globals ≡ false) }
 {
-    Command::new(alloc, "plan")
+    let command = Command::new(alloc, "plan")
         .about("Reads a database and the names that are up, and prints the plan")
-        .arg(up_argument(alloc))?
-        .arg(names_argument(alloc))
+        .arg(base_argument(alloc))?;
+    let command = with_ways(alloc, command)?;
+    with_names(alloc, command)
 }
 
-fn up_argument<'a>(alloc: Global) -> Arg<'a>
-    ensures rule { rule_of result ≡ up_flag }
+// The command with the flags of the three ways.
+fn with_ways<'a>(alloc: Global, command: Command<'a>) -> Result<Command<'a>, AllocError>
+    requires { (fields_of command).has_globals ≡ false }
+    ensures app { IfOk result (λ c. app_of c ≡ with_ways (app_of command.entry)) }
+    ensures local { IfOk result (λ c. (fields_of c).has_globals ≡ false) }
+{
+    command
+        .arg(flag(
+            alloc,
+            "up",
+            'u',
+            "Raise the names and all that they need; so it is without -d and -D",
+        ))?
+        .arg(flag(
+            alloc,
+            "down",
+            'd',
+            "Lower the names and all that need them, but for what essential services hold up",
+        ))?
+        .arg(flag(
+            alloc,
+            "down-all",
+            'D',
+            "Lower the names and all that need them",
+        ))
+}
+
+// The command with the flags of the names, and the names.
+fn with_names<'a>(alloc: Global, command: Command<'a>) -> Result<Command<'a>, AllocError>
+    requires { (fields_of command).has_globals ≡ false }
+    ensures app { IfOk result (λ c. app_of c ≡ with_names (app_of command.entry)) }
+    ensures local { IfOk result (λ c. (fields_of c).has_globals ≡ false) }
+{
+    command
+        .arg(flag(
+            alloc,
+            "prune",
+            'p',
+            "With -u: lower what is not named, but for what essential services hold up",
+        ))?
+        .arg(flag(alloc, "all", 'a', "Name all that is up, too"))?
+        .arg(words_argument(alloc, "NAME", "The name of a service or of a bundle"))
+}
+
+fn flag<'a>(alloc: Global, id: &'a str, letter: char, help: &'a str) -> Arg<'a>
+    ensures rule { rule_of result ≡ flag id.entry.now letter }
     ensures local { result.global ≡ false }
 {
-    Arg::new(alloc, "up")
-        .short('u')
+    Arg::new(alloc, id)
+        .short(letter)
         .action(ArgAction::SetTrue)
-        .help("Raise the names and all that they need")
+        .help(help)
 }
 
-fn names_argument<'a>(alloc: Global) -> Arg<'a>
-    ensures rule { rule_of result ≡ name_list }
+fn base_argument<'a>(alloc: Global) -> Arg<'a>
+    ensures rule { rule_of result ≡ base_option }
     ensures local { result.global ≡ false }
 {
-    Arg::new(alloc, "names")
-        .value_name("NAME")
+    Arg::new(alloc, "base")
+        .short('b')
+        .value_name("FILE")
+        .action(ArgAction::Set)
+        .help("Read the database from this file, and not from the front of the input")
+}
+
+fn words_argument<'a>(alloc: Global, name: &'a str, help: &'a str) -> Arg<'a>
+    ensures rule { rule_of result ≡ word_list }
+    ensures local { result.global ≡ false }
+{
+    Arg::new(alloc, "words")
+        .value_name(name)
         .action(ArgAction::Append)
         .num_args(0..)
-        .help("The name of a service")
+        .help(help)
 }
 
-// The names of the command that the parse entered.
-fn names_in<'a>(alloc: Global, matches: &ArgMatches<'a>) -> Result<Vec<&'a str>, AllocError>
-    ensures { IfOk result (λ names.
-        map (λ n. n.now) names.items ≡ names_entered (subcommand_rows_of matches.now)) }
+/// The matches of the command of this name, if that is the one that was entered.
+pub(crate) fn command_named<'m, 'a>(
+    matches: &'m ArgMatches<'a>,
+    name: &str,
+) -> Option<&'m ArgMatches<'a>>
+    ensures { option_map (λ m. rows_of (found_of m.now)) result
+        ≡ rows_named name.now (subcommand_rows_of matches.entry.now) }
 {
     match matches.subcommand() {
-        Some((_, inner)) => names_given(alloc, inner),
-        None => Ok(Vec::new(alloc)),
+        Some((entered, inner)) => { if entered == name { Some(inner) } else { None } }
+        None => None,
     }
 }
 
-fn names_given<'a>(alloc: Global, matches: &ArgMatches<'a>) -> Result<Vec<&'a str>, AllocError>
-    ensures { IfOk result (λ names.
-        map (λ n. n.now) names.items ≡ names_of (rows_of (found_of matches.now))) }
+/// Whether a flag was given.
+pub(crate) fn is_on(matches: &ArgMatches<'_>, id: &str) -> bool
+    ensures { result ≡ is_on id.now (rows_of (found_of matches.now)) }
 {
-    match matches.get_strs("names") {
-        Some(names) => Vec::from_slice(alloc, names),
+    match matches.get_str(id) {
+        Some(value) => value == "true",
+        None => false,
+    }
+}
+
+/// The words of a command.
+pub(crate) fn words_in(alloc: Global, matches: &ArgMatches<'_>) -> Result<Vec<String>, AllocError>
+    ensures { IfOk result (λ words.
+        map string_bytes words.items ≡ words_in (rows_of (found_of matches.now))) }
+{
+    match matches.get_strs("words") {
+        Some(words) => strings_of(alloc, words),
         None => Ok(Vec::new(alloc)),
     }
 }
 
-/// Whether the parse ended for want of memory. Each other error tells of a wrong line.
-pub fn is_memory(error: &Error) -> bool
+// Texts of one's own.
+fn strings_of(alloc: Global, words: &[&str]) -> Result<Vec<String>, AllocError>
+    ensures { IfOk result (λ strings. map string_bytes strings.items ≡ map (λ w. w.now) words.now) }
+{
+    let mut strings = Vec::new(alloc);
+    for word in words {
+        let string = String::from_str(alloc, word)?;
+        strings.push(string)?;
+    }
+    Ok(strings)
+}
+
+/// Whether a parse ended for want of memory. Each other error tells of a wrong line.
+pub(crate) fn is_memory(error: &Error) -> bool
     ensures { IsTrue result ↔ (kind_of error.now ≡ ErrorKind.OutOfMemory) }
 {
     error.kind() == ErrorKind::OutOfMemory
-}
-
-/// Writes what `clap` has to say to the user, which ends in a newline. A writer that fails is
-/// ignored.
-pub fn write_usage<W: Write>(error: &Error, faults: &mut W) {
-    let _ = write!(faults, "{error}");
 }

@@ -10,9 +10,9 @@ use std::io::ErrorKind;
 use std::io::ErrorKind::{BrokenPipe, Interrupted};
 use std::{io, str};
 
-/// Five services, and that `root` is up.
+/// The sample of five services and a bundle, and that `root` is up.
 const INPUT: &str =
-    "undorc-db 0\nservices 5\nservice db\nneeds net\nservice log\nneeds\nservice net\nneeds root\nservice root\nneeds\nservice web\nneeds db log\nend\nroot\n";
+    "undorc-db 1\nservices 5\nservice db longrun plain 0 0\nneeds net\nproducer -\nservice log longrun plain 0 0\nneeds\nproducer -\nservice net oneshot plain 0 0\nneeds root\nup 5\ntrue\n\ndown 5\ntrue\n\nservice root oneshot essential 0 0\nneeds\nup 5\ntrue\n\ndown -\nservice web longrun plain 0 0\nneeds db log\nproducer log\nbundles 1\nbundle site web\nend\nroot\n";
 
 const ALL: usize = 4_096;
 

@@ -1,29 +1,22 @@
-//! `undorc`: hands the process's words and streams to the library.
+//! `undorc`: hands the process's words, files and streams to the library.
 #![tactic(auto)]
 
 mod own_name;
 
 use crate::own_name::OwnName;
-use rc_cli::plan_run;
+use rc_cli::{base_file, plan_run};
 use std::io::ErrorKind;
 use std::process::ExitCode;
-use std::{env, io};
+use std::{env, fs, io};
 
 /// A wrong command line.
 const WRONG_LINE: u8 = 100;
-/// Memory ran out.
+/// A file could not be read, or memory ran out.
 const FAILED: u8 = 111;
 
 fn main(rt: HostRuntime) -> ExitCode {
     let status = match words(&rt) {
-        Ok(words) => plan_run(
-            rt.alloc(),
-            &words,
-            None,
-            &mut rt.stdin(),
-            &mut rt.stdout(),
-            &mut rt.stderr(),
-        ),
+        Ok(words) => run(&rt, &words),
         Err(error) => tell(&rt, &error),
     };
     ExitCode::from(status)
@@ -35,12 +28,48 @@ fn words(rt: &HostRuntime) -> io::Result<Vec<String>> {
     Ok(words.collect(rt.alloc())?)
 }
 
+/// Runs the command of the words, and answers the status.
+fn run(rt: &HostRuntime, words: &[String]) -> u8 {
+    match base_file(rt.alloc(), words) {
+        Ok(Some(path)) => match fs::read(rt, path) {
+            Ok(bytes) => plan(rt, words, Some(&bytes)),
+            Err(error) => tell_file(rt, &error),
+        },
+        Ok(None) => plan(rt, words, None),
+        Err(_) => tell_failure(rt, "undorc: Memory"),
+    }
+}
+
+fn plan(rt: &HostRuntime, words: &[String], base: Option<&[u8]>) -> u8 {
+    plan_run(
+        rt.alloc(),
+        words,
+        base,
+        &mut rt.stdin(),
+        &mut rt.stdout(),
+        &mut rt.stderr(),
+    )
+}
+
+/// Tells why a file was not read, and answers the status.
+fn tell_file(rt: &HostRuntime, error: &io::Error) -> u8 {
+    if error.kind() == ErrorKind::OutOfMemory {
+        return tell_failure(rt, "undorc: Memory");
+    }
+    tell_failure(rt, "undorc: Io")
+}
+
 /// Tells why there are no words, and answers the status.
 fn tell(rt: &HostRuntime, error: &io::Error) -> u8 {
     if error.kind() == ErrorKind::InvalidData {
         let _ = rt.eprintln("undorc: a word of the command line is not UTF-8");
         return WRONG_LINE;
     }
-    let _ = rt.eprintln("undorc: Memory");
+    tell_failure(rt, "undorc: Memory")
+}
+
+/// Tells a failure, and answers the status.
+fn tell_failure(rt: &HostRuntime, line: &str) -> u8 {
+    let _ = rt.eprintln(line);
     FAILED
 }
