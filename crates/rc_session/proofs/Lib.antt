@@ -13,6 +13,7 @@ pub mod Playing
 pub mod Arriving
 pub mod Undos
 pub mod Promising
+pub mod EndsAlike
 pub mod Replaying
 pub mod Beginning
 pub mod Hindering

@@ -22,7 +22,7 @@ use Rattle.rc_session.proofs.Undos.{undos_restore, redos_restore}
 use Rattle.rc_session.proofs.Playing.{play_parts}
 
 -- the new state has what is live after the run
-moved_live : (line : Line) (command : Command) (live : List Bool) (new : Line) → MovesTo line command live new → new.current.live ≡ live
+pub moved_live : (line : Line) (command : Command) (live : List Bool) (new : Line) → MovesTo line command live new → new.current.live ≡ live
 moved_live line (Change ask events) live new moved = ap (λ s. s.live) (ends_in line new (with_live line live) moved)
 moved_live line (Undo limit events) live new u = elim u.2 [
   | inl there ↦ ap (λ l. l.current.live) there.1 ∙ sym there.0

@@ -1,20 +1,26 @@
 //! Laws of the definitions, the headline first. The functions do nothing when they run.
 
-ghost use Rattle.std.specs.Prelude.{◌≡◌, ℕ, List, [], Option, Some, length, take, drop, slice_get, Result};
+ghost use Rattle.std.specs.Prelude.{◌≡◌, ℕ, Bool, false, List, [], Option, Some, length, take, drop, slice_get, Result};
 ghost use Rattle.rc_db.specs.Database.{Database, IsDatabase};
 ghost use Rattle.rc_select.specs.PlanSets.{PlanSets};
+ghost use Rattle.rc_set.specs.Set.{Holds};
+ghost use Rattle.rc_graph.specs.declared.Way.{Way};
 ghost use Rattle.rc_core.specs.declared.event.Event.{Event};
+ghost use Rattle.rc_core.specs.End.{EndOf};
+ghost use Rattle.rc_core.specs.Events.{HasFailed};
+ghost use Rattle.rc_core.specs.Failing.{EndsAs};
 ghost use Rattle.rc_core.specs.Course.{IsCourse, course_of};
 ghost use Rattle.rc_core.specs.Settled.{IsSettled};
 ghost use Rattle.rc_line.specs.State.{IsEditOnly};
 ghost use Rattle.rc_line.specs.Line.{Line, IsNext};
 ghost use Rattle.rc_session.specs.declared.refusal.Refusal.{Refusal};
-ghost use Rattle.rc_session.specs.Commands.{Command, Undo, Redo};
+ghost use Rattle.rc_session.specs.Commands.{Command, Undo, Redo, events_of};
 ghost use Rattle.rc_session.specs.Report.{Told};
 ghost use Rattle.rc_session.specs.Task.{IsTask, deadline_of};
 ghost use Rattle.rc_session.specs.Doing.{Runs, Does, IsLineOf};
 ghost use Rattle.rc_session.specs.Refusals.{Refuses};
 ghost use Rattle.rc_session.specs.Plays.{Answers, Plays};
+ghost use Rattle.rc_session.specs.Alike.{IsEndOfFailing};
 ghost use Rattle.rc_session.specs.Promise.{RunsAreOrderly, ChangesAreEntered, EditsAreEntered, UndosRestore, RedosRestore, UndosLeaveWhatRemains, HoldsAllAlong};
 
 /// The headline. For every database, every line of it and every list of commands, with whatever events: each change runs in dependency
@@ -98,4 +104,15 @@ pub fn ways_of_edits_take_no_events()
         IsNext back line → IsEditOnly line.current back.current → Runs d line (Undo limit events) told new → events ≡ [] }
     ensures redo { (d : Database) (line on new : Line) (limit : ℕ) (events : List Event) (told : Told) →
         IsNext line on → IsEditOnly line.current on.current → Runs d line (Redo limit events) told new → events ≡ [] }
+{}
+
+/// What is told of a run that was not stopped hangs on what failed, and on nothing else: not on who was quicker, nor on how many worked.
+pub fn runs_end_alike()
+    ensures end { (d : Database) (line new : Line) (command : Command) (told : Told) → IsDatabase d → IsLineOf d line →
+        (run : Runs d line command told new) → told.stopped ≡ false →
+        Holds new.current.live (EndOf (course_of d.needs run.plan run.deadline) (HasFailed (events_of command))) }
+    ensures fails { (d : Database) (line new : Line) (command : Command) (told : Told) → IsDatabase d → IsLineOf d line →
+        (run : Runs d line command told new) → told.stopped ≡ false →
+        (fails : ℕ → Way → Bool) → EndsAs (course_of d.needs run.plan run.deadline) fails (events_of command) →
+        IsEndOfFailing (course_of d.needs run.plan run.deadline) fails new.current.live told }
 {}

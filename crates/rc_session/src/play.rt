@@ -127,6 +127,7 @@ fn edit_report(alloc: Global, live: Set) -> Report
 fn enough(answer: Result<Report, Refusal>) -> Result<Result<Report, Refusal>, NoMem>
     ensures same { IfOk result (λ same. same ≡ answer) }
     ensures enough { OnOk result (answer ≡ Err Refusal.Memory → ⊥) }
+    ensures short { OnErr result (answer ≡ Err Refusal.Memory) }
 {
     if let Err(Refusal::Memory) = answer {
         return Err(AllocError);
