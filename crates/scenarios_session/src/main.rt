@@ -51,8 +51,10 @@ const ALL_UP: Command = Auto((Up, false, false, &["site"]), &[]);
 
 const OK: Outcome = Outcome::Ok;
 
+const FAILED: Outcome = Outcome::Failed(1);
+
 /// What each session shows, and its commands.
-static SESSIONS: [(&str, &[Command]); 18] = [
+static SESSIONS: [(&str, &[Command]); 22] = [
     ("all come up", &[ALL_UP, Journal]),
     (
         "a change that alters nothing keeps what can be redone",
@@ -229,6 +231,66 @@ static SESSIONS: [(&str, &[Command]); 18] = [
             AutoUndo(&[]),
             Show,
         ],
+    ),
+    (
+        "net fails, log first",
+        &[By(
+            (Up, false, false, &["web"]),
+            0,
+            &[
+                Take(1, LOG),
+                Done(1, LOG, OK),
+                Take(1, ROOT),
+                Done(1, ROOT, OK),
+                Take(1, NET),
+                Done(1, NET, FAILED),
+            ],
+        )],
+    ),
+    (
+        "net fails, root first",
+        &[By(
+            (Up, false, false, &["web"]),
+            0,
+            &[
+                Take(2, ROOT),
+                Done(2, ROOT, OK),
+                Take(2, NET),
+                Done(2, NET, FAILED),
+                Take(1, LOG),
+                Done(1, LOG, OK),
+            ],
+        )],
+    ),
+    (
+        "net fails, log and root at once, log done first",
+        &[By(
+            (Up, false, false, &["web"]),
+            0,
+            &[
+                Take(1, LOG),
+                Take(2, ROOT),
+                Done(1, LOG, OK),
+                Done(2, ROOT, OK),
+                Take(1, NET),
+                Done(1, NET, FAILED),
+            ],
+        )],
+    ),
+    (
+        "net fails, log and root at once, root done first",
+        &[By(
+            (Up, false, false, &["web"]),
+            0,
+            &[
+                Take(1, LOG),
+                Take(2, ROOT),
+                Done(2, ROOT, OK),
+                Take(2, NET),
+                Done(1, LOG, OK),
+                Done(2, NET, FAILED),
+            ],
+        )],
     ),
 ];
 
