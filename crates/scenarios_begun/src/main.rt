@@ -54,7 +54,6 @@ fn show_completed(rt: &(impl Print + AllocGlobal), session: &mut Session) -> io:
 {
     let completed = completed(rt.alloc(), session);
     show_place(rt, session)?;
-    show_copy(rt, session)?;
     match completed {
         Ok(report) => {
             println!(rt; "completed, raised {}", report.raised.len())?;
@@ -82,19 +81,6 @@ fn show_place(rt: &impl Print, session: &Session) -> io::Result<()> {
     let journal = session.journal();
     let (cursor, states) = (journal.cursor(), journal.states());
     println!(rt; "at {cursor} of {states}, {} live", session.live().len())
-}
-
-/// How many services are live in each state of a copy of the line, and where it stands.
-fn show_copy(rt: &(impl Print + AllocGlobal), session: &Session) -> io::Result<()>
-    requires { session.now.begun ≡ false }
-{
-    let copy = session.journal().copy(rt.alloc())?;
-    print!(rt; "a copy: at {} of {}, live", copy.cursor(), copy.states())?;
-    for place in 0..copy.states() {
-        let (live, _) = copy.state(rt.alloc(), place)?;
-        print!(rt; " {}", live.len())?;
-    }
-    println!(rt; "")
 }
 
 fn show_played(rt: &impl Print, played: Played) -> io::Result<()> {
