@@ -53,7 +53,7 @@ fn show_completed(rt: &(impl Print + AllocGlobal), session: &mut Session) -> io:
     ensures { session.new.begun ≡ false }
 {
     let completed = completed(rt.alloc(), session);
-    show_place(rt, session)?;
+    show_line(rt, session)?;
     match completed {
         Ok(report) => {
             println!(rt; "completed, raised {}", report.raised.len())?;
@@ -81,6 +81,26 @@ fn show_place(rt: &impl Print, session: &Session) -> io::Result<()> {
     let journal = session.journal();
     let (cursor, states) = (journal.cursor(), journal.states());
     println!(rt; "at {cursor} of {states}, {} live", session.live().len())
+}
+
+/// Where the line stands, and a copy of it: how many services are live in each of its states.
+fn show_line(rt: &(impl Print + AllocGlobal), session: &Session) -> io::Result<()>
+    requires { session.now.begun ≡ false }
+{
+    show_place(rt, session)?;
+    show_copy(rt, session)
+}
+
+fn show_copy(rt: &(impl Print + AllocGlobal), session: &Session) -> io::Result<()>
+    requires { session.now.begun ≡ false }
+{
+    let copy = session.journal().copy(rt.alloc())?;
+    print!(rt; "a copy: at {} of {}, live", copy.cursor(), copy.states())?;
+    for place in 0..copy.states() {
+        let (live, _) = copy.state(rt.alloc(), place)?;
+        print!(rt; " {}", live.len())?;
+    }
+    println!(rt; "")
 }
 
 fn show_played(rt: &impl Print, played: Played) -> io::Result<()> {
