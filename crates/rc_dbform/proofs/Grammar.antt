@@ -1,16 +1,14 @@
 -- The grammar of a database text: which forms are made of which.
-use Rattle.std.proofs.Common.{◌≡◌, ◌∙◌, ℕ, ◌≤◌, ◌<◌, List, [], ◌∷◌, ◌++◌, length, All, Option, Some, None, IfSome, arith, refl, sym, ap, append_assoc}
-use Rattle.std.proofs.lemmas.List.{append-nil}
+use Rattle.std.proofs.Common.{◌≡◌, ℕ, ◌≤◌, List, [], ◌∷◌, ◌++◌, All, Option, None, IfSome, arith, refl}
 use Rattle.std.specs.List.{flat_map}
-use Rattle.std.specs.Prelude.{codes}
 use Rattle.rc_names.specs.declared.kind.Kind.{Kind}
 use Rattle.rc_names.specs.declared.kind.Kind.TheVariants as kinds
 use Rattle.rc_names.specs.Name.{IsName}
 use Rattle.rc_db.specs.Service.{IsScript}
-use Rattle.rc_dbform.specs.Text.{Line, First, ServiceCount, OfService, OfNeeds, OfProducer, OfUp, OfDown, BundleCount, OfBundle, Last, Head, Body, OfLongrun, OfOneshot, ServiceText, BundleText, DbText, body_lines, service_lines, bundle_lines, counted, db_lines, spell, spells, IsHead, IsBody, IsServiceText, IsBundleText, AreFew, IsDbText}
-use Rattle.rc_dbform.specs.Reading.{IsStuck, one, AreSo}
+use Rattle.rc_dbform.specs.Text.{Line, First, ServiceCount, OfService, OfNeeds, OfProducer, OfUp, OfDown, BundleCount, Last, Head, Body, OfLongrun, OfOneshot, ServiceText, BundleText, DbText, body_lines, service_lines, bundle_lines, counted, db_lines, IsHead, IsBody, IsServiceText, IsBundleText, AreFew, IsDbText}
+use Rattle.rc_dbform.specs.Reading.{one, AreSo}
 use Rattle.rc_dbform.proofs.Sequences.{IsSequence, IsOnce, once_sequence, once_many, counted_sequence}
-use Rattle.rc_dbform.proofs.KindLines.{once_first, once_services, once_bundles, once_head, once_needs, once_producer, once_up, once_down, once_bundle, once_last, IsName-a, IsScript-none, head_kind}
+use Rattle.rc_dbform.proofs.KindLines.{once_first, once_services, once_bundles, once_head, once_needs, once_producer, once_up, once_down, once_bundle, once_last, IsScript-none, head_kind}
 
 -- nothing
 abbrev pub Always : Unit {0} → Type 0

@@ -1,5 +1,5 @@
 -- The kinds of lines: the words of each are words, and each is read once.
-use Rattle.std.proofs.Common.{◌≡◌, ◌≢◌, ◌∙◌, ℕ, ◌<◌, ◌≤◌, ◌^◌, ◌⊎◌, inl, inr, Bool, true, false, List, [], ◌∷◌, ◌++◌, length, get_or, drop, ◌==◌, eq-eqb, All, Option, Some, None, IfSome, zero, suc, arith, refl, sym, ap, subst, append_assoc}
+use Rattle.std.proofs.Common.{◌≡◌, ◌∙◌, ℕ, ◌<◌, ◌≤◌, ◌^◌, Bool, true, false, List, [], ◌∷◌, ◌++◌, length, get_or, drop, ◌==◌, eq-eqb, All, Option, Some, None, IfSome, zero, suc, arith, refl, sym, ap}
 use Rattle.std.proofs.lemmas.Bool.{false≢true}
 use Rattle.std.proofs.lemmas.Fmt.{decimal_injective}
 use Rattle.std.proofs.lemmas.Str.{IsUtf8-from_ascii}
@@ -10,9 +10,9 @@ use Rattle.rc_names.specs.declared.kind.Kind.{Kind}
 use Rattle.rc_names.specs.declared.kind.Kind.TheVariants as kinds
 use Rattle.rc_names.specs.Name.{IsName, IsNameByte}
 use Rattle.rc_db.specs.Service.{IsScript}
-use Rattle.rc_dbform.specs.Text.{Line, First, ServiceCount, OfService, OfNeeds, OfProducer, OfUp, OfDown, BundleCount, OfBundle, Last, Head, BundleText, IsHead, IsBundleText, words, worded, text_behind, spell, kind_word, flag_word, or_dash, length_word}
+use Rattle.rc_dbform.specs.Text.{First, ServiceCount, OfService, OfNeeds, OfProducer, OfUp, OfDown, BundleCount, OfBundle, Last, Head, BundleText, IsHead, IsBundleText, words, text_behind, kind_word, flag_word, or_dash, length_word}
 use Rattle.rc_dbform.specs.Reading.{IsNumber}
-use Rattle.rc_dbform.specs.Words.{IsPlain, ArePlain, BeginsWith}
+use Rattle.rc_dbform.specs.Words.{IsPlain, ArePlain}
 use Rattle.rc_dbform.proofs.Sequences.{IsOnce}
 use Rattle.rc_dbform.proofs.LineReads.{IsKind, plain_numbered}
 use Rattle.rc_dbform.proofs.WordLines.{once_words, plain_cons, each_cons}

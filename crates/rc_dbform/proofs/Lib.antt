@@ -6,3 +6,5 @@ mod KindLines
 mod LineReads
 mod NumberLines
 mod Grammar
+mod Aligned
+mod OneRefusal

@@ -3,7 +3,7 @@ use Rattle.std.proofs.Common.{◌≡◌, ◌∙◌, ℕ, List, [], ◌∷◌, �
 use Rattle.std.proofs.lemmas.List.{append-nil}
 use Rattle.rc_dbform.specs.declared.fault.FormFault.{FormFault}
 use Rattle.rc_dbform.specs.declared.fault.FormFault.TheVariants.{Bad, Version, TooMany, Memory}
-use Rattle.rc_dbform.specs.Text.{Line, words, worded, text_behind, spell, spells}
+use Rattle.rc_dbform.specs.Text.{Line, words, worded, text_behind, spell}
 use Rattle.rc_dbform.specs.Reading.{IsRead, IsRefused, IsNumber, HasNumber, IsNoNumber, HasOtherVersion, HasTooMany, one}
 use Rattle.rc_dbform.specs.Words.{IsPlain, ArePlain, BeginsWith, IsNoLine}
 use Rattle.rc_dbform.proofs.Sequences.{HasNo, stuck_line}

@@ -1,5 +1,5 @@
 -- The first line and the counts: a word and a number.
-use Rattle.std.proofs.Common.{◌≡◌, ◌≢◌, ◌∙◌, ℕ, ◌<◌, ◌≤◌, ◌^◌, List, [], ◌∷◌, ◌++◌, length, get_or, arith, refl, sym, ap, subst}
+use Rattle.std.proofs.Common.{◌≡◌, ◌≢◌, ◌∙◌, ℕ, ◌<◌, ◌≤◌, List, [], ◌∷◌, ◌++◌, get_or, arith, refl, sym, ap, subst}
 use Rattle.std.proofs.lemmas.Fmt.{decimal_digit}
 use Rattle.std.proofs.lemmas.List.{append-nil}
 use Rattle.std.specs.Prelude.{codes}
@@ -9,8 +9,8 @@ use Rattle.rc_dbform.specs.declared.fault.FormFault.{FormFault}
 use Rattle.rc_dbform.specs.declared.fault.FormFault.TheVariants.{Bad, Version, TooMany, Memory}
 use Rattle.rc_dbform.specs.Text.{Line, First, ServiceCount, BundleCount, words, worded, text_behind, spell}
 use Rattle.rc_dbform.specs.Reading.{IsRefused, IsNumber, HasNumber, IsNoNumber, IsNoCount, HasOtherVersion, HasTooMany, one}
-use Rattle.rc_dbform.specs.Words.{IsPlain, ArePlain}
-use Rattle.rc_dbform.proofs.Sequences.{HasNo, stuck_line}
+use Rattle.rc_dbform.specs.Words.{IsPlain}
+use Rattle.rc_dbform.proofs.Sequences.{stuck_line}
 use Rattle.rc_dbform.proofs.LineReads.{plain_numbered}
 use Rattle.rc_dbform.proofs.Numbers.{IsNumber-decimal, digits_value-decimal}
 use Rattle.rc_dbform.proofs.WordLines.{words_once}

@@ -1,5 +1,5 @@
 -- Forms, which are values with their lines: what is read, and where reading is stuck, in a form made of two others or of many.
-use Rattle.std.proofs.Common.{◌≡◌, ◌∙◌, ℕ, ◌+◌, ◌-◌, ◌<◌, ◌≤◌, ◌⊎◌, inl, inr, List, [], ◌∷◌, ◌++◌, length, take, drop, All, zero, suc, add-one, arith, refl, sym, ap, subst, append_assoc, length-append}
+use Rattle.std.proofs.Common.{◌≡◌, ◌∙◌, ℕ, ◌+◌, ◌-◌, ◌<◌, ◌≤◌, inl, inr, List, [], ◌∷◌, ◌++◌, length, take, drop, All, zero, suc, arith, refl, sym, ap, subst, append_assoc, length-append}
 use Rattle.std.proofs.lemmas.Bool.{cases_lt}
 use Rattle.std.proofs.lemmas.List.{append-nil, take-append-le, take-append-drop, take_all}
 use Rattle.std.proofs.lemmas.List.Concat.{flat_map-append}
@@ -50,7 +50,7 @@ pub record IsSequence {A B C : Type 0} (IsA : A → Type 0) (lines_a : A → Lis
 module _ {A B C : Type 0} (IsA : A → Type 0) (lines_a : A → List Line) (IsB : A → B → Type 0) (lines_b : B → List Line) (IsC : C → Type 0) (lines_c : C → List Line)
     (seq : IsSequence IsA lines_a IsB lines_b IsC lines_c) where
   -- the front of a value's lines, from its halves
-  front_two : (c : C) (a : A) (b : B) (n : ℕ) (tail : List ℕ) → IsA a → IsB a b → c ≡ seq.both a b
+  pub front_two : (c : C) (a : A) (b : B) (n : ℕ) (tail : List ℕ) → IsA a → IsB a b → c ≡ seq.both a b
       → spells (take n (lines_c c)) ++ tail ≡ spells (take n (lines_a a)) ++ (spells (take (n - length (lines_a a)) (lines_b b)) ++ tail)
   front_two c a b n tail is_a is_b same =
       ap (λ (d : C). spells (take n (lines_c d)) ++ tail) same
@@ -74,7 +74,7 @@ module _ {A B C : Type 0} (IsA : A → Type 0) (lines_a : A → List Line) (IsB 
       }
 
   -- behind a first that was read the second reads on: where all of the first stands, it is that one
-  second_on : (a c : A) (b : B) (other : C) (n : ℕ) (x tail : List ℕ) → IsOnce IsA lines_a → IsA a → IsA c → IsB c b → other ≡ seq.both c b → length (lines_a a) ≤ n
+  pub second_on : (a c : A) (b : B) (other : C) (n : ℕ) (x tail : List ℕ) → IsOnce IsA lines_a → IsA a → IsA c → IsB c b → other ≡ seq.both c b → length (lines_a a) ≤ n
       → spells (lines_a a) ++ x ≡ spells (take n (lines_c other)) ++ tail → (a ≡ c) × (x ≡ spells (take (n - length (lines_a a)) (lines_b b)) ++ tail)
   second_on a c b other n x tail once is_a is_c is_b made long same =
       let apart = same ∙ front_two other c b n tail is_c is_b made in
@@ -138,7 +138,7 @@ module _ {A : Type 0} (Is : A → Type 0) (lines : A → List Line) where
   All-cons a values is each (suc k) d within = each k d (omega arith)
 
   -- one value more than some
-  cons_sequence : (n : ℕ) → IsSequence Is lines (λ _. AreSo Is n) (flat_map lines) (AreSo Is (suc n)) (flat_map lines)
+  pub cons_sequence : (n : ℕ) → IsSequence Is lines (λ _. AreSo Is n) (flat_map lines) (AreSo Is (suc n)) (flat_map lines)
   cons_sequence n = record {
     both = λ a values. a ∷ values;
     is_both = λ a values is so. (omega (arith, so.0), All-cons a values is so.1);

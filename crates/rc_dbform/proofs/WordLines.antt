@@ -1,11 +1,10 @@
 -- Lines of words: bytes begin with the words of one line.
-use Rattle.std.proofs.Common.{◌≡◌, ◌≢◌, ◌∙◌, ℕ, ◌<◌, ◌≤◌, ◌⊎◌, inl, inr, Bool, true, false, List, [], ◌∷◌, ◌++◌, length, get_or, ◌==◌, eq-eqb, All, zero, suc, arith, refl, sym, ap, subst, append_assoc}
+use Rattle.std.proofs.Common.{◌≡◌, ◌≢◌, ◌∙◌, ℕ, ◌⊎◌, inl, inr, Bool, true, false, List, [], ◌∷◌, ◌++◌, get_or, ◌==◌, eq-eqb, All, zero, suc, arith, refl, sym, ap, subst, append_assoc}
 use Rattle.std.proofs.lemmas.List.Elements.{All-head, All-tail}
 use Rattle.std.proofs.lemmas.Bool.{false≢true}
 use Rattle.std.proofs.lemmas.List.Splits.{slice_split-cons_yes, slice_split-cons_no}
 use Rattle.std.specs.List.{join_with_byte, slice_split, onto_first}
-use Rattle.std.specs.Prelude.{codes}
-use Rattle.rc_dbform.specs.Text.{Line, words, worded, text_behind, spell}
+use Rattle.rc_dbform.specs.Text.{Line, words, worded, text_behind}
 use Rattle.rc_dbform.specs.Words.{IsPlain, ArePlain, BeginsWith}
 use Rattle.rc_dbform.proofs.Sequences.{append-cancel, HasNo, IsOnce, once_line}
 

@@ -12,3 +12,4 @@ mod Lawful
 mod LineLemmas
 mod Unique
 mod Writing
+mod OneFault

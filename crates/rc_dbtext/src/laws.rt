@@ -1,12 +1,12 @@
 //! Laws of the text, each the contract of a function that does nothing.
-ghost use Rattle.std.specs.Prelude.{◌≡◌, ◌++◌, ℕ, List, []};
+ghost use Rattle.std.specs.Prelude.{◌≡◌, ◌≢◌, ◌++◌, ℕ, List, []};
 ghost use Rattle.rc_db.specs.Database.{Database, IsDatabase, IsWritable};
 ghost use Rattle.rc_dbtext.specs.Spelling.{spelling};
 ghost use Rattle.rc_dbtext.specs.TextFaults.{IsFrontFault, IsWholeFault};
 ghost use Rattle.rc_dbtext.specs.declared.fault.TextFault.{TextFault};
 ghost use Rattle.rc_dbtext.specs.declared.fault.TextFault.TheVariants.{Memory};
 
-use rc_dbform::laws::{text_is_not_refused, text_is_unique};
+use rc_dbform::laws::{refusals_are_one, text_is_not_refused, text_is_unique};
 
 /// No text of a database is a proper front of another, and each is the text of one database.
 pub fn spelling_is_unique()
@@ -27,4 +27,14 @@ pub fn spelling_is_not_refused()
 {
     text_is_unique();
     text_is_not_refused();
+}
+
+/// What refuses bytes is one, want of memory aside: the tests exclude each other.
+pub fn faults_are_one()
+    ensures front { (bytes : List ℕ) (a b : TextFault) → IsFrontFault bytes a → IsFrontFault bytes b → a ≢ Memory → b ≢ Memory → a ≡ b }
+    ensures whole { (bytes : List ℕ) (a b : TextFault) → IsWholeFault bytes a → IsWholeFault bytes b → a ≢ Memory → b ≢ Memory → a ≡ b }
+{
+    text_is_unique();
+    text_is_not_refused();
+    refusals_are_one();
 }

@@ -1,8 +1,10 @@
 //! Reads database texts, writes them back, and prints what came of it.
 #![tactic(auto)]
 
+mod large;
 mod rows;
 
+use crate::large::{LONG, MANY_BUNDLES, MANY_SERVICES, many_bundles, many_services, repeated};
 use crate::rows::{CHANGES, SAMPLE, TEXTS};
 use rc_dbtext::{TextFault, read_db, read_db_front, write_db};
 use std::alloc::Global;
@@ -22,7 +24,9 @@ fn main(rt: HostRuntime) -> Result<(), Fail> {
         println!(rt; "{what}")?;
         show_whole(&rt, text.as_bytes())?;
     }
-    Ok(())
+    show_long(&rt)?;
+    show_many_services(&rt)?;
+    show_many_bundles(&rt)
 }
 
 /// What comes of bytes that are to be one text.
@@ -96,4 +100,34 @@ fn show_behind(rt: &(impl Print + AllocGlobal), more: &str) -> Result<(), Fail> 
         )?),
         Err(fault) => Ok(println!(rt; "  at the front {fault:?}")?),
     }
+}
+
+/// Texts of the greatest sizes.
+fn show_long(rt: &(impl Print + AllocGlobal)) -> Result<(), Fail> {
+    for (what, front, piece, times, behind) in &LONG {
+        let text = repeated(rt.alloc(), front, piece, *times, behind)?;
+        println!(rt; "{what}")?;
+        show_whole(rt, text.as_bytes())?;
+    }
+    Ok(())
+}
+
+/// Texts of the most services.
+fn show_many_services(rt: &(impl Print + AllocGlobal)) -> Result<(), Fail> {
+    for (what, count, services, needs) in &MANY_SERVICES {
+        let text = many_services(rt.alloc(), *count, *services, *needs)?;
+        println!(rt; "{what}")?;
+        show_whole(rt, text.as_bytes())?;
+    }
+    Ok(())
+}
+
+/// Texts of the most bundles.
+fn show_many_bundles(rt: &(impl Print + AllocGlobal)) -> Result<(), Fail> {
+    for (what, count, bundles) in &MANY_BUNDLES {
+        let text = many_bundles(rt.alloc(), *count, *bundles)?;
+        println!(rt; "{what}")?;
+        show_whole(rt, text.as_bytes())?;
+    }
+    Ok(())
 }

@@ -53,7 +53,7 @@ pub(crate) static CHANGES: [(&str, &str, &str); 12] = [
 ];
 
 /// What a text shows, and the text.
-pub(crate) static TEXTS: [(&str, &str); 9] = [
+pub(crate) static TEXTS: [(&str, &str); 15] = [
     ("nothing", "undorc-db 1\nservices 0\nbundles 0\nend\n"),
     (
         "texts with newlines, with the word end, and empty",
@@ -86,5 +86,29 @@ pub(crate) static TEXTS: [(&str, &str); 9] = [
     (
         "names by their bytes, bundles with many members and with none",
         "undorc-db 1\nservices 3\nservice Z longrun plain 0 0\nneeds\nproducer -\nservice a longrun essential 0 7\nneeds Z \u{e9}\nproducer \u{e9}\nservice \u{e9} longrun plain 0 0\nneeds\nproducer -\nbundles 2\nbundle all Z a \u{e9}\nbundle none\nend\n",
+    ),
+    (
+        "limits of one and of ten digits",
+        "undorc-db 1\nservices 1\nservice a longrun plain 9 1000000000\nneeds\nproducer -\nbundles 0\nend\n",
+    ),
+    (
+        "a limit of twenty digits, 0 in 64 bits",
+        "undorc-db 1\nservices 1\nservice a longrun plain 18446744073709551616 0\nneeds\nproducer -\nbundles 0\nend\n",
+    ),
+    (
+        "a length of ten digits, 1 in 32 bits",
+        "undorc-db 1\nservices 1\nservice a oneshot plain 0 0\nneeds\nup 4294967297\nx\ndown -\nbundles 0\nend\n",
+    ),
+    (
+        "a count of ten digits, 0 in 32 bits",
+        "undorc-db 1\nservices 4294967296\nbundles 0\nend\n",
+    ),
+    (
+        "a count of bundles with a leading zero",
+        "undorc-db 1\nservices 0\nbundles 00\nend\n",
+    ),
+    (
+        "a last line without its newline, after a text that holds one",
+        "undorc-db 1\nservices 1\nservice a oneshot plain 0 0\nneeds\nup 4\nend\n\ndown -\nbundles 0\nend",
     ),
 ];

@@ -1,20 +1,11 @@
-use Rattle.std.proofs.Common.{◌≡◌, ◌∙◌, ◌<◌, ◌≤◌, ◌++◌, ◌∷◌, [], ℕ, List, length, All, Option, Some, None, IfSome, arith, rules, refl, sym, ap, subst, length-append}
-use Rattle.std.proofs.lemmas.List.{append-nil}
+use Rattle.std.proofs.Common.{◌≡◌, ◌<◌, ◌++◌, ◌∷◌, [], List, length, All, arith, rules, sym, ap, subst, length-append}
 use Rattle.std.proofs.lemmas.List.Elements.{All-push}
 use Rattle.std.proofs.lemmas.Result.{err_from_is_err_and}
 use Rattle.std.specs.List.{flat_map}
-use Rattle.std.specs.Prelude.{string_bytes}
-use Rattle.std.specs.Option.{option_map}
-use Rattle.rc_names.specs.declared.kind.Kind.TheVariants as kinds
-use Rattle.rc_names.specs.Name.{IsName}
-use Rattle.rc_db.specs.Service.{IsScript}
-use Rattle.rc_dbform.specs.FormText.{body_text}
-use Rattle.rc_dbform.specs.Text.{First, ServiceCount, OfService, OfNeeds, OfProducer, OfUp, OfDown, BundleCount, OfBundle, Last, ServiceText, BundleText, DbText, IsHead, IsBody, IsServiceText, IsBundleText, IsDbText, AreFew, body_lines, service_lines, bundle_lines, counted, db_lines, spell, spells}
-use Rattle.rc_dbform.specs.Reading.{IsStuck, AreSo, one}
-use Rattle.rc_dbform.proofs.Sequences.{refused_where, stuck_first, stuck_second, stuck_many, read_both, more_many, so_many, counted_sequence}
-use Rattle.rc_dbform.proofs.Grammar.{Always, no_lines, oneshot_sequence, longrun_sequence, some_body, IsTail, tail_lines, tail_sequence, some_tail, service_sequence, once_service, some_service, once_all_services, once_all_bundles, end_lines, end_sequence, inner_lines, inner_sequence, db_sequence}
-use Rattle.rc_dbform.proofs.KindLines.{once_first, once_services, once_bundles, once_head, once_needs, once_producer, once_up, once_down, once_bundle, bundle_kind}
-use Rattle.rc_dbform.proofs.NumberLines.{services_count, bundles_count, count_read, no_count}
+use Rattle.rc_dbform.specs.Text.{ServiceText, IsServiceText, service_lines}
+use Rattle.rc_dbform.specs.Reading.{IsStuck, AreSo}
+use Rattle.rc_dbform.proofs.Sequences.{refused_where, stuck_many, more_many}
+use Rattle.rc_dbform.proofs.Grammar.{once_service}
 use Rattle.rc_dbform.proofs.forms.services_of.Goals as goal
 
 pub returns-in_err-service-clause-fault : goal.returns-in_err-service-clause-fault

@@ -1,6 +1,5 @@
 use Rattle.std.proofs.Common.{◌≡◌, ◌∙◌, ◌∷◌, ◌++◌, [], List, ℕ, arith, ap, sym}
 use Rattle.std.specs.Fmt.{decimal}
-use Rattle.std.specs.Str.Parse.{digits_value}
 use Rattle.rc_dbform.specs.Text.{worded}
 use Rattle.rc_dbform.proofs.Numbers.{decimal-number}
 use Rattle.rc_dbform.proofs.lines.count_line.Goals as goal

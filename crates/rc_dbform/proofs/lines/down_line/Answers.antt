@@ -1,7 +1,5 @@
-use Rattle.std.proofs.Common.{◌≡◌, ◌∙◌, List, ℕ, [], get_or, length, IfSome, sym, ap, true}
+use Rattle.std.proofs.Common.{◌≡◌, ◌∙◌, List, ℕ, [], get_or, IfSome, sym, ap, true}
 use Rattle.std.proofs.lemmas.Result.{err_from_is_err_and}
-use Rattle.std.specs.Prelude.{codes}
-use Rattle.std.specs.Fmt.{decimal}
 use Rattle.rc_db.specs.Service.{IsScript}
 use Rattle.rc_dbform.specs.Text.{OfDown, length_word}
 use Rattle.rc_dbform.proofs.KindLines.{down_kind, no_down}

@@ -1,6 +1,5 @@
-use Rattle.std.proofs.Common.{◌≡◌, ◌∙◌, List, ℕ, [], get_or, sym, ap, true}
+use Rattle.std.proofs.Common.{◌≡◌, true}
 use Rattle.std.proofs.lemmas.Result.{err_from_is_err_and}
-use Rattle.std.specs.Prelude.{codes}
 use Rattle.rc_dbform.proofs.NumberLines.{no_first, other_first}
 use Rattle.rc_dbform.proofs.lines.first_line.Goals as goal
 

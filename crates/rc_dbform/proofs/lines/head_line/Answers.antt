@@ -1,7 +1,5 @@
-use Rattle.std.proofs.Common.{All, IfSome}
 use Rattle.std.proofs.lemmas.Result.{err_from_is_err_and}
-use Rattle.rc_names.specs.Name.{IsName}
-use Rattle.rc_dbform.specs.Text.{OfService, IsHead, IsBundleText}
+use Rattle.rc_dbform.specs.Text.{OfService, IsHead}
 use Rattle.rc_dbform.proofs.KindLines.{head_kind}
 use Rattle.rc_dbform.proofs.LineReads.{no_line_here, other_line}
 use Rattle.rc_dbform.proofs.lines.head_line.Goals as goal

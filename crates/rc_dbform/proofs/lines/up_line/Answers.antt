@@ -1,9 +1,8 @@
-use Rattle.std.proofs.Common.{◌≡◌, ◌∙◌, List, ℕ, [], get_or, length, IfSome, sym, ap, true}
+use Rattle.std.proofs.Common.{◌∙◌, List, ℕ, [], get_or, length, sym, ap}
 use Rattle.std.proofs.lemmas.Result.{err_from_is_err_and}
-use Rattle.std.specs.Prelude.{codes}
 use Rattle.std.specs.Fmt.{decimal}
 use Rattle.rc_db.specs.Service.{IsScript}
-use Rattle.rc_dbform.specs.Text.{OfUp, length_word}
+use Rattle.rc_dbform.specs.Text.{OfUp}
 use Rattle.rc_dbform.proofs.KindLines.{up_kind}
 use Rattle.rc_dbform.proofs.LineReads.{no_line_here, other_line}
 use Rattle.rc_dbform.proofs.lines.up_line.Goals as goal

@@ -1,8 +1,7 @@
-use Rattle.std.proofs.Common.{◌≡◌, ◌∙◌, ◌++◌, ◌∷◌, [], ◌==◌, List, ℕ, map, ap, sym, append_assoc}
+use Rattle.std.proofs.Common.{◌≡◌, ◌∙◌, ◌++◌, ◌∷◌, [], ◌==◌, List, ℕ, ap, sym, append_assoc}
 use Rattle.std.proofs.lemmas.List.Splits.{join_with_byte-slice_split}
 use Rattle.std.specs.List.{slice_split}
 use Rattle.rc_dbform.specs.Text.{worded}
-use Rattle.rc_dbform.specs.Words.{BeginsWith}
 use Rattle.rc_dbform.proofs.WordLines.{split_plain}
 use Rattle.rc_dbform.proofs.words.words_of.Goals as goal
 
