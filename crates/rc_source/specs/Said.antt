@@ -1,4 +1,4 @@
-use Rattle.std.specs.Prelude.{◌≡◌, ◌<◌, ◌^◌, ◌⊎◌, ℕ, List, All, Contains, IfSome, codes, slice_get, false, map, option_map, string_bytes}
+use Rattle.std.specs.Prelude.{◌≡◌, ◌<◌, ◌^◌, ◌⊎◌, ◌↔◌, ℕ, List, All, Contains, IfSome, codes, slice_get, false, map, option_map, string_bytes}
 use Rattle.std.specs.Option.{is_some}
 use Rattle.rc_names.specs.Name.{IsName}
 use Rattle.rc_source.specs.declared.definition.Definition.{Definition}
@@ -7,7 +7,7 @@ use Rattle.rc_source.specs.declared.entry.Pipes.{Pipes}
 use Rattle.rc_source.specs.declared.entry.Service.{Service}
 use Rattle.rc_source.specs.Tree.{Source, file_at, listed}
 use Rattle.rc_source.specs.Kinds.{is_hidden}
-use Rattle.rc_source.specs.Meaning.{Meaning, ListsNames, limit_in, given_in}
+use Rattle.rc_source.specs.Meaning.{Meaning, AreMeanings, ListsNames, limit_in, given_in}
 
 -- the meaning that a definition holds
 abbrev pub meaning_of : Definition → Meaning
@@ -29,6 +29,11 @@ meaning_of d = record {
 -- the names of meanings, in their order
 abbrev pub meant : List Meaning → List (List ℕ)
 meant ms = map (λ m. m.name) ms
+
+-- meanings of distinct names, and these names in any order
+pub record AreFound (ms : List Meaning) (names : List (List ℕ)) : Type 0 where
+  pub meanings : AreMeanings ms
+  pub all : (name : List ℕ) → Contains names name ↔ Contains (meant ms) name
 
 -- a line of the file gives the name, or what stands in the folder has it and is not hidden
 abbrev pub IsNamedIn : Source → List ℕ → List ℕ → List ℕ → List ℕ → Type 0

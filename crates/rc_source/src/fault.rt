@@ -77,6 +77,49 @@ pub enum SourceFault {
     Memory,
 }
 
+impl SourceFault {
+    ghost use Rattle.std.specs.Prelude.{◌≡◌};
+    ghost use Rattle.rc_source.specs.Tests.{carried, flaw_of};
+
+    /// What is wrong.
+    pub fn flaw(&self) -> Flaw
+        ensures { result ≡ flaw_of self.now }
+    {
+        match self {
+            SourceFault::Io(_) => Flaw::Io,
+            SourceFault::NotText(_) => Flaw::NotText,
+            SourceFault::TooLong(_) => Flaw::TooLong,
+            SourceFault::BadName(_) => Flaw::BadName,
+            SourceFault::Twice(_) => Flaw::Twice,
+            SourceFault::NoType(_) => Flaw::NoType,
+            SourceFault::BadType(_) => Flaw::BadType,
+            SourceFault::NoUp(_) => Flaw::NoUp,
+            SourceFault::NoRun(_) => Flaw::NoRun,
+            SourceFault::BadTimeout(_) => Flaw::BadTimeout,
+            SourceFault::Memory => Flaw::Memory,
+        }
+    }
+
+    /// The name of the entry; empty where a tree could not be listed, and for want of memory.
+    pub fn entry(&self) -> &str
+        ensures { result.now ≡ carried self.now }
+    {
+        match self {
+            SourceFault::Io(name)
+            | SourceFault::NotText(name)
+            | SourceFault::TooLong(name)
+            | SourceFault::BadName(name)
+            | SourceFault::Twice(name)
+            | SourceFault::NoType(name)
+            | SourceFault::BadType(name)
+            | SourceFault::NoUp(name)
+            | SourceFault::NoRun(name)
+            | SourceFault::BadTimeout(name) => name.as_str(),
+            SourceFault::Memory => "",
+        }
+    }
+}
+
 impl From<AllocError> for SourceFault {
     ghost use Rattle.std.specs.Prelude.{◌≡◌};
     ghost use Rattle.rc_source.specs.declared.fault.SourceFault.TheVariants.{Memory};

@@ -55,10 +55,7 @@ impl<R: Files + AllocGlobal + Clone + Drop> Tree for FolderTree<R> {
         folder: &str,
     ) -> Result<Option<Vec<String>>, TreeFault> {
         let path = self.path(alloc, service, folder)?;
-        noted(
-            &mut self.failures,
-            if_there(names_in(&self.rt, alloc, path.as_str())),
-        )
+        noted(&mut self.failures, names_at(&self.rt, alloc, path.as_str()))
     }
 
     fn bytes(
@@ -107,8 +104,29 @@ fn noted<X>(failures: &mut u64, answer: io::Result<X>) -> Result<X, TreeFault>
 fn if_there<X>(answer: io::Result<X>) -> io::Result<Option<X>> {
     match answer {
         Ok(value) => Ok(Some(value)),
-        Err(fault) if fault.kind() == ErrorKind::NotFound => Ok(None),
+        Err(fault) if leads_nowhere(fault.kind()) => Ok(None),
         Err(fault) => Err(fault),
+    }
+}
+
+// Whether a path is refused because it leads nowhere: a name is missing, or a link leads through a
+// file or back to itself.
+fn leads_nowhere(kind: ErrorKind) -> bool {
+    matches!(
+        kind,
+        ErrorKind::NotFound | ErrorKind::NotADirectory | ErrorKind::FilesystemLoop
+    )
+}
+
+// The names in a directory, if something is there. A file there is a fault.
+fn names_at<R: Files + AllocGlobal + Clone + Drop>(
+    rt: &R,
+    alloc: Global,
+    path: &str,
+) -> io::Result<Option<Vec<String>>> {
+    match if_there(rt.metadata(path))? {
+        Some(_) => Ok(Some(names_in(rt, alloc, path)?)),
+        None => Ok(None),
     }
 }
 
@@ -126,7 +144,7 @@ fn names_in<R: Files + AllocGlobal + Clone + Drop>(
     Ok(names)
 }
 
-// The names of the subdirectories of a directory; a link to a directory is one.
+// The names of the subdirectories of a directory, but for hidden ones; a link to a directory is one.
 fn subdirectories<R: Files + AllocGlobal + Clone + Drop>(
     rt: &R,
     alloc: Global,
@@ -134,7 +152,7 @@ fn subdirectories<R: Files + AllocGlobal + Clone + Drop>(
 ) -> io::Result<Vec<String>> {
     let mut names = Vec::new(alloc);
     for name in names_in(rt, alloc, path)? {
-        if is_directory(rt, alloc, path, name.as_str())? {
+        if !name.starts_with('.') && is_directory(rt, alloc, path, name.as_str())? {
             names.push(name)?;
         }
     }

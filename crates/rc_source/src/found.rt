@@ -3,26 +3,30 @@ ghost use Rattle.rc_source.specs.Meaning.{IsMeaning, AreMeanings};
 ghost use Rattle.rc_source.specs.Said.{meaning_of, meant};
 
 use crate::definition::Definition;
+use crate::sets;
 use rc_names::NoMem;
 use std::alloc::Global;
+use std::collections::BTreeSet;
 use std::marker::Model;
 
-// Definitions of distinct names, in the order in which they were found.
+// Definitions of distinct names, in the order in which they were found, and their names as a set.
 #[derive(Drop)]
 pub(crate) struct Found {
+    alloc: Global,
     definitions: Vec<Definition>,
+    names: BTreeSet<String>,
 }
 
 impl Model for Found {
-    ghost use Rattle.std.specs.Prelude.{List, map};
-    ghost use Rattle.rc_source.specs.Meaning.{Meaning, AreMeanings};
-    ghost use Rattle.rc_source.specs.Said.{meaning_of};
+    ghost use Rattle.std.specs.Prelude.{List, map, string_bytes};
+    ghost use Rattle.rc_source.specs.Meaning.{Meaning};
+    ghost use Rattle.rc_source.specs.Said.{AreFound, meaning_of};
 
     ghost Value = { List Meaning };
 
     ghost view = { λ found. map meaning_of found.definitions.items };
 
-    ghost invariant = { λ found. AreMeanings (map meaning_of found.definitions.items) };
+    ghost invariant = { λ found. AreFound (map meaning_of found.definitions.items) (map string_bytes found.names.keys) };
 }
 
 impl Found {
@@ -31,7 +35,9 @@ impl Found {
         ensures { result ≡ [] }
     {
         Found {
+            alloc,
             definitions: Vec::new(alloc),
+            names: BTreeSet::new(alloc),
         }
     }
 
@@ -39,7 +45,7 @@ impl Found {
     pub(crate) fn has(&self, name: &str) -> bool
         ensures { IsTrue result ↔ Contains (meant self.now) name.now }
     {
-        is_named(&self.definitions, name)
+        sets::has(&self.names, name)
     }
 
     // Puts a definition of a new name behind them.
@@ -49,7 +55,9 @@ impl Found {
         ensures added { OnOk result (self.new ≡ self.old ++ meaning_of definition ∷ []) }
         ensures err { OnErr result (self.new ≡ self.old) }
     {
-        self.definitions.push(definition)?;
+        self.definitions.reserve(1)?;
+        sets::add(self.alloc, &mut self.names, definition.name.text())?;
+        self.definitions.push_reserved(definition);
         Ok(())
     }
 
@@ -60,16 +68,4 @@ impl Found {
     {
         self.definitions
     }
-}
-
-// Whether a definition has this name.
-fn is_named(definitions: &[Definition], name: &str) -> bool
-    ensures { IsTrue result ↔ Contains (meant (map meaning_of definitions.now)) name.now }
-{
-    for definition in definitions {
-        if definition.name.text() == name {
-            return true;
-        }
-    }
-    false
 }

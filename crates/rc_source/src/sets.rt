@@ -18,6 +18,13 @@ pub(crate) fn add(alloc: Global, set: &mut BTreeSet<String>, text: &str) -> Resu
     Ok(set.insert(text)?)
 }
 
+// Whether a text is in.
+pub(crate) fn has(set: &BTreeSet<String>, text: &str) -> bool
+    ensures { IsTrue result ↔ Contains (map string_bytes set.now.keys) text.now }
+{
+    set.contains(text)
+}
+
 // The texts of a set, in byte order.
 pub(crate) fn texts(alloc: Global, set: &BTreeSet<String>) -> Result<Vec<String>, NoMem>
     ensures texts { IfOk result (λ texts. map string_bytes texts.items ≡ map string_bytes set.now.keys) }

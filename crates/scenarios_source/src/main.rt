@@ -1,42 +1,14 @@
 //! Reads trees of source directories, and prints of each what was read, or the fault.
 #![tactic(auto)]
 
-mod failing;
 mod shown;
 
-use crate::failing::FailingTree;
 use crate::shown::show;
 use rc_names::NoMem;
 use rc_source::MemoryTree;
+use samples_trees::{FailingTree, File, SITE, sample, tree_of};
 use std::alloc::Global;
 use std::io;
-
-// A file: its directory, its path there, and its bytes.
-type File<'a> = (&'a str, &'a str, &'a [u8]);
-
-/// The sample: six directories.
-static SAMPLE: [File<'static>; 17] = [
-    ("root", "type", b"oneshot\n"),
-    ("root", "flag-essential", b""),
-    ("root", "up", b"true\n"),
-    ("net", "type", b"oneshot\n"),
-    ("net", "dependencies", b"root\n"),
-    ("net", "up", b"true\n"),
-    ("net", "down", b"true\n"),
-    ("db", "type", b"longrun\n"),
-    ("db", "run", b""),
-    ("db", "dependencies", b"net\n"),
-    ("log", "type", b"longrun\n"),
-    ("log", "run", b""),
-    ("log", "consumer-for", b"web\n"),
-    ("web", "type", b"longrun\n"),
-    ("web", "run", b""),
-    ("web", "dependencies.d/db", b""),
-    ("web", "producer-for", b"log\n"),
-];
-
-/// The bundle of the sample.
-static SITE: [File<'static>; 2] = [("site", "type", b"bundle"), ("site", "contents", b"web")];
 
 /// The calls that reading the sample takes: one for the list, and one for each file that is looked for.
 const SAMPLE_CALLS: usize = 56;
@@ -222,24 +194,6 @@ fn show_devices(rt: &(impl Print + AllocGlobal)) -> io::Result<()> {
         show(rt, what.as_str(), &mut [tree])?;
     }
     Ok(())
-}
-
-// The tree of files.
-fn tree_of(alloc: Global, files: &[File<'_>]) -> Result<MemoryTree, NoMem> {
-    let mut tree = MemoryTree::new(alloc);
-    for (service, path, bytes) in files {
-        tree.put(service, path, bytes)?;
-    }
-    Ok(tree)
-}
-
-// The sample with its bundle.
-fn sample(alloc: Global) -> Result<MemoryTree, NoMem> {
-    let mut tree = tree_of(alloc, &SAMPLE)?;
-    for (service, path, bytes) in &SITE {
-        tree.put(service, path, bytes)?;
-    }
-    Ok(tree)
 }
 
 // A tree of one oneshot that is right, but for one file.
