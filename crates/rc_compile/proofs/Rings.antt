@@ -1,0 +1,38 @@
+use Rattle.std.proofs.Common.{◌≡◌, ◌∙◌, ℕ, List, [], ◌∷◌, ◌++◌, Contains, ap}
+use Rattle.std.specs.Prelude.{Some, slice_get}
+use Rattle.std.proofs.lemmas.Option.{slice_get-get_or}
+use Rattle.rc_graph.specs.Needs.{Reaches}
+use Rattle.rc_db.specs.Database.{Database, IsDatabase}
+use Rattle.rc_source.specs.Meaning.{Meaning}
+use Rattle.rc_holds.specs.Along.{EachNext, IsShownCycle}
+use Rattle.rc_holds.specs.Standing.{NeedsNamed}
+use Rattle.rc_compile.specs.Compiled.{IsDatabaseOf}
+
+-- what a list contains stands at a place of it
+pub place_of : (names : List (List ℕ)) (name : List ℕ) → Contains names name → (s : ℕ) × (slice_get names s ≡ Some name)
+place_of names name (k, within, here) = (k, slice_get-get_or names k name within ∙ ap (λ x. Some x) here)
+
+-- the first of a list, or else a last one
+abbrev first_of : List (List ℕ) → List ℕ → List ℕ
+first_of [] last = last
+first_of (x ∷ xs) last = x
+
+head_need : (ms : List Meaning) (rest : List (List ℕ)) (a last : List ℕ) → EachNext (NeedsNamed ms) (a ∷ (rest ++ last ∷ [])) → NeedsNamed ms a (first_of rest last)
+head_need ms [] a last path = path.0
+head_need ms (x ∷ xs) a last path = path.0
+
+module _ (ms : List Meaning) (d : Database) (of : IsDatabaseOf ms d) where
+  -- services that need one another by name reach one another by place
+  reach : (xs : List (List ℕ)) (a b : List ℕ) (s t : ℕ) → slice_get d.names s ≡ Some a → slice_get d.names t ≡ Some b → EachNext (NeedsNamed ms) (a ∷ (xs ++ b ∷ [])) → Reaches d.needs s t
+  reach [] a b s t ps pt path = ([], ((of.needs a b s t ps pt).1 path.0, tt))
+  reach (x ∷ xs) a b s t ps pt path =
+      let place = place_of d.names x ((of.names.same x).1 path.0.1) in
+      let rest = reach xs x b place.0 t place.1 pt path.1 in
+      (place.0 ∷ rest.0, ((of.needs a x s place.0 ps place.1).1 path.0, rest.1))
+
+  pub no_ring : IsDatabase d → (names : List (List ℕ)) → IsShownCycle (NeedsNamed ms) names → ⊥
+  no_ring is [] ring = ring
+  no_ring is (first ∷ rest) ring =
+      let own : NeedsNamed ms first (first_of rest first) = head_need ms rest first first ring.2 in
+      let place = place_of d.names first ((of.names.same first).1 own.0) in
+      is.acyclic place.0 (reach rest first first place.0 place.0 place.1 place.1 ring.2)

@@ -1,0 +1,21 @@
+use Rattle.std.proofs.Common.{◌↔◌, List, IsTrue, IfOk, ℕ, sym, subst}
+use Rattle.std.specs.Global.{Vec}
+use Rattle.rc_graph.specs.Rows.{rows}
+use Rattle.rc_source.specs.Said.{meaning_of}
+use Rattle.rc_compile.specs.declared.scan.Told.{Told}
+use Rattle.rc_compile.specs.Told.{Shows, IsUnmatched}
+use Rattle.rc_compile.proofs.scan.has_flaw.Goals as goal
+
+pub returns-in-Unknown : goal.returns-in-Unknown
+returns-in-Unknown c =
+    let P : Told → Type 0 = λ told. IfOk c.has_unknown.result (λ flawed. IsTrue flawed ↔ Shows c.args.book.now told (meaning_of c.args.definition.now)) in
+    subst P (sym c.in-Unknown.is) c.has_unknown.ensures
+
+pub returns-in-NoMatch : goal.returns-in-NoMatch
+returns-in-NoMatch c =
+    let names = c.args.book.now.services in
+    let m = meaning_of c.args.definition.now in
+    let Fed : List (Vec ℕ) → Type 0 = λ v. IsTrue c.is_unmatched.result ↔ IsUnmatched names (rows v) (rows c.deref-in-NoMatch.result.now) m in
+    let Read : List (Vec ℕ) → Type 0 = λ v. IsTrue c.is_unmatched.result ↔ IsUnmatched names (rows c.args.book.now.feeds.items) (rows v) m in
+    let P : Told → Type 0 = λ told. IsTrue c.is_unmatched.result ↔ Shows c.args.book.now told m in
+    subst P (sym c.in-NoMatch.is) (subst Read c.deref-in-NoMatch.ensures.value (subst Fed c.deref.ensures.value c.is_unmatched.ensures))

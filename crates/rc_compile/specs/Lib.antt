@@ -1,0 +1,6 @@
+pub mod Pipes
+pub mod Given
+pub mod Compiled
+pub mod CompileFaults
+pub mod Told
+pub mod Placed

@@ -1,0 +1,50 @@
+// From definitions that have passed all tests but one to a database.
+ghost use Rattle.std.specs.Prelude.{map, IfOk, IfErr, OnOk};
+ghost use Rattle.rc_db.specs.Database.{IsWritable};
+ghost use Rattle.rc_source.specs.Meaning.{AreMeanings};
+ghost use Rattle.rc_source.specs.Said.{meaning_of};
+ghost use Rattle.rc_holds.specs.Mirror.{Mirrors};
+ghost use Rattle.rc_holds.specs.Standing.{HasContent};
+ghost use Rattle.rc_compile.specs.Compiled.{IsDatabaseOf};
+ghost use Rattle.rc_compile.specs.CompileFaults.{AreFree, IsCompileFault};
+ghost use Rattle.rc_compile.specs.Told.{IsBook};
+
+use crate::CompileFault;
+use crate::book::Book;
+use crate::database::joined;
+use crate::needs::graph_of;
+use rc_db::Db;
+use rc_graph::Graph;
+use rc_holds::bundle_sets;
+use rc_source::Definition;
+use std::alloc::Global;
+
+// The database, unless services need one another in a circle.
+pub(crate) fn build(
+    alloc: Global,
+    definitions: &[Definition],
+    book: Book,
+    contents: &Graph,
+) -> Result<Db, CompileFault>
+    requires meanings { AreMeanings (map meaning_of definitions.now) }
+    requires book { IsBook (map meaning_of definitions.now) book }
+    requires contents { Mirrors (HasContent (map meaning_of definitions.now)) book.bundles book.bundles contents.now }
+    requires free { AreFree (map meaning_of definitions.now) 6 }
+    ensures db { IfOk result (IsDatabaseOf (map meaning_of definitions.now)) }
+    ensures writable { IfOk result (λ db. IsWritable db) }
+    ensures free { OnOk result (AreFree (map meaning_of definitions.now) 7) }
+    ensures fault { IfErr result (IsCompileFault (map meaning_of definitions.now)) }
+{
+    let sets = match bundle_sets(alloc, definitions, &book.services, &book.bundles, contents) {
+        Ok(sets) => sets,
+        Err(_) => return Err(CompileFault::Memory),
+    };
+    let graph = match graph_of(alloc, definitions, &book.services, &book.bundles, &sets) {
+        Ok(graph) => graph,
+        Err(fault) => return Err(fault),
+    };
+    match joined(alloc, definitions, book, graph, &sets) {
+        Ok(db) => Ok(db),
+        Err(_) => Err(CompileFault::Memory),
+    }
+}

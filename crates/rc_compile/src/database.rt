@@ -1,0 +1,73 @@
+// The database of definitions, once their needs and sets are known.
+ghost use Rattle.std.specs.Prelude.{◌≡◌, ◌↔◌, ℕ, List, length, map, Contains, IfOk};
+ghost use Rattle.rc_db.specs.Database.{IsWritable};
+ghost use Rattle.rc_source.specs.Meaning.{AreMeanings};
+ghost use Rattle.rc_source.specs.Said.{meaning_of};
+ghost use Rattle.rc_holds.specs.Joining.{AllWithin};
+ghost use Rattle.rc_holds.specs.Mirror.{Mirrors};
+ghost use Rattle.rc_holds.specs.Pipelines.{IsService};
+ghost use Rattle.rc_holds.specs.Sets.{AreSetsOf};
+ghost use Rattle.rc_holds.specs.Standing.{NeedsNamed, StandsFor};
+ghost use Rattle.rc_compile.specs.Compiled.{IsDatabaseOf};
+ghost use Rattle.rc_compile.specs.Pipes.{HasTakenName, HasWrongType};
+ghost use Rattle.rc_compile.specs.Placed.{AreAsDefined};
+ghost use Rattle.rc_compile.specs.Told.{IsBook};
+
+use crate::book::Book;
+use crate::join::join;
+use crate::services::{places_of, services_of};
+use crate::table::table_of;
+use rc_db::{Db, Service};
+use rc_graph::Graph;
+use rc_names::Names;
+use rc_set::{NoMem, Set};
+use rc_source::Definition;
+use std::alloc::Global;
+
+// The database of definitions whose pipes are right: the graph says what each service needs, and the
+// sets what the names of bundles stand for.
+pub(crate) fn joined(
+    alloc: Global,
+    definitions: &[Definition],
+    book: Book,
+    graph: Graph,
+    sets: &[Set],
+) -> Result<Db, NoMem>
+    requires meanings { AreMeanings (map meaning_of definitions.now) }
+    requires book { IsBook (map meaning_of definitions.now) book }
+    requires graph { Mirrors (NeedsNamed (map meaning_of definitions.now)) book.services book.services graph }
+    requires few { length sets.now ≡ length book.bundles }
+    requires bounds { AllWithin (length book.services) sets.now }
+    requires sets { AreSetsOf (StandsFor (map meaning_of definitions.now)) book.bundles book.services sets.now }
+    requires types { (s : List ℕ) → HasWrongType (map meaning_of definitions.now) s → ⊥ }
+    requires taken { (s : List ℕ) → HasTakenName (map meaning_of definitions.now) s → ⊥ }
+    ensures db { IfOk result (IsDatabaseOf (map meaning_of definitions.now)) }
+    ensures writable { IfOk result IsWritable }
+{
+    let table = table_of(alloc, &book.bundles, sets)?;
+    let services = described(alloc, definitions, &book.services)?;
+    let Book {
+        services: names,
+        bundles: _,
+        shared: _,
+        longruns: _,
+        feeds: _,
+        reads: _,
+    } = book;
+    Ok(join(definitions, names, services, graph, table))
+}
+
+// What the definitions say of each service of a table.
+fn described(
+    alloc: Global,
+    definitions: &[Definition],
+    names: &Names,
+) -> Result<Vec<Service>, NoMem>
+    requires meanings { AreMeanings (map meaning_of definitions.now) }
+    requires names { (name : List ℕ) → Contains names.now name ↔ IsService (map meaning_of definitions.now) name }
+    requires types { (s : List ℕ) → HasWrongType (map meaning_of definitions.now) s → ⊥ }
+    ensures { IfOk result (λ services. AreAsDefined (map meaning_of definitions.now) names.now services.items) }
+{
+    let places = places_of(alloc, definitions, names)?;
+    services_of(alloc, definitions, names, &places)
+}

@@ -1,0 +1,43 @@
+//! Laws of the definitions.
+
+ghost use Rattle.std.specs.Prelude.{slice_get, ◌<◌, ◌↔◌, Bool, Some, length, ◌≡◌, ◌≢◌, ℕ, List, [], ◌∷◌, ◌++◌, Contains};
+ghost use Rattle.rc_source.specs.Meaning.{Meaning};
+ghost use Rattle.rc_db.specs.Database.{Database, IsDatabase};
+ghost use Rattle.rc_db.specs.Bundles.{value_of};
+ghost use Rattle.rc_set.specs.Set.{Has};
+ghost use Rattle.rc_graph.specs.Needs.{Needs};
+ghost use Rattle.rc_compile.specs.declared.CompileFault.{CompileFault};
+ghost use Rattle.rc_holds.specs.Along.{IsShownCycle};
+ghost use Rattle.rc_holds.specs.Pipelines.{IsDefined, IsService, IsLongrun, WritesTo, InPipelineOf};
+ghost use Rattle.rc_holds.specs.Standing.{HoldsName, StandsFor, NeedsNamed};
+ghost use Rattle.rc_compile.specs.Compiled.{IsDatabaseOf};
+ghost use Rattle.rc_compile.specs.CompileFaults.{AreFree, IsCompileFault};
+
+/// Definitions without a flaw are refused for want of memory alone.
+pub fn what_compiles_is_not_refused()
+    ensures { (ms : List Meaning) (fault : CompileFault) → AreFree ms 7 → IsCompileFault ms fault → fault ≡ CompileFault.Memory }
+{}
+
+/// A bundle stands for what the bundles in it stand for, and a need on it is a need on all of that.
+pub fn needs_go_through_bundles()
+    ensures bundles { (ms : List Meaning) (name inner s : List ℕ) → HoldsName ms name inner → StandsFor ms inner s → StandsFor ms name s }
+    ensures needs { (ms : List Meaning) (s name t : List ℕ) → IsService ms s → IsDefined ms (λ m. Contains m.dependencies name) s → StandsFor ms name t → NeedsNamed ms s t }
+{}
+
+/// What writes to a service of a pipeline is in the pipeline too.
+pub fn pipelines_reach_back()
+    ensures { (ms : List Meaning) (s p q : List ℕ) → IsLongrun ms p → WritesTo ms p q → InPipelineOf ms s q → InPipelineOf ms s p }
+{}
+
+/// Definitions with a database have no cycle to show.
+pub fn compiled_definitions_have_no_cycle()
+    ensures { (ms : List Meaning) (d : Database) (names : List (List ℕ)) → IsDatabaseOf ms d → IsDatabase d → IsShownCycle (NeedsNamed ms) names → ⊥ }
+{}
+
+/// Definitions have one database at most.
+pub fn databases_of_definitions_are_one()
+    ensures names { (ms : List Meaning) (d e : Database) → IsDatabaseOf ms d → IsDatabaseOf ms e → d.names ≡ e.names }
+    ensures services { (ms : List Meaning) (d e : Database) (m : Meaning) (s : ℕ) → IsDatabaseOf ms d → IsDatabaseOf ms e → Contains ms m → slice_get d.names s ≡ Some m.name → slice_get d.services s ≡ slice_get e.services s }
+    ensures needs { (ms : List Meaning) (d e : Database) (s t : ℕ) → IsDatabaseOf ms d → IsDatabaseOf ms e → s < length d.names → t < length d.names → Needs d.needs s t ↔ Needs e.needs s t }
+    ensures sets { (ms : List Meaning) (d e : Database) (name : List ℕ) (a b : List Bool) (s : ℕ) → IsDatabaseOf ms d → IsDatabaseOf ms e → s < length d.names → value_of d.table name ≡ Some a → value_of e.table name ≡ Some b → Has a s ↔ Has b s }
+{}

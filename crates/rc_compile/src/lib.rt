@@ -1,0 +1,81 @@
+//! The compiler: from definitions to a database.
+#![tactic(auto)]
+
+ghost use Rattle.std.specs.Prelude.{◌≡◌, ℕ, List, IfOk, IfErr, OnOk, map};
+ghost use Rattle.rc_source.specs.Meaning.{AreMeanings};
+ghost use Rattle.rc_source.specs.Said.{meaning_of};
+ghost use Rattle.rc_db.specs.Database.{IsWritable};
+ghost use Rattle.rc_compile.specs.Compiled.{IsDatabaseOf};
+ghost use Rattle.rc_compile.specs.CompileFaults.{AreFree, IsCompileFault};
+
+mod book;
+mod build;
+mod database;
+mod join;
+pub mod laws;
+mod least;
+mod needs;
+mod pipes;
+mod scan;
+mod services;
+mod table;
+mod tables;
+mod tests;
+mod unknown;
+
+use crate::book::book_of;
+use crate::build::build;
+use crate::tests::test_all;
+use rc_db::Db;
+use rc_names::Name;
+use rc_source::Definition;
+use std::alloc::Global;
+use thiserror::Error;
+
+/// Why definitions make no database. The first in this order is told, of the least entry.
+#[derive(Debug, Drop, Error)]
+pub enum CompileFault {
+    /// There are more than 4,096 services, or more than 4,096 names of bundles and pipelines.
+    #[error("too many names")]
+    TooMany,
+    /// The entry has a name that stands for nothing: the entry, and the name.
+    #[error("unknown name")]
+    UnknownIn(Name, Name),
+    /// Bundles hold one another in a circle, which begins with its least name.
+    #[error("bundles hold one another in a circle")]
+    BundleCycle(Vec<Name>),
+    /// The service writes to or reads from what is no longrun, or is none itself.
+    #[error("a pipe joins longruns alone")]
+    PipelineType(Name),
+    /// The service names a neighbour in a pipe that does not name it.
+    #[error("a pipe is named from one side alone")]
+    PipelineMismatch(Name),
+    /// The service names a pipeline by a name that is taken.
+    #[error("the name of a pipeline is taken")]
+    PipelineName(Name),
+    /// Services need one another in a circle, which begins with its least name.
+    #[error("services need one another in a circle")]
+    Cycle(Vec<Name>),
+    /// There was no room for the database.
+    #[error("out of memory")]
+    Memory,
+}
+
+/// The database of definitions, as `read_all` gives them or a caller writes them.
+pub fn compile(alloc: Global, definitions: &[Definition]) -> Result<Db, CompileFault>
+    requires { AreMeanings (map meaning_of definitions.now) }
+    ensures db { IfOk result (λ db. IsDatabaseOf (map meaning_of definitions.now) db) }
+    ensures writable { IfOk result (λ db. IsWritable db) }
+    ensures free { OnOk result (AreFree (map meaning_of definitions.now) 7) }
+    ensures fault { IfErr result (IsCompileFault (map meaning_of definitions.now)) }
+{
+    let book = match book_of(alloc, definitions) {
+        Ok(book) => book,
+        Err(fault) => return Err(fault),
+    };
+    let contents = match test_all(alloc, definitions, &book) {
+        Ok(contents) => contents,
+        Err(fault) => return Err(fault),
+    };
+    build(alloc, definitions, book, &contents)
+}

@@ -1,0 +1,224 @@
+// What is wrong with the pipes of a definition.
+ghost use Rattle.std.specs.Prelude.{◌≡◌, ◌≤◌, ◌<◌, ◌↔◌, ◌⊎◌, ℕ, List, length, map, Contains, Some, IsTrue, IfOk, slice_get};
+ghost use Rattle.rc_set.specs.Set.{Has, Holds};
+ghost use Rattle.rc_graph.specs.Rows.{rows};
+ghost use Rattle.rc_source.specs.Said.{meaning_of};
+ghost use Rattle.rc_holds.specs.Pipelines.{IsLongrun};
+ghost use Rattle.rc_compile.specs.Given.{IsGiven};
+ghost use Rattle.rc_compile.specs.Told.{HasNamed, HasPair, JoinsOther, IsUnmatched, IsTaken, IsShared, GivesAt};
+
+use crate::tables::{Which, given};
+use rc_db::has_name;
+use rc_holds::pipeline_name;
+use rc_names::{Kind, Name, Names};
+use rc_set::{NoMem, Set};
+use rc_source::Definition;
+use std::alloc::Global;
+
+// The services that are longruns.
+pub(crate) fn longruns_of(
+    alloc: Global,
+    definitions: &[Definition],
+    services: &Names,
+) -> Result<Set, NoMem>
+    ensures bound { IfOk result (λ set. length set ≡ length services.now) }
+    ensures members { IfOk result (λ set. Holds set (λ s. (name : List ℕ) × (slice_get services.now s ≡ Some name)
+        × IsLongrun (map meaning_of definitions.now) name)) }
+{
+    let mut longruns = Set::empty(alloc, services.len())?;
+    for definition in definitions {
+        if is_kind(definition.kind, Kind::Longrun) {
+            insert_named(&mut longruns, services, definition.name.text());
+        }
+    }
+    Ok(longruns)
+}
+
+// Puts the place of a name in, if the table has the name.
+fn insert_named(set: &mut Set, names: &Names, text: &str)
+    requires { length set.old ≡ length names.now }
+    ensures bound { length set.new ≡ length set.old }
+    ensures members { Holds set.new (λ s. Has set.old s ⊎ (slice_get names.now s ≡ Some text.now)) }
+{
+    let _count = names.len();
+    if let Some(id) = names.find(text) {
+        set.insert(id);
+    }
+}
+
+// Whether a name is that of a member of a set of places.
+fn has_named(names: &Names, set: &Set, text: &str) -> bool
+    requires { length set.now ≡ length names.now }
+    ensures { IsTrue result ↔ HasNamed names.now set.now text.now }
+{
+    let _count = names.len();
+    match names.find(text) {
+        Some(id) => set.contains(id),
+        None => false,
+    }
+}
+
+// Whether two kinds are one.
+fn is_kind(kind: Kind, wanted: Kind) -> bool
+    ensures { IsTrue result ↔ (kind ≡ wanted) }
+{
+    kind == wanted
+}
+
+// Whether a service and its neighbour in a pipe are longruns.
+fn can_join(names: &Names, longruns: &Set, is_longrun: bool, text: &str) -> bool
+    requires { length longruns.now ≡ length names.now }
+    ensures { IsTrue result ↔ (IsTrue is_longrun × HasNamed names.now longruns.now text.now) }
+{
+    is_longrun && has_named(names, longruns, text)
+}
+
+// Whether some neighbour can't be joined.
+fn some_unjoined(names: &Names, longruns: &Set, is_longrun: bool, texts: &[Name]) -> bool
+    requires { length longruns.now ≡ length names.now }
+    ensures { IsTrue result ↔ ((text : List ℕ) × Contains texts.now text
+        × (IsTrue is_longrun × HasNamed names.now longruns.now text → ⊥)) }
+{
+    for text in texts {
+        if !can_join(names, longruns, is_longrun, text.text()) {
+            return true;
+        }
+    }
+    false
+}
+
+// Whether a definition names a neighbour in a pipe, and one of the two is no longrun.
+pub(crate) fn joins_other(names: &Names, longruns: &Set, definition: &Definition) -> bool
+    requires { length longruns.now ≡ length names.now }
+    ensures { IsTrue result ↔ JoinsOther names.now longruns.now (meaning_of definition.now) }
+{
+    let is_longrun = is_kind(definition.kind, Kind::Longrun);
+    if some_unjoined(names, longruns, is_longrun, &definition.consumer_for) {
+        return true;
+    }
+    match &definition.producer_for {
+        Some(name) => !can_join(names, longruns, is_longrun, name.text()),
+        None => false,
+    }
+}
+
+// Whether two names stand at places of which the first list has the second.
+fn has_pair(names: &Names, lists: &[Vec<u16>], from: &Name, to: &Name) -> bool
+    requires { length lists.now ≡ length names.now }
+    ensures { IsTrue result ↔ HasPair names.now (rows lists.now) from.now to.now }
+{
+    let _count = names.len();
+    let Some(from) = names.find(from.text()) else {
+        return false;
+    };
+    let Some(to) = names.find(to.text()) else {
+        return false;
+    };
+    lists[from as usize].contains(&to)
+}
+
+// Whether some name is not in a pair with another.
+fn some_unpaired(names: &Names, lists: &[Vec<u16>], from: &[Name], to: &Name) -> bool
+    requires { length lists.now ≡ length names.now }
+    ensures { IsTrue result ↔ ((name : List ℕ) × Contains from.now name × (HasPair names.now (rows lists.now) name to.now → ⊥)) }
+{
+    for name in from {
+        if !has_pair(names, lists, name, to) {
+            return true;
+        }
+    }
+    false
+}
+
+// Whether a definition names a neighbour in a pipe that does not name it from the other side.
+pub(crate) fn is_unmatched(
+    names: &Names,
+    feeds: &[Vec<u16>],
+    reads: &[Vec<u16>],
+    definition: &Definition,
+) -> bool
+    requires feeds { length feeds.now ≡ length names.now }
+    requires reads { length reads.now ≡ length names.now }
+    ensures { IsTrue result ↔ IsUnmatched names.now (rows feeds.now) (rows reads.now) (meaning_of definition.now) }
+{
+    if some_unpaired(names, feeds, &definition.consumer_for, &definition.name) {
+        return true;
+    }
+    match &definition.producer_for {
+        Some(name) => !has_pair(names, reads, name, &definition.name),
+        None => false,
+    }
+}
+
+// Whether the pipeline that ends at a definition has the name of a service, or one that is shared.
+pub(crate) fn has_taken_name(
+    services: &Names,
+    bundles: &Names,
+    shared: &Set,
+    definition: &Definition,
+) -> bool
+    requires { length shared.now ≡ length bundles.now }
+    ensures { IsTrue result ↔ IsTaken services.now bundles.now shared.now (meaning_of definition.now) }
+{
+    match pipeline_name(definition) {
+        Some(name) => is_taken(services, bundles, shared, name.text()),
+        None => false,
+    }
+}
+
+// Whether a name is that of a service or is shared.
+fn is_taken(services: &Names, bundles: &Names, shared: &Set, text: &str) -> bool
+    requires { length shared.now ≡ length bundles.now }
+    ensures { IsTrue result ↔ (Contains services.now text.now ⊎ HasNamed bundles.now shared.now text.now) }
+{
+    has_name(services, text) || has_named(bundles, shared, text)
+}
+
+// The bundles whose name two definitions give.
+pub(crate) fn shared_of(
+    alloc: Global,
+    definitions: &[Definition],
+    bundles: &Names,
+) -> Result<Set, NoMem>
+    requires { (name : List ℕ) → IsGiven Which.Bundles (map meaning_of definitions.now) name → Contains bundles.now name }
+    ensures bound { IfOk result (λ set. length set ≡ length bundles.now) }
+    ensures members { IfOk result (λ set. (name : List ℕ) → HasNamed bundles.now set name ↔ IsShared (map meaning_of definitions.now) name) }
+{
+    let mut seen = Set::empty(alloc, bundles.len())?;
+    let mut shared = Set::empty(alloc, bundles.len())?;
+    for definition in definitions {
+        mark(bundles, &mut seen, &mut shared, definition);
+    }
+    Ok(shared)
+}
+
+// Puts the bundle in whose name a definition gives: among those seen, and if it is there among those shared.
+fn mark(bundles: &Names, seen: &mut Set, shared: &mut Set, definition: &Definition)
+    requires seen { length seen.old ≡ length bundles.now }
+    requires shared { length shared.old ≡ length bundles.now }
+    ensures bound_seen { length seen.new ≡ length seen.old }
+    ensures bound_shared { length shared.new ≡ length shared.old }
+    ensures seen { Holds seen.new (λ s. Has seen.old s ⊎ GivesAt bundles.now (meaning_of definition.now) s) }
+    ensures shared { Holds shared.new (λ s. Has shared.old s ⊎ (Has seen.old s × GivesAt bundles.now (meaning_of definition.now) s)) }
+{
+    let _count = bundles.len();
+    if let Some(name) = given(definition, Which::Bundles) {
+        if let Some(id) = bundles.find(name.text()) {
+            mark_id(seen, shared, id);
+        }
+    }
+}
+
+// Puts an id in.
+fn mark_id(seen: &mut Set, shared: &mut Set, id: u16)
+    requires seen { id < length seen.old }
+    requires shared { id < length shared.old }
+    ensures bound_seen { length seen.new ≡ length seen.old }
+    ensures bound_shared { length shared.new ≡ length shared.old }
+    ensures seen { Holds seen.new (λ s. Has seen.old s ⊎ (s ≡ id)) }
+    ensures shared { Holds shared.new (λ s. Has shared.old s ⊎ (Has seen.old s × (s ≡ id))) }
+{
+    if !seen.insert(id) {
+        shared.insert(id);
+    }
+}

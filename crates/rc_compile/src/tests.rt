@@ -1,0 +1,78 @@
+// The tests of definitions, in their order.
+ghost use Rattle.std.specs.Prelude.{map, IfOk, IfErr, OnOk};
+ghost use Rattle.rc_source.specs.Meaning.{AreMeanings};
+ghost use Rattle.rc_source.specs.Said.{meaning_of};
+ghost use Rattle.rc_holds.specs.Standing.{HasContent};
+ghost use Rattle.rc_holds.specs.Mirror.{Mirrors};
+ghost use Rattle.rc_compile.specs.CompileFaults.{AreFree, IsCompileFault};
+ghost use Rattle.rc_compile.specs.Told.{IsBook};
+
+use crate::CompileFault;
+use crate::book::Book;
+use crate::scan::{Told, test};
+use rc_graph::Graph;
+use rc_holds::{BundleFault, bundle_graph};
+use rc_source::Definition;
+use std::alloc::Global;
+
+// All tests but the one for a circle of services. The graph says which bundle holds which.
+pub(crate) fn test_all(
+    alloc: Global,
+    definitions: &[Definition],
+    book: &Book,
+) -> Result<Graph, CompileFault>
+    requires meanings { AreMeanings (map meaning_of definitions.now) }
+    requires book { IsBook (map meaning_of definitions.now) book.now }
+    requires free { AreFree (map meaning_of definitions.now) 1 }
+    ensures graph { IfOk result (λ graph. Mirrors (HasContent (map meaning_of definitions.now)) book.now.bundles book.now.bundles graph) }
+    ensures free { OnOk result (AreFree (map meaning_of definitions.now) 6) }
+    ensures fault { IfErr result (IsCompileFault (map meaning_of definitions.now)) }
+{
+    let graph = match test_names(alloc, definitions, book) {
+        Ok(graph) => graph,
+        Err(fault) => return Err(fault),
+    };
+    match test_pipes(alloc, definitions, book) {
+        Ok(()) => Ok(graph),
+        Err(fault) => Err(fault),
+    }
+}
+
+// Tests that each name stands for something and that no bundles hold one another in a circle.
+fn test_names(alloc: Global, definitions: &[Definition], book: &Book) -> Result<Graph, CompileFault>
+    requires meanings { AreMeanings (map meaning_of definitions.now) }
+    requires book { IsBook (map meaning_of definitions.now) book.now }
+    requires free { AreFree (map meaning_of definitions.now) 1 }
+    ensures graph { IfOk result (λ graph. Mirrors (HasContent (map meaning_of definitions.now)) book.now.bundles book.now.bundles graph) }
+    ensures free { OnOk result (AreFree (map meaning_of definitions.now) 3) }
+    ensures fault { IfErr result (IsCompileFault (map meaning_of definitions.now)) }
+{
+    match test(alloc, definitions, book, Told::Unknown) {
+        Ok(()) => {}
+        Err(fault) => return Err(fault),
+    }
+    match bundle_graph(alloc, definitions, &book.bundles) {
+        Ok(graph) => Ok(graph),
+        Err(BundleFault::Cycle(names)) => Err(CompileFault::BundleCycle(names)),
+        Err(BundleFault::Memory) => Err(CompileFault::Memory),
+    }
+}
+
+// Tests the pipes.
+fn test_pipes(alloc: Global, definitions: &[Definition], book: &Book) -> Result<(), CompileFault>
+    requires meanings { AreMeanings (map meaning_of definitions.now) }
+    requires book { IsBook (map meaning_of definitions.now) book.now }
+    requires free { AreFree (map meaning_of definitions.now) 3 }
+    ensures free { OnOk result (AreFree (map meaning_of definitions.now) 6) }
+    ensures fault { IfErr result (IsCompileFault (map meaning_of definitions.now)) }
+{
+    match test(alloc, definitions, book, Told::WrongType) {
+        Ok(()) => {}
+        Err(fault) => return Err(fault),
+    }
+    match test(alloc, definitions, book, Told::NoMatch) {
+        Ok(()) => {}
+        Err(fault) => return Err(fault),
+    }
+    test(alloc, definitions, book, Told::TakenName)
+}

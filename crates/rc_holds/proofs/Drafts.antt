@@ -1,0 +1,74 @@
+-- Drafts of pairs from lists.
+use Rattle.std.proofs.Common.{◌≡◌, ◌∙◌, ℕ, ◌+◌, ◌<◌, ◌≤◌, ◌⊎◌, ◌↔◌, inl, inr, List, [], ◌∷◌, ◌++◌, length, Contains, Result, Ok, Err, IfOk, sym, ap, subst, arith}
+use Rattle.std.proofs.lemmas.Bool.{cases_lt}
+use Rattle.std.proofs.lemmas.List.Elements.{Contains-push, Contains-push_cases, Contains-append_left}
+use Rattle.std.proofs.lemmas.Option.{slice_get_within}
+use Rattle.rc_graph.specs.Needs.{Needs, AreKnown}
+use Rattle.rc_graph.proofs.RowLemmas.{needer_known}
+use Rattle.rc_holds.specs.declared.graph.BundleFault.{BundleFault}
+use Rattle.rc_holds.specs.declared.graph.BundleFault.TheVariants.{Cycle, Memory}
+use Rattle.rc_holds.specs.Along.{IsShownCycle}
+use Rattle.rc_holds.specs.BundleFaults.{IsBundleFault, IsShownBy}
+use Rattle.rc_holds.specs.Mirror.{Mirrors}
+
+-- one more is needed
+pub needs_more : (old mid new : List (List ℕ)) (id one : ℕ) (list : List ℕ) → ((s t : ℕ) → Needs mid s t ↔ (Needs old s t ⊎ ((s ≡ id) × Contains list t)))
+    → ((s t : ℕ) → Needs new s t ↔ (Needs mid s t ⊎ ((s ≡ id) × (t ≡ one)))) → (s t : ℕ) → Needs new s t ↔ (Needs old s t ⊎ ((s ≡ id) × Contains (list ++ one ∷ []) t))
+needs_more old mid new id one list before more s t = (
+  λ need. elim ((more s t).0 need) [
+    | inl was ↦ elim ((before s t).0 was) [ inl first ↦ inl first | inr listed ↦ inr (listed.0, Contains-append_left list (one ∷ []) t listed.1) ]
+    | inr now ↦ inr (now.0, subst (Contains (list ++ one ∷ [])) (sym now.1) (Contains-push list one))
+  ],
+  λ either. (more s t).1 (elim either [
+    | inl first ↦ inl ((before s t).1 (inl first))
+    | inr listed ↦ elim (Contains-push_cases list one t listed.1) [
+      | inl earlier ↦ inl ((before s t).1 (inr (listed.0, earlier)))
+      | inr last ↦ inr (listed.0, sym last)
+    ]
+  ]),
+)
+
+-- the pairs of one more list are in
+pub lists_more : (lists old new : List (List ℕ)) (i : ℕ) (list : List ℕ) → ((a b : ℕ) → Needs old a b ↔ ((a < i) × Needs lists a b)) → ((a b : ℕ) → Needs new a b ↔ (Needs old a b ⊎ ((a ≡ i) × Contains list b)))
+    → ((t : ℕ) → Needs lists i t ↔ Contains list t) → (a b : ℕ) → Needs new a b ↔ ((a < i + 1) × Needs lists a b)
+lists_more lists old new i list before more lists_i a b = (
+  λ need. elim ((more a b).0 need) [
+    | inl was ↦ let low : a < i = ((before a b).0 was).0 in (omega arith, ((before a b).0 was).1)
+    | inr now ↦ let here : a ≡ i = now.0 in (omega arith, subst (λ x. Needs lists x b) (sym here) ((lists_i b).1 now.1))
+  ],
+  λ both. let low : a < i + 1 = both.0 in elim (cases_lt a i) [
+    | inl below ↦ (more a b).1 (inl ((before a b).1 (below, both.1)))
+    | inr high ↦ let here : a ≡ i = omega arith in (more a b).1 (inr (here, (lists_i b).0 (subst (λ x. Needs lists x b) here both.1)))
+  ],
+)
+
+-- all pairs are in once all lists are passed
+pub lists_all : (lists new : List (List ℕ)) (i : ℕ) → length lists ≤ i → ((a b : ℕ) → Needs new a b ↔ ((a < i) × Needs lists a b)) → (a b : ℕ) → Needs new a b ↔ Needs lists a b
+lists_all lists new i past pairs a b = (
+  λ need. ((pairs a b).0 need).1,
+  λ need. let low : a < length lists = needer_known lists a b need in (pairs a b).1 (omega arith, need),
+)
+
+-- what is listed is a place among the names
+pub mirrors_known : (R : List ℕ → List ℕ → Type 0) (from to lists : List (List ℕ)) → Mirrors R from to lists → (s t : ℕ) → Needs lists s t → t < length to
+mirrors_known R from to lists mirrors s t need = let named = (mirrors.same s t).0 need in slice_get_within to t named.1 named.3
+
+pub known_among : (R : List ℕ → List ℕ → Type 0) (names lists seen : List (List ℕ)) → Mirrors R names names lists → seen ≡ lists → AreKnown seen
+known_among R names lists seen mirrors same s t need =
+    let low : t < length names = mirrors_known R names names lists mirrors s t (subst (λ (ls : List (List ℕ)). Needs ls s t) same need) in
+    omega (arith, mirrors.few, ap length same)
+
+-- a draft of the pairs of lists mirrors what they mirror
+pub mirrors_as : {E : Type 0} (r : Result (List (List ℕ)) E) (R : List ℕ → List ℕ → Type 0) (from to lists seen : List (List ℕ)) (n : ℕ) → Mirrors R from to lists → seen ≡ lists → n ≡ length seen → IfOk r (λ d. length d ≡ n)
+    → IfOk r (λ d. (s t : ℕ) → Needs d s t ↔ Needs seen s t) → IfOk r (Mirrors R from to)
+mirrors_as (Ok d) R from to lists seen n mirrors same long bound pairs =
+    let held : Mirrors R from to seen = subst (Mirrors R from to) (sym same) mirrors in
+    record {
+      few = bound ∙ long ∙ held.few;
+      same = λ s t. (λ need. (held.same s t).0 ((pairs s t).0 need), λ named. (pairs s t).1 ((held.same s t).1 named));
+    }
+mirrors_as (Err e) R from to lists seen n mirrors same long bound pairs = tt
+
+pub shown_fault : (R : List ℕ → List ℕ → Type 0) (names : List (List ℕ)) (fault : BundleFault) → IsShownBy names fault → IsShownCycle R names → IsBundleFault R fault
+shown_fault R names (Cycle shown) is cycle = subst (IsShownCycle R) (sym is) cycle
+shown_fault R names Memory is cycle = tt

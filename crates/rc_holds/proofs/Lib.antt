@@ -1,0 +1,9 @@
+pub mod Walks
+pub mod Joins
+pub mod Orders
+pub mod Listing
+pub mod Cycles
+pub mod Drafts
+pub mod Meanings
+pub mod Stands
+pub mod SetLists

@@ -1,0 +1,23 @@
+use Rattle.std.proofs.Common.{◌∙◌, ap, map, sym, subst}
+use Rattle.std.proofs.lemmas.List.{take_at}
+use Rattle.rc_graph.specs.Rows.{rows}
+use Rattle.rc_source.specs.Said.{meaning_of}
+use Rattle.rc_holds.specs.Pipelines.{ReadsFrom}
+use Rattle.rc_holds.specs.Standing.{HasContent}
+use Rattle.rc_holds.specs.Mirror.{Mirrors}
+use Rattle.rc_holds.specs.Sets.{AreSetsOf}
+use Rattle.rc_holds.proofs.Drafts.{known_among}
+use Rattle.rc_holds.proofs.SetLists.{held_sets}
+use Rattle.rc_holds.proofs.sets.held_sets.Goals as goal
+
+pub add_pipelines-requires-clause-known : goal.add_pipelines-requires-clause-known
+add_pipelines-requires-clause-known c =
+    known_among (ReadsFrom (map meaning_of c.args.definitions.now)) c.args.services.now (rows c.in_ok-readers.readers.items) (rows c.deref.result.now) c.in_ok-readers.ensures (ap rows c.deref.ensures.value)
+
+pub returns-clause-sets : goal.returns-clause-sets
+returns-clause-sets c =
+    let ms = map meaning_of c.args.definitions.now in
+    rw (take_at _ _ _ (c.add_pipelines.auto.sets ∙ c.deref_mut.ensures.len))
+    (held_sets ms c.args.services.now c.args.bundles.now (rows c.deref.result.now) c.deref_mut.result.now c.add_pipelines.new.sets c.len-count.ensures.names.order c.requires.meanings c.requires.piped c.requires.services
+    (subst (Mirrors (ReadsFrom ms) c.args.services.now c.args.services.now) (ap rows (sym c.deref.ensures.value)) c.in_ok-readers.ensures)
+    (subst (AreSetsOf (HasContent ms) c.args.bundles.now c.args.services.now) (sym c.deref_mut.ensures.value) c.in_ok-sets.ensures.sets) c.in_ok-add_pipelines.ensures.sets)

@@ -1,0 +1,8 @@
+pub mod Along
+pub mod Pipelines
+pub mod Standing
+pub mod Mirror
+pub mod BundleFaults
+pub mod Walking
+pub mod Joining
+pub mod Sets

@@ -1,0 +1,23 @@
+use Rattle.std.specs.Prelude.{◌≡◌, ◌↔◌, ℕ, List, length, Contains, Some, slice_get}
+use Rattle.std.specs.Option.{option_to_list}
+use Rattle.rc_graph.specs.Needs.{Needs}
+use Rattle.rc_source.specs.Meaning.{Meaning}
+use Rattle.rc_holds.specs.declared.rows.Listed.{Listed}
+use Rattle.rc_holds.specs.declared.rows.Listed.TheVariants.{Dependencies, Consumers, Contents, Producer}
+use Rattle.rc_holds.specs.Pipelines.{IsDefined}
+
+-- a list of a definition
+abbrev pub listed_of : Listed → Meaning → List (List ℕ)
+listed_of Dependencies m = m.dependencies
+listed_of Consumers m = m.consumer_for
+listed_of Contents m = m.contents
+listed_of Producer m = option_to_list m.producer_for
+
+-- the definition of the first name lists the second
+abbrev pub HasListed : Listed → List Meaning → List ℕ → List ℕ → Type 0
+HasListed which ms a b = IsDefined ms (λ m. Contains (listed_of which m) b) a
+
+-- ids that are in a list where the names at their places are in a relation: one list for each of the first names, of places among the second
+pub record Mirrors (R : List ℕ → List ℕ → Type 0) (from to : List (List ℕ)) (lists : List (List ℕ)) : Type 0 where
+  pub few : length lists ≡ length from
+  pub same : (s t : ℕ) → Needs lists s t ↔ ((a b : List ℕ) × (slice_get from s ≡ Some a) × (slice_get to t ≡ Some b) × R a b)

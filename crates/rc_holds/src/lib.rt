@@ -1,0 +1,16 @@
+//! What bundles and pipelines hold: the services that each name of definitions stands for.
+#![tactic(auto)]
+
+mod graph;
+mod join;
+mod pipes;
+mod rows;
+mod sets;
+mod shown;
+mod walk;
+
+pub use crate::graph::{BundleFault, bundle_graph};
+pub use crate::pipes::pipeline_name;
+pub use crate::rows::{Listed, rows_of};
+pub use crate::sets::bundle_sets;
+pub use crate::shown::names_at;
