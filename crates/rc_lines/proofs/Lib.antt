@@ -1,0 +1,4 @@
+mod Fronts
+pub mod Numbers
+mod Sayings
+pub mod Texts

@@ -1,0 +1,3 @@
+mod EventWords
+mod Places
+mod Reading

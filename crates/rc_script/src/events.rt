@@ -1,0 +1,100 @@
+//! Event lines.
+ghost use Rattle.std.specs.Prelude.{◌≡◌, map};
+ghost use Rattle.rc_script.specs.Events.{place_of, plain_outcome, outcome_in, take_in, done_in, stop_in, event_by, event_in};
+
+use crate::numbers::{byte_in, moment_in, status_in};
+use rc_core::{Event, Outcome};
+use rc_names::Names;
+
+/// The event that words give, of the services of these names.
+pub(crate) fn event_in(names: &Names, words: &[&str]) -> Option<Event>
+    ensures { result ≡ event_in names.now (map (λ word. word.now) words.now) }
+{
+    match words {
+        [verb, worker, object, others @ ..] => event_by(names, verb, worker, object, others),
+        _ => None,
+    }
+}
+
+/// The event that a verb gives with the words behind it.
+fn event_by(names: &Names, verb: &str, worker: &str, object: &str, words: &[&str]) -> Option<Event>
+    ensures { result ≡ event_by names.now verb.now worker.now object.now (map (λ word. word.now) words.now) }
+{
+    if verb == "take" {
+        take_in(names, worker, object, words)
+    } else if verb == "done" {
+        done_in(names, worker, object, words)
+    } else if verb == "stop" {
+        stop_in(worker, object, words)
+    } else {
+        None
+    }
+}
+
+/// A worker takes a service.
+fn take_in(names: &Names, worker: &str, name: &str, words: &[&str]) -> Option<Event>
+    ensures { result ≡ take_in names.now worker.now name.now (map (λ word. word.now) words.now) }
+{
+    if !words.is_empty() {
+        return None;
+    }
+    let worker = byte_in(worker)?;
+    let service = service_in(names, name)?;
+    Some(Event::Take(worker, service))
+}
+
+/// A worker has done with a service.
+fn done_in(names: &Names, worker: &str, name: &str, words: &[&str]) -> Option<Event>
+    ensures { result ≡ done_in names.now worker.now name.now (map (λ word. word.now) words.now) }
+{
+    let worker = byte_in(worker)?;
+    let service = service_in(names, name)?;
+    let outcome = outcome_in(words)?;
+    Some(Event::Done(worker, service, outcome))
+}
+
+/// A worker stops the run at a moment.
+fn stop_in(worker: &str, moment: &str, words: &[&str]) -> Option<Event>
+    ensures { result ≡ stop_in worker.now moment.now (map (λ word. word.now) words.now) }
+{
+    if !words.is_empty() {
+        return None;
+    }
+    let worker = byte_in(worker)?;
+    let moment = moment_in(moment)?;
+    Some(Event::Stop(worker, moment))
+}
+
+/// How a transition ended, by the words that say so.
+fn outcome_in(words: &[&str]) -> Option<Outcome>
+    ensures { result ≡ outcome_in (map (λ word. word.now) words.now) }
+{
+    match words {
+        [word] => plain_outcome(word),
+        [word, number] if *word == "failed" => Some(Outcome::Failed(status_in(number)?)),
+        _ => None,
+    }
+}
+
+/// How a transition ended, by the one word that says so.
+fn plain_outcome(word: &str) -> Option<Outcome>
+    ensures { result ≡ plain_outcome word.now }
+{
+    if word == "ok" {
+        Some(Outcome::Ok)
+    } else if word == "timeout" {
+        Some(Outcome::TimedOut)
+    } else if word == "nostart" {
+        Some(Outcome::NotStarted)
+    } else {
+        None
+    }
+}
+
+/// The id of a service by its name.
+fn service_in(names: &Names, name: &str) -> Option<u16>
+    ensures { result ≡ place_of names.now name.now }
+{
+    let _known = names.len();
+    names.find(name)
+}
