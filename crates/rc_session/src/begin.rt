@@ -88,8 +88,8 @@ impl Session {
         self.spoiled = true;
     }
 
-    /// Begins the run of a change.
-    pub(crate) fn begin_change(
+    /// Begins the run of a change at a moment, as `begin` does.
+    pub fn begin_change(
         &mut self,
         alloc: Global,
         request: &Request,
@@ -125,8 +125,8 @@ impl Session {
         })
     }
 
-    /// Begins the run of an undo.
-    pub(crate) fn begin_undo(
+    /// Begins the run of an undo at a moment, as `begin` does.
+    pub fn begin_undo(
         &mut self,
         alloc: Global,
         limit: u32,
@@ -160,8 +160,8 @@ impl Session {
         })
     }
 
-    /// Begins the run of a redo.
-    pub(crate) fn begin_redo(
+    /// Begins the run of a redo at a moment, as `begin` does.
+    pub fn begin_redo(
         &mut self,
         alloc: Global,
         limit: u32,

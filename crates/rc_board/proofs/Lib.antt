@@ -1,0 +1,4 @@
+pub mod Lasting
+pub mod Sights
+pub mod Making
+pub mod Carrying

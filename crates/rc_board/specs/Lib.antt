@@ -1,0 +1,5 @@
+pub mod Crew
+pub mod Made
+pub mod Sight
+pub mod Turns
+pub mod Working

@@ -1,0 +1,52 @@
+use Rattle.std.specs.Prelude.{◌≡◌, ℕ, true, false, Option}
+use Rattle.rc_graph.specs.declared.Way.{Way}
+use Rattle.rc_select.specs.PlanSets.{PlanSets}
+use Rattle.rc_core.specs.declared.event.Outcome.{Outcome}
+use Rattle.rc_core.specs.Course.{course_of}
+use Rattle.rc_core.specs.Settled.{IsSettled}
+use Rattle.rc_session.specs.declared.refusal.Refusal.{Refusal}
+use Rattle.rc_session.specs.Commands.{Command, with_events}
+use Rattle.rc_session.specs.Report.{Told}
+use Rattle.rc_session.specs.Task.{IsTask}
+use Rattle.rc_session.specs.Doing.{Runs}
+use Rattle.rc_session.specs.Refusals.{IsOwnFault}
+use Rattle.rc_session.specs.Holding.{Holding, IsHindrance, with_line}
+use Rattle.rc_board.specs.declared.fault.Fault.{Fault}
+use Rattle.rc_board.specs.declared.fault.Fault.TheVariants.{Workers, NoThread, Strange, Refused}
+use Rattle.rc_board.specs.Crew.{IsCrew}
+use Rattle.rc_board.specs.Made.{AreMade}
+
+-- a command was carried out by workers with a gate: it was begun at a moment that the gate may give; the events that are told are a settled run of its task from then on, which the workers made with the gate; and the session did the command with these events
+pub record IsCarriedOut (workers : ℕ) (Answers : ℕ → Way → Outcome → Type 0) (Gives : ℕ → Type 0) (old : Holding) (command : Command) (told : Told) (new : Holding) : Type 0 where
+  pub crew : IsCrew workers
+  pub whole : old.spoiled ≡ false
+  pub start : ℕ
+  pub given : Gives start
+  pub plan : PlanSets
+  pub deadline : Option ℕ
+  pub task : IsTask old.database old.line command start plan deadline
+  pub settled : IsSettled (course_of old.database.needs plan deadline) told.trace
+  pub made : AreMade workers Answers Gives old.line.current.live told.trace
+  pub runs : Runs old.database old.line (with_events command told.trace) told new.line
+  pub session : new ≡ with_line old new.line
+
+-- nothing hinders a session to begin a command
+abbrev pub CanBegin : Holding → Command → Type 0
+CanBegin h command = (h.spoiled ≡ false) × ((refusal : Refusal) → IsOwnFault h.database h.line command refusal → ⊥)
+
+-- why a command is not carried out: the number of workers first, then what hinders the session to begin it; other faults come only where nothing does
+abbrev pub IsFault : ℕ → Holding → Command → Fault → Type 0
+IsFault workers h command Workers = IsCrew workers → ⊥
+IsFault workers h command (Refused refusal) = IsCrew workers × IsHindrance (IsOwnFault h.database h.line command) h refusal
+IsFault workers h command other = IsCrew workers × CanBegin h command
+
+-- what a fault leaves: a strange one spoils the session, any other leaves it as it was
+abbrev pub LeavesSession : Holding → Fault → Holding → Type 0
+LeavesSession old Strange new = new ≡ record { database = old.database; line = old.line; begun = false; spoiled = true }
+LeavesSession old other new = new ≡ old
+
+-- what comes of a command where the one worker is the caller: no thread is wanting, and no board is lost
+abbrev pub IsPlain : Fault → Type 0
+IsPlain NoThread = ⊥
+IsPlain Strange = ⊥
+IsPlain other = Unit {0}
