@@ -1,0 +1,31 @@
+use Rattle.std.proofs.Common.{inl, refl, subst}
+use Rattle.rc_lines.specs.Says.{Saying, Says, saying_of}
+use Rattle.rc_serve.proofs.Steps.{bytes_may, bytes_met, read_says}
+use Rattle.rc_serve.proofs.answers.line_answer.Goals as goal
+
+pub said_answer-requires-clause-closed : goal.said_answer-requires-clause-closed
+said_answer-requires-clause-closed g c κs within = c.requires.closed
+
+pub said_answer-requires-clause-crew : goal.said_answer-requires-clause-crew
+said_answer-requires-clause-crew g c κs within = c.requires.crew
+
+pub said_answer-requires-clause-eventless : goal.said_answer-requires-clause-eventless
+said_answer-requires-clause-eventless g c κs within = λ command is. c.lines_give_no_events.ensures c.args.line.now command (subst (λ (s : Saying). Says c.args.line.now s) is (read_says _ c.args.line.now c.read_line.result c.in-Ok.said c.in-Ok.is c.read_line.ensures.said))
+
+pub returns-in-Ok-clause-met : goal.returns-in-Ok-clause-met
+returns-in-Ok-clause-met g c = bytes_met c.args.line.now (saying_of c.in-Ok.said) c.args.session.now.database c.args.session.now.line c.said_answer.result c.said_answer.new.session.line (read_says _ c.args.line.now c.read_line.result c.in-Ok.said c.in-Ok.is c.read_line.ensures.said) c.said_answer.ensures.met
+
+pub returns-in-Ok-clause-may : goal.returns-in-Ok-clause-may
+returns-in-Ok-clause-may g c = bytes_may c.args.line.now (saying_of c.in-Ok.said) c.args.session.now.database c.args.session.now.line c.said_answer.new.session.line (read_says _ c.args.line.now c.read_line.result c.in-Ok.said c.in-Ok.is c.read_line.ensures.said) c.said_answer.ensures.may
+
+pub returns-in-Ok-clause-stays : goal.returns-in-Ok-clause-stays
+returns-in-Ok-clause-stays g c = c.said_answer.ensures.stays
+
+pub returns-in-Ok-clause-fault : goal.returns-in-Ok-clause-fault
+returns-in-Ok-clause-fault g c = c.said_answer.ensures.fault
+
+pub returns-in-Err-clause-may : goal.returns-in-Err-clause-may
+returns-in-Err-clause-may g c = inl refl
+
+pub returns-in-Err-clause-stays : goal.returns-in-Err-clause-stays
+returns-in-Err-clause-stays g c = (refl, c.requires.closed)

@@ -1,0 +1,34 @@
+use Rattle.std.proofs.Common.{ap, refl}
+use Rattle.rc_session.specs.Commands.{command_of}
+use Rattle.rc_lines.specs.Says.{saying_of}
+use Rattle.rc_serve.proofs.Steps.{may_stay, not_step, step_may, step_met}
+use Rattle.rc_serve.proofs.answers.said_answer.Goals as goal
+
+pub step_answer-requires-clause-closed : goal.step_answer-requires-clause-closed
+step_answer-requires-clause-closed g c κs within = c.requires.closed
+
+pub step_answer-requires-clause-crew : goal.step_answer-requires-clause-crew
+step_answer-requires-clause-crew g c κs within = c.requires.crew
+
+pub shown-requires : goal.shown-requires
+shown-requires g c = record { closed = c.requires.closed; shows = λ command is. not_step c.args.said.now command c.in_default.not-Step is }
+
+pub returns-in-Step-clause-met : goal.returns-in-Step-clause-met
+returns-in-Step-clause-met g c = step_met (saying_of c.args.said.now) (command_of c.in-Step.step) c.args.session.now.database c.args.session.now.line c.step_answer.result c.step_answer.new.session.line (ap saying_of c.in-Step.is) (c.requires.eventless (command_of c.in-Step.step) (ap saying_of c.in-Step.is)) c.step_answer.ensures.met
+
+pub returns-in-Step-clause-may : goal.returns-in-Step-clause-may
+returns-in-Step-clause-may g c = step_may (saying_of c.args.said.now) (command_of c.in-Step.step) c.args.session.now.database c.args.session.now.line c.step_answer.new.session.line (ap saying_of c.in-Step.is) (c.requires.eventless (command_of c.in-Step.step) (ap saying_of c.in-Step.is)) c.step_answer.ensures.may
+
+pub returns-in-Step-clause-stays : goal.returns-in-Step-clause-stays
+returns-in-Step-clause-stays g c = c.step_answer.ensures.stays
+
+pub returns-in-Step-clause-fault : goal.returns-in-Step-clause-fault
+returns-in-Step-clause-fault g c = c.step_answer.ensures.fault
+
+pub returns-in_default : goal.returns-in_default
+returns-in_default g c = record {
+  met = c.shown.ensures.met;
+  may = may_stay c.args.session.now.database c.args.session.now.line (saying_of c.args.said.now);
+  stays = (refl, c.requires.closed);
+  fault = c.shown.ensures.fault;
+}

@@ -1,0 +1,15 @@
+use Rattle.std.proofs.Common.{map, refl}
+use Rattle.std.specs.String.{string_bytes}
+use Rattle.rc_session.specs.Commands.{Delete}
+use Rattle.rc_serve.proofs.Editing.{may_edit, met_edit, stays_edit}
+use Rattle.rc_serve.proofs.edits.delete_answer.Goals as goal
+
+pub returns-clause-met : goal.returns-clause-met
+returns-clause-met c = met_edit c.args.session.now c.bundle_delete-outcome.new.self (Delete (map string_bytes c.args.names.now) c.args.force) c.bundle_delete-outcome.result c.delete_told.result refl
+    c.bundle_delete-outcome.ensures.done c.bundle_delete-outcome.ensures.refused c.bundle_delete-outcome.ensures.same c.delete_told.ensures.told
+
+pub returns-clause-may : goal.returns-clause-may
+returns-clause-may c = may_edit c.args.session.now c.bundle_delete-outcome.new.self (Delete (map string_bytes c.args.names.now) c.args.force) c.bundle_delete-outcome.result refl c.bundle_delete-outcome.ensures.done c.bundle_delete-outcome.ensures.same
+
+pub returns-clause-stays : goal.returns-clause-stays
+returns-clause-stays c = stays_edit c.args.session.now c.bundle_delete-outcome.new.self (Delete (map string_bytes c.args.names.now) c.args.force) c.bundle_delete-outcome.result c.bundle_delete-outcome.ensures.done c.bundle_delete-outcome.ensures.same c.requires

@@ -1,0 +1,101 @@
+//! Changes, undos and redos by workers, and their answers.
+ghost use Rattle.std.specs.Prelude.{◌≡◌, [], false, map, string_bytes, Err, IfOk, IfErr};
+ghost use Rattle.rc_select.specs.Ask.{ask_of};
+ghost use Rattle.rc_session.specs.Commands.{Change, Undo, Redo};
+ghost use Rattle.rc_board.specs.Crew.{IsCrew};
+ghost use Rattle.rc_serve.specs.Faults.{IsInner};
+ghost use Rattle.rc_serve.specs.Meeting.{IsToldAs, MayMeet, MeetsCommand};
+ghost use Rattle.rc_serve.specs.Serving.{Stays};
+
+use crate::fault::{ServeFault, answered};
+use rc_board::{Fault, Gate, NoWatch, change, redo, undo};
+use rc_names::Names;
+use rc_select::Request;
+use rc_session::{Report, Session};
+use rc_told::{refusal_text, report_text};
+use std::alloc::Global;
+use std::sync::Wait;
+use std::thread::Threads;
+
+/// Makes a change, and answers.
+pub(crate) fn change_answer<T: Threads + Wait + Sync, G: Gate>(
+    rt: &T,
+    alloc: Global,
+    session: &mut Session,
+    gate: &G,
+    workers: u8,
+    request: &Request,
+) -> Result<Vec<u8>, ServeFault>
+    requires closed { session.old.begun ≡ false }
+    requires crew { IsCrew workers }
+    ensures met { IfOk result (λ text. MeetsCommand session.old.database session.old.line (Change (ask_of request.now) []) text.items session.new.line) }
+    ensures may { MayMeet session.old.database session.old.line (Change (ask_of request.now) []) session.new.line }
+    ensures stays { Stays session.old session.new }
+    ensures fault { IfErr result IsInner }
+{
+    let outcome = change(rt, alloc, session, request, gate, workers, &NoWatch);
+    told(alloc, session.db().names(), &request.names, outcome)
+}
+
+/// Goes back, and answers.
+pub(crate) fn undo_answer<T: Threads + Wait + Sync, G: Gate>(
+    rt: &T,
+    alloc: Global,
+    session: &mut Session,
+    gate: &G,
+    workers: u8,
+    limit: u32,
+) -> Result<Vec<u8>, ServeFault>
+    requires closed { session.old.begun ≡ false }
+    requires crew { IsCrew workers }
+    ensures met { IfOk result (λ text. MeetsCommand session.old.database session.old.line (Undo limit []) text.items session.new.line) }
+    ensures may { MayMeet session.old.database session.old.line (Undo limit []) session.new.line }
+    ensures stays { Stays session.old session.new }
+    ensures fault { IfErr result IsInner }
+{
+    let outcome = undo(rt, alloc, session, limit, gate, workers, &NoWatch);
+    told(alloc, session.db().names(), &[], outcome)
+}
+
+/// Goes on, and answers.
+pub(crate) fn redo_answer<T: Threads + Wait + Sync, G: Gate>(
+    rt: &T,
+    alloc: Global,
+    session: &mut Session,
+    gate: &G,
+    workers: u8,
+    limit: u32,
+) -> Result<Vec<u8>, ServeFault>
+    requires closed { session.old.begun ≡ false }
+    requires crew { IsCrew workers }
+    ensures met { IfOk result (λ text. MeetsCommand session.old.database session.old.line (Redo limit []) text.items session.new.line) }
+    ensures may { MayMeet session.old.database session.old.line (Redo limit []) session.new.line }
+    ensures stays { Stays session.old session.new }
+    ensures fault { IfErr result IsInner }
+{
+    let outcome = redo(rt, alloc, session, limit, gate, workers, &NoWatch);
+    told(alloc, session.db().names(), &[], outcome)
+}
+
+/// What came of a command, as text. Its words are those that a refusal may tell.
+fn told(
+    alloc: Global,
+    names: &Names,
+    words: &[String],
+    outcome: Result<Report, Fault>,
+) -> Result<Vec<u8>, ServeFault>
+    requires { outcome ≡ Err Fault.Workers → ⊥ }
+    ensures told { IfOk result (λ text. IsToldAs names.now (map string_bytes words.now) outcome text.items) }
+    ensures fault { IfErr result IsInner }
+{
+    match outcome {
+        Ok(report) => Ok(report_text(alloc, names, &report)?),
+        Err(Fault::Refused(refusal)) => {
+            let refusal = answered(refusal)?;
+            Ok(refusal_text(alloc, words, refusal)?)
+        }
+        Err(Fault::NoThread) => Err(ServeFault::NoThread),
+        Err(Fault::Strange) => Err(ServeFault::Strange),
+        Err(Fault::Workers) => unreachable!(),
+    }
+}

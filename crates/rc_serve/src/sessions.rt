@@ -1,0 +1,131 @@
+//! A session over a reader and a writer.
+ghost use Rattle.std.specs.Prelude.{◌≡◌, ◌≤◌, ◌↔◌, false, IfOk, OnOk, OnErr, IfErr};
+ghost use Rattle.rc_streams.specs.Input.{ConsumesAtMost};
+ghost use Rattle.rc_noted.specs.Noting.{HasFailed, inner_of};
+ghost use Rattle.rc_board.specs.Crew.{IsCrew};
+ghost use Rattle.rc_serve.specs.Faults.{IsServeFault};
+ghost use Rattle.rc_serve.specs.Serving.{ServesAll, ServesFront, ServesNext, Stays, StopsAt};
+
+use crate::answers::line_answer;
+use crate::fault::ServeFault;
+use rc_board::Gate;
+use rc_noted::{Lines, Noted, write_answer};
+use rc_session::Session;
+use std::alloc::Global;
+use std::io::{Read, Write};
+use std::sync::Wait;
+use std::thread::Threads;
+
+/// The most workers of a session.
+const MAX_WORKERS: u8 = 64;
+
+/// Runs a session: reads lines, does what each says, and answers it before the next one is waited for.
+///
+/// An answer is written whole and flushed. A refused command is answered too, and the session goes on. It ends with
+/// the input, or with a fault; the lines before were done then, and all but the last of them were answered whole.
+///
+/// Time: it grows with the bytes of the lines and with what the commands do; a line costs no more the longer the journal is,
+/// but for `journal`, which shows it.
+pub fn serve<T: Threads + Wait + Sync, R: Read, W: Write, G: Gate>(
+    rt: &T,
+    alloc: Global,
+    reader: &mut Noted<R>,
+    writer: &mut Noted<W>,
+    session: &mut Session,
+    gate: &G,
+    workers: u8,
+) -> Result<(), ServeFault>
+    requires closed { session.old.begun ≡ false }
+    requires reader { HasFailed reader.old → ⊥ }
+    requires writer { HasFailed writer.old → ⊥ }
+
+    // The whole input was read, and what was written is the answers to all its lines.
+    ensures done { OnOk result (ServesAll (R.remaining (inner_of reader.old)) (R.remaining (inner_of reader.new))
+        (W.contents (inner_of writer.old)) (W.contents (inner_of writer.new)) session.old session.new) }
+
+    // Lines at the front of the input were met, and what was written is a front of their answers.
+    ensures begun { OnErr result (ServesFront (R.remaining (inner_of reader.old)) (R.remaining (inner_of reader.new))
+        (W.contents (inner_of writer.old)) (W.contents (inner_of writer.new)) session.old session.new) }
+
+    // With a wrong number of workers nothing is read and nothing written, and with a right one that is no fault.
+    ensures crew { OnOk result (IsCrew workers) }
+    ensures workers { (result ≡ Err ServeFault.Workers) ↔ (IsCrew workers → ⊥) }
+    ensures unread { result ≡ Err ServeFault.Workers → reader.new ≡ reader.old }
+    ensures unwritten { result ≡ Err ServeFault.Workers → writer.new ≡ writer.old }
+    ensures same { result ≡ Err ServeFault.Workers → session.new ≡ session.old }
+
+    // A fault of the reader or the writer comes only where that one has failed.
+    ensures read { result ≡ Err ServeFault.Read → HasFailed reader.new }
+    ensures written { result ≡ Err ServeFault.Write → HasFailed writer.new }
+
+    // Whatever the result, the database stays, nothing is begun, and one byte past the bound is the last that is taken.
+    ensures stays { Stays session.old session.new }
+    ensures taken { ConsumesAtMost (R.remaining (inner_of reader.old)) (R.remaining (inner_of reader.new)) 16777217 }
+{
+    if workers == 0 || workers > MAX_WORKERS {
+        return Err(ServeFault::Workers);
+    }
+    serve_lines(rt, alloc, reader, writer, session, gate, workers)
+}
+
+/// The same with a right number of workers.
+fn serve_lines<T: Threads + Wait + Sync, R: Read, W: Write, G: Gate>(
+    rt: &T,
+    alloc: Global,
+    reader: &mut Noted<R>,
+    writer: &mut Noted<W>,
+    session: &mut Session,
+    gate: &G,
+    workers: u8,
+) -> Result<(), ServeFault>
+    requires closed { session.old.begun ≡ false }
+    requires reader { HasFailed reader.old → ⊥ }
+    requires writer { HasFailed writer.old → ⊥ }
+    requires crew { IsCrew workers }
+    ensures done { OnOk result (ServesAll (R.remaining (inner_of reader.old)) (R.remaining (inner_of reader.new))
+        (W.contents (inner_of writer.old)) (W.contents (inner_of writer.new)) session.old session.new) }
+    ensures begun { OnErr result (ServesFront (R.remaining (inner_of reader.old)) (R.remaining (inner_of reader.new))
+        (W.contents (inner_of writer.old)) (W.contents (inner_of writer.new)) session.old session.new) }
+    ensures stays { Stays session.old session.new }
+    ensures fault { IfErr result (IsServeFault (HasFailed reader.new) (HasFailed writer.new)) }
+    ensures taken { ConsumesAtMost (R.remaining (inner_of reader.old)) (R.remaining (inner_of reader.new)) 16777217 }
+{
+    let mut lines = Lines::new(alloc);
+    while next_answer(
+        rt, alloc, &mut lines, reader, writer, session, gate, workers,
+    )? {}
+    Ok(())
+}
+
+/// Answers the next line. False: it was the last one, or there was none.
+fn next_answer<T: Threads + Wait + Sync, R: Read, W: Write, G: Gate>(
+    rt: &T,
+    alloc: Global,
+    lines: &mut Lines,
+    reader: &mut Noted<R>,
+    writer: &mut Noted<W>,
+    session: &mut Session,
+    gate: &G,
+    workers: u8,
+) -> Result<bool, ServeFault>
+    requires closed { session.old.begun ≡ false }
+    requires reader { HasFailed reader.old → ⊥ }
+    requires writer { HasFailed writer.old → ⊥ }
+    requires crew { IsCrew workers }
+    ensures next { IfOk result (λ more. ServesNext more (R.remaining (inner_of reader.old)) (R.remaining (inner_of reader.new)) lines.old lines.new
+        (W.contents (inner_of writer.old)) (W.contents (inner_of writer.new)) session.old session.new) }
+    ensures stopped { OnErr result (StopsAt (R.remaining (inner_of reader.old)) (R.remaining (inner_of reader.new)) lines.old lines.new
+        (W.contents (inner_of writer.old)) (W.contents (inner_of writer.new)) session.old session.new) }
+    ensures stays { Stays session.old session.new }
+    ensures reader { OnOk result (HasFailed reader.new → ⊥) }
+    ensures writer { OnOk result (HasFailed writer.new → ⊥) }
+    ensures fault { IfErr result (IsServeFault (HasFailed reader.new) (HasFailed writer.new)) }
+    ensures within { lines.new.taken ≤ 16777217 }
+{
+    let Some((line, ends)) = lines.next(alloc, reader)? else {
+        return Ok(false);
+    };
+    let text = line_answer(rt, alloc, session, gate, workers, &line)?;
+    write_answer(writer, &text)?;
+    Ok(ends)
+}

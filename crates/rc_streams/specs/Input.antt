@@ -1,0 +1,41 @@
+-- What is taken from a reader, and what a writer gets.
+use Rattle.std.specs.Prelude.{◌≡◌, ◌<◌, ◌≤◌, ℕ, List, [], ◌∷◌, ◌++◌, Option, IfSome, length, take, codes}
+use Rattle.std.specs.Io.KnownBytes.{Appends, Consumes}
+use Rattle.rc_streams.specs.declared.input.Failure.{Failure}
+use Rattle.rc_streams.specs.declared.input.Failure.TheVariants.{TooLong, Read, Write, Memory}
+
+-- known bytes lose at most `limit` bytes from their front
+abbrev pub ConsumesAtMost : Option (List ℕ) → Option (List ℕ) → ℕ → Type 0
+ConsumesAtMost old new limit = (front : List ℕ) × (length front ≤ limit) × Consumes old new front
+
+-- known bytes lose `count` bytes from their front, which stand at the end of `after`
+abbrev pub MovesPiece : Option (List ℕ) → Option (List ℕ) → List ℕ → List ℕ → ℕ → Type 0
+MovesPiece old new before after count =
+    (piece : List ℕ) × (length piece ≡ count) × (after ≡ before ++ piece) × Consumes old new piece
+
+-- known bytes grow by the first bytes of `bytes`, however many
+abbrev pub AppendsFront : Option (List ℕ) → Option (List ℕ) → List ℕ → Type 0
+AppendsFront old new bytes = (n : ℕ) × Appends old new (take n bytes)
+
+-- the line that tells a fault
+abbrev pub fault_line : List ℕ → List ℕ
+fault_line what = codes "undorc: " ++ what ++ 10 ∷ []
+
+-- how a failure is told
+abbrev pub failure_text : Failure → List ℕ
+failure_text TooLong = codes "TooLong"
+failure_text Read = codes "Read"
+failure_text Write = codes "Write"
+failure_text Memory = codes "Memory"
+
+-- a failure is told by a front of its line, and an input is too long only where it has more bytes than the bound
+abbrev pub TellsFailure : Option (List ℕ) → Option (List ℕ) → Option (List ℕ) → Type 0
+TellsFailure input old new = (failure : Failure) × AppendsFront old new (fault_line (failure_text failure)) × (failure ≡ TooLong → IfSome input (λ bytes. 16777216 < length bytes))
+
+-- a writer gains all of an answer
+abbrev pub WritesAll : (List ℕ → Type 0) → Option (List ℕ) → Option (List ℕ) → Type 0
+WritesAll IsAnswer old new = (answer : List ℕ) × IsAnswer answer × Appends old new answer
+
+-- a writer gains a front of an answer
+abbrev pub WritesFront : (List ℕ → Type 0) → Option (List ℕ) → Option (List ℕ) → Type 0
+WritesFront IsAnswer old new = (answer : List ℕ) × IsAnswer answer × AppendsFront old new answer
