@@ -15,7 +15,8 @@ $(PROGRAM): $(SOURCES)
 	@sh tests/build.sh
 
 demo: build
-	cat $(SAMPLES)/sample.txt $(SAMPLES)/up-root.txt | $(PROGRAM) plan -u web
+	$(PROGRAM) compile $(SAMPLES)/source
+	$(PROGRAM) compile $(SAMPLES)/source | cat - $(SAMPLES)/up-root.txt | $(PROGRAM) plan -u web
 
 test:
 	@sh tests/all.sh

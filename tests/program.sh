@@ -3,6 +3,7 @@
 # The last line is 'N passed, M failed', and the status is 0 where none failed.
 set -eu
 program=$(realpath "$1")
+rows=$(realpath "$(dirname "$0")")
 samples=$(realpath "$(dirname "$0")/../docs/samples")
 room=$(mktemp -d)
 trap 'rm -rf "$room"' EXIT
@@ -63,6 +64,20 @@ all_up() {
     fault=$3
     shift 3
     expect "$wanted" "$output" "$fault" "${sample}db\nlog\nnet\nroot\nweb\n" "$@"
+}
+
+# A query on the sample, with a line behind it that is ignored: output, and the words.
+asks() {
+    output=$1
+    shift
+    expect 0 "$output" '' "${sample}undorc-db 9\n" db "$@"
+}
+
+# A query on the sample that is refused: the fault, and the words.
+denies() {
+    fault=$1
+    shift
+    expect 1 '' "undorc: $fault\n" "${sample}" db "$@"
 }
 
 # A text that is refused: the fault and the text.
@@ -254,7 +269,198 @@ expect 1 '' 'undorc: Bad 330\n' 'nosuch\n' plan -b base nosuch
 expect 111 '' 'undorc: Io\n' 'root\n' plan -b nowhere web
 expect 111 '' 'undorc: Io\n' 'root\n' plan -b . web
 
+# Queries.
+asks '' check
+asks 'db\nlog\nnet\nroot\nsite\nweb\n' list all
+asks 'db\nlog\nnet\nroot\nweb\n' list services
+asks 'net\nroot\n' list oneshots
+asks 'db\nlog\nweb\n' list longruns
+asks 'site\n' list bundles
+asks 'bundle\n' type site
+asks 'longrun\n' type web
+asks 'oneshot\n' type net
+asks '0\n' timeout web
+asks 'essential\n' flags root
+asks '' flags net
+asks 'web\n' contents site
+asks 'log\nweb\n' pipeline web
+asks 'log\nweb\n' pipeline log
+asks 'db\n' pipeline db
+asks 'true\n' script net
+asks 'true\n' -d script net
+asks '' -d script root
+asks 'web\n' atomics site
+asks 'net\nweb\n' atomics web net site
+asks '' atomics
+asks 'db\nlog\n' dependencies web
+asks 'db\nlog\n' dependencies site
+asks 'db\n' -d dependencies net
+asks 'db\nlog\nnet\n' dependencies web db log
+asks '' dependencies root
+asks '' -d dependencies web
+asks '' dependencies
+asks 'db\nlog\nnet\nroot\nweb\n' all-dependencies web
+asks 'db\nnet\nroot\nweb\n' -d all-dependencies root
+asks 'log\nnet\nroot\n' all-dependencies net log
+asks '' -d all-dependencies
+
+# The way is given anywhere, and changes nothing where a query has none.
+asks 'db\n' dependencies -d net
+asks 'db\n' dependencies net -d
+asks 'bundle\n' -d type site
+asks 'essential\n' -d flags root
+asks 'web\n' -d contents site
+asks 'log\nweb\n' -d pipeline web
+asks 'web\n' -d atomics site
+asks 'site\n' -d list bundles
+asks '' -d check
+limits=${one}'service a oneshot plain 4294967295 7\nneeds\nup 2\n\n\n\ndown 9\nend\nneeds\n'"$last"
+expect 0 '4294967295\n' '' "$limits" db timeout a
+expect 0 '7\n' '' "$limits" db -d timeout a
+expect 0 '\n\n' '' "$limits" db script a
+expect 0 'end\nneeds' '' "$limits" db -d script a
+expect 0 '' '' "$none" db check
+expect 0 '' '' "$none" db list all
+
+# Queries that are refused: a name that is none comes first.
+denies 'Unknown nosuch' type nosuch
+denies 'Unknown nosuch' timeout nosuch
+denies 'Unknown nosuch' flags nosuch
+denies 'Unknown nosuch' contents nosuch
+denies 'Unknown nosuch' pipeline nosuch
+denies 'Unknown nosuch' script nosuch
+denies 'Unknown never' dependencies web never nosuch
+denies 'Unknown never' -d all-dependencies never web nosuch
+denies 'Unknown ' atomics web ''
+denies 'Unknown -x' type -- -x
+denies 'Unknown list' type list
+denies NotAtomic timeout site
+denies NotAtomic flags site
+denies NotAtomic pipeline site
+denies NotAtomic script site
+denies NotBundle contents web
+denies NotLongrun pipeline net
+denies NotOneshot script web
+
+# Texts are refused before queries.
+expect 1 '' 'undorc: Bad 326\n' "${sample%??}" db check
+expect 1 '' 'undorc: Version\n' 'undorc-db 9\n' db type nosuch
+expect 1 '' 'undorc: TooMany\n' "${first}services 4097\n" db check
+expect 1 '' 'undorc: NotSorted\n' "$(with 'needs db log' 'needs log db')" db check
+expect 1 '' 'undorc: Dangling\n' "$(with 'needs net' 'needs nat')" db contents web
+expect 1 '' 'undorc: Cyclic\n' "$(with 'essential 0 0\\nneeds\\n' 'essential 0 0\\nneeds web\\n')" db check
+
+# A database in a file of its own: nothing is read then.
+printf '%b' "$sample" > base
+printf 'left' > in
+echo 0 > status
+{ "$program" db -b base contents site 2> err || echo $? > status; cat; } < in > out
+printf 'web\nleft' > out.wanted
+: > err.wanted
+judge 'undorc db -b base contents site, and the input behind it' 0
+echo 0 > status
+"$program" db contents site -b base > out 2> err <&- || echo $? > status
+printf 'web\n' > out.wanted
+judge 'undorc db contents site -b base, without an input' 0
+expect 1 '' 'undorc: NotBundle\n' '' db -b base contents web
+printf x >> base
+expect 1 '' 'undorc: Bad 330\n' '' db -b base type nosuch
+printf '%b' "$(with 'needs net' 'needs nat')x" > base
+expect 1 '' 'undorc: Bad 330\n' '' db -b base check
+expect 111 '' 'undorc: Io\n' '' db -b nowhere check
+expect 111 '' 'undorc: Io\n' '' db -b . check
+
+# Scripts of commands with the events of their runs.
+script='-t 5 -u change web\ntake 1 root\nstop 2 5\ndone 1 root ok\n-t 0 -u change web\nstop 1 5\n'
+script="$script"'undo\ntake 1 root\ndone 1 root ok\nredo\ntake 3 root\ndone 3 root ok\n'
+answers='raised root\nuntried db log net web\nok\nrefused BadEvent 0\nlowered root\nok\nraised root\nok\n'
+answers="$answers"'live root\nat 1 of 2\n0 +root\n'
+printf '%b' "$sample" > base
+expect 0 "$answers" '' "$sample$script" replay
+expect 0 "$answers" '' "$script" replay -b base
+script='undo\n-pd change web\n-u change web\ntake 1 root\ndone 1 root ok\ntake 1 web\n-u change web\ntake 1 root\n'
+answers='refused NothingToUndo\nrefused PruneNeedsUp\nrefused BadEvent 2\nrefused NotSettled 1\nlive\nat 0 of 1\n'
+expect 0 "$answers" '' "$sample$script" replay
+expect 0 'live\nat 0 of 1\n' '' "$sample" replay
+expect 0 'live\nat 0 of 1\n' '' "$sample"'\n \t\n# note\n#\0377' replay
+expect 0 'failed root\nok\nlive\nat 0 of 1\n' '' "$sample"'change root\ntake 64 root\ndone 64 root failed 255\n' replay
+expect 0 'failed root\nok\nlive\nat 0 of 1\n' '' "$sample"'change root\ntake 1 root\ndone 1 root timeout' replay
+expect 0 'failed root\nok\nlive\nat 0 of 1\n' '' "$sample"'change root\n\ttake 1  root \ndone 1 root nostart\n' replay
+expect 0 'refused BadEvent 0\nlive\nat 0 of 1\n' '' "$sample"'change root\ntake 0 root\n' replay
+expect 0 'refused Unknown nosuch\nlive\nat 0 of 1\n' '' "$sample"'change nosuch\ntake 1 root\n' replay
+expect 0 'ok\nok\nlive\nat 0 of 2\n0 site:[web]>[log]\n' '' "$sample"'add -f site log\nundo\n' replay
+expect 0 'ok\nrefused IsAtomic net\nlive\nat 1 of 2\n0 site:[web]>none\n' '' "$sample"'delete site\nadd net log\n' replay
+
+# Scripts with a line of another form: nothing of them is done.
+spoils() {
+    expect 1 '' "undorc: BadLine $1\n" "$sample$2" replay
+}
+spoils 1 'take 1 root\n'
+spoils 1 'live\n'
+spoils 1 'dry web\n'
+spoils 1 '\0377\n'
+spoils 3 'undo\n\nfrob\n'
+spoils 2 'add x web\ntake 1 root\n'
+spoils 2 'delete site\nstop 1 5\n'
+spoils 2 'change root\ntake 256 root\n'
+spoils 2 'change root\ntake 01 root\n'
+spoils 2 'change root\ntake 1 nosuch\n'
+spoils 2 'change root\ntake 1 site\n'
+spoils 2 'change root\ntake 1\n'
+spoils 3 'change root\ntake 1 root\ndone 1 root\n'
+spoils 3 'change root\ntake 1 root\ndone 1 root failed 0\n'
+spoils 3 'change root\ntake 1 root\ndone 1 root failed 256\n'
+spoils 3 'change root\ntake 1 root\ndone 1 root ok ok\n'
+spoils 2 'change root\nstop 1 18446744073709551616\n'
+expect 0 'refused BadEvent 0\nlive\nat 0 of 1\n' '' "$sample"'change root\nstop 1 18446744073709551615\n' replay
+expect 1 '' 'undorc: BadLine 1\n' 'frob' replay -b base
+expect 1 '' 'undorc: Version\n' 'undorc-db 9\nfrob\n' replay
+expect 1 '' 'undorc: Dangling\n' "$(with 'needs net' 'needs nat')frob\n" replay
+expect 111 '' 'undorc: Io\n' '' replay -b nowhere
+
 # Wrong command lines. The path by which the program is started is none of its words.
+wrong replay x
+wrong replay -u
+wrong replay -b
+wrong replay -b base -b base
+wrong replay --events
+wrong db
+wrong db -d
+wrong db -b base
+wrong db frob
+wrong db frob web
+wrong db Type web
+wrong db kind web
+wrong db limit web
+wrong db list
+wrong db list frob
+wrong db list all all
+wrong db check x
+wrong db type
+wrong db type web web
+wrong db timeout
+wrong db flags
+wrong db flags root net
+wrong db contents
+wrong db contents site site
+wrong db pipeline
+wrong db pipeline web log
+wrong db script
+wrong db script net root
+wrong db -b nowhere type
+wrong db -b nowhere list frob
+wrong db -b base -b base check
+wrong db -d -d check
+wrong db -x check
+wrong db type -x
+wrong db --down type web
+wrong db -u dependencies web
+wrong -d db check
+wrong db "$strange"
+wrong db frob
+says '^undorc: no such query, or not of these words$'
+wrong db --help
+says '^Usage: undorc db '
 wrong
 wrong frob
 wrong -u plan
@@ -295,6 +501,9 @@ on_sample 0 'raise db log net web\n' '' plan -u web
 wrong plan --help
 says '^Usage: undorc plan '
 program=$known
+
+# Source directories.
+. "$rows/compile.sh"
 
 # The bound of an input: one byte more is the last that is taken.
 head -c 16777216 /dev/zero | tr '\0' '\n' > whole
@@ -337,6 +546,25 @@ fault 'a refusal that cannot be told' '' 1
 echo 0 > status
 "$program" plan -u nosuch < in > out 2>&- || echo $? > status
 fault 'a refusal that nobody is to be told' '' 1
+
+printf '%b' "$sample" > in
+: > out.wanted
+echo 0 > status
+"$program" db list all < in > /dev/full 2> err || echo $? > status
+: > out
+fault 'the answer of a query on a full output' 'undorc: Write\n' 111
+echo 0 > status
+"$program" db list all < in >&- 2> err || echo $? > status
+fault 'the answer of a query on a closed output' 'undorc: Write\n' 111
+echo 0 > status
+"$program" db check < in > /dev/full 2> err || echo $? > status
+fault 'no answer on a full output' '' 0
+echo 0 > status
+"$program" db list all <&- > out 2> err || echo $? > status
+fault 'a query without an input' 'undorc: Read\n' 111
+echo 0 > status
+"$program" db check < whole > out 2> err || echo $? > status
+fault 'a query of an input of 16,777,217 bytes' 'undorc: TooLong\n' 111
 
 echo "$passed passed, $failed failed"
 [ "$failed" -eq 0 ]

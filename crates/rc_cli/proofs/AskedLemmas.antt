@@ -1,7 +1,8 @@
 use Rattle.std.proofs.Common.{◌≡◌, ◌∙◌, true, false, List, None, Option, Some, option_map, option_and_then, ap, sym, codes}
-use Rattle.clap.specs.Words.{Row, Text, fault_of, first_of, subcommand_of}
+use Rattle.clap.specs.Words.{Row, Text, fault_of, subcommand_of}
 use Rattle.rc_select.specs.declared.request.Mode.{Mode}
-use Rattle.rc_cli.specs.Words.{has_fault, is_on, program, rows_for, rows_named, words_in}
+use Rattle.rc_cli.specs.Commands.{program}
+use Rattle.rc_cli.specs.Words.{has_fault, is_on, rows_named, words_in}
 use Rattle.rc_cli.specs.Asked.{ask_in, mode_of, plan_asked}
 use Rattle.rc_cli.proofs.WordsLemmas.{rows_right, rows_wrong}
 
@@ -21,12 +22,3 @@ asked_in rows mode is = ap (option_map (λ m. record { mode = m; prune = is_on (
 
 pub asked_none : (rows : List Row) → mode_of (is_on (codes "up") rows) (is_on (codes "down") rows) (is_on (codes "down-all") rows) ≡ None → ask_in rows ≡ None
 asked_none rows is = ap (option_map (λ m. record { mode = m; prune = is_on (codes "prune") rows; all = is_on (codes "all") rows; words = words_in rows; limit = 0 })) is
-
--- the file that words name whose matches are those of `plan`, or of another command
-pub file_right : (words : List Text) (entered : Option (Text × List Row)) (rows : Option (List Row)) → has_fault (fault_of program words) ≡ false → entered ≡ subcommand_of program words
-    → rows ≡ rows_named (codes "plan") entered → option_and_then (first_of (codes "base")) (rows_for (codes "plan") words) ≡ option_and_then (first_of (codes "base")) rows
-file_right words entered rows right is named = ap (option_and_then (first_of (codes "base"))) (rows_right (codes "plan") words entered right is ∙ sym named)
-
--- a wrong line names none
-pub file_wrong : (words : List Text) → has_fault (fault_of program words) ≡ true → option_and_then (first_of (codes "base")) (rows_for (codes "plan") words) ≡ None
-file_wrong words wrong = ap (option_and_then (first_of (codes "base"))) (rows_wrong (codes "plan") words wrong)

@@ -1,5 +1,9 @@
 pub mod WordsLemmas
 pub mod AskedLemmas
-pub mod InputLemmas
 pub mod NamedLemmas
 pub mod PlanLemmas
+pub mod FileLemmas
+pub mod DbLemmas
+pub mod DbAskedLemmas
+pub mod CompileLemmas
+pub mod CompilingLemmas

@@ -1,5 +1,5 @@
 -- What `clap`'s clauses say of the program's own rule.
-use Rattle.std.proofs.Common.{Result, Ok, Err, IfErr, ◌≡◌, ◌≢◌, ◌∙◌, Bool, List, [], ◌∷◌, None, Option, option_map, if◌then◌else◌, false, true, refl, ap, sym, unwrap_or, codes, inl, inr}
+use Rattle.std.proofs.Common.{Result, Ok, Err, IfErr, IfOk, ◌≡◌, ◌≢◌, ◌∙◌, Bool, List, [], ◌∷◌, None, Option, option_map, if◌then◌else◌, false, true, refl, ap, sym, unwrap_or, codes, inl, inr}
 use Rattle.std.specs.Str.{bytes_eq}
 use Rattle.clap.specs.Kinds.{FailsBy}
 use Rattle.clap.specs.Matches.{first_value, found_of, matched_of, raw_values}
@@ -9,15 +9,30 @@ use Rattle.clap.specs.declared.error.ErrorKind.TheVariants.{OutOfMemory}
 use Rattle.clap.specs.declared.ArgMatches.{ArgMatches}
 use Rattle.clap.proofs.WalkLemmas.{first_value-rows, raw_values-rows}
 use Rattle.std.specs.Option.{option_map_or}
-use Rattle.rc_cli.specs.Words.{has_fault, is_on, program, rows_for, rows_named, words_in}
+use Rattle.rc_cli.specs.Commands.{program}
+use Rattle.rc_cli.specs.Words.{has_fault, is_on, rows_for, rows_named, words_in}
+
+-- what `clap`'s clauses ask of the program
+program_is_plain : is_simple program ≡ true
+unfolding program
+program_is_plain = refl
+
+program_is_simple : is_simple_and_free program ≡ true
+unfolding program
+program_is_simple = refl
 
 -- what the matches hold is what the words ask for
 pub entered_found : (a : App) (words : List Text) (m : ArgMatches) → a ≡ program → HasMatchesOf a words m → subcommand_rows_of m ≡ subcommand_of program words
-entered_found a words m e h = (h (ap is_simple e)).1 ∙ ap (λ x. subcommand_of x words) e
+entered_found a words m e h = (h (ap is_simple e ∙ program_is_plain)).1 ∙ ap (λ x. subcommand_of x words) e
 
 -- a parse that succeeds had no fault to find
 pub right_line : (a : App) (words : List Text) → a ≡ program → (is_simple_and_free a ≡ true → fault_of a words ≡ []) → has_fault (fault_of program words) ≡ false
-right_line a words e h = ap has_fault (ap (λ x. fault_of x words) (sym e) ∙ h (ap is_simple_and_free e))
+right_line a words e h = ap has_fault (ap (λ x. fault_of x words) (sym e) ∙ h (ap is_simple_and_free e ∙ program_is_simple))
+
+-- the same, of what a parse answers
+pub right_lines : (a : App) (words : List Text) (r : Result ArgMatches Error) → a ≡ program → (is_simple_and_free a ≡ true → FailsBy (fault_of a words) r) → IfOk r (λ m. has_fault (fault_of program words) ≡ false)
+right_lines a words (Ok m) is h = right_line a words is h
+right_lines a words (Err e) is h = tt
 
 -- a list that has an error's kind, memory aside, is not empty
 has_fault-kind : (kinds : Kinds) (e : Error) → HasKind kinds e → kind_of e ≢ OutOfMemory → has_fault kinds ≡ true
@@ -26,7 +41,7 @@ has_fault-kind (k ∷ ks) e h other = refl
 
 -- an error that is not of memory tells of a fault
 pub wrong_line : (a : App) (words : List Text) (e : Error) → a ≡ program → (is_simple_and_free a ≡ true → HasKind (fault_of a words) e) → kind_of e ≢ OutOfMemory → has_fault (fault_of program words) ≡ true
-wrong_line a words e is h other = ap (λ x. has_fault (fault_of x words)) (sym is) ∙ has_fault-kind (fault_of a words) e (h (ap is_simple_and_free is)) other
+wrong_line a words e is h other = ap (λ x. has_fault (fault_of x words)) (sym is) ∙ has_fault-kind (fault_of a words) e (h (ap is_simple_and_free is ∙ program_is_simple)) other
 
 -- the same, of what a parse answers
 pub wrong_lines : (a : App) (words : List Text) (r : Result ArgMatches Error) → a ≡ program → (is_simple_and_free a ≡ true → FailsBy (fault_of a words) r) → IfErr r (λ e. kind_of e ≢ OutOfMemory → has_fault (fault_of program words) ≡ true)

@@ -1,7 +1,7 @@
 -- What the words ask of a command.
 use Rattle.std.specs.Prelude.{◌||◌, Bool, List, Option, None, Some, codes, if◌then◌else◌}
 use Rattle.std.specs.Prelude.{option_and_then, option_map}
-use Rattle.clap.specs.Words.{Row, Text, first_of}
+use Rattle.clap.specs.Words.{Row, Text}
 use Rattle.rc_select.specs.declared.request.Mode.{Mode}
 use Rattle.rc_select.specs.declared.request.Mode.TheVariants.{Up, Down, DownAll}
 use Rattle.rc_select.specs.Ask.{Ask}
@@ -22,7 +22,3 @@ ask_in rows = option_map
 -- what the words ask of `plan`, or nothing where they are a wrong command line
 abbrev pub plan_asked : List Text → Option Ask
 plan_asked words = option_and_then ask_in (rows_for (codes "plan") words)
-
--- the file of `-b`, where the words ask something of `plan` and name one
-abbrev pub file_asked : List Text → Option Text
-file_asked words = option_and_then (λ ask. option_and_then (first_of (codes "base")) (rows_for (codes "plan") words)) (plan_asked words)

@@ -1,7 +1,16 @@
+pub mod Commands
 pub mod Words
 pub mod Asked
-pub mod Input
 pub mod Named
 pub mod Base
 pub mod PlanText
 pub mod PlanFaults
+pub mod Query
+pub mod DbAsked
+pub mod DbAnswer
+pub mod DbFaults
+pub mod File
+pub mod Replay
+pub mod Compiling
+pub mod Compiled
+pub mod CompileRefusals

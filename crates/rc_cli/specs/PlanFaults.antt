@@ -16,7 +16,7 @@ use Rattle.rc_cli.specs.declared.plan.PlanFault.{PlanFault}
 use Rattle.rc_cli.specs.declared.plan.PlanFault.TheVariants.{Bad, Version, NotSorted, Cyclic, TooMany, Dangling, Unknown, NotClosed, PruneNeedsUp, Memory}
 use Rattle.rc_cli.specs.Asked.{plan_asked}
 use Rattle.rc_cli.specs.Base.{IsTextFault, Spells}
-use Rattle.rc_cli.specs.Input.{AppendsFront, fault_line}
+use Rattle.rc_streams.specs.Input.{AppendsFront, fault_line}
 use Rattle.rc_cli.specs.Named.{AreNamed, IsFirstUnknown, IsNamed, word_lines}
 use Rattle.rc_cli.specs.PlanText.{AreUp}
 

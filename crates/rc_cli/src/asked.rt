@@ -1,17 +1,16 @@
 //! What the words ask of a command.
-ghost use Rattle.std.specs.Prelude.{◌≡◌, ◌≢◌, ◌⊎◌, ◌↔◌, codes, map, None, Some, option_and_then, option_map, string_bytes, IfErr, IfOk, IsTrue};
-ghost use Rattle.clap.specs.Words.{first_of, found_of, rows_of};
+ghost use Rattle.std.specs.Prelude.{◌≡◌, ◌≢◌, ◌⊎◌, ◌↔◌, map, None, Some, string_bytes, IfErr, IfOk, IsTrue};
+ghost use Rattle.clap.specs.Words.{found_of, rows_of};
 ghost use Rattle.rc_select.specs.Ask.{ask_of};
-ghost use Rattle.rc_cli.specs.Asked.{ask_in, file_asked, mode_of, plan_asked};
-ghost use Rattle.rc_cli.specs.Words.{rows_for};
-ghost use Rattle.rc_cli.specs.Input.{AppendsFront, failure_text, fault_line};
+ghost use Rattle.rc_cli.specs.Asked.{ask_in, mode_of, plan_asked};
+ghost use Rattle.rc_streams.specs.Input.{AppendsFront, failure_text, fault_line};
 ghost use Rattle.rc_cli.specs.declared.asked.WordsFault.TheVariants.{Memory};
 
 use crate::ending::{WRONG_LINE, fail};
-use crate::input::{Failure, tell};
 use crate::words::{command_named, is_memory, is_on, matches_of, words_in};
 use clap::{ArgMatches, Error};
-use rc_select::{Mode, NoMem, Request};
+use rc_select::{Mode, Request};
+use rc_streams::{Failure, tell};
 use std::alloc::{AllocError, Global};
 use std::io::Write;
 
@@ -24,6 +23,8 @@ pub(crate) enum WordsFault {
     OtherCommand,
     /// They name more than one way.
     Ways,
+    /// They ask no question of a database.
+    Query,
     Memory,
 }
 
@@ -87,45 +88,8 @@ fn mode_of(up: bool, down: bool, down_all: bool) -> Option<Mode>
     }
 }
 
-/// The file of `-b`, where the words ask something of `plan` and name one. The first word is the
-/// program's own name.
-pub fn base_file<'a>(alloc: Global, words: &'a [String]) -> Result<Option<&'a str>, NoMem>
-    ensures { IfOk result (λ file. option_map (λ f. f.now) file ≡ file_asked (map string_bytes words.entry.now)) }
-{
-    match plan_asked(alloc, words) {
-        Ok(_) => file_in(alloc, words),
-        Err(fault) => {
-            if wants_memory(&fault) {
-                Err(AllocError)
-            } else {
-                Ok(None)
-            }
-        }
-    }
-}
-
-// The file of `-b` in the matches of `plan`.
-fn file_in<'a>(alloc: Global, words: &'a [String]) -> Result<Option<&'a str>, NoMem>
-    ensures { IfOk result (λ file. option_map (λ f. f.now) file
-        ≡ option_and_then (first_of (codes "base")) (rows_for (codes "plan") (map string_bytes words.entry.now))) }
-{
-    let matches = match matches_of(alloc, words) {
-        Ok(matches) => matches,
-        Err(error) => {
-            if is_memory(&error) {
-                return Err(AllocError);
-            }
-            return Ok(None);
-        }
-    };
-    match command_named(&matches, "plan") {
-        Some(inner) => Ok(inner.get_str("base")),
-        None => Ok(None),
-    }
-}
-
-// Whether words are refused for want of memory alone.
-fn wants_memory(fault: &WordsFault) -> bool
+/// Whether words are refused for want of memory alone.
+pub(crate) fn wants_memory(fault: &WordsFault) -> bool
     ensures { IsTrue result ↔ (fault.now ≡ Memory) }
 {
     matches!(fault, WordsFault::Memory)
@@ -148,6 +112,10 @@ pub(crate) fn tell_words<F: Write>(faults: &mut F, fault: &WordsFault) -> u8
         }
         WordsFault::Ways => {
             tell(faults, b"-u, -d and -D exclude each other");
+            WRONG_LINE
+        }
+        WordsFault::Query => {
+            tell(faults, b"no such query, or not of these words");
             WRONG_LINE
         }
         WordsFault::Memory => fail(faults, Failure::Memory),

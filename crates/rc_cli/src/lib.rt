@@ -3,12 +3,29 @@
 
 mod asked;
 mod base;
+mod commands;
+mod compile;
+mod compile_faults;
+mod compile_words;
+mod db;
+mod db_answer;
+mod db_fault;
+mod db_words;
 mod ending;
-mod input;
+mod file;
 mod named;
+mod named_command;
 mod plan;
+mod query;
+mod replay;
+mod replay_words;
 mod words;
 
-pub use crate::asked::base_file;
-pub use crate::input::MAX_INPUT;
+pub use crate::compile::compile_run;
+pub use crate::compile_words::sources;
+pub use crate::db::db_run;
+pub use crate::file::base_file;
+pub use crate::named_command::names_command;
 pub use crate::plan::plan_run;
+pub use crate::replay::replay_run;
+pub use rc_streams::MAX_INPUT;

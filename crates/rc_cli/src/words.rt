@@ -1,13 +1,12 @@
 //! The words of the command line, read by `clap`.
 ghost use Rattle.std.specs.Prelude.{◌≡◌, ◌≢◌, ◌↔◌, map, false, None, Some, option_map, string_bytes, IfErr, IfNone, IfOk, IfSome, IsTrue};
-ghost use Rattle.clap.specs.Words.{app_of, found_of, kind_of, rows_of, rule_of, subcommand_rows_of, subcommand_of};
-ghost use Rattle.clap.specs.Words.{fault_of, with_rule};
-ghost use Rattle.clap.specs.declared.builder.Command.TheViews.{out-Command as fields_of};
-ghost use Rattle.rc_cli.specs.Words.{base_option, flag, has_fault, is_on, plan_command, program};
-ghost use Rattle.rc_cli.specs.Words.{rows_named, with_names, with_ways, word_list, words_in};
+ghost use Rattle.clap.specs.Words.{fault_of, found_of, kind_of, rows_of, subcommand_rows_of, subcommand_of};
+ghost use Rattle.rc_cli.specs.Commands.{program};
+ghost use Rattle.rc_cli.specs.Words.{has_fault, is_on, rows_named, words_in};
 
+use crate::commands::undorc_command;
 use clap::error::ErrorKind;
-use clap::{Arg, ArgAction, ArgMatches, Command, Error};
+use clap::{ArgMatches, Error};
 use std::alloc::{AllocError, Global};
 
 /// What `clap` makes of the words. The first word is the program's own name.
@@ -21,104 +20,6 @@ pub(crate) fn matches_of<'a>(alloc: Global, words: &'a [String]) -> Result<ArgMa
 {
     let command = undorc_command(alloc)?;
     command.try_get_matches_from(words)
-}
-
-// The program, with its commands.
-fn undorc_command<'a>(alloc: Global) -> Result<Command<'a>, AllocError>
-    ensures { IfOk result (λ c. app_of c ≡ program) }
-{
-    let plan = plan_command(alloc)?;
-    Command::new(alloc, "undorc")
-        .about("A manager of services that shows its plan")
-        .subcommand_required(true)
-        .subcommand(plan)
-}
-
-fn plan_command<'a>(alloc: Global) -> Result<Command<'a>, AllocError>
-    ensures app { IfOk result (λ c. app_of c ≡ plan_command) }
-    ensures local { IfOk result (λ c. (fields_of c).has_globals ≡ false) }
-{
-    let command = Command::new(alloc, "plan")
-        .about("Reads a database and the names that are up, and prints the plan")
-        .arg(base_argument(alloc))?;
-    let command = with_ways(alloc, command)?;
-    with_names(alloc, command)
-}
-
-// The command with the flags of the three ways.
-fn with_ways<'a>(alloc: Global, command: Command<'a>) -> Result<Command<'a>, AllocError>
-    requires { (fields_of command).has_globals ≡ false }
-    ensures app { IfOk result (λ c. app_of c ≡ with_ways (app_of command.entry)) }
-    ensures local { IfOk result (λ c. (fields_of c).has_globals ≡ false) }
-{
-    command
-        .arg(flag(
-            alloc,
-            "up",
-            'u',
-            "Raise the names and all that they need; so it is without -d and -D",
-        ))?
-        .arg(flag(
-            alloc,
-            "down",
-            'd',
-            "Lower the names and all that need them, but for what essential services hold up",
-        ))?
-        .arg(flag(
-            alloc,
-            "down-all",
-            'D',
-            "Lower the names and all that need them",
-        ))
-}
-
-// The command with the flags of the names, and the names.
-fn with_names<'a>(alloc: Global, command: Command<'a>) -> Result<Command<'a>, AllocError>
-    requires { (fields_of command).has_globals ≡ false }
-    ensures app { IfOk result (λ c. app_of c ≡ with_names (app_of command.entry)) }
-    ensures local { IfOk result (λ c. (fields_of c).has_globals ≡ false) }
-{
-    command
-        .arg(flag(
-            alloc,
-            "prune",
-            'p',
-            "With -u: lower what is not named, but for what essential services hold up",
-        ))?
-        .arg(flag(alloc, "all", 'a', "Name all that is up, too"))?
-        .arg(words_argument(alloc, "NAME", "The name of a service or of a bundle"))
-}
-
-fn flag<'a>(alloc: Global, id: &'a str, letter: char, help: &'a str) -> Arg<'a>
-    ensures rule { rule_of result ≡ flag id.entry.now letter }
-    ensures local { result.global ≡ false }
-{
-    Arg::new(alloc, id)
-        .short(letter)
-        .action(ArgAction::SetTrue)
-        .help(help)
-}
-
-fn base_argument<'a>(alloc: Global) -> Arg<'a>
-    ensures rule { rule_of result ≡ base_option }
-    ensures local { result.global ≡ false }
-{
-    Arg::new(alloc, "base")
-        .short('b')
-        .value_name("FILE")
-        .action(ArgAction::Set)
-        .help("Read the database from this file, and not from the front of the input")
-}
-
-fn words_argument<'a>(alloc: Global, name: &'a str, help: &'a str) -> Arg<'a>
-    ensures rule { rule_of result ≡ word_list }
-    ensures local { result.global ≡ false }
-{
-    Arg::new(alloc, "words")
-        .value_name(name)
-        .action(ArgAction::Append)
-        .num_args(0..)
-        .help(help)
 }
 
 /// The matches of the command of this name, if that is the one that was entered.
@@ -156,8 +57,8 @@ pub(crate) fn words_in(alloc: Global, matches: &ArgMatches<'_>) -> Result<Vec<St
     }
 }
 
-// Texts of one's own.
-fn strings_of(alloc: Global, words: &[&str]) -> Result<Vec<String>, AllocError>
+/// Texts of one's own.
+pub(crate) fn strings_of(alloc: Global, words: &[&str]) -> Result<Vec<String>, AllocError>
     ensures { IfOk result (λ strings. map string_bytes strings.items ≡ map (λ w. w.now) words.now) }
 {
     let mut strings = Vec::new(alloc);

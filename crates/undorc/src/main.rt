@@ -4,7 +4,11 @@
 mod own_name;
 
 use crate::own_name::OwnName;
-use rc_cli::{base_file, plan_run};
+use rc_cli::{
+    base_file, compile_run, db_run, names_command, plan_run, replay_run, sources,
+};
+use rc_names::NoMem;
+use rc_source::FolderTree;
 use std::io::ErrorKind;
 use std::process::ExitCode;
 use std::{env, fs, io};
@@ -30,14 +34,85 @@ fn words(rt: &HostRuntime) -> io::Result<Vec<String>> {
 
 /// Runs the command of the words, and answers the status.
 fn run(rt: &HostRuntime, words: &[String]) -> u8 {
-    match base_file(rt.alloc(), words) {
-        Ok(Some(path)) => match fs::read(rt, path) {
-            Ok(bytes) => plan(rt, words, Some(&bytes)),
-            Err(error) => tell_file(rt, &error),
-        },
-        Ok(None) => plan(rt, words, None),
+    match sources(rt.alloc(), words) {
+        Ok(Some(paths)) => compile(rt, &paths),
+        Ok(None) => run_on_base(rt, words),
         Err(_) => tell_failure(rt, "undorc: Memory"),
     }
+}
+
+fn compile(rt: &HostRuntime, paths: &[String]) -> u8 {
+    match trees_at(rt, paths) {
+        Ok(mut trees) => compile_run(
+            rt.alloc(),
+            &mut trees,
+            &mut rt.stdout(),
+            &mut rt.stderr(),
+        ),
+        Err(_) => tell_failure(rt, "undorc: Memory"),
+    }
+}
+
+/// The trees of directories. Nothing is read yet.
+fn trees_at(rt: &HostRuntime, paths: &[String]) -> Result<Vec<FolderTree<HostRuntime>>, NoMem> {
+    let mut trees = Vec::new(rt.alloc());
+    for path in paths {
+        let tree = FolderTree::open(rt.clone()?, rt.alloc(), path.as_str())?;
+        trees.push(tree)?;
+    }
+    Ok(trees)
+}
+
+/// Runs a command that reads a database, and answers the status.
+fn run_on_base(rt: &HostRuntime, words: &[String]) -> u8 {
+    match base_file(rt.alloc(), words) {
+        Ok(Some(path)) => match fs::read(rt, path) {
+            Ok(bytes) => command(rt, words, Some(&bytes)),
+            Err(error) => tell_file(rt, &error),
+        },
+        Ok(None) => command(rt, words, None),
+        Err(_) => tell_failure(rt, "undorc: Memory"),
+    }
+}
+
+/// Runs the command that is named. A wrong command line is told by whichever is run.
+fn command(rt: &HostRuntime, words: &[String], base: Option<&[u8]>) -> u8 {
+    match names_command(rt.alloc(), words, "db") {
+        Ok(true) => db(rt, words, base),
+        Ok(false) => mover(rt, words, base),
+        Err(_) => tell_failure(rt, "undorc: Memory"),
+    }
+}
+
+/// Runs the command that is named, of those that speak of changes.
+fn mover(rt: &HostRuntime, words: &[String], base: Option<&[u8]>) -> u8 {
+    match names_command(rt.alloc(), words, "replay") {
+        Ok(true) => replay(rt, words, base),
+        Ok(false) => plan(rt, words, base),
+        Err(_) => tell_failure(rt, "undorc: Memory"),
+    }
+}
+
+fn replay(rt: &HostRuntime, words: &[String], base: Option<&[u8]>) -> u8 {
+    replay_run(
+        rt.alloc(),
+        words,
+        base,
+        &mut rt.stdin(),
+        &mut rt.stdout(),
+        &mut rt.stderr(),
+    )
+}
+
+fn db(rt: &HostRuntime, words: &[String], base: Option<&[u8]>) -> u8 {
+    db_run(
+        rt.alloc(),
+        words,
+        base,
+        &mut rt.stdin(),
+        &mut rt.stdout(),
+        &mut rt.stderr(),
+    )
 }
 
 fn plan(rt: &HostRuntime, words: &[String], base: Option<&[u8]>) -> u8 {

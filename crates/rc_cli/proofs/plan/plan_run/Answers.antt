@@ -1,6 +1,6 @@
 use Rattle.std.proofs.Common.{◌∙◌, ℕ, List, map, string_bytes, subst}
 use Rattle.rc_select.specs.Ask.{ask_of}
-use Rattle.rc_cli.specs.declared.input.Failure.TheVariants as failure
+use Rattle.rc_streams.specs.declared.input.Failure.TheVariants as failure
 use Rattle.rc_cli.specs.Base.{bytes_of}
 use Rattle.rc_cli.specs.PlanFaults.{IsRefused, TellsFault}
 use Rattle.rc_cli.proofs.PlanLemmas.{if_some_then}

@@ -1,0 +1,315 @@
+# Rows of `undorc compile` on real directories, in a folder of their own; tests/program.sh reads this file,
+# and has its functions.
+mkdir compiled
+cd compiled
+
+# A source without an entry, and the entries of each kind.
+tree() {
+    rm -rf "$1"
+    mkdir "$1"
+}
+oneshot() {
+    mkdir "$1"
+    printf oneshot > "$1/type"
+    printf up > "$1/up"
+}
+longrun() {
+    mkdir "$1"
+    printf longrun > "$1/type"
+    : > "$1/run"
+}
+bundle() {
+    mkdir "$1"
+    printf bundle > "$1/type"
+    printf '%b' "$2" > "$1/contents"
+}
+
+# The text of one oneshot `a` that needs nothing, and of its names.
+plain='service a oneshot plain 0 0\nneeds\nup 2\nup\ndown -\n'
+compiles() {
+    expect 0 "$1" '' '' compile "$2"
+}
+fails() {
+    expect "$1" '' "undorc: $2\n" '' compile "$3"
+}
+
+# A source without an entry, and the sample.
+tree empty
+compiles "$none" empty
+compiles "$sample" "$samples/source"
+: > out.wanted
+: > err.wanted
+echo 1 > status
+"$program" compile "$samples/source" | cmp - "$samples/sample.txt" > out 2> err && echo 0 > status
+judge 'the sample as directories is the sample as text' 0
+echo 'raise db log net root web' > out.wanted
+echo 1 > status
+"$program" compile "$samples/source" 2> /dev/null | "$program" plan site > out 2> err && echo 0 > status
+judge 'what is compiled is planned on' 0
+
+# Links: one to a directory is an entry of its own name, one to a file is read.
+tree store
+oneshot store/a
+tree links
+ln -s ../store/a links/b
+compiles "${one}service b oneshot plain 0 0\\nneeds\\nup 2\\nup\\ndown -\\n$last" links
+tree whole
+oneshot whole/a
+ln -s ../../store/a/up whole/a/down
+compiles "${one}service a oneshot plain 0 0\\nneeds\\nup 2\\nup\\ndown 2\\nup\\n$last" whole
+ln -s whole linked
+compiles "${one}service a oneshot plain 0 0\\nneeds\\nup 2\\nup\\ndown 2\\nup\\n$last" linked
+
+# Links that lead nowhere: to nothing, through a file, to themselves. They are no entry, and as a file
+# or a folder they are missing.
+tree lost
+oneshot lost/a
+ln -s nowhere lost/b
+ln -s a/up/x lost/c
+ln -s d lost/d
+compiles "$one$plain$last" lost
+for file in down timeout-up flag-essential dependencies dependencies.d producer-for; do
+    ln -s nowhere "lost/a/$file"
+    compiles "$one$plain$last" lost
+    rm "lost/a/$file"
+    ln -s up/x "lost/a/$file"
+    compiles "$one$plain$last" lost
+    rm "lost/a/$file"
+    ln -s "$file" "lost/a/$file"
+    compiles "$one$plain$last" lost
+    rm "lost/a/$file"
+done
+rm lost/a/up
+ln -s nowhere lost/a/up
+fails 1 'NoUp a' lost
+ln -sf nowhere lost/a/type
+fails 1 'NoType a' lost
+
+# Entries that begin with a dot, and entries that are no directories, are skipped.
+tree dots
+oneshot dots/a
+mkdir dots/.b
+ln -s .c dots/.c
+: > dots/.type
+: > dots/readme
+: > dots/s6rc-x
+compiles "$one$plain$last" dots
+mkdir dots/a/dependencies.d
+: > dots/a/dependencies.d/.b
+compiles "$one$plain$last" dots
+
+# Files that no table names, and those of another kind, are not looked at.
+tree more
+oneshot more/a
+printf '\0' > more/a/readme
+printf '\0' > more/a/run
+printf -- '-' > more/a/contents
+mkdir more/a/data more/a/contents.d
+: > "more/a/$strange"
+: > "more/a/contents.d/$strange"
+compiles "$one$plain$last" more
+
+# Both forms of a list, and what stands in a folder of names: a file, a directory, a link to nothing.
+tree both
+oneshot both/a
+printf 'e\n# b\n\t c \nb' > both/a/dependencies
+mkdir both/a/dependencies.d both/a/dependencies.d/d
+: > both/a/dependencies.d/b
+ln -s nowhere both/a/dependencies.d/e
+for name in b c d e; do oneshot "both/$name"; done
+text="${first}services 5\\nservice a oneshot plain 0 0\\nneeds b c d e\\nup 2\\nup\\ndown -\\n"
+for name in b c d e; do text="${text}service $name oneshot plain 0 0\\nneeds\\nup 2\\nup\\ndown -\\n"; done
+compiles "$text$last" both
+tree held
+oneshot held/a
+longrun held/b
+bundle held/g 'a\n'
+mkdir held/g/contents.d
+: > held/g/contents.d/b
+: > held/g/contents.d/a
+compiles "${first}services 2\\n${plain}service b longrun plain 0 0\\nneeds\\nproducer -\\nbundles 1\\nbundle g a b\\nend\\n" held
+
+# What counts by being there may be a directory.
+tree there
+mkdir there/a there/a/run there/a/flag-essential
+echo longrun > there/a/type
+compiles "${one}service a longrun essential 0 0\\nneeds\\nproducer -\\n$last" there
+
+# Sources that can't be listed are told without a name.
+: > file
+fails 111 Io nowhere
+fails 111 Io file
+fails 111 Io ''
+fails 111 Io "$(printf '%0256d' 0)"
+tree unread
+oneshot unread/a
+mkdir "unread/$strange"
+fails 111 Io unread
+rmdir "unread/$strange"
+: > "unread/$strange"
+fails 111 Io unread
+rm "unread/$strange"
+mkdir "unread/.$strange"
+fails 111 Io unread
+rmdir "unread/.$strange"
+compiles "$one$plain$last" unread
+
+# Files and folders that can't be read are told with their entry.
+for file in type up down timeout-up dependencies consumer-for pipeline-name; do
+    tree unread
+    oneshot unread/a
+    rm -f "unread/a/$file"
+    mkdir "unread/a/$file"
+    fails 111 'Io a' unread
+done
+tree unread
+oneshot unread/a
+: > unread/a/dependencies.d
+fails 111 'Io a' unread
+rm unread/a/dependencies.d
+mkdir unread/a/dependencies.d
+: > "unread/a/dependencies.d/$strange"
+fails 111 'Io a' unread
+rm "unread/a/dependencies.d/$strange"
+: > "unread/a/dependencies.d/.$strange"
+fails 111 'Io a' unread
+if [ "$(id -u)" -ne 0 ]; then
+    tree unread
+    oneshot unread/a
+    chmod 000 unread/a/up
+    fails 111 'Io a' unread
+    chmod 000 unread
+    fails 111 Io unread
+    chmod 700 unread
+fi
+
+# Refusals of files and names, each of the first entry in byte order that has one.
+tree wrong
+mkdir wrong/s6rc-x
+fails 1 'BadName s6rc-x' wrong
+mkdir wrong/b
+fails 1 'NoType b' wrong
+mkdir "wrong/a b"
+fails 1 'BadName a b' wrong
+mkdir wrong/a
+fails 1 'NoType a' wrong
+printf 'oneshot\n\n' > wrong/a/type
+fails 1 'BadType a' wrong
+printf longrun > wrong/a/type
+fails 1 'NoRun a' wrong
+printf oneshot > wrong/a/type
+fails 1 'NoUp a' wrong
+printf 'a\0b' > wrong/a/up
+fails 1 'NotText a' wrong
+printf '\377' > wrong/a/up
+fails 1 'NotText a' wrong
+head -c 65537 /dev/zero | tr '\0' 'x' > wrong/a/up
+fails 1 'TooLong a' wrong
+ln -sf /dev/zero wrong/a/up
+fails 1 'TooLong a' wrong
+rm wrong/a/up
+printf up > wrong/a/up
+printf 1s > wrong/a/timeout-up
+fails 1 'BadTimeout a' wrong
+printf 4294967296 > wrong/a/timeout-up
+fails 1 'BadTimeout a' wrong
+rm wrong/a/timeout-up
+printf 'c\n-d\n' > wrong/a/dependencies
+fails 1 'BadName a' wrong
+rm wrong/a/dependencies
+mkdir wrong/a/dependencies.d
+: > wrong/a/dependencies.d/-d
+fails 1 'BadName a' wrong
+rm -r wrong/a/dependencies.d
+printf 'c\nc\n' > wrong/a/producer-for
+fails 1 'BadName a' wrong
+tree long
+oneshot long/a
+head -c 65536 /dev/zero | tr '\0' 'x' > long/a/up
+printf 4294967295 > long/a/timeout-down
+compiles "${one}service a oneshot plain 0 4294967295\\nneeds\\nup 65536\\n$(cat long/a/up)\\ndown -\\n$last" long
+
+# Two sources: an entry comes once, and the first fault in their order is told.
+tree first
+oneshot first/b
+tree second
+oneshot second/a
+expect 0 "${first}services 2\\n${plain}service b oneshot plain 0 0\\nneeds\\nup 2\\nup\\ndown -\\n$last" '' '' compile first second
+expect 1 '' 'undorc: Twice b\n' '' compile first second first
+expect 111 '' 'undorc: Io\n' '' compile first nowhere first
+rm first/b/up
+expect 1 '' 'undorc: NoUp b\n' '' compile first nowhere
+expect 111 '' 'undorc: Io\n' '' compile nowhere first
+
+# What definitions are refused for.
+tree apart
+oneshot apart/a
+printf b > apart/a/dependencies
+fails 1 'UnknownIn a b' apart
+oneshot apart/b
+printf c > apart/b/dependencies
+oneshot apart/c
+printf a > apart/c/dependencies
+fails 1 'Cycle a b c' apart
+printf a > apart/a/dependencies
+fails 1 'Cycle a' apart
+bundle apart/x 'y\n'
+bundle apart/y 'x\n'
+fails 1 'BundleCycle x y' apart
+tree pipes
+longrun pipes/p
+printf c > pipes/p/producer-for
+longrun pipes/c
+fails 1 'PipelineMismatch p' pipes
+printf oneshot > pipes/p/type
+printf up > pipes/p/up
+fails 1 'PipelineType p' pipes
+printf longrun > pipes/p/type
+printf p > pipes/c/consumer-for
+printf q > pipes/c/pipeline-name
+compiles "${first}services 2\\nservice c longrun plain 0 0\\nneeds\\nproducer -\\nservice p longrun plain 0 0\\nneeds c\\nproducer c\\nbundles 1\\nbundle q c p\\nend\\n" pipes
+oneshot pipes/q
+fails 1 'PipelineName c' pipes
+
+# A chain of 4,096 services, and one more.
+tree chain
+(cd chain && seq -f 's%04.0f' 1 4096 | xargs mkdir)
+chained() {
+    before=
+    for name in "$@"; do
+        printf oneshot > "chain/$name/type"
+        : > "chain/$name/up"
+        if [ -n "$before" ]; then echo "$before" > "chain/$name/dependencies"; fi
+        before=$name
+    done
+}
+# shellcheck disable=SC2046
+chained $(seq -f 's%04.0f' 1 4096)
+text=$(awk 'BEGIN {
+    for (i = 1; i <= 4096; i++) {
+        needed = i > 1 ? sprintf(" s%04d", i - 1) : ""
+        printf "service s%04d oneshot plain 0 0\\nneeds%s\\nup 0\\n\\ndown -\\n", i, needed
+    }
+}')
+compiles "${first}services 4096\\n$text$last" chain
+oneshot chain/s4097
+fails 1 TooMany chain
+
+# Wrong command lines, and devices that fail.
+wrong compile
+wrong compile -x
+wrong compile empty -b base
+wrong compile --help
+says '^Usage: undorc compile <SOURCE>\.\.\.$'
+wrong compile "$strange"
+says '^undorc: a word of the command line is not UTF-8$'
+tree ./-x
+expect 0 "$none" '' '' compile -- -x
+expect 0 "$none" '' 'what is on the input is left there\n' compile empty
+: > out
+: > out.wanted
+echo 'undorc: Write' > err.wanted
+echo 0 > status
+"$program" compile empty > /dev/full 2> err || echo $? > status
+judge 'a full output' 111
+cd ..
