@@ -271,6 +271,37 @@ compiles "${first}services 2\\nservice c longrun plain 0 0\\nneeds\\nproducer -\
 oneshot pipes/q
 fails 1 'PipelineName c' pipes
 
+# A need on a bundle is one on all that it holds, through bundles in bundles; a pipeline reaches back over all producers.
+empty_needs='oneshot plain 0 0\nneeds\nup 2\nup\ndown -\n'
+tree deep
+oneshot deep/a
+printf g > deep/a/dependencies
+oneshot deep/b
+oneshot deep/c
+bundle deep/g 'h\nb\n'
+bundle deep/h 'c\n'
+bundle deep/nil ''
+text='service a oneshot plain 0 0\nneeds b c\nup 2\nup\ndown -\n'"service b ${empty_needs}service c $empty_needs"
+compiles "${first}services 3\\n${text}bundles 3\\nbundle g b c\\nbundle h c\\nbundle nil\\nend\\n" deep
+printf a > deep/c/dependencies
+fails 1 'Cycle a c' deep
+tree three
+for name in p q r; do longrun "three/$name"; done
+printf q > three/p/producer-for
+printf p > three/q/consumer-for
+printf r > three/q/producer-for
+printf q > three/r/consumer-for
+printf pipe > three/r/pipeline-name
+printf mid > three/q/pipeline-name
+text='service p longrun plain 0 0\nneeds q\nproducer q\nservice q longrun plain 0 0\nneeds r\nproducer r\n'
+text="$text"'service r longrun plain 0 0\nneeds\nproducer -\n'
+compiles "${first}services 3\\n${text}bundles 1\\nbundle pipe p q r\\nend\\n" three
+oneshot three/pipe
+fails 1 'PipelineName r' three
+cp -r "$samples/source" piped
+printf weblog > piped/log/pipeline-name
+compiles "$(with 'bundles 1' 'bundles 2' | sed 's/bundle site web/bundle site web\\nbundle weblog log web/')" piped
+
 # A chain of 4,096 services, and one more.
 tree chain
 (cd chain && seq -f 's%04.0f' 1 4096 | xargs mkdir)
