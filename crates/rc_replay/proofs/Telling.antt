@@ -28,7 +28,7 @@ module _ {S A : Type 0} (f : S → Command) (g : A → Result Told Refusal) (nam
       → next ++ from steps answers (i + 1) ≡ whole
   told_more steps answers i step answer whole so_far next line within told at_step at_answer is said added =
       let here : line ≡ answer_text names (f (get_or steps i step)) (g (get_or answers i answer)) =
-          said ∙ ap (λ (s : S). answer_text names (f s) (g answer)) (sym at_step) ∙ ap (λ (a : A). answer_text names (f (get_or steps i step)) (g a)) (sym at_answer) in
+      said ∙ ap (λ (s : S). answer_text names (f s) (g answer)) (sym at_step) ∙ ap (λ (a : A). answer_text names (f (get_or steps i step)) (g a)) (sym at_answer) in
       ap (λ (n : ℕ). next ++ from steps answers n) (let e : i + 1 ≡ suc i = omega arith in e)
       ∙ ap (λ (t : List ℕ). t ++ from steps answers (suc i)) (added ∙ ap (λ (t : List ℕ). so_far ++ t) here)
       ∙ append_assoc so_far (answer_text names (f (get_or steps i step)) (g (get_or answers i answer))) (from steps answers (suc i))

@@ -126,12 +126,7 @@ impl Session {
     }
 
     /// Begins the run of an undo at a moment, as `begin` does.
-    pub fn begin_undo(
-        &mut self,
-        alloc: Global,
-        limit: u32,
-        start: u64,
-    ) -> Result<Begun, Refusal>
+    pub fn begin_undo(&mut self, alloc: Global, limit: u32, start: u64) -> Result<Begun, Refusal>
         requires { self.old.begun ≡ false }
         ensures task { (events : List Event) → IfOk result (IsBegun self.new (Undo limit events) start) }
         ensures course { IfOk result (λ begun. IsCourse (course_of self.old.database.needs begun.plan begun.deadline)) }
@@ -161,12 +156,7 @@ impl Session {
     }
 
     /// Begins the run of a redo at a moment, as `begin` does.
-    pub fn begin_redo(
-        &mut self,
-        alloc: Global,
-        limit: u32,
-        start: u64,
-    ) -> Result<Begun, Refusal>
+    pub fn begin_redo(&mut self, alloc: Global, limit: u32, start: u64) -> Result<Begun, Refusal>
         requires { self.old.begun ≡ false }
         ensures task { (events : List Event) → IfOk result (IsBegun self.new (Redo limit events) start) }
         ensures course { IfOk result (λ begun. IsCourse (course_of self.old.database.needs begun.plan begun.deadline)) }

@@ -4,9 +4,7 @@
 mod own_name;
 
 use crate::own_name::OwnName;
-use rc_cli::{
-    base_file, compile_run, db_run, names_command, plan_run, replay_run, sources,
-};
+use rc_cli::{base_file, compile_run, db_run, names_command, plan_run, replay_run, sources};
 use rc_names::NoMem;
 use rc_source::FolderTree;
 use std::io::ErrorKind;
@@ -43,12 +41,7 @@ fn run(rt: &HostRuntime, words: &[String]) -> u8 {
 
 fn compile(rt: &HostRuntime, paths: &[String]) -> u8 {
     match trees_at(rt, paths) {
-        Ok(mut trees) => compile_run(
-            rt.alloc(),
-            &mut trees,
-            &mut rt.stdout(),
-            &mut rt.stderr(),
-        ),
+        Ok(mut trees) => compile_run(rt.alloc(), &mut trees, &mut rt.stdout(), &mut rt.stderr()),
         Err(_) => tell_failure(rt, "undorc: Memory"),
     }
 }

@@ -37,7 +37,10 @@ returns-then-branch-eq0-clause-line g c =
       | else-is_empty w ↦ rw w.result-is (
         one_line _ _ _ _ c.loop-line.invariant.one moves,
         c.in_ok-take_line.ensures.short,
-        hands, (λ is. false≢true (sym w.if-is_empty.false ∙ (c.is_empty.ensures ∙ eq-eqb _ 0 (c.take_line.new.line.ok.0 ∙ ap length is)))), none, read.3 c.if-branch-eq0.true,
+        hands,
+        (λ is. false≢true (sym w.if-is_empty.false ∙ (c.is_empty.ensures ∙ eq-eqb _ 0 (c.take_line.new.line.ok.0 ∙ ap length is)))),
+        none,
+        read.3 c.if-branch-eq0.true,
       )
     ]
 
