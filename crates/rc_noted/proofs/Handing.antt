@@ -1,9 +1,12 @@
 -- One part after another, of what is handed out.
-use Rattle.std.proofs.Common.{◌≡◌, ◌∙◌, ◌⊎◌, inl, inr, ℕ, ◌+◌, Bool, true, false, List, [], ◌∷◌, ◌++◌, Option, None, Some, length, ap, sym, refl, subst, arith, append_assoc, length-append}
-use Rattle.std.proofs.lemmas.List.{append-nil}
-use Rattle.std.specs.Io.KnownBytes.{Consumes, Keeps, IsAtEnd}
-use Rattle.std.proofs.KnownBytes.{Consumes-trans}
-use Rattle.rc_noted.specs.Taking.{Held, HandsOut, HandsLine, HandsNothing, IsOneLine, MovesPart, Refills, Takes}
+use Rattle.std.proofs.Common.{◌≡◌, ◌≢◌, ◌∙◌, inl, inr, ℕ, ◌+◌, ◌<◌, true, false, List, [], ◌∷◌, ◌++◌, Option, None, Some, length, take, drop, ◌-◌, ap, sym, refl, subst, arith, append_assoc, take-append-drop, length-append, length-drop}
+use Rattle.std.proofs.lemmas.List.{append-nil, take_all}
+use Rattle.std.proofs.lemmas.List.Elements.{All-append}
+use Rattle.rc_streams.specs.declared.input.Failure.{Failure}
+use Rattle.rc_streams.specs.declared.input.Failure.TheVariants.{TooLong, Read, Write, Memory}
+use Rattle.std.specs.Io.KnownBytes.{Consumes, Keeps}
+use Rattle.std.proofs.KnownBytes.{Consumes-kept, Consumes-trans}
+use Rattle.rc_noted.specs.Taking.{Held, BeginsTooLong, HandsOut, IsLine, IsOneLine, IsPartFault, IsRefillFault, LacksLine, MovesPart, Refills, Takes}
 
 -- nothing was taken, and then bytes
 pub Keeps-Consumes : (a b c : Option (List ℕ)) (bytes : List ℕ) → Keeps a b → Consumes b c bytes → Consumes a c bytes
@@ -61,3 +64,59 @@ takes_more old here new before held after first last = record {
 pub no_length : (xs : List ℕ) → length xs ≡ 0 → xs ≡ []
 no_length [] none = refl
 no_length (x ∷ xs) none = absurd (omega arith)
+
+-- the line has no room for what is held
+pub lacks_part : (failed : Type 0) (old new : Option (List ℕ)) (before here after : Held) (line : List ℕ) (failure : Failure) → HandsOut old new before here line → after ≡ here
+    → IsPartFault (BeginsTooLong (line ++ here.pending)) failure → LacksLine failed old new before after failure
+unfolding takes_of
+lacks_part failed old new before here after line Read hands same fault = absurd fault
+lacks_part failed old new before here after line Write hands same fault = absurd fault
+lacks_part failed old new before here after line TooLong hands same fault =
+    subst (λ (h : Held). LacksLine failed old new before h TooLong) (sym same) (record { takes = takes_of old new before here line hands; fault = inr (subst BeginsTooLong (sym hands.split) fault) })
+lacks_part failed old new before here after line Memory hands same fault =
+    subst (λ (h : Held). LacksLine failed old new before h Memory) (sym same) (record { takes = takes_of old new before here line hands; fault = tt })
+
+-- there is no next piece
+pub lacks_piece : (failed : Type 0) (old here new : Option (List ℕ)) (before held after : Held) (line : List ℕ) (failure : Failure) → HandsOut old here before held line → held.pending ≡ [] → IsLine line
+    → Takes here new held.taken after.taken → IsRefillFault failed here new held.taken after.taken failure → LacksLine failed old new before after failure
+lacks_piece failed old here new before held after line Read hands none one takes fault =
+    let (was, kept, count, within) = fault in
+    let all : before.pending ++ hands.bytes ≡ line = hands.split ∙ (ap (λ (t : List ℕ). line ++ t) none ∙ append-nil line) in
+    record {
+      takes = record { bytes = hands.bytes; consumed = Consumes-kept old here new hands.bytes hands.consumed kept; counted = count ∙ hands.counted };
+      fault = (was, subst IsLine (sym all) one, within);
+    }
+lacks_piece failed old here new before held after line Write hands none one takes fault = absurd fault
+lacks_piece failed old here new before held after line TooLong hands none one takes fault = record { takes = takes_more old here new before.taken held.taken after.taken (takes_of old here before held line hands) takes; fault = inl fault }
+lacks_piece failed old here new before held after line Memory hands none one takes fault = record { takes = takes_more old here new before.taken held.taken after.taken (takes_of old here before held line hands) takes; fault = tt }
+
+-- a part at the front of what is held, with no newline in it, for which the line has no room
+pub begins_long : (line held pending : List ℕ) (end : ℕ) → pending ≡ held → IsOneLine line → IsOneLine (take end held) → 65536 < length line + length (take end held) → BeginsTooLong (line ++ pending)
+begins_long line held pending end is one part long = (
+  line ++ take end held,
+  drop end held,
+  All-append (λ byte. byte ≢ 10) line (take end held) one part,
+  omega (arith, long, length-append line (take end held)),
+  ap (λ (t : List ℕ). line ++ t) (is ∙ sym (take-append-drop end held)) ∙ sym (append_assoc line (take end held) (drop end held)),
+)
+
+-- all of what is held, likewise
+pub whole_long : (line held pending : List ℕ) → pending ≡ held → IsOneLine line → IsOneLine held → 65536 < length line + length held → BeginsTooLong (line ++ pending)
+whole_long line held pending is one part long = (
+  line ++ held,
+  [],
+  All-append (λ byte. byte ≢ 10) line held one part,
+  omega (arith, long, length-append line held),
+  ap (λ (t : List ℕ). line ++ t) is ∙ sym (append-nil (line ++ held)),
+)
+
+-- a part that is too long is so for one more reason
+pub part_as : (P Q : Type 0) (failure : Failure) → (P → Q) → IsPartFault P failure → IsPartFault Q failure
+part_as P Q Read long fault = fault
+part_as P Q Write long fault = fault
+part_as P Q TooLong long fault = long fault
+part_as P Q Memory long fault = fault
+
+-- what is held, as a slice of the piece
+pub held_of : (used : ℕ) (piece : List ℕ) → take (length piece - used) (drop used piece) ≡ drop used piece
+held_of used piece = take_all (length piece - used) (drop used piece) (omega (arith, length-drop used piece))

@@ -1,5 +1,5 @@
 -- When a call of a device counts as its failure.
-use Rattle.std.specs.Prelude.{◌≡◌, ◌≢◌, ◌⊎◌, ◌≤◌, ◌+◌, ℕ, Bool, true, Result, Ok, Err}
+use Rattle.std.specs.Prelude.{◌≡◌, ◌≢◌, ◌⊎◌, ◌≤◌, ◌+◌, ℕ, true, Result, Ok, Err}
 use Rattle.std.specs.IoError.{error_kind}
 use Rattle.std.specs.declared.io.Error.{Error}
 use Rattle.std.specs.declared.io.ErrorKind.TheVariants.{Interrupted}
@@ -12,6 +12,10 @@ inner_of n = n.inner
 -- a call has failed
 abbrev pub HasFailed : {T : Type 0} → Noted T → Type 0
 HasFailed n = n.failed ≡ true
+
+-- nothing was written since the last flush that did not fail
+abbrev pub IsFlushed : {T : Type 0} → Noted T → Type 0
+IsFlushed n = n.flushed ≡ true
 
 -- how many reads in a row were interrupted
 abbrev pub interrupts_of : {T : Type 0} → Noted T → ℕ

@@ -1,8 +1,8 @@
 -- What is taken from a reader, line by line.
-use Rattle.std.specs.Prelude.{◌≡◌, ◌≢◌, ◌+◌, ◌≤◌, ℕ, Bool, true, false, List, [], ◌∷◌, ◌++◌, Option, length, All, if◌then◌else◌}
+use Rattle.std.specs.Prelude.{◌≡◌, ◌≢◌, ◌⊎◌, ◌+◌, ◌<◌, ◌≤◌, ℕ, Bool, true, false, List, [], ◌∷◌, ◌++◌, Option, length, All, if◌then◌else◌}
 use Rattle.rc_streams.specs.declared.input.Failure.{Failure}
 use Rattle.rc_streams.specs.declared.input.Failure.TheVariants.{TooLong, Read, Write, Memory}
-use Rattle.std.specs.Io.KnownBytes.{Consumes, IsAtEnd}
+use Rattle.std.specs.Io.KnownBytes.{Consumes, IsAtEnd, Keeps}
 
 -- what is held of a reader: the bytes that were read and not handed out yet, and how many bytes were read in all
 pub record Held : Type 0 where
@@ -30,27 +30,59 @@ pub record HandsOut (old new : Option (List ℕ)) (before after : Held) (front :
 abbrev pub IsOneLine : List ℕ → Type 0
 IsOneLine line = All (λ byte. byte ≢ 10) line
 
+-- a line within its bound
+abbrev pub IsLine : List ℕ → Type 0
+IsLine line = IsOneLine line × (length line ≤ 65536)
+
+-- nothing is held of an input that has ended within its bound
+abbrev pub HasEnded : Option (List ℕ) → Held → Type 0
+HasEnded new after = (after.pending ≡ []) × IsAtEnd new × (after.taken ≤ 16777216)
+
 -- the next line was handed out: up to its newline, or up to the end where some bytes are left without one
 abbrev pub HandsLine : (ends : Bool) → Option (List ℕ) → Option (List ℕ) → Held → Held → List ℕ → Type 0
-HandsLine true old new before after line = IsOneLine line × (length line ≤ 65536) × HandsOut old new before after (line ++ 10 ∷ [])
-HandsLine false old new before after line = IsOneLine line × (length line ≤ 65536) × HandsOut old new before after line × (line ≢ []) × (after.pending ≡ []) × IsAtEnd new
+HandsLine true old new before after line = IsLine line × HandsOut old new before after (line ++ 10 ∷ [])
+HandsLine false old new before after line = IsLine line × HandsOut old new before after line × (line ≢ []) × HasEnded new after
 
 -- nothing is left
 abbrev pub HandsNothing : Option (List ℕ) → Option (List ℕ) → Held → Held → Type 0
-HandsNothing old new before after = HandsOut old new before after [] × (after.pending ≡ []) × IsAtEnd new
+HandsNothing old new before after = HandsOut old new before after [] × HasEnded new after
 
 -- what is held goes behind a line up to its newline: all of it where none is there
 abbrev pub MovesPart : Bool → Held → Held → List ℕ → List ℕ → Type 0
 MovesPart whole before after old new = (part : List ℕ) × IsOneLine part × (new ≡ old ++ part) × (after.taken ≡ before.taken)
     × (before.pending ≡ (if whole then part ++ 10 ∷ after.pending else part)) × (whole ≡ false → after.pending ≡ [])
 
--- the next piece was read, and is all that is held
+-- the next piece was read, and is all that is held; where none came, the input has ended within its bound
 abbrev pub Refills : Option (List ℕ) → Option (List ℕ) → Held → Held → ℕ → Type 0
-Refills old new before after count = Consumes old new after.pending × (length after.pending ≡ count) × (after.taken ≡ before.taken + count) × (count ≡ 0 → IsAtEnd new)
+Refills old new before after count = Consumes old new after.pending × (length after.pending ≡ count) × (after.taken ≡ before.taken + count) × (count ≡ 0 → IsAtEnd new × (after.taken ≤ 16777216))
 
--- why there is no next line: a read has failed, or the line or the input is too long, or memory ran out
-abbrev pub IsLineFault : Type 0 → Failure → Type 0
-IsLineFault failed Read = failed
-IsLineFault failed Write = ⊥
-IsLineFault failed TooLong = Unit {0}
-IsLineFault failed Memory = Unit {0}
+-- more bytes than a line may have stand at the front, and no newline among them
+abbrev pub BeginsTooLong : List ℕ → Type 0
+BeginsTooLong bytes = (front : List ℕ) × (rest : List ℕ) × IsOneLine front × (65536 < length front) × (bytes ≡ front ++ rest)
+
+-- why a part does not go behind a line: the line would be too long, or memory ran out
+abbrev pub IsPartFault : (long : Type 0) → Failure → Type 0
+IsPartFault long Read = ⊥
+IsPartFault long Write = ⊥
+IsPartFault long TooLong = long
+IsPartFault long Memory = Unit {0}
+
+-- why there is no next piece: a read has failed within the bound, and took nothing; or the bound is passed; or memory ran out
+abbrev pub IsRefillFault : (failed : Type 0) → Option (List ℕ) → Option (List ℕ) → ℕ → ℕ → Failure → Type 0
+IsRefillFault failed old new before after Read = failed × Keeps old new × (after ≡ before) × (after ≤ 16777216)
+IsRefillFault failed old new before after Write = ⊥
+IsRefillFault failed old new before after TooLong = 16777216 < after
+IsRefillFault failed old new before after Memory = Unit {0}
+
+-- why there is no next line, where so many bytes were read in all, and these are not handed out: a read has failed while no line was whole and no bound passed;
+-- or the bound of the input or of the line is passed; or memory ran out
+abbrev pub IsLineFault : (failed : Type 0) → ℕ → List ℕ → Failure → Type 0
+IsLineFault failed taken left Read = failed × IsLine left × (taken ≤ 16777216)
+IsLineFault failed taken left Write = ⊥
+IsLineFault failed taken left TooLong = (16777216 < taken) ⊎ BeginsTooLong left
+IsLineFault failed taken left Memory = Unit {0}
+
+-- known bytes lost some from their front, and with these behind those that were held there is no next line
+pub record LacksLine (failed : Type 0) (old new : Option (List ℕ)) (before after : Held) (failure : Failure) : Type 0 where
+  pub takes : Takes old new before.taken after.taken
+  pub fault : IsLineFault failed after.taken (before.pending ++ takes.bytes) failure

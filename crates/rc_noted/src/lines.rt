@@ -1,9 +1,9 @@
 //! Lines of an input under bounds.
-ghost use Rattle.std.specs.Prelude.{◌≡◌, ◌≢◌, ◌≤◌, ◌++◌, [], false, length, IfOk, OnOk, OnErr, IfErr, MatchOption};
+ghost use Rattle.std.specs.Prelude.{◌≡◌, ◌⊎◌, ◌+◌, ◌<◌, ◌≤◌, ◌++◌, [], false, length, IfOk, OnOk, OnErr, IfErr, MatchOption};
 ghost use Rattle.std.specs.Io.{ReadsAtMost};
 ghost use Rattle.std.specs.Io.KnownBytes.{ReadConsumes};
 ghost use Rattle.rc_noted.specs.Noting.{HasFailed, inner_of};
-ghost use Rattle.rc_noted.specs.Taking.{HandsLine, HandsNothing, IsLineFault, MovesPart, Refills, Takes, fresh};
+ghost use Rattle.rc_noted.specs.Taking.{HandsLine, HandsNothing, BeginsTooLong, IsOneLine, IsPartFault, IsRefillFault, LacksLine, MovesPart, Refills, Takes, fresh};
 
 use crate::noted::Noted;
 use rc_streams::{Failure, MAX_INPUT};
@@ -63,10 +63,13 @@ impl Lines {
         ensures line { IfOk result (λ next. MatchOption next
             (HandsNothing (R.remaining (inner_of reader.old)) (R.remaining (inner_of reader.new)) self.old self.new)
             (λ found. HandsLine found.1 (R.remaining (inner_of reader.old)) (R.remaining (inner_of reader.new)) self.old self.new found.0.items)) }
+
+        // No read is made while a whole line is held.
+        ensures waits { IsOneLine self.old.pending ⊎ (reader.new ≡ reader.old) }
+        ensures fault { IfErr result (LacksLine (HasFailed reader.new) (R.remaining (inner_of reader.old)) (R.remaining (inner_of reader.new)) self.old self.new) }
         ensures taken { Takes (R.remaining (inner_of reader.old)) (R.remaining (inner_of reader.new)) self.old.taken self.new.taken }
         ensures within { self.new.taken ≤ 16777217 }
         ensures sound { OnOk result (HasFailed reader.new → ⊥) }
-        ensures fault { IfErr result (IsLineFault (HasFailed reader.new)) }
     {
         let mut line = Vec::new(alloc);
         loop {
@@ -85,9 +88,10 @@ impl Lines {
 
     /// Moves what is held to the end of a line, up to the newline. True: the line is whole.
     fn take_line(&mut self, line: &mut Vec<u8>) -> Result<bool, Failure>
+        requires { IsOneLine line.old.items }
         ensures moved { IfOk result (λ whole. MovesPart whole self.old self.new line.old.items line.new.items) }
         ensures short { OnOk result (length line.new.items ≤ MAX_LINE) }
-        ensures fault { IfErr result (λ fault. (fault ≢ Failure.Read) × (fault ≢ Failure.Write)) }
+        ensures fault { IfErr result (IsPartFault (BeginsTooLong (line.old.items ++ self.old.pending))) }
         ensures same { OnErr result (self.new ≡ self.old) }
         ensures within { self.new.taken ≤ 16777217 }
     {
@@ -113,7 +117,7 @@ impl Lines {
         ensures taken { Takes (R.remaining (inner_of reader.old)) (R.remaining (inner_of reader.new)) self.old.taken self.new.taken }
         ensures within { self.new.taken ≤ 16777217 }
         ensures sound { OnOk result (HasFailed reader.new → ⊥) }
-        ensures fault { IfErr result (IsLineFault (HasFailed reader.new)) }
+        ensures fault { IfErr result (IsRefillFault (HasFailed reader.new) (R.remaining (inner_of reader.old)) (R.remaining (inner_of reader.new)) self.old.taken self.new.taken) }
     {
         if self.taken > MAX_INPUT {
             return Err(Failure::TooLong);
@@ -133,7 +137,7 @@ impl Lines {
 fn add_part(line: &mut Vec<u8>, part: &[u8]) -> Result<(), Failure>
     ensures added { OnOk result (line.new.items ≡ line.old.items ++ part.now) }
     ensures short { OnOk result (length line.new.items ≤ MAX_LINE) }
-    ensures fault { IfErr result (λ fault. (fault ≢ Failure.Read) × (fault ≢ Failure.Write)) }
+    ensures fault { IfErr result (IsPartFault (65536 < length line.old.items + length part.now)) }
 {
     if line.len() > MAX_LINE || part.len() > MAX_LINE - line.len() {
         return Err(Failure::TooLong);

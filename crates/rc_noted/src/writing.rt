@@ -2,7 +2,7 @@
 ghost use Rattle.std.specs.Prelude.{◌≡◌, OnOk, OnErr};
 ghost use Rattle.std.specs.Io.KnownBytes.{Appends};
 ghost use Rattle.rc_streams.specs.Input.{AppendsFront};
-ghost use Rattle.rc_noted.specs.Noting.{HasFailed, inner_of};
+ghost use Rattle.rc_noted.specs.Noting.{HasFailed, IsFlushed, inner_of};
 
 use crate::noted::Noted;
 use rc_streams::Failure;
@@ -14,6 +14,7 @@ pub fn write_answer<W: Write>(writer: &mut Noted<W>, answer: &[u8]) -> Result<()
 
     // Whatever the result, a front of the answer is all that is written.
     ensures front { AppendsFront (W.contents (inner_of writer.old)) (W.contents (inner_of writer.new)) answer.now }
+    ensures flushed { OnOk result (IsFlushed writer.new) }
     ensures sound { OnOk result (HasFailed writer.new → HasFailed writer.old) }
     ensures fault { OnErr result ((result ≡ Err Failure.Write) × HasFailed writer.new) }
 {

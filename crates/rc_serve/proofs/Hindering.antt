@@ -1,5 +1,5 @@
 -- Refusals and faults, and what they leave.
-use Rattle.std.proofs.Common.{◌≡◌, ◌∙◌, inl, inr, ℕ, List, [], false, Result, Ok, Err, IfOk, IfErr, refl, ap, sym, subst}
+use Rattle.std.proofs.Common.{◌≡◌, ◌∙◌, inl, inr, ℕ, List, [], true, false, Result, Ok, Err, IfOk, IfErr, OnErr, refl, ap, sym, subst}
 use Rattle.std.specs.Global.{Vec}
 use Rattle.rc_core.specs.declared.event.Event.{Event}
 use Rattle.rc_session.specs.declared.refusal.Refusal.{Refusal}
@@ -18,6 +18,8 @@ use Rattle.rc_board.specs.Crew.{IsCrew}
 use Rattle.rc_told.specs.ReportText.{report_text}
 use Rattle.rc_told.specs.AnswerText.{words_of}
 use Rattle.rc_serve.specs.declared.fault.ServeFault.{ServeFault}
+use Rattle.rc_serve.specs.declared.fault.ServeFault.TheVariants as serve
+use Rattle.rc_serve.specs.Faults.{IsInner, IsStrange}
 use Rattle.rc_serve.specs.Meeting.{IsAnswered, IsToldAs, MayMeet, MeetsCommand}
 use Rattle.rc_serve.specs.Serving.{Stays}
 
@@ -93,3 +95,34 @@ right_crew workers h command outcome fault crew is =
 pub retold : (names others words more : List (List ℕ)) (outcome : Result Report Fault) (result : Result (Vec ℕ) ServeFault) → names ≡ others → words ≡ more → IfOk result (λ text. IsToldAs names words outcome text.items) → IfOk result (λ text. IsToldAs others more outcome text.items)
 retold names others words more outcome result a b told =
     subst (λ (w : List (List ℕ)). IfOk result (λ text. IsToldAs others w outcome text.items)) b (subst (λ (n : List (List ℕ)). IfOk result (λ text. IsToldAs n words outcome text.items)) a told)
+
+-- a fault that ends the session for one reason does for another that follows
+pub inner_as : (P Q : Type 0) (fault : ServeFault) → (P → Q) → IsInner P fault → IsInner Q fault
+inner_as P Q serve.Read more inner = inner
+inner_as P Q serve.Write more inner = inner
+inner_as P Q serve.TooLong more inner = inner
+inner_as P Q serve.Memory more inner = inner
+inner_as P Q serve.NoThread more inner = inner
+inner_as P Q serve.Strange more inner = more inner
+inner_as P Q serve.Workers more inner = inner
+
+pub inner_by : {A : Type 0} (P Q : Type 0) (result : Result A ServeFault) → (P → Q) → IfErr result (IsInner P) → IfErr result (IsInner Q)
+inner_by P Q (Ok text) more inner = tt
+inner_by P Q (Err fault) more inner = inner_as P Q fault more inner
+
+-- a session that refuses as strange is spoiled
+pub spoiled_by : {A : Type 0} (Own : Refusal → Type 0) (old new : Holding) (outcome : Result A Refusal) → IfErr outcome (IsHindrance Own old) → OnErr outcome (new ≡ old) → outcome ≡ Err Strange → new.spoiled ≡ true
+spoiled_by {A} Own old new outcome refused same is =
+    let was : old.spoiled ≡ true = subst (λ (o : Result A Refusal). IfErr o (IsHindrance Own old)) is refused in
+    let kept : new ≡ old = subst (λ (o : Result A Refusal). OnErr o (new ≡ old)) is same in
+    ap (λ (h : Holding). h.spoiled) kept ∙ was
+
+-- and one that was found strange is from then on
+pub spoiled_run : (workers : ℕ) (old new : Holding) (command : Command) (outcome : Result Report Fault) → IfErr outcome (IsFault workers old command) → IfErr outcome (λ fault. LeavesSession old fault new)
+    → IsStrange outcome → new.spoiled ≡ true
+spoiled_run workers old new command (Ok report) fault left strange = absurd strange
+spoiled_run workers old new command (Err faults.Workers) fault left strange = absurd strange
+spoiled_run workers old new command (Err faults.NoThread) fault left strange = absurd strange
+spoiled_run workers old new command (Err faults.Strange) fault left strange = ap (λ (h : Holding). h.spoiled) left
+spoiled_run workers old new command (Err (faults.Refused refusal)) fault left strange =
+    ap (λ (h : Holding). h.spoiled) left ∙ subst (λ (r : Refusal). IsHindrance (IsOwnFault old.database old.line command) old r) strange fault.1

@@ -1,5 +1,5 @@
 //! Session lines and their answers.
-ghost use Rattle.std.specs.Prelude.{◌≡◌, [], false, IfOk, IfErr};
+ghost use Rattle.std.specs.Prelude.{◌≡◌, [], true, false, IfOk, IfErr};
 ghost use Rattle.rc_session.specs.Commands.{Command, command_of, events_of, with_events};
 ghost use Rattle.rc_board.specs.Crew.{IsCrew};
 ghost use Rattle.rc_lines.specs.Says.{SaysStep, saying_of};
@@ -34,7 +34,7 @@ pub(crate) fn line_answer<T: Threads + Wait + Sync, G: Gate>(
     ensures met { IfOk result (λ text. MeetsBytes session.old.database session.old.line line.now text.items session.new.line) }
     ensures may { MayMeetBytes session.old.database session.old.line line.now session.new.line }
     ensures stays { Stays session.old session.new }
-    ensures fault { IfErr result IsInner }
+    ensures fault { IfErr result (IsInner (session.new.spoiled ≡ true)) }
 {
     lines_give_no_events();
     match read_line(alloc, line) {
@@ -59,7 +59,7 @@ fn said_answer<T: Threads + Wait + Sync, G: Gate>(
     ensures met { IfOk result (λ text. Meets session.old.database session.old.line (saying_of said.now) text.items session.new.line) }
     ensures may { MayMeetSaying session.old.database session.old.line (saying_of said.now) session.new.line }
     ensures stays { Stays session.old session.new }
-    ensures fault { IfErr result IsInner }
+    ensures fault { IfErr result (IsInner (session.new.spoiled ≡ true)) }
 {
     match said {
         SessionLine::Step(step) => step_answer(rt, alloc, session, gate, workers, step),
@@ -72,7 +72,7 @@ fn shown(alloc: Global, session: &Session, said: &SessionLine) -> Result<Vec<u8>
     requires closed { session.now.begun ≡ false }
     requires shows { (command : Command) → saying_of said.now ≡ SaysStep command → ⊥ }
     ensures met { IfOk result (λ text. Meets session.now.database session.now.line (saying_of said.now) text.items session.now.line) }
-    ensures fault { IfErr result IsInner }
+    ensures fault { IfErr result (IsInner (session.now.spoiled ≡ true)) }
 {
     match said {
         SessionLine::Nothing => Ok(Vec::new(alloc)),
@@ -100,7 +100,7 @@ fn step_answer<T: Threads + Wait + Sync, G: Gate>(
     ensures met { IfOk result (λ text. MeetsCommand session.old.database session.old.line (with_events (command_of step.now) []) text.items session.new.line) }
     ensures may { MayMeet session.old.database session.old.line (with_events (command_of step.now) []) session.new.line }
     ensures stays { Stays session.old session.new }
-    ensures fault { IfErr result IsInner }
+    ensures fault { IfErr result (IsInner (session.new.spoiled ≡ true)) }
 {
     match step {
         Step::Change(request, _) => change_answer(rt, alloc, session, gate, workers, request),

@@ -1,5 +1,5 @@
 //! Edits of bundles and their answers.
-ghost use Rattle.std.specs.Prelude.{◌≡◌, ◌∷◌, false, map, string_bytes, IfOk, IfErr};
+ghost use Rattle.std.specs.Prelude.{◌≡◌, ◌∷◌, true, false, map, Err, string_bytes, IfOk, IfErr};
 ghost use Rattle.rc_session.specs.Commands.{Add, Delete};
 ghost use Rattle.rc_serve.specs.Faults.{IsInner};
 ghost use Rattle.rc_serve.specs.Meeting.{IsEditToldAs, MayMeet, MeetsCommand};
@@ -23,7 +23,7 @@ pub(crate) fn add_answer(
     ensures met { IfOk result (λ text. MeetsCommand session.old.database session.old.line (Add name.now (map string_bytes contents.now) force) text.items session.new.line) }
     ensures may { MayMeet session.old.database session.old.line (Add name.now (map string_bytes contents.now) force) session.new.line }
     ensures stays { Stays session.old session.new }
-    ensures fault { IfErr result IsInner }
+    ensures fault { IfErr result (IsInner (session.new.spoiled ≡ true)) }
 {
     let outcome = session.bundle_add(alloc, name, contents, force);
     add_told(alloc, name, contents, outcome)
@@ -40,7 +40,7 @@ pub(crate) fn delete_answer(
     ensures met { IfOk result (λ text. MeetsCommand session.old.database session.old.line (Delete (map string_bytes names.now) force) text.items session.new.line) }
     ensures may { MayMeet session.old.database session.old.line (Delete (map string_bytes names.now) force) session.new.line }
     ensures stays { Stays session.old session.new }
-    ensures fault { IfErr result IsInner }
+    ensures fault { IfErr result (IsInner (session.new.spoiled ≡ true)) }
 {
     let outcome = session.bundle_delete(alloc, names, force);
     delete_told(alloc, names, outcome)
@@ -54,7 +54,7 @@ fn add_told(
     outcome: Result<(), Refusal>,
 ) -> Result<Vec<u8>, ServeFault>
     ensures told { IfOk result (λ text. IsEditToldAs (name.now ∷ map string_bytes contents.now) outcome text.items) }
-    ensures fault { IfErr result IsInner }
+    ensures fault { IfErr result (IsInner (outcome ≡ Err Refusal.Strange)) }
 {
     match outcome {
         Ok(()) => Ok(Vec::from_slice(alloc, b"ok\n")?),
@@ -72,7 +72,7 @@ fn delete_told(
     outcome: Result<(), Refusal>,
 ) -> Result<Vec<u8>, ServeFault>
     ensures told { IfOk result (λ text. IsEditToldAs (map string_bytes names.now) outcome text.items) }
-    ensures fault { IfErr result IsInner }
+    ensures fault { IfErr result (IsInner (outcome ≡ Err Refusal.Strange)) }
 {
     match outcome {
         Ok(()) => Ok(Vec::from_slice(alloc, b"ok\n")?),

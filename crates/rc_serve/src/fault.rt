@@ -64,7 +64,7 @@ impl From<Failure> for ServeFault {
 pub(crate) fn answered(refusal: Refusal) -> Result<Refusal, ServeFault>
     ensures same { IfOk result (λ same. same ≡ refusal) }
     ensures answered { IfOk result (λ same. IsAnswered refusal) }
-    ensures fault { IfErr result IsInner }
+    ensures fault { IfErr result (IsInner (refusal ≡ Refusal.Strange)) }
 {
     match refusal {
         Refusal::Strange => Err(ServeFault::Strange),

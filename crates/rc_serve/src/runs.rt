@@ -1,9 +1,9 @@
 //! Changes, undos and redos by workers, and their answers.
-ghost use Rattle.std.specs.Prelude.{◌≡◌, [], false, map, string_bytes, Err, IfOk, IfErr};
+ghost use Rattle.std.specs.Prelude.{◌≡◌, [], true, false, map, string_bytes, Err, IfOk, IfErr};
 ghost use Rattle.rc_select.specs.Ask.{ask_of};
 ghost use Rattle.rc_session.specs.Commands.{Change, Undo, Redo};
 ghost use Rattle.rc_board.specs.Crew.{IsCrew};
-ghost use Rattle.rc_serve.specs.Faults.{IsInner};
+ghost use Rattle.rc_serve.specs.Faults.{IsInner, IsStrange};
 ghost use Rattle.rc_serve.specs.Meeting.{IsToldAs, MayMeet, MeetsCommand};
 ghost use Rattle.rc_serve.specs.Serving.{Stays};
 
@@ -31,7 +31,7 @@ pub(crate) fn change_answer<T: Threads + Wait + Sync, G: Gate>(
     ensures met { IfOk result (λ text. MeetsCommand session.old.database session.old.line (Change (ask_of request.now) []) text.items session.new.line) }
     ensures may { MayMeet session.old.database session.old.line (Change (ask_of request.now) []) session.new.line }
     ensures stays { Stays session.old session.new }
-    ensures fault { IfErr result IsInner }
+    ensures fault { IfErr result (IsInner (session.new.spoiled ≡ true)) }
 {
     let outcome = change(rt, alloc, session, request, gate, workers, &NoWatch);
     told(alloc, session.db().names(), &request.names, outcome)
@@ -51,7 +51,7 @@ pub(crate) fn undo_answer<T: Threads + Wait + Sync, G: Gate>(
     ensures met { IfOk result (λ text. MeetsCommand session.old.database session.old.line (Undo limit []) text.items session.new.line) }
     ensures may { MayMeet session.old.database session.old.line (Undo limit []) session.new.line }
     ensures stays { Stays session.old session.new }
-    ensures fault { IfErr result IsInner }
+    ensures fault { IfErr result (IsInner (session.new.spoiled ≡ true)) }
 {
     let outcome = undo(rt, alloc, session, limit, gate, workers, &NoWatch);
     told(alloc, session.db().names(), &[], outcome)
@@ -71,7 +71,7 @@ pub(crate) fn redo_answer<T: Threads + Wait + Sync, G: Gate>(
     ensures met { IfOk result (λ text. MeetsCommand session.old.database session.old.line (Redo limit []) text.items session.new.line) }
     ensures may { MayMeet session.old.database session.old.line (Redo limit []) session.new.line }
     ensures stays { Stays session.old session.new }
-    ensures fault { IfErr result IsInner }
+    ensures fault { IfErr result (IsInner (session.new.spoiled ≡ true)) }
 {
     let outcome = redo(rt, alloc, session, limit, gate, workers, &NoWatch);
     told(alloc, session.db().names(), &[], outcome)
@@ -86,7 +86,7 @@ fn told(
 ) -> Result<Vec<u8>, ServeFault>
     requires { outcome ≡ Err Fault.Workers → ⊥ }
     ensures told { IfOk result (λ text. IsToldAs names.now (map string_bytes words.now) outcome text.items) }
-    ensures fault { IfErr result IsInner }
+    ensures fault { IfErr result (IsInner (IsStrange outcome)) }
 {
     match outcome {
         Ok(report) => Ok(report_text(alloc, names, &report)?),

@@ -1,9 +1,9 @@
 //! A session over a reader and a writer.
-ghost use Rattle.std.specs.Prelude.{◌≡◌, ◌≤◌, ◌↔◌, false, IfOk, OnOk, OnErr, IfErr};
+ghost use Rattle.std.specs.Prelude.{◌≡◌, ◌⊎◌, ◌≤◌, ◌↔◌, true, false, IfOk, OnOk, IfErr, MatchResult};
 ghost use Rattle.rc_streams.specs.Input.{ConsumesAtMost};
-ghost use Rattle.rc_noted.specs.Noting.{HasFailed, inner_of};
+ghost use Rattle.rc_noted.specs.Noting.{HasFailed, IsFlushed, inner_of};
 ghost use Rattle.rc_board.specs.Crew.{IsCrew};
-ghost use Rattle.rc_serve.specs.Faults.{IsServeFault};
+ghost use Rattle.rc_serve.specs.Faults.{IsOfLine, IsServeFault};
 ghost use Rattle.rc_serve.specs.Serving.{ServesAll, ServesFront, ServesNext, Stays, StopsAt};
 
 use crate::answers::line_answer;
@@ -43,9 +43,13 @@ pub fn serve<T: Threads + Wait + Sync, R: Read, W: Write, G: Gate>(
     ensures done { OnOk result (ServesAll (R.remaining (inner_of reader.old)) (R.remaining (inner_of reader.new))
         (W.contents (inner_of writer.old)) (W.contents (inner_of writer.new)) session.old session.new) }
 
-    // Lines at the front of the input were met, and what was written is a front of their answers.
-    ensures begun { OnErr result (ServesFront (R.remaining (inner_of reader.old)) (R.remaining (inner_of reader.new))
+    // Lines at the front of the input were met, and what was written is a front of their answers. A read fails only
+    // where every whole line is answered, and TooLong comes only where the next line or the input passes its bound.
+    ensures begun { IfErr result (λ fault. ServesFront fault (R.remaining (inner_of reader.old)) (R.remaining (inner_of reader.new))
         (W.contents (inner_of writer.old)) (W.contents (inner_of writer.new)) session.old session.new) }
+
+    // Answers are flushed at the end, and before each read.
+    ensures flushed { MatchResult result (λ _. IsFlushed writer.old → IsFlushed writer.new) (λ fault. IsOfLine fault ⊎ (IsFlushed writer.old → IsFlushed writer.new)) }
 
     // With a wrong number of workers nothing is read and nothing written, and with a right one that is no fault.
     ensures crew { OnOk result (IsCrew workers) }
@@ -57,6 +61,9 @@ pub fn serve<T: Threads + Wait + Sync, R: Read, W: Write, G: Gate>(
     // A fault of the reader or the writer comes only where that one has failed.
     ensures read { result ≡ Err ServeFault.Read → HasFailed reader.new }
     ensures written { result ≡ Err ServeFault.Write → HasFailed writer.new }
+
+    // A session that ends as strange is spoiled.
+    ensures strange { result ≡ Err ServeFault.Strange → session.new.spoiled ≡ true }
 
     // Whatever the result, the database stays, nothing is begun, and one byte past the bound is the last that is taken.
     ensures stays { Stays session.old session.new }
@@ -84,10 +91,11 @@ fn serve_lines<T: Threads + Wait + Sync, R: Read, W: Write, G: Gate>(
     requires crew { IsCrew workers }
     ensures done { OnOk result (ServesAll (R.remaining (inner_of reader.old)) (R.remaining (inner_of reader.new))
         (W.contents (inner_of writer.old)) (W.contents (inner_of writer.new)) session.old session.new) }
-    ensures begun { OnErr result (ServesFront (R.remaining (inner_of reader.old)) (R.remaining (inner_of reader.new))
+    ensures begun { IfErr result (λ fault. ServesFront fault (R.remaining (inner_of reader.old)) (R.remaining (inner_of reader.new))
         (W.contents (inner_of writer.old)) (W.contents (inner_of writer.new)) session.old session.new) }
+    ensures flushed { MatchResult result (λ _. IsFlushed writer.old → IsFlushed writer.new) (λ fault. IsOfLine fault ⊎ (IsFlushed writer.old → IsFlushed writer.new)) }
     ensures stays { Stays session.old session.new }
-    ensures fault { IfErr result (IsServeFault (HasFailed reader.new) (HasFailed writer.new)) }
+    ensures fault { IfErr result (IsServeFault (HasFailed reader.new) (HasFailed writer.new) (session.new.spoiled ≡ true)) }
     ensures taken { ConsumesAtMost (R.remaining (inner_of reader.old)) (R.remaining (inner_of reader.new)) 16777217 }
 {
     let mut lines = Lines::new(alloc);
@@ -114,12 +122,13 @@ fn next_answer<T: Threads + Wait + Sync, R: Read, W: Write, G: Gate>(
     requires crew { IsCrew workers }
     ensures next { IfOk result (λ more. ServesNext more (R.remaining (inner_of reader.old)) (R.remaining (inner_of reader.new)) lines.old lines.new
         (W.contents (inner_of writer.old)) (W.contents (inner_of writer.new)) session.old session.new) }
-    ensures stopped { OnErr result (StopsAt (R.remaining (inner_of reader.old)) (R.remaining (inner_of reader.new)) lines.old lines.new
+    ensures stopped { IfErr result (λ fault. StopsAt fault (R.remaining (inner_of reader.old)) (R.remaining (inner_of reader.new)) lines.old lines.new
         (W.contents (inner_of writer.old)) (W.contents (inner_of writer.new)) session.old session.new) }
+    ensures flushed { MatchResult result (λ _. IsFlushed writer.old → IsFlushed writer.new) (λ fault. IsOfLine fault ⊎ (IsFlushed writer.old → IsFlushed writer.new)) }
     ensures stays { Stays session.old session.new }
     ensures reader { OnOk result (HasFailed reader.new → ⊥) }
     ensures writer { OnOk result (HasFailed writer.new → ⊥) }
-    ensures fault { IfErr result (IsServeFault (HasFailed reader.new) (HasFailed writer.new)) }
+    ensures fault { IfErr result (IsServeFault (HasFailed reader.new) (HasFailed writer.new) (session.new.spoiled ≡ true)) }
     ensures within { lines.new.taken ≤ 16777217 }
 {
     let Some((line, ends)) = lines.next(alloc, reader)? else {

@@ -1,5 +1,5 @@
 //! Answers that change nothing: what stands, and plans.
-ghost use Rattle.std.specs.Prelude.{◌≡◌, ◌++◌, false, length, map, string_bytes, IfOk, IfErr};
+ghost use Rattle.std.specs.Prelude.{◌≡◌, ◌++◌, true, false, length, Err, map, string_bytes, IfOk, IfErr};
 ghost use Rattle.rc_select.specs.Ask.{ask_of};
 ghost use Rattle.rc_told.specs.Names.{live_text, bundles_text, ok_line};
 ghost use Rattle.rc_serve.specs.Faults.{IsInner};
@@ -43,7 +43,7 @@ pub(crate) fn dry_answer(
     request: &Request,
 ) -> Result<Vec<u8>, ServeFault>
     ensures met { IfOk result (λ text. MeetsDry session.now.database session.now.line (ask_of request.now) text.items) }
-    ensures fault { IfErr result IsInner }
+    ensures fault { IfErr result (IsInner (session.now.spoiled ≡ true)) }
 {
     let _states = session.journal();
     let outcome = session.dry(alloc, request);
@@ -59,7 +59,7 @@ fn dry_told(
 ) -> Result<Vec<u8>, ServeFault>
     requires { IfOk outcome (λ plan. length plan.opening ≡ length names.now) }
     ensures told { IfOk result (λ text. IsPlanToldAs names.now (map string_bytes words.now) outcome text.items) }
-    ensures fault { IfErr result IsInner }
+    ensures fault { IfErr result (IsInner (outcome ≡ Err Refusal.Strange)) }
 {
     match outcome {
         Ok(plan) => {

@@ -1,4 +1,4 @@
-use Rattle.std.proofs.Common.{◌≡◌, ◌⊎◌, inl, inr, ℕ, ◌++◌, take, arith}
+use Rattle.std.proofs.Common.{◌≡◌, inl, inr, ◌++◌, take, arith}
 use Rattle.std.proofs.KnownBytes.{Appends-kept, Appends-trans}
 use Rattle.rc_streams.proofs.InputLemmas.{AppendsFront-last, AppendsFront-split, front_moves}
 use Rattle.rc_noted.proofs.writing.write_answer.Goals as goal

@@ -1,7 +1,9 @@
 use Rattle.std.proofs.Common.{map, refl}
 use Rattle.std.specs.String.{string_bytes}
+use Rattle.rc_session.specs.Refusals.{IsOwnFault}
 use Rattle.rc_session.specs.Commands.{Delete}
 use Rattle.rc_serve.proofs.Editing.{may_edit, met_edit, stays_edit}
+use Rattle.rc_serve.proofs.Hindering.{inner_by, spoiled_by}
 use Rattle.rc_serve.proofs.edits.delete_answer.Goals as goal
 
 pub returns-clause-met : goal.returns-clause-met
@@ -13,3 +15,6 @@ returns-clause-may c = may_edit c.args.session.now c.bundle_delete-outcome.new.s
 
 pub returns-clause-stays : goal.returns-clause-stays
 returns-clause-stays c = stays_edit c.args.session.now c.bundle_delete-outcome.new.self (Delete (map string_bytes c.args.names.now) c.args.force) c.bundle_delete-outcome.result c.bundle_delete-outcome.ensures.done c.bundle_delete-outcome.ensures.same c.requires
+
+pub returns-clause-fault : goal.returns-clause-fault
+returns-clause-fault c = inner_by _ _ c.delete_told.result (spoiled_by (IsOwnFault c.args.session.now.database c.args.session.now.line (Delete (map string_bytes c.args.names.now) c.args.force)) c.args.session.now c.bundle_delete-outcome.new.self c.bundle_delete-outcome.result c.bundle_delete-outcome.ensures.refused c.bundle_delete-outcome.ensures.same) c.delete_told.ensures.fault

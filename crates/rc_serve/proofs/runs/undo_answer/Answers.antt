@@ -1,7 +1,7 @@
 use Rattle.std.proofs.Common.{◌∙◌, [], ap, refl}
 use Rattle.rc_db.specs.Database.{Database}
 use Rattle.rc_session.specs.Commands.{Undo}
-use Rattle.rc_serve.proofs.Hindering.{may_by, met_by, retold, right_crew, stays_by}
+use Rattle.rc_serve.proofs.Hindering.{inner_by, may_by, met_by, retold, right_crew, spoiled_run, stays_by}
 use Rattle.rc_serve.proofs.runs.undo_answer.Goals as goal
 
 pub told-requires : goal.told-requires
@@ -19,3 +19,6 @@ returns-clause-may g c = may_by c.args.workers (g.G.Gate.answers c.args.gate.now
 pub returns-clause-stays : goal.returns-clause-stays
 returns-clause-stays g c = stays_by c.args.workers (g.G.Gate.answers c.args.gate.now) (g.G.Gate.gives c.args.gate.now) c.args.session.now c.undo-outcome.new.session (Undo c.args.limit []) c.undo-outcome.result
     c.undo-outcome.ensures.done c.undo-outcome.ensures.left c.requires.closed
+
+pub returns-clause-fault : goal.returns-clause-fault
+returns-clause-fault g c = inner_by _ _ c.told.result (spoiled_run c.args.workers c.args.session.now c.undo-outcome.new.session (Undo c.args.limit []) c.undo-outcome.result c.undo-outcome.ensures.fault c.undo-outcome.ensures.left) c.told.ensures.fault

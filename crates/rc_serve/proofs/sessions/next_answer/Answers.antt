@@ -1,8 +1,22 @@
+use Rattle.std.proofs.lemmas.Result.{err_from_is_err_and}
 use Rattle.rc_noted.specs.Noting.{inner_of}
-use Rattle.rc_serve.proofs.Lines.{on_err, stops_short}
+use Rattle.rc_serve.specs.Serving.{StopsAt}
+use Rattle.rc_serve.specs.Faults.{IsOfLine, of_failure}
+use Rattle.rc_serve.proofs.Lines.{inner_of_line, stops_short, stops_unread}
 use Rattle.rc_serve.proofs.sessions.next_answer.Goals as goal
 
+pub returns-in_err-line-clause-stopped : goal.returns-in_err-line-clause-stopped
+returns-in_err-line-clause-stopped g c =
+    let stops : StopsAt (of_failure c.in_err-line.field-0.0) (g.R.Read.remaining (inner_of c.args.reader.now)) (g.R.Read.remaining (inner_of c.next.new.reader)) c.args.lines.now c.next.new.self (g.W.Write.contents (inner_of c.args.writer.now)) (g.W.Write.contents (inner_of c.args.writer.now)) c.args.session.now c.args.session.now =
+    stops_unread _ c.in_err-line.field-0.0 (g.R.Read.remaining (inner_of c.args.reader.now)) (g.R.Read.remaining (inner_of c.next.new.reader)) c.args.lines.now c.next.new.self (g.W.Write.contents (inner_of c.args.writer.now)) c.args.session.now c.in_err-line.ensures.fault in
+    let is = err_from_is_err_and c.from_residual.result c.from_residual.ensures.1 in
+    rw (is.1, is.2) stops
+
 pub returns-in_err-text-clause-stopped : goal.returns-in_err-text-clause-stopped
-returns-in_err-text-clause-stopped g c = on_err _ c.from_residual-in_err-text.result
-    (stops_short c.in-Some.ends (g.R.Read.remaining (inner_of c.args.reader.now)) (g.R.Read.remaining (inner_of c.next.new.reader)) c.args.lines.now c.next.new.self (g.W.Write.contents (inner_of c.args.writer.now)) c.args.session.now c.line_answer.new.session c.in-Some.line.items
-    (rw c.in-Some.is at c.in_ok-line.ensures.line) c.in_ok-line.ensures.taken (rw c.deref.ensures.value at c.in_err-text.ensures.may))
+returns-in_err-text-clause-stopped g c =
+    let of : IsOfLine c.in_err-text.field-0.0 = inner_of_line _ c.in_err-text.field-0.0 c.in_err-text.ensures.fault in
+    let stops : StopsAt c.in_err-text.field-0.0 (g.R.Read.remaining (inner_of c.args.reader.now)) (g.R.Read.remaining (inner_of c.next.new.reader)) c.args.lines.now c.next.new.self (g.W.Write.contents (inner_of c.args.writer.now)) (g.W.Write.contents (inner_of c.args.writer.now)) c.args.session.now c.line_answer.new.session =
+    stops_short c.in_err-text.field-0.0 c.in-Some.ends (g.R.Read.remaining (inner_of c.args.reader.now)) (g.R.Read.remaining (inner_of c.next.new.reader)) c.args.lines.now c.next.new.self (g.W.Write.contents (inner_of c.args.writer.now)) c.args.session.now c.line_answer.new.session c.in-Some.line.items
+    (rw c.in-Some.is at c.in_ok-line.ensures.line) c.in_ok-line.ensures.taken (rw c.deref.ensures.value at c.in_err-text.ensures.may) of in
+    let is = err_from_is_err_and c.from_residual-in_err-text.result c.from_residual-in_err-text.ensures.1 in
+    rw (is.1, is.2) stops

@@ -1,14 +1,15 @@
-use Rattle.std.proofs.Common.{sym, subst, true, false}
+use Rattle.std.proofs.Common.{rules, sym, subst, true, false}
 use Rattle.rc_noted.specs.Noting.{inner_of}
 use Rattle.rc_noted.specs.Taking.{Held}
-use Rattle.rc_serve.specs.Serving.{IsServing}
-use Rattle.rc_serve.proofs.Lines.{left_less, on_err, serves_all, serves_front, serving_none, serving_on, takes_all, takes_next, takes_stop, where_more}
+use Rattle.rc_serve.specs.Serving.{IsServing, ServesFront}
+use Rattle.rc_serve.proofs.Lines.{left_less, serves_all, serves_front, serving_none, serving_on, takes_all, takes_next, takes_stop, where_more}
 use Rattle.rc_serve.proofs.sessions.serve_lines.Goals as goal
 
 pub loop-lines-init : goal.loop-lines-init
 loop-lines-init g c = record {
   reads = c.requires.reader;
   writes = c.requires.writer;
+  flushed = λ was. was;
   serving = subst (λ (held : Held). IsServing (g.R.Read.remaining (inner_of c.args.reader.now)) (g.R.Read.remaining (inner_of c.args.reader.now)) held (g.W.Write.contents (inner_of c.args.writer.now)) (g.W.Write.contents (inner_of c.args.writer.now)) c.args.session.now c.args.session.now) (sym c.new-lines.ensures) (serving_none (g.R.Read.remaining (inner_of c.args.reader.now)) (g.W.Write.contents (inner_of c.args.writer.now)) c.args.session.now c.requires.closed);
 }
 
@@ -18,6 +19,7 @@ loop-lines-preserved g c =
     record {
       reads = c.in_ok-next_answer.ensures.reader;
       writes = c.in_ok-next_answer.ensures.writer;
+      flushed = λ was. c.in_ok-next_answer.ensures.flushed (c.loop-lines.invariant.flushed was);
       serving = serving_on (g.R.Read.remaining (inner_of c.args.reader.now)) (g.R.Read.remaining (inner_of c.loop-lines.reader)) (g.R.Read.remaining (inner_of c.next_answer.new.reader)) c.loop-lines.lines c.next_answer.new.lines (g.W.Write.contents (inner_of c.args.writer.now)) (g.W.Write.contents (inner_of c.loop-lines.writer)) (g.W.Write.contents (inner_of c.next_answer.new.writer)) c.args.session.now c.loop-lines.session c.next_answer.new.session c.loop-lines.invariant.serving next c.in_ok-next_answer.ensures.stays c.in_ok-next_answer.ensures.within;
     }
 
@@ -35,7 +37,10 @@ pub returns-clause-taken : goal.returns-clause-taken
 returns-clause-taken g c = takes_all (g.R.Read.remaining (inner_of c.args.reader.now)) (g.R.Read.remaining (inner_of c.loop-lines.reader)) (g.R.Read.remaining (inner_of c.next_answer.new.reader)) c.loop-lines.lines c.next_answer.new.lines (g.W.Write.contents (inner_of c.args.writer.now)) (g.W.Write.contents (inner_of c.loop-lines.writer)) c.args.session.now c.loop-lines.session c.loop-lines.invariant.serving (takes_next c.in_ok-next_answer.field-0 (g.R.Read.remaining (inner_of c.loop-lines.reader)) (g.R.Read.remaining (inner_of c.next_answer.new.reader)) c.loop-lines.lines c.next_answer.new.lines (g.W.Write.contents (inner_of c.loop-lines.writer)) (g.W.Write.contents (inner_of c.next_answer.new.writer)) c.loop-lines.session c.next_answer.new.session c.in_ok-next_answer.ensures.next) c.in_ok-next_answer.ensures.within
 
 pub returns-in_err-next_answer-clause-begun : goal.returns-in_err-next_answer-clause-begun
-returns-in_err-next_answer-clause-begun g c = on_err _ c.from_residual.result (serves_front (g.R.Read.remaining (inner_of c.args.reader.now)) (g.R.Read.remaining (inner_of c.loop-lines.reader)) (g.R.Read.remaining (inner_of c.next_answer.new.reader)) c.loop-lines.lines c.next_answer.new.lines (g.W.Write.contents (inner_of c.args.writer.now)) (g.W.Write.contents (inner_of c.loop-lines.writer)) (g.W.Write.contents (inner_of c.next_answer.new.writer)) c.args.session.now c.loop-lines.session c.next_answer.new.session c.loop-lines.invariant.serving c.in_err-next_answer.ensures.stopped)
+returns-in_err-next_answer-clause-begun g c =
+    let front : ServesFront c.in_err-next_answer.field-0.0 (g.R.Read.remaining (inner_of c.args.reader.now)) (g.R.Read.remaining (inner_of c.next_answer.new.reader)) (g.W.Write.contents (inner_of c.args.writer.now)) (g.W.Write.contents (inner_of c.next_answer.new.writer)) c.args.session.now c.next_answer.new.session =
+    serves_front c.in_err-next_answer.field-0.0 (g.R.Read.remaining (inner_of c.args.reader.now)) (g.R.Read.remaining (inner_of c.loop-lines.reader)) (g.R.Read.remaining (inner_of c.next_answer.new.reader)) c.loop-lines.lines c.next_answer.new.lines (g.W.Write.contents (inner_of c.args.writer.now)) (g.W.Write.contents (inner_of c.loop-lines.writer)) (g.W.Write.contents (inner_of c.next_answer.new.writer)) c.args.session.now c.loop-lines.session c.next_answer.new.session c.loop-lines.invariant.serving c.in_err-next_answer.ensures.stopped in
+    search rules
 
 pub returns-in_err-next_answer-clause-taken : goal.returns-in_err-next_answer-clause-taken
-returns-in_err-next_answer-clause-taken g c = takes_all (g.R.Read.remaining (inner_of c.args.reader.now)) (g.R.Read.remaining (inner_of c.loop-lines.reader)) (g.R.Read.remaining (inner_of c.next_answer.new.reader)) c.loop-lines.lines c.next_answer.new.lines (g.W.Write.contents (inner_of c.args.writer.now)) (g.W.Write.contents (inner_of c.loop-lines.writer)) c.args.session.now c.loop-lines.session c.loop-lines.invariant.serving (takes_stop (g.R.Read.remaining (inner_of c.loop-lines.reader)) (g.R.Read.remaining (inner_of c.next_answer.new.reader)) c.loop-lines.lines c.next_answer.new.lines (g.W.Write.contents (inner_of c.loop-lines.writer)) (g.W.Write.contents (inner_of c.next_answer.new.writer)) c.loop-lines.session c.next_answer.new.session c.in_err-next_answer.ensures.stopped) c.in_err-next_answer.ensures.within
+returns-in_err-next_answer-clause-taken g c = takes_all (g.R.Read.remaining (inner_of c.args.reader.now)) (g.R.Read.remaining (inner_of c.loop-lines.reader)) (g.R.Read.remaining (inner_of c.next_answer.new.reader)) c.loop-lines.lines c.next_answer.new.lines (g.W.Write.contents (inner_of c.args.writer.now)) (g.W.Write.contents (inner_of c.loop-lines.writer)) c.args.session.now c.loop-lines.session c.loop-lines.invariant.serving (takes_stop c.in_err-next_answer.field-0.0 (g.R.Read.remaining (inner_of c.loop-lines.reader)) (g.R.Read.remaining (inner_of c.next_answer.new.reader)) c.loop-lines.lines c.next_answer.new.lines (g.W.Write.contents (inner_of c.loop-lines.writer)) (g.W.Write.contents (inner_of c.next_answer.new.writer)) c.loop-lines.session c.next_answer.new.session c.in_err-next_answer.ensures.stopped) c.in_err-next_answer.ensures.within

@@ -1,13 +1,14 @@
 -- What was handed out so far is the line.
-use Rattle.std.proofs.Common.{◌≡◌, ◌-◌, ◌≤◌, length}
+use Rattle.std.proofs.Common.{◌≡◌, ◌⊎◌, ◌-◌}
 use Rattle.rc_noted.specs.Noting.{HasFailed, inner_of}
-use Rattle.rc_noted.specs.Taking.{HandsOut, IsOneLine}
+use Rattle.rc_noted.specs.Taking.{HandsOut, IsLine, IsOneLine}
 use Rattle.rc_noted.proofs.lines.Lines.next.Given as goal
 
 abbrev pub invariant-loop-line : goal.invariant-loop-line
 invariant-loop-line g l = record {
   sound : HasFailed l.reader → ⊥;
-  one : IsOneLine l.line.items;
+  one : IsLine l.line.items;
+  waits : IsOneLine l.initial.self.pending ⊎ ((l.self ≡ l.initial.self) × (l.reader ≡ l.initial.reader));
   hands : HandsOut (g.R.Read.remaining (inner_of l.initial.reader)) (g.R.Read.remaining (inner_of l.reader)) l.initial.self l.self l.line.items;
 }
 
