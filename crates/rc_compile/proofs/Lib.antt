@@ -17,3 +17,4 @@ pub mod Tabled
 pub mod Bridges
 pub mod Placing
 pub mod Fitting
+pub mod Turning

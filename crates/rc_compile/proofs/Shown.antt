@@ -61,7 +61,7 @@ module _ (ms : List Meaning) (book : Book) (are : AreMeanings ms) (is : IsBook m
     ),
   )
 
-  match_same : (m : Meaning) → Contains ms m → IsUnmatched book.services (rows book.feeds.items) (rows book.reads.items) m ↔ HasNoMatch ms m.name
+  match_same : (m : Meaning) → Contains ms m → IsUnmatched book.services (rows book.feeds.items) (rows book.readers.items) m ↔ HasNoMatch ms m.name
   match_same m within = (
     λ (t, cases). (
       t,

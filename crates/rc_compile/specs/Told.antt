@@ -55,7 +55,7 @@ JoinsOther names longruns m = (t : List ℕ) × ((m.producer_for ≡ Some t) ⊎
 
 -- it names a neighbour in a pipe and is not in a pair with it
 abbrev pub IsUnmatched : List (List ℕ) → List (List ℕ) → List (List ℕ) → Meaning → Type 0
-IsUnmatched names feeds reads m = (t : List ℕ) × (((m.producer_for ≡ Some t) × (HasPair names reads t m.name → ⊥)) ⊎ (Contains m.consumer_for t × (HasPair names feeds t m.name → ⊥)))
+IsUnmatched names feeds readers m = (t : List ℕ) × (((m.producer_for ≡ Some t) × (HasPair names readers m.name t → ⊥)) ⊎ (Contains m.consumer_for t × (HasPair names feeds t m.name → ⊥)))
 
 -- its pipeline has the name of a service, or one that is shared
 abbrev pub IsTaken : List (List ℕ) → List (List ℕ) → List Bool → Meaning → Type 0
@@ -70,15 +70,15 @@ pub record IsBook (ms : List Meaning) (book : Book) : Type 0 where
   pub bound : length book.longruns ≡ length book.services
   pub longrun : Holds book.longruns (λ s. (name : List ℕ) × (slice_get book.services s ≡ Some name) × IsLongrun ms name)
   pub fed : length book.feeds.items ≡ length book.services
-  pub read : length book.reads.items ≡ length book.services
+  pub read : length book.readers.items ≡ length book.services
   pub writes : (a b : List ℕ) → HasPair book.services (rows book.feeds.items) a b ↔ (Contains book.services a × Contains book.services b × WritesTo ms a b)
-  pub reads_from : (a b : List ℕ) → HasPair book.services (rows book.reads.items) a b ↔ (Contains book.services a × Contains book.services b × ReadsFrom ms a b)
+  pub reads_from : (a b : List ℕ) → HasPair book.services (rows book.readers.items) b a ↔ (Contains book.services a × Contains book.services b × ReadsFrom ms a b)
 
 -- by the tables, the entry has the flaw
 abbrev pub Shows : Book → Told → Meaning → Type 0
 Shows book Unknown m = (name : List ℕ) × Mentions m name × (Contains book.services name ⊎ Contains book.bundles name → ⊥)
 Shows book WrongType m = JoinsOther book.services book.longruns m
-Shows book NoMatch m = IsUnmatched book.services (rows book.feeds.items) (rows book.reads.items) m
+Shows book NoMatch m = IsUnmatched book.services (rows book.feeds.items) (rows book.readers.items) m
 Shows book TakenName m = IsTaken book.services book.bundles book.shared m
 
 -- when there are no tables: there are too many names

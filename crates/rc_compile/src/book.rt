@@ -9,6 +9,7 @@ ghost use Rattle.rc_compile.specs.Told.{IsBook, IsTableFault};
 use crate::CompileFault;
 use crate::pipes::{longruns_of, shared_of};
 use crate::tables::{Which, names_of};
+use crate::turn::turned;
 use rc_holds::{Listed, rows_of};
 use rc_names::Names;
 use rc_set::{NoMem, Set};
@@ -28,8 +29,8 @@ pub(crate) struct Book {
     pub(crate) longruns: Set,
     // For each service the one that it writes to.
     pub(crate) feeds: Vec<Vec<u16>>,
-    // For each service those that it reads from.
-    pub(crate) reads: Vec<Vec<u16>>,
+    // For each service those that read from it: its own definition searches this list, and no other does.
+    pub(crate) readers: Vec<Vec<u16>>,
 }
 
 // The tables and lists of definitions.
@@ -64,16 +65,18 @@ fn filled(
     requires bundles { (name : List ℕ) → Contains bundles name ↔ IsGiven Which.Bundles (map meaning_of definitions.now) name }
     ensures { IfOk result (IsBook (map meaning_of definitions.now)) }
 {
+    let _count = services.len();
     let shared = shared_of(alloc, definitions, &bundles)?;
     let longruns = longruns_of(alloc, definitions, &services)?;
     let feeds = rows_of(alloc, definitions, Listed::Producer, &services, &services)?;
     let reads = rows_of(alloc, definitions, Listed::Consumers, &services, &services)?;
+    let readers = turned(alloc, &reads)?;
     Ok(Book {
         services,
         bundles,
         shared,
         longruns,
         feeds,
-        reads,
+        readers,
     })
 }

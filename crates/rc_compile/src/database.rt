@@ -52,7 +52,7 @@ pub(crate) fn joined(
         shared: _,
         longruns: _,
         feeds: _,
-        reads: _,
+        readers: _,
     } = book;
     Ok(join(definitions, names, services, graph, table))
 }

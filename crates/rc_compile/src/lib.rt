@@ -21,6 +21,7 @@ mod services;
 mod table;
 mod tables;
 mod tests;
+mod turn;
 mod unknown;
 
 use crate::book::book_of;

@@ -134,18 +134,18 @@ fn some_unpaired(names: &Names, lists: &[Vec<u16>], from: &[Name], to: &Name) ->
 pub(crate) fn is_unmatched(
     names: &Names,
     feeds: &[Vec<u16>],
-    reads: &[Vec<u16>],
+    readers: &[Vec<u16>],
     definition: &Definition,
 ) -> bool
     requires feeds { length feeds.now ≡ length names.now }
-    requires reads { length reads.now ≡ length names.now }
-    ensures { IsTrue result ↔ IsUnmatched names.now (rows feeds.now) (rows reads.now) (meaning_of definition.now) }
+    requires readers { length readers.now ≡ length names.now }
+    ensures { IsTrue result ↔ IsUnmatched names.now (rows feeds.now) (rows readers.now) (meaning_of definition.now) }
 {
     if some_unpaired(names, feeds, &definition.consumer_for, &definition.name) {
         return true;
     }
     match &definition.producer_for {
-        Some(name) => !has_pair(names, reads, name, &definition.name),
+        Some(name) => !has_pair(names, readers, &definition.name, name),
         None => false,
     }
 }

@@ -114,7 +114,7 @@ fn add_flawed(
     requires longruns { length book.now.longruns ≡ length book.now.services }
     requires marked { length book.now.shared ≡ length book.now.bundles }
     requires feeds { length book.now.feeds.items ≡ length book.now.services }
-    requires reads { length book.now.reads.items ≡ length book.now.services }
+    requires readers { length book.now.readers.items ≡ length book.now.services }
     ensures { OnOk result ((s : List ℕ) → Contains names.new.items s
         ↔ (Contains names.old.items s ⊎ ((s ≡ definition.now.name) × Shows book.now told (meaning_of definition.now)))) }
 {
@@ -129,13 +129,13 @@ fn has_flaw(alloc: Global, book: &Book, definition: &Definition, told: Told) -> 
     requires longruns { length book.now.longruns ≡ length book.now.services }
     requires marked { length book.now.shared ≡ length book.now.bundles }
     requires feeds { length book.now.feeds.items ≡ length book.now.services }
-    requires reads { length book.now.reads.items ≡ length book.now.services }
+    requires readers { length book.now.readers.items ≡ length book.now.services }
     ensures { IfOk result (λ flawed. IsTrue flawed ↔ Shows book.now told (meaning_of definition.now)) }
 {
     match told {
         Told::Unknown => has_unknown(alloc, book, definition),
         Told::WrongType => Ok(joins_other(&book.services, &book.longruns, definition)),
-        Told::NoMatch => Ok(is_unmatched(&book.services, &book.feeds, &book.reads, definition)),
+        Told::NoMatch => Ok(is_unmatched(&book.services, &book.feeds, &book.readers, definition)),
         Told::TakenName => Ok(has_taken_name(
             &book.services,
             &book.bundles,
