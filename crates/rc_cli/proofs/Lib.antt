@@ -7,3 +7,5 @@ pub mod DbLemmas
 pub mod DbAskedLemmas
 pub mod CompileLemmas
 pub mod CompilingLemmas
+pub mod SessionWordsLemmas
+pub mod SessionLemmas

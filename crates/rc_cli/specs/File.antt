@@ -4,6 +4,7 @@ use Rattle.clap.specs.Words.{Text, first_of}
 use Rattle.rc_cli.specs.Asked.{plan_asked}
 use Rattle.rc_cli.specs.DbAsked.{AsksNothing, AsksSomething}
 use Rattle.rc_cli.specs.Replay.{AsksReplay}
+use Rattle.rc_cli.specs.SessionAsked.{AsksNoSession, AsksSomeSession}
 use Rattle.rc_cli.specs.Words.{rows_for}
 
 -- the file of `-b` in the matches of the command of this name
@@ -15,4 +16,5 @@ abbrev pub IsFileAsked : List Text → Option Text → Type 0
 IsFileAsked words file = ((plan_asked words ≢ None) × (file ≡ file_of (codes "plan") words))
     ⊎ (AsksSomething words × (file ≡ file_of (codes "db") words))
     ⊎ (AsksReplay words × (file ≡ file_of (codes "replay") words))
-    ⊎ ((plan_asked words ≡ None) × AsksNothing words × (rows_for (codes "replay") words ≡ None) × (file ≡ None))
+    ⊎ (AsksSomeSession words × (file ≡ file_of (codes "session") words))
+    ⊎ ((plan_asked words ≡ None) × AsksNothing words × (rows_for (codes "replay") words ≡ None) × AsksNoSession words × (file ≡ None))

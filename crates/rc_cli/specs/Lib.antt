@@ -14,3 +14,6 @@ pub mod Replay
 pub mod Compiling
 pub mod Compiled
 pub mod CompileRefusals
+pub mod SessionAsked
+pub mod Session
+pub mod SessionFaults

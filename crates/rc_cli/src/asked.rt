@@ -25,6 +25,10 @@ pub(crate) enum WordsFault {
     Ways,
     /// They ask no question of a database.
     Query,
+    /// Their number of workers is none from 1 to 64.
+    Workers,
+    /// Their list of transitions that fail has not the form of one.
+    List,
     Memory,
 }
 
@@ -115,7 +119,21 @@ pub(crate) fn tell_words<F: Write>(faults: &mut F, fault: &WordsFault) -> u8
             WRONG_LINE
         }
         WordsFault::Query => {
-            tell(faults, b"no such query, or not of these words");
+            tell(
+                faults,
+                b"db has no such query, or it takes other words; `undorc db --help` lists the queries",
+            );
+            WRONG_LINE
+        }
+        WordsFault::Workers => {
+            tell(faults, b"-w wants a number from 1 to 64");
+            WRONG_LINE
+        }
+        WordsFault::List => {
+            tell(
+                faults,
+                b"-x wants `none`, or `up:NAME` and `down:NAME` joined by commas",
+            );
             WRONG_LINE
         }
         WordsFault::Memory => fail(faults, Failure::Memory),

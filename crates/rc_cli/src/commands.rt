@@ -76,7 +76,9 @@ fn plan_command<'a>(alloc: Global) -> Result<Command<'a>, AllocError>
     ensures local { IfOk result (λ c. (fields_of c).has_globals ≡ false) }
 {
     let command = Command::new(alloc, "plan")
-        .about("Reads a database and the names that are up, and prints the plan")
+        .about(
+            "Reads a database, and then from standard input the names that are up, one a line, and prints the plan",
+        )
         .arg(base_argument(alloc))?;
     let command = with_ways(alloc, command)?;
     with_names(alloc, command)
@@ -132,7 +134,7 @@ fn replay_command<'a>(alloc: Global) -> Result<Command<'a>, AllocError>
 {
     Command::new(alloc, "replay")
         .about(
-            "Reads a database and commands with the events of their runs, and prints what they come to",
+            "Reads a database, and then from standard input commands with the events of their runs, and prints what they come to",
         )
         .arg(base_argument(alloc))
 }
@@ -142,7 +144,9 @@ fn session_command<'a>(alloc: Global) -> Result<Command<'a>, AllocError>
     ensures local { IfOk result (λ c. (fields_of c).has_globals ≡ false) }
 {
     Command::new(alloc, "session")
-        .about("Reads a database and commands, and carries them out one by one")
+        .about(
+            "Reads a database, and then from standard input session lines; does what each says, and answers it",
+        )
         .arg(base_argument(alloc))?
         .arg(option(
             alloc,
@@ -221,7 +225,9 @@ fn query_argument<'a>(alloc: Global) -> Arg<'a>
         .value_name("QUERY")
         .action(ArgAction::Set)
         .required(true)
-        .help("What is asked")
+        .help(
+            "What is asked: check, list, type, timeout, flags, contents, pipeline, script, atomics, dependencies or all-dependencies",
+        )
 }
 
 fn sources_argument<'a>(alloc: Global) -> Arg<'a>
@@ -233,5 +239,5 @@ fn sources_argument<'a>(alloc: Global) -> Arg<'a>
         .action(ArgAction::Append)
         .num_args(1..)
         .required(true)
-        .help("A directory of service directories")
+        .help("A directory that has a subdirectory for each service or bundle")
 }

@@ -5,12 +5,14 @@ ghost use Rattle.rc_cli.specs.Asked.{plan_asked};
 ghost use Rattle.rc_cli.specs.DbAsked.{AsksNothing, AsksSomething};
 ghost use Rattle.rc_cli.specs.File.{IsFileAsked, file_of};
 ghost use Rattle.rc_cli.specs.Replay.{AsksReplay};
+ghost use Rattle.rc_cli.specs.SessionAsked.{AsksNoSession, AsksSomeSession};
 ghost use Rattle.rc_cli.specs.Words.{rows_for};
 ghost use Rattle.rc_cli.specs.declared.asked.WordsFault.TheVariants.{Memory};
 
 use crate::asked::{WordsFault, plan_asked, wants_memory};
 use crate::db_words::db_asked;
 use crate::replay_words::replay_asked;
+use crate::session_words::session_asked;
 use crate::words::{command_named, is_memory, matches_of};
 use rc_set::NoMem;
 use std::alloc::{AllocError, Global};
@@ -28,6 +30,9 @@ pub fn base_file<'a>(alloc: Global, words: &'a [String]) -> Result<Option<&'a st
     }
     if asks_replay(alloc, words)? {
         return file_of(alloc, words, "replay");
+    }
+    if asks_session(alloc, words)? {
+        return file_of(alloc, words, "session");
     }
     Ok(None)
 }
@@ -61,6 +66,17 @@ fn asks_replay(alloc: Global, words: &[String]) -> Result<bool, NoMem>
 {
     match replay_asked(alloc, words) {
         Ok(()) => Ok(true),
+        Err(fault) => not_asked(&fault),
+    }
+}
+
+// Whether the words ask for a session.
+fn asks_session(alloc: Global, words: &[String]) -> Result<bool, NoMem>
+    ensures something { IfOk result (λ asks. OnTrue asks (AsksSomeSession (map string_bytes words.now))) }
+    ensures nothing { IfOk result (λ asks. OnFalse asks (AsksNoSession (map string_bytes words.now))) }
+{
+    match session_asked(alloc, words) {
+        Ok(_) => Ok(true),
         Err(fault) => not_asked(&fault),
     }
 }

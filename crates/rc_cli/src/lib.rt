@@ -19,6 +19,9 @@ mod plan;
 mod query;
 mod replay;
 mod replay_words;
+mod session;
+mod session_fault;
+mod session_words;
 mod words;
 
 pub use crate::compile::compile_run;
@@ -28,4 +31,6 @@ pub use crate::file::base_file;
 pub use crate::named_command::names_command;
 pub use crate::plan::plan_run;
 pub use crate::replay::replay_run;
+pub use crate::session::session_run;
+pub use rc_noted::Noted;
 pub use rc_streams::MAX_INPUT;

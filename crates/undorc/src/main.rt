@@ -4,11 +4,16 @@
 mod own_name;
 
 use crate::own_name::OwnName;
-use rc_cli::{base_file, compile_run, db_run, names_command, plan_run, replay_run, sources};
+use rc_cli::{
+    Noted, base_file, compile_run, db_run, names_command, plan_run, replay_run, session_run,
+    sources,
+};
 use rc_names::NoMem;
 use rc_source::FolderTree;
 use std::io::ErrorKind;
 use std::process::ExitCode;
+use std::sync::Wait;
+use std::thread::Threads;
 use std::{env, fs, io};
 
 /// A wrong command line.
@@ -18,7 +23,7 @@ const FAILED: u8 = 111;
 
 fn main(rt: HostRuntime) -> ExitCode {
     let status = match words(&rt) {
-        Ok(words) => run(&rt, &words),
+        Ok(words) => run(&rt, &rt, &words),
         Err(error) => tell(&rt, &error),
     };
     ExitCode::from(status)
@@ -30,11 +35,12 @@ fn words(rt: &HostRuntime) -> io::Result<Vec<String>> {
     Ok(words.collect(rt.alloc())?)
 }
 
-/// Runs the command of the words, and answers the status.
-fn run(rt: &HostRuntime, words: &[String]) -> u8 {
+/// Runs the command of the words, and answers the status. `threads` is the runtime, too: what starts
+/// threads or waits takes it by this bound.
+fn run<T: Threads + Wait + Sync>(rt: &HostRuntime, threads: &T, words: &[String]) -> u8 {
     match sources(rt.alloc(), words) {
         Ok(Some(paths)) => compile(rt, &paths),
-        Ok(None) => run_on_base(rt, words),
+        Ok(None) => run_on_base(rt, threads, words),
         Err(_) => tell_failure(rt, "undorc: Memory"),
     }
 }
@@ -57,19 +63,33 @@ fn trees_at(rt: &HostRuntime, paths: &[String]) -> Result<Vec<FolderTree<HostRun
 }
 
 /// Runs a command that reads a database, and answers the status.
-fn run_on_base(rt: &HostRuntime, words: &[String]) -> u8 {
+fn run_on_base<T: Threads + Wait + Sync>(rt: &HostRuntime, threads: &T, words: &[String]) -> u8 {
     match base_file(rt.alloc(), words) {
         Ok(Some(path)) => match fs::read(rt, path) {
-            Ok(bytes) => command(rt, words, Some(&bytes)),
+            Ok(bytes) => command(rt, threads, words, Some(&bytes)),
             Err(error) => tell_file(rt, &error),
         },
-        Ok(None) => command(rt, words, None),
+        Ok(None) => command(rt, threads, words, None),
         Err(_) => tell_failure(rt, "undorc: Memory"),
     }
 }
 
 /// Runs the command that is named. A wrong command line is told by whichever is run.
-fn command(rt: &HostRuntime, words: &[String], base: Option<&[u8]>) -> u8 {
+fn command<T: Threads + Wait + Sync>(
+    rt: &HostRuntime,
+    threads: &T,
+    words: &[String],
+    base: Option<&[u8]>,
+) -> u8 {
+    match names_command(rt.alloc(), words, "session") {
+        Ok(true) => session(rt, threads, words, base),
+        Ok(false) => reader(rt, words, base),
+        Err(_) => tell_failure(rt, "undorc: Memory"),
+    }
+}
+
+/// Runs the command that is named, of those that read their input whole.
+fn reader(rt: &HostRuntime, words: &[String], base: Option<&[u8]>) -> u8 {
     match names_command(rt.alloc(), words, "db") {
         Ok(true) => db(rt, words, base),
         Ok(false) => mover(rt, words, base),
@@ -84,6 +104,23 @@ fn mover(rt: &HostRuntime, words: &[String], base: Option<&[u8]>) -> u8 {
         Ok(false) => plan(rt, words, base),
         Err(_) => tell_failure(rt, "undorc: Memory"),
     }
+}
+
+fn session<T: Threads + Wait + Sync>(
+    rt: &HostRuntime,
+    threads: &T,
+    words: &[String],
+    base: Option<&[u8]>,
+) -> u8 {
+    session_run(
+        threads,
+        rt.alloc(),
+        words,
+        base,
+        &mut Noted::new(rt.stdin()),
+        &mut Noted::new(rt.stdout()),
+        &mut rt.stderr(),
+    )
 }
 
 fn replay(rt: &HostRuntime, words: &[String], base: Option<&[u8]>) -> u8 {

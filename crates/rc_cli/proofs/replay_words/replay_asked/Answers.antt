@@ -1,5 +1,4 @@
-use Rattle.std.proofs.Common.{◌≡◌, ◌∙◌, None, Some, true, codes, sym}
-use Rattle.clap.specs.Words.{found_of, rows_of}
+use Rattle.std.proofs.Common.{◌≡◌, ◌∙◌, true, codes, sym}
 use Rattle.rc_cli.proofs.WordsLemmas.{rows_right, rows_wrong}
 use Rattle.rc_cli.proofs.replay_words.replay_asked.Goals as goal
 
