@@ -458,7 +458,7 @@ wrong db -u dependencies web
 wrong -d db check
 wrong db "$strange"
 wrong db frob
-says '^undorc: no such query, or not of these words$'
+says '^undorc: db has no such query, or it takes other words; `undorc db --help` lists the queries$'
 wrong db --help
 says '^Usage: undorc db '
 wrong
@@ -502,8 +502,9 @@ wrong plan --help
 says '^Usage: undorc plan '
 program=$known
 
-# Source directories.
+# Source directories, and sessions.
 . "$rows/compile.sh"
+. "$rows/session.sh"
 
 # The bound of an input: one byte more is the last that is taken.
 head -c 16777216 /dev/zero | tr '\0' '\n' > whole
