@@ -173,14 +173,47 @@ fails 111 'Io a' unread
 rm "unread/a/dependencies.d/$strange"
 : > "unread/a/dependencies.d/.$strange"
 fails 111 'Io a' unread
-if [ "$(id -u)" -ne 0 ]; then
-    tree unread
-    oneshot unread/a
-    chmod 000 unread/a/up
-    fails 111 'Io a' unread
-    chmod 000 unread
-    fails 111 Io unread
-    chmod 700 unread
+
+# What may not be read: asked as nobody where this runs as root, who may read all. What is only to be there may be shut.
+guest=
+if [ "$(id -u)" -eq 0 ]; then guest='setpriv --reuid=65534 --regid=65534 --clear-groups'; fi
+if $guest true; then
+    known=$program
+    umask 022
+    chmod 755 .
+    cp "$program" shut-out
+    printf '#!/bin/sh\nexec %s ./shut-out "$@"\n' "$guest" > guest
+    chmod 755 shut-out guest
+    program=./guest
+    for file in type up dependencies; do
+        tree shut
+        oneshot shut/a
+        : > shut/a/dependencies
+        compiles "$one$plain$last" shut
+        chmod 000 "shut/a/$file"
+        fails 111 'Io a' shut
+    done
+    tree shut
+    mkdir shut/.b shut/a
+    echo longrun > shut/a/type
+    : > shut/a/run
+    : > shut/a/flag-essential
+    chmod 000 shut/.b shut/a/run shut/a/flag-essential
+    compiles "${one}service a longrun essential 0 0\\nneeds\\nproducer -\\n$last" shut
+    mkdir shut/a/dependencies.d
+    chmod 000 shut/a/dependencies.d
+    fails 111 'Io a' shut
+    chmod 755 shut/a/dependencies.d
+    chmod 000 shut/a
+    fails 111 'Io a' shut
+    chmod 755 shut/a
+    chmod 000 shut
+    fails 111 Io shut
+    chmod 755 shut shut/.b
+    program=$known
+else
+    failed=$((failed + 1))
+    echo "FAILED: what may not be read is not shown, since '$guest' does not run"
 fi
 
 # Refusals of files and names, each of the first entry in byte order that has one.
@@ -223,11 +256,29 @@ fails 1 'BadName a' wrong
 rm -r wrong/a/dependencies.d
 printf 'c\nc\n' > wrong/a/producer-for
 fails 1 'BadName a' wrong
+for file in down type timeout-up dependencies; do
+    tree wide
+    oneshot wide/a
+    head -c 65537 /dev/zero | tr '\0' '\n' > "wide/a/$file"
+    fails 1 'TooLong a' wide
+done
+tree wide
+oneshot wide/a
+head -c 65535 /dev/zero | tr '\0' '\n' > wide/a/dependencies
+printf b >> wide/a/dependencies
+fails 1 'UnknownIn a b' wide
 tree long
 oneshot long/a
 head -c 65536 /dev/zero | tr '\0' 'x' > long/a/up
 printf 4294967295 > long/a/timeout-down
 compiles "${one}service a oneshot plain 0 4294967295\\nneeds\\nup 65536\\n$(cat long/a/up)\\ndown -\\n$last" long
+
+# Entries are in the order of their names' bytes, in whatever order they were made.
+tree bytes
+for name in é aa a Z B; do oneshot "bytes/$name"; done
+text="${first}services 5\\n"
+for name in B Z a aa é; do text="${text}service $name oneshot plain 0 0\\nneeds\\nup 2\\nup\\ndown -\\n"; done
+compiles "$text$last" bytes
 
 # Two sources: an entry comes once, and the first fault in their order is told.
 tree first

@@ -1,25 +1,23 @@
 #!/bin/sh
-# measure-compile.sh [PROGRAM [RUNS]]: how long `undorc compile` takes on 4,096 services as directories, as a multiple of
-# `ninja -n` and of `make -n` on the same graph as one file each, and the most memory that it takes. Each time is the
-# least of RUNS runs (20 without RUNS), since other work disturbs them. tests/graph.sh has the graphs.
+# measure-compile.sh [PROGRAM [ROUNDS]]: how much processor time `undorc compile` takes on 4,096 services as directories,
+# as a multiple of `ninja -n` and of `make -n` on the same graph as one file each, and the most memory that each of them
+# takes. A round runs each of the three ten times, one behind another, and each time is the least of ROUNDS rounds (5
+# without ROUNDS), since other work disturbs them. tests/graph.sh has the graphs.
 set -eu
 cd "$(dirname "$0")/.."
 program=${1:-crates/undorc/out/undorc}
-runs=${2:-20}
+rounds=${2:-5}
 room=$(mktemp -d)
 trap 'rm -rf "$room"' EXIT
 
-# least COMMAND..: the least time in microseconds, and the peak memory in kilobytes
-least() {
-    best=
-    for _ in $(seq "$runs"); do
-        begin=$(date +%s%N)
-        "$@" < /dev/null > "$room/out"
-        took=$((($(date +%s%N) - begin) / 1000))
-        if [ -z "$best" ] || [ "$took" -lt "$best" ]; then best=$took; fi
-    done
-    /usr/bin/time -f %M -o "$room/peak" "$@" < /dev/null > "$room/out"
-    echo "$best $(cat "$room/peak")"
+# ten WHAT COMMAND..: ten runs, whose processor time in seconds and peak memory in kilobytes go to `took`
+ten() {
+    what=$1
+    shift
+    /usr/bin/time -a -f "$what %U %S %M" -o "$room/took" sh -c '
+        out=$1
+        shift
+        for _ in 1 2 3 4 5 6 7 8 9 10; do "$@" < /dev/null > "$out"; done' ten "$room/out" "$@"
 }
 
 # folders FILE FOLDER: the services of a file for ninja as oneshots in a folder
@@ -40,15 +38,33 @@ makefile() {
     sed -n 's/^build \([^:]*\): up\(.*\)/\1:\2\n\ttrue/p' "$1"
 }
 
-echo '| Graph | Time, as a multiple of ninja -n | As a multiple of make -n | Peak | Peak of ninja | Peak of make |'
+# measure KIND WHAT: the line of a graph
+measure() {
+    sh tests/graph.sh ninja "$1" > "$room/$1.ninja"
+    folders "$room/$1.ninja" "$room/$1"
+    makefile "$room/$1.ninja" > "$room/$1.make"
+    : > "$room/took"
+    for _ in $(seq "$rounds"); do
+        ten undorc "$program" compile "$room/$1"
+        ten ninja ninja -C "$room" -n --quiet -f "$1.ninja"
+        ten make make -n -C "$room" -f "$1.make" all
+    done
+    awk -v graph="$2" '
+        { took = $2 + $3; if (!($1 in least) || took < least[$1]) least[$1] = took }
+        $4 > peak[$1] { peak[$1] = $4 }
+        END {
+            ours = least["undorc"]
+            printf "| %s | %.1f | %.1f |", graph, ours / least["ninja"], ours / least["make"]
+            printf " %.1f MB | %.1f MB | %.1f MB |\n", peak["undorc"] / 1024, peak["ninja"] / 1024, peak["make"] / 1024
+        }' "$room/took"
+    rm -r "${room:?}/$1" "$room/$1".*
+}
+
+echo '| Graph | Times `ninja -n` | Times `make -n` | Peak memory | Peak of ninja | Peak of make |'
 echo '|---|---|---|---|---|---|'
-for kind in none next before fan layers random; do
-    sh tests/graph.sh ninja $kind > "$room/$kind.ninja"
-    folders "$room/$kind.ninja" "$room/$kind"
-    makefile "$room/$kind.ninja" > "$room/$kind.make"
-    echo "$kind $(least "$program" compile "$room/$kind") \
-        $(least ninja -C "$room" -n --quiet -f "$kind.ninja") $(least make -n -C "$room" -f "$kind.make" all)" | awk '{
-        printf "| %s | %.1f | %.1f | %.1f MB | %.1f MB | %.1f MB |\n", $1, $2 / $4, $2 / $6, $3 / 1024, $5 / 1024, $7 / 1024
-    }'
-    rm -r "${room:?}/$kind"
-done
+measure none 'none needs another'
+measure next 'each needs the next'
+measure before 'each needs the one before'
+measure fan 'a fan: one needs all others'
+measure layers '64 layers of 64, each service needing the whole layer below (258,048 pairs)'
+measure random 'random, some four needs each'

@@ -1,0 +1,126 @@
+//! What files hold.
+use crate::rows::Row;
+
+pub(crate) static FILES: [Row; 15] = [
+    Row {
+        what: "a type of another word",
+        oneshots: &[],
+        longruns: &[],
+        bundles: &[],
+        files: &[("a", "type", b"daemon")],
+    },
+    Row {
+        what: "a longrun that runs nothing",
+        oneshots: &[],
+        longruns: &[],
+        bundles: &[],
+        files: &[("a", "type", b"longrun")],
+    },
+    Row {
+        what: "a text with byte 0",
+        oneshots: &["a"],
+        longruns: &[],
+        bundles: &[],
+        files: &[("a", "up", b"a\0b")],
+    },
+    Row {
+        what: "a text that is no UTF-8",
+        oneshots: &["a"],
+        longruns: &[],
+        bundles: &[],
+        files: &[("a", "down", b"\xff")],
+    },
+    Row {
+        what: "a limit of 33 bits",
+        oneshots: &["a"],
+        longruns: &[],
+        bundles: &[],
+        files: &[("a", "timeout-down", b"4294967296")],
+    },
+    Row {
+        what: "no name in a list",
+        oneshots: &["a"],
+        longruns: &[],
+        bundles: &[],
+        files: &[("a", "dependencies", b"b\n-c\n")],
+    },
+    Row {
+        what: "two names in a file of one",
+        oneshots: &[],
+        longruns: &["a"],
+        bundles: &[],
+        files: &[("a", "producer-for", b"b\nc")],
+    },
+    Row {
+        what: "limits, a flag and both texts",
+        oneshots: &["a"],
+        longruns: &[],
+        bundles: &[],
+        files: &[
+            ("a", "timeout-up", b"4294967295\n"),
+            ("a", "timeout-down", b"0000000042"),
+            ("a", "flag-essential", b"no"),
+            ("a", "down", b"down\n"),
+        ],
+    },
+    Row {
+        what: "a text like the end of a database",
+        oneshots: &["a"],
+        longruns: &[],
+        bundles: &[],
+        files: &[("a", "up", b"up\nend\n"), ("a", "down", b"")],
+    },
+    Row {
+        what: "files of other kinds and of none",
+        oneshots: &["a"],
+        longruns: &[],
+        bundles: &[],
+        files: &[
+            ("a", "run", b"\0"),
+            ("a", "contents", b"-"),
+            ("a", "readme", b"\0"),
+        ],
+    },
+    Row {
+        what: "a hidden entry",
+        oneshots: &["a"],
+        longruns: &[],
+        bundles: &[],
+        files: &[(".b", "type", b"?")],
+    },
+    Row {
+        what: "comments and blanks in a list",
+        oneshots: &["a", "b", "c"],
+        longruns: &[],
+        bundles: &[],
+        files: &[("a", "dependencies", b"\n # x\n\t c \n\nb")],
+    },
+    Row {
+        what: "no name in a file of one",
+        oneshots: &[],
+        longruns: &["a"],
+        bundles: &[],
+        files: &[("a", "producer-for", b"# b\n\n")],
+    },
+    Row {
+        what: "a need on a name that begins with a dot",
+        oneshots: &["a"],
+        longruns: &[],
+        bundles: &[],
+        files: &[
+            (".b", "type", b"oneshot"),
+            (".b", "up", b"up"),
+            ("a", "dependencies", b".b"),
+        ],
+    },
+    Row {
+        what: "names by their bytes",
+        oneshots: &["\u{e9}", "aa", "a", "B"],
+        longruns: &[],
+        bundles: &["_", "Z"],
+        files: &[
+            ("a", "dependencies", b"\xc3\xa9\naa\nB"),
+            ("Z", "contents", b"a\n\xc3\xa9\nB"),
+        ],
+    },
+];

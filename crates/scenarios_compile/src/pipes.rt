@@ -1,0 +1,132 @@
+//! Pipelines and their names.
+use crate::rows::Row;
+
+pub(crate) static PIPES: [Row; 13] = [
+    Row {
+        what: "a consumer whose producer does not name it",
+        oneshots: &[],
+        longruns: &["c", "p"],
+        bundles: &[],
+        files: &[("c", "consumer-for", b"p")],
+    },
+    Row {
+        what: "a producer and a consumer that name others",
+        oneshots: &[],
+        longruns: &["c", "p", "q"],
+        bundles: &[],
+        files: &[("p", "producer-for", b"q"), ("c", "consumer-for", b"p")],
+    },
+    Row {
+        what: "a consumer of a oneshot",
+        oneshots: &["o"],
+        longruns: &["c"],
+        bundles: &[],
+        files: &[("c", "consumer-for", b"o")],
+    },
+    Row {
+        what: "a producer for a bundle",
+        oneshots: &[],
+        longruns: &["p"],
+        bundles: &["g"],
+        files: &[("p", "producer-for", b"g")],
+    },
+    Row {
+        what: "a consumer that is a oneshot",
+        oneshots: &["c"],
+        longruns: &["p"],
+        bundles: &[],
+        files: &[("p", "producer-for", b"c"), ("c", "consumer-for", b"p")],
+    },
+    Row {
+        what: "two producers for one consumer",
+        oneshots: &[],
+        longruns: &["c", "p", "q"],
+        bundles: &[],
+        files: &[
+            ("p", "producer-for", b"c"),
+            ("q", "producer-for", b"c"),
+            ("c", "consumer-for", b"q\np"),
+            ("c", "pipeline-name", b"pipe"),
+        ],
+    },
+    Row {
+        what: "a pipeline without a name, and names where none ends",
+        oneshots: &["b"],
+        longruns: &["a", "c", "p"],
+        bundles: &[],
+        files: &[
+            ("a", "pipeline-name", b"x"),
+            ("b", "pipeline-name", b"y"),
+            ("p", "pipeline-name", b"z"),
+            ("p", "producer-for", b"c"),
+            ("c", "consumer-for", b"p"),
+        ],
+    },
+    Row {
+        what: "the name of a pipeline that is a bundle's",
+        oneshots: &[],
+        longruns: &["c", "p"],
+        bundles: &["pipe"],
+        files: &[
+            ("p", "producer-for", b"c"),
+            ("c", "consumer-for", b"p"),
+            ("c", "pipeline-name", b"pipe"),
+        ],
+    },
+    Row {
+        what: "the name of a pipeline that is its own consumer's",
+        oneshots: &[],
+        longruns: &["c", "p"],
+        bundles: &[],
+        files: &[
+            ("p", "producer-for", b"c"),
+            ("c", "consumer-for", b"p"),
+            ("c", "pipeline-name", b"pipe"),
+            ("c", "pipeline-name", b"c"),
+        ],
+    },
+    Row {
+        what: "two pipelines of one name",
+        oneshots: &[],
+        longruns: &["c", "d", "p", "q"],
+        bundles: &[],
+        files: &[
+            ("p", "producer-for", b"c"),
+            ("c", "consumer-for", b"p"),
+            ("c", "pipeline-name", b"pipe"),
+            ("q", "producer-for", b"d"),
+            ("d", "consumer-for", b"q"),
+            ("d", "pipeline-name", b"pipe"),
+        ],
+    },
+    Row {
+        what: "producers in a circle",
+        oneshots: &[],
+        longruns: &["p", "q"],
+        bundles: &[],
+        files: &[
+            ("p", "producer-for", b"q"),
+            ("q", "consumer-for", b"p"),
+            ("q", "producer-for", b"p"),
+            ("p", "consumer-for", b"q"),
+        ],
+    },
+    Row {
+        what: "a producer for itself",
+        oneshots: &[],
+        longruns: &["p"],
+        bundles: &[],
+        files: &[("p", "producer-for", b"p"), ("p", "consumer-for", b"p")],
+    },
+    Row {
+        what: "a producer that names its consumer as a need, too",
+        oneshots: &[],
+        longruns: &["c", "p"],
+        bundles: &[],
+        files: &[
+            ("p", "producer-for", b"c"),
+            ("c", "consumer-for", b"p"),
+            ("p", "dependencies", b"c"),
+        ],
+    },
+];
