@@ -1,19 +1,20 @@
 //! Changes, undos and redos of the sample by workers with a gate that answers by a table.
 #![tactic(auto)]
 
-ghost use Rattle.std.specs.Prelude.{◌≡◌, false, IfOk};
-
 mod count;
+mod desk;
+mod rows;
 
 use crate::count::{Counting, Looks};
-use rc_board::{Fault, Gate, NoWatch, change, redo, undo};
+use crate::desk::Desk;
+use crate::rows::{BOUNDS, FAILURES, Row, Step};
+use rc_board::{Fault, NoWatch};
 use rc_core::Event;
 use rc_graph::Way;
 use rc_runner::{StepClock, TableGate};
 use rc_select::{Mode, Request};
-use rc_session::{Report, Session};
+use rc_session::Report;
 use rc_set::NoMem;
-use samples_db::sample;
 use std::alloc::{AllocGlobal, Global};
 use std::io;
 use std::io::Print;
@@ -24,78 +25,87 @@ use std::thread::Threads;
 /// The sample's services, by their numbers.
 const NAMES: [&str; 5] = ["db", "log", "net", "root", "web"];
 
-const LOG: u16 = 1;
-
-const NET: u16 = 2;
-
 fn main(rt: HostRuntime) -> Result<(), Fail> {
-    show_limit(&rt, fresh(rt.alloc())?, 5)?;
-    show_limit(&rt, fresh(rt.alloc())?, 0)?;
-    show_crews(&rt, fresh(rt.alloc())?)?;
-    show_counts(&rt, fresh(rt.alloc())?)?;
-    show_failed_up(&rt, fresh(rt.alloc())?)?;
-    Ok(show_failed_down(&rt, fresh(rt.alloc())?)?)
+    show_rows(&rt, &BOUNDS)?;
+    show_counts(&rt)?;
+    show_rows(&rt, &FAILURES)
 }
 
-/// A session over the sample in which nothing is up.
-fn fresh(alloc: Global) -> Result<Session, Fail>
-    ensures { IfOk result (λ session. session.begun ≡ false) }
-{
-    let db = sample(alloc)?;
-    Ok(Session::new(alloc, db)?)
-}
-
-/// With a limit of 5 the third moment of the clock stops the run; without one the same clock stops nothing.
-fn show_limit<R: Print + AllocGlobal + Threads + Wait + Sync>(
+fn show_rows<R: Print + AllocGlobal + Threads + Wait + Sync>(
     rt: &R,
-    mut session: Session,
-    limit: u32,
-) -> io::Result<()>
-    requires { session.begun ≡ false }
-{
-    println!(rt; "limit {limit}:")?;
-    let gate = timed(rt.alloc())?;
-    show_change(rt, &mut session, &gate, 1, limit)
+    rows: &[Row],
+) -> Result<(), Fail> {
+    for row in rows {
+        show_row(rt, row)?;
+    }
+    Ok(())
 }
 
-/// The numbers of workers that are refused, and the greatest that is not.
-fn show_crews<R: Print + AllocGlobal + Threads + Wait + Sync>(
-    rt: &R,
-    mut session: Session,
-) -> io::Result<()>
-    requires { session.begun ≡ false }
-{
-    let gate = failing(rt.alloc(), &[])?;
-    show_crew(rt, &mut session, &gate, 0)?;
-    show_crew(rt, &mut session, &gate, 65)?;
-    show_crew(rt, &mut session, &gate, 64)
+/// Steps of a session over the sample in which nothing is up at first.
+fn show_row<R: Print + AllocGlobal + Threads + Wait + Sync>(rt: &R, row: &Row) -> Result<(), Fail> {
+    let (moments, transitions, steps) = row;
+    let gate = gate_of(rt.alloc(), moments, transitions)?;
+    let mut desk = Desk::new(rt.alloc())?;
+    Ok(show_steps(rt, &mut desk, &gate, steps)?)
 }
 
-/// So many workers bring `site` up.
-fn show_crew<R: Print + AllocGlobal + Threads + Wait + Sync>(
+fn show_steps<R: Print + AllocGlobal + Threads + Wait + Sync>(
     rt: &R,
-    session: &mut Session,
+    desk: &mut Desk,
     gate: &TableGate,
-    workers: u8,
-) -> io::Result<()>
-    requires { session.old.begun ≡ false }
-    ensures { session.new.begun ≡ false }
-{
-    println!(rt; "{workers} workers:")?;
-    show_change(rt, session, gate, workers, 0)
+    steps: &[(&str, Step)],
+) -> io::Result<()> {
+    for (what, step) in steps {
+        println!(rt; "{what}:")?;
+        show_step(rt, desk, gate, *step)?;
+    }
+    Ok(())
+}
+
+/// Takes a step, and shows what was answered and where the line stands.
+fn show_step<R: Print + AllocGlobal + Threads + Wait + Sync>(
+    rt: &R,
+    desk: &mut Desk,
+    gate: &TableGate,
+    step: Step,
+) -> io::Result<()> {
+    let answer = answer_to(rt, desk, gate, step)?;
+    show_answer(rt, &answer)?;
+    show_place(rt, desk)
+}
+
+fn answer_to<R: AllocGlobal + Threads + Wait + Sync>(
+    rt: &R,
+    desk: &mut Desk,
+    gate: &TableGate,
+    step: Step,
+) -> Result<Result<Report, Fault>, NoMem> {
+    match step {
+        Step::Change(workers, limit) => {
+            let request = up_site(rt.alloc(), limit)?;
+            Ok(desk.change(rt, &request, gate, workers, &NoWatch))
+        }
+        Step::Undo => Ok(desk.undo(rt, gate, 2, &NoWatch)),
+        Step::Redo => Ok(desk.redo(rt, gate, 2, &NoWatch)),
+    }
 }
 
 /// The gate is asked once for each take, and each event is followed by one look, the last at all of them.
-fn show_counts<R: Print + AllocGlobal + Threads + Wait + Sync>(
-    rt: &R,
-    mut session: Session,
-) -> io::Result<()>
-    requires { session.begun ≡ false }
-{
-    let gate = Counting::new(failing(rt.alloc(), &[])?);
-    let watch = Looks::new();
+fn show_counts<R: Print + AllocGlobal + Threads + Wait + Sync>(rt: &R) -> Result<(), Fail> {
+    let gate = Counting::new(gate_of(rt.alloc(), &[], &[])?);
     let request = up_site(rt.alloc(), 0)?;
-    let answer = change(rt, rt.alloc(), &mut session, &request, &gate, 2, &watch);
+    let mut desk = Desk::new(rt.alloc())?;
+    Ok(show_counted(rt, &mut desk, &request, &gate)?)
+}
+
+fn show_counted<R: Print + AllocGlobal + Threads + Wait + Sync>(
+    rt: &R,
+    desk: &mut Desk,
+    request: &Request,
+    gate: &Counting<TableGate>,
+) -> io::Result<()> {
+    let watch = Looks::new();
+    let answer = desk.change(rt, request, gate, 2, &watch);
     show_answer(rt, &answer)?;
     println!(rt;
         "asked {}, looks {}, the last saw {} events and {} up",
@@ -106,85 +116,10 @@ fn show_counts<R: Print + AllocGlobal + Threads + Wait + Sync>(
     )
 }
 
-/// A service that fails to come up blocks what needs it.
-fn show_failed_up<R: Print + AllocGlobal + Threads + Wait + Sync>(
-    rt: &R,
-    mut session: Session,
-) -> io::Result<()>
-    requires { session.begun ≡ false }
-{
-    println!(rt; "net fails up:")?;
-    let gate = failing(rt.alloc(), &[(NET, Way::Raise)])?;
-    show_change(rt, &mut session, &gate, 3, 0)?;
-    show_undo(rt, &mut session, &gate)
-}
-
-/// An undo that fails is split: what was undone is redone, and what remains is undone.
-fn show_failed_down<R: Print + AllocGlobal + Threads + Wait + Sync>(
-    rt: &R,
-    mut session: Session,
-) -> io::Result<()>
-    requires { session.begun ≡ false }
-{
-    println!(rt; "log fails down:")?;
-    let gate = failing(rt.alloc(), &[(LOG, Way::Lower)])?;
-    show_change(rt, &mut session, &gate, 4, 0)?;
-    show_undo(rt, &mut session, &gate)?;
-    show_redo(rt, &mut session, &gate)?;
-    show_undo(rt, &mut session, &gate)?;
-    show_undo(rt, &mut session, &gate)
-}
-
-/// Brings `site` up, and shows what was answered and where the line stands.
-fn show_change<R: Print + AllocGlobal + Threads + Wait + Sync, G: Gate>(
-    rt: &R,
-    session: &mut Session,
-    gate: &G,
-    workers: u8,
-    limit: u32,
-) -> io::Result<()>
-    requires { session.old.begun ≡ false }
-    ensures { session.new.begun ≡ false }
-{
-    let request = up_site(rt.alloc(), limit)?;
-    let answer = change(rt, rt.alloc(), session, &request, gate, workers, &NoWatch);
-    show_answer(rt, &answer)?;
-    show_place(rt, session)
-}
-
-fn show_undo<R: Print + AllocGlobal + Threads + Wait + Sync, G: Gate>(
-    rt: &R,
-    session: &mut Session,
-    gate: &G,
-) -> io::Result<()>
-    requires { session.old.begun ≡ false }
-    ensures { session.new.begun ≡ false }
-{
-    println!(rt; "undo:")?;
-    let answer = undo(rt, rt.alloc(), session, 0, gate, 2, &NoWatch);
-    show_answer(rt, &answer)?;
-    show_place(rt, session)
-}
-
-fn show_redo<R: Print + AllocGlobal + Threads + Wait + Sync, G: Gate>(
-    rt: &R,
-    session: &mut Session,
-    gate: &G,
-) -> io::Result<()>
-    requires { session.old.begun ≡ false }
-    ensures { session.new.begun ≡ false }
-{
-    println!(rt; "redo:")?;
-    let answer = redo(rt, rt.alloc(), session, 0, gate, 2, &NoWatch);
-    show_answer(rt, &answer)?;
-    show_place(rt, session)
-}
-
 /// Where the line stands, and how many services are live.
-fn show_place(rt: &impl Print, session: &Session) -> io::Result<()> {
-    let journal = session.journal();
-    let (cursor, states) = (journal.cursor(), journal.states());
-    println!(rt; "  at {cursor} of {states}, {} live", session.live().len())
+fn show_place(rt: &impl Print, desk: &Desk) -> io::Result<()> {
+    let (cursor, states, live) = desk.place();
+    println!(rt; "  at {cursor} of {states}, {live} live")
 }
 
 fn show_answer(rt: &impl Print, answer: &Result<Report, Fault>) -> io::Result<()> {
@@ -251,15 +186,9 @@ fn up_site(alloc: Global, limit: u32) -> Result<Request, NoMem> {
     })
 }
 
-/// A gate at which nothing fails, with a clock that gives 0 twice, and then 5.
-fn timed(alloc: Global) -> Result<TableGate, NoMem> {
-    let moments = vec![in alloc; 0, 0, 5]?;
-    Ok(TableGate::new(Vec::new(alloc), StepClock::new(moments)))
-}
-
-/// A gate at which these transitions fail.
-fn failing(alloc: Global, transitions: &[(u16, Way)]) -> Result<TableGate, NoMem> {
+/// A gate whose clock gives these moments, and at which these transitions fail.
+fn gate_of(alloc: Global, moments: &[u64], transitions: &[(u16, Way)]) -> Result<TableGate, NoMem> {
+    let clock = StepClock::new(Vec::from_slice(alloc, moments)?);
     let transitions = Vec::from_slice(alloc, transitions)?;
-    let clock = StepClock::new(Vec::new(alloc));
     Ok(TableGate::new(transitions, clock))
 }

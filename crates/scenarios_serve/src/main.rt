@@ -2,114 +2,125 @@
 //! numbers of workers at their bounds, and one of many lines.
 #![tactic(auto)]
 
+mod cases;
 mod devices;
 mod long;
 mod rows;
+mod serving;
 
+use crate::cases::{ALL, CREWS, Case, EVER, READS, SHORT, WRITES};
 use crate::devices::{Endless, Interrupted, Sink, Source};
 use crate::long::{long_input, long_line, many_services};
 use crate::rows::{ROWS, Row};
-use rc_graph::Way;
-use rc_runner::{StepClock, TableGate};
-use rc_serve::{Noted, ServeFault, serve};
-use rc_session::Session;
+use crate::serving::{Ended, served};
 use samples_db::sample;
-use std::alloc::{AllocGlobal, Global};
+use std::alloc::AllocGlobal;
 use std::io::{Print, Read};
-use std::str;
 use std::sync::Wait;
 use std::test::Fail;
 use std::thread::Threads;
-
-const ALL: usize = 4_096;
-
-const EVER: usize = usize::MAX;
+use std::{io, str};
 
 const LINES: usize = 10_000;
 
-const SHORT: &str = "-u change log\nundo\n";
-
 fn main(rt: HostRuntime) -> Result<(), Fail> {
-    let mut alike = 0_u32;
-    for row in &ROWS {
-        alike = alike.saturating_add(show_row(&rt, row)?);
-    }
-    println!(rt; "\nalike in pieces of 1, 7 and 4,096 bytes: {alike}")?;
+    show_rows(&rt)?;
     show_faults(&rt)?;
     show_bounds(&rt)?;
-    show_workers(&rt)?;
+    show_cases(&rt, &CREWS)?;
     show_many(&rt)
 }
 
-/// A gate at which a transition fails, or none.
-fn gate_of(alloc: Global, failing: Option<(u16, Way)>) -> Result<TableGate, Fail> {
-    let mut list = Vec::new(alloc);
-    if let Some(transition) = failing {
-        list.push(transition)?;
+/// Worked sessions, and how many are the same in pieces of other sizes.
+fn show_rows<T: Print + AllocGlobal + Threads + Wait + Sync>(rt: &T) -> Result<(), Fail> {
+    let mut alike = 0_u32;
+    for row in &ROWS {
+        if show_row(rt, row)? {
+            alike = alike.saturating_add(1);
+        }
     }
-    Ok(TableGate::new(list, StepClock::new(Vec::new(alloc))))
+    println!(rt; "\nalike in pieces of 1, 7 and 4,096 bytes: {alike}")?;
+    Ok(())
 }
 
-/// Shows a worked session, and tells by 1 that it is the same in pieces of other sizes.
+/// Shows a worked session, and tells whether it is the same in pieces of other sizes.
 fn show_row<T: Print + AllocGlobal + Threads + Wait + Sync>(
     rt: &T,
     row: &Row,
-) -> Result<u32, Fail> {
-    let (title, failing, input) = row;
-    let whole = written_of(rt, *failing, input, ALL)?;
-    let text = str::from_utf8(&whole).unwrap_or("no text\n");
-    println!(rt; "\n{title}:")?;
-    print!(rt; "{text}")?;
-    let bytes = written_of(rt, *failing, input, 1)?;
-    let pieces = written_of(rt, *failing, input, 7)?;
-    let is_alike = bytes.as_slice() == whole.as_slice() && pieces.as_slice() == whole.as_slice();
-    Ok(u32::from(is_alike))
+) -> Result<bool, Fail> {
+    let whole = written_of(rt, row, ALL)?;
+    show_text(rt, row.0, &whole)?;
+    is_alike(rt, row, &whole)
 }
 
-/// What a session on the sample writes that ends well, in pieces of this size.
-fn written_of<T: Print + AllocGlobal + Threads + Wait + Sync>(
+fn show_text(rt: &impl Print, title: &str, text: &[u8]) -> io::Result<()> {
+    let text = str::from_utf8(text).unwrap_or("no text\n");
+    print!(rt; "\n{title}:\n{text}")
+}
+
+/// Whether a worked session writes this in pieces of 1 and of 7 bytes.
+fn is_alike<T: AllocGlobal + Threads + Wait + Sync>(
     rt: &T,
-    failing: Option<(u16, Way)>,
-    input: &str,
+    row: &Row,
+    whole: &[u8],
+) -> Result<bool, Fail> {
+    for piece in [1, 7] {
+        if written_of(rt, row, piece)?.as_slice() != whole {
+            return Ok(false);
+        }
+    }
+    Ok(true)
+}
+
+/// What a worked session on the sample writes, which is to end well, in pieces of this size.
+fn written_of<T: AllocGlobal + Threads + Wait + Sync>(
+    rt: &T,
+    row: &Row,
     piece: usize,
 ) -> Result<Vec<u8>, Fail> {
-    let alloc = rt.alloc();
-    let gate = gate_of(alloc, failing)?;
-    let mut session = Session::new(alloc, sample(alloc)?)?;
-    let mut taken = Vec::new(alloc);
-    let mut reader = Noted::new(Source::new(input.as_bytes(), piece, EVER));
-    let mut writer = Noted::new(Sink::new(&mut taken, piece, EVER));
-    serve(rt, alloc, &mut reader, &mut writer, &mut session, &gate, 4)?;
-    Ok(taken)
+    let (_, failing, input) = row;
+    let db = sample(rt.alloc())?;
+    let mut taken = Vec::new(rt.alloc());
+    let reader = Source::new(input.as_bytes(), piece, EVER);
+    let writer = Sink::new(&mut taken, piece, EVER);
+    let (end, _, _) = served(rt, db, *failing, reader, writer, 4)?;
+    match end {
+        Ok(()) => Ok(taken),
+        Err(fault) => Err(Fail::from(fault)),
+    }
 }
 
-/// A short session with this reader, a writer that takes pieces and fails after some calls, and so many workers.
+/// Shows a short session with this reader, a writer that takes pieces and fails after some calls, and so many workers.
 fn show_short<T: Print + AllocGlobal + Threads + Wait + Sync, R: Read + Drop>(
     rt: &T,
     what: &str,
     reader: R,
-    piece: usize,
-    good: usize,
+    (piece, good): (usize, usize),
     workers: u8,
 ) -> Result<(), Fail> {
-    let alloc = rt.alloc();
-    let gate = gate_of(alloc, None)?;
-    let mut session = Session::new(alloc, sample(alloc)?)?;
-    let mut taken = Vec::new(alloc);
-    let mut reader = Noted::new(reader);
-    let mut writer = Noted::new(Sink::new(&mut taken, piece, good));
-    let end = serve(
-        rt,
-        alloc,
-        &mut reader,
-        &mut writer,
-        &mut session,
-        &gate,
-        workers,
-    );
-    let failed = (reader.failed(), writer.failed());
-    let text = str::from_utf8(&taken).unwrap_or("no text");
-    println!(rt; "{what}: {end:?} {failed:?} {text:?}")?;
+    let db = sample(rt.alloc())?;
+    let mut taken = Vec::new(rt.alloc());
+    let writer = Sink::new(&mut taken, piece, good);
+    let end = served(rt, db, None, reader, writer, workers)?;
+    Ok(show_end(rt, what, end, &taken)?)
+}
+
+/// How a session ended, which devices have failed, and what was written.
+fn show_end(rt: &impl Print, what: &str, end: Ended, taken: &[u8]) -> io::Result<()> {
+    let (end, failed, _) = end;
+    let text = str::from_utf8(taken).unwrap_or("no text");
+    println!(rt; "{what}: {end:?} {failed:?} {text:?}")
+}
+
+/// Short sessions over devices that fail.
+fn show_cases<T: Print + AllocGlobal + Threads + Wait + Sync>(
+    rt: &T,
+    cases: &[Case],
+) -> Result<(), Fail> {
+    for (what, (piece, good), writes, workers) in cases {
+        let reader = Source::new(SHORT.as_bytes(), *piece, *good);
+        show_short(rt, what, reader, *writes, *workers)?;
+    }
     Ok(())
 }
 
@@ -118,68 +129,52 @@ fn show_faults<T: Print + AllocGlobal + Threads + Wait + Sync>(rt: &T) -> Result
     println!(rt;
         "\nhow it ended, whether the reader and the writer have failed, what was written:"
     )?;
-    for good in 0..5 {
-        let reader = Source::new(SHORT.as_bytes(), 7, good);
-        let what = format!(in rt.alloc(); "{good} reads")?;
-        show_short(rt, what.as_str(), reader, ALL, EVER, 1)?;
-    }
-    show_short(rt, "interrupted reads", Interrupted, ALL, EVER, 1)?;
-    for good in 0..5 {
-        let reader = Source::new(SHORT.as_bytes(), ALL, EVER);
-        let what = format!(in rt.alloc(); "{good} writes")?;
-        show_short(rt, what.as_str(), reader, ALL, good, 1)?;
-    }
-    let reader = Source::new(SHORT.as_bytes(), ALL, EVER);
-    show_short(rt, "a writer that takes nothing", reader, 0, EVER, 1)
+    show_cases(rt, &READS)?;
+    show_short(rt, "interrupted reads", Interrupted, (ALL, EVER), 1)?;
+    show_cases(rt, &WRITES)
 }
 
 /// Lines and inputs at their bounds.
 fn show_bounds<T: Print + AllocGlobal + Threads + Wait + Sync>(rt: &T) -> Result<(), Fail> {
-    let alloc = rt.alloc();
-    for bytes in [65_536, 65_537] {
-        let text = long_line(alloc, bytes)?;
-        let reader = Source::new(text.as_bytes(), ALL, EVER);
-        let what = format!(in alloc; "a line of {bytes} bytes")?;
-        show_short(rt, what.as_str(), reader, ALL, EVER, 1)?;
-    }
+    show_line(rt, "a line of 65536 bytes", 65_536)?;
+    show_line(rt, "a line of 65537 bytes", 65_537)?;
     let mut given = 0;
-    show_short(
-        rt,
-        "an input without end",
-        Endless::new(&mut given),
-        ALL,
-        EVER,
-        1,
-    )?;
+    let endless = Endless::new(&mut given);
+    show_short(rt, "an input without end", endless, (ALL, EVER), 1)?;
     println!(rt; "{given} bytes of it were read")?;
     Ok(())
 }
 
-/// Numbers of workers at their bounds. A reader that fails at once tells by itself whether it was read.
-fn show_workers<T: Print + AllocGlobal + Threads + Wait + Sync>(rt: &T) -> Result<(), Fail> {
-    for workers in [0, 1, 64, 65] {
-        let reader = Source::new(SHORT.as_bytes(), ALL, 0);
-        let what = format!(in rt.alloc(); "{workers} workers")?;
-        show_short(rt, what.as_str(), reader, ALL, EVER, workers)?;
-    }
-    Ok(())
+/// A session with a line of so many bytes.
+fn show_line<T: Print + AllocGlobal + Threads + Wait + Sync>(
+    rt: &T,
+    what: &str,
+    bytes: usize,
+) -> Result<(), Fail> {
+    let text = long_line(rt.alloc(), bytes)?;
+    let reader = Source::new(text.as_bytes(), ALL, EVER);
+    show_short(rt, what, reader, (ALL, EVER), 1)
 }
 
 /// A session of many lines on many services, each of which adds a state.
 fn show_many<T: Print + AllocGlobal + Threads + Wait + Sync>(rt: &T) -> Result<(), Fail> {
-    let alloc = rt.alloc();
-    let gate = gate_of(alloc, None)?;
-    let mut session = Session::new(alloc, many_services(alloc)?)?;
-    let input = long_input(alloc, LINES)?;
-    let mut taken = Vec::new(alloc);
-    let mut reader = Noted::new(Source::new(input.as_bytes(), ALL, EVER));
-    let mut writer = Noted::new(Sink::new(&mut taken, ALL, EVER));
-    let end = serve(rt, alloc, &mut reader, &mut writer, &mut session, &gate, 4);
-    let done = taken
-        .split(|byte| *byte == b'\n')
+    let db = many_services(rt.alloc())?;
+    let input = long_input(rt.alloc(), LINES)?;
+    let mut taken = Vec::new(rt.alloc());
+    let reader = Source::new(input.as_bytes(), ALL, EVER);
+    let writer = Sink::new(&mut taken, ALL, EVER);
+    let end = served(rt, db, None, reader, writer, 4)?;
+    Ok(show_count(rt, end, count_done(&taken))?)
+}
+
+fn show_count(rt: &impl Print, end: Ended, done: usize) -> io::Result<()> {
+    let (end, _, states) = end;
+    println!(rt; "{LINES} lines: {end:?}, {done} of them done, {states} states")
+}
+
+/// How many lines tell that something is done.
+fn count_done(text: &[u8]) -> usize {
+    text.split(|byte| *byte == b'\n')
         .filter(|line| line.len() == 2)
-        .count();
-    let states = session.journal().states();
-    println!(rt; "{LINES} lines: {end:?}, {done} of them done, {states} states")?;
-    Ok(())
+        .count()
 }
