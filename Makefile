@@ -17,6 +17,7 @@ $(PROGRAM): $(SOURCES)
 demo: build
 	$(PROGRAM) compile $(SAMPLES)/source
 	$(PROGRAM) compile $(SAMPLES)/source | cat - $(SAMPLES)/up-root.txt | $(PROGRAM) plan -u web
+	$(PROGRAM) compile $(SAMPLES)/source | cat - $(SAMPLES)/session.txt | $(PROGRAM) session -x down:log
 
 test:
 	@sh tests/all.sh
