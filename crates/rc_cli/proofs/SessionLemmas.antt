@@ -15,7 +15,7 @@ use Rattle.rc_serve.specs.declared.fault.ServeFault.TheVariants.{Read, Write, To
 use Rattle.rc_cli.specs.Base.{Spells}
 use Rattle.rc_cli.specs.Session.{Reads, Runs, RunsAsked, RunsOn, Serving, first_session}
 use Rattle.rc_cli.specs.SessionAsked.{AsksSession, SessionAsk}
-use Rattle.rc_cli.specs.SessionFaults.{EndsBy, EndsOn, IsGateFailing, IsRefusal, IsSessionRefused, IsToldAs}
+use Rattle.rc_cli.specs.SessionFaults.{EndsBy, EndsOn, IsGateFailing, IsRefusal, IsSessionRefused, IsToldAs, IsUnserved}
 use Rattle.rc_cli.specs.declared.session_fault.SessionFault.{SessionFault}
 use Rattle.rc_cli.specs.declared.session_fault.SessionFault.TheVariants.{OfText, Unknown, Failed}
 
@@ -47,7 +47,7 @@ gate_ends (gate.Unknown word) told d ask names listed input written reader write
     let first : IsFirstUnknown d.names ask.failing word.now =
     subst (λ (ns : List (List ℕ)). IsFirstUnknown ns ask.failing word.now) same (subst (λ (ls : List Listed). IsFirstUnknown names ls word.now) all wrong) in
     subst (λ (f : SessionFault). EndsOn f d ask input input written written reader writer) (sym is) (first, refl, refl)
-gate_ends gate.Memory told d ask names listed input written reader writer is same all wrong = subst (λ (f : SessionFault). EndsOn f d ask input input written written reader writer) (sym is) (tt, inl refl)
+gate_ends gate.Memory told d ask names listed input written reader writer is same all wrong = subst (λ (f : SessionFault). EndsOn f d ask input input written written reader writer) (sym is) (tt, inl (refl, refl))
 
 -- the names of the gate are those of the database
 gate_found : (d : Database) (ask : SessionAsk) (names : List (List ℕ)) (listed : List Listed) (table : List (ℕ × Way)) → names ≡ d.names → listed ≡ ask.failing → AreFound names listed table → AreFound d.names ask.failing table
@@ -81,7 +81,7 @@ ends_on_input (OfText fault) all rest d ask remaining after left written gained 
 ends_on_input (Unknown word) all rest d ask remaining after left written gained reader writer reads spelled end = ((all, reads, (d, rest, spelled, end.0)), end.2)
 ends_on_input (Failed fault) all rest d ask remaining after left written gained reader writer reads spelled end = (
   fault_wider fault reader writer (Unit {0}) writer (λ _. tt) (λ w. w) end.0,
-  elim end.1 [ inl same ↦ inl same | inr run ↦ inr (runs_on_input (ServesFront fault) all rest d ask remaining after left written gained reads spelled run) ],
+  elim end.1 [ inl same ↦ inl (subst (λ (f : ServeFault). IsUnserved f None remaining) (sym same.0) tt, same.1) | inr run ↦ inr (runs_on_input (ServesFront fault) all rest d ask remaining after left written gained reads spelled run) ],
 )
 
 -- what holds where a refusal is told
@@ -95,14 +95,14 @@ refusal_holds (Failed fault) base ask remaining after written gained reader writ
 -- what holds where a failure is told
 pub failure_holds : (fault : SessionFault) (told : ServeFault) (base : Option (List ℕ)) (ask : SessionAsk) (remaining after written gained : Option (List ℕ)) (reader writer : Type 0)
     → IsToldAs fault told → EndsBy fault base ask remaining after written gained reader writer
-    → IsServeFault reader writer (Unit {0}) told × ((gained ≡ written) ⊎ Runs (ServesFront told) base ask remaining after written gained)
-failure_holds (OfText fault) told base ask remaining after written gained reader writer is end = (subst (IsServeFault reader writer (Unit {0})) (sym is) tt, inl end.1)
-failure_holds (Unknown word) told base ask remaining after written gained reader writer is end = (subst (IsServeFault reader writer (Unit {0})) (sym is) tt, inl end.1)
+    → IsServeFault reader writer (Unit {0}) told × ((IsUnserved told base remaining × (gained ≡ written)) ⊎ Runs (ServesFront told) base ask remaining after written gained)
+failure_holds (OfText fault) told base ask remaining after written gained reader writer is end = (subst (IsServeFault reader writer (Unit {0})) (sym is) tt, inl (subst (λ (f : ServeFault). IsUnserved f base remaining) (sym is) tt, end.1))
+failure_holds (Unknown word) told base ask remaining after written gained reader writer is end = (subst (IsServeFault reader writer (Unit {0})) (sym is) tt, inl (subst (λ (f : ServeFault). IsUnserved f base remaining) (sym is) tt, end.1))
 failure_holds (Failed fault) told base ask remaining after written gained reader writer is end =
-    subst (λ (f : ServeFault). IsServeFault reader writer (Unit {0}) f × ((gained ≡ written) ⊎ Runs (ServesFront f) base ask remaining after written gained)) (sym is) end
+    subst (λ (f : ServeFault). IsServeFault reader writer (Unit {0}) f × ((IsUnserved f base remaining × (gained ≡ written)) ⊎ Runs (ServesFront f) base ask remaining after written gained)) (sym is) end
 
--- a front of the answers was written for what the words ask
+-- a session was served for what the words ask, or not at all
 pub front_asked : (told : ServeFault) (words : List Text) (base : Option (List ℕ)) (ask : SessionAsk) (remaining after written gained : Option (List ℕ))
-    → AsksSession words ask → (gained ≡ written) ⊎ Runs (ServesFront told) base ask remaining after written gained
-    → (gained ≡ written) ⊎ RunsAsked (ServesFront told) words base remaining after written gained
+    → AsksSession words ask → (IsUnserved told base remaining × (gained ≡ written)) ⊎ Runs (ServesFront told) base ask remaining after written gained
+    → (IsUnserved told base remaining × (gained ≡ written)) ⊎ RunsAsked (ServesFront told) words base remaining after written gained
 front_asked told words base ask remaining after written gained asked front = elim front [ inl same ↦ inl same | inr run ↦ inr (ask, asked, run) ]

@@ -1,5 +1,5 @@
 -- When `session` refuses or fails, and how it tells that.
-use Rattle.std.specs.Prelude.{◌≡◌, ◌≢◌, ◌⊎◌, ◌++◌, ℕ, List, Option, codes}
+use Rattle.std.specs.Prelude.{◌≡◌, ◌≢◌, ◌⊎◌, ◌++◌, ℕ, List, Option, codes, ◌<◌, None, IfSome, length}
 use Rattle.clap.specs.Words.{Text}
 use Rattle.rc_db.specs.Database.{Database}
 use Rattle.rc_dbtext.specs.declared.fault.TextFault.{TextFault}
@@ -11,6 +11,8 @@ use Rattle.rc_serve.specs.Faults.{IsServeFault}
 use Rattle.rc_serve.specs.Serving.{ServesFront}
 use Rattle.rc_serve.specs.declared.fault.ServeFault.{ServeFault}
 use Rattle.rc_serve.specs.declared.fault.ServeFault.TheVariants.{Read, Write, TooLong, Memory, NoThread, Strange, Workers}
+use Rattle.rc_streams.specs.declared.input.Failure.{Failure}
+use Rattle.rc_streams.specs.declared.input.Failure.TheVariants as failures
 use Rattle.rc_streams.specs.Input.{AppendsFront, fault_line}
 use Rattle.rc_cli.specs.Base.{IsTextFault, Spells}
 use Rattle.rc_cli.specs.DbFaults.{text_word}
@@ -31,17 +33,34 @@ IsSessionRefused (OfText fault) ask base input = (fault ≢ text.Memory) × IsTe
 IsSessionRefused (Unknown word) ask base input = (d : Database) × (rest : List ℕ) × Spells base input d rest × IsFirstUnknown d.names ask.failing word.now
 IsSessionRefused (Failed fault) ask base input = ⊥
 
--- how a session on a database ends before its input: refused with nothing read and nothing written, or by a fault of serving, with a front of its input served or nothing written
+-- a failure to read the whole input, as a fault of serving
+abbrev pub reading_fault : Failure → ServeFault
+reading_fault failures.TooLong = TooLong
+reading_fault failures.Memory = Memory
+reading_fault failures.Read = Read
+reading_fault failures.Write = Read
+
+-- why a session was not served: want of memory, or without a base that the whole input could not be read, which is too long only above its bound
+abbrev pub IsUnserved : ServeFault → Option (List ℕ) → Option (List ℕ) → Type 0
+IsUnserved Memory base remaining = Unit {0}
+IsUnserved Read base remaining = base ≡ None
+IsUnserved TooLong base remaining = (base ≡ None) × IfSome remaining (λ all. 16777216 < length all)
+IsUnserved Write base remaining = ⊥
+IsUnserved NoThread base remaining = ⊥
+IsUnserved Strange base remaining = ⊥
+IsUnserved Workers base remaining = ⊥
+
+-- how a session on a database ends before its input: refused with nothing read and nothing written, or by a fault of serving with a front of its input served, or for want of memory with nothing written
 abbrev pub EndsOn : SessionFault → Database → SessionAsk → (input left written gained : Option (List ℕ)) → (reader writer : Type 0) → Type 0
 EndsOn (OfText fault) d ask input left written gained reader writer = ⊥
 EndsOn (Unknown word) d ask input left written gained reader writer = IsFirstUnknown d.names ask.failing word.now × (left ≡ input) × (gained ≡ written)
-EndsOn (Failed fault) d ask input left written gained reader writer = IsServeFault reader writer (Unit {0}) fault × ((gained ≡ written) ⊎ RunsOn (ServesFront fault) d ask input left written gained)
+EndsOn (Failed fault) d ask input left written gained reader writer = IsServeFault reader writer (Unit {0}) fault × (((fault ≡ Memory) × (gained ≡ written)) ⊎ RunsOn (ServesFront fault) d ask input left written gained)
 
 -- the same of a session whose database is looked for first
 abbrev pub EndsBy : SessionFault → Option (List ℕ) → SessionAsk → (remaining after written gained : Option (List ℕ)) → (reader writer : Type 0) → Type 0
 EndsBy (OfText fault) base ask remaining after written gained reader writer = ((input : List ℕ) × Reads base remaining after input × IsSessionRefused (OfText fault) ask base input) × (gained ≡ written)
 EndsBy (Unknown word) base ask remaining after written gained reader writer = ((input : List ℕ) × Reads base remaining after input × IsSessionRefused (Unknown word) ask base input) × (gained ≡ written)
-EndsBy (Failed fault) base ask remaining after written gained reader writer = IsServeFault reader writer (Unit {0}) fault × ((gained ≡ written) ⊎ Runs (ServesFront fault) base ask remaining after written gained)
+EndsBy (Failed fault) base ask remaining after written gained reader writer = IsServeFault reader writer (Unit {0}) fault × ((IsUnserved fault base remaining × (gained ≡ written)) ⊎ Runs (ServesFront fault) base ask remaining after written gained)
 
 -- a fault of the database text, as one of the session
 abbrev pub IsTextFailing : TextFault → SessionFault → Type 0
@@ -80,7 +99,7 @@ abbrev pub TellsRefusal : List Text → Option (List ℕ) → (remaining after o
 TellsRefusal words base remaining after old new = (ask : SessionAsk) × (fault : SessionFault) × AsksSession words ask
     × ((input : List ℕ) × Reads base remaining after input × IsSessionRefused fault ask base input) × AppendsFront old new (fault_line (session_fault_text fault))
 
--- a fault of serving comes, and a writer gains a front of the line that tells it; what was answered is nothing, or what serving comes to before that fault
+-- a fault of serving comes, and a writer gains a front of the line that tells it; nothing was served and nothing written, or what serving comes to before that fault
 abbrev pub TellsServeFault : List Text → Option (List ℕ) → (remaining after written gained : Option (List ℕ)) → (reader writer : Type 0) → (old new : Option (List ℕ)) → Type 0
 TellsServeFault words base remaining after written gained reader writer old new = (fault : ServeFault) × IsServeFault reader writer (Unit {0}) fault
-    × AppendsFront old new (fault_line (serve_word fault)) × ((gained ≡ written) ⊎ RunsAsked (ServesFront fault) words base remaining after written gained)
+    × AppendsFront old new (fault_line (serve_word fault)) × ((IsUnserved fault base remaining × (gained ≡ written)) ⊎ RunsAsked (ServesFront fault) words base remaining after written gained)

@@ -2,13 +2,12 @@
 ghost use Rattle.std.specs.Prelude.{◌≡◌, ◌⊎◌, ◌+◌, ℕ, List, [], None, Some, map, string_bytes, IfErr, OnOk, MatchResult};
 ghost use Rattle.rc_board.specs.Crew.{IsCrew};
 ghost use Rattle.rc_noted.specs.Noting.{HasFailed, inner_of};
-ghost use Rattle.rc_serve.specs.Faults.{IsServeFault};
 ghost use Rattle.rc_serve.specs.Serving.{ServesAll, ServesFront};
 ghost use Rattle.rc_streams.specs.Input.{ConsumesAtMost};
 ghost use Rattle.rc_cli.specs.Base.{bytes_of};
 ghost use Rattle.rc_cli.specs.Session.{Runs, RunsAsked, RunsOn};
 ghost use Rattle.rc_cli.specs.SessionAsked.{AsksNoSession, session_ask_of};
-ghost use Rattle.rc_cli.specs.SessionFaults.{EndsBy, EndsOn, TellsRefusal, TellsServeFault};
+ghost use Rattle.rc_cli.specs.SessionFaults.{EndsBy, EndsOn, TellsRefusal, TellsServeFault, reading_fault};
 
 use crate::asked::tell_words;
 use crate::base::database_of;
@@ -59,7 +58,7 @@ pub fn session_run<T: Threads + Wait + Sync, R: Read, W: Write, F: Write>(
     ensures unread { result ≡ 100 → R.remaining (inner_of reader.new) ≡ R.remaining (inner_of reader.old) }
     ensures unwritten { (result ≡ 1) ⊎ (result ≡ 100) → W.contents (inner_of writer.new) ≡ W.contents (inner_of writer.old) }
 
-    // A failure is told by its line, and what was written is nothing, or a front of the answers of the lines that were met before it.
+    // A failure is told by its line. The session was served up to that very fault, or not at all, and then nothing was written.
     ensures failed { result ≡ 111 → TellsServeFault (map string_bytes words.now) (bytes_of base.entry)
         (R.remaining (inner_of reader.old)) (R.remaining (inner_of reader.new)) (W.contents (inner_of writer.old)) (W.contents (inner_of writer.new))
         (HasFailed reader.new ⊎ (bytes_of base.entry ≡ None)) (HasFailed writer.new) (F.contents faults.old) (F.contents faults.new) }
@@ -150,7 +149,7 @@ fn run_on_input<'a, T: Threads + Wait + Sync, R: Read, W: Write>(
 
 // Why the input was not read whole, as a fault of serving. A read fails as none but a read does.
 fn reading_fault(failure: Failure) -> ServeFault
-    ensures { IsServeFault (Unit {0}) ⊥ (Unit {0}) result }
+    ensures { result ≡ reading_fault failure }
 {
     match failure {
         Failure::TooLong => ServeFault::TooLong,

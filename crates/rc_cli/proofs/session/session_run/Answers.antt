@@ -10,7 +10,7 @@ pub returns-in-Err-clause-wrong : goal.returns-in-Err-clause-wrong
 returns-in-Err-clause-wrong g c told = c.in-Err.ensures.wrong (c.tell_words.ensures.wrong told)
 
 pub returns-in-Err-clause-failed : goal.returns-in-Err-clause-failed
-returns-in-Err-clause-failed g c told = (Memory, tt, c.tell_words.ensures.failed told, inl refl)
+returns-in-Err-clause-failed g c told = (Memory, tt, c.tell_words.ensures.failed told, inl (tt, refl))
 
 pub returns-clause-refused : goal.returns-clause-refused
 returns-clause-refused g c told =
