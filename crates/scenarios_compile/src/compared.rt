@@ -1,15 +1,21 @@
 //! What is read back of the text of a database.
+use crate::compiled::{read_text, text_of};
 use rc_db::{Db, Service};
-use rc_dbtext::{read_db, write_db};
 use rc_names::NoMem;
 use std::alloc::Global;
 
 /// Whether a text is read as the database that it was written of, and written as the same bytes again.
 pub(crate) fn is_read_back(alloc: Global, db: &Db, text: &[u8]) -> Result<bool, NoMem> {
-    match read_db(alloc, text) {
-        Ok(read) => Ok(write_db(alloc, &read)?.as_slice() == text && is_same(db, &read)),
-        Err(_) => Ok(false),
+    match read_text(alloc, text) {
+        Some(read) => Ok(is_written_as(alloc, &read, text)? && is_same(db, &read)),
+        None => Ok(false),
     }
+}
+
+/// Whether the text of a database is these bytes.
+fn is_written_as(alloc: Global, db: &Db, text: &[u8]) -> Result<bool, NoMem> {
+    let again = text_of(alloc, db)?;
+    Ok(again.as_slice() == text)
 }
 
 /// Whether two databases have the same services, needs and bundles.

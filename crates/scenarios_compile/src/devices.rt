@@ -1,6 +1,6 @@
 //! The command over a tree, a writer and a teller that fail.
+use crate::compiled::status_of;
 use crate::device::Sink;
-use rc_cli::compile_run;
 use rc_source::Tree;
 use samples_trees::{FailingTree, sample, tree_of};
 use std::io;
@@ -32,12 +32,15 @@ pub(crate) fn show_devices(rt: &(impl Print + AllocGlobal)) -> io::Result<()> {
     println!(rt; "\nthe sample on devices that fail:")?;
     for calls in 0..SAMPLE_CALLS + 1 {
         print!(rt; "after {calls} calls: ")?;
-        let mut trees = [FailingTree::new(sample(rt.alloc())?, calls)];
-        let writer = Sink::new(rt.alloc(), EVER, EVER);
-        let faults = Sink::new(rt.alloc(), EVER, EVER);
-        show_run(rt, &mut trees, writer, faults)?;
+        show_device(rt, calls)?;
     }
     Ok(())
+}
+
+fn show_device(rt: &(impl Print + AllocGlobal), calls: usize) -> io::Result<()> {
+    let tree = sample(rt.alloc())?;
+    let mut trees = [FailingTree::new(tree, calls)];
+    show_run(rt, &mut trees, (EVER, EVER), (EVER, EVER))
 }
 
 /// The sample over each writer.
@@ -45,12 +48,14 @@ pub(crate) fn show_writers(rt: &(impl Print + AllocGlobal)) -> io::Result<()> {
     println!(rt; "\nthe sample over writers that fail:")?;
     for (what, piece, good) in WRITERS {
         print!(rt; "{what}: ")?;
-        let mut trees = [sample(rt.alloc())?];
-        let writer = Sink::new(rt.alloc(), piece, good);
-        let faults = Sink::new(rt.alloc(), EVER, EVER);
-        show_run(rt, &mut trees, writer, faults)?;
+        show_writer(rt, piece, good)?;
     }
     Ok(())
+}
+
+fn show_writer(rt: &(impl Print + AllocGlobal), piece: usize, good: usize) -> io::Result<()> {
+    let mut trees = [sample(rt.alloc())?];
+    show_run(rt, &mut trees, (piece, good), (EVER, EVER))
 }
 
 /// An entry without a type, which can't be told.
@@ -58,21 +63,35 @@ pub(crate) fn show_tellers(rt: &(impl Print + AllocGlobal)) -> io::Result<()> {
     println!(rt; "\na refusal over writers of faults that fail:")?;
     for (what, piece, good) in TELLERS {
         print!(rt; "{what}: ")?;
-        let mut trees = [tree_of(rt.alloc(), &[("a", "up", b"up")])?];
-        let writer = Sink::new(rt.alloc(), EVER, EVER);
-        let faults = Sink::new(rt.alloc(), piece, good);
-        show_run(rt, &mut trees, writer, faults)?;
+        show_teller(rt, piece, good)?;
     }
     Ok(())
 }
 
-/// One run, in a line.
+fn show_teller(rt: &(impl Print + AllocGlobal), piece: usize, good: usize) -> io::Result<()> {
+    let mut trees = [tree_of(rt.alloc(), &[("a", "up", b"up")])?];
+    show_run(rt, &mut trees, (EVER, EVER), (piece, good))
+}
+
+/// One run over a writer and a teller, each of so many bytes a write and so many good calls.
 fn show_run<T: Tree>(
     rt: &(impl Print + AllocGlobal),
     trees: &mut [T],
-    mut writer: Sink,
-    mut faults: Sink,
+    writer: (usize, usize),
+    teller: (usize, usize),
 ) -> io::Result<()> {
-    let status = compile_run(rt.alloc(), trees, &mut writer, &mut faults);
+    let mut writer = Sink::new(rt.alloc(), writer.0, writer.1);
+    let mut faults = Sink::new(rt.alloc(), teller.0, teller.1);
+    let status = status_of(rt.alloc(), trees, &mut writer, &mut faults);
+    show_ended(rt, status, &writer, &faults)
+}
+
+/// How a run ended, in a line.
+fn show_ended(
+    rt: &(impl Print + AllocGlobal),
+    status: u8,
+    writer: &Sink,
+    faults: &Sink,
+) -> io::Result<()> {
     println!(rt; "{status} {:?} {:?}", writer.text(), faults.text())
 }

@@ -1,16 +1,10 @@
 //! Trees of the greatest sizes that are compiled, and of one more.
-ghost use Rattle.std.specs.Prelude.{◌≡◌, map};
-ghost use Rattle.rc_source.specs.Meaning.{AreMeanings};
-ghost use Rattle.rc_source.specs.Said.{meaning_of};
-ghost use Rattle.rc_db.specs.Database.{IsWritable};
-
 use crate::compared::is_read_back;
-use crate::shown::show_fault;
-use rc_compile::compile;
+use crate::compiled::{compiled, text_of};
+use crate::shown::show_refusal;
 use rc_db::Db;
-use rc_dbtext::write_db;
 use rc_names::NoMem;
-use rc_source::{Definition, MemoryTree, read_all};
+use rc_source::MemoryTree;
 use samples_trees::{File, tree_of};
 use std::alloc::Global;
 use std::io;
@@ -61,54 +55,66 @@ pub(crate) fn show_sizes(rt: &(impl Print + AllocGlobal)) -> io::Result<()> {
     println!(rt; "")?;
     for size in SIZES {
         print!(rt; "a text of {size} bytes: ")?;
-        show_trees(rt, &mut [long_text(rt.alloc(), size)?])?;
+        show_size(rt, size)?;
     }
     Ok(())
+}
+
+fn show_size(rt: &(impl Print + AllocGlobal), size: usize) -> io::Result<()> {
+    let mut trees = [long_text(rt.alloc(), size)?];
+    show_trees(rt, &mut trees)
 }
 
 /// So many services, each needing the one before.
 pub(crate) fn show_services(rt: &(impl Print + AllocGlobal)) -> io::Result<()> {
     for count in SERVICES {
         print!(rt; "{count} services, each needing the one before: ")?;
-        let mut trees = parts(rt.alloc(), Entry::Link, count)?;
-        show_trees(rt, &mut trees)?;
+        show_links(rt, count)?;
     }
     Ok(())
+}
+
+fn show_links(rt: &(impl Print + AllocGlobal), count: u32) -> io::Result<()> {
+    let mut trees = parts(rt.alloc(), Entry::Link, count)?;
+    show_trees(rt, &mut trees)
 }
 
 /// So many bundles, and more.
 pub(crate) fn show_bundles(rt: &(impl Print + AllocGlobal)) -> io::Result<()> {
     for (what, count, files) in &BUNDLES {
         print!(rt; "{what}: ")?;
-        let mut trees = parts(rt.alloc(), Entry::Bundle, *count)?;
-        trees.push(tree_of(rt.alloc(), files)?)?;
-        show_trees(rt, &mut trees)?;
+        show_more(rt, *count, files)?;
     }
     Ok(())
 }
 
+fn show_more(rt: &(impl Print + AllocGlobal), count: u32, files: &[File<'_>]) -> io::Result<()> {
+    let mut trees = bundles(rt.alloc(), count, files)?;
+    show_trees(rt, &mut trees)
+}
+
+/// So many bundles, and more files.
+fn bundles(alloc: Global, count: u32, files: &[File<'_>]) -> Result<Vec<MemoryTree>, NoMem> {
+    let mut trees = parts(alloc, Entry::Bundle, count)?;
+    trees.push(tree_of(alloc, files)?)?;
+    Ok(trees)
+}
+
 /// What comes of trees, in a line.
 fn show_trees(rt: &(impl Print + AllocGlobal), trees: &mut [MemoryTree]) -> io::Result<()> {
-    match read_all(rt.alloc(), trees) {
-        Ok(definitions) => show_definitions(rt, &definitions),
-        Err(fault) => println!(rt; "{fault}"),
-    }
-}
-
-fn show_definitions(rt: &(impl Print + AllocGlobal), definitions: &[Definition]) -> io::Result<()>
-    requires { AreMeanings (map meaning_of definitions.now) }
-{
-    match compile(rt.alloc(), definitions) {
+    match compiled(rt.alloc(), trees) {
         Ok(db) => show_counts(rt, &db),
-        Err(fault) => show_fault(rt, &fault),
+        Err(refusal) => show_refusal(rt, &refusal),
     }
 }
 
-fn show_counts(rt: &(impl Print + AllocGlobal), db: &Db) -> io::Result<()>
-    requires { IsWritable db.now }
-{
-    let text = write_db(rt.alloc(), db)?;
-    let is_same = is_read_back(rt.alloc(), db, &text)?;
+fn show_counts(rt: &(impl Print + AllocGlobal), db: &Db) -> io::Result<()> {
+    let text = text_of(rt.alloc(), db)?;
+    show_text(rt, db, &text)
+}
+
+fn show_text(rt: &(impl Print + AllocGlobal), db: &Db, text: &[u8]) -> io::Result<()> {
+    let is_same = is_read_back(rt.alloc(), db, text)?;
     let services = db.names().len();
     let bundles = db.table().len();
     let bytes = text.len();

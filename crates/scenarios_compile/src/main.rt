@@ -4,6 +4,7 @@
 
 mod bundles;
 mod compared;
+mod compiled;
 mod device;
 mod devices;
 mod files;
@@ -21,6 +22,7 @@ use crate::files::FILES;
 use crate::large::{show_bundles, show_services, show_sizes};
 use crate::orders::ORDERS;
 use crate::pipes::PIPES;
+use crate::rows::Row;
 use crate::shown::{show_pairs, show_rows, show_sample};
 use crate::worked::WORKED;
 use std::io;
@@ -34,12 +36,16 @@ fn main(rt: HostRuntime) -> io::Result<()> {
 /// Trees of a few entries.
 fn show_small(rt: &(impl Print + AllocGlobal)) -> io::Result<()> {
     show_sample(rt)?;
-    show_rows(rt, &WORKED)?;
-    show_rows(rt, &BUNDLES)?;
-    show_rows(rt, &PIPES)?;
-    show_rows(rt, &ORDERS)?;
-    show_rows(rt, &FILES)?;
+    show_tables(rt)?;
     show_pairs(rt)
+}
+
+fn show_tables(rt: &(impl Print + AllocGlobal)) -> io::Result<()> {
+    let tables: [&[Row]; 5] = [&WORKED, &BUNDLES, &PIPES, &ORDERS, &FILES];
+    for rows in tables {
+        show_rows(rt, rows)?;
+    }
+    Ok(())
 }
 
 /// Trees of the greatest sizes.

@@ -1,13 +1,13 @@
 //! Trees that are no rows of one table.
 use rc_names::NoMem;
 use rc_source::MemoryTree;
-use samples_trees::{File, sample};
+use samples_trees::{File, add_files, sample};
 use std::alloc::Global;
 
 /// The sample with a name of its pipeline.
 pub(crate) fn sample_with_name(alloc: Global) -> Result<MemoryTree, NoMem> {
     let mut tree = sample(alloc)?;
-    tree.put("log", "pipeline-name", b"weblog")?;
+    add_files(&mut tree, &[("log", "pipeline-name", b"weblog")])?;
     Ok(tree)
 }
 
