@@ -1,2 +1,4 @@
+pub mod ByteOrder
 pub mod Growth
+pub mod Members
 pub mod Table

@@ -1,10 +1,10 @@
-/// What a service is.
+/// What a name stands for.
 #[derive(Clone, Copy, PartialEq, Eq, Debug)]
 pub enum Kind {
     /// A program that runs once and ends.
     Oneshot,
     /// A daemon, which runs until it is stopped.
     Longrun,
-    /// A name for other services.
+    /// A set of services.
     Bundle,
 }

@@ -1,6 +1,7 @@
 ghost use Rattle.std.specs.Prelude.{◌≡◌, ◌↔◌, IfOk, IfErr, IsTrue};
 ghost use Rattle.rc_names.specs.Name.{HasNameBytes, IsName, IsWrongBy};
 
+use crate::NoMem;
 use std::alloc::Global;
 use std::marker::Model;
 use thiserror::Error;
@@ -74,6 +75,14 @@ impl Name {
         ensures name { IsName self.now }
     {
         self.text.as_str()
+    }
+
+    /// Another value of the same name.
+    pub fn copy(&self, alloc: Global) -> Result<Name, NoMem>
+        ensures { IfOk result (λ copy. copy ≡ self.now) }
+    {
+        let text = String::from_str(alloc, self.text.as_str())?;
+        Ok(Name { text })
     }
 }
 

@@ -71,6 +71,19 @@ impl Names {
         Some(place as u16)
     }
 
+    /// The id of a name that is given as bytes. Bytes that are no text are no name.
+    pub fn find_bytes(&self, name: &[u8]) -> Option<u16>
+        ensures found { IfSome result (λ id. slice_get self.now id ≡ Some name.now) }
+        ensures missing { IfNone result (Contains self.now name.now → ⊥) }
+    {
+        // The length tells that all names are text.
+        let _len = self.len();
+        match str::from_utf8(name) {
+            Ok(text) => self.find(text),
+            Err(_) => None,
+        }
+    }
+
     /// The name with an id.
     pub fn name_of(&self, id: u16) -> &Name
         requires { id < length self.now }
