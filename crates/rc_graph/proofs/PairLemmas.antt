@@ -1,11 +1,12 @@
-use Rattle.std.proofs.Common.{◌≡◌, ◌∙◌, ℕ, ◌+◌, ◌<◌, ◌≤◌, ◌⊎◌, ◌↔◌, List, [], ◌∷◌, Contains, inl, inr, arith, sym, subst, slice_index_or, slice_set, length, length-set, zero, suc, Ok, Err, ◌-◌, Result, IsOk, OnOk, OnErr}
+use Rattle.std.proofs.Common.{◌≡◌, ◌∙◌, ℕ, ◌+◌, ◌<◌, ◌≤◌, ◌⊎◌, ◌↔◌, List, [], ◌∷◌, ◌++◌, Contains, inl, inr, arith, sym, subst, slice_index_or, slice_set, length, length-set, zero, suc, Ok, Err, ◌-◌, Result, IsOk, OnOk, OnErr}
 use Rattle.std.specs.List.{insert}
 use Rattle.std.specs.Global.{Vec}
 use Rattle.std.specs.List.Sorted.{IsBinarySearchResult}
 use Rattle.std.specs.Ordering.{nat_cmp}
 use Rattle.std.proofs.lemmas.Bool.{cases_order, cases_eq, cases_lt}
 use Rattle.std.proofs.lemmas.List.{get_or_default, map-set, set-get_or, get_or-set_same, get_or-set_other}
-use Rattle.std.proofs.lemmas.List.Elements.{Contains-append_cases, Contains-append_right}
+use Rattle.std.proofs.lemmas.List.Elements.{Contains-append_cases, Contains-append_left, Contains-append_right, Contains-get_or, Contains-push, Contains-push_cases}
+use Rattle.std.proofs.lemmas.List.Quantifiers.{all_pairs_push}
 use Rattle.std.proofs.lemmas.List.Edits.{length-insert, get_or-insert_below, get_or-insert_at, get_or-insert_above}
 use Rattle.std.proofs.lemmas.List.Sorted.{IsPermutation-insert, IsPermutation-sym, Contains-permutation, searched}
 use Rattle.rc_set.specs.Set.{IsAscending}
@@ -67,7 +68,8 @@ gap_lacks xs i y gap has = elim (cases_lt has.0 i) [
 pub no_member : (t : ℕ) → Contains [] t → ⊥
 no_member t (k, low, is) = absurd (omega arith)
 
-one_only : (y s : ℕ) → Contains (y ∷ []) s → s ≡ y
+-- and a list of one has that one
+pub one_only : (y s : ℕ) → Contains (y ∷ []) s → s ≡ y
 one_only y s (zero, low, is) = sym is
 one_only y s (suc k, low, is) = absurd (omega arith)
 
@@ -158,3 +160,18 @@ rows_again vectors from to d v r from_in again needs =
 -- each vector of the table is ascending
 pub row_ascending : (vectors : List (Vec ℕ)) (s : ℕ) (d : Vec ℕ) → s < length vectors → AreNeeds (rows vectors) → IsAscending (slice_index_or vectors s d).items
 row_ascending vectors s d h needs = rw (← row_at vectors s d h) (needs.ascending s)
+
+-- an id behind lower ones
+pub ascending_push : (xs : List ℕ) (y : ℕ) → IsAscending xs → ((s : ℕ) → Contains xs s → s < y) → IsAscending (xs ++ y ∷ [])
+ascending_push xs y up lower = all_pairs_push (λ a b. a < b) xs y up (λ k d h. lower (slice_index_or xs k d) (Contains-get_or xs k d h))
+
+-- what is in the list then
+pub contains_push : (xs : List ℕ) (y s : ℕ) → Contains (xs ++ y ∷ []) s ↔ (Contains xs s ⊎ (s ≡ y))
+contains_push xs y s = (
+  λ h. elim (Contains-push_cases xs y s h) [ inl old ↦ inl old | inr new ↦ inr (sym new) ],
+  λ h. elim h [ inl old ↦ Contains-append_left xs (y ∷ []) s old | inr new ↦ subst (Contains (xs ++ y ∷ [])) (sym new) (Contains-push xs y) ],
+)
+
+-- what is lower than the pairs of a table is lower than those of its vector
+pub row_lower : (vectors : List (Vec ℕ)) (s : ℕ) (d : Vec ℕ) (bound : ℕ) → s < length vectors → ((t : ℕ) → Needs (rows vectors) s t → t < bound) → (t : ℕ) → Contains (slice_index_or vectors s d).items t → t < bound
+row_lower vectors s d bound h lower t has = lower t (rw (row_at vectors s d h) has)

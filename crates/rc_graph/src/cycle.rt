@@ -1,5 +1,4 @@
 ghost use Rattle.std.specs.Prelude.{◌≡◌, ℕ, ◌<◌, ◌≤◌, List, [], ◌∷◌, ◌++◌, length, slice_index, IfOk, IfSome, IfNone, All, Contains};
-ghost use Rattle.rc_set.specs.Set.{Has, Holds};
 ghost use Rattle.rc_graph.specs.Needs.{Needs, AreNeeds, EachNeedsNext};
 ghost use Rattle.rc_graph.specs.Order.{AreDistinct};
 ghost use Rattle.rc_graph.specs.Cycle.{IsCycle, IsRing};
@@ -33,33 +32,36 @@ impl Cycle {
     }
 }
 
-/// A cycle among the services that are not placed, of which `start` is one.
+/// A cycle among the services that miss something, of which `start` is one.
 pub(crate) fn cycle_from(
     alloc: Global,
     needs: &[Vec<u16>],
-    placed: &Set,
+    missing: &[usize],
     start: u16,
 ) -> Result<Cycle, NoMem>
     requires lists { AreNeeds (rows needs.now) }
-    requires bound { length placed.now ≡ length needs.now }
-    requires stuck { IsStuck (rows needs.now) placed.now }
-    requires start { start < length needs.now }
-    requires left { Has placed.now start → ⊥ }
+    requires bound { length missing.now ≡ length needs.now }
+    requires stuck { IsStuck (rows needs.now) missing.now }
+    requires left { 0 < slice_index missing.now start }
     ensures { IfOk result (λ cycle. IsCycle (rows needs.now) cycle) }
 {
-    let ring = ring_from(alloc, needs, placed, start)?;
+    let ring = ring_from(alloc, needs, missing, start)?;
     Ok(Cycle {
         ids: least_first(alloc, needs, &ring)?,
     })
 }
 
 /// Services left that need each other in a ring: follows needs that are left until one comes again.
-fn ring_from(alloc: Global, needs: &[Vec<u16>], placed: &Set, start: u16) -> Result<Vec<u16>, NoMem>
+fn ring_from(
+    alloc: Global,
+    needs: &[Vec<u16>],
+    missing: &[usize],
+    start: u16,
+) -> Result<Vec<u16>, NoMem>
     requires lists { AreNeeds (rows needs.now) }
-    requires bound { length placed.now ≡ length needs.now }
-    requires stuck { IsStuck (rows needs.now) placed.now }
-    requires start { start < length needs.now }
-    requires left { Has placed.now start → ⊥ }
+    requires bound { length missing.now ≡ length needs.now }
+    requires stuck { IsStuck (rows needs.now) missing.now }
+    requires left { 0 < slice_index missing.now start }
     ensures { IfOk result (λ ring. IsRing (rows needs.now) ring.items) }
 {
     let mut seen = Set::empty(alloc, needs.len() as u16)?;
@@ -67,20 +69,20 @@ fn ring_from(alloc: Global, needs: &[Vec<u16>], placed: &Set, start: u16) -> Res
     let mut at = start;
     while seen.insert(at) {
         path.push(at)?;
-        at = left_need(needs[at as usize].as_slice(), placed);
+        at = left_need(needs[at as usize].as_slice(), missing);
     }
     from_first(alloc, &path, at)
 }
 
-/// The first of a list that is not placed.
-fn left_need(list: &[u16], placed: &Set) -> u16
-    requires known { All (λ t. t < length placed.now) list.now }
-    requires some { (t : ℕ) × Contains list.now t × (Has placed.now t → ⊥) }
+/// The first of a list that misses something.
+fn left_need(list: &[u16], missing: &[usize]) -> u16
+    requires known { All (λ t. t < length missing.now) list.now }
+    requires some { (t : ℕ) × Contains list.now t × (0 < slice_index missing.now t) }
     ensures listed { Contains list.now result }
-    ensures left { Has placed.now result → ⊥ }
+    ensures left { 0 < slice_index missing.now result }
 {
     for t in list {
-        if !placed.contains(*t) {
+        if missing[*t as usize] > 0 {
             return *t;
         }
     }

@@ -1,9 +1,7 @@
-ghost use Rattle.std.specs.Prelude.{◌≡◌, ℕ, ◌<◌, ◌≤◌, ◌⊎◌, ◌↔◌, List, [], length, replicate, IsOk, IfOk, IfErr, OnOk, OnErr};
+ghost use Rattle.std.specs.Prelude.{◌≡◌, ℕ, ◌<◌, ◌≤◌, ◌⊎◌, ◌↔◌, List, [], length, replicate, IsOk, IfOk, OnOk, OnErr};
 ghost use Rattle.rc_graph.specs.Needs.{Needs, AreNeeds, IsAcyclic};
-ghost use Rattle.rc_set.specs.Set.{Has};
 ghost use Rattle.rc_graph.specs.Cycle.{IsCycle};
-ghost use Rattle.rc_graph.specs.Order.{IsOrder};
-ghost use Rattle.rc_graph.specs.Placing.{IsStuck};
+ghost use Rattle.rc_graph.specs.Graph.{IsGraph};
 ghost use Rattle.rc_graph.specs.Rows.{rows};
 
 use crate::cycle::{Cycle, cycle_from};
@@ -11,8 +9,8 @@ use crate::graph::{Graph, Lists};
 use crate::order::{first_left, placing_of};
 use crate::pairs::{add_pair, no_pairs};
 use crate::reverse::reversed;
-use rc_set::{NoMem, Set};
-use std::alloc::Global;
+use rc_set::NoMem;
+use std::alloc::{AllocError, Global};
 use std::marker::Model;
 use std::sync::Arc;
 use thiserror::Error;
@@ -28,7 +26,21 @@ pub enum GraphFault {
     Memory,
 }
 
+impl From<AllocError> for GraphFault {
+    ghost use Rattle.std.specs.Prelude.{◌≡◌};
+    ghost use Rattle.rc_graph.specs.declared.draft.GraphFault.TheVariants.{Memory};
+
+    ghost from_gives = { λ _ fault. fault ≡ Memory };
+
+    fn from(_: AllocError) -> GraphFault {
+        GraphFault::Memory
+    }
+}
+
 /// Pairs of services, one needing the other, that are to become a graph.
+///
+/// Time: `len` takes one step, `new` grows with the services, `need` at most with what the service
+/// needs already, `finish` with the services and their pairs.
 #[derive(Debug, Drop)]
 pub struct Draft {
     alloc: Global,
@@ -86,50 +98,34 @@ impl Draft {
             IsCycle self cycle }
     {
         let alloc = self.alloc;
-        let placing = match placing_of(alloc, &self.needs) {
-            Ok(placing) => placing,
-            Err(_) => return Err(GraphFault::Memory),
-        };
-        match first_left(&placing.placed) {
-            None => graph_of(alloc, self.needs, placing.order),
-            Some(start) => Err(fault_from(alloc, &self.needs, &placing.placed, start)),
+        let needed_by = reversed(alloc, &self.needs)?;
+        let placing = placing_of(alloc, &self.needs, &needed_by)?;
+        match first_left(&placing.missing) {
+            None => Ok(graph_of(alloc, self.needs, needed_by, placing.order)?),
+            Some(start) => {
+                let cycle = cycle_from(alloc, &self.needs, &placing.missing, start)?;
+                Err(GraphFault::Cycle(cycle))
+            }
         }
     }
 }
 
 /// The graph, where every service is placed.
-fn graph_of(alloc: Global, needs: Vec<Vec<u16>>, order: Vec<u16>) -> Result<Graph, GraphFault>
-    requires lists { AreNeeds (rows needs.items) }
-    requires order { IsOrder (rows needs.items) order.items }
-    ensures graph { IfOk result (λ graph. graph ≡ rows needs.items) }
-    ensures err { IfErr result (λ fault. fault ≡ GraphFault.Memory) }
+fn graph_of(
+    alloc: Global,
+    needs: Vec<Vec<u16>>,
+    needed_by: Vec<Vec<u16>>,
+    order: Vec<u16>,
+) -> Result<Graph, NoMem>
+    requires { IsGraph (rows needs.items) (rows needed_by.items) order.items }
+    ensures { IfOk result (λ graph. graph ≡ rows needs.items) }
 {
-    let needed_by = match reversed(alloc, &needs) {
-        Ok(needed_by) => needed_by,
-        Err(_) => return Err(GraphFault::Memory),
-    };
     let lists = Lists {
         needs,
         needed_by,
         order,
     };
-    match Arc::new(alloc, lists) {
-        Ok(lists) => Ok(Graph { lists }),
-        Err(_) => Err(GraphFault::Memory),
-    }
-}
-
-/// A cycle among the services that are not placed, where there is room to show it.
-fn fault_from(alloc: Global, needs: &[Vec<u16>], placed: &Set, start: u16) -> GraphFault
-    requires lists { AreNeeds (rows needs.now) }
-    requires bound { length placed.now ≡ length needs.now }
-    requires stuck { IsStuck (rows needs.now) placed.now }
-    requires start { start < length needs.now }
-    requires left { Has placed.now start → ⊥ }
-    ensures { (cycle : List ℕ) → result ≡ GraphFault.Cycle cycle → IsCycle (rows needs.now) cycle }
-{
-    match cycle_from(alloc, needs, placed, start) {
-        Ok(cycle) => GraphFault::Cycle(cycle),
-        Err(_) => GraphFault::Memory,
-    }
+    Ok(Graph {
+        lists: Arc::new(alloc, lists)?,
+    })
 }

@@ -4,7 +4,7 @@ ghost use Rattle.rc_graph.specs.Needs.{Needs, AreNeeds, IsAcyclic};
 ghost use Rattle.rc_graph.specs.Closure.{IsClosed, UpFrom, DownFrom};
 ghost use Rattle.rc_graph.specs.Order.{IsOrder};
 
-use crate::closure::{closure_of, is_closed};
+use crate::closure::{down_closure, is_closed, up_closure};
 use rc_set::{NoMem, Set};
 use std::alloc::Global;
 use std::marker::Model;
@@ -13,8 +13,8 @@ use std::sync::Arc;
 /// Which service needs which, without cycles. Services are numbers from 0 on. A value is a handle:
 /// those that `share` makes of one another are one graph in memory, which goes with the last of them.
 ///
-/// Time: `share`, `needs`, `needed_by`, `order` and `len` take one step. `closed` grows with the pairs.
-/// `up_of` and `down_of` go over the pairs in rounds, at most one more than there are services.
+/// Time: `share`, `needs`, `needed_by`, `order` and `len` take one step. `closed`, `up_of` and `down_of`
+/// grow with the services and their pairs.
 #[derive(Debug, Drop)]
 pub struct Graph {
     pub(crate) lists: Arc<Lists, Global>,
@@ -86,7 +86,7 @@ impl Graph {
         self.lists.order.as_slice()
     }
 
-    /// Whether a set has all that its members need. Time grows with the pairs.
+    /// Whether a set has all that its members need.
     pub fn closed(&self, set: &Set) -> bool
         requires { length set.now ≡ length self.now }
         ensures { IsTrue result ↔ IsClosed self.now (Has set.now) }
@@ -100,7 +100,7 @@ impl Graph {
         ensures bound { IfOk result (λ closure. length closure ≡ length self.now) }
         ensures members { IfOk result (λ closure. Holds closure (UpFrom self.now (Has set.now))) }
     {
-        closure_of(alloc, set, &self.lists.needs)
+        up_closure(alloc, set, &self.lists)
     }
 
     /// A set with all that reach one of its members.
@@ -109,6 +109,6 @@ impl Graph {
         ensures bound { IfOk result (λ closure. length closure ≡ length self.now) }
         ensures members { IfOk result (λ closure. Holds closure (DownFrom self.now (Has set.now))) }
     {
-        closure_of(alloc, set, &self.lists.needed_by)
+        down_closure(alloc, set, &self.lists)
     }
 }

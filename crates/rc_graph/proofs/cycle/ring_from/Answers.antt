@@ -6,6 +6,7 @@ use Rattle.rc_set.proofs.Members.{has_or_lacks}
 use Rattle.rc_graph.specs.Rows.{rows}
 use Rattle.rc_graph.proofs.RowLemmas.{length-rows, row_is, row_known, row_needs}
 use Rattle.rc_graph.proofs.Counting.{fewer_left}
+use Rattle.rc_graph.proofs.Orders.{misses_within}
 use Rattle.rc_graph.proofs.Rings.{walk_begins, walk_goes_on, walk_closes}
 use Rattle.rc_graph.proofs.cycle.ring_from.Goals as goal
 
@@ -20,12 +21,12 @@ left_need-at-requires-clause-known c =
 pub loop-path-init : goal.loop-path-init
 loop-path-init c =
     let n : length (rows c.args.needs.now) ≡ length c.args.needs.now = length-rows c.args.needs.now in
-    rw c.new-path.ensures.items (walk_begins (rows c.args.needs.now) c.args.placed.now c.in_ok-seen.seen c.args.start (c.in_ok-seen.ensures.bound ∙ sym n) c.in_ok-seen.ensures.members (omega arith) c.requires.left)
+    rw c.new-path.ensures.items (walk_begins (rows c.args.needs.now) c.args.missing.now c.in_ok-seen.seen c.args.start (c.in_ok-seen.ensures.bound ∙ sym n) c.in_ok-seen.ensures.members (let low : c.args.start < length c.args.missing.now = misses_within c.args.missing.now c.args.start c.requires.left in omega (arith, c.requires.bound)) c.requires.left)
 
 pub left_need-at-requires-clause-some : goal.left_need-at-requires-clause-some
 left_need-at-requires-clause-some c =
     let e = row_is c.args.needs.now c.loop-path.at c.index-needs-at.result c.as_slice.result.now (in_table _ _ c.loop-path.invariant.known) c.index-needs-at.is c.as_slice.ensures.value in
-    let some = c.requires.stuck c.loop-path.at c.loop-path.invariant.known c.loop-path.invariant.left in
+    let some = c.requires.stuck c.loop-path.at c.loop-path.invariant.left in
     (some.0, (row_needs c.args.needs.now c.loop-path.at c.as_slice.result.now e some.0).0 some.1, some.2)
 
 pub from_first-requires : goal.from_first-requires

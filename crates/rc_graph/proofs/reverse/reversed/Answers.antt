@@ -1,5 +1,6 @@
-use Rattle.std.proofs.Common.{◌≡◌, ◌∙◌, length, arith, sym, ap}
+use Rattle.std.proofs.Common.{◌≡◌, ◌∙◌, length, arith, sym, ap, subst}
 use Rattle.std.proofs.lemmas.List.{take_at}
+use Rattle.rc_set.specs.Set.{IsAscending}
 use Rattle.rc_graph.specs.Rows.{rows}
 use Rattle.rc_graph.proofs.RowLemmas.{length-rows, row_is, row_known}
 use Rattle.rc_graph.proofs.Reversing.{added_lent, one_reversed, all_reversed}
@@ -9,6 +10,13 @@ pub add_needing-requires-clause-known : goal.add_needing-requires-clause-known
 add_needing-requires-clause-known c =
     row_known _ _ _ _ (row_is c.args.needs.now c.loop-s.s c.index-needs-s.result c.as_slice.result.now c.loop-s-test.true c.index-needs-s.is c.as_slice.ensures.value) c.requires.known
     (ap length c.deref_mut.ensures.value ∙ (sym (length-rows c.loop-s.needed_by.items) ∙ (c.loop-s.invariant.few ∙ length-rows c.args.needs.now)))
+
+pub add_needing-requires-clause-list : goal.add_needing-requires-clause-list
+add_needing-requires-clause-list c =
+    subst IsAscending (row_is c.args.needs.now c.loop-s.s c.index-needs-s.result c.as_slice.result.now c.loop-s-test.true c.index-needs-s.is c.as_slice.ensures.value) (c.requires.ascending c.loop-s.s)
+
+pub add_needing-requires-clause-lower : goal.add_needing-requires-clause-lower
+add_needing-requires-clause-lower c = λ t s need. ((c.loop-s.invariant.same s t).0 (rw c.deref_mut.ensures.value at need)).0
 
 pub loop-s-preserved : goal.loop-s-preserved
 loop-s-preserved c =
