@@ -1,21 +1,12 @@
 -- Bundles that are defined and removed.
-use Rattle.std.proofs.Common.{◌≡◌, ◌≢◌, ◌⊎◌, inl, inr, ℕ, Bool, List, [], ◌∷◌, ◌++◌, length, get_or, Contains, Option, Some, None, arith, refl, sym, ap, subst, ◌∙◌}
-use Rattle.std.proofs.lemmas.Bool.{cases_Bool, true≢false}
+use Rattle.std.proofs.Common.{◌≡◌, inl, inr, ℕ, Bool, List, [], ◌∷◌, ◌++◌, length, get_or, Contains, Option, Some, None, sym, ap, subst, ◌∙◌}
 use Rattle.std.proofs.lemmas.List.Elements.{Contains-push, Contains-push_cases, Contains-append_left}
 use Rattle.std.proofs.lemmas.Option.{slice_get-get_or}
-use Rattle.std.proofs.lemmas.Slice.Eq.{bytes_eq-Decides}
-use Rattle.std.specs.Str.{bytes_eq}
+use Rattle.rc_names.proofs.ByteOrder.{same_or_other}
 use Rattle.rc_db.specs.Bundles.{Bundles, value_of, IsTable, AreBelow, IsChangedAt}
 use Rattle.rc_bundle.specs.Bundling.{Removes}
 use Rattle.rc_db.proofs.Words.{bound_of_value}
 use Rattle.rc_bundle.proofs.Places.{value_at}
-
--- a name is another name or not
-pub same_or_not : (a b : List ℕ) → (a ≡ b) ⊎ (a ≢ b)
-same_or_not a b = elim (cases_Bool (bytes_eq a b)) [
-  | inl same ↦ inl ((bytes_eq-Decides a b).0 same)
-  | inr other ↦ inr (λ e. true≢false (sym ((bytes_eq-Decides a b).1 e) ∙ other))
-]
 
 -- where all values have a bound, the table has it
 pub below_from_values : (t : Bundles) (bound : ℕ) → IsTable t → ((name : List ℕ) (set : List Bool) → value_of t name ≡ Some set → length set ≡ bound) → AreBelow bound t
@@ -24,7 +15,7 @@ below_from_values t bound table each = λ k d within.
 
 -- a change at one name keeps the bound
 pub changed_below : (old new : Bundles) (bound : ℕ) (name : List ℕ) (set : List Bool) → IsTable new → AreBelow bound old → length set ≡ bound → IsChangedAt old name (Some set) new → AreBelow bound new
-changed_below old new bound name set table below fits change = below_from_values new bound table (λ other value is. elim (same_or_not other name) [
+changed_below old new bound name set table below fits change = below_from_values new bound table (λ other value is. elim (same_or_other other name) [
   | inl same ↦
       let e : ◌≡◌ {A = Option (List Bool)} (Some value) (Some set) = sym is ∙ ap (value_of new) same ∙ change.here in
       let e2 : value ≡ set = cc in
@@ -32,14 +23,10 @@ changed_below old new bound name set table below fits change = below_from_values
   | inr apart ↦ bound_of_value bound old other value below (sym (change.others other apart) ∙ is)
 ])
 
--- nothing is removed
-pub removes_none : (t : Bundles) → Removes t [] t
-removes_none t = record { gone = λ name there. absurd (omega (arith, there.1)); others = λ name absent. refl }
-
 -- one more name is removed
 pub removes_more : (old new newer : Bundles) (words : List (List ℕ)) (word : List ℕ) → Removes old words new → IsChangedAt new word None newer → Removes old (words ++ word ∷ []) newer
 removes_more old new newer words word removes change = record {
-  gone = λ name there. elim (same_or_not name word) [
+  gone = λ name there. elim (same_or_other name word) [
     | inl same ↦ ap (value_of newer) same ∙ change.here
     | inr apart ↦ elim (Contains-push_cases words word name there) [
       | inl was ↦ change.others name apart ∙ removes.gone name was

@@ -2,7 +2,6 @@
 use Rattle.std.proofs.Common.{◌≡◌, ℕ, ◌+◌, ◌<◌, ◌≤◌, List, [], ◌∷◌, ◌++◌, length, get_or, take, map, All, arith, sym, subst}
 use Rattle.std.proofs.lemmas.List.{length-map, take_all}
 use Rattle.std.proofs.lemmas.List.Elements.{All-push}
-use Rattle.rc_db.specs.Named.{IsFirst}
 use Rattle.rc_db.proofs.Places.{take_next}
 use Rattle.rc_db.proofs.Words.{mapped_at}
 
@@ -22,7 +21,3 @@ module _ {X : Type 0} (bytes : X → List ℕ) (words : List X) where
 
   pub all_end : (P : List ℕ → Type 0) (i : ℕ) → length words ≤ i → All P (take i (map bytes words)) → All P (map bytes words)
   all_end P i end all = let F : List (List ℕ) → Type 0 = λ xs. All P xs in subst F (take_words i end) all
-
-  -- the first word of which this does not hold
-  pub first_not : (P : List ℕ → Type 0) (i : ℕ) (word : X) → i < length words → word ≡ get_or words i word → All P (take i (map bytes words)) → (P (bytes word) → ⊥) → IsFirst (λ w. P w → ⊥) (map bytes words) i
-  first_not P i word within is before here = (bytes word, mapped_at bytes words i word within is, here, λ k d low no. no (before k d low))

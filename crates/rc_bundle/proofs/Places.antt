@@ -1,30 +1,22 @@
 -- Bundles by their places in a table.
-use Rattle.std.proofs.Common.{◌≡◌, ℕ, zero, suc, ◌<◌, Bool, true, false, cond, List, [], ◌∷◌, length, get_or, Option, Some, None, arith, refl, sym, ap, subst, ◌∙◌}
+use Rattle.std.proofs.Common.{◌≡◌, ℕ, zero, suc, ◌<◌, Bool, true, false, cond, List, [], ◌∷◌, Option, Some, None, arith, refl, sym, ap, subst, ◌∙◌}
 use Rattle.std.proofs.lemmas.Bool.{false_from_ne_true}
-use Rattle.std.proofs.lemmas.List.{get_or-map, length-map}
-use Rattle.std.proofs.lemmas.Option.{get_or_from_slice_get, slice_get_within}
+use Rattle.std.proofs.lemmas.Option.{slice_get-map}
 use Rattle.std.proofs.lemmas.Slice.Eq.{bytes_eq-Decides}
 use Rattle.std.specs.List.{slice_get}
+use Rattle.std.specs.Option.{option_map}
 use Rattle.std.specs.Str.{bytes_eq}
 use Rattle.rc_names.specs.Names.{IsBefore, IsInByteOrder}
 use Rattle.rc_db.specs.Bundles.{Bundles, names_of, value_of}
-use Rattle.rc_db.proofs.ByteOrder.{not_before_itself}
+use Rattle.rc_names.proofs.ByteOrder.{before_at, not_before_itself, order_tail}
 use Rattle.rc_db.proofs.Values.{value_of-some}
 
 -- of two places the first has the lesser name
 pub at_order : (t : Bundles) → IsInByteOrder (names_of t) → (k l : ℕ) (a b : List ℕ × List Bool) → k < l → slice_get t k ≡ Some a → slice_get t l ≡ Some b → IsBefore a.0 b.0
-at_order t order k l a b first at_k at_l =
-    let within : l < length t = slice_get_within t l b at_l in
-    let here : k < length t = omega arith in
-    let inside : l < length (names_of t) = omega (arith, length-map t (λ bundle. bundle.0)) in
-    let before : IsBefore (get_or (names_of t) k a.0) (get_or (names_of t) l a.0) = order k l a.0 first inside in
-    let left : get_or (names_of t) k a.0 ≡ a.0 = get_or-map (λ bundle. bundle.0) t k a a.0 here ∙ ap (λ bundle. bundle.0) (get_or_from_slice_get t k a a at_k) in
-    let right : get_or (names_of t) l a.0 ≡ b.0 = get_or-map (λ bundle. bundle.0) t l a a.0 within ∙ ap (λ bundle. bundle.0) (get_or_from_slice_get t l b a at_l) in
-    subst (λ x. IsBefore x b.0) left (subst (λ x. IsBefore (get_or (names_of t) k a.0) x) right before)
-
--- the rest of a table in byte order is in byte order
-pub order_rest : (bundle : List ℕ × List Bool) (t : Bundles) → IsInByteOrder (names_of (bundle ∷ t)) → IsInByteOrder (names_of t)
-order_rest bundle t order = λ i j d first within. order (suc i) (suc j) d (omega arith) (omega arith)
+at_order t order k l a b first at_k at_l = before_at (names_of t) k l a.0 b.0 order (named k a at_k) (named l b at_l) first
+  where
+    named : (i : ℕ) (bundle : List ℕ × List Bool) → slice_get t i ≡ Some bundle → slice_get (names_of t) i ≡ Some bundle.0
+    named i bundle at = slice_get-map (λ x. x.0) t i ∙ ap (option_map (λ x. x.0)) at
 
 -- what stands at a place is the set of the name there
 pub value_at : (t : Bundles) → IsInByteOrder (names_of t) → (k : ℕ) (name : List ℕ) (set : List Bool) → slice_get t k ≡ Some (name, set) → value_of t name ≡ Some set
@@ -39,7 +31,7 @@ value_at (bundle ∷ t) order (suc k) name set at =
     let before : IsBefore bundle.0 name = at_order (bundle ∷ t) order 0 (suc k) bundle (name, set) (omega arith) refl at in
     let other : bytes_eq name bundle.0 ≡ false =
     false_from_ne_true (bytes_eq name bundle.0) (λ e. not_before_itself name (subst (λ x. IsBefore x name) (sym ((bytes_eq-Decides name bundle.0).0 e)) before)) in
-    ap (λ b. cond b (Some bundle.1) (value_of t name)) other ∙ value_at t (order_rest bundle t order) k name set at
+    ap (λ b. cond b (Some bundle.1) (value_of t name)) other ∙ value_at t (order_tail bundle.0 (names_of t) order) k name set at
 
 -- a name that stands nowhere has no set
 pub no_value : (t : Bundles) (name : List ℕ) → ((k : ℕ) (set : List Bool) → slice_get t k ≡ Some (name, set) → ⊥) → value_of t name ≡ None

@@ -10,7 +10,7 @@ use Rattle.rc_names.specs.Names.{IsBefore, IsInByteOrder}
 use Rattle.rc_db.specs.Bundles.{Bundles, names_of, value_of, IsTable}
 use Rattle.rc_bundle.specs.Edit.{Alteration, altered, IsAlteration, IsEdit}
 use Rattle.rc_bundle.specs.Walk.{IsBeforeAt, IsNextName, IsNoted, moved}
-use Rattle.rc_db.proofs.ByteOrder.{not_before_itself}
+use Rattle.rc_names.proofs.ByteOrder.{not_before_itself}
 use Rattle.rc_db.proofs.Values.{value_of-some}
 use Rattle.rc_bundle.proofs.Texts.{before_trans}
 use Rattle.rc_bundle.proofs.Places.{at_order, value_at, no_value}

@@ -4,7 +4,7 @@ ghost use Rattle.rc_names.specs.Names.{IsInByteOrder};
 ghost use Rattle.rc_bundle.specs.Edit.{IsEdit, altered};
 ghost use Rattle.rc_bundle.specs.Walk.{IsNextName, IsNoted, moved};
 
-use rc_db::{Table, copy_name};
+use rc_db::Table;
 use rc_names::Name;
 use rc_set::{NoMem, Set};
 use std::alloc::Global;
@@ -25,6 +25,19 @@ impl Model for Change {
     ghost Value = { Alteration };
 
     ghost view = { λ a. record { name = a.name; before = a.before; after = a.after } };
+}
+
+impl Change {
+    /// The same alteration once more.
+    fn copy(&self, alloc: Global) -> Result<Change, NoMem>
+        ensures { IfOk result (λ copy. copy ≡ self.now) }
+    {
+        Ok(Change {
+            name: self.name.copy(alloc)?,
+            before: copy_set(alloc, self.before.as_ref())?,
+            after: copy_set(alloc, self.after.as_ref())?,
+        })
+    }
 }
 
 /// What a change alters in a table of bundles: each name whose set alters, with the set before and the set after,
@@ -64,6 +77,14 @@ impl Edit {
         (&change.name, change.before.as_ref(), change.after.as_ref())
     }
 
+    /// Another edit that alters the same.
+    pub fn copy(&self, alloc: Global) -> Result<Edit, NoMem>
+        ensures { IfOk result (λ edit. edit ≡ self.now) }
+    {
+        let changes = copy_changes(alloc, &self.changes)?;
+        Ok(Edit { changes })
+    }
+
     /// The edit from the first table to the second.
     pub fn between(alloc: Global, from: &Table, to: &Table) -> Result<Edit, NoMem>
         ensures { IfOk result (IsEdit from.now to.now) }
@@ -80,6 +101,17 @@ impl Edit {
         }
         Ok(Edit { changes })
     }
+}
+
+/// The same alterations once more.
+fn copy_changes(alloc: Global, changes: &[Change]) -> Result<Vec<Change>, NoMem>
+    ensures { IfOk result (λ copies. copies.items ≡ changes.now) }
+{
+    let mut copies = Vec::new(alloc);
+    for change in changes {
+        copies.push(change.copy(alloc)?)?;
+    }
+    Ok(copies)
 }
 
 /// The least of the names at two places of two tables, with its sets.
@@ -133,7 +165,7 @@ fn note(
         return Ok(());
     }
     changes.push(Change {
-        name: copy_name(alloc, name)?,
+        name: name.copy(alloc)?,
         before: copy_set(alloc, before)?,
         after: copy_set(alloc, after)?,
     })?;
@@ -151,6 +183,7 @@ fn are_same(before: Option<&Set>, after: Option<&Set>) -> bool
     }
 }
 
+/// The same set once more, where there is one.
 fn copy_set(alloc: Global, set: Option<&Set>) -> Result<Option<Set>, NoMem>
     ensures { IfOk result (λ copy. copy ≡ option_copied set.entry) }
 {

@@ -1,10 +1,12 @@
-ghost use Rattle.std.specs.Prelude.{◌≡◌, ◌<◌, ◌↔◌, ℕ, [], length, take, IsTrue, IfOk, OnOk, OnErr};
+ghost use Rattle.std.specs.Prelude.{◌≡◌, ◌<◌, ◌↔◌, ℕ, Bool, [], length, take, IsTrue, IfOk, OnOk, OnErr};
 ghost use Rattle.rc_set.specs.Set.{Has};
 ghost use Rattle.rc_graph.specs.Closure.{IsClosed};
+ghost use Rattle.rc_graph.specs.declared.Way.{Way};
 ghost use Rattle.rc_core.specs.declared.event.Event.{Event};
 ghost use Rattle.rc_core.specs.Course.{course_of, TargetOf, IsCourse};
 ghost use Rattle.rc_core.specs.Standing.{standing_of};
 ghost use Rattle.rc_core.specs.End.{EndOf};
+ghost use Rattle.rc_core.specs.Failing.{WouldFail, EndsAs};
 ghost use Rattle.rc_core.specs.Events.{IsWorker, IsFree, HasFailed, IsStopped};
 ghost use Rattle.rc_core.specs.Legal.{IsLegal, IsRun};
 ghost use Rattle.rc_core.specs.Settled.{with_event, IsStrictlyClosed, IsLive, IsSettled};
@@ -31,8 +33,8 @@ pub struct NotLegal;
 /// A change on its way: what was to move, and the events so far.
 ///
 /// It borrows nothing. No call but `open` can be refused for want of memory.
-/// Time: `take`, `step` of a take, and `settled` grow with the services and their pairs; the others take one step,
-/// and `take_apart` grows with the services.
+/// Time: `take`, `step` of a take, and `settled` grow with the services and their pairs, `open` and `take_apart`
+/// with the services; the others take one step.
 #[derive(Debug, Drop)]
 pub struct Run {
     pub(crate) graph: Graph,
@@ -181,8 +183,10 @@ impl Run {
         ensures run { result ≡ self }
         ensures end { (IsStopped self.events → ⊥) →
             (s : ℕ) → IsLive self.course self.events s ↔ EndOf self.course (HasFailed self.events) s }
+        ensures end_as { (fails : ℕ → Way → Bool) → EndsAs self.course fails self.events → (IsStopped self.events → ⊥) →
+            (s : ℕ) → IsLive self.course self.events s ↔ EndOf self.course (WouldFail self.course fails) s }
     {
-        // What the trace tells of the course is what the clause on the end stands on.
+        // What the trace tells of the course is what the clauses on the end stand on.
         let _ = self.trace();
         Ended { run: self }
     }

@@ -17,7 +17,7 @@ use Rattle.rc_names.proofs.Growth.{map-insert, insert_sorted-new, none_same, IsI
 use Rattle.rc_names.specs.Name.{IsName}
 use Rattle.rc_names.specs.Names.{IsBefore, IsInByteOrder}
 use Rattle.rc_db.specs.Bundles.{Bundles, names_of, IsTable, IsChangedAt}
-use Rattle.rc_db.proofs.ByteOrder.{not_before_itself}
+use Rattle.rc_names.proofs.ByteOrder.{not_before_itself}
 use Rattle.rc_db.proofs.Entries.{Agree, ShowsChange}
 use Rattle.rc_db.proofs.Values.{changed_at, insert_new, value_of-absent}
 

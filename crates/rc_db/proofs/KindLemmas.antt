@@ -12,19 +12,11 @@ no_bundle d s service held there =
     let P : Service → Type 0 = λ x. x.kind ≢ Bundle in
     subst P (get_or_from_slice_get d.services s service service there) (held.fit.kinds s service (slice_get_within d.services s service there))
 
--- what is no oneshot is a longrun, and the other way round
+-- what is no oneshot is a longrun
 pub longrun_or : (d : Database) (s : ℕ) (service : Service) → IsDatabase d → slice_get d.services s ≡ Some service → service.kind ≢ Oneshot → service.kind ≡ Longrun
 longrun_or d s service held there other = by service.kind refl
   where
     by : (k : Kind) → service.kind ≡ k → k ≡ Longrun
     by Oneshot e = absurd (other e)
     by Longrun e = refl
-    by Bundle e = absurd (no_bundle d s service held there e)
-
-pub oneshot_or : (d : Database) (s : ℕ) (service : Service) → IsDatabase d → slice_get d.services s ≡ Some service → service.kind ≢ Longrun → service.kind ≡ Oneshot
-oneshot_or d s service held there other = by service.kind refl
-  where
-    by : (k : Kind) → service.kind ≡ k → k ≡ Oneshot
-    by Oneshot e = refl
-    by Longrun e = absurd (other e)
     by Bundle e = absurd (no_bundle d s service held there e)

@@ -1,4 +1,3 @@
-pub mod ByteOrder
 pub mod Entries
 pub mod Fits
 pub mod Growing

@@ -1,32 +1,24 @@
 -- Names that are listed in byte order, some of one list or all of two.
-use Rattle.std.proofs.Common.{◌≡◌, ◌∙◌, ◌+◌, ◌<◌, ◌≤◌, ◌↔◌, ◌⊎◌, ⊎_elim, inl, inr, ℕ, Bool, true, false, true≢false, List, [], ◌∷◌, ◌++◌, length, take, take_all, map, get_or, slice_get, Contains, Some, IfOk, refl, ap, sym, subst, arith}
+use Rattle.std.proofs.Common.{◌≡◌, ◌∙◌, ◌+◌, ◌<◌, ◌≤◌, ◌↔◌, ◌⊎◌, ⊎_elim, inl, inr, ℕ, Bool, true, false, true≢false, List, [], ◌∷◌, ◌++◌, length, take, take_all, map, get_or, slice_get, Contains, Some, refl, ap, sym, subst, arith}
 use Rattle.std.proofs.lemmas.Bool.{cases_lt}
 use Rattle.std.proofs.lemmas.Cmp.{nat_list_cmp_total}
 use Rattle.std.proofs.lemmas.List.{map-append}
 use Rattle.std.proofs.lemmas.List.Elements.{Contains-push, Contains-push_cases, Contains-append_left, Contains-get_or}
 use Rattle.std.proofs.lemmas.List.Quantifiers.{all_pairs_push}
-use Rattle.std.proofs.lemmas.Option.{slice_get-get_or, slice_get_within, get_or_from_slice_get}
+use Rattle.std.proofs.lemmas.Option.{slice_get-get_or, slice_get_within}
 use Rattle.std.specs.Bool.{OnFalse}
-use Rattle.std.specs.declared.result.Result.{Result}
-use Rattle.std.specs.declared.result.Result.TheVariants.{Ok}
 use Rattle.std.specs.Cmp.Lexicographic.{slice_cmp}
 use Rattle.std.specs.Ordering.{nat_cmp, is_lt}
 use Rattle.std.specs.declared.cmp.Ordering.{Ordering}
 use Rattle.std.specs.declared.cmp.Ordering.TheVariants.{Less, Equal, Greater}
-use Rattle.rc_names.specs.Names.{IsBefore, IsInByteOrder}
+use Rattle.rc_names.proofs.ByteOrder.{before_at}
+use Rattle.rc_names.specs.Names.{IsBefore, IsInByteOrder, ListsNames}
 use Rattle.rc_names.specs.declared.kind.Kind.{Kind}
 use Rattle.rc_db.specs.Merging.{IsNext}
 use Rattle.rc_db.specs.Database.{Database, IsKind}
-use Rattle.rc_db.specs.Queries.{IsServiceNamed, ListsNames}
+use Rattle.rc_db.specs.Queries.{IsServiceNamed}
 use Rattle.rc_db.specs.Service.{Service}
 use Rattle.rc_db.proofs.Places.{take_next}
-
--- names at places are in order
-pub places_before : (names : List (List ℕ)) (i k : ℕ) (x y : List ℕ) → IsInByteOrder names → i < k → slice_get names i ≡ Some x → slice_get names k ≡ Some y → IsBefore x y
-places_before names i k x y order low at_i at_k =
-    let P : List ℕ → Type 0 = λ a. IsBefore a y in
-    let Q : List ℕ → Type 0 = λ b. IsBefore (get_or names i x) b in
-    subst P (get_or_from_slice_get names i x x at_i) (subst Q (get_or_from_slice_get names k y x at_k) (order i k x low (slice_get_within names k y at_k)))
 
 -- the first names of two lists, merged, and all others after them
 pub record Merged (ns os : List (List ℕ)) (i j : ℕ) (out : List (List ℕ)) : Type 0 where
@@ -66,7 +58,7 @@ one_merged ns os i j out x order there next merged =
           );
       first = λ k z y low at in_more. ⊎_elim
           (λ old. merged.first k z y (omega arith) at old)
-          (λ is. let P : List ℕ → Type 0 = λ a. IsBefore a y in subst P is (places_before ns i k x y order (omega arith) there at))
+          (λ is. let P : List ℕ → Type 0 = λ a. IsBefore a y in subst P is (before_at ns i k x y order there at (omega arith)))
           (Contains-push_cases out x z in_more);
       second = λ k z y low at in_more. ⊎_elim
           (λ old. merged.second k z y low at old)
@@ -82,7 +74,7 @@ before_later names j x order next k y low at = ⊎_elim
     let within : k < length names = slice_get_within names k y at in
     let z = get_or names j [] in
     let here : slice_get names j ≡ Some z = slice_get-get_or names j [] (omega arith) in
-    nat_list_cmp_total.trans x z y (next z here) (places_before names j k z y order later here at))
+    nat_list_cmp_total.trans x z y (next z here) (before_at names j k z y order here at later))
     (λ not_later. let same : j ≡ k = omega arith in next y (ap (slice_get names) same ∙ at))
     (cases_lt j k)
 
@@ -115,7 +107,7 @@ pub one_passed : (P : ℕ → Type 0) (names : List (List ℕ)) (i : ℕ) (out :
 one_passed P names i out x order there holds passed = record {
   order = all_pairs_push IsBefore out x passed.order
       (λ k d within. let old = (passed.same (get_or out k d)).0 (Contains-get_or out k d within) in
-      places_before names old.0 i (get_or out k d) x order old.1 old.2 there);
+      before_at names old.0 i (get_or out k d) x order old.2 there old.1);
   same = λ z. (
     λ in_more. ⊎_elim
         (λ old. let at = (passed.same z).0 old in let low : at.0 < i = at.1 in (at.0, omega arith, at.2, at.3))
@@ -180,9 +172,3 @@ less_from a b passed = by (slice_cmp nat_cmp a b) passed
 pub whole_listed : (names shown : List (List ℕ)) → IsInByteOrder names → shown ≡ names → ListsNames (Contains names) shown
 whole_listed names shown order same =
     subst (ListsNames (Contains names)) (sym same) (record { order = order; same = λ x. (λ there. there, λ there. there) })
-
--- what holds of a result that is there
-pub of_ok : {T E : Type 0} (r : Result T E) (x : T) → r ≡ Ok x → (P : T → Type 0) → IfOk r P → P x
-of_ok {T} {E} r x is P holds =
-    let Holds : Result T E → Type 0 = λ s. IfOk s P in
-    subst Holds is holds

@@ -1,8 +1,9 @@
 -- Lists by their places.
-use Rattle.std.proofs.Common.{◌≡◌, ◌∙◌, ◌+◌, ◌<◌, ℕ, suc, List, [], ◌∷◌, ◌++◌, length, take, map, get_or, slice_get, Contains, All, Some, unwrap_or, ⊎_elim, refl, sym, ap, arith}
+use Rattle.std.proofs.Common.{◌≡◌, ◌∙◌, ◌+◌, ◌<◌, ℕ, suc, List, [], ◌∷◌, ◌++◌, length, take, map, get_or, slice_get, Contains, All, Some, unwrap_or, ⊎_elim, sym, ap, arith}
 use Rattle.std.proofs.Math.Seq.{take-suc}
 use Rattle.std.proofs.lemmas.List.{same_lists, get_or-map, length-map}
-use Rattle.std.proofs.lemmas.Option.{slice_get_cases, slice_get-get_or, slice_get_read, slice_get_within, get_or_from_slice_get, unwrap_or-slice_get}
+use Rattle.std.proofs.lemmas.Option.{slice_get_cases, slice_get-get_or, slice_get_within, get_or_from_slice_get, unwrap_or-slice_get}
+pub use Rattle.rc_names.proofs.Members.{contains_at, place_of}
 
 module _ {X : Type 0} where
   -- lists with the same elements at the same places are one
@@ -15,13 +16,6 @@ module _ {X : Type 0} where
   take_next xs i x there =
       let next : i + 1 ≡ suc i = omega arith in
       ap (λ n. take n xs) next ∙ take-suc xs i x (slice_get_within xs i x there) ∙ ap (λ y. take i xs ++ y ∷ []) (get_or_from_slice_get xs i x x there)
-
-  -- what stands at a place is contained, and the other way round
-  pub contains_at : (xs : List X) (k : ℕ) (x : X) → slice_get xs k ≡ Some x → Contains xs x
-  contains_at xs k x there = (k, slice_get_within xs k x there, get_or_from_slice_get xs k x x there)
-
-  pub place_of : (xs : List X) (x : X) → Contains xs x → (k : ℕ) × (slice_get xs k ≡ Some x)
-  place_of xs x (k, within, here) = (k, slice_get_read xs (length xs) k x refl within (sym here))
 
   -- what a map of a list contains comes from some place
   pub mapped_place : {Y : Type 0} (f : X → Y) (xs : List X) (y : Y) → Contains (map f xs) y → (k : ℕ) × (x : X) × (slice_get xs k ≡ Some x) × (f x ≡ y)

@@ -1,35 +1,11 @@
--- Sets that queries answer, and the lists of their ids.
-use Rattle.std.proofs.Common.{◌≡◌, ◌+◌, ◌<◌, ◌↔◌, ◌⊎◌, ⊎_elim, inl, inr, ℕ, Bool, List, [], ◌∷◌, ◌++◌, length, take, slice_get, Contains, Result, Ok, Err, Some, IfOk, IfErr, OnOk, sym, subst, arith}
-use Rattle.std.proofs.Math.ListN.{get_or-eq_default}
-use Rattle.std.proofs.lemmas.Bool.{cases_lt}
+-- Sets that queries answer.
+use Rattle.std.proofs.Common.{◌≡◌, ◌+◌, ◌↔◌, ◌⊎◌, ⊎_elim, inl, inr, ℕ, Bool, List, [], ◌∷◌, ◌++◌, take, slice_get, Contains, Some, sym, subst}
 use Rattle.std.proofs.lemmas.List.Elements.{Contains-push, Contains-push_cases, Contains-append_left}
-use Rattle.rc_set.specs.Set.{Has, Holds, Lists}
-use Rattle.rc_graph.specs.Needs.{Needs}
+use Rattle.rc_set.specs.Set.{Has, Holds}
 use Rattle.rc_graph.specs.declared.Way.{Way}
 use Rattle.rc_graph.specs.declared.Way.TheVariants.{Raise, Lower}
 use Rattle.rc_db.specs.Queries.{IsNextTo, IsWithAll}
 use Rattle.rc_db.proofs.Places.{take_next}
-
--- a result's facts follow along
-module _ {X E : Type 0} where
-  pub ok_along : (r : Result X E) (P Q : X → Type 0) → ((x : X) → P x → Q x) → IfOk r P → IfOk r Q
-  ok_along (Ok x) P Q along holds = along x holds
-  ok_along (Err e) P Q along holds = holds
-
-  pub ok_always : (r : Result X E) (P : Type 0) → P → OnOk r P
-  ok_always (Ok x) P holds = holds
-  ok_always (Err e) P holds = tt
-
-  pub err_along : (r : Result X E) (P Q : E → Type 0) → ((e : E) → P e → Q e) → IfErr r P → IfErr r Q
-  err_along (Ok x) P Q along holds = holds
-  err_along (Err e) P Q along holds = along e holds
-
--- lists of the same services are lists of one another's
-pub lists_as : (P Q : ℕ → Type 0) (ids : List ℕ) → ((s : ℕ) → P s ↔ Q s) → Lists P ids → Lists Q ids
-lists_as P Q ids same lists = record {
-  ascending = lists.ascending;
-  same = λ s. (λ there. (same s).0 ((lists.same s).0 there), λ holds. (lists.same s).1 ((same s).1 holds));
-}
 
 -- what stands beside the members of a set stands beside those of whom a fact holds that says who they are
 pub next_as : (needs : List (List ℕ)) (way : Way) (set : List Bool) (P : ℕ → Type 0) → Holds set P → (t : ℕ) → IsNextTo needs way (Has set) t ↔ IsNextTo needs way P t
@@ -45,16 +21,6 @@ all_as needs Lower set P holds t = (
   λ down. ⊎_elim (λ has. inl ((holds t).0 has)) (λ to. inr (to.0, (holds to.0).0 to.1, to.2)) down,
   λ down. ⊎_elim (λ is. inl ((holds t).1 is)) (λ to. inr (to.0, (holds to.0).1 to.1, to.2)) down,
 )
-
--- what needs something is a service
-pub needs_within : (needs : List (List ℕ)) (s t : ℕ) → Needs needs s t → s < length needs
-needs_within needs s t there =
-    ⊎_elim
-    (λ low. low)
-    (λ past. let P : List ℕ → Type 0 = λ list. Contains list t in
-    let none : Contains [] t = subst P (get_or-eq_default needs [] past) there in
-    absurd (omega (arith, none.1)))
-    (cases_lt s (length needs))
 
 -- a set that has some ids, and then the next one
 pub one_more_id : (old mid new : List Bool) (list : List ℕ) (i t : ℕ) → slice_get list i ≡ Some t

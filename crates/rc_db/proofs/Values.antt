@@ -16,7 +16,7 @@ use Rattle.std.specs.Str.{bytes_eq}
 use Rattle.rc_names.specs.Name.{IsName}
 use Rattle.rc_names.specs.Names.{IsBefore, IsInByteOrder}
 use Rattle.rc_db.specs.Bundles.{Bundles, names_of, value_of, IsTable, IsChangedAt}
-use Rattle.rc_db.proofs.ByteOrder.{apart, order_tail, order_head}
+use Rattle.rc_names.proofs.ByteOrder.{apart, order_tail, order_head}
 
 -- a look-up is the first entry's value
 pub value_of-lookup : (table : Bundles) (name : List ℕ) → value_of table name ≡ lookup (bytes_eq name) table

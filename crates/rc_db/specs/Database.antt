@@ -17,7 +17,7 @@ pub record Database : Type 0 where
 abbrev pub IsKind : Database → ℕ → Kind → Type 0
 IsKind d s kind = (service : Service) × (slice_get d.services s ≡ Some service) × (service.kind ≡ kind)
 
--- the service is not to go down by accident
+-- the service is essential: a change downwards, or one that prunes, leaves it up
 abbrev pub IsEssential : Database → ℕ → Type 0
 IsEssential d s = (service : Service) × (slice_get d.services s ≡ Some service) × (service.essential ≡ true)
 

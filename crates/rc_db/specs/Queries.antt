@@ -1,7 +1,6 @@
-use Rattle.std.specs.Prelude.{◌≡◌, ◌↔◌, ◌⊎◌, ℕ, List, Contains, Some, slice_get}
+use Rattle.std.specs.Prelude.{◌≡◌, ◌⊎◌, ℕ, List, Contains, Some, slice_get}
 use Rattle.rc_names.specs.declared.kind.Kind.{Kind}
 use Rattle.rc_names.specs.declared.kind.Kind.TheVariants.{Oneshot, Longrun, Bundle}
-use Rattle.rc_names.specs.Names.{IsInByteOrder}
 use Rattle.rc_graph.specs.Needs.{Needs}
 use Rattle.rc_graph.specs.Closure.{UpFrom, DownFrom}
 use Rattle.rc_graph.specs.declared.Way.{Way}
@@ -11,11 +10,6 @@ use Rattle.rc_db.specs.declared.which.Which.TheVariants.{All, Services, Oneshots
 use Rattle.rc_db.specs.Bundles.{names_of}
 use Rattle.rc_db.specs.Service.{Service}
 use Rattle.rc_db.specs.Database.{Database}
-
--- the names of which this holds, each once, in byte order
-pub record ListsNames (P : List ℕ → Type 0) (names : List (List ℕ)) : Type 0 where
-  pub order : IsInByteOrder names
-  pub same : (name : List ℕ) → Contains names name ↔ P name
 
 -- what stands under a name in a database
 abbrev pub IsServiceNamed : Database → List ℕ → Service → Type 0

@@ -81,7 +81,7 @@ impl Db {
         &self.parts.services[id as usize]
     }
 
-    /// Whether a service stays up where a change would take it down by the way.
+    /// Whether a service stays up where a change downwards or a pruning one would lower it, also where it is named.
     pub fn is_essential(&self, id: u16) -> bool
         requires { id < length self.now.names }
         ensures { IsTrue result ↔ IsEssential self.now id }
@@ -110,9 +110,6 @@ impl Db {
         if let Some(place) = first_unknown(names, table, words) {
             return Err(QueryFault::Unknown(place));
         }
-        match set_of(alloc, names, table, words) {
-            Ok(set) => Ok(set),
-            Err(_) => Err(QueryFault::Memory),
-        }
+        Ok(set_of(alloc, names, table, words)?)
     }
 }

@@ -1,3 +1,4 @@
+use std::alloc::AllocError;
 use thiserror::Error;
 
 /// Why a query has no answer. The first fault in this order is the one that is reported.
@@ -21,4 +22,15 @@ pub enum QueryFault {
     /// There was no room for the answer.
     #[error("out of memory")]
     Memory,
+}
+
+impl From<AllocError> for QueryFault {
+    ghost use Rattle.std.specs.Prelude.{◌≡◌};
+    ghost use Rattle.rc_db.specs.declared.fault.QueryFault.TheVariants.{Memory};
+
+    ghost from_gives = { λ _ fault. fault ≡ Memory };
+
+    fn from(_: AllocError) -> QueryFault {
+        QueryFault::Memory
+    }
 }

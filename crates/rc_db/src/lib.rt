@@ -20,6 +20,6 @@ pub use crate::fault::QueryFault;
 pub use crate::named::{first_unknown, has_bundle, has_name};
 pub use crate::parts::{Parts, Unfit};
 pub use crate::service::Service;
-pub use crate::table::{MAX_BUNDLES, Table, copy_name};
+pub use crate::table::{MAX_BUNDLES, Table};
 pub use crate::which::Which;
 pub use rc_set::NoMem;

@@ -2,10 +2,10 @@
 
 ghost use Rattle.std.specs.Prelude.{◌≡◌, ◌<◌, ◌≤◌, ◌⊎◌, ◌+◌, List, length, map, Contains, IfOk, IfErr};
 ghost use Rattle.std.specs.Bool.{OnTrue, OnFalse};
-ghost use Rattle.rc_names.specs.Names.{IsInByteOrder};
+ghost use Rattle.rc_names.specs.Names.{IsInByteOrder, ListsNames};
 ghost use Rattle.rc_db.specs.Bundles.{names_of};
 ghost use Rattle.rc_db.specs.Database.{AreApart};
-ghost use Rattle.rc_db.specs.Queries.{IsServiceNamed, IsShown, ListsNames};
+ghost use Rattle.rc_db.specs.Queries.{IsServiceNamed, IsShown};
 ghost use Rattle.rc_db.specs.Service.{Service as Facts};
 ghost use Rattle.rc_db.specs.Merging.{IsNext};
 
@@ -31,10 +31,7 @@ impl Db {
             Which::Longruns => names_of_kind(alloc, self, Kind::Longrun),
             Which::Bundles => bundle_names(alloc, self.table()),
         };
-        match names {
-            Ok(names) => Ok(names),
-            Err(_) => Err(QueryFault::Memory),
-        }
+        Ok(names?)
     }
 }
 

@@ -8,7 +8,6 @@ ghost use Rattle.rc_db.specs.QueryFaults.{OfLongrun, IsSuch, IsQueryFault};
 
 use crate::db::Db;
 use crate::fault::QueryFault;
-use crate::reach::ids_of;
 use rc_set::{NoMem, Set};
 use std::alloc::Global;
 
@@ -24,10 +23,8 @@ impl Db {
         if !self.service(id).is_longrun() {
             return Err(QueryFault::NotLongrun);
         }
-        match pipeline_of(alloc, self, id) {
-            Ok(set) => ids_of(alloc, &set),
-            Err(_) => Err(QueryFault::Memory),
-        }
+        let set = pipeline_of(alloc, self, id)?;
+        Ok(set.ids(alloc)?)
     }
 }
 

@@ -66,10 +66,7 @@ impl Db {
         ensures fault { IfErr result (λ fault. IsQueryFault self.now OfBundle name.now fault) }
     {
         match self.table().get(name) {
-            Some(set) => match set.ids(alloc) {
-                Ok(ids) => Ok(ids),
-                Err(_) => Err(QueryFault::Memory),
-            },
+            Some(set) => Ok(set.ids(alloc)?),
             None => {
                 if has_name(self.names(), name) {
                     Err(QueryFault::NotBundle)
@@ -91,10 +88,7 @@ impl Db {
         if !service.is_oneshot() {
             return Err(QueryFault::NotOneshot);
         }
-        match service.script(alloc, way) {
-            Ok(text) => Ok(text),
-            Err(_) => Err(QueryFault::Memory),
-        }
+        Ok(service.script(alloc, way)?)
     }
 
     /// The service of a name.

@@ -24,7 +24,7 @@ impl Db {
             (IsNamesFault self.now.names self.now.table (map string_bytes names.now)) }
     {
         let set = self.chosen(alloc, names)?;
-        ids_of(alloc, &set)
+        Ok(set.ids(alloc)?)
     }
 
     /// What the services of the names need, ascending; on the way down what needs them.
@@ -42,10 +42,8 @@ impl Db {
             (IsNamesFault self.now.names self.now.table (map string_bytes names.now)) }
     {
         let set = self.chosen(alloc, names)?;
-        match next_to(alloc, self.graph(), &set, way) {
-            Ok(next) => ids_of(alloc, &next),
-            Err(_) => Err(QueryFault::Memory),
-        }
+        let next = next_to(alloc, self.graph(), &set, way)?;
+        Ok(next.ids(alloc)?)
     }
 
     /// The services of the names with all that they reach, ascending; on the way down with all that
@@ -64,10 +62,8 @@ impl Db {
             (IsNamesFault self.now.names self.now.table (map string_bytes names.now)) }
     {
         let set = self.chosen(alloc, names)?;
-        match with_all(alloc, self.graph(), &set, way) {
-            Ok(all) => ids_of(alloc, &all),
-            Err(_) => Err(QueryFault::Memory),
-        }
+        let all = with_all(alloc, self.graph(), &set, way)?;
+        Ok(all.ids(alloc)?)
     }
 
     /// The services that names stand for by the database's own bundles.
@@ -81,17 +77,6 @@ impl Db {
             (IsNamesFault self.now.names self.now.table (map string_bytes names.now)) }
     {
         self.selected(alloc, self.table(), names)
-    }
-}
-
-/// The ids of a set.
-pub(crate) fn ids_of(alloc: Global, set: &Set) -> Result<Vec<u16>, QueryFault>
-    ensures ids { IfOk result (λ ids. Lists (Has set.now) ids.items) }
-    ensures fault { IfErr result (λ fault. fault ≡ QueryFault.Memory) }
-{
-    match set.ids(alloc) {
-        Ok(ids) => Ok(ids),
-        Err(_) => Err(QueryFault::Memory),
     }
 }
 

@@ -6,7 +6,7 @@ ghost use Rattle.rc_db.specs.Bundles.{names_of, value_of, IsTable, IsChangedAt};
 use indexmap::IndexMap;
 use rc_names::Name;
 use rc_set::{NoMem, Set};
-use std::alloc::{AllocError, Global};
+use std::alloc::Global;
 use std::marker::Model;
 use std::mem;
 
@@ -118,7 +118,7 @@ impl Table {
             return Ok(Some(old));
         }
         let key = String::from_str(self.alloc, name.text())?;
-        let name = copy_name(self.alloc, name)?;
+        let name = name.copy(self.alloc)?;
         self.bundles.insert_sorted(key, (name, set))?;
         Ok(None)
     }
@@ -143,7 +143,7 @@ impl Table {
         ensures { OnOk result (self.new ≡ self.old ++ (name.now, set.now) ∷ []) }
     {
         let key = String::from_str(self.alloc, name.text())?;
-        let bundle = (copy_name(self.alloc, name)?, set.copy(self.alloc)?);
+        let bundle = (name.copy(self.alloc)?, set.copy(self.alloc)?);
         self.bundles.insert(key, bundle)?;
         Ok(())
     }
@@ -154,14 +154,4 @@ fn same_bundle(one: (&Name, &Set), other: (&Name, &Set)) -> bool
     ensures { IsTrue result ↔ ((one.entry.0.now ≡ other.entry.0.now) × (one.entry.1.now ≡ other.entry.1.now)) }
 {
     one.0.text() == other.0.text() && one.1.bound() == other.1.bound() && one.1.same(other.1)
-}
-
-/// The same name once more.
-pub fn copy_name(alloc: Global, name: &Name) -> Result<Name, NoMem>
-    ensures { IfOk result (λ copy. copy ≡ name.now) }
-{
-    match Name::read(alloc, name.text()) {
-        Ok(copy) => Ok(copy),
-        Err(_) => Err(AllocError),
-    }
 }

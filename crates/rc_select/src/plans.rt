@@ -54,7 +54,8 @@ impl Plan {
         &self.raise
     }
 
-    /// What stays up although the change would have taken it down.
+    /// The essential services that stay up although the change would have taken them down. What they need stays
+    /// too, and is not listed.
     pub fn kept(&self) -> &Set
         ensures { result.now ≡ self.now.kept }
     {

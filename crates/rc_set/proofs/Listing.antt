@@ -2,7 +2,7 @@ use Rattle.std.proofs.Common.{◌≡◌, ℕ, ◌+◌, ◌<◌, ◌↔◌, List,
 use Rattle.std.proofs.lemmas.List.Elements.{Contains-push, Contains-push_cases, Contains-append_left, All-push}
 use Rattle.std.proofs.lemmas.Bool.{cases_lt}
 use Rattle.std.proofs.lemmas.List.Quantifiers.{all_pairs_push}
-use Rattle.rc_set.specs.Set.{Has, IsAscending}
+use Rattle.rc_set.specs.Set.{Has, Lists, IsAscending}
 
 -- the ids of a set that are below a bound, ascending
 pub record ListsBelow (set : List Bool) (bound : ℕ) (ids : List ℕ) : Type 0 where
@@ -42,3 +42,10 @@ one_passed set id ids lists lacks =
         ],
       );
     }
+
+-- a list of the services of which one fact holds lists those of which a fact holds that says the same
+pub lists_as : (P Q : ℕ → Type 0) (ids : List ℕ) → ((s : ℕ) → P s ↔ Q s) → Lists P ids → Lists Q ids
+lists_as P Q ids same lists = record {
+  ascending = lists.ascending;
+  same = λ s. (λ there. (same s).0 ((lists.same s).0 there), λ holds. (lists.same s).1 ((same s).1 holds));
+}

@@ -4,13 +4,14 @@ use Rattle.std.specs.List.{slice_get}
 use Rattle.std.specs.Ordering.{nat_cmp}
 use Rattle.std.specs.declared.cmp.Ordering.TheVariants.{Equal, Greater}
 use Rattle.rc_names.specs.Names.{IsBefore}
-use Rattle.rc_bundle.proofs.Texts.{same_from_tie, before_from_after}
+use Rattle.rc_names.proofs.ByteOrder.{same_text}
+use Rattle.rc_bundle.proofs.Texts.{before_from_after}
 use Rattle.rc_bundle.proofs.edit.next_name.Goals as goal
 
 pub returns-in-Equal : goal.returns-in-Equal
 returns-in-Equal c =
     let tie : slice_cmp nat_cmp c.text.result.now c.text-2.result.now ≡ Equal = sym c.in-Equal.ensures in
-    let same : c.at-2.result.0.now ≡ c.at-3.result.0.now = sym c.text.ensures.bytes ∙ same_from_tie c.text.result.now c.text-2.result.now tie ∙ c.text-2.ensures.bytes in
+    let same : c.at-2.result.0.now ≡ c.at-3.result.0.now = sym c.text.ensures.bytes ∙ same_text c.text.result.now c.text-2.result.now tie ∙ c.text-2.ensures.bytes in
     (c.at-2.ensures, subst (λ x. slice_get c.args.to.now c.args.j ≡ Some (x, c.at-3.result.1.now)) (sym same) c.at-3.ensures)
 
 pub returns-in-Greater : goal.returns-in-Greater

@@ -2,7 +2,7 @@ use Rattle.std.proofs.Common.{◌↔◌, List, ℕ, get_or, Contains, sym, subst
 use Rattle.std.proofs.lemmas.List.Elements.{Contains-get_or}
 use Rattle.rc_graph.specs.declared.Way.{Way}
 use Rattle.rc_db.specs.Queries.{IsBeside}
-use Rattle.rc_db.proofs.Reaching.{needs_within}
+use Rattle.rc_graph.proofs.RowLemmas.{needer_known}
 use Rattle.rc_db.proofs.reach.beside.Goals as goal
 
 pub returns-in-Raise-clause-known : goal.returns-in-Raise-clause-known
@@ -17,5 +17,5 @@ returns-in-Lower-clause-list c t =
 
 pub returns-in-Lower-clause-known : goal.returns-in-Lower-clause-known
 returns-in-Lower-clause-known c k d within =
-    needs_within c.args.graph.now (get_or c.needed_by.result.now k d) c.args.s
+    needer_known c.args.graph.now (get_or c.needed_by.result.now k d) c.args.s
     ((c.needed_by.ensures.same (get_or c.needed_by.result.now k d)).0 (Contains-get_or c.needed_by.result.now k d within))

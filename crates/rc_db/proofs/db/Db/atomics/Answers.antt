@@ -1,23 +1,11 @@
-use Rattle.std.proofs.Common.{◌≡◌, ℕ, All, map, sym, subst}
+use Rattle.std.proofs.Common.{ℕ, map}
 use Rattle.std.specs.String.{string_bytes}
-use Rattle.rc_set.specs.Set.{Has, Lists}
-use Rattle.rc_db.specs.declared.fault.QueryFault.{QueryFault}
-use Rattle.rc_db.specs.declared.fault.QueryFault.TheVariants.{Memory}
-use Rattle.rc_db.specs.Named.{IsKnown, Selected}
-use Rattle.rc_db.specs.QueryFaults.{IsNamesFault}
-use Rattle.rc_db.proofs.Reaching.{lists_as, ok_along, ok_always, err_along}
+use Rattle.rc_set.specs.Set.{Has}
+use Rattle.rc_set.proofs.Listing.{lists_as}
+use Rattle.rc_db.specs.Named.{Selected}
 use Rattle.rc_db.proofs.db.Db.atomics.Goals as goal
 
 pub returns-clause-ids : goal.returns-clause-ids
 returns-clause-ids c =
     let In : ℕ → Type 0 = Selected c.args.self.now.names c.args.self.now.table (map string_bytes c.args.names.now) in
-    ok_along c.ids_of.result (λ ids. Lists (Has c.in_ok-set.set) ids.items) (λ ids. Lists In ids.items)
-    (λ ids lists. lists_as (Has c.in_ok-set.set) In ids.items c.in_ok-set.ensures.members lists) c.ids_of.ensures.ids
-
-pub returns-clause-known : goal.returns-clause-known
-returns-clause-known c = ok_always c.ids_of.result (All (IsKnown c.args.self.now.names c.args.self.now.table) (map string_bytes c.args.names.now)) c.in_ok-set.ensures.known
-
-pub returns-clause-fault : goal.returns-clause-fault
-returns-clause-fault c =
-    let Fault : QueryFault → Type 0 = IsNamesFault c.args.self.now.names c.args.self.now.table (map string_bytes c.args.names.now) in
-    err_along c.ids_of.result (λ fault. fault ≡ Memory) Fault (λ fault is. subst Fault (sym is) c.in_ok-set.ensures.known) c.ids_of.ensures.fault
+    lists_as (Has c.in_ok-set.set) In c.in_ok-ids.field-0.items c.in_ok-set.ensures.members c.in_ok-ids.ensures

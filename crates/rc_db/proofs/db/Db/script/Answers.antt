@@ -12,11 +12,3 @@ returns-then-not-is_oneshot-clause-fault c = (
         (λ oneshot. true≢false (sym (c.is_oneshot.ensures.1 oneshot) ∙ c.if-not-is_oneshot.true)),
   ),
 )
-
-pub returns-in-Ok-clause-oneshot : goal.returns-in-Ok-clause-oneshot
-returns-in-Ok-clause-oneshot c =
-    (c.service-service.result.now, (c.in_ok-service_named.field-0, c.in_ok-service_named.ensures.service, c.service-service.ensures), c.if-not-is_oneshot.ensures.0 refl)
-
-pub returns-in-Err-clause-fault : goal.returns-in-Err-clause-fault
-returns-in-Err-clause-fault c =
-    (c.service-service.result.now, (c.in_ok-service_named.field-0, c.in_ok-service_named.ensures.service, c.service-service.ensures), c.if-not-is_oneshot.ensures.0 refl)

@@ -18,7 +18,7 @@ after c =
     c.self.invariant.0 c.self.invariant.1 c.self.view_is (subst Few (sym c.self.view_is) c.requires.room) c.text.ensures.name
     (c.in_ok-key.ensures.ok ∙ c.text.ensures.bytes) (subst Last (sym c.self.view_is) c.requires.last)
     (c.in_ok-insert.ensures.entries
-    ∙ (λ i. insert_entry (λ x y. bytes_eq (string_bytes x) (string_bytes y)) before.entries c.in_ok-key.key (c.in_ok-copy_name.ensures i, c.in_ok-copy.ensures i)))
+    ∙ (λ i. insert_entry (λ x y. bytes_eq (string_bytes x) (string_bytes y)) before.entries c.in_ok-key.key (c.in_ok-copy.ensures i, c.in_ok-copy-2.ensures i)))
 
 pub invariant_of-self-2 : goal.invariant_of-self-2
 invariant_of-self-2 c = ((after c).agree, (after c).held)
