@@ -26,7 +26,8 @@ same_line a b before current after =
     ∙ ap (λ (x : State). record { before = b.before; current = x; after = a.after }) current
     ∙ ap (λ (x : List State). record { before = b.before; current = b.current; after = x }) after
 
-last_same : (xs ys : List State) (x y : State) → xs ++ x ∷ [] ≡ ys ++ y ∷ [] → x ≡ y
+-- the last of two equal lists
+pub last_same : (xs ys : List State) (x y : State) → xs ++ x ∷ [] ≡ ys ++ y ∷ [] → x ≡ y
 last_same xs ys x y same =
     let size : length (xs ++ x ∷ []) ≡ length (ys ++ y ∷ []) = ap length same in
     (one_cut xs ys x y [] [] (omega (arith, length_push xs x, length_push ys y)) same).1

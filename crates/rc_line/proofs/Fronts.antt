@@ -1,15 +1,15 @@
 -- Lines that are made of whole states: a state put in front, and the way on.
 use Rattle.std.proofs.Common.{◌≡◌, ◌≢◌, ◌∙◌, ◌+◌, ◌<◌, ℕ, zero, suc, false, List, [], ◌∷◌, ◌++◌, reverse, Bool, Some, None, length, drop, slice_get, All, refl, ap, subst, sym, arith}
 use Rattle.std.proofs.lemmas.List.{nil_from_length, length-append, length-drop}
+use Rattle.std.proofs.lemmas.Option.{same_Some}
 use Rattle.rc_db.specs.Bundles.{Bundles, IsTable}
 use Rattle.rc_line.specs.State.{State, Entry, IsEntry, states_of}
 use Rattle.rc_line.specs.Opening.{Journal}
 use Rattle.rc_line.specs.Line.{Line, IsNext, DifferInTurn, states, cursor}
 use Rattle.rc_line.specs.Keeping.{IsStep, IsStepAt, forth, back, walk, Behind, Ahead, line_of, Fits, state}
-use Rattle.rc_line.proofs.Lines.{get_middle, differ_back, next_states, next_cursor, one_line}
+use Rattle.rc_line.proofs.Lines.{push_append, get_middle, differ_back, next_states, next_cursor, one_line}
 use Rattle.rc_line.proofs.Stacks.{after_is, on_is, ahead_push, behind_push, ahead_pop}
 use Rattle.rc_line.proofs.Closings.{same_line, cursor_shown, next_on}
-use Rattle.rc_line.proofs.Places.{one_some}
 
 -- a state is put in front
 pub prepended : (done undone : List Entry) (e : Entry) (from s : State) (line : Line) → line_of done undone s ≡ line → Fits done undone s → line.before ≡ [] → IsStep from s e
@@ -31,7 +31,8 @@ prepended done undone e from s line shown fits first step =
 pub step_of : (from to : State) (e : Entry) → length to.live ≡ length from.live → from ≢ to → IsTable from.table → IsTable to.table → IsEntry from to e → IsStep from to e
 step_of from to e bound differ from_table to_table entry = record { bound = bound; differ = differ; from_table = from_table; to_table = to_table; entry = entry }
 
-get_after : (line next : Line) → IsNext line next → slice_get (states line) (suc (cursor line)) ≡ Some next.current
+-- the state after the current one
+pub get_after : (line next : Line) → IsNext line next → slice_get (states line) (suc (cursor line)) ≡ Some next.current
 get_after line next h =
     ap (slice_get (states line)) (sym (next_cursor line next h)) ∙ ap (λ (held : List State). slice_get held (cursor next)) (sym (next_states line next h)) ∙ get_middle next.before next.current next.after
 
@@ -42,8 +43,8 @@ pub gone_on : (done undone es : List Entry) (e found : Entry) (s target : State)
 gone_on done undone es e found s target line shown is fits at leads =
     let parts = ahead_pop es e s (subst (λ (ds : List Entry). Ahead (reverse ds) s) is fits.ahead) in
     let next : IsNext line (line_of (done ++ e ∷ []) es (forth e s)) = next_on done undone es e s line shown is (forth e s) parts.0 in
-    let here : at.0 ≡ line.current = one_some at.0 line.current (sym at.2 ∙ get_middle line.before line.current line.after) in
-    let there : at.1 ≡ forth e s = one_some at.1 (forth e s) (sym at.3 ∙ get_after line (line_of (done ++ e ∷ []) es (forth e s)) next) in
+    let here : at.0 ≡ line.current = same_Some at.0 line.current (sym at.2 ∙ get_middle line.before line.current line.after) in
+    let there : at.1 ≡ forth e s = same_Some at.1 (forth e s) (sym at.3 ∙ get_after line (line_of (done ++ e ∷ []) es (forth e s)) next) in
     let same : forth e s ≡ target = sym (leads at.1 (subst (λ (t : State). IsStep t at.1 found) here at.4) ∙ there) in
     let step : IsStep s target e = subst (λ (t : State). IsStep s t e) same parts.0 in (
       record { behind = behind_push done e s target fits.behind step; ahead = subst (Ahead (reverse es)) same parts.1; table = step.to_table },
@@ -52,7 +53,7 @@ gone_on done undone es e found s target line shown is fits at leads =
 
 -- the step at the cursor starts in the current state
 pub step_here : (line : Line) (e : Entry) → IsStepAt line (cursor line) e → (to : State) × IsStep line.current to e
-step_here line e at = (at.1, subst (λ (t : State). IsStep t at.1 e) (one_some at.0 line.current (sym at.2 ∙ get_middle line.before line.current line.after)) at.4)
+step_here line e at = (at.1, subst (λ (t : State). IsStep t at.1 e) (same_Some at.0 line.current (sym at.2 ∙ get_middle line.before line.current line.after)) at.4)
 
 -- there is a state after the current one
 pub more_after : (line : Line) → line.after ≢ [] → cursor line + 1 < length (states line)
@@ -74,14 +75,6 @@ some_undone done undone s line shown more none =
 pub states_of-push : (held : List (List Bool × Bundles)) (pair : List Bool × Bundles) → states_of (held ++ pair ∷ []) ≡ states_of held ++ state pair.0 pair.1 ∷ []
 states_of-push [] pair = refl
 states_of-push (x ∷ held) pair = ap (λ (rest : List State). state x.0 x.1 ∷ rest) (states_of-push held pair)
-
-pub length-states_of : (held : List (List Bool × Bundles)) → length (states_of held) ≡ length held
-length-states_of [] = refl
-length-states_of (x ∷ held) = ap suc (length-states_of held)
-
-push_append : (xs : List State) (x : State) (ys : List State) → (xs ++ x ∷ []) ++ ys ≡ xs ++ x ∷ ys
-push_append [] x ys = refl
-push_append (z ∷ xs) x ys = ap (λ (rest : List State). z ∷ rest) (push_append xs x ys)
 
 -- what is put in front of a line comes from the pairs that are left
 pub one_less : (held rest : List (List Bool × Bundles)) (pair : List Bool × Bundles) (all : List State) (line : Line) → line.before ≡ [] → states_of held ++ states line ≡ all → held ≡ rest ++ pair ∷ []
@@ -115,7 +108,7 @@ drop_first (x ∷ xs) (suc k) y ys h = drop_first xs k y ys h
 
 drop_at : (xs : List State) (k : ℕ) (s : State) → slice_get xs k ≡ Some s → drop k xs ≡ s ∷ drop (suc k) xs
 drop_at [] k s h = let bad : None ≡ Some s = h in cc
-drop_at (x ∷ xs) zero s h = let same : x ≡ s = one_some x s h in ap (λ (y : State). y ∷ xs) same
+drop_at (x ∷ xs) zero s h = let same : x ≡ s = same_Some x s h in ap (λ (y : State). y ∷ xs) same
 drop_at (x ∷ xs) (suc k) s h = drop_at xs k s h
 
 -- the last state by itself
@@ -132,7 +125,7 @@ pub in_front : (other line : Line) (at next : ℕ) (e : Entry) → next ≡ suc 
 in_front other line at next e is first rest h =
     let here : drop (suc at) (states other) ≡ line.current ∷ line.after =
     ap (λ (n : ℕ). drop n (states other)) (sym is) ∙ sym rest ∙ ap (λ (before : List State). before ++ line.current ∷ line.after) first in
-    let same : h.1 ≡ line.current = one_some h.1 line.current (sym h.3 ∙ drop_first (states other) (suc at) line.current line.after here) in (
+    let same : h.1 ≡ line.current = same_Some h.1 line.current (sym h.3 ∙ drop_first (states other) (suc at) line.current line.after here) in (
       h.0,
       record {
         step = subst (λ (t : State). IsStep h.0 t e) same h.4;

@@ -1,7 +1,11 @@
 -- What an opening finds at the top of a stack, and what it aims at.
-use Rattle.std.proofs.Common.{◌≡◌, ◌≢◌, ◌∙◌, ◌+◌, ◌-◌, ◌<◌, List, [], ◌∷◌, ◌++◌, reverse, true, Some, None, length, take, slice_get, refl, ap, subst, sym, arith}
+use Rattle.std.proofs.Common.{◌≡◌, ◌≢◌, ◌∙◌, ◌+◌, ◌-◌, ◌<◌, ◌⊎◌, inl, inr, Bool, List, [], ◌∷◌, ◌++◌, reverse, true, Some, None, length, take, slice_get, refl, ap, subst, sym, arith}
 use Rattle.std.proofs.lemmas.List.{take_more, take_all, nil_from_length}
 use Rattle.std.proofs.lemmas.Option.{slice_get_within, get_or_from_slice_get, slice_get-get_or}
+use Rattle.rc_set.specs.Set.{Has, Holds}
+use Rattle.rc_set.proofs.Members.{has_or_lacks}
+use Rattle.rc_select.specs.PlanSets.{PlanSets, IsPlan}
+use Rattle.rc_select.specs.Plan.{LeadsTo}
 use Rattle.rc_line.specs.declared.aim.Aim.TheVariants.{Undo, Redo}
 use Rattle.rc_line.specs.State.{State, Entry}
 use Rattle.rc_line.specs.Line.{Line, IsNext}
@@ -70,6 +74,27 @@ some_after done undone e s line shown top none =
     let low : length undone - 1 < length undone = slice_get_within undone (length undone - 1) e top in
     let empty : length (line_of done undone s).after ≡ 0 = ap (λ (l : Line). length l.after) shown ∙ ap length none in
     omega (arith, after_is done undone s)
+
+-- what is up with what comes up, and without what goes down, is where a plan leads
+pub plan_leads : (plan : PlanSets) (joined live : List Bool) → IsPlan plan → Holds joined (λ s. Has plan.opening s ⊎ Has plan.raise s) → Holds live (λ s. Has joined s × (Has plan.lower s → ⊥)) → LeadsTo plan.opening (Has live) (Has plan.kept) plan
+plan_leads plan joined live is joins leaves = record {
+  opening = refl;
+  lower = λ s. (
+    λ low. (is.falls s low, λ there. ((leaves s).0 there).1 low),
+    λ gone. elim (has_or_lacks plan.lower s) [
+      | inl low ↦ low
+      | inr stays ↦ absurd (gone.1 ((leaves s).1 ((joins s).1 (inl gone.0), stays)))
+    ],
+  );
+  raise = λ s. (
+    λ high. ((leaves s).1 ((joins s).1 (inr high), λ low. is.rises s high (is.falls s low)), is.rises s high),
+    λ come. elim ((joins s).0 ((leaves s).0 come.0).0) [ inl up ↦ absurd (come.1 up) | inr high ↦ high ],
+  );
+  kept = λ s. (λ has. has, λ has. has);
+  lower_bound = is.lower_bound;
+  raise_bound = is.raise_bound;
+  kept_bound = is.kept_bound;
+}
 
 -- an opening that aims well is one of the line
 pub opened_as : (old new : Journal) (opening made : Opening) → new.line ≡ old.line → new.is_open ≡ true → opening ≡ made → AimsAt made.aim old.line (target_of made old.line.current) → IsOpened new opening

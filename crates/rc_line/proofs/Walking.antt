@@ -6,20 +6,20 @@ use Rattle.rc_line.specs.Moves.{EndsIn, Undoes, Redoes, put_between, with_live}
 use Rattle.rc_line.proofs.Lines.{push_append, take_front, drop_front, next_states, next_cursor, states_front, states_back, states_join, states_one, states_more, states_first}
 
 -- a line is one whether the cursor is on one state or on the next
-line_next : (line next : Line) → IsNext line next → IsLine line → IsLine next
+pub line_next : (line next : Line) → IsNext line next → IsLine line → IsLine next
 line_next line next h is_line =
     let moved : AreStates (length line.current.live) (states next) = subst (AreStates (length line.current.live)) (sym (next_states line next h)) is_line in
     let bound : length next.current.live ≡ length line.current.live = (states_first (length line.current.live) next.current next.after (states_back (length line.current.live) next.before next.current next.after moved)).0 in
     subst (λ n. AreStates n (states next)) (sym bound) moved
 
-line_back : (line next : Line) → IsNext line next → IsLine next → IsLine line
+pub line_back : (line next : Line) → IsNext line next → IsLine next → IsLine line
 line_back line next h is_line =
     let moved : AreStates (length next.current.live) (states line) = subst (AreStates (length next.current.live)) (next_states line next h) is_line in
     let bound : length line.current.live ≡ length next.current.live = (states_first (length next.current.live) line.current line.after (states_back (length next.current.live) line.before line.current line.after moved)).0 in
     subst (λ n. AreStates n (states line)) (sym bound) moved
 
 -- the states of a line with one more between two neighbours
-split_states : (line next : Line) (end : State) → IsNext line next → states (put_between line end next) ≡ line.before ++ line.current ∷ end ∷ line.after
+pub split_states : (line next : Line) (end : State) → IsNext line next → states (put_between line end next) ≡ line.before ++ line.current ∷ end ∷ line.after
 split_states line next end h = ap (λ before. before ++ end ∷ line.after) h.left ∙ push_append line.before line.current (end ∷ line.after)
 
 -- a line stays one with a state more between two neighbours
@@ -33,8 +33,9 @@ split_keeps line next end h is_line same table left right =
     let all : AreStates bound (line.before ++ line.current ∷ end ∷ line.after) = states_join bound line.before line.current (end ∷ line.after) (states_front bound line.before line.current line.after is_line) (states_more bound line.current end line.after first.0 first.1 (λ e. left (sym e)) on) in
     subst (λ n. AreStates n (states (put_between line end next))) (sym same) (subst (AreStates bound) (sym (split_states line next end h)) all)
 
-table_of : (line : Line) → IsLine line → IsTable line.current.table
-table_of line is_line = (states_first (length line.current.live) line.current line.after (states_back (length line.current.live) line.before line.current line.after is_line)).1
+-- the bundles of the current state are a table
+pub current_table : (line : Line) → IsLine line → IsTable line.current.table
+current_table line is_line = (states_first (length line.current.live) line.current line.after (states_back (length line.current.live) line.before line.current line.after is_line)).1
 
 pub ends_keep : (line new : Line) (end : State) → IsLine line → length end.live ≡ length line.current.live → IsTable end.table → EndsIn line end new → IsLine new
 ends_keep line new end is_line same table ends = elim ends [
@@ -54,7 +55,7 @@ undo_keeps line new live is_line same u = let back : Line = u.0 in let is_back :
     | inl here ↦ subst IsLine (sym here.2) is_line
     | inr between ↦
         let next_bound : length line.current.live ≡ length back.current.live = (states_first (length back.current.live) line.current line.after (states_back (length back.current.live) line.before line.current line.after (subst (AreStates (length back.current.live)) (sym (next_states back line u.1)) is_back))).0 in
-        subst IsLine (sym between.2) (split_keeps back line (with_live line live) u.1 is_back (same ∙ next_bound) (table_of line is_line) (λ e. between.0 (ap (λ s. s.live) e)) (λ e. between.1 (ap (λ s. s.live) e)))
+        subst IsLine (sym between.2) (split_keeps back line (with_live line live) u.1 is_back (same ∙ next_bound) (current_table line is_line) (λ e. between.0 (ap (λ s. s.live) e)) (λ e. between.1 (ap (λ s. s.live) e)))
   ]
 ]
 
@@ -63,7 +64,7 @@ redo_keeps line new live is_line same r = let on : Line = r.0 in elim r.2 [
   | inl there ↦ subst IsLine (sym there.1) (line_next line on r.1 is_line)
   | inr other ↦ elim other [
     | inl here ↦ subst IsLine (sym here.2) is_line
-    | inr between ↦ subst IsLine (sym between.2) (split_keeps line on (with_live line live) r.1 is_line same (table_of line is_line) (λ e. between.1 (ap (λ s. s.live) e)) (λ e. between.0 (ap (λ s. s.live) e)))
+    | inr between ↦ subst IsLine (sym between.2) (split_keeps line on (with_live line live) r.1 is_line same (current_table line is_line) (λ e. between.1 (ap (λ s. s.live) e)) (λ e. between.0 (ap (λ s. s.live) e)))
   ]
 ]
 

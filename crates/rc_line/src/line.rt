@@ -1,5 +1,7 @@
 ghost use Rattle.std.specs.Prelude.{◌≡◌, ◌≢◌, ◌⊎◌, ◌<◌, ◌≤◌, ◌+◌, ◌↔◌, true, false, [], ◌∷◌, Some, None, Err, length, slice_get, IfOk, OnOk, OnErr};
+ghost use Rattle.rc_set.specs.Set.{Has};
 ghost use Rattle.rc_db.specs.Bundles.{Bundles, IsTable};
+ghost use Rattle.rc_select.specs.Plan.{LeadsTo};
 ghost use Rattle.rc_bundle.specs.Edit.{IsEdit};
 ghost use Rattle.rc_line.specs.Line.{states, cursor, IsLine, IsNext, IsEntryAt};
 ghost use Rattle.rc_line.specs.Moves.{Changes, Edits, Undoes, Redoes};
@@ -22,7 +24,9 @@ use std::marker::Model;
 
 /// A line of states with a cursor on the current one.
 ///
-/// Time: an opening and a closing grow with the entry beside the cursor and with the services; `state` walks.
+/// Time: an opening and a closing grow with the entry beside the cursor, with the services and, where bundles alter,
+/// with the table; none grows with the number of states. `state` walks from the cursor, and `copy` and `from_states`
+/// go through all states.
 pub struct Line {
     live: Set,
     table: Table,
@@ -143,11 +147,14 @@ impl Line {
         requires bound { length plan.now.opening ≡ length self.old.line.current.live }
         ensures opened { IfOk result (IsOpened self.new) }
         ensures aim { IfOk result (λ opening. opening.aim ≡ Aim.Change) }
+        ensures live { IfOk result (λ opening. LeadsTo plan.now.opening (Has opening.live) (Has plan.now.kept) plan.now) }
         ensures line { self.new.line ≡ self.old.line }
         ensures memory { OnErr result (result ≡ Err LineFault.Memory) }
         ensures err { OnErr result (self.new ≡ self.old) }
     {
-        let live = plan.opening().copy(alloc)?;
+        let mut live = plan.opening().copy(alloc)?;
+        live.join(plan.raise());
+        live.without(plan.lower());
         let opening = self.opened(alloc, Aim::Change, live, None)?;
         Ok(opening)
     }
@@ -452,9 +459,7 @@ impl Line {
         let mut at = self.cursor();
         while at > place {
             at -= 1;
-            let (before, other) = self.step_at(at).before(alloc, &live, &table)?;
-            live = before;
-            replace(&mut table, other);
+            self.step_at(at).turn_back(alloc, &mut live, &mut table)?;
         }
         Ok((live, table))
     }
@@ -474,9 +479,7 @@ impl Line {
     {
         let mut at = self.cursor();
         while at < place {
-            let (after, other) = self.step_at(at).after(alloc, &live, &table)?;
-            live = after;
-            replace(&mut table, other);
+            self.step_at(at).turn_on(alloc, &mut live, &mut table)?;
             at += 1;
         }
         Ok((live, table))

@@ -16,7 +16,8 @@ no_members [] none = refl
 no_members (true ∷ set) none = absurd (none 0 refl)
 no_members (false ∷ set) none = ap (λ rest. false ∷ rest) (no_members set (λ s has. none (suc s) has))
 
-nothing_live : (n s : ℕ) → Has (replicate n false) s → ⊥
+-- in a set of nothing nothing is
+pub nothing_live : (n s : ℕ) → Has (replicate n false) s → ⊥
 nothing_live zero s has = let bad : false ≡ true = has in cc
 nothing_live (suc n) zero has = let bad : false ≡ true = has in cc
 nothing_live (suc n) (suc s) has = nothing_live n s has

@@ -1,11 +1,12 @@
-use Rattle.std.proofs.Common.{◌≡◌, ◌∙◌, ◌<◌, Bool, List, [], ◌∷◌, inl, inr, ap, sym, subst, arith}
+use Rattle.std.proofs.Common.{◌≡◌, ◌∙◌, [], ◌∷◌, inl, inr, ap, sym, subst}
 use Rattle.rc_set.specs.Set.{Lists}
-use Rattle.rc_db.specs.Bundles.{Bundles}
 use Rattle.rc_db.specs.Database.{Database}
 use Rattle.rc_bundle.specs.Edit.{IsEdit}
 use Rattle.rc_line.specs.State.{State, Entry, IsEntry, IsGained}
 use Rattle.rc_line.specs.Line.{Line, IsNext}
 use Rattle.rc_line.specs.Moves.{EndsIn, with_live, with_table}
+use Rattle.rc_line.proofs.Rewriting.{no_edit}
+use Rattle.rc_line.proofs.Steps.{none_gained}
 use Rattle.rc_session.specs.Promise.{IsEntered, ChangesAreEntered, EditsAreEntered}
 use Rattle.rc_session.proofs.Entries.{entry_before}
 
@@ -30,20 +31,6 @@ enters line new end entry ends is =
             inr ((λ same. adds.0 (sym (ap (λ l. l.current) adds.1) ∙ same)), ap (λ l. l.after) adds.1, (entry_before back new next entry).1 here)
       ];
     }
-
--- nothing is the edit from a table to itself
-no_edit : (table : Bundles) → IsEdit table table []
-no_edit table = record {
-  order = λ i j d first within. absurd (omega arith);
-  same = λ a. ((λ found. let below : found.0 < 0 = found.1 in absurd (omega arith)), λ alters. absurd (alters.differs (sym alters.before ∙ alters.after)));
-}
-
--- nothing is gained from a set to itself
-none_gained : (set : List Bool) → Lists (IsGained set set) []
-none_gained set = record {
-  ascending = λ i j d first within. absurd (omega arith);
-  same = λ s. ((λ found. let below : found.0 < 0 = found.1 in absurd (omega arith)), λ gained. absurd (gained.1 gained.0));
-}
 
 pub change_entered : (d : Database) (line : Line) → ChangesAreEntered d line
 change_entered d line ask events told new does = elim does [

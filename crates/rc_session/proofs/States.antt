@@ -1,4 +1,4 @@
-use Rattle.std.proofs.Common.{◌≡◌, ◌∙◌, ℕ, Bool, List, [], ◌∷◌, ◌++◌, length, All, Option, None, Some, Contains, inl, inr, ap, sym, subst}
+use Rattle.std.proofs.Common.{◌≡◌, ◌∙◌, ℕ, Bool, List, [], ◌∷◌, length, All, Option, None, Some, Contains, inl, inr, sym, subst}
 use Rattle.std.proofs.lemmas.List.Elements.{All-cons, All-nil}
 use Rattle.rc_db.specs.Bundles.{Bundles, IsTable, value_of}
 use Rattle.rc_db.specs.Database.{Database, AreApart}
@@ -7,35 +7,13 @@ use Rattle.rc_db.proofs.Values.{named_by_value}
 use Rattle.rc_db.proofs.Words.{value_of-named}
 use Rattle.rc_bundle.proofs.Changes.{changed_below, removed_below}
 use Rattle.rc_line.specs.State.{State}
-use Rattle.rc_line.specs.Line.{Line, IsNext, IsLine, AreStates, states}
+use Rattle.rc_line.specs.Line.{Line, IsNext, states}
 use Rattle.rc_line.specs.Moves.{EndsIn, Undoes, Redoes, put_between, with_live, with_table}
 use Rattle.rc_line.proofs.Lines.{push_append, next_states}
-use Rattle.rc_line.proofs.Walking.{ends_keep, undo_keeps, redo_keeps}
+use Rattle.rc_line.proofs.Walking.{line_next, line_back, split_states, ends_keep, undo_keeps, redo_keeps}
 use Rattle.rc_session.proofs.Among.{all_middle, all_behind, all_swap}
 use Rattle.rc_session.specs.Commands.{Command, Change, Undo, Redo, Add, Delete}
 use Rattle.rc_session.specs.Doing.{Alters, IsStateOf, IsLineOf}
-
--- the states of a line with one more between two neighbours
-split_states : (line next : Line) (end : State) → IsNext line next → states (put_between line end next) ≡ line.before ++ line.current ∷ end ∷ line.after
-split_states line next end h = ap (λ before. before ++ end ∷ line.after) h.left ∙ push_append line.before line.current (end ∷ line.after)
-
--- states that a line may have with the bound of one of them have the bound of each
-rebound : (a b : State) (held : List State) → length a.live ≡ length b.live → AreStates (length a.live) held → AreStates (length b.live) held
-rebound a b held same are = subst (λ n. AreStates n held) same are
-
--- a line is one whether the cursor is on one state or on the next
-line_next : (line next : Line) → IsNext line next → IsLine line → IsLine next
-line_next line next h is_line =
-    let here : AreStates (length line.current.live) (states next) = subst (AreStates (length line.current.live)) (sym (next_states line next h)) is_line in
-    rebound line.current next.current (states next) (sym (all_middle (λ s. length s.live ≡ length line.current.live) next.before next.current next.after here.bounds)) here
-
-line_back : (line next : Line) → IsNext line next → IsLine next → IsLine line
-line_back line next h is_line =
-    let here : AreStates (length next.current.live) (states line) = subst (AreStates (length next.current.live)) (next_states line next h) is_line in
-    rebound next.current line.current (states line) (sym (all_middle (λ s. length s.live ≡ length next.current.live) line.before line.current line.after here.bounds)) here
-
-pub current_table : (line : Line) → IsLine line → IsTable line.current.table
-current_table line is_line = all_middle (λ s. IsTable s.table) line.before line.current line.after is_line.tables
 
 pub line_of_back : (d : Database) (line next : Line) → IsNext line next → IsLineOf d next → IsLineOf d line
 line_of_back d line next h of = record { is_line = line_back line next h of.is_line; each = subst (All (IsStateOf d)) (next_states line next h) of.each }

@@ -17,8 +17,7 @@ ghost use Rattle.rc_session.specs.declared.refusal.Refusal.{Refusal};
 ghost use Rattle.rc_session.specs.Commands.{Command, Undo, Redo, events_of};
 ghost use Rattle.rc_session.specs.Report.{Told};
 ghost use Rattle.rc_session.specs.Task.{IsTask, deadline_of};
-ghost use Rattle.rc_session.specs.Doing.{Runs, Does, IsLineOf};
-ghost use Rattle.rc_session.specs.Refusals.{Refuses};
+ghost use Rattle.rc_session.specs.Doing.{Runs, IsLineOf};
 ghost use Rattle.rc_session.specs.Plays.{Answers, Plays};
 ghost use Rattle.rc_session.specs.Alike.{IsEndOfFailing};
 ghost use Rattle.rc_session.specs.Promise.{RunsAreOrderly, ChangesAreEntered, EditsAreEntered, UndosRestore, RedosRestore, UndosLeaveWhatRemains, HoldsAllAlong};
@@ -68,22 +67,25 @@ pub fn plays_go_step_by_step()
         Plays d line commands answers new →
         (here : Line) × Plays d line (take k commands) (take k answers) here × Plays d here (drop k commands) (drop k answers) new }
     ensures step { (d : Database) (line new : Line) (commands : List Command) (answers : List (Result Told Refusal)) (k : ℕ) (command : Command) (answer : Result Told Refusal) →
-        IsDatabase d → IsLineOf d line → Plays d line commands answers new → slice_get commands k ≡ Some command → slice_get answers k ≡ Some answer →
+        IsLineOf d line → Plays d line commands answers new → slice_get commands k ≡ Some command → slice_get answers k ≡ Some answer →
         (here : Line) × (next : Line) × IsLineOf d here × Plays d line (take k commands) (take k answers) here × Answers d here command answer next }
 {}
 
 /// Each command, done or refused, leads from a line of the database to one, and so do several.
 pub fn commands_keep_lines()
     ensures one { (d : Database) (line new : Line) (command : Command) (answer : Result Told Refusal) →
-        IsDatabase d → IsLineOf d line → Answers d line command answer new → IsLineOf d new }
+        IsLineOf d line → Answers d line command answer new → IsLineOf d new }
     ensures several { (d : Database) (line new : Line) (commands : List Command) (answers : List (Result Told Refusal)) →
-        IsDatabase d → IsLineOf d line → Plays d line commands answers new → IsLineOf d new }
+        IsLineOf d line → Plays d line commands answers new → IsLineOf d new }
 {}
 
-/// A command that is done has no cause to be refused.
-pub fn what_is_done_is_not_refused()
-    ensures { (d : Database) (line new : Line) (command : Command) (told : Told) (refusal : Refusal) →
-        Does d line command told new → Refuses d line command refusal → ⊥ }
+/// What a command comes to is determined by where the line stands: one answer, and one line from then on. So what is
+/// done has no cause to be refused, and the lines of which the headline speaks are those on which the session stood.
+pub fn answers_are_one()
+    ensures one { (d : Database) (line a b : Line) (command : Command) (x y : Result Told Refusal) →
+        Answers d line command x a → Answers d line command y b → (x ≡ y) × (a ≡ b) }
+    ensures several { (d : Database) (line a b : Line) (commands : List Command) (xs ys : List (Result Told Refusal)) →
+        Plays d line commands xs a → Plays d line commands ys b → (xs ≡ ys) × (a ≡ b) }
 {}
 
 /// The run that a command asks for is a course, so it can be opened, and where nothing hinders it it ends in its target.
