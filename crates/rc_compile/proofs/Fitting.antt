@@ -148,7 +148,3 @@ targets_known ms names is_service right = all_places (λ m. IfSome m.producer_fo
 -- the name of a service is that of a definition
 pub service_defined : (ms : List Meaning) (names : List (List ℕ)) → ((name : List ℕ) → Contains names name ↔ IsService ms name) → (name : List ℕ) → Contains names name → (m : Meaning) × Contains ms m × (m.name ≡ name)
 service_defined ms names is_service name there = let service = (is_service name).0 there in (service.0, service.1, service.2)
-
--- the tables of names are those of services and of bundles
-pub same_as : (names : List (List ℕ)) (P Q : List ℕ → Type 0) → ((name : List ℕ) → Contains names name ↔ P name) → ((name : List ℕ) → P name ↔ Q name) → (name : List ℕ) → Contains names name ↔ Q name
-same_as names P Q is same name = (λ there. (same name).0 ((is name).0 there), λ holds. (is name).1 ((same name).1 holds))

@@ -1,5 +1,5 @@
 -- Names that definitions give, definition by definition.
-use Rattle.std.proofs.Common.{◌≡◌, ◌≢◌, ◌∙◌, ◌+◌, ◌<◌, ◌≤◌, ◌⊎◌, ◌↔◌, ⊎_elim, inl, inr, ℕ, Bool, zero, suc, List, ◌∷◌, length, get_or, slice_get, Contains, All, AllPairs, Some, true, refl, sym, subst, arith}
+use Rattle.std.proofs.Common.{◌≡◌, ◌≢◌, ◌∙◌, ◌+◌, ◌<◌, ◌≤◌, ◌⊎◌, ◌↔◌, ⊎_elim, inl, inr, ℕ, zero, suc, List, ◌∷◌, length, get_or, slice_get, Contains, All, AllPairs, Some, true, sym, subst, arith}
 use Rattle.std.proofs.lemmas.Bool.{cases_lt}
 use Rattle.std.proofs.lemmas.Cmp.{nat_list_eq_equiv}
 use Rattle.std.proofs.lemmas.List.Elements.{Contains-get_or}
@@ -11,17 +11,13 @@ use Rattle.std.specs.Cmp.{IsEquivalence}
 use Rattle.std.specs.Set.{is_member}
 use Rattle.rc_names.specs.Names.{Adds, AreNames, IsBefore}
 use Rattle.rc_names.specs.declared.kind.Kind.TheVariants.{Longrun, Bundle}
-use Rattle.rc_set.specs.Set.{Has, Holds}
-use Rattle.rc_db.proofs.ByteOrder.{not_before_itself}
+use Rattle.rc_names.proofs.ByteOrder.{not_before_itself}
 use Rattle.rc_db.proofs.Places.{contains_at, place_of}
 use Rattle.rc_source.specs.Meaning.{Meaning}
-use Rattle.rc_holds.specs.Pipelines.{IsLongrun}
-use Rattle.rc_compile.specs.declared.CompileFault.{CompileFault}
-use Rattle.rc_compile.specs.declared.CompileFault.TheVariants as fault
 use Rattle.rc_compile.specs.declared.tables.Which.{Which}
 use Rattle.rc_compile.specs.declared.tables.Which.TheVariants.{Services, Bundles}
 use Rattle.rc_compile.specs.Pipes.{AreTooMany}
-use Rattle.rc_compile.specs.Given.{Gives, IsGiven, IsFull, AreFull}
+use Rattle.rc_compile.specs.Given.{Gives, IsNameOf, IsFull}
 
 -- an entry among the first so many of which this holds
 abbrev pub IsBelow : (Meaning → Type 0) → List Meaning → ℕ → Type 0
@@ -49,6 +45,31 @@ module _ (P : Meaning → Type 0) (ms : List Meaning) where
 
   pub all_below : (m : Meaning) → Contains ms m → P m → IsBelow P ms (length ms)
   all_below m there holds = let at = place_of ms m there in (at.0, m, slice_get_within ms at.0 m at.1, at.1, holds)
+
+-- what a loop over entries has seen: of each thing, whether this holds of it for some of the first so many
+module _ {X : Type 0} (P : Meaning → X → Type 0) (ms : List Meaning) where
+  abbrev pub SeenBelow : (X → Type 0) → ℕ → Type 0
+  SeenBelow Seen count = (x : X) → Seen x ↔ IsBelow (λ m. P m x) ms count
+
+  pub seen_none : (Seen : X → Type 0) → ((x : X) → Seen x → ⊥) → SeenBelow Seen 0
+  seen_none Seen none x = (λ seen. absurd (none x seen), λ (k, m, low, at, holds). absurd (omega (arith, low)))
+
+  pub seen_next : (Old New : X → Type 0) (i : ℕ) (m : Meaning) → slice_get ms i ≡ Some m → SeenBelow Old i → ((x : X) → New x ↔ (Old x ⊎ P m x)) → SeenBelow New (i + 1)
+  seen_next Old New i m here before more x =
+      let Q : Meaning → Type 0 = λ y. P y x in (
+        λ new. ⊎_elim (λ old. below_more Q ms i ((before x).0 old)) (λ now. below_here Q ms i m here now) ((more x).0 new),
+        λ below. (more x).1 (⊎_elim (λ passed. inl ((before x).1 passed)) (λ now. inr now) (below_next Q ms i m here below)),
+      )
+
+  pub seen_whole : (Seen : X → Type 0) (i : ℕ) → length ms ≤ i → SeenBelow Seen i → (x : X) → Seen x ↔ ((m : Meaning) × Contains ms m × P m x)
+  seen_whole Seen i all before x =
+      let Q : Meaning → Type 0 = λ y. P y x in (
+        λ seen. below_all Q ms i ((before x).0 seen),
+        λ (m, there, holds).
+            let below = all_below Q ms m there holds in
+            let low : below.0 < length ms = below.2 in
+            (before x).1 (below.0, below.1, omega arith, below.3, below.4),
+      )
 
 texts_equal : IsEquivalence bytes_eq
 texts_equal = nat_list_eq_equiv
@@ -88,29 +109,20 @@ one_given Bundles m a b (inl ha) (inr hb) = let bad : Bundle ≡ Longrun = sym h
 one_given Bundles m a b (inr ha) (inl hb) = let bad : Bundle ≡ Longrun = sym hb.0 ∙ ha.longrun in cc
 one_given Bundles m a b (inr ha) (inr hb) = let same : Some a ≡ Some b = sym ha.named ∙ hb.named in cc
 
--- a name that does not go in is the one that an entry gives
-pub full_by : (names : List (List ℕ)) (P Q : List ℕ → Type 0) → ((n : List ℕ) → P n → Q n) → (f : CompileFault) → IsFull names P f → IsFull names Q f
-full_by names P Q wider fault.TooMany (name, holds, new, full) = (name, wider name holds, new, full)
-full_by names P Q wider fault.Memory h = h
-full_by names P Q wider (fault.UnknownIn s n) h = h
-full_by names P Q wider (fault.BundleCycle ns) h = h
-full_by names P Q wider (fault.PipelineType s) h = h
-full_by names P Q wider (fault.PipelineMismatch s) h = h
-full_by names P Q wider (fault.PipelineName s) h = h
-full_by names P Q wider (fault.Cycle ns) h = h
+-- the names that entries give are those of services, or of bundles
+pub given_is : (which : Which) (ms : List Meaning) (name : List ℕ) → ((m : Meaning) × Contains ms m × Gives which m name) ↔ IsNameOf which ms name
+given_is Services ms name = (λ (m, there, (kind, named)). (m, there, named, kind), λ (m, there, named, kind). (m, there, (kind, named)))
+given_is Bundles ms name = (
+  λ (m, there, gives). ⊎_elim (λ (kind, named). inl (m, there, named, kind)) (λ names. inr (m, there, names)) gives,
+  λ bundle. ⊎_elim (λ (m, there, named, kind). (m, there, inl (kind, named))) (λ (m, there, names). (m, there, inr names)) bundle,
+)
 
 -- a table of what some entries give is full, and one entry gives another name: they give too many
 pub too_many : (which : Which) (ms : List Meaning) (names : List (List ℕ)) (i : ℕ) (m : Meaning) → AreNames names → slice_get ms i ≡ Some m
-    → ((name : List ℕ) → Contains names name ↔ IsBelow (λ x. Gives which x name) ms i) → (f : CompileFault) → IsFull names (Gives which m) f → AreFull (IsGiven which ms) f
-too_many which ms names i m are here same fault.TooMany (name, given, new, full) =
-    full_is_many (IsGiven which ms) names are name (λ n there. below_all (λ x. Gives which x n) ms i ((same n).0 there)) (m, contains_at ms i m here, given) new full
-too_many which ms names i m are here same fault.Memory h = h
-too_many which ms names i m are here same (fault.UnknownIn s n) h = h
-too_many which ms names i m are here same (fault.BundleCycle ns) h = h
-too_many which ms names i m are here same (fault.PipelineType s) h = h
-too_many which ms names i m are here same (fault.PipelineMismatch s) h = h
-too_many which ms names i m are here same (fault.PipelineName s) h = h
-too_many which ms names i m are here same (fault.Cycle ns) h = h
+    → ((name : List ℕ) → Contains names name ↔ IsBelow (λ x. Gives which x name) ms i) → IsFull names (Gives which m) → AreTooMany (IsNameOf which ms)
+too_many which ms names i m are here same (name, given, new, full) =
+    full_is_many (IsNameOf which ms) names are name (λ n there. (given_is which ms n).0 (below_all (λ x. Gives which x n) ms i ((same n).0 there)))
+    ((given_is which ms name).0 (m, contains_at ms i m here, given)) new full
 
 -- the names of a table to which the name goes that an entry gives
 pub given_adds : (which : Which) (m : Meaning) (old new : List (List ℕ)) (name : List ℕ) → Gives which m name → Adds old name new
@@ -120,87 +132,8 @@ given_adds which m old new name given adds n = (
   λ cases. (adds n).1 (⊎_elim (λ before. inl before) (λ gives. inr (one_given which m n name gives given)) cases),
 )
 
--- names of a table that has what the entries passed give, and what one more gives
-pub given_next : (which : Which) (ms : List Meaning) (i : ℕ) (m : Meaning) (old new : List (List ℕ)) → slice_get ms i ≡ Some m
-    → ((n : List ℕ) → Contains old n ↔ IsBelow (λ x. Gives which x n) ms i) → ((n : List ℕ) → Contains new n ↔ (Contains old n ⊎ Gives which m n))
-    → (n : List ℕ) → Contains new n ↔ IsBelow (λ x. Gives which x n) ms (i + 1)
-given_next which ms i m old new here before more n =
-    let P : Meaning → Type 0 = λ x. Gives which x n in (
-      λ there. ⊎_elim (λ passed. below_more P ms i ((before n).0 passed)) (λ gives. below_here P ms i m here gives) ((more n).0 there),
-      λ below. (more n).1 (⊎_elim (λ passed. inl ((before n).1 passed)) (λ gives. inr gives) (below_next P ms i m here below)),
-    )
-
 -- a table of what all entries give
-pub below_whole : (which : Which) (ms : List Meaning) (names : List (List ℕ)) (i : ℕ) → length ms ≤ i → ((n : List ℕ) → Contains names n ↔ IsBelow (λ x. Gives which x n) ms i)
-    → (n : List ℕ) → Contains names n ↔ IsGiven which ms n
-below_whole which ms names i over same n =
-    let P : Meaning → Type 0 = λ x. Gives which x n in (
-      λ there. below_all P ms i ((same n).0 there),
-      λ (m, within, given).
-          let at = all_below P ms m within given in
-          let low : at.0 < length ms = at.2 in
-          (same n).1 (at.0, at.1, omega arith, at.3, at.4),
-    )
-
--- a longrun among the first so many has the name at this place
-abbrev pub LongrunAt : List Meaning → List (List ℕ) → ℕ → ℕ → Type 0
-LongrunAt ms names count s = (name : List ℕ) × (slice_get names s ≡ Some name) × IsBelow (λ m. (m.kind ≡ Longrun) × (m.name ≡ name)) ms count
-
-module _ (ms : List Meaning) (names : List (List ℕ)) where
-  pub no_longruns : (set : List Bool) → ((s : ℕ) → Has set s → ⊥) → Holds set (LongrunAt ms names 0)
-  no_longruns set none s = (λ has. absurd (none s has), λ (name, at, (k, m, low, here, rest)). absurd (omega (arith, low)))
-
-  pub longrun_next : (i : ℕ) (m : Meaning) (old new : List Bool) → slice_get ms i ≡ Some m → Holds old (LongrunAt ms names i)
-      → Holds new (λ s. Has old s ⊎ (slice_get names s ≡ Some m.name)) → m.kind ≡ Longrun → Holds new (LongrunAt ms names (i + 1))
-  longrun_next i m old new here before more kind s = (
-    λ has. ⊎_elim
-        (λ passed. let at = (before s).0 passed in (at.0, at.1, below_more (λ x. (x.kind ≡ Longrun) × (x.name ≡ at.0)) ms i at.2))
-        (λ there. (m.name, there, below_here (λ x. (x.kind ≡ Longrun) × (x.name ≡ m.name)) ms i m here (kind, refl)))
-        ((more s).0 has),
-    λ (name, at, below). (more s).1 (⊎_elim
-        (λ passed. inl ((before s).1 (name, at, passed)))
-        (λ (k, named). inr (subst (λ n. slice_get names s ≡ Some n) (sym named) at))
-        (below_next (λ x. (x.kind ≡ Longrun) × (x.name ≡ name)) ms i m here below)),
-  )
-
-  pub longrun_not : (i : ℕ) (m : Meaning) (set : List Bool) → slice_get ms i ≡ Some m → Holds set (LongrunAt ms names i) → (m.kind ≢ Longrun) → Holds set (LongrunAt ms names (i + 1))
-  longrun_not i m set here before other s = (
-    λ has. let at = (before s).0 has in (at.0, at.1, below_more (λ x. (x.kind ≡ Longrun) × (x.name ≡ at.0)) ms i at.2),
-    λ (name, at, below). ⊎_elim
-        (λ passed. (before s).1 (name, at, passed))
-        (λ (kind, named). absurd (other kind))
-        (below_next (λ x. (x.kind ≡ Longrun) × (x.name ≡ name)) ms i m here below),
-  )
-
-  pub longruns_whole : (i : ℕ) (set : List Bool) → length ms ≤ i → Holds set (LongrunAt ms names i) → Holds set (λ s. (name : List ℕ) × (slice_get names s ≡ Some name) × IsLongrun ms name)
-  longruns_whole i set all before s = (
-    λ has.
-        let at = (before s).0 has in
-        let one = below_all (λ x. (x.kind ≡ Longrun) × (x.name ≡ at.0)) ms i at.2 in
-        (at.0, at.1, (one.0, one.1, one.2.1, one.2.0)),
-    λ (name, at, (m, there, named, kind)).
-        let below = all_below (λ x. (x.kind ≡ Longrun) × (x.name ≡ name)) ms m there (kind, named) in
-        let low : below.0 < length ms = below.2 in
-        (before s).1 (name, at, (below.0, below.1, omega arith, below.3, below.4)),
-  )
-
--- names of the entries passed of which this holds: one entry more, and all of them
-pub listed_next : (P : Meaning → Type 0) (ms : List Meaning) (i : ℕ) (m : Meaning) (old new : List (List ℕ)) → slice_get ms i ≡ Some m
-    → ((s : List ℕ) → Contains old s ↔ IsBelow (λ x. (x.name ≡ s) × P x) ms i) → ((s : List ℕ) → Contains new s ↔ (Contains old s ⊎ ((s ≡ m.name) × P m)))
-    → (s : List ℕ) → Contains new s ↔ IsBelow (λ x. (x.name ≡ s) × P x) ms (i + 1)
-listed_next P ms i m old new here before more s =
-    let Q : Meaning → Type 0 = λ x. (x.name ≡ s) × P x in (
-      λ there. ⊎_elim (λ passed. below_more Q ms i ((before s).0 passed)) (λ (same, p). below_here Q ms i m here (sym same, p)) ((more s).0 there),
-      λ below. (more s).1 (⊎_elim (λ passed. inl ((before s).1 passed)) (λ (same, p). inr (sym same, p)) (below_next Q ms i m here below)),
-    )
-
-pub listed_whole : (P : Meaning → Type 0) (ms : List Meaning) (i : ℕ) (names : List (List ℕ)) → length ms ≤ i → ((s : List ℕ) → Contains names s ↔ IsBelow (λ x. (x.name ≡ s) × P x) ms i)
-    → (s : List ℕ) → Contains names s ↔ ((m : Meaning) × Contains ms m × (m.name ≡ s) × P m)
-listed_whole P ms i names all before s =
-    let Q : Meaning → Type 0 = λ x. (x.name ≡ s) × P x in (
-      λ there. let one = below_all Q ms i ((before s).0 there) in (one.0, one.1, one.2.0, one.2.1),
-      λ (m, there, named, p).
-          let below = all_below Q ms m there (named, p) in
-          let low : below.0 < length ms = below.2 in
-          (before s).1 (below.0, below.1, omega arith, below.3, below.4),
-    )
+pub given_whole : (which : Which) (ms : List Meaning) (names : List (List ℕ)) (i : ℕ) → length ms ≤ i → SeenBelow (Gives which) ms (Contains names) i → (n : List ℕ) → Contains names n ↔ IsNameOf which ms n
+given_whole which ms names i all before n =
+    let seen = seen_whole (Gives which) ms (Contains names) i all before n in
+    (λ there. (given_is which ms n).0 (seen.0 there), λ named. seen.1 ((given_is which ms n).1 named))

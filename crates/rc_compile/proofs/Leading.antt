@@ -1,10 +1,10 @@
-use Rattle.std.proofs.Common.{◌≡◌, ℕ, inl, inr, List, [], ◌∷◌, Contains, arith, refl, subst}
+use Rattle.std.proofs.Common.{◌≡◌, ℕ, inl, List, Contains, arith, refl}
 use Rattle.rc_source.specs.Meaning.{Meaning}
 use Rattle.rc_compile.specs.declared.CompileFault.{CompileFault}
 use Rattle.rc_compile.specs.declared.CompileFault.TheVariants as fault
-use Rattle.rc_holds.specs.Along.{LeadsTo}
 use Rattle.rc_holds.specs.Pipelines.{IsDefined, IsService, IsLongrun, WritesTo, InPipelineOf}
 use Rattle.rc_holds.specs.Standing.{HoldsName, StandsFor, NeedsNamed}
+use Rattle.rc_holds.proofs.Stands.{step_leads}
 use Rattle.rc_compile.specs.CompileFaults.{TooMany, AreFree, IsCompileFault}
 
 pub not_refused : (ms : List Meaning) (f : CompileFault) → AreFree ms 7 → IsCompileFault ms f → f ≡ fault.Memory
@@ -16,11 +16,6 @@ not_refused ms (fault.PipelineMismatch s) free h = absurd (free 4 TooMany (omega
 not_refused ms (fault.PipelineName s) free h = absurd (free 5 TooMany (omega arith) (s, h.1.0))
 not_refused ms (fault.Cycle names) free h = absurd (free 6 TooMany (omega arith) (names.items, h.1))
 not_refused ms fault.Memory free h = refl
-
--- a step, and what leads on from there
-pub step_leads : (R : List ℕ → List ℕ → Type 0) (a b c : List ℕ) → R a b → LeadsTo R b c → LeadsTo R a c
-step_leads R a b c h (inl same) = inr ([], (subst (R a) same h, tt))
-step_leads R a b c h (inr path) = inr (b ∷ path.0, (h, path.1))
 
 pub through : (ms : List Meaning) (name inner s : List ℕ) → HoldsName ms name inner → StandsFor ms inner s → StandsFor ms name s
 through ms name inner s h stands = (stands.0, step_leads (HoldsName ms) name inner s h stands.1)

@@ -1,4 +1,3 @@
-pub mod Answered
 pub mod Leading
 pub mod Rings
 pub mod One
@@ -17,4 +16,3 @@ pub mod Tabled
 pub mod Bridges
 pub mod Placing
 pub mod Fitting
-pub mod Turning

@@ -26,7 +26,7 @@ module _ {X : Type 0} where
         (⊎_elim (λ at. Contains-append_left old (y ∷ []) x at) (λ p. Contains-append_right old (y ∷ []) x (Contains-here y [] x ((alone x).0 p))) cases),
   )
 
-  -- the part of a list that was passed: one more, none, all
+  -- the part of a list that was passed: one more, none
   pub part_next : (xs : List X) (i : ℕ) (y : X) → i < length xs → y ≡ get_or xs i y → (x : X) → Contains (take (i + 1) xs) x ↔ (Contains (take i xs) x ⊎ (x ≡ y))
   part_next xs i y within here x =
       let e = take_more xs i y within in
@@ -38,9 +38,6 @@ module _ {X : Type 0} where
 
   pub part_none : (xs : List X) (x : X) → Contains (take 0 xs) x → ⊥
   part_none xs x (k, within, here) = omega (arith, length-take 0 xs)
-
-  pub part_all : (xs : List X) (i : ℕ) → length xs ≤ i → (x : X) → Contains (take i xs) x ↔ Contains xs x
-  part_all xs i all x = let e = take_all i xs all in (λ h. subst (λ l. Contains l x) e h, λ h. subst (λ l. Contains l x) (sym e) h)
 
   -- those of a list of which this holds: one more, none, all
   pub some_next : (Q : X → Type 0) (xs : List X) (i : ℕ) (y : X) → i < length xs → y ≡ get_or xs i y

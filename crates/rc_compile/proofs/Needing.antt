@@ -1,17 +1,11 @@
 -- Pairs that go into a draft, list by list.
-use Rattle.std.proofs.Common.{◌≡◌, ◌∙◌, ◌+◌, ◌<◌, ◌≤◌, ◌⊎◌, ◌↔◌, ⊎_elim, inl, inr, ℕ, Bool, List, [], ◌∷◌, length, get_or, take, Contains, All, refl, sym, subst, arith}
+use Rattle.std.proofs.Common.{◌≡◌, ◌∙◌, ◌+◌, ◌<◌, ◌≤◌, ◌⊎◌, ◌↔◌, ⊎_elim, inl, inr, ℕ, Bool, List, [], length, get_or, take, Contains, All, refl, sym, subst, arith}
 use Rattle.std.proofs.lemmas.Bool.{cases_lt}
-use Rattle.std.proofs.lemmas.List.{take_more, take_all, length-take, get_or_read}
-use Rattle.std.proofs.lemmas.List.Elements.{Contains-get_or, Contains-append_cases, Contains-append_left, Contains-append_right}
+use Rattle.std.proofs.lemmas.List.{take_all, get_or_read, get_or_default}
+use Rattle.std.proofs.lemmas.List.Elements.{Contains-get_or}
 use Rattle.rc_set.specs.Set.{Has}
 use Rattle.rc_set.proofs.Members.{has_within}
-use Rattle.rc_source.specs.Meaning.{Meaning}
-use Rattle.rc_source.proofs.Members.{only, Contains-here}
-use Rattle.rc_holds.specs.Along.{IsShownCycle}
-use Rattle.rc_holds.specs.Standing.{NeedsNamed}
-use Rattle.rc_compile.specs.declared.CompileFault.{CompileFault}
-use Rattle.rc_compile.specs.declared.CompileFault.TheVariants as fault
-use Rattle.rc_compile.specs.Told.{IsShownBy, IsNeedsFault}
+use Rattle.rc_compile.proofs.Mentioned.{part_next, part_none}
 
 -- what holds of the pairs of a draft that began as another and has gained these
 abbrev pub Gained : (ℕ → ℕ → Type 0) → (ℕ → ℕ → Type 0) → (ℕ → ℕ → Type 0) → Type 0
@@ -35,19 +29,6 @@ gained_as Old New Part More before same s t = (
 pub nothing_gained : (Old Part : ℕ → ℕ → Type 0) → ((s t : ℕ) → Part s t → ⊥) → Gained Old Part Old
 nothing_gained Old Part none s t = (λ old. inl old, λ cases. ⊎_elim (λ old. old) (λ part. absurd (none s t part)) cases)
 
--- what one more element of a list is to the part of it that was passed
-pub taken_next : (xs : List ℕ) (i x : ℕ) → i < length xs → x ≡ get_or xs i 0 → (t : ℕ) → Contains (take (i + 1) xs) t ↔ (Contains (take i xs) t ⊎ (t ≡ x))
-taken_next xs i x within here t =
-    let e = take_more xs i 0 within in
-    let y = get_or xs i 0 in (
-      λ there. ⊎_elim (λ before. inl before) (λ last. inr (only y t last ∙ sym here)) (Contains-append_cases (take i xs) (y ∷ []) t (subst (λ l. Contains l t) e there)),
-      λ cases. subst (λ l. Contains l t) (sym e)
-          (⊎_elim (λ before. Contains-append_left (take i xs) (y ∷ []) t before) (λ same. Contains-append_right (take i xs) (y ∷ []) t (Contains-here y [] t (same ∙ here))) cases),
-    )
-
-pub taken_none : (xs : List ℕ) (t : ℕ) → Contains (take 0 xs) t → ⊥
-taken_none xs t (k, within, here) = omega (arith, length-take 0 xs)
-
 -- pairs of one service with what stands beside an element of a list
 abbrev pub Beside : (ℕ → ℕ → Type 0) → ℕ → List ℕ → ℕ → ℕ → Type 0
 Beside P service xs s t = (s ≡ service) × ((b : ℕ) × Contains xs b × P b t)
@@ -55,28 +36,24 @@ Beside P service xs s t = (s ≡ service) × ((b : ℕ) × Contains xs b × P b 
 -- one more element of the list
 pub one_more : (P : ℕ → ℕ → Type 0) (service : ℕ) (xs : List ℕ) (i x : ℕ) → i < length xs → x ≡ get_or xs i 0
     → Gained (Beside P service (take i xs)) (λ s t. (s ≡ service) × P x t) (Beside P service (take (i + 1) xs))
-one_more P service xs i x within here s t = (
-  λ (same, (b, there, holds)). ⊎_elim (λ before. inl (same, (b, before, holds))) (λ at. inr (same, subst (λ n. P n t) at holds)) ((taken_next xs i x within here b).0 there),
-  λ cases. ⊎_elim
-      (λ (same, (b, before, holds)). (same, (b, (taken_next xs i x within here b).1 (inl before), holds)))
-      (λ (same, holds). (same, (x, (taken_next xs i x within here x).1 (inr refl), holds)))
-      cases,
-)
+one_more P service xs i x within here s t =
+    let next = part_next xs i x within (here ∙ get_or_default xs i 0 x within) in (
+      λ (same, (b, there, holds)). ⊎_elim (λ before. inl (same, (b, before, holds))) (λ at. inr (same, subst (λ n. P n t) at holds)) ((next b).0 there),
+      λ cases. ⊎_elim
+          (λ (same, (b, before, holds)). (same, (b, (next b).1 (inl before), holds)))
+          (λ (same, holds). (same, (x, (next x).1 (inr refl), holds)))
+          cases,
+    )
 
 -- none of the list was passed, or all of it
 pub none_yet : (P : ℕ → ℕ → Type 0) (service : ℕ) (xs : List ℕ) (Old : ℕ → ℕ → Type 0) → Gained Old (Beside P service (take 0 xs)) Old
-none_yet P service xs Old = nothing_gained Old (Beside P service (take 0 xs)) (λ s t (same, (b, there, holds)). taken_none xs b there)
+none_yet P service xs Old = nothing_gained Old (Beside P service (take 0 xs)) (λ s t (same, (b, there, holds)). part_none xs b there)
 
 pub all_of : (P : ℕ → ℕ → Type 0) (service : ℕ) (xs : List ℕ) (i : ℕ) → length xs ≤ i → (s t : ℕ) → Beside P service (take i xs) s t ↔ Beside P service xs s t
 all_of P service xs i past s t =
     let e = take_all i xs past in
     let B : List ℕ → Type 0 = λ l. Beside P service l s t in
     (λ h. subst B e h, λ h. subst B (sym e) h)
-
--- beside an element stands itself alone
-pub itself : (service : ℕ) (xs : List ℕ) (s t : ℕ) → Beside (λ b t. t ≡ b) service xs s t ↔ ((s ≡ service) × Contains xs t)
-itself service xs s t =
-    (λ (same, (b, there, at)). (same, subst (Contains xs) (sym at) there), λ (same, there). (same, (t, there, refl)))
 
 -- pairs of the services passed: one more service
 pub one_passed : (P : ℕ → ℕ → Type 0) (i : ℕ) → Gained (λ s t. (s < i) × P s t) (λ s t. (s ≡ i) × P i t) (λ s t. (s < i + 1) × P s t)
@@ -108,14 +85,3 @@ pub listed_below : (set : List Bool) (ids : List ℕ) (bound : ℕ) → length s
 listed_below set ids bound long same k d within =
     let has : Has set (get_or ids k d) = (same (get_or ids k d)).0 (Contains-get_or ids k d within) in
     let low = has_within set (get_or ids k d) has in omega arith
-
--- a fault that shows a cycle
-pub shown_fault : (ms : List Meaning) (names : List (List ℕ)) (f : CompileFault) → IsShownBy names f → IsShownCycle (NeedsNamed ms) names → IsNeedsFault ms f
-shown_fault ms names (fault.Cycle shown) same ring = subst (IsShownCycle (NeedsNamed ms)) (sym same) ring
-shown_fault ms names fault.Memory same ring = same
-shown_fault ms names fault.TooMany same ring = same
-shown_fault ms names (fault.UnknownIn s n) same ring = same
-shown_fault ms names (fault.BundleCycle ns) same ring = same
-shown_fault ms names (fault.PipelineType s) same ring = same
-shown_fault ms names (fault.PipelineMismatch s) same ring = same
-shown_fault ms names (fault.PipelineName s) same ring = same

@@ -7,7 +7,7 @@ use Rattle.rc_graph.specs.Needs.{Needs}
 use Rattle.rc_db.proofs.Places.{contains_at, place_of}
 use Rattle.rc_source.specs.Meaning.{Meaning, AreMeanings}
 use Rattle.rc_holds.specs.Along.{EachNext}
-use Rattle.rc_holds.specs.Mirror.{HasListed, Mirrors}
+use Rattle.rc_holds.specs.Mirror.{AreAt, HasListed, Mirrors}
 use Rattle.rc_holds.specs.declared.rows.Listed.TheVariants.{Dependencies, Producer}
 use Rattle.rc_holds.specs.Pipelines.{IsService}
 use Rattle.rc_holds.specs.Standing.{IsBundle, HoldsName, StandsFor, NeedsNamed}
@@ -20,16 +20,15 @@ first_step R [] a b path = (b, path.0)
 first_step R (x ∷ between) a b path = (x, path.0)
 
 module _ (ms : List Meaning) (are : AreMeanings ms) where
-  module _ (services bundles : List (List ℕ)) (direct through feeds draft : List (List ℕ)) (sets : List (List Bool)) (is_service : (name : List ℕ) → Contains services name ↔ IsService ms name) (is_bundle : (name : List ℕ) → Contains bundles name ↔ IsBundle ms name) (by_name : Mirrors (HasListed Dependencies ms) services services direct) (by_bundle : Mirrors (HasListed Dependencies ms) services bundles through) (by_pipe : Mirrors (HasListed Producer ms) services services feeds) (bound : (b : ℕ) → b < length bundles → length (get_or sets b []) ≡ length services) (stands : (b s : ℕ) (name a : List ℕ) → slice_get bundles b ≡ Some name → slice_get services s ≡ Some a → Has (get_or sets b []) s ↔ StandsFor ms name a) (long : length draft ≡ length services) (pairs : (s t : ℕ) → Needs draft s t ↔ ((Needs direct s t ⊎ ((b : ℕ) × Needs through s b × Has (get_or sets b []) t)) ⊎ Needs feeds s t)) where
+  module _ (services bundles : List (List ℕ)) (through draft : List (List ℕ)) (sets : List (List Bool)) (is_service : (name : List ℕ) → Contains services name ↔ IsService ms name) (is_bundle : (name : List ℕ) → Contains bundles name ↔ IsBundle ms name) (by_bundle : Mirrors (HasListed Dependencies ms) services bundles through) (bound : (b : ℕ) → b < length bundles → length (get_or sets b []) ≡ length services) (stands : (b s : ℕ) (name a : List ℕ) → slice_get bundles b ≡ Some name → slice_get services s ≡ Some a → Has (get_or sets b []) s ↔ StandsFor ms name a) (long : length draft ≡ length services) (pairs : (s t : ℕ) → Needs draft s t ↔ ((AreAt (HasListed Dependencies ms) services services s t ⊎ ((b : ℕ) × Needs through s b × Has (get_or sets b []) t)) ⊎ AreAt (HasListed Producer ms) services services s t)) where
     abbrev At : ℕ → ℕ → Type 0
-    At s t = (a b : List ℕ) × (slice_get services s ≡ Some a) × (slice_get services t ≡ Some b) × NeedsNamed ms a b
+    At s t = AreAt (NeedsNamed ms) services services s t
 
     serves : (s : ℕ) (a : List ℕ) → slice_get services s ≡ Some a → IsService ms a
     serves s a at = (is_service a).0 (contains_at services s a at)
 
-    forth_direct : (s t : ℕ) → Needs direct s t → At s t
-    forth_direct s t need =
-        let (a, b, at_a, at_b, (m, there, named, has)) = (by_name.same s t).0 need in
+    forth_direct : (s t : ℕ) → AreAt (HasListed Dependencies ms) services services s t → At s t
+    forth_direct s t (a, b, at_a, at_b, (m, there, named, has)) =
         (a, b, at_a, at_b, (serves s a at_a, serves t b at_b, inl (m, there, named, (b, has, (serves t b at_b, inl refl)))))
 
     forth_through : (s t b : ℕ) → Needs through s b → Has (get_or sets b []) t → At s t
@@ -40,15 +39,14 @@ module _ (ms : List Meaning) (are : AreMeanings ms) where
         let at_x = slice_get-get_or services t [] inside in
         (a, x, at_a, at_x, (serves s a at_a, serves t x at_x, inl (m, there, named, (name, has, (stands b t name x at_name at_x).0 has_t))))
 
-    forth_feeds : (s t : ℕ) → Needs feeds s t → At s t
-    forth_feeds s t need =
-        let (a, b, at_a, at_b, (m, there, named, has)) = (by_pipe.same s t).0 need in
+    forth_feeds : (s t : ℕ) → AreAt (HasListed Producer ms) services services s t → At s t
+    forth_feeds s t (a, b, at_a, at_b, (m, there, named, has)) =
         (a, b, at_a, at_b, (serves s a at_a, serves t b at_b, inr (m, there, named, (option_listed m.producer_for b).0 has)))
 
-    back : (s t : ℕ) → At s t → (Needs direct s t ⊎ ((b : ℕ) × Needs through s b × Has (get_or sets b []) t)) ⊎ Needs feeds s t
-    back s t (a, b, at_a, at_b, (sa, sb, inr (m, there, named, writes))) = inr ((by_pipe.same s t).1 (a, b, at_a, at_b, (m, there, named, (option_listed m.producer_for b).1 writes)))
+    back : (s t : ℕ) → At s t → (AreAt (HasListed Dependencies ms) services services s t ⊎ ((b : ℕ) × Needs through s b × Has (get_or sets b []) t)) ⊎ AreAt (HasListed Producer ms) services services s t
+    back s t (a, b, at_a, at_b, (sa, sb, inr (m, there, named, writes))) = inr (a, b, at_a, at_b, (m, there, named, (option_listed m.producer_for b).1 writes))
     back s t (a, b, at_a, at_b, (sa, sb, inl (m, there, named, (name, has, (serves_b, inl same))))) =
-        inl (inl ((by_name.same s t).1 (a, b, at_a, at_b, (m, there, named, subst (Contains m.dependencies) same has))))
+        inl (inl (a, b, at_a, at_b, (m, there, named, subst (Contains m.dependencies) same has)))
     back s t (a, b, at_a, at_b, (sa, sb, inl (m, there, named, (name, has, (serves_b, inr path))))) =
         let step = first_step (HoldsName ms) path.0 name b path.1 in
         let at = place_of bundles name ((is_bundle name).1 (holder_is_bundle ms name step.0 are step.1)) in

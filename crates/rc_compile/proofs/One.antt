@@ -1,90 +1,77 @@
-use Rattle.std.proofs.Common.{◌≡◌, ◌∙◌, ◌<◌, ◌↔◌, ◌⊎◌, inl, inr, ℕ, zero, suc, Bool, List, [], ◌∷◌, length, Contains, arith, refl, sym, subst, ap}
-use Rattle.std.specs.Prelude.{Option, Some, None, unwrap_or, option_map, slice_get, slice_index_or, get_or}
+-- Databases of the same definitions are one.
+use Rattle.std.proofs.Common.{◌≡◌, ◌∙◌, ◌<◌, inl, inr, ℕ, suc, Bool, true, false, List, [], ◌∷◌, length, get_or, slice_get, Contains, Option, Some, None, refl, sym, ap, subst, arith}
+use Rattle.std.specs.Option.{option_map}
 use Rattle.std.proofs.lemmas.Option.{slice_get-get_or, same_Some}
-use Rattle.std.proofs.lemmas.Bool.{cases_lt}
-use Rattle.rc_db.specs.Service.{Service}
-use Rattle.std.proofs.lemmas.Cmp.{nat_list_cmp_total}
-use Rattle.std.specs.Ordering.{ordering_reverse}
-use Rattle.std.specs.declared.cmp.Ordering.TheVariants.{Less, Greater}
-use Rattle.rc_names.specs.Names.{IsBefore, IsInByteOrder}
-use Rattle.rc_set.specs.Set.{Has}
+use Rattle.rc_names.specs.Names.{IsInByteOrder}
+use Rattle.rc_set.specs.Set.{Has, IsAscending}
+use Rattle.rc_set.proofs.Members.{has_within}
 use Rattle.rc_graph.specs.Needs.{Needs}
-use Rattle.rc_db.specs.Bundles.{value_of}
-use Rattle.rc_db.specs.Database.{Database}
-use Rattle.rc_source.specs.Meaning.{Meaning}
+use Rattle.rc_graph.proofs.RowLemmas.{needer_known}
+use Rattle.rc_db.specs.Service.{Service}
+use Rattle.rc_db.specs.Bundles.{names_of, value_of}
+use Rattle.rc_db.specs.Database.{Database, IsDatabase}
+use Rattle.rc_db.proofs.Tables.{same_table}
+use Rattle.rc_db.proofs.Values.{named_by_value}
+use Rattle.rc_db.proofs.Words.{bound_of_value, value_of-named}
+use Rattle.rc_source.specs.Meaning.{Meaning, ListsNames}
+use Rattle.rc_source.proofs.Members.{Contains-cons_cases, Contains-there, Contains-here, Contains-nil}
+use Rattle.rc_source.proofs.SameNames.{same_names}
+use Rattle.rc_holds.specs.Pipelines.{IsService}
+use Rattle.rc_holds.specs.Standing.{IsBundle}
+use Rattle.rc_holds.proofs.Orders.{contains_at, one_place}
 use Rattle.rc_compile.specs.Compiled.{IsAsDefined, IsDatabaseOf}
 
--- no two names stand before each other
-asymmetric : (a b : List ℕ) → IsBefore a b → IsBefore b a → ⊥
-asymmetric a b up down = let bad : Less ≡ Greater = sym up ∙ nat_list_cmp_total.antisymm a b ∙ ap ordering_reverse down in cc
+-- lists with the same elements at all places are one
+same_list : {X : Type 0} (xs ys : List X) → length xs ≡ length ys → ((i : ℕ) → i < length xs → slice_get xs i ≡ slice_get ys i) → xs ≡ ys
+same_list [] [] long same = refl
+same_list [] (y ∷ ys) long same = absurd (omega arith)
+same_list (x ∷ xs) [] long same = absurd (omega arith)
+same_list (x ∷ xs) (y ∷ ys) long same =
+    let head : x ≡ y = same_Some x y (same 0 (omega arith)) in
+    let tail : xs ≡ ys = same_list xs ys (omega arith) (λ i low. same (suc i) (omega arith)) in
+    cc
 
-irreflexive : (a : List ℕ) → IsBefore a a → ⊥
-irreflexive a h = asymmetric a a h h
+same_at : {X : Type 0} (xs ys : List X) (i : ℕ) (d : X) → length xs ≡ length ys → i < length xs → get_or xs i d ≡ get_or ys i d → slice_get xs i ≡ slice_get ys i
+same_at xs ys i d long low same = slice_get-get_or xs i d low ∙ ap (λ x. Some x) same ∙ sym (slice_get-get_or ys i d (omega arith))
 
--- the first of an ascending list stands before each later one
-head_before : (x : List ℕ) (xs : List (List ℕ)) (y : List ℕ) → IsInByteOrder (x ∷ xs) → Contains xs y → IsBefore x y
-head_before x xs y up (k, within, here) = subst (IsBefore x) here (up 0 (suc k) y (omega arith) (omega arith))
+-- the first of ascending ids is below each later one
+head_below : (x : ℕ) (xs : List ℕ) → IsAscending (x ∷ xs) → (y : ℕ) → Contains xs y → x < y
+head_below x xs up y (k, within, here) = subst (λ z. x < z) here (up 0 (suc k) y (omega arith) (omega arith))
 
-later : (x : List ℕ) (xs : List (List ℕ)) (y : List ℕ) → Contains (x ∷ xs) y → (x ≡ y) ⊎ Contains xs y
-later x xs y (zero, within, here) = inl here
-later x xs y (suc k, within, here) = inr (k, omega arith, here)
+tail_ascends : (x : ℕ) (xs : List ℕ) → IsAscending (x ∷ xs) → IsAscending xs
+tail_ascends x xs up i j d first within = up (suc i) (suc j) d (omega arith) (omega arith)
 
-further : (x : List ℕ) (xs : List (List ℕ)) (y : List ℕ) → Contains xs y → Contains (x ∷ xs) y
-further x xs y (k, within, here) = (suc k, omega arith, here)
-
-here_first : (x : List ℕ) (xs : List (List ℕ)) → Contains (x ∷ xs) x
-here_first x xs = (0, omega arith, refl)
-
-none : (x : List ℕ) → Contains [] x → ⊥
-none x (k, within, here) = absurd (omega arith)
-
-tail : (x : List ℕ) (xs : List (List ℕ)) → IsInByteOrder (x ∷ xs) → IsInByteOrder xs
-tail x xs up i j d first within = up (suc i) (suc j) d (omega arith) (omega arith)
-
--- ascending lists of the same names are one
-pub same_names : (xs ys : List (List ℕ)) → IsInByteOrder xs → IsInByteOrder ys → ((n : List ℕ) → Contains xs n ↔ Contains ys n) → xs ≡ ys
-same_names [] [] up vp same = refl
-same_names [] (y ∷ ys) up vp same = absurd (none y ((same y).1 (here_first y ys)))
-same_names (x ∷ xs) [] up vp same = absurd (none x ((same x).0 (here_first x xs)))
-same_names (x ∷ xs) (y ∷ ys) up vp same =
-    let heads : x ≡ y = elim (later y ys x ((same x).0 (here_first x xs))) [
-      | inl h ↦ sym h
-      | inr behind ↦ elim (later x xs y ((same y).1 (here_first y ys))) [
-        | inl h ↦ h
-        | inr other ↦ absurd (asymmetric x y (head_before x xs y up other) (head_before y ys x vp behind))
+-- ascending lists of the same ids are one
+same_ids : (xs ys : List ℕ) → IsAscending xs → IsAscending ys → ((n : ℕ) → Contains xs n → Contains ys n) → ((n : ℕ) → Contains ys n → Contains xs n) → xs ≡ ys
+same_ids [] [] up vp to from = refl
+same_ids [] (y ∷ ys) up vp to from = absurd (Contains-nil y (from y (Contains-here y ys y refl)))
+same_ids (x ∷ xs) [] up vp to from = absurd (Contains-nil x (to x (Contains-here x xs x refl)))
+same_ids (x ∷ xs) (y ∷ ys) up vp to from =
+    let first : x ≡ y = elim (Contains-cons_cases y ys x (to x (Contains-here x xs x refl))) [
+      | inl here ↦ here
+      | inr behind ↦ elim (Contains-cons_cases x xs y (from y (Contains-here y ys y refl))) [
+        | inl here ↦ sym here
+        | inr other ↦
+            let above : x < y = head_below x xs up y other in
+            let below : y < x = head_below y ys vp x behind in
+            absurd (omega arith)
       ]
     ] in
-    let forth : (n : List ℕ) → Contains xs n → Contains ys n = λ n h. elim (later y ys n ((same n).0 (further x xs n h))) [
-      | inl at ↦ absurd (irreflexive x (subst (IsBefore x) (sym (heads ∙ at)) (head_before x xs n up h)))
-      | inr there ↦ there
+    let forth : (n : ℕ) → Contains xs n → Contains ys n = λ n there. elim (Contains-cons_cases y ys n (to n (Contains-there x xs n there))) [
+      | inl at ↦ (let low : x < n = head_below x xs up n there in absurd (omega (arith, at, first)))
+      | inr rest ↦ rest
     ] in
-    let back : (n : List ℕ) → Contains ys n → Contains xs n = λ n h. elim (later x xs n ((same n).1 (further y ys n h))) [
-      | inl at ↦ absurd (irreflexive y (subst (IsBefore y) (sym (sym heads ∙ at)) (head_before y ys n vp h)))
-      | inr there ↦ there
+    let back : (n : ℕ) → Contains ys n → Contains xs n = λ n there. elim (Contains-cons_cases x xs n (from n (Contains-there y ys n there))) [
+      | inl at ↦ (let low : y < n = head_below y ys vp n there in absurd (omega (arith, at, first)))
+      | inr rest ↦ rest
     ] in
-    let tails : xs ≡ ys = same_names xs ys (tail x xs up) (tail y ys vp) (λ n. (forth n, back n)) in
-    ap (λ z. z ∷ xs) heads ∙ ap (λ zs. y ∷ zs) tails
+    let tail : xs ≡ ys = same_ids xs ys (tail_ascends x xs up) (tail_ascends y ys vp) forth back in
+    cc
 
--- what a list has at a place
-found : (xs : List (List ℕ)) (k : ℕ) (x : List ℕ) → slice_get xs k ≡ Some x → (k < length xs) × (slice_index_or xs k x ≡ x)
-found [] k x same = let bad : None ≡ Some x = same in cc
-found (y ∷ xs) zero x same = (omega arith, ap (λ o. unwrap_or o y) same)
-found (y ∷ xs) (suc k) x same = let rest = found xs k x same in let below : k < length xs = rest.0 in (omega arith, rest.1)
-
-apart : (xs : List (List ℕ)) (x : List ℕ) (i j : ℕ) → IsInByteOrder xs → slice_get xs i ≡ Some x → slice_get xs j ≡ Some x → i < j → ⊥
-apart xs x i j up at also lower =
-    let first = found xs i x at in let second = found xs j x also in
-    irreflexive x (subst (λ a. IsBefore a x) first.1 (subst (IsBefore (slice_index_or xs i x)) second.1 (up i j x lower second.0)))
-
--- a name stands at one place of an ascending list
-one_place : (xs : List (List ℕ)) (x : List ℕ) (i j : ℕ) → IsInByteOrder xs → slice_get xs i ≡ Some x → slice_get xs j ≡ Some x → i ≡ j
-one_place xs x i j up at also = elim (cases_lt i j) [
-  | inl lower ↦ absurd (apart xs x i j up at also lower)
-  | inr above ↦ elim (cases_lt j i) [
-    | inl lower ↦ absurd (apart xs x j i up also at lower)
-    | inr below ↦ omega (arith, above, below)
-  ]
-]
+same_flag : (a b : Bool) → (a ≡ true → b ≡ true) → (b ≡ true → a ≡ true) → a ≡ b
+same_flag true b to from = sym (to refl)
+same_flag false true to from = from refl
+same_flag false false to from = refl
 
 one_target : (xs : List (List ℕ)) → IsInByteOrder xs → (p q : Option ℕ) (c : Option (List ℕ)) → option_map (slice_get xs) p ≡ option_map (λ name. Some name) c → option_map (slice_get xs) q ≡ option_map (λ name. Some name) c → p ≡ q
 one_target xs up None None c hp hq = refl
@@ -105,33 +92,72 @@ one_service xs up m a b ha hb = λ n. record {
   producer_for = one_target xs up a.producer_for b.producer_for m.producer_for ha.producer_for hb.producer_for n;
 }
 
+one_list : (P : List ℕ → Type 0) (xs ys : List (List ℕ)) → ListsNames P xs → ListsNames P ys → xs ≡ ys
+one_list P xs ys first second =
+    same_names xs ys first.order second.order (λ n. (λ h. (second.same n).1 ((first.same n).0 h), λ h. (first.same n).1 ((second.same n).0 h)))
+
 module _ (ms : List Meaning) (d e : Database) (of : IsDatabaseOf ms d) (also : IsDatabaseOf ms e) where
-  pub one_names : d.names ≡ e.names
-  one_names = same_names d.names e.names of.names.order also.names.order (λ n. ((λ h. (also.names.same n).1 ((of.names.same n).0 h)), (λ h. (of.names.same n).1 ((also.names.same n).0 h))))
+  one_names : d.names ≡ e.names
+  one_names = one_list (IsService ms) d.names e.names of.names also.names
 
-  pub one_services : (m : Meaning) (s : ℕ) → Contains ms m → slice_get d.names s ≡ Some m.name → slice_get d.services s ≡ slice_get e.services s
-  one_services m s in_ms at =
-      let here = of.services m s in_ms at in
-      let there = also.services m s in_ms (subst (λ ns. slice_get ns s ≡ Some m.name) one_names at) in
-      let same : here.0 ≡ there.0 = one_service d.names of.names.order m here.0 there.0 here.2 (subst (λ ns. IsAsDefined ns m there.0) (sym one_names) there.2) in
-      here.1 ∙ ap (λ s. Some s) same ∙ sym there.1
+  -- what stands at a place of one stands there in the other
+  named_too : (s : ℕ) (name : List ℕ) → slice_get d.names s ≡ Some name → slice_get e.names s ≡ Some name
+  named_too s name at = subst (λ (names : List (List ℕ)). slice_get names s ≡ Some name) one_names at
 
-  at_d : (s : ℕ) → s < length d.names → slice_get d.names s ≡ Some (get_or d.names s [])
-  at_d s within = slice_get-get_or d.names s [] within
+  name_at : (s : ℕ) → s < length d.names → slice_get d.names s ≡ Some (get_or d.names s [])
+  name_at s low = slice_get-get_or d.names s [] low
 
-  at_e : (s : ℕ) → s < length d.names → slice_get e.names s ≡ Some (get_or d.names s [])
-  at_e s within = subst (λ ns. slice_get ns s ≡ Some (get_or d.names s [])) one_names (at_d s within)
+  services_same : IsDatabase d → (s : ℕ) → s < length d.services → slice_get d.services s ≡ slice_get e.services s
+  services_same is s low =
+      let name = get_or d.names s [] in
+      let at = name_at s (omega (arith, is.fit.services)) in
+      let (m, in_ms, called, kind) = (of.names.same name).0 (contains_at d.names s name at) in
+      let at_m : slice_get d.names s ≡ Some m.name = at ∙ ap (λ (x : List ℕ). Some x) (sym called) in
+      let here = of.services m s in_ms at_m in
+      let there = also.services m s in_ms (named_too s m.name at_m) in
+      let same : here.0 ≡ there.0 = one_service d.names of.names.order m here.0 there.0 here.2 (subst (λ (names : List (List ℕ)). IsAsDefined names m there.0) (sym one_names) there.2) in
+      here.1 ∙ ap (λ (x : Service). Some x) same ∙ sym there.1
 
-  pub one_needs : (s t : ℕ) → s < length d.names → t < length d.names → Needs d.needs s t ↔ Needs e.needs s t
-  one_needs s t hs ht =
-      let a = get_or d.names s [] in let b = get_or d.names t [] in
-      let here = of.needs a b s t (at_d s hs) (at_d t ht) in
-      let there = also.needs a b s t (at_e s hs) (at_e t ht) in
-      ((λ h. there.1 (here.0 h)), (λ h. here.1 (there.0 h)))
+  needs_too : IsDatabase d → (s t : ℕ) → Needs d.needs s t → Needs e.needs s t
+  needs_too is s t need =
+      let a = get_or d.names s [] in
+      let b = get_or d.names t [] in
+      let at_s = name_at s (omega (arith, needer_known d.needs s t need, is.fit.graph)) in
+      let at_t = name_at t (omega (arith, is.needs.known s t need, is.fit.graph)) in
+      (also.needs a b s t (named_too s a at_s) (named_too t b at_t)).1 ((of.needs a b s t at_s at_t).0 need)
 
-  pub one_sets : (name : List ℕ) (a b : List Bool) (s : ℕ) → s < length d.names → value_of d.table name ≡ Some a → value_of e.table name ≡ Some b → Has a s ↔ Has b s
-  one_sets name a b s hs va vb =
+  has_too : IsDatabase d → (name : List ℕ) (a b : List Bool) → value_of d.table name ≡ Some a → value_of e.table name ≡ Some b → (s : ℕ) → Has a s → Has b s
+  has_too is name a b value_a value_b s has =
       let own = get_or d.names s [] in
-      let here = of.sets name own a s va (at_d s hs) in
-      let there = also.sets name own b s vb (at_e s hs) in
-      ((λ h. there.1 (here.0 h)), (λ h. here.1 (there.0 h)))
+      let at = name_at s (omega (arith, has_within a s has, bound_of_value (length d.names) d.table name a is.fit.bounds value_a)) in
+      (also.sets name own b s value_b (named_too s own at)).1 ((of.sets name own a s value_a at).0 has)
+
+module _ (ms : List Meaning) (d e : Database) (of : IsDatabaseOf ms d) (also : IsDatabaseOf ms e) (is_d : IsDatabase d) (is_e : IsDatabase e) where
+  value_too : (name : List ℕ) (a : List Bool) → value_of d.table name ≡ Some a → value_of e.table name ≡ Some a
+  value_too name a value_a =
+      let bundles = one_list (IsBundle ms) (names_of d.table) (names_of e.table) of.bundles also.bundles in
+      let (b, value_b) = value_of-named e.table name (subst (λ (names : List (List ℕ)). Contains names name) bundles (named_by_value d.table name a value_a)) in
+      let long_a = bound_of_value (length d.names) d.table name a is_d.fit.bounds value_a in
+      let long_b = bound_of_value (length e.names) e.table name b is_e.fit.bounds value_b in
+      let long : length a ≡ length b = long_a ∙ ap length (one_names ms d e of also) ∙ sym long_b in
+      let same : a ≡ b = same_list a b long (λ s low. same_at a b s false long low
+      (same_flag (get_or a s false) (get_or b s false) (has_too ms d e of also is_d name a b value_a value_b s) (has_too ms e d also of is_e name b a value_b value_a s))) in
+      value_b ∙ ap (λ (set : List Bool). Some set) (sym same)
+
+one_value : (ms : List Meaning) (d e : Database) → IsDatabaseOf ms d → IsDatabaseOf ms e → IsDatabase d → IsDatabase e → (name : List ℕ) → value_of d.table name ≡ value_of e.table name
+one_value ms d e of also is_d is_e name = by (value_of d.table name) refl (value_of e.table name) refl
+  where
+    by : (a : Option (List Bool)) → value_of d.table name ≡ a → (b : Option (List Bool)) → value_of e.table name ≡ b → value_of d.table name ≡ value_of e.table name
+    by (Some a) value_a b value_b = value_a ∙ sym (value_too ms d e of also is_d is_e name a value_a)
+    by None value_a None value_b = value_a ∙ sym value_b
+    by None value_a (Some b) value_b = value_too ms e d also of is_e is_d name b value_b ∙ sym value_b
+
+pub one_database : (ms : List Meaning) (d e : Database) → IsDatabaseOf ms d → IsDatabaseOf ms e → IsDatabase d → IsDatabase e → d ≡ e
+one_database ms d e of also is_d is_e =
+    let names : d.names ≡ e.names = one_names ms d e of also in
+    let services : d.services ≡ e.services = same_list d.services e.services (is_d.fit.services ∙ ap length names ∙ sym is_e.fit.services) (services_same ms d e of also is_d) in
+    let long : length d.needs ≡ length e.needs = is_d.fit.graph ∙ ap length names ∙ sym is_e.fit.graph in
+    let needs : d.needs ≡ e.needs = same_list d.needs e.needs long (λ s low. same_at d.needs e.needs s [] long low
+    (same_ids (get_or d.needs s []) (get_or e.needs s []) (is_d.needs.ascending s) (is_e.needs.ascending s) (needs_too ms d e of also is_d s) (needs_too ms e d also of is_e s))) in
+    let table : d.table ≡ e.table = same_table d.table e.table is_d.table is_e.table (one_value ms d e of also is_d is_e) in
+    λ n. record { names = names n; services = services n; needs = needs n; table = table n }

@@ -1,16 +1,12 @@
-use Rattle.std.proofs.Common.{◌≡◌, ◌∙◌, ℕ, List, [], ◌∷◌, ◌++◌, Contains, ap}
+use Rattle.std.proofs.Common.{◌≡◌, ℕ, List, [], ◌∷◌, ◌++◌}
 use Rattle.std.specs.Prelude.{Some, slice_get}
-use Rattle.std.proofs.lemmas.Option.{slice_get-get_or}
 use Rattle.rc_graph.specs.Needs.{Reaches}
 use Rattle.rc_db.specs.Database.{Database, IsDatabase}
 use Rattle.rc_source.specs.Meaning.{Meaning}
 use Rattle.rc_holds.specs.Along.{EachNext, IsShownCycle}
 use Rattle.rc_holds.specs.Standing.{NeedsNamed}
+use Rattle.rc_holds.proofs.Orders.{place_of}
 use Rattle.rc_compile.specs.Compiled.{IsDatabaseOf}
-
--- what a list contains stands at a place of it
-pub place_of : (names : List (List ℕ)) (name : List ℕ) → Contains names name → (s : ℕ) × (slice_get names s ≡ Some name)
-place_of names name (k, within, here) = (k, slice_get-get_or names k name within ∙ ap (λ x. Some x) here)
 
 -- the first of a list, or else a last one
 abbrev first_of : List (List ℕ) → List ℕ → List ℕ

@@ -4,13 +4,14 @@ use Rattle.std.proofs.lemmas.Bool.{cases_lt}
 use Rattle.std.proofs.lemmas.Option.{slice_get_within}
 use Rattle.rc_names.specs.Names.{IsInByteOrder}
 use Rattle.rc_set.specs.Set.{Has, Holds}
-use Rattle.rc_db.proofs.ByteOrder.{stands_once}
+use Rattle.rc_names.proofs.ByteOrder.{one_place}
 use Rattle.rc_db.proofs.Places.{contains_at, place_of}
 use Rattle.rc_source.specs.Meaning.{Meaning}
+use Rattle.rc_holds.specs.Standing.{IsBundle}
 use Rattle.rc_compile.specs.declared.tables.Which.TheVariants.{Bundles}
-use Rattle.rc_compile.specs.Given.{Gives, IsGiven}
+use Rattle.rc_compile.specs.Given.{Gives}
 use Rattle.rc_compile.specs.Told.{GivesAt, HasNamed, IsShared}
-use Rattle.rc_compile.proofs.Givens.{IsBelow, below_next, below_more, below_here, one_given}
+use Rattle.rc_compile.proofs.Givens.{IsBelow, one_given, given_is}
 
 pub holds_as : (set : List Bool) (P Q : ℕ → Type 0) → Holds set P → ((s : ℕ) → P s ↔ Q s) → Holds set Q
 holds_as set P Q holds same s = (λ has. (same s).0 ((holds s).0 has), λ q. (holds s).1 ((same s).1 q))
@@ -18,7 +19,7 @@ holds_as set P Q holds same s = (λ has. (same s).0 ((holds s).0 has), λ q. (ho
 -- the place of the name that an entry gives
 pub gives_at : (names : List (List ℕ)) (m : Meaning) (name : List ℕ) (id : ℕ) → IsInByteOrder names → Gives Bundles m name → slice_get names id ≡ Some name → (s : ℕ) → GivesAt names m s ↔ (s ≡ id)
 gives_at names m name id order gives at s = (
-  λ (n, there, also). stands_once names name s id order (subst (λ x. slice_get names s ≡ Some x) (one_given Bundles m n name also gives) there) at,
+  λ (n, there, also). one_place names name s id order (subst (λ x. slice_get names s ≡ Some x) (one_given Bundles m n name also gives) there) at,
   λ same. (name, subst (λ k. slice_get names k ≡ Some name) (sym same) at, gives),
 )
 
@@ -31,19 +32,8 @@ module _ (ms : List Meaning) (names : List (List ℕ)) where
   abbrev pub TwiceBelow : ℕ → ℕ → Type 0
   TwiceBelow count s = (j : ℕ) × (b : Meaning) × (j < count) × (slice_get ms j ≡ Some b) × IsBelow (λ a. GivesAt names a s) ms j × GivesAt names b s
 
-  pub none_seen : (set : List Bool) → ((s : ℕ) → Has set s → ⊥) → Holds set (λ s. IsBelow (λ m. GivesAt names m s) ms 0)
-  none_seen set none s = (λ has. absurd (none s has), λ (k, m, low, at, gives). absurd (omega (arith, low)))
-
   pub none_twice : (set : List Bool) → ((s : ℕ) → Has set s → ⊥) → Holds set (TwiceBelow 0)
   none_twice set none s = (λ has. absurd (none s has), λ (j, b, low, at, before, gives). absurd (omega (arith, low)))
-
-  pub seen_next : (i : ℕ) (m : Meaning) (old new : List Bool) → slice_get ms i ≡ Some m → Holds old (λ s. IsBelow (λ x. GivesAt names x s) ms i)
-      → Holds new (λ s. Has old s ⊎ GivesAt names m s) → Holds new (λ s. IsBelow (λ x. GivesAt names x s) ms (i + 1))
-  seen_next i m old new here before more s =
-      let P : Meaning → Type 0 = λ x. GivesAt names x s in (
-        λ has. ⊎_elim (λ passed. below_more P ms i ((before s).0 passed)) (λ gives. below_here P ms i m here gives) ((more s).0 has),
-        λ below. (more s).1 (⊎_elim (λ passed. inl ((before s).1 passed)) (λ gives. inr gives) (below_next P ms i m here below)),
-      )
 
   pub twice_next : (i : ℕ) (m : Meaning) (seen old new : List Bool) → slice_get ms i ≡ Some m → Holds seen (λ s. IsBelow (λ x. GivesAt names x s) ms i) → Holds old (TwiceBelow i)
       → Holds new (λ s. Has old s ⊎ (Has seen s × GivesAt names m s)) → Holds new (TwiceBelow (i + 1))
@@ -62,7 +52,7 @@ module _ (ms : List Meaning) (names : List (List ℕ)) where
         (cases_lt j i)),
   )
 
-  pub twice_whole : (i : ℕ) (set : List Bool) → length ms ≤ i → ((name : List ℕ) → IsGiven Bundles ms name → Contains names name) → Holds set (TwiceBelow i)
+  pub twice_whole : (i : ℕ) (set : List Bool) → length ms ≤ i → ((name : List ℕ) → IsBundle ms name → Contains names name) → Holds set (TwiceBelow i)
       → (name : List ℕ) → HasNamed names set name ↔ IsShared ms name
   twice_whole i set all table twice name = (
     λ (s, at, has).
@@ -71,7 +61,7 @@ module _ (ms : List Meaning) (names : List (List ℕ)) where
         let two : n2 ≡ name = cc (there2, at) in
         (k, j, a, b, low_k, at_a, at_b, subst (Gives Bundles a) one gives_a, subst (Gives Bundles b) two gives_b),
     λ (k, j, a, b, low, at_a, at_b, gives_a, gives_b).
-        let place = place_of names name (table name (a, contains_at ms k a at_a, gives_a)) in
+        let place = place_of names name (table name ((given_is Bundles ms name).0 (a, contains_at ms k a at_a, gives_a))) in
         let within : j < length ms = slice_get_within ms j b at_b in
         (place.0, place.1, (twice place.0).1 (j, b, omega arith, at_b, (k, a, low, at_a, (name, place.1, gives_a)), (name, place.1, gives_b))),
   )

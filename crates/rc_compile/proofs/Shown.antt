@@ -1,6 +1,7 @@
 -- What the tables show of an entry is what is told of it.
 use Rattle.std.proofs.Common.{◌≡◌, ◌≢◌, ◌∙◌, ◌<◌, ◌⊎◌, ◌↔◌, ⊎_elim, inl, inr, ℕ, List, slice_get, Contains, Some, refl, sym, ap, subst, arith}
 use Rattle.std.proofs.lemmas.Bool.{cases_lt}
+use Rattle.std.proofs.lemmas.Option.{same_Some}
 use Rattle.rc_names.specs.declared.kind.Kind.TheVariants.{Longrun, Bundle}
 use Rattle.rc_graph.specs.Rows.{rows}
 use Rattle.rc_db.proofs.Places.{contains_at, place_of}
@@ -8,6 +9,7 @@ use Rattle.rc_source.specs.Meaning.{Meaning, AreMeanings}
 use Rattle.rc_holds.specs.Along.{IsLeast}
 use Rattle.rc_holds.specs.Pipelines.{IsService, IsLongrun, WritesTo, ReadsFrom, NamesPipeline}
 use Rattle.rc_holds.specs.Standing.{IsKnown}
+use Rattle.rc_holds.proofs.Meanings.{only_one, longrun_is_service}
 use Rattle.rc_compile.specs.declared.book.Book.{Book}
 use Rattle.rc_compile.specs.declared.scan.Told.{Told}
 use Rattle.rc_compile.specs.declared.scan.Told.TheVariants.{Unknown, WrongType, NoMatch, TakenName}
@@ -16,7 +18,7 @@ use Rattle.rc_compile.specs.Given.{Gives}
 use Rattle.rc_compile.specs.Pipes.{HasWrongType, HasNoMatch, HasTakenName}
 use Rattle.rc_compile.specs.CompileFaults.{Mentions, HasUnknown}
 use Rattle.rc_compile.specs.Told.{HasTold, IsBook, IsShared, Shows, HasNamed, JoinsOther, IsUnmatched, IsTaken}
-use Rattle.rc_compile.proofs.Defined.{apart, of_one, writer_is_service, reader_is_service, longrun_is_service, given_service, given_bundle, bundle_or_not}
+use Rattle.rc_compile.proofs.Defined.{apart, writer_is_service, reader_is_service, bundle_or_not}
 
 pub same_least : (P Q : List ℕ → Type 0) → ((x : List ℕ) → P x ↔ Q x) → (x : List ℕ) → IsLeast P x → IsLeast Q x
 same_least P Q same x (holds, least) = ((same x).0 holds, λ other q before. least other ((same other).1 q) before)
@@ -25,26 +27,26 @@ module _ (ms : List Meaning) (book : Book) (are : AreMeanings ms) (is : IsBook m
   -- a name stands for something where one of the tables has it
   pub known_same : (name : List ℕ) → (Contains book.services name ⊎ Contains book.bundles name) ↔ IsKnown ms name
   known_same name = (
-    λ there. ⊎_elim (λ s. inl ((given_service ms name).0 ((is.service name).0 s))) (λ b. inr ((given_bundle ms name).0 ((is.bundle name).0 b))) there,
-    λ known. ⊎_elim (λ s. inl ((is.service name).1 ((given_service ms name).1 s))) (λ b. inr ((is.bundle name).1 ((given_bundle ms name).1 b))) known,
+    λ there. ⊎_elim (λ s. inl ((is.service name).0 s)) (λ b. inr ((is.bundle name).0 b)) there,
+    λ known. ⊎_elim (λ s. inl ((is.service name).1 s)) (λ b. inr ((is.bundle name).1 b)) known,
   )
 
   in_services : (name : List ℕ) → IsService ms name → Contains book.services name
-  in_services name service = (is.service name).1 ((given_service ms name).1 service)
+  in_services name service = (is.service name).1 service
 
   longrun_same : (name : List ℕ) → HasNamed book.services book.longruns name ↔ IsLongrun ms name
   longrun_same name = (
-    λ (s, at, has). let there = (is.longrun s).0 has in let at_s = there.1 in let one : there.0 ≡ name = cc in subst (IsLongrun ms) one there.2,
-    λ longrun.
-        let at = place_of book.services name (in_services name (longrun_is_service ms name longrun)) in
-        (at.0, at.1, (is.longrun at.0).1 (name, at.1, longrun)),
+    λ (s, at, has). let (m, there, (kind, at_m)) = (is.longrun s).0 has in (m, there, same_Some m.name name (sym at_m ∙ at), kind),
+    λ (m, there, called, kind).
+        let at = place_of book.services name (in_services name (longrun_is_service ms name (m, there, called, kind))) in
+        (at.0, at.1, (is.longrun at.0).1 (m, there, (kind, at.1 ∙ ap (λ (x : List ℕ). Some x) (sym called)))),
   )
 
   -- unknown names of an entry
   pub unknown_same : (m : Meaning) → Contains ms m → (name : List ℕ) → (Mentions m name × (Contains book.services name ⊎ Contains book.bundles name → ⊥)) ↔ HasUnknown ms m.name name
   unknown_same m within name = (
     λ (mentions, not). ((m, within, refl, mentions), λ known. not ((known_same name).1 known)),
-    λ (defined, not). (of_one ms are (λ x. Mentions x name) m within defined, λ there. not ((known_same name).0 there)),
+    λ (defined, not). (only_one ms are (λ x. Mentions x name) m within defined, λ there. not ((known_same name).0 there)),
   )
 
   type_same : (m : Meaning) → Contains ms m → JoinsOther book.services book.longruns m ↔ HasWrongType ms m.name
@@ -52,23 +54,36 @@ module _ (ms : List Meaning) (book : Book) (are : AreMeanings ms) (is : IsBook m
     λ (t, names, not). (
       t,
       ⊎_elim (λ w. inl (m, within, refl, w)) (λ r. inr (m, within, refl, r)) names,
-      λ both. not (of_one ms are (λ x. x.kind ≡ Longrun) m within both.0, (longrun_same t).1 both.1),
+      λ both. not (only_one ms are (λ x. x.kind ≡ Longrun) m within both.0, (longrun_same t).1 both.1),
     ),
     λ (t, names, not). (
       t,
-      ⊎_elim (λ w. inl (of_one ms are (λ x. x.producer_for ≡ Some t) m within w)) (λ r. inr (of_one ms are (λ x. Contains x.consumer_for t) m within r)) names,
+      ⊎_elim (λ w. inl (only_one ms are (λ x. x.producer_for ≡ Some t) m within w)) (λ r. inr (only_one ms are (λ x. Contains x.consumer_for t) m within r)) names,
       λ both. not ((m, within, refl, both.0), (longrun_same t).0 both.1),
     ),
   )
 
-  match_same : (m : Meaning) → Contains ms m → IsUnmatched book.services (rows book.feeds.items) (rows book.readers.items) m ↔ HasNoMatch ms m.name
+  matched_same : (a : List ℕ) → HasNamed book.services book.matched a ↔ ((t : List ℕ) × WritesTo ms a t × ReadsFrom ms t a)
+  matched_same a = (
+    λ (s, at, has).
+        let (m, there, (name, reads, at_name, pair)) = (is.matched s).0 has in
+        let one : name ≡ a = same_Some name a (sym at_name ∙ at) in
+        (m.name, subst (λ x. WritesTo ms x m.name) one ((is.writes name m.name).0 pair).2, (m, there, refl, subst (Contains m.consumer_for) one reads)),
+    λ (t, writes, (m, there, called, reads)).
+        let own : WritesTo ms a m.name = subst (WritesTo ms a) (sym called) writes in
+        let in_a = in_services a (writer_is_service ms are a m.name own) in
+        let at = place_of book.services a in_a in
+        (at.0, at.1, (is.matched at.0).1 (m, there, (a, reads, at.1, (is.writes a m.name).1 (in_a, in_services m.name (reader_is_service ms are m.name a (m, there, refl, reads)), own)))),
+  )
+
+  match_same : (m : Meaning) → Contains ms m → IsUnmatched book.services (rows book.feeds.items) book.matched m ↔ HasNoMatch ms m.name
   match_same m within = (
     λ (t, cases). (
       t,
       ⊎_elim
           (λ (writes, not).
           let w : WritesTo ms m.name t = (m, within, refl, writes) in
-          inl (w, λ reads. not ((is.reads_from t m.name).1 (in_services t (reader_is_service ms are t m.name reads), in_services m.name (writer_is_service ms are m.name t w), reads))))
+          inl (w, λ reads. not ((matched_same m.name).1 (t, w, reads))))
           (λ (reads, not).
           let r : ReadsFrom ms m.name t = (m, within, refl, reads) in
           inr (r, λ writes. not ((is.writes t m.name).1 (in_services t (writer_is_service ms are t m.name writes), in_services m.name (reader_is_service ms are m.name t r), writes))))
@@ -77,8 +92,16 @@ module _ (ms : List Meaning) (book : Book) (are : AreMeanings ms) (is : IsBook m
     λ (t, cases). (
       t,
       ⊎_elim
-          (λ (writes, not). inl (of_one ms are (λ x. x.producer_for ≡ Some t) m within writes, λ pair. not ((is.reads_from t m.name).0 pair).2))
-          (λ (reads, not). inr (of_one ms are (λ x. Contains x.consumer_for t) m within reads, λ pair. not ((is.writes t m.name).0 pair).2))
+          (λ (writes, not).
+          let here : m.producer_for ≡ Some t = only_one ms are (λ x. x.producer_for ≡ Some t) m within writes in
+          inl (
+            here,
+            λ named.
+                let (other, also, reads) = (matched_same m.name).0 named in
+                let there : m.producer_for ≡ Some other = only_one ms are (λ x. x.producer_for ≡ Some other) m within also in
+                not (subst (λ x. ReadsFrom ms x m.name) (same_Some other t (sym there ∙ here)) reads),
+          ))
+          (λ (reads, not). inr (only_one ms are (λ x. Contains x.consumer_for t) m within reads, λ pair. not ((is.writes t m.name).0 pair).2))
           cases,
     ),
   )
@@ -116,7 +139,7 @@ module _ (ms : List Meaning) (book : Book) (are : AreMeanings ms) (is : IsBook m
     where
       forth : IsTaken book.services book.bundles book.shared m → HasTakenName ms m.name
       forth (name, names, inl there) =
-          let s = (given_service ms name).0 ((is.service name).0 there) in
+          let s = (is.service name).0 there in
           (name, (m, within, refl, names), inl (s.0, s.1, s.2, tt))
       forth (name, names, inr there) = two ((is.twice name).0 there)
         where
@@ -133,7 +156,7 @@ module _ (ms : List Meaning) (book : Book) (are : AreMeanings ms) (is : IsBook m
 
       back : HasTakenName ms m.name → IsTaken book.services book.bundles book.shared m
       back (name, defined, cases) =
-          let names = of_one ms are (λ x. NamesPipeline x name) m within defined in (
+          let names = only_one ms are (λ x. NamesPipeline x name) m within defined in (
             name,
             names,
             ⊎_elim
@@ -166,9 +189,9 @@ module _ (ms : List Meaning) (book : Book) (are : AreMeanings ms) (is : IsBook m
   entry_of TakenName s (name, (m, there, named, names), taken) = (m, there, named)
 
   -- the names of the entries that show a flaw
-  pub flawed_same : (told : Told) (s : List ℕ) → ((m : Meaning) × Contains ms m × (m.name ≡ s) × Shows book told m) ↔ HasTold ms told s
+  pub flawed_same : (told : Told) (s : List ℕ) → ((m : Meaning) × Contains ms m × ((m.name ≡ s) × Shows book told m)) ↔ HasTold ms told s
   flawed_same told s = (
-    λ (m, there, named, shows). subst (HasTold ms told) named ((shows_same told m there).0 shows),
+    λ (m, there, (named, shows)). subst (HasTold ms told) named ((shows_same told m there).0 shows),
     λ has. let entry = entry_of told s has in
-        (entry.0, entry.1, entry.2, (shows_same told entry.0 entry.1).1 (subst (HasTold ms told) (sym entry.2) has)),
+        (entry.0, entry.1, (entry.2, (shows_same told entry.0 entry.1).1 (subst (HasTold ms told) (sym entry.2) has))),
   )

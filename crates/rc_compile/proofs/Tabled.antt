@@ -1,5 +1,5 @@
 -- Tables of bundles that are filled name by name.
-use Rattle.std.proofs.Common.{◌≡◌, ◌≢◌, ◌∙◌, ℕ, ◌+◌, ◌<◌, ◌≤◌, ◌⊎◌, ◌↔◌, inl, inr, Bool, true, false, cond, List, [], ◌∷◌, ◌++◌, length, take, get_or, slice_get, slice_index_or, Some, Contains, refl, sym, ap, subst, arith, true≢false}
+use Rattle.std.proofs.Common.{◌≡◌, ◌≢◌, ◌∙◌, ℕ, ◌+◌, ◌<◌, ◌≤◌, ◌⊎◌, ◌↔◌, inl, inr, Bool, true, false, cond, List, [], ◌∷◌, ◌++◌, length, take, get_or, slice_get, slice_index_or, Some, Contains, refl, sym, ap, subst, arith}
 use Rattle.std.specs.Str.{bytes_eq}
 use Rattle.std.proofs.lemmas.Bool.{cases_lt}
 use Rattle.std.proofs.lemmas.List.{length-map, length-take, get_or-take, take_more, take_all}
@@ -10,19 +10,13 @@ use Rattle.rc_names.specs.Names.{IsBefore, IsInByteOrder}
 use Rattle.rc_db.specs.Bundles.{Bundles, names_of, value_of, AreBelow, IsChangedAt, IsTable}
 use Rattle.rc_db.proofs.Words.{value_of-named}
 use Rattle.rc_db.proofs.Values.{named_by_value}
-use Rattle.rc_db.proofs.ByteOrder.{order_head, order_tail}
+use Rattle.rc_names.proofs.ByteOrder.{order_head, order_tail}
 use Rattle.rc_set.specs.Set.{Has}
+use Rattle.rc_source.proofs.SameNames.{same_names}
 use Rattle.rc_holds.specs.Joining.{AllWithin}
 use Rattle.rc_holds.specs.Sets.{AreSetsOf}
 use Rattle.rc_holds.proofs.Orders.{one_place, place_of, irreflexive}
-use Rattle.rc_compile.proofs.One.{same_names}
-
-same_or_other : (a b : List ℕ) → (a ≡ b) ⊎ (a ≢ b)
-same_or_other a b = by (bytes_eq a b) refl
-  where
-    by : (test : Bool) → bytes_eq a b ≡ test → (a ≡ b) ⊎ (a ≢ b)
-    by true e = inl ((bytes_eq-Decides a b).0 e)
-    by false e = inr (λ same. true≢false (sym ((bytes_eq-Decides a b).1 same) ∙ e))
+use Rattle.rc_compile.proofs.Bridges.{same_or_other}
 
 -- the names of a table in which one name was given a set
 names_after : (old new : Bundles) (name : List ℕ) (value : List Bool) → IsChangedAt old name (Some value) new → (other : List ℕ) → Contains (names_of new) other ↔ (Contains (names_of old) other ⊎ (other ≡ name))

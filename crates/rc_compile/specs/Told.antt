@@ -4,18 +4,15 @@ use Rattle.rc_set.specs.Set.{Has, Holds}
 use Rattle.rc_graph.specs.Needs.{Needs}
 use Rattle.rc_graph.specs.Rows.{rows}
 use Rattle.rc_source.specs.Meaning.{Meaning}
-use Rattle.rc_holds.specs.Along.{IsLeast, IsShownCycle}
-use Rattle.rc_holds.specs.Pipelines.{IsLongrun, WritesTo, ReadsFrom, NamesPipeline}
-use Rattle.rc_holds.specs.Standing.{NeedsNamed}
-use Rattle.rc_compile.specs.declared.CompileFault.{CompileFault}
-use Rattle.rc_compile.specs.declared.CompileFault.TheVariants as fault
+use Rattle.rc_holds.specs.Pipelines.{IsService, WritesTo, NamesPipeline}
+use Rattle.rc_holds.specs.Standing.{IsBundle}
 use Rattle.rc_compile.specs.declared.book.Book.{Book}
 use Rattle.rc_compile.specs.declared.scan.Told.{Told}
 use Rattle.rc_compile.specs.declared.scan.Told.TheVariants.{Unknown, WrongType, NoMatch, TakenName}
-use Rattle.rc_compile.specs.declared.tables.Which.TheVariants.{Services, Bundles}
-use Rattle.rc_compile.specs.Given.{Gives, IsGiven}
+use Rattle.rc_compile.specs.declared.tables.Which.TheVariants.{Bundles}
+use Rattle.rc_compile.specs.Given.{Gives}
 use Rattle.rc_compile.specs.Pipes.{HasWrongType, HasNoMatch, HasTakenName}
-use Rattle.rc_compile.specs.CompileFaults.{TooMany, Mentions, HasUnknown, HaveFlaw}
+use Rattle.rc_compile.specs.CompileFaults.{Mentions, HasUnknown}
 
 -- the entry has the flaw that is told of it
 abbrev pub HasTold : List Meaning → Told → List ℕ → Type 0
@@ -24,15 +21,6 @@ HasTold ms WrongType s = HasWrongType ms s
 HasTold ms NoMatch s = HasNoMatch ms s
 HasTold ms TakenName s = HasTakenName ms s
 
--- the flaw is told of the least entry, and of its least name
-abbrev pub IsToldBy : List Meaning → Told → CompileFault → Type 0
-IsToldBy ms Unknown (fault.UnknownIn s name) = IsLeast (HasTold ms Unknown) s × IsLeast (HasUnknown ms s) name
-IsToldBy ms WrongType (fault.PipelineType s) = IsLeast (HasWrongType ms) s
-IsToldBy ms NoMatch (fault.PipelineMismatch s) = IsLeast (HasNoMatch ms) s
-IsToldBy ms TakenName (fault.PipelineName s) = IsLeast (HasTakenName ms) s
-IsToldBy ms told fault.Memory = Unit {0}
-IsToldBy ms told other = ⊥
-
 -- two entries give this name to a bundle
 abbrev pub IsShared : List Meaning → List ℕ → Type 0
 IsShared ms name = (i j : ℕ) × (a b : Meaning) × (i < j) × (slice_get ms i ≡ Some a) × (slice_get ms j ≡ Some b) × Gives Bundles a name × Gives Bundles b name
@@ -40,6 +28,10 @@ IsShared ms name = (i j : ℕ) × (a b : Meaning) × (i < j) × (slice_get ms i 
 -- the name at the place is one that the entry gives to a bundle
 abbrev pub GivesAt : List (List ℕ) → Meaning → ℕ → Type 0
 GivesAt names m s = (name : List ℕ) × (slice_get names s ≡ Some name) × Gives Bundles m name
+
+-- the entry is a longrun, and its name is at the place
+abbrev pub IsLongrunAt : List (List ℕ) → Meaning → ℕ → Type 0
+IsLongrunAt names m s = (m.kind ≡ Longrun) × (slice_get names s ≡ Some m.name)
 
 -- the set of places has a name
 abbrev pub HasNamed : List (List ℕ) → List Bool → List ℕ → Type 0
@@ -53,9 +45,17 @@ HasPair names lists a b = (s t : ℕ) × (slice_get names s ≡ Some a) × (slic
 abbrev pub JoinsOther : List (List ℕ) → List Bool → Meaning → Type 0
 JoinsOther names longruns m = (t : List ℕ) × ((m.producer_for ≡ Some t) ⊎ Contains m.consumer_for t) × ((m.kind ≡ Longrun) × HasNamed names longruns t → ⊥)
 
--- it names a neighbour in a pipe and is not in a pair with it
-abbrev pub IsUnmatched : List (List ℕ) → List (List ℕ) → List (List ℕ) → Meaning → Type 0
-IsUnmatched names feeds readers m = (t : List ℕ) × (((m.producer_for ≡ Some t) × (HasPair names readers m.name t → ⊥)) ⊎ (Contains m.consumer_for t × (HasPair names feeds t m.name → ⊥)))
+-- at the place is one of these names, which is in a pair with the other
+abbrev pub ArePairedAt : List (List ℕ) → List (List ℕ) → List (List ℕ) → List ℕ → ℕ → Type 0
+ArePairedAt names lists from to s = (name : List ℕ) × Contains from name × (slice_get names s ≡ Some name) × HasPair names lists name to
+
+-- at the place is a name that the entry reads from and that writes to it
+abbrev pub IsMatchedAt : List (List ℕ) → List (List ℕ) → Meaning → ℕ → Type 0
+IsMatchedAt names feeds m s = ArePairedAt names feeds m.consumer_for m.name s
+
+-- it writes to one that does not read from it, or reads from one that does not write to it
+abbrev pub IsUnmatched : List (List ℕ) → List (List ℕ) → List Bool → Meaning → Type 0
+IsUnmatched names feeds matched m = (t : List ℕ) × (((m.producer_for ≡ Some t) × (HasNamed names matched m.name → ⊥)) ⊎ (Contains m.consumer_for t × (HasPair names feeds t m.name → ⊥)))
 
 -- its pipeline has the name of a service, or one that is shared
 abbrev pub IsTaken : List (List ℕ) → List (List ℕ) → List Bool → Meaning → Type 0
@@ -63,38 +63,20 @@ IsTaken services bundles shared m = (name : List ℕ) × NamesPipeline m name ×
 
 -- the tables are those of the meanings
 pub record IsBook (ms : List Meaning) (book : Book) : Type 0 where
-  pub service : (name : List ℕ) → Contains book.services name ↔ IsGiven Services ms name
-  pub bundle : (name : List ℕ) → Contains book.bundles name ↔ IsGiven Bundles ms name
+  pub service : (name : List ℕ) → Contains book.services name ↔ IsService ms name
+  pub bundle : (name : List ℕ) → Contains book.bundles name ↔ IsBundle ms name
   pub marked : length book.shared ≡ length book.bundles
   pub twice : (name : List ℕ) → HasNamed book.bundles book.shared name ↔ IsShared ms name
   pub bound : length book.longruns ≡ length book.services
-  pub longrun : Holds book.longruns (λ s. (name : List ℕ) × (slice_get book.services s ≡ Some name) × IsLongrun ms name)
+  pub longrun : Holds book.longruns (λ s. (m : Meaning) × Contains ms m × IsLongrunAt book.services m s)
   pub fed : length book.feeds.items ≡ length book.services
-  pub read : length book.readers.items ≡ length book.services
+  pub joined : length book.matched ≡ length book.services
   pub writes : (a b : List ℕ) → HasPair book.services (rows book.feeds.items) a b ↔ (Contains book.services a × Contains book.services b × WritesTo ms a b)
-  pub reads_from : (a b : List ℕ) → HasPair book.services (rows book.readers.items) b a ↔ (Contains book.services a × Contains book.services b × ReadsFrom ms a b)
+  pub matched : Holds book.matched (λ s. (m : Meaning) × Contains ms m × IsMatchedAt book.services (rows book.feeds.items) m s)
 
 -- by the tables, the entry has the flaw
 abbrev pub Shows : Book → Told → Meaning → Type 0
 Shows book Unknown m = (name : List ℕ) × Mentions m name × (Contains book.services name ⊎ Contains book.bundles name → ⊥)
 Shows book WrongType m = JoinsOther book.services book.longruns m
-Shows book NoMatch m = IsUnmatched book.services (rows book.feeds.items) (rows book.readers.items) m
+Shows book NoMatch m = IsUnmatched book.services (rows book.feeds.items) book.matched m
 Shows book TakenName m = IsTaken book.services book.bundles book.shared m
-
--- when there are no tables: there are too many names
-abbrev pub IsTableFault : List Meaning → CompileFault → Type 0
-IsTableFault ms fault.TooMany = HaveFlaw ms TooMany
-IsTableFault ms fault.Memory = Unit {0}
-IsTableFault ms other = ⊥
-
--- when services have no graph: some are shown that need one another in a circle
-abbrev pub IsNeedsFault : List Meaning → CompileFault → Type 0
-IsNeedsFault ms (fault.Cycle names) = IsShownCycle (NeedsNamed ms) names.items
-IsNeedsFault ms fault.Memory = Unit {0}
-IsNeedsFault ms other = ⊥
-
--- the fault shows these names, if any
-abbrev pub IsShownBy : List (List ℕ) → CompileFault → Type 0
-IsShownBy names (fault.Cycle shown) = shown.items ≡ names
-IsShownBy names fault.Memory = Unit {0}
-IsShownBy names other = ⊥

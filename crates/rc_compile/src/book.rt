@@ -2,14 +2,14 @@
 ghost use Rattle.std.specs.Prelude.{◌↔◌, ℕ, List, map, Contains, IfOk, IfErr, OnOk};
 ghost use Rattle.rc_source.specs.Meaning.{AreMeanings};
 ghost use Rattle.rc_source.specs.Said.{meaning_of};
-ghost use Rattle.rc_compile.specs.Given.{IsGiven};
-ghost use Rattle.rc_compile.specs.CompileFaults.{HaveFlaw, TooMany};
-ghost use Rattle.rc_compile.specs.Told.{IsBook, IsTableFault};
+ghost use Rattle.rc_holds.specs.Pipelines.{IsService};
+ghost use Rattle.rc_holds.specs.Standing.{IsBundle};
+ghost use Rattle.rc_compile.specs.CompileFaults.{AreFree, IsCompileFault};
+ghost use Rattle.rc_compile.specs.Told.{IsBook};
 
 use crate::CompileFault;
-use crate::pipes::{longruns_of, shared_of};
+use crate::pipes::{longruns_of, matched_of, shared_of};
 use crate::tables::{Which, names_of};
-use crate::turn::turned;
 use rc_holds::{Listed, rows_of};
 use rc_names::Names;
 use rc_set::{NoMem, Set};
@@ -29,29 +29,24 @@ pub(crate) struct Book {
     pub(crate) longruns: Set,
     // For each service the one that it writes to.
     pub(crate) feeds: Vec<Vec<u16>>,
-    // For each service those that read from it: its own definition searches this list, and no other does.
-    pub(crate) readers: Vec<Vec<u16>>,
+    // The services that the one that they write to reads from.
+    pub(crate) matched: Set,
 }
 
 // The tables and lists of definitions.
 pub(crate) fn book_of(alloc: Global, definitions: &[Definition]) -> Result<Book, CompileFault>
     requires { AreMeanings (map meaning_of definitions.now) }
     ensures book { IfOk result (IsBook (map meaning_of definitions.now)) }
-    ensures few { OnOk result (HaveFlaw (map meaning_of definitions.now) TooMany → ⊥) }
-    ensures fault { IfErr result (IsTableFault (map meaning_of definitions.now)) }
+    ensures free { OnOk result (AreFree (map meaning_of definitions.now) 1) }
+    ensures fault { IfErr result (IsCompileFault (map meaning_of definitions.now)) }
 {
-    let services = match names_of(alloc, definitions, Which::Services) {
-        Ok(services) => services,
-        Err(fault) => return Err(fault),
+    let Some(services) = names_of(alloc, definitions, Which::Services)? else {
+        return Err(CompileFault::TooMany);
     };
-    let bundles = match names_of(alloc, definitions, Which::Bundles) {
-        Ok(bundles) => bundles,
-        Err(fault) => return Err(fault),
+    let Some(bundles) = names_of(alloc, definitions, Which::Bundles)? else {
+        return Err(CompileFault::TooMany);
     };
-    match filled(alloc, definitions, services, bundles) {
-        Ok(book) => Ok(book),
-        Err(_) => Err(CompileFault::Memory),
-    }
+    Ok(filled(alloc, definitions, services, bundles)?)
 }
 
 // What is looked up, beside the tables of names.
@@ -61,22 +56,21 @@ fn filled(
     services: Names,
     bundles: Names,
 ) -> Result<Book, NoMem>
-    requires services { (name : List ℕ) → Contains services name ↔ IsGiven Which.Services (map meaning_of definitions.now) name }
-    requires bundles { (name : List ℕ) → Contains bundles name ↔ IsGiven Which.Bundles (map meaning_of definitions.now) name }
+    requires services { (name : List ℕ) → Contains services name ↔ IsService (map meaning_of definitions.now) name }
+    requires bundles { (name : List ℕ) → Contains bundles name ↔ IsBundle (map meaning_of definitions.now) name }
     ensures { IfOk result (IsBook (map meaning_of definitions.now)) }
 {
     let _count = services.len();
     let shared = shared_of(alloc, definitions, &bundles)?;
     let longruns = longruns_of(alloc, definitions, &services)?;
     let feeds = rows_of(alloc, definitions, Listed::Producer, &services, &services)?;
-    let reads = rows_of(alloc, definitions, Listed::Consumers, &services, &services)?;
-    let readers = turned(alloc, &reads)?;
+    let matched = matched_of(alloc, definitions, &services, &feeds)?;
     Ok(Book {
         services,
         bundles,
         shared,
         longruns,
         feeds,
-        readers,
+        matched,
     })
 }

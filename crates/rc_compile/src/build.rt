@@ -15,7 +15,7 @@ use crate::database::joined;
 use crate::needs::graph_of;
 use rc_db::Db;
 use rc_graph::Graph;
-use rc_holds::bundle_sets;
+use rc_holds::{CycleFault, bundle_sets};
 use rc_source::Definition;
 use std::alloc::Global;
 
@@ -35,16 +35,11 @@ pub(crate) fn build(
     ensures free { OnOk result (AreFree (map meaning_of definitions.now) 7) }
     ensures fault { IfErr result (IsCompileFault (map meaning_of definitions.now)) }
 {
-    let sets = match bundle_sets(alloc, definitions, &book.services, &book.bundles, contents) {
-        Ok(sets) => sets,
-        Err(_) => return Err(CompileFault::Memory),
-    };
+    let sets = bundle_sets(alloc, definitions, &book.services, &book.bundles, contents)?;
     let graph = match graph_of(alloc, definitions, &book.services, &book.bundles, &sets) {
         Ok(graph) => graph,
-        Err(fault) => return Err(fault),
+        Err(CycleFault::Cycle(names)) => return Err(CompileFault::Cycle(names)),
+        Err(CycleFault::Memory) => return Err(CompileFault::Memory),
     };
-    match joined(alloc, definitions, book, graph, &sets) {
-        Ok(db) => Ok(db),
-        Err(_) => Err(CompileFault::Memory),
-    }
+    Ok(joined(alloc, definitions, book, graph, &sets)?)
 }

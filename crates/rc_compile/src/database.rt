@@ -52,7 +52,7 @@ pub(crate) fn joined(
         shared: _,
         longruns: _,
         feeds: _,
-        readers: _,
+        matched: _,
     } = book;
     Ok(join(definitions, names, services, graph, table))
 }

@@ -1,11 +1,8 @@
 //! Laws of the definitions.
 
-ghost use Rattle.std.specs.Prelude.{slice_get, ◌<◌, ◌↔◌, Bool, Some, length, ◌≡◌, ◌≢◌, ℕ, List, [], ◌∷◌, ◌++◌, Contains};
+ghost use Rattle.std.specs.Prelude.{◌≡◌, ℕ, List, Contains};
 ghost use Rattle.rc_source.specs.Meaning.{Meaning};
 ghost use Rattle.rc_db.specs.Database.{Database, IsDatabase};
-ghost use Rattle.rc_db.specs.Bundles.{value_of};
-ghost use Rattle.rc_set.specs.Set.{Has};
-ghost use Rattle.rc_graph.specs.Needs.{Needs};
 ghost use Rattle.rc_compile.specs.declared.CompileFault.{CompileFault};
 ghost use Rattle.rc_holds.specs.Along.{IsShownCycle};
 ghost use Rattle.rc_holds.specs.Pipelines.{IsDefined, IsService, IsLongrun, WritesTo, InPipelineOf};
@@ -36,8 +33,5 @@ pub fn compiled_definitions_have_no_cycle()
 
 /// Definitions have one database at most.
 pub fn databases_of_definitions_are_one()
-    ensures names { (ms : List Meaning) (d e : Database) → IsDatabaseOf ms d → IsDatabaseOf ms e → d.names ≡ e.names }
-    ensures services { (ms : List Meaning) (d e : Database) (m : Meaning) (s : ℕ) → IsDatabaseOf ms d → IsDatabaseOf ms e → Contains ms m → slice_get d.names s ≡ Some m.name → slice_get d.services s ≡ slice_get e.services s }
-    ensures needs { (ms : List Meaning) (d e : Database) (s t : ℕ) → IsDatabaseOf ms d → IsDatabaseOf ms e → s < length d.names → t < length d.names → Needs d.needs s t ↔ Needs e.needs s t }
-    ensures sets { (ms : List Meaning) (d e : Database) (name : List ℕ) (a b : List Bool) (s : ℕ) → IsDatabaseOf ms d → IsDatabaseOf ms e → s < length d.names → value_of d.table name ≡ Some a → value_of e.table name ≡ Some b → Has a s ↔ Has b s }
+    ensures { (ms : List Meaning) (d e : Database) → IsDatabase d → IsDatabase e → IsDatabaseOf ms d → IsDatabaseOf ms e → d ≡ e }
 {}

@@ -2,7 +2,6 @@
 ghost use Rattle.std.specs.Prelude.{◌≡◌, ◌<◌, ℕ, List, [], length, Contains, Some, slice_get, IfOk, IfSome, IfNone, OnOk};
 ghost use Rattle.rc_holds.specs.Along.{IsLeast};
 
-use rc_db::copy_name;
 use rc_names::Name;
 use rc_set::NoMem;
 use std::alloc::Global;
@@ -16,7 +15,7 @@ pub(crate) fn least(alloc: Global, names: &[Name]) -> Result<Option<Name>, NoMem
         return Ok(None);
     }
     let place = least_place(names);
-    Ok(Some(copy_name(alloc, &names[place])?))
+    Ok(Some(names[place].copy(alloc)?))
 }
 
 // The place of the least of some names.

@@ -21,7 +21,6 @@ mod services;
 mod table;
 mod tables;
 mod tests;
-mod turn;
 mod unknown;
 
 use crate::book::book_of;
@@ -30,7 +29,7 @@ use crate::tests::test_all;
 use rc_db::Db;
 use rc_names::Name;
 use rc_source::Definition;
-use std::alloc::Global;
+use std::alloc::{AllocError, Global};
 use thiserror::Error;
 
 /// Why definitions make no database. The first in this order is told, of the least entry.
@@ -62,6 +61,16 @@ pub enum CompileFault {
     Memory,
 }
 
+impl From<AllocError> for CompileFault {
+    ghost use Rattle.rc_compile.specs.declared.CompileFault.TheVariants.{Memory};
+
+    ghost from_gives = { λ _ fault. fault ≡ Memory };
+
+    fn from(_fault: AllocError) -> CompileFault {
+        CompileFault::Memory
+    }
+}
+
 /// The database of definitions, as `read_all` gives them or a caller writes them.
 pub fn compile(alloc: Global, definitions: &[Definition]) -> Result<Db, CompileFault>
     requires { AreMeanings (map meaning_of definitions.now) }
@@ -70,13 +79,7 @@ pub fn compile(alloc: Global, definitions: &[Definition]) -> Result<Db, CompileF
     ensures free { OnOk result (AreFree (map meaning_of definitions.now) 7) }
     ensures fault { IfErr result (IsCompileFault (map meaning_of definitions.now)) }
 {
-    let book = match book_of(alloc, definitions) {
-        Ok(book) => book,
-        Err(fault) => return Err(fault),
-    };
-    let contents = match test_all(alloc, definitions, &book) {
-        Ok(contents) => contents,
-        Err(fault) => return Err(fault),
-    };
+    let book = book_of(alloc, definitions)?;
+    let contents = test_all(alloc, definitions, &book)?;
     build(alloc, definitions, book, &contents)
 }

@@ -11,43 +11,14 @@ ghost use Rattle.rc_holds.specs.Standing.{IsBundle, StandsFor, NeedsNamed};
 ghost use Rattle.rc_holds.specs.Mirror.{HasListed, Mirrors};
 ghost use Rattle.rc_holds.specs.Joining.{AllWithin};
 ghost use Rattle.rc_holds.specs.Sets.{AreSetsOf};
-ghost use Rattle.rc_compile.specs.Told.{IsNeedsFault, IsShownBy};
+ghost use Rattle.rc_holds.specs.CycleFaults.{IsCycleFault};
 
-use crate::CompileFault;
-use rc_graph::{Cycle, Draft, Graph, GraphFault};
-use rc_holds::{Listed, names_at, rows_of};
+use rc_graph::{Draft, Graph, GraphFault};
+use rc_holds::{CycleFault, Listed, need_all, need_listed, rows_of, shown_cycle};
 use rc_names::Names;
 use rc_set::{NoMem, Set};
 use rc_source::Definition;
 use std::alloc::Global;
-
-// Says that a service needs each of a list.
-fn need_list(draft: &mut Draft, service: u16, list: &[u16]) -> Result<(), NoMem>
-    requires service { service < length draft.old }
-    requires known { All (λ t. t < length draft.old) list.now }
-    ensures bound { length draft.new ≡ length draft.old }
-    ensures pairs { OnOk result ((s t : ℕ) → Needs draft.new s t ↔
-        (Needs draft.old s t ⊎ ((s ≡ service) × Contains list.now t))) }
-{
-    for t in list {
-        draft.need(service, *t)?;
-    }
-    Ok(())
-}
-
-// Says that services need those in their lists.
-pub(crate) fn need_lists(draft: &mut Draft, lists: &[Vec<u16>]) -> Result<(), NoMem>
-    requires bound { length lists.now ≡ length draft.old }
-    requires known { (s t : ℕ) → Needs (rows lists.now) s t → t < length draft.old }
-    ensures bound { length draft.new ≡ length draft.old }
-    ensures pairs { OnOk result ((s t : ℕ) → Needs draft.new s t ↔
-        (Needs draft.old s t ⊎ Needs (rows lists.now) s t)) }
-{
-    for s in 0..draft.len() {
-        need_list(draft, s, lists[s as usize].as_slice())?;
-    }
-    Ok(())
-}
 
 // Says that a service needs each of the sets of a list.
 fn need_sets(
@@ -66,7 +37,7 @@ fn need_sets(
 {
     for b in list {
         let members = sets[*b as usize].ids(alloc)?;
-        need_list(draft, service, &members)?;
+        need_all(draft, service, &members)?;
     }
     Ok(())
 }
@@ -89,23 +60,6 @@ pub(crate) fn need_bundles(
         need_sets(alloc, draft, s, lists[s as usize].as_slice(), sets)?;
     }
     Ok(())
-}
-
-// Says that services need those that their definitions list.
-fn need_listed(
-    alloc: Global,
-    draft: &mut Draft,
-    definitions: &[Definition],
-    which: Listed,
-    services: &Names,
-) -> Result<(), NoMem>
-    requires { length draft.old ≡ length services.now }
-    ensures bound { length draft.new ≡ length draft.old }
-    ensures pairs { OnOk result ((lists : List (List ℕ)) × Mirrors (HasListed which (map meaning_of definitions.now)) services.now services.now lists
-        × ((s t : ℕ) → Needs draft.new s t ↔ (Needs draft.old s t ⊎ Needs lists s t))) }
-{
-    let lists = rows_of(alloc, definitions, which, services, services)?;
-    need_lists(draft, &lists)
 }
 
 // Says that services need those for which the bundles among their dependencies stand.
@@ -164,7 +118,7 @@ pub(crate) fn graph_of(
     services: &Names,
     bundles: &Names,
     sets: &[Set],
-) -> Result<Graph, CompileFault>
+) -> Result<Graph, CycleFault>
     requires meanings { AreMeanings (map meaning_of definitions.now) }
     requires services { (name : List ℕ) → Contains services.now name ↔ IsService (map meaning_of definitions.now) name }
     requires bundles { (name : List ℕ) → Contains bundles.now name ↔ IsBundle (map meaning_of definitions.now) name }
@@ -173,27 +127,16 @@ pub(crate) fn graph_of(
     requires sets { AreSetsOf (StandsFor (map meaning_of definitions.now)) bundles.now services.now sets.now }
     ensures graph { IfOk result (λ graph. Mirrors (NeedsNamed (map meaning_of definitions.now)) services.now services.now graph) }
     ensures free { OnOk result ((names : List (List ℕ)) → IsShownCycle (NeedsNamed (map meaning_of definitions.now)) names → ⊥) }
-    ensures fault { IfErr result (IsNeedsFault (map meaning_of definitions.now)) }
+    ensures fault { IfErr result (IsCycleFault (NeedsNamed (map meaning_of definitions.now))) }
 {
     let _count = services.len();
     let draft = match needs_of(alloc, definitions, services, bundles, sets) {
         Ok(draft) => draft,
-        Err(_) => return Err(CompileFault::Memory),
+        Err(_) => return Err(CycleFault::Memory),
     };
     match draft.finish() {
         Ok(graph) => Ok(graph),
-        Err(GraphFault::Cycle(cycle)) => Err(shown(alloc, services, &cycle)),
-        Err(GraphFault::Memory) => Err(CompileFault::Memory),
-    }
-}
-
-// The fault that shows a cycle of services by their names.
-fn shown(alloc: Global, names: &Names, cycle: &Cycle) -> CompileFault
-    requires { All (λ s. s < length names.now) cycle.now }
-    ensures { IsShownBy (map (λ s. slice_index_or names.now s []) cycle.now) result }
-{
-    match names_at(alloc, names, cycle.ids()) {
-        Ok(shown) => CompileFault::Cycle(shown),
-        Err(_) => CompileFault::Memory,
+        Err(GraphFault::Cycle(cycle)) => Err(shown_cycle(alloc, services, &cycle)),
+        Err(GraphFault::Memory) => Err(CycleFault::Memory),
     }
 }

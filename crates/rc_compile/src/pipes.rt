@@ -2,10 +2,10 @@
 ghost use Rattle.std.specs.Prelude.{◌≡◌, ◌≤◌, ◌<◌, ◌↔◌, ◌⊎◌, ℕ, List, length, map, Contains, Some, IsTrue, IfOk, slice_get};
 ghost use Rattle.rc_set.specs.Set.{Has, Holds};
 ghost use Rattle.rc_graph.specs.Rows.{rows};
+ghost use Rattle.rc_source.specs.Meaning.{Meaning};
 ghost use Rattle.rc_source.specs.Said.{meaning_of};
-ghost use Rattle.rc_holds.specs.Pipelines.{IsLongrun};
-ghost use Rattle.rc_compile.specs.Given.{IsGiven};
-ghost use Rattle.rc_compile.specs.Told.{HasNamed, HasPair, JoinsOther, IsUnmatched, IsTaken, IsShared, GivesAt};
+ghost use Rattle.rc_holds.specs.Standing.{IsBundle};
+ghost use Rattle.rc_compile.specs.Told.{HasNamed, HasPair, JoinsOther, IsLongrunAt, ArePairedAt, IsMatchedAt, IsUnmatched, IsTaken, IsShared, GivesAt};
 
 use crate::tables::{Which, given};
 use rc_db::has_name;
@@ -22,16 +22,24 @@ pub(crate) fn longruns_of(
     services: &Names,
 ) -> Result<Set, NoMem>
     ensures bound { IfOk result (λ set. length set ≡ length services.now) }
-    ensures members { IfOk result (λ set. Holds set (λ s. (name : List ℕ) × (slice_get services.now s ≡ Some name)
-        × IsLongrun (map meaning_of definitions.now) name)) }
+    ensures members { IfOk result (λ set. Holds set (λ s. (m : Meaning) × Contains (map meaning_of definitions.now) m × IsLongrunAt services.now m s)) }
 {
     let mut longruns = Set::empty(alloc, services.len())?;
     for definition in definitions {
-        if is_kind(definition.kind, Kind::Longrun) {
-            insert_named(&mut longruns, services, definition.name.text());
-        }
+        insert_longrun(&mut longruns, services, definition);
     }
     Ok(longruns)
+}
+
+// Puts the place of a definition in, if it is a longrun.
+fn insert_longrun(set: &mut Set, services: &Names, definition: &Definition)
+    requires { length set.old ≡ length services.now }
+    ensures bound { length set.new ≡ length set.old }
+    ensures members { Holds set.new (λ s. Has set.old s ⊎ IsLongrunAt services.now (meaning_of definition.now) s) }
+{
+    if is_kind(definition.kind, Kind::Longrun) {
+        insert_named(set, services, definition.name.text());
+    }
 }
 
 // Puts the place of a name in, if the table has the name.
@@ -134,19 +142,74 @@ fn some_unpaired(names: &Names, lists: &[Vec<u16>], from: &[Name], to: &Name) ->
 pub(crate) fn is_unmatched(
     names: &Names,
     feeds: &[Vec<u16>],
-    readers: &[Vec<u16>],
+    matched: &Set,
     definition: &Definition,
 ) -> bool
     requires feeds { length feeds.now ≡ length names.now }
-    requires readers { length readers.now ≡ length names.now }
-    ensures { IsTrue result ↔ IsUnmatched names.now (rows feeds.now) (rows readers.now) (meaning_of definition.now) }
+    requires matched { length matched.now ≡ length names.now }
+    ensures { IsTrue result ↔ IsUnmatched names.now (rows feeds.now) matched.now (meaning_of definition.now) }
 {
     if some_unpaired(names, feeds, &definition.consumer_for, &definition.name) {
         return true;
     }
-    match &definition.producer_for {
-        Some(name) => !has_pair(names, readers, &definition.name, name),
-        None => false,
+    definition.producer_for.is_some() && !has_named(names, matched, definition.name.text())
+}
+
+// The services that the one that they write to reads from.
+pub(crate) fn matched_of(
+    alloc: Global,
+    definitions: &[Definition],
+    services: &Names,
+    feeds: &[Vec<u16>],
+) -> Result<Set, NoMem>
+    requires { length feeds.now ≡ length services.now }
+    ensures bound { IfOk result (λ set. length set ≡ length services.now) }
+    ensures members { IfOk result (λ set. Holds set (λ s. (m : Meaning) × Contains (map meaning_of definitions.now) m × IsMatchedAt services.now (rows feeds.now) m s)) }
+{
+    let mut matched = Set::empty(alloc, services.len())?;
+    for definition in definitions {
+        insert_matched(&mut matched, services, feeds, definition);
+    }
+    Ok(matched)
+}
+
+// Puts those in that a definition reads from and that write to it.
+fn insert_matched(set: &mut Set, names: &Names, feeds: &[Vec<u16>], definition: &Definition)
+    requires bound { length set.old ≡ length names.now }
+    requires feeds { length feeds.now ≡ length names.now }
+    ensures bound { length set.new ≡ length set.old }
+    ensures members { Holds set.new (λ s. Has set.old s ⊎ IsMatchedAt names.now (rows feeds.now) (meaning_of definition.now) s) }
+{
+    insert_paired(
+        set,
+        names,
+        feeds,
+        &definition.consumer_for,
+        &definition.name,
+    );
+}
+
+// Puts those of some names in that are in a pair with another.
+fn insert_paired(set: &mut Set, names: &Names, lists: &[Vec<u16>], from: &[Name], to: &Name)
+    requires bound { length set.old ≡ length names.now }
+    requires lists { length lists.now ≡ length names.now }
+    ensures bound { length set.new ≡ length set.old }
+    ensures members { Holds set.new (λ s. Has set.old s ⊎ ArePairedAt names.now (rows lists.now) from.now to.now s) }
+{
+    for name in from {
+        insert_if_paired(set, names, lists, name, to);
+    }
+}
+
+// Puts a name in that is in a pair with another.
+fn insert_if_paired(set: &mut Set, names: &Names, lists: &[Vec<u16>], from: &Name, to: &Name)
+    requires bound { length set.old ≡ length names.now }
+    requires lists { length lists.now ≡ length names.now }
+    ensures bound { length set.new ≡ length set.old }
+    ensures members { Holds set.new (λ s. Has set.old s ⊎ ((slice_get names.now s ≡ Some from.now) × HasPair names.now (rows lists.now) from.now to.now)) }
+{
+    if has_pair(names, lists, from, to) {
+        insert_named(set, names, from.text());
     }
 }
 
@@ -180,7 +243,7 @@ pub(crate) fn shared_of(
     definitions: &[Definition],
     bundles: &Names,
 ) -> Result<Set, NoMem>
-    requires { (name : List ℕ) → IsGiven Which.Bundles (map meaning_of definitions.now) name → Contains bundles.now name }
+    requires { (name : List ℕ) → IsBundle (map meaning_of definitions.now) name → Contains bundles.now name }
     ensures bound { IfOk result (λ set. length set ≡ length bundles.now) }
     ensures members { IfOk result (λ set. (name : List ℕ) → HasNamed bundles.now set name ↔ IsShared (map meaning_of definitions.now) name) }
 {

@@ -1,17 +1,15 @@
 // What is told of one entry: the least that has the flaw.
-ghost use Rattle.std.specs.Prelude.{◌≡◌, ◌↔◌, ◌⊎◌, ℕ, List, length, map, Contains, IsTrue, IfOk, IfErr, IfSome, IfNone, OnOk};
+ghost use Rattle.std.specs.Prelude.{◌≡◌, ◌↔◌, ◌⊎◌, ℕ, List, length, map, Contains, IsTrue, IfOk, IfSome, IfNone, OnOk};
 ghost use Rattle.rc_source.specs.Meaning.{Meaning, AreMeanings};
 ghost use Rattle.rc_source.specs.Said.{meaning_of};
 ghost use Rattle.rc_holds.specs.Along.{IsLeast};
 ghost use Rattle.rc_compile.specs.CompileFaults.{HasUnknown};
-ghost use Rattle.rc_compile.specs.Told.{HasTold, IsBook, Shows, IsToldBy};
+ghost use Rattle.rc_compile.specs.Told.{HasTold, IsBook, Shows};
 
-use crate::CompileFault;
 use crate::book::Book;
 use crate::least::least;
 use crate::pipes::{has_taken_name, is_unmatched, joins_other};
 use crate::unknown::unknown_in;
-use rc_db::copy_name;
 use rc_names::Name;
 use rc_set::NoMem;
 use rc_source::Definition;
@@ -26,51 +24,8 @@ pub(crate) enum Told {
     TakenName,
 }
 
-// Tests all definitions for a flaw. The least entry that has it is told.
-pub(crate) fn test(
-    alloc: Global,
-    definitions: &[Definition],
-    book: &Book,
-    told: Told,
-) -> Result<(), CompileFault>
-    requires meanings { AreMeanings (map meaning_of definitions.now) }
-    requires book { IsBook (map meaning_of definitions.now) book.now }
-    ensures free { OnOk result ((s : List ℕ) → HasTold (map meaning_of definitions.now) told s → ⊥) }
-    ensures fault { IfErr result (IsToldBy (map meaning_of definitions.now) told) }
-{
-    match least_flawed(alloc, definitions, book, told) {
-        Ok(None) => Ok(()),
-        Ok(Some(name)) => Err(fault_of(alloc, definitions, book, told, name)),
-        Err(_) => Err(CompileFault::Memory),
-    }
-}
-
-// The fault that tells of an entry.
-fn fault_of(
-    alloc: Global,
-    definitions: &[Definition],
-    book: &Book,
-    told: Told,
-    name: Name,
-) -> CompileFault
-    requires meanings { AreMeanings (map meaning_of definitions.now) }
-    requires book { IsBook (map meaning_of definitions.now) book.now }
-    requires least { IsLeast (HasTold (map meaning_of definitions.now) told) name }
-    ensures { IsToldBy (map meaning_of definitions.now) told result }
-{
-    match told {
-        Told::Unknown => match least_unknown(alloc, definitions, book, &name) {
-            Ok(unknown) => CompileFault::UnknownIn(name, unknown),
-            Err(_) => CompileFault::Memory,
-        },
-        Told::WrongType => CompileFault::PipelineType(name),
-        Told::NoMatch => CompileFault::PipelineMismatch(name),
-        Told::TakenName => CompileFault::PipelineName(name),
-    }
-}
-
 // The least entry that has a flaw, if there is one.
-fn least_flawed(
+pub(crate) fn least_flawed(
     alloc: Global,
     definitions: &[Definition],
     book: &Book,
@@ -94,7 +49,7 @@ fn flawed(
 ) -> Result<Vec<Name>, NoMem>
     requires { IsBook (map meaning_of definitions.now) book.now }
     ensures { IfOk result (λ names. (s : List ℕ) → Contains names.items s
-        ↔ ((m : Meaning) × Contains (map meaning_of definitions.now) m × (m.name ≡ s) × Shows book.now told m)) }
+        ↔ ((m : Meaning) × Contains (map meaning_of definitions.now) m × ((m.name ≡ s) × Shows book.now told m))) }
 {
     let mut names = Vec::new(alloc);
     for definition in definitions {
@@ -114,12 +69,12 @@ fn add_flawed(
     requires longruns { length book.now.longruns ≡ length book.now.services }
     requires marked { length book.now.shared ≡ length book.now.bundles }
     requires feeds { length book.now.feeds.items ≡ length book.now.services }
-    requires readers { length book.now.readers.items ≡ length book.now.services }
+    requires matched { length book.now.matched ≡ length book.now.services }
     ensures { OnOk result ((s : List ℕ) → Contains names.new.items s
-        ↔ (Contains names.old.items s ⊎ ((s ≡ definition.now.name) × Shows book.now told (meaning_of definition.now)))) }
+        ↔ (Contains names.old.items s ⊎ ((definition.now.name ≡ s) × Shows book.now told (meaning_of definition.now)))) }
 {
     if has_flaw(alloc, book, definition, told)? {
-        names.push(copy_name(alloc, &definition.name)?)?;
+        names.push(definition.name.copy(alloc)?)?;
     }
     Ok(())
 }
@@ -129,13 +84,13 @@ fn has_flaw(alloc: Global, book: &Book, definition: &Definition, told: Told) -> 
     requires longruns { length book.now.longruns ≡ length book.now.services }
     requires marked { length book.now.shared ≡ length book.now.bundles }
     requires feeds { length book.now.feeds.items ≡ length book.now.services }
-    requires readers { length book.now.readers.items ≡ length book.now.services }
+    requires matched { length book.now.matched ≡ length book.now.services }
     ensures { IfOk result (λ flawed. IsTrue flawed ↔ Shows book.now told (meaning_of definition.now)) }
 {
     match told {
         Told::Unknown => has_unknown(alloc, book, definition),
         Told::WrongType => Ok(joins_other(&book.services, &book.longruns, definition)),
-        Told::NoMatch => Ok(is_unmatched(&book.services, &book.feeds, &book.readers, definition)),
+        Told::NoMatch => Ok(is_unmatched(&book.services, &book.feeds, &book.matched, definition)),
         Told::TakenName => Ok(has_taken_name(
             &book.services,
             &book.bundles,
@@ -154,7 +109,7 @@ fn has_unknown(alloc: Global, book: &Book, definition: &Definition) -> Result<bo
 }
 
 // The least name in an entry that stands for nothing.
-fn least_unknown(
+pub(crate) fn least_unknown(
     alloc: Global,
     definitions: &[Definition],
     book: &Book,

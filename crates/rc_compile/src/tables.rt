@@ -1,14 +1,13 @@
 // The names of services, and those of bundles and pipelines.
-ghost use Rattle.std.specs.Prelude.{◌≡◌, ◌↔◌, ◌⊎◌, ℕ, List, Contains, map, IfOk, IfErr, OnOk, IfSome, IfNone};
+ghost use Rattle.std.specs.Prelude.{◌≡◌, ◌↔◌, ◌⊎◌, ℕ, List, Contains, map, false, IsTrue, IfOk, IfSome, IfNone};
 ghost use Rattle.rc_names.specs.Names.{Adds, AreNames};
 ghost use Rattle.rc_source.specs.Said.{meaning_of};
 ghost use Rattle.rc_compile.specs.Pipes.{AreTooMany};
-ghost use Rattle.rc_compile.specs.Given.{Gives, IsGiven, IsFull, AreFull};
+ghost use Rattle.rc_compile.specs.Given.{Gives, IsNameOf, IsFull};
 
-use crate::CompileFault;
-use rc_db::copy_name;
 use rc_holds::pipeline_name;
 use rc_names::{Kind, MAX_NAMES, Name, Names};
+use rc_set::NoMem;
 use rc_source::Definition;
 use std::alloc::Global;
 
@@ -19,44 +18,43 @@ pub(crate) enum Which {
     Bundles,
 }
 
-// The table of the names that definitions give.
+// The table of the names of services, or of bundles; none where there are too many.
 pub(crate) fn names_of(
     alloc: Global,
     definitions: &[Definition],
     which: Which,
-) -> Result<Names, CompileFault>
-    ensures same { IfOk result (λ names. (name : List ℕ) → Contains names name
-        ↔ IsGiven which (map meaning_of definitions.now) name) }
-    ensures few { OnOk result (AreTooMany (IsGiven which (map meaning_of definitions.now)) → ⊥) }
-    ensures fault { IfErr result (AreFull (IsGiven which (map meaning_of definitions.now))) }
+) -> Result<Option<Names>, NoMem>
+    ensures same { IfOk result (λ found. IfSome found (λ names. (name : List ℕ) → Contains names name
+        ↔ IsNameOf which (map meaning_of definitions.now) name)) }
+    ensures few { IfOk result (λ found. IfSome found (λ names. AreTooMany (IsNameOf which (map meaning_of definitions.now)) → ⊥)) }
+    ensures many { IfOk result (λ found. IfNone found (AreTooMany (IsNameOf which (map meaning_of definitions.now)))) }
 {
     let mut names = Names::new(alloc);
     for definition in definitions {
-        match add_given(alloc, &mut names, definition, which) {
-            Ok(()) => {}
-            Err(fault) => return Err(fault),
+        if !add_given(alloc, &mut names, definition, which)? {
+            return Ok(None);
         }
     }
     let _count = names.len();
-    Ok(names)
+    Ok(Some(names))
 }
 
-// Puts the name in that a definition gives.
+// Puts the name in that a definition gives, and tells whether there was room for it.
 fn add_given(
     alloc: Global,
     names: &mut Names,
     definition: &Definition,
     which: Which,
-) -> Result<(), CompileFault>
-    ensures adds { OnOk result ((name : List ℕ) → Contains names.new name
+) -> Result<bool, NoMem>
+    ensures adds { IfOk result (λ fits. IsTrue fits → (name : List ℕ) → Contains names.new name
         ↔ (Contains names.old name ⊎ Gives which (meaning_of definition.now) name)) }
-    ensures fault { IfErr result (IsFull names.old (Gives which (meaning_of definition.now))) }
+    ensures full { IfOk result (λ fits. fits ≡ false → IsFull names.old (Gives which (meaning_of definition.now))) }
     ensures names { AreNames names.old }
 {
     let _count = names.len();
     match given(definition, which) {
         Some(name) => add_name(alloc, names, name),
-        None => Ok(()),
+        None => Ok(true),
     }
 }
 
@@ -74,23 +72,18 @@ pub(crate) fn given(definition: &Definition, which: Which) -> Option<&Name>
     }
 }
 
-// Puts a name in, unless it is there.
-fn add_name(alloc: Global, names: &mut Names, name: &Name) -> Result<(), CompileFault>
-    ensures adds { OnOk result (Adds names.old name.now names.new) }
-    ensures fault { IfErr result (IsFull names.old (λ other. other ≡ name.now)) }
+// Puts a name in, unless it is there, and tells whether there was room for it.
+fn add_name(alloc: Global, names: &mut Names, name: &Name) -> Result<bool, NoMem>
+    ensures adds { IfOk result (λ fits. IsTrue fits → Adds names.old name.now names.new) }
+    ensures full { IfOk result (λ fits. fits ≡ false → IsFull names.old (λ other. other ≡ name.now)) }
 {
     let count = names.len();
     if names.find(name.text()).is_some() {
-        return Ok(());
+        return Ok(true);
     }
     if count >= MAX_NAMES {
-        return Err(CompileFault::TooMany);
+        return Ok(false);
     }
-    match copy_name(alloc, name) {
-        Ok(name) => match names.add(name) {
-            Ok(_) => Ok(()),
-            Err(_) => Err(CompileFault::Memory),
-        },
-        Err(_) => Err(CompileFault::Memory),
-    }
+    names.add(name.copy(alloc)?)?;
+    Ok(true)
 }

@@ -9,9 +9,9 @@ ghost use Rattle.rc_compile.specs.Told.{IsBook};
 
 use crate::CompileFault;
 use crate::book::Book;
-use crate::scan::{Told, test};
+use crate::scan::{Told, least_flawed, least_unknown};
 use rc_graph::Graph;
-use rc_holds::{BundleFault, bundle_graph};
+use rc_holds::{CycleFault, bundle_graph};
 use rc_source::Definition;
 use std::alloc::Global;
 
@@ -28,14 +28,9 @@ pub(crate) fn test_all(
     ensures free { OnOk result (AreFree (map meaning_of definitions.now) 6) }
     ensures fault { IfErr result (IsCompileFault (map meaning_of definitions.now)) }
 {
-    let graph = match test_names(alloc, definitions, book) {
-        Ok(graph) => graph,
-        Err(fault) => return Err(fault),
-    };
-    match test_pipes(alloc, definitions, book) {
-        Ok(()) => Ok(graph),
-        Err(fault) => Err(fault),
-    }
+    let graph = test_names(alloc, definitions, book)?;
+    test_pipes(alloc, definitions, book)?;
+    Ok(graph)
 }
 
 // Tests that each name stands for something and that no bundles hold one another in a circle.
@@ -47,14 +42,14 @@ fn test_names(alloc: Global, definitions: &[Definition], book: &Book) -> Result<
     ensures free { OnOk result (AreFree (map meaning_of definitions.now) 3) }
     ensures fault { IfErr result (IsCompileFault (map meaning_of definitions.now)) }
 {
-    match test(alloc, definitions, book, Told::Unknown) {
-        Ok(()) => {}
-        Err(fault) => return Err(fault),
+    if let Some(name) = least_flawed(alloc, definitions, book, Told::Unknown)? {
+        let unknown = least_unknown(alloc, definitions, book, &name)?;
+        return Err(CompileFault::UnknownIn(name, unknown));
     }
     match bundle_graph(alloc, definitions, &book.bundles) {
         Ok(graph) => Ok(graph),
-        Err(BundleFault::Cycle(names)) => Err(CompileFault::BundleCycle(names)),
-        Err(BundleFault::Memory) => Err(CompileFault::Memory),
+        Err(CycleFault::Cycle(names)) => Err(CompileFault::BundleCycle(names)),
+        Err(CycleFault::Memory) => Err(CompileFault::Memory),
     }
 }
 
@@ -66,13 +61,14 @@ fn test_pipes(alloc: Global, definitions: &[Definition], book: &Book) -> Result<
     ensures free { OnOk result (AreFree (map meaning_of definitions.now) 6) }
     ensures fault { IfErr result (IsCompileFault (map meaning_of definitions.now)) }
 {
-    match test(alloc, definitions, book, Told::WrongType) {
-        Ok(()) => {}
-        Err(fault) => return Err(fault),
+    if let Some(name) = least_flawed(alloc, definitions, book, Told::WrongType)? {
+        return Err(CompileFault::PipelineType(name));
     }
-    match test(alloc, definitions, book, Told::NoMatch) {
-        Ok(()) => {}
-        Err(fault) => return Err(fault),
+    if let Some(name) = least_flawed(alloc, definitions, book, Told::NoMatch)? {
+        return Err(CompileFault::PipelineMismatch(name));
     }
-    test(alloc, definitions, book, Told::TakenName)
+    match least_flawed(alloc, definitions, book, Told::TakenName)? {
+        Some(name) => Err(CompileFault::PipelineName(name)),
+        None => Ok(()),
+    }
 }

@@ -3,7 +3,7 @@ ghost use Rattle.std.specs.Prelude.{◌≡◌, ◌↔◌, ◌⊎◌, ℕ, List, 
 ghost use Rattle.rc_source.specs.Said.{meaning_of};
 ghost use Rattle.rc_compile.specs.CompileFaults.{Mentions};
 
-use rc_db::{copy_name, has_name};
+use rc_db::has_name;
 use rc_names::{Name, Names};
 use rc_set::NoMem;
 use rc_source::Definition;
@@ -85,7 +85,7 @@ fn add_if_unknown(
         ↔ (Contains unknown.old.items other ⊎ ((other ≡ name.now) × (Contains services.now other ⊎ Contains bundles.now other → ⊥)))) }
 {
     if !is_known(services, bundles, name.text()) {
-        unknown.push(copy_name(alloc, name)?)?;
+        unknown.push(name.copy(alloc)?)?;
     }
     Ok(())
 }

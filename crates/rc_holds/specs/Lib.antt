@@ -2,7 +2,7 @@ pub mod Along
 pub mod Pipelines
 pub mod Standing
 pub mod Mirror
-pub mod BundleFaults
+pub mod CycleFaults
 pub mod Walking
 pub mod Joining
 pub mod Sets

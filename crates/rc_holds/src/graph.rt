@@ -6,8 +6,8 @@ ghost use Rattle.rc_source.specs.Meaning.{AreMeanings};
 ghost use Rattle.rc_source.specs.Said.{meaning_of};
 ghost use Rattle.rc_holds.specs.Along.{IsShownCycle};
 ghost use Rattle.rc_holds.specs.Standing.{IsBundle, HasContent};
-ghost use Rattle.rc_holds.specs.Mirror.{Mirrors};
-ghost use Rattle.rc_holds.specs.BundleFaults.{IsBundleFault, IsShownBy};
+ghost use Rattle.rc_holds.specs.Mirror.{AreAt, HasListed, Mirrors};
+ghost use Rattle.rc_holds.specs.CycleFaults.{IsCycleFault, IsShownBy};
 
 use crate::rows::{Listed, rows_of};
 use crate::shown::names_at;
@@ -18,11 +18,11 @@ use rc_source::Definition;
 use std::alloc::Global;
 use thiserror::Error;
 
-/// Why bundles have no graph.
+/// Why names have no graph.
 #[derive(Debug, Drop, Error)]
-pub enum BundleFault {
-    /// Each of them holds the next, the last the first. The first is the least.
-    #[error("bundles hold one another in a circle")]
+pub enum CycleFault {
+    /// Each of them needs or holds the next, the last the first. The first is the least.
+    #[error("names go round in a circle")]
     Cycle(Vec<Name>),
     /// There was no room for the graph.
     #[error("out of memory")]
@@ -35,22 +35,22 @@ pub fn bundle_graph(
     alloc: Global,
     definitions: &[Definition],
     bundles: &Names,
-) -> Result<Graph, BundleFault>
+) -> Result<Graph, CycleFault>
     requires meanings { AreMeanings (map meaning_of definitions.now) }
     requires bundles { (name : List ℕ) → Contains bundles.now name ↔ IsBundle (map meaning_of definitions.now) name }
     ensures pairs { IfOk result (λ graph. Mirrors (HasContent (map meaning_of definitions.now)) bundles.now bundles.now graph) }
     ensures free { OnOk result ((names : List (List ℕ)) → IsShownCycle (HasContent (map meaning_of definitions.now)) names → ⊥) }
-    ensures fault { IfErr result (IsBundleFault (HasContent (map meaning_of definitions.now))) }
+    ensures fault { IfErr result (IsCycleFault (HasContent (map meaning_of definitions.now))) }
 {
     let _count = bundles.len();
     let draft = match content_draft(alloc, definitions, bundles) {
         Ok(draft) => draft,
-        Err(_) => return Err(BundleFault::Memory),
+        Err(_) => return Err(CycleFault::Memory),
     };
     match draft.finish() {
         Ok(graph) => Ok(graph),
-        Err(GraphFault::Cycle(cycle)) => Err(shown(alloc, bundles, &cycle)),
-        Err(GraphFault::Memory) => Err(BundleFault::Memory),
+        Err(GraphFault::Cycle(cycle)) => Err(shown_cycle(alloc, bundles, &cycle)),
+        Err(GraphFault::Memory) => Err(CycleFault::Memory),
     }
 }
 
@@ -58,38 +58,53 @@ pub fn bundle_graph(
 fn content_draft(alloc: Global, definitions: &[Definition], bundles: &Names) -> Result<Draft, NoMem>
     ensures { IfOk result (λ draft. Mirrors (HasContent (map meaning_of definitions.now)) bundles.now bundles.now draft) }
 {
-    let _count = bundles.len();
-    let lists = rows_of(alloc, definitions, Listed::Contents, bundles, bundles)?;
-    draft_of(alloc, &lists)
+    let mut draft = Draft::new(alloc, bundles.len())?;
+    need_listed(alloc, &mut draft, definitions, Listed::Contents, bundles)?;
+    Ok(draft)
 }
 
-// A cycle of ids by the names at their places.
-fn shown(alloc: Global, names: &Names, cycle: &Cycle) -> BundleFault
+/// A cycle of ids by the names at their places.
+pub fn shown_cycle(alloc: Global, names: &Names, cycle: &Cycle) -> CycleFault
     requires { All (λ s. s < length names.now) cycle.now }
     ensures { IsShownBy (map (λ s. slice_index_or names.now s []) cycle.now) result }
 {
     match names_at(alloc, names, cycle.ids()) {
-        Ok(names) => BundleFault::Cycle(names),
-        Err(_) => BundleFault::Memory,
+        Ok(names) => CycleFault::Cycle(names),
+        Err(_) => CycleFault::Memory,
     }
 }
 
-// A draft with the pairs of lists.
-fn draft_of(alloc: Global, lists: &[Vec<u16>]) -> Result<Draft, NoMem>
-    requires few { length lists.now ≤ 4096 }
-    requires known { AreKnown (rows lists.now) }
-    ensures bound { IfOk result (λ draft. length draft ≡ length lists.now) }
-    ensures pairs { IfOk result (λ draft. (s t : ℕ) → Needs draft s t ↔ Needs (rows lists.now) s t) }
+/// Says that the ids of names need those of the names that their definitions list.
+pub fn need_listed(
+    alloc: Global,
+    draft: &mut Draft,
+    definitions: &[Definition],
+    which: Listed,
+    names: &Names,
+) -> Result<(), NoMem>
+    requires { length draft.old ≡ length names.now }
+    ensures bound { length draft.new ≡ length draft.old }
+    ensures pairs { OnOk result ((s t : ℕ) → Needs draft.new s t ↔ (Needs draft.old s t ⊎ AreAt (HasListed which (map meaning_of definitions.now)) names.now names.now s t)) }
 {
-    let mut draft = Draft::new(alloc, lists.len() as u16)?;
-    for s in 0..lists.len() {
-        add_needs(&mut draft, s as u16, lists[s].as_slice())?;
-    }
-    Ok(draft)
+    let lists = rows_of(alloc, definitions, which, names, names)?;
+    need_lists(draft, &lists)
 }
 
-// Says of each of a list that an id needs it.
-fn add_needs(draft: &mut Draft, id: u16, list: &[u16]) -> Result<(), NoMem>
+// Says that ids need those in their lists.
+fn need_lists(draft: &mut Draft, lists: &[Vec<u16>]) -> Result<(), NoMem>
+    requires bound { length lists.now ≡ length draft.old }
+    requires known { AreKnown (rows lists.now) }
+    ensures bound { length draft.new ≡ length draft.old }
+    ensures pairs { OnOk result ((s t : ℕ) → Needs draft.new s t ↔ (Needs draft.old s t ⊎ Needs (rows lists.now) s t)) }
+{
+    for s in 0..draft.len() {
+        need_all(draft, s, lists[s as usize].as_slice())?;
+    }
+    Ok(())
+}
+
+/// Says of each of a list that an id needs it.
+pub fn need_all(draft: &mut Draft, id: u16, list: &[u16]) -> Result<(), NoMem>
     requires id { id < length draft.old }
     requires known { All (λ t. t < length draft.old) list.now }
     ensures bound { length draft.new ≡ length draft.old }

@@ -9,7 +9,7 @@ mod sets;
 mod shown;
 mod walk;
 
-pub use crate::graph::{BundleFault, bundle_graph};
+pub use crate::graph::{CycleFault, bundle_graph, need_all, need_listed, shown_cycle};
 pub use crate::pipes::pipeline_name;
 pub use crate::rows::{Listed, rows_of};
 pub use crate::sets::bundle_sets;

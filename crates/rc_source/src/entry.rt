@@ -51,6 +51,7 @@ fn limits_at<T: Tree>(alloc: Global, tree: &mut T, entry: &str) -> Result<Limits
     ensures io { IfErr result (λ flaw. flaw ≡ Flaw.Io → HasFailed (T.failed tree.old) (T.failed tree.new)) }
     ensures same { T.held tree.new ≡ T.held tree.old }
     ensures count { T.failed tree.old ≤ T.failed tree.new }
+    ensures quiet { OnOk result (T.failed tree.new ≡ T.failed tree.old) }
 {
     let up = file::limit_at(alloc, tree, entry, "timeout-up")?;
     let down = file::limit_at(alloc, tree, entry, "timeout-down")?;
@@ -72,6 +73,7 @@ fn joined_at<T: Tree>(
     ensures io { IfErr result (λ flaw. flaw ≡ Flaw.Io → HasFailed (T.failed tree.old) (T.failed tree.new)) }
     ensures same { T.held tree.new ≡ T.held tree.old }
     ensures count { T.failed tree.old ≤ T.failed tree.new }
+    ensures quiet { OnOk result (T.failed tree.new ≡ T.failed tree.old) }
 {
     let mut set = BTreeSet::new(alloc);
     file::add_names_at(alloc, tree, entry, file, &mut set)?;
@@ -88,6 +90,7 @@ fn consumer_for_at<T: Tree>(alloc: Global, tree: &mut T, entry: &str) -> Result<
     ensures io { IfErr result (λ flaw. flaw ≡ Flaw.Io → HasFailed (T.failed tree.old) (T.failed tree.new)) }
     ensures same { T.held tree.new ≡ T.held tree.old }
     ensures count { T.failed tree.old ≤ T.failed tree.new }
+    ensures quiet { OnOk result (T.failed tree.new ≡ T.failed tree.old) }
 {
     let mut set = BTreeSet::new(alloc);
     file::add_names_at(alloc, tree, entry, "consumer-for", &mut set)?;
@@ -103,6 +106,7 @@ fn pipes_at<T: Tree>(alloc: Global, tree: &mut T, entry: &str) -> Result<Pipes, 
     ensures io { IfErr result (λ flaw. flaw ≡ Flaw.Io → HasFailed (T.failed tree.old) (T.failed tree.new)) }
     ensures same { T.held tree.new ≡ T.held tree.old }
     ensures count { T.failed tree.old ≤ T.failed tree.new }
+    ensures quiet { OnOk result (T.failed tree.new ≡ T.failed tree.old) }
 {
     let producer_for = file::one_name_at(alloc, tree, entry, "producer-for")?;
     let consumer_for = consumer_for_at(alloc, tree, entry)?;
@@ -123,6 +127,7 @@ fn service_at<T: Tree>(alloc: Global, tree: &mut T, entry: &str) -> Result<Servi
     ensures io { IfErr result (λ flaw. flaw ≡ Flaw.Io → HasFailed (T.failed tree.old) (T.failed tree.new)) }
     ensures same { T.held tree.new ≡ T.held tree.old }
     ensures count { T.failed tree.old ≤ T.failed tree.new }
+    ensures quiet { OnOk result (T.failed tree.new ≡ T.failed tree.old) }
 {
     let limits = limits_at(alloc, tree, entry)?;
     let essential = file::flag_at(alloc, tree, entry)?;
@@ -230,6 +235,7 @@ fn oneshot_at<T: Tree>(alloc: Global, tree: &mut T, name: Name) -> Result<Defini
     ensures io { IfErr result (λ flaw. flaw ≡ Flaw.Io → HasFailed (T.failed tree.old) (T.failed tree.new)) }
     ensures same { T.held tree.new ≡ T.held tree.old }
     ensures count { T.failed tree.old ≤ T.failed tree.new }
+    ensures quiet { OnOk result (T.failed tree.new ≡ T.failed tree.old) }
 {
     let up = file::up_at(alloc, tree, name.text())?;
     let down = file::down_at(alloc, tree, name.text())?;
@@ -247,6 +253,7 @@ fn longrun_at<T: Tree>(alloc: Global, tree: &mut T, name: Name) -> Result<Defini
     ensures io { IfErr result (λ flaw. flaw ≡ Flaw.Io → HasFailed (T.failed tree.old) (T.failed tree.new)) }
     ensures same { T.held tree.new ≡ T.held tree.old }
     ensures count { T.failed tree.old ≤ T.failed tree.new }
+    ensures quiet { OnOk result (T.failed tree.new ≡ T.failed tree.old) }
 {
     file::test_run(alloc, tree, name.text())?;
     let service = service_at(alloc, tree, name.text())?;
@@ -263,6 +270,7 @@ fn bundle_at<T: Tree>(alloc: Global, tree: &mut T, name: Name) -> Result<Definit
     ensures io { IfErr result (λ flaw. flaw ≡ Flaw.Io → HasFailed (T.failed tree.old) (T.failed tree.new)) }
     ensures same { T.held tree.new ≡ T.held tree.old }
     ensures count { T.failed tree.old ≤ T.failed tree.new }
+    ensures quiet { OnOk result (T.failed tree.new ≡ T.failed tree.old) }
 {
     let contents = joined_at(alloc, tree, name.text(), "contents", "contents.d")?;
     Ok(bundle_of(alloc, name, contents))
@@ -282,6 +290,7 @@ pub(crate) fn definition_at<T: Tree>(
     ensures io { IfErr result (λ flaw. flaw ≡ Flaw.Io → HasFailed (T.failed tree.old) (T.failed tree.new)) }
     ensures same { T.held tree.new ≡ T.held tree.old }
     ensures count { T.failed tree.old ≤ T.failed tree.new }
+    ensures quiet { OnOk result (T.failed tree.new ≡ T.failed tree.old) }
 {
     let kind = file::kind_at(alloc, tree, name.text())?;
     match kind {

@@ -30,6 +30,7 @@ fn text_at<T: Tree>(
     ensures io { IfErr result (λ flaw. flaw ≡ Flaw.Io → HasFailed (T.failed tree.old) (T.failed tree.new)) }
     ensures same { T.held tree.new ≡ T.held tree.old }
     ensures count { T.failed tree.old ≤ T.failed tree.new }
+    ensures quiet { OnOk result (T.failed tree.new ≡ T.failed tree.old) }
 {
     match tree.bytes(alloc, entry, file) {
         Ok(Some(bytes)) => Ok(Some(text::text_of(bytes)?)),
@@ -48,6 +49,7 @@ pub(crate) fn kind_at<T: Tree>(alloc: Global, tree: &mut T, entry: &str) -> Resu
     ensures io { IfErr result (λ flaw. flaw ≡ Flaw.Io → HasFailed (T.failed tree.old) (T.failed tree.new)) }
     ensures same { T.held tree.new ≡ T.held tree.old }
     ensures count { T.failed tree.old ≤ T.failed tree.new }
+    ensures quiet { OnOk result (T.failed tree.new ≡ T.failed tree.old) }
 {
     match text_at(alloc, tree, entry, "type")? {
         Some(text) => text::kind_in(text.as_str()),
@@ -64,6 +66,7 @@ pub(crate) fn up_at<T: Tree>(alloc: Global, tree: &mut T, entry: &str) -> Result
     ensures io { IfErr result (λ flaw. flaw ≡ Flaw.Io → HasFailed (T.failed tree.old) (T.failed tree.new)) }
     ensures same { T.held tree.new ≡ T.held tree.old }
     ensures count { T.failed tree.old ≤ T.failed tree.new }
+    ensures quiet { OnOk result (T.failed tree.new ≡ T.failed tree.old) }
 {
     match text_at(alloc, tree, entry, "up")? {
         Some(text) => Ok(text),
@@ -84,6 +87,7 @@ pub(crate) fn down_at<T: Tree>(
     ensures io { IfErr result (λ flaw. flaw ≡ Flaw.Io → HasFailed (T.failed tree.old) (T.failed tree.new)) }
     ensures same { T.held tree.new ≡ T.held tree.old }
     ensures count { T.failed tree.old ≤ T.failed tree.new }
+    ensures quiet { OnOk result (T.failed tree.new ≡ T.failed tree.old) }
 {
     let text = text_at(alloc, tree, entry, "down")?;
     Ok(text)
@@ -102,6 +106,7 @@ pub(crate) fn limit_at<T: Tree>(
     ensures io { IfErr result (λ flaw. flaw ≡ Flaw.Io → HasFailed (T.failed tree.old) (T.failed tree.new)) }
     ensures same { T.held tree.new ≡ T.held tree.old }
     ensures count { T.failed tree.old ≤ T.failed tree.new }
+    ensures quiet { OnOk result (T.failed tree.new ≡ T.failed tree.old) }
 {
     match text_at(alloc, tree, entry, file)? {
         Some(text) => text::limit_in(text.as_str()),
@@ -116,6 +121,7 @@ pub(crate) fn test_run<T: Tree>(alloc: Global, tree: &mut T, entry: &str) -> Res
     ensures io { IfErr result (λ flaw. flaw ≡ Flaw.Io → HasFailed (T.failed tree.old) (T.failed tree.new)) }
     ensures same { T.held tree.new ≡ T.held tree.old }
     ensures count { T.failed tree.old ≤ T.failed tree.new }
+    ensures quiet { OnOk result (T.failed tree.new ≡ T.failed tree.old) }
 {
     match tree.has(alloc, entry, "run") {
         Ok(true) => Ok(()),
@@ -132,6 +138,7 @@ pub(crate) fn flag_at<T: Tree>(alloc: Global, tree: &mut T, entry: &str) -> Resu
     ensures io { IfErr result (λ flaw. flaw ≡ Flaw.Io → HasFailed (T.failed tree.old) (T.failed tree.new)) }
     ensures same { T.held tree.new ≡ T.held tree.old }
     ensures count { T.failed tree.old ≤ T.failed tree.new }
+    ensures quiet { OnOk result (T.failed tree.new ≡ T.failed tree.old) }
 {
     match tree.has(alloc, entry, "flag-essential") {
         Ok(there) => Ok(there),
@@ -153,6 +160,7 @@ fn names_at<T: Tree>(
     ensures io { IfErr result (λ flaw. flaw ≡ Flaw.Io → HasFailed (T.failed tree.old) (T.failed tree.new)) }
     ensures same { T.held tree.new ≡ T.held tree.old }
     ensures count { T.failed tree.old ≤ T.failed tree.new }
+    ensures quiet { OnOk result (T.failed tree.new ≡ T.failed tree.old) }
 {
     match text_at(alloc, tree, entry, file)? {
         Some(text) => text::names_of(alloc, text.as_str()),
@@ -174,6 +182,7 @@ pub(crate) fn one_name_at<T: Tree>(
     ensures io { IfErr result (λ flaw. flaw ≡ Flaw.Io → HasFailed (T.failed tree.old) (T.failed tree.new)) }
     ensures same { T.held tree.new ≡ T.held tree.old }
     ensures count { T.failed tree.old ≤ T.failed tree.new }
+    ensures quiet { OnOk result (T.failed tree.new ≡ T.failed tree.old) }
 {
     match text_at(alloc, tree, entry, file)? {
         Some(text) => text::one_name_in(alloc, text.as_str()),
@@ -196,6 +205,7 @@ pub(crate) fn add_names_at<T: Tree>(
     ensures io { IfErr result (λ flaw. flaw ≡ Flaw.Io → HasFailed (T.failed tree.old) (T.failed tree.new)) }
     ensures same { T.held tree.new ≡ T.held tree.old }
     ensures count { T.failed tree.old ≤ T.failed tree.new }
+    ensures quiet { OnOk result (T.failed tree.new ≡ T.failed tree.old) }
 {
     let names = names_at(alloc, tree, entry, file)?;
     sets::add_names(alloc, set, &names)?;

@@ -85,6 +85,7 @@ fn folder_names_at<T: Tree>(
     ensures io { IfErr result (λ flaw. flaw ≡ Flaw.Io → HasFailed (T.failed tree.old) (T.failed tree.new)) }
     ensures same { T.held tree.new ≡ T.held tree.old }
     ensures count { T.failed tree.old ≤ T.failed tree.new }
+    ensures quiet { OnOk result (T.failed tree.new ≡ T.failed tree.old) }
 {
     match tree.listing(alloc, entry, folder) {
         Ok(Some(names)) => visible_names(alloc, &names),
@@ -110,6 +111,7 @@ pub(crate) fn add_folder_at<T: Tree>(
     ensures io { IfErr result (λ flaw. flaw ≡ Flaw.Io → HasFailed (T.failed tree.old) (T.failed tree.new)) }
     ensures same { T.held tree.new ≡ T.held tree.old }
     ensures count { T.failed tree.old ≤ T.failed tree.new }
+    ensures quiet { OnOk result (T.failed tree.new ≡ T.failed tree.old) }
 {
     let names = folder_names_at(alloc, tree, entry, folder)?;
     sets::add_names(alloc, set, &names)?;

@@ -89,6 +89,7 @@ impl<R: Files + AllocGlobal + Clone + Drop> Tree for FolderTree<R> {
 fn noted<X>(failures: &mut u64, answer: io::Result<X>) -> Result<X, TreeFault>
     ensures fault { IfErr result (IsCallFault failures.old failures.new) }
     ensures count { failures.old ≤ failures.new }
+    ensures quiet { OnOk result (failures.new ≡ failures.old) }
 {
     match answer {
         Ok(value) => Ok(value),

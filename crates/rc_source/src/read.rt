@@ -25,6 +25,7 @@ pub fn read_all<T: Tree>(alloc: Global, trees: &mut [T]) -> Result<Vec<Definitio
         → StopsInTests (all_tests [] sources) (flaw_of fault) (carried fault)) }
     ensures io { IfErr result (λ fault. flaw_of fault ≡ Flaw.Io → SomeFailed (map T.failed trees.old) (map T.failed trees.new)) }
     ensures same { map T.held trees.new ≡ map T.held trees.old }
+    ensures quiet { OnOk result (map T.failed trees.new ≡ map T.failed trees.old) }
 {
     let mut found = Found::new(alloc);
     for tree in trees.iter_mut() {
@@ -43,6 +44,7 @@ fn read_source<T: Tree>(alloc: Global, tree: &mut T, found: &mut Found) -> Resul
     ensures io { IfErr result (λ fault. flaw_of fault ≡ Flaw.Io → HasFailed (T.failed tree.old) (T.failed tree.new)) }
     ensures same { T.held tree.new ≡ T.held tree.old }
     ensures count { T.failed tree.old ≤ T.failed tree.new }
+    ensures quiet { OnOk result (T.failed tree.new ≡ T.failed tree.old) }
 {
     let names = entries_at(alloc, tree)?;
     for name in &names {
@@ -62,6 +64,7 @@ fn entries_at<T: Tree>(alloc: Global, tree: &mut T) -> Result<Vec<String>, Sourc
     ensures io { IfErr result (λ fault. flaw_of fault ≡ Flaw.Io → HasFailed (T.failed tree.old) (T.failed tree.new)) }
     ensures same { T.held tree.new ≡ T.held tree.old }
     ensures count { T.failed tree.old ≤ T.failed tree.new }
+    ensures quiet { OnOk result (T.failed tree.new ≡ T.failed tree.old) }
 {
     let names = match tree.entries(alloc) {
         Ok(names) => names,
@@ -86,6 +89,7 @@ fn read_entry<T: Tree>(
     ensures io { IfErr result (λ flaw. flaw ≡ Flaw.Io → HasFailed (T.failed tree.old) (T.failed tree.new)) }
     ensures same { T.held tree.new ≡ T.held tree.old }
     ensures count { T.failed tree.old ≤ T.failed tree.new }
+    ensures quiet { OnOk result (T.failed tree.new ≡ T.failed tree.old) }
 {
     let name = text::name_in(alloc, entry.as_bytes())?;
     if found.has(entry) {

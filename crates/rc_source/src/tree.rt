@@ -58,7 +58,8 @@ pub trait Tree {
             → IsSource source × AreEntries source (map string_bytes names.items)) }
         ensures fault { IfErr result (IsCallFault (failed self.old) (failed self.new)) }
         ensures same { held self.new ≡ held self.old }
-        ensures count { failed self.old ≤ failed self.new };
+        ensures count { failed self.old ≤ failed self.new }
+        ensures quiet { OnOk result (failed self.new ≡ failed self.old) };
 
     /// The names in a folder of a service directory, in any order, if the folder is there.
     fn listing(
@@ -71,7 +72,8 @@ pub trait Tree {
             → IsListing source service.now folder.now (option_map (λ names. map string_bytes names.items) names)) }
         ensures fault { IfErr result (IsCallFault (failed self.old) (failed self.new)) }
         ensures same { held self.new ≡ held self.old }
-        ensures count { failed self.old ≤ failed self.new };
+        ensures count { failed self.old ≤ failed self.new }
+        ensures quiet { OnOk result (failed self.new ≡ failed self.old) };
 
     /// The bytes of a file of a service directory, if it is there.
     fn bytes(
@@ -85,7 +87,8 @@ pub trait Tree {
         ensures short { IfOk result (λ bytes. IfSome bytes (λ bytes. vec_len bytes ≤ 65536)) }
         ensures fault { IfErr result (IsReadFault (failed self.old) (failed self.new) (held self.old) service.now file.now) }
         ensures same { held self.new ≡ held self.old }
-        ensures count { failed self.old ≤ failed self.new };
+        ensures count { failed self.old ≤ failed self.new }
+        ensures quiet { OnOk result (failed self.new ≡ failed self.old) };
 
     /// Whether a file of a service directory is there.
     fn has(&mut self, alloc: Global, service: &str, file: &str) -> Result<bool, TreeFault>
@@ -93,7 +96,8 @@ pub trait Tree {
             → (IsTrue there ↔ IsSome (file_at source service.now file.now))) }
         ensures fault { IfErr result (IsCallFault (failed self.old) (failed self.new)) }
         ensures same { held self.new ≡ held self.old }
-        ensures count { failed self.old ≤ failed self.new };
+        ensures count { failed self.old ≤ failed self.new }
+        ensures quiet { OnOk result (failed self.new ≡ failed self.old) };
 }
 
 // The path of what has this name in a directory.

@@ -1,11 +1,11 @@
-//! A tree whose device fails after so many calls. It claims nothing of what it holds.
-ghost use Rattle.std.specs.Prelude.{◌≤◌, IfErr};
+//! A tree whose device fails once, after so many calls. It claims nothing of what it holds.
+ghost use Rattle.std.specs.Prelude.{◌≡◌, ◌≤◌, IfErr, OnOk};
 ghost use Rattle.rc_source.specs.TreeFaults.{IsCallFault};
 
 use rc_source::{MemoryTree, Tree, TreeFault};
 use std::alloc::Global;
 
-/// Does well so often, and then fails at each call.
+/// Does well so often, fails once, and does well from then on: so a reader that asks again is found out.
 #[derive(Drop)]
 pub struct FailingTree {
     tree: MemoryTree,
@@ -24,15 +24,17 @@ impl FailingTree {
     }
 }
 
-// Whether a call does well; a failure is counted.
+// Whether a call does well; the one failure is counted.
 fn does_well(good: &mut usize, failures: &mut u64) -> Result<(), TreeFault>
     ensures fault { IfErr result (IsCallFault failures.old failures.new) }
     ensures count { failures.old ≤ failures.new }
+    ensures quiet { OnOk result (failures.new ≡ failures.old) }
 {
     if *good > 0 {
         *good -= 1;
         return Ok(());
     }
+    *good = usize::MAX;
     *failures = failures.saturating_add(1);
     Err(TreeFault::Io)
 }

@@ -1,13 +1,17 @@
-use Rattle.std.proofs.Common.{map}
+use Rattle.std.proofs.Common.{⊎_elim, List, ℕ, Option, IfSome, map, refl, subst}
+use Rattle.std.proofs.lemmas.List.Elements.{All-nil}
 use Rattle.rc_source.specs.Said.{meaning_of}
-use Rattle.rc_compile.proofs.Looking.{too_many_services, too_many_bundles, not_too_many}
+use Rattle.rc_holds.specs.Pipelines.{IsService}
+use Rattle.rc_holds.specs.Standing.{IsBundle}
+use Rattle.rc_compile.specs.Pipes.{AreTooMany}
+use Rattle.rc_compile.specs.CompileFaults.{TooMany}
+use Rattle.rc_compile.proofs.Stages.{IsFree, one_more_free}
 use Rattle.rc_compile.proofs.book.book_of.Goals as goal
 
-pub returns-in-Err-clause-fault : goal.returns-in-Err-clause-fault
-returns-in-Err-clause-fault c = too_many_services (map meaning_of c.args.definitions.now) c.in-Err.fault c.in-Err.ensures.fault
-
-pub returns-in-Err-names_of-clause-fault : goal.returns-in-Err-names_of-clause-fault
-returns-in-Err-names_of-clause-fault c = too_many_bundles (map meaning_of c.args.definitions.now) c.in-Err-names_of.fault c.in-Err-names_of.ensures.fault
-
-pub returns-in-Ok-filled-clause-few : goal.returns-in-Ok-filled-clause-few
-returns-in-Ok-filled-clause-few c = not_too_many (map meaning_of c.args.definitions.now) c.in-Ok.ensures.few c.in-Ok-names_of.ensures.few
+pub returns-clause-free : goal.returns-clause-free
+returns-clause-free c =
+    let ms = map meaning_of c.args.definitions.now in
+    let Services : Option (List (List ℕ)) → Type 0 = λ found. IfSome found (λ names. AreTooMany (IsService ms) → ⊥) in
+    let Bundles : Option (List (List ℕ)) → Type 0 = λ found. IfSome found (λ names. AreTooMany (IsBundle ms) → ⊥) in
+    one_more_free ms 0 TooMany refl (All-nil (IsFree ms))
+    (λ flaw. ⊎_elim (subst Services c.in-Some.is c.in_ok-services.ensures.few) (subst Bundles c.in-Some-2.is c.in_ok-bundles.ensures.few) flaw)

@@ -1,16 +1,17 @@
-use Rattle.std.proofs.Common.{List, Bool, map, sym, subst}
+use Rattle.std.proofs.Common.{List, Bool, map, refl, sym, subst}
 use Rattle.rc_source.specs.Said.{meaning_of}
 use Rattle.rc_holds.specs.Standing.{StandsFor}
 use Rattle.rc_holds.specs.Sets.{AreSetsOf}
+use Rattle.rc_compile.specs.CompileFaults.{Cycle}
 use Rattle.rc_compile.proofs.Bridges.{are_piped, are_apart}
-use Rattle.rc_compile.proofs.Stages.{all_free, no_type, no_mismatch, no_taken, book_services, book_bundles}
+use Rattle.rc_compile.proofs.Stages.{one_more_free, no_type, no_mismatch, no_taken}
 use Rattle.rc_compile.proofs.build.build.Goals as goal
 
 pub bundle_sets-requires-clause-services : goal.bundle_sets-requires-clause-services
-bundle_sets-requires-clause-services c = book_services (map meaning_of c.args.definitions.now) c.args.book c.requires.book
+bundle_sets-requires-clause-services c = c.requires.book.service
 
 pub bundle_sets-requires-clause-bundles : goal.bundle_sets-requires-clause-bundles
-bundle_sets-requires-clause-bundles c = book_bundles (map meaning_of c.args.definitions.now) c.args.book c.requires.book
+bundle_sets-requires-clause-bundles c = c.requires.book.bundle
 
 pub bundle_sets-requires-clause-piped : goal.bundle_sets-requires-clause-piped
 bundle_sets-requires-clause-piped c = let ms = map meaning_of c.args.definitions.now in are_piped ms (no_type ms c.requires.free) (no_mismatch ms c.requires.free)
@@ -19,18 +20,18 @@ pub bundle_sets-requires-clause-apart : goal.bundle_sets-requires-clause-apart
 bundle_sets-requires-clause-apart c = let ms = map meaning_of c.args.definitions.now in are_apart ms c.requires.meanings (no_taken ms c.requires.free)
 
 pub graph_of-requires-clause-services : goal.graph_of-requires-clause-services
-graph_of-requires-clause-services c = book_services (map meaning_of c.args.definitions.now) c.args.book c.requires.book
+graph_of-requires-clause-services c = c.requires.book.service
 
 pub graph_of-requires-clause-bundles : goal.graph_of-requires-clause-bundles
-graph_of-requires-clause-bundles c = book_bundles (map meaning_of c.args.definitions.now) c.args.book c.requires.book
+graph_of-requires-clause-bundles c = c.requires.book.bundle
 
 pub graph_of-requires-clause-sets : goal.graph_of-requires-clause-sets
 graph_of-requires-clause-sets c =
-    let Of : List (List Bool) → Type 0 = AreSetsOf (StandsFor (map meaning_of c.args.definitions.now)) c.args.book.bundles c.args.book.services in subst Of (sym c.deref.ensures.value) c.in-Ok.ensures.sets
+    let Of : List (List Bool) → Type 0 = AreSetsOf (StandsFor (map meaning_of c.args.definitions.now)) c.args.book.bundles c.args.book.services in subst Of (sym c.deref.ensures.value) c.in_ok-sets.ensures.sets
 
 pub joined-requires-clause-sets : goal.joined-requires-clause-sets
 joined-requires-clause-sets c =
-    let Of : List (List Bool) → Type 0 = AreSetsOf (StandsFor (map meaning_of c.args.definitions.now)) c.args.book.bundles c.args.book.services in subst Of (sym c.deref-2.ensures.value) c.in-Ok.ensures.sets
+    let Of : List (List Bool) → Type 0 = AreSetsOf (StandsFor (map meaning_of c.args.definitions.now)) c.args.book.bundles c.args.book.services in subst Of (sym c.deref-2.ensures.value) c.in_ok-sets.ensures.sets
 
 pub joined-requires-clause-types : goal.joined-requires-clause-types
 joined-requires-clause-types c = no_type (map meaning_of c.args.definitions.now) c.requires.free
@@ -38,5 +39,5 @@ joined-requires-clause-types c = no_type (map meaning_of c.args.definitions.now)
 pub joined-requires-clause-taken : goal.joined-requires-clause-taken
 joined-requires-clause-taken c = no_taken (map meaning_of c.args.definitions.now) c.requires.free
 
-pub returns-in-Ok-joined-clause-free : goal.returns-in-Ok-joined-clause-free
-returns-in-Ok-joined-clause-free c = all_free (map meaning_of c.args.definitions.now) c.requires.free (λ (names, ring). c.in-Ok-graph_of.ensures.free names ring)
+pub returns-clause-free : goal.returns-clause-free
+returns-clause-free c = one_more_free (map meaning_of c.args.definitions.now) 6 Cycle refl c.requires.free (λ (names, ring). c.in-Ok.ensures.free names ring)

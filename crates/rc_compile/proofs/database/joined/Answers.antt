@@ -1,28 +1,18 @@
 use Rattle.std.proofs.Common.{length, map}
 use Rattle.rc_source.specs.Said.{meaning_of}
-use Rattle.rc_holds.specs.Pipelines.{IsService}
 use Rattle.rc_holds.specs.Standing.{IsBundle, StandsFor}
-use Rattle.rc_compile.specs.declared.tables.Which.TheVariants.{Services, Bundles}
-use Rattle.rc_compile.specs.Given.{IsGiven}
-use Rattle.rc_compile.proofs.Defined.{given_service, given_bundle}
-use Rattle.rc_compile.proofs.Fitting.{same_as}
 use Rattle.rc_compile.proofs.Tabled.{tabled_names, tabled_sets}
 use Rattle.rc_compile.proofs.database.joined.Goals as goal
 
 pub described-requires-clause-names : goal.described-requires-clause-names
-described-requires-clause-names c =
-    let ms = map meaning_of c.args.definitions.now in
-    same_as c.args.book.services (IsGiven Services ms) (IsService ms) c.requires.book.service (given_service ms)
+described-requires-clause-names c = c.requires.book.service
 
 pub join-requires-clause-names : goal.join-requires-clause-names
-join-requires-clause-names c =
-    let ms = map meaning_of c.args.definitions.now in
-    same_as c.args.book.services (IsGiven Services ms) (IsService ms) c.requires.book.service (given_service ms)
+join-requires-clause-names c = c.requires.book.service
 
 pub join-requires-clause-table : goal.join-requires-clause-table
 join-requires-clause-table c =
-    let ms = map meaning_of c.args.definitions.now in
-    tabled_names c.args.book.bundles c.in_ok-table.table (IsBundle ms) (same_as c.args.book.bundles (IsGiven Bundles ms) (IsBundle ms) c.requires.book.bundle (given_bundle ms)) c.in_ok-table.ensures.names
+    tabled_names c.args.book.bundles c.in_ok-table.table (IsBundle (map meaning_of c.args.definitions.now)) c.requires.book.bundle c.in_ok-table.ensures.names
 
 pub join-requires-clause-bounds : goal.join-requires-clause-bounds
 join-requires-clause-bounds c = c.in_ok-table.ensures.bounds (length c.args.book.services) c.requires.bounds

@@ -1,4 +1,5 @@
 use Rattle.std.proofs.Common.{◌∙◌, ◌<◌, map, length, sym, ap, subst, arith}
+use Rattle.std.proofs.lemmas.Result.{on_ok_weaker}
 use Rattle.rc_graph.specs.Needs.{Needs}
 use Rattle.rc_graph.specs.Rows.{rows}
 use Rattle.rc_graph.proofs.RowLemmas.{length-rows}
@@ -6,7 +7,6 @@ use Rattle.rc_source.specs.Said.{meaning_of}
 use Rattle.rc_holds.specs.Mirror.{HasListed, Mirrors}
 use Rattle.rc_holds.specs.declared.rows.Listed.TheVariants.{Dependencies}
 use Rattle.rc_holds.proofs.Drafts.{mirrors_known}
-use Rattle.rc_compile.proofs.Answered.{on_ok}
 use Rattle.rc_compile.proofs.needs.need_in_bundles.Goals as goal
 
 pub need_bundles-requires-clause-bound : goal.need_bundles-requires-clause-bound
@@ -22,7 +22,7 @@ need_bundles-requires-clause-known c s t need =
 pub returns-clause-pairs : goal.returns-clause-pairs
 returns-clause-pairs c =
     let R = HasListed Dependencies (map meaning_of c.args.definitions.now) in
-    on_ok c.need_bundles.result
+    on_ok_weaker c.need_bundles.result
     (λ pairs. (rows c.deref.result.now, subst (λ v. Mirrors R c.args.services.now c.args.bundles.now (rows v)) (sym c.deref.ensures.value) c.in_ok-lists.ensures, pairs))
     c.need_bundles.ensures.pairs
 

@@ -7,8 +7,8 @@ use Rattle.rc_compile.proofs.needs.need_sets.Goals as goal
 pub loop-b-init : goal.loop-b-init
 loop-b-init c = record { bound = refl; pairs = none_yet (λ b t. Has (get_or c.args.sets.now b []) t) c.args.service c.args.list.now (Needs c.args.draft.now) }
 
-pub need_list-requires-clause-known : goal.need_list-requires-clause-known
-need_list-requires-clause-known c =
+pub need_all-requires-clause-known : goal.need_all-requires-clause-known
+need_all-requires-clause-known c =
     let set = set_read c.args.sets.now (get_or c.args.list.now c.loop-b.b-index 0) c.index-sets-b.result (c.requires.known c.loop-b.b-index 0 c.loop-b-test.true) c.index-sets-b.is in
     let Listed : List ℕ → Type 0 = λ ids. (t : ℕ) → Contains ids t ↔ Has c.index-sets-b.result t in
     let listed = subst Listed (sym c.deref.ensures.value) c.in_ok-members.ensures.same in
@@ -30,11 +30,11 @@ loop-b-preserved c =
     let HasIt : ℕ → Type 0 = λ t. Has c.index-sets-b.result t in
     let at : (t : ℕ) → Contains c.deref.result.now t ↔ P x t = subst (λ (set : List Bool). (t : ℕ) → Contains c.deref.result.now t ↔ Has set t) (sym set) listed in
     record {
-      bound = c.need_list.ensures.bound ∙ c.loop-b.invariant.bound;
-      pairs = gained (Needs c.args.draft.now) (Needs c.loop-b.draft) (Needs c.need_list.new.draft) (B i) (λ s t. (s ≡ c.args.service) × P x t) (B (i + 1))
+      bound = c.need_all.ensures.bound ∙ c.loop-b.invariant.bound;
+      pairs = gained (Needs c.args.draft.now) (Needs c.loop-b.draft) (Needs c.need_all.new.draft) (B i) (λ s t. (s ≡ c.args.service) × P x t) (B (i + 1))
           c.loop-b.invariant.pairs
-          (gained_as (Needs c.loop-b.draft) (Needs c.need_list.new.draft) (λ s t. (s ≡ c.args.service) × Contains c.deref.result.now t) (λ s t. (s ≡ c.args.service) × P x t)
-          c.in_ok-need_list.ensures.pairs (for_one (Contains c.deref.result.now) (P x) c.args.service at))
+          (gained_as (Needs c.loop-b.draft) (Needs c.need_all.new.draft) (λ s t. (s ≡ c.args.service) × Contains c.deref.result.now t) (λ s t. (s ≡ c.args.service) × P x t)
+          c.in_ok-need_all.ensures.pairs (for_one (Contains c.deref.result.now) (P x) c.args.service at))
           (one_more P c.args.service list i x c.loop-b-test.true refl);
     }
 

@@ -5,7 +5,7 @@ use Rattle.std.proofs.lemmas.Option.{slice_get_within}
 use Rattle.rc_graph.specs.Needs.{Needs}
 use Rattle.rc_graph.specs.Rows.{rows}
 use Rattle.rc_graph.proofs.RowLemmas.{row_is, row_needs}
-use Rattle.rc_db.proofs.ByteOrder.{stands_once}
+use Rattle.rc_names.proofs.ByteOrder.{one_place}
 use Rattle.rc_compile.proofs.pipes.has_pair.Goals as goal
 
 pub returns : goal.returns
@@ -22,6 +22,6 @@ returns c =
     let order = c.len-count.ensures.names.order in (
       λ passed. (from, to, at_from, at_to, (row to).1 (decides.0 passed)),
       λ (s, t, at_s, at_t, need). decides.1 ((row to).0
-          (subst (λ (x : ℕ). Needs (rows c.args.lists.now) from x) (stands_once names c.args.to.now t to order at_t at_to)
-          (subst (λ (x : ℕ). Needs (rows c.args.lists.now) x t) (stands_once names c.args.from.now s from order at_s at_from) need))),
+          (subst (λ (x : ℕ). Needs (rows c.args.lists.now) from x) (one_place names c.args.to.now t to order at_t at_to)
+          (subst (λ (x : ℕ). Needs (rows c.args.lists.now) x t) (one_place names c.args.from.now s from order at_s at_from) need))),
     )

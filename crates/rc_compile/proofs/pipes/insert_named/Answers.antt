@@ -1,5 +1,5 @@
 use Rattle.std.proofs.Common.{◌∙◌, ⊎_elim, inl, inr, ap, slice_get}
-use Rattle.rc_db.proofs.ByteOrder.{stands_once}
+use Rattle.rc_names.proofs.ByteOrder.{one_place}
 use Rattle.rc_db.proofs.Places.{contains_at}
 use Rattle.rc_compile.proofs.pipes.insert_named.Goals as goal
 
@@ -7,7 +7,7 @@ pub returns-in-Some-clause-members : goal.returns-in-Some-clause-members
 returns-in-Some-clause-members c s = (
   λ has. ⊎_elim (λ old. inl old) (λ is. inr (ap (slice_get c.args.names.now) is ∙ c.in-Some.ensures.found)) ((c.insert.ensures.members s).0 has),
   λ cases. (c.insert.ensures.members s).1
-      (⊎_elim (λ old. inl old) (λ there. inr (stands_once c.args.names.now c.args.text.now s c.in-Some.id c.len-count.ensures.names.order there c.in-Some.ensures.found)) cases),
+      (⊎_elim (λ old. inl old) (λ there. inr (one_place c.args.names.now c.args.text.now s c.in-Some.id c.len-count.ensures.names.order there c.in-Some.ensures.found)) cases),
 )
 
 pub returns-in_default-clause-members : goal.returns-in_default-clause-members

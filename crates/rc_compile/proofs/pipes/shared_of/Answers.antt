@@ -2,7 +2,10 @@ use Rattle.std.proofs.Common.{◌∙◌, map, arith}
 use Rattle.std.proofs.lemmas.List.{length-map}
 use Rattle.rc_db.proofs.Words.{mapped_at}
 use Rattle.rc_source.specs.Said.{meaning_of}
-use Rattle.rc_compile.proofs.Sharing.{none_seen, none_twice, seen_next, twice_next, twice_whole}
+use Rattle.rc_set.specs.Set.{Has}
+use Rattle.rc_compile.specs.Told.{GivesAt}
+use Rattle.rc_compile.proofs.Givens.{seen_none, seen_next}
+use Rattle.rc_compile.proofs.Sharing.{none_twice, twice_next, twice_whole}
 use Rattle.rc_compile.proofs.pipes.shared_of.Goals as goal
 
 pub loop-definition-init : goal.loop-definition-init
@@ -12,7 +15,7 @@ loop-definition-init c =
     record {
       bound_seen = c.in_ok-seen.ensures.bound ∙ c.len.ensures.len;
       bound_shared = c.in_ok-shared.ensures.bound ∙ c.len-2.ensures.len;
-      seen = none_seen ms names c.in_ok-seen.seen c.in_ok-seen.ensures.members;
+      seen = seen_none (GivesAt names) ms (Has c.in_ok-seen.seen) c.in_ok-seen.ensures.members;
       shared = none_twice ms names c.in_ok-shared.shared c.in_ok-shared.ensures.members;
     }
 
@@ -27,7 +30,7 @@ loop-definition-preserved c =
     record {
       bound_seen = c.mark.ensures.bound_seen ∙ before.bound_seen;
       bound_shared = c.mark.ensures.bound_shared ∙ before.bound_shared;
-      seen = seen_next ms names i m c.loop-definition.seen c.mark.new.seen here before.seen c.mark.ensures.seen;
+      seen = seen_next (GivesAt names) ms (Has c.loop-definition.seen) (Has c.mark.new.seen) i m here before.seen c.mark.ensures.seen;
       shared = twice_next ms names i m c.loop-definition.seen c.loop-definition.shared c.mark.new.shared here before.seen before.shared c.mark.ensures.shared;
     }
 

@@ -9,5 +9,5 @@ returns-in_ok-push c =
     let name = c.args.definition.now.name in
     let Flaw : Type 0 = Shows c.args.book.now c.args.told (meaning_of c.args.definition.now) in
     let flaw : Flaw = c.in_ok-has_flaw.ensures.0 c.if-branch.true in
-    added_one c.args.names.now.items c.push.new.self.items c.in_ok-copy_name.field-0 (λ s. (s ≡ name) × Flaw) c.in_ok-push.ensures.items
-    (λ x. (λ (same, also). same ∙ sym c.in_ok-copy_name.ensures, λ same. (same ∙ c.in_ok-copy_name.ensures, flaw)))
+    added_one c.args.names.now.items c.push.new.self.items c.in_ok-copy.field-0 (λ s. (name ≡ s) × Flaw) c.in_ok-push.ensures.items
+    (λ x. (λ (same, also). sym same ∙ sym c.in_ok-copy.ensures, λ same. (sym (same ∙ c.in_ok-copy.ensures), flaw)))

@@ -13,9 +13,8 @@ returns-in-Unknown c =
 
 pub returns-in-NoMatch : goal.returns-in-NoMatch
 returns-in-NoMatch c =
-    let names = c.args.book.now.services in
+    let book = c.args.book.now in
     let m = meaning_of c.args.definition.now in
-    let Fed : List (Vec ℕ) → Type 0 = λ v. IsTrue c.is_unmatched.result ↔ IsUnmatched names (rows v) (rows c.deref-in-NoMatch.result.now) m in
-    let Read : List (Vec ℕ) → Type 0 = λ v. IsTrue c.is_unmatched.result ↔ IsUnmatched names (rows c.args.book.now.feeds.items) (rows v) m in
-    let P : Told → Type 0 = λ told. IsTrue c.is_unmatched.result ↔ Shows c.args.book.now told m in
-    subst P (sym c.in-NoMatch.is) (subst Read c.deref-in-NoMatch.ensures.value (subst Fed c.deref.ensures.value c.is_unmatched.ensures))
+    let Fed : List (Vec ℕ) → Type 0 = λ v. IsTrue c.is_unmatched.result ↔ IsUnmatched book.services (rows v) book.matched m in
+    let P : Told → Type 0 = λ told. IsTrue c.is_unmatched.result ↔ Shows book told m in
+    subst P (sym c.in-NoMatch.is) (subst Fed c.deref.ensures.value c.is_unmatched.ensures)

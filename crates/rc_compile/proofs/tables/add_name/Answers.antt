@@ -1,7 +1,7 @@
-use Rattle.std.proofs.Common.{List, ℕ, subst}
+use Rattle.std.proofs.Common.{ℕ, List, subst}
 use Rattle.rc_names.specs.Names.{Adds}
 use Rattle.rc_compile.proofs.tables.add_name.Goals as goal
 
-pub returns-in-Ok-add-clause-adds : goal.returns-in-Ok-add-clause-adds
-returns-in-Ok-add-clause-adds c =
-    let P : List ℕ → Type 0 = λ name. Adds c.args.names.now name c.add.new.self in subst P c.in-Ok.ensures c.in-Ok-add.ensures.holds
+pub returns-clause-adds : goal.returns-clause-adds
+returns-clause-adds c fits =
+    let P : List ℕ → Type 0 = λ name. Adds c.args.names.now name c.add.new.self in subst P c.in_ok-copy.ensures c.in_ok-add.ensures.holds

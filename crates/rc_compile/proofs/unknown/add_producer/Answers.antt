@@ -1,5 +1,5 @@
 use Rattle.std.proofs.Common.{◌≡◌, ◌∙◌, ◌⊎◌, List, ℕ, Contains, Some, sym, ap}
-use Rattle.rc_compile.proofs.Answered.{on_ok}
+use Rattle.std.proofs.lemmas.Result.{on_ok_weaker}
 use Rattle.rc_compile.proofs.Mentioned.{added_as, added_none}
 use Rattle.rc_compile.proofs.unknown.add_producer.Goals as goal
 
@@ -7,7 +7,7 @@ pub returns-in-Some : goal.returns-in-Some
 returns-in-Some c =
     let name = c.in-Some.name in
     let Not : List ℕ → Type 0 = λ n. Contains c.args.services.now n ⊎ Contains c.args.bundles.now n → ⊥ in
-    on_ok c.add_if_unknown.result (λ adds. added_as c.args.unknown.now.items c.add_if_unknown.new.unknown.items (λ n. (n ≡ name) × Not n) (λ n. (c.args.definition.now.producer_for ≡ Some n) × Not n) adds
+    on_ok_weaker c.add_if_unknown.result (λ adds. added_as c.args.unknown.now.items c.add_if_unknown.new.unknown.items (λ n. (n ≡ name) × Not n) (λ n. (c.args.definition.now.producer_for ≡ Some n) × Not n) adds
     (λ n. (λ (same, not). (c.in-Some.is ∙ ap (λ x. Some x) (sym same), not), λ (writes, not). (one_name n writes, not))))
     c.add_if_unknown.ensures
   where

@@ -6,8 +6,8 @@ use Rattle.rc_holds.proofs.Drafts.{shown_fault}
 use Rattle.rc_holds.proofs.Meanings.{content_of_bundle}
 use Rattle.rc_holds.proofs.graph.bundle_graph.Goals as goal
 
-pub shown-requires : goal.shown-requires
-shown-requires c =
+pub shown_cycle-requires : goal.shown_cycle-requires
+shown_cycle-requires c =
     cycle_within (HasContent (map meaning_of c.args.definitions.now)) c.args.bundles.now c.in-Ok.draft c.in-Ok.ensures c.in-Err-Cycle.cycle (c.finish.ensures.cycle c.in-Err-Cycle.cycle (c.in-Err-Cycle.is ∙ ap (λ f. Err f) c.in-Err-Cycle.field-0-is))
 
 pub returns-in-Ok-finish-clause-free : goal.returns-in-Ok-finish-clause-free
@@ -17,5 +17,5 @@ returns-in-Ok-finish-clause-free c =
 
 pub returns-in-Err-Cycle-clause-fault : goal.returns-in-Err-Cycle-clause-fault
 returns-in-Err-Cycle-clause-fault c =
-    shown_fault (HasContent (map meaning_of c.args.definitions.now)) (map (shown_at c.args.bundles.now) c.in-Err-Cycle.cycle) c.shown.result c.shown.ensures
+    shown_fault (HasContent (map meaning_of c.args.definitions.now)) (map (shown_at c.args.bundles.now) c.in-Err-Cycle.cycle) c.shown_cycle.result c.shown_cycle.ensures
     (shown_cycle (HasContent (map meaning_of c.args.definitions.now)) c.args.bundles.now c.in-Ok.draft c.in-Ok.ensures c.len-count.ensures.names.order c.in-Err-Cycle.cycle (c.finish.ensures.cycle c.in-Err-Cycle.cycle (c.in-Err-Cycle.is ∙ ap (λ f. Err f) c.in-Err-Cycle.field-0-is)))

@@ -33,6 +33,8 @@ pub loop-tree-preserved : goal.loop-tree-preserved
 loop-tree-preserved g c = record {
   same = map-set_same g.T.Tree.held c.loop-tree.trees c.loop-tree.tree-index c.read_source.new.tree c.tree-item.result c.in_ok-read_source.ensures.same
       ∙ c.loop-tree.invariant.same;
+  quiet = map-set_same g.T.Tree.failed c.loop-tree.trees c.loop-tree.tree-index c.read_source.new.tree c.tree-item.result c.in_ok-read_source.ensures.quiet
+      ∙ c.loop-tree.invariant.quiet;
   ahead = behind_set c.loop-tree.trees c.args.trees.now c.loop-tree.tree-index c.read_source.new.tree c.loop-tree.invariant.ahead;
   known = λ sources known.
       let old = c.args.trees.now in

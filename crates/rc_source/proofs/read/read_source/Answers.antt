@@ -9,10 +9,6 @@ use Rattle.rc_source.proofs.Folders.{shown_at}
 use Rattle.rc_source.proofs.Reading.{EntriesRead, no_entry, one_entry, entry_stops, entries_stop, source_passes, source_means}
 use Rattle.rc_source.proofs.read.read_source.Goals as goal
 
--- a failure after more failures is one since before them
-since : (a b n : ℕ) → a ≤ b → HasFailed b n → HasFailed a n
-since a b n more failed = omega (arith, more, failed)
-
 -- a flaw that is told is another than want of memory
 told_io : (told flaw : Flaw) (same : Type 0) → (told ≢ Memory → (told ≡ flaw) × same) → told ≡ Io → flaw ≡ Io
 told_io told flaw same is io = sym (is (λ memory. let e : Io ≡ Memory = sym io ∙ memory in absurd cc)).0 ∙ io
@@ -20,7 +16,7 @@ told_io told flaw same is io = sym (is (λ memory. let e : Io ≡ Memory = sym i
 pub loop-name-init : goal.loop-name-init
 loop-name-init g c = record {
   same = c.in_ok-names.ensures.same;
-  count = c.in_ok-names.ensures.count;
+  quiet = c.in_ok-names.ensures.quiet;
   known = λ source known. no_entry source c.args.found.now (map string_bytes c.deref-name-items.result.now);
 }
 
@@ -42,18 +38,18 @@ returns-in-Err-clause-fault g c = λ told source known.
 
 pub returns-in-Err-clause-io : goal.returns-in-Err-clause-io
 returns-in-Err-clause-io g c = λ io.
-    since _ _ _ c.loop-name.invariant.count (c.in-Err.ensures.io (told_io (flaw_of c.fault_of.result) c.in-Err.flaw (carried c.fault_of.result ≡ c.as_str-entry.result.now) c.fault_of.ensures io))
+    subst (λ n. HasFailed n (g.T.Tree.failed c.read_entry.new.tree)) c.loop-name.invariant.quiet (c.in-Err.ensures.io (told_io (flaw_of c.fault_of.result) c.in-Err.flaw (carried c.fault_of.result ≡ c.as_str-entry.result.now) c.fault_of.ensures io))
 
 pub returns-in-Err-clause-same : goal.returns-in-Err-clause-same
 returns-in-Err-clause-same g c = c.in-Err.ensures.same ∙ c.loop-name.invariant.same
 
 pub returns-in-Err-clause-count : goal.returns-in-Err-clause-count
-returns-in-Err-clause-count g c = omega (arith, c.loop-name.invariant.count, c.in-Err.ensures.count)
+returns-in-Err-clause-count g c = omega (arith, c.loop-name.invariant.quiet, c.in-Err.ensures.count)
 
 pub loop-name-preserved : goal.loop-name-preserved
 loop-name-preserved g c = record {
   same = c.in-Ok.ensures.same ∙ c.loop-name.invariant.same;
-  count = omega (arith, c.loop-name.invariant.count, c.in-Ok.ensures.count);
+  quiet = c.in-Ok.ensures.quiet ∙ c.loop-name.invariant.quiet;
   known = λ source known.
       let items = c.deref-name-items.result.now in
       let entry = c.as_str-entry.result.now in
@@ -87,4 +83,7 @@ pub returns-clause-same : goal.returns-clause-same
 returns-clause-same g c = c.loop-name.invariant.same
 
 pub returns-clause-count : goal.returns-clause-count
-returns-clause-count g c = c.loop-name.invariant.count
+returns-clause-count g c = omega (arith, c.loop-name.invariant.quiet)
+
+pub returns-clause-quiet : goal.returns-clause-quiet
+returns-clause-quiet g c = c.loop-name.invariant.quiet

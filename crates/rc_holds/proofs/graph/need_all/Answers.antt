@@ -2,7 +2,7 @@ use Rattle.std.proofs.Common.{◌≡◌, ◌∙◌, ◌⊎◌, ◌↔◌, ℕ, L
 use Rattle.std.proofs.lemmas.List.{take_more, take_all}
 use Rattle.rc_graph.specs.Needs.{Needs}
 use Rattle.rc_holds.proofs.Drafts.{needs_more}
-use Rattle.rc_holds.proofs.graph.add_needs.Goals as goal
+use Rattle.rc_holds.proofs.graph.need_all.Goals as goal
 
 pub loop-t-preserved : goal.loop-t-preserved
 loop-t-preserved c =

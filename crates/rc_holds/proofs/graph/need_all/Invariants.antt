@@ -1,6 +1,6 @@
 use Rattle.std.proofs.Common.{◌≡◌, ◌⊎◌, ◌↔◌, ℕ, length, take, Contains}
 use Rattle.rc_graph.specs.Needs.{Needs}
-use Rattle.rc_holds.proofs.graph.add_needs.Given as goal
+use Rattle.rc_holds.proofs.graph.need_all.Given as goal
 
 -- those passed are needed
 abbrev pub invariant-loop-t : goal.invariant-loop-t
