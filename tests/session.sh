@@ -710,6 +710,13 @@ bounded 0 '' '' session -b base -x none
 printf '\n12345' >> whole
 bounded 111 12345 'undorc: TooLong\n' session -b base -x none
 bounded 111 12345 'undorc: TooLong\n' session -x up:nosuch
+# A short piece comes first, so that the last one, with which the bound is passed, holds a whole line.
+{ comments 16777184; echo; echo '-u change log'; printf 123456789; } > whole
+printf 'raised net root\nok\nraised log\nok\n' > out.wanted
+echo 'undorc: TooLong' > err.wanted
+echo 0 > status
+{ echo '-u change net'; sleep 0.2; cat whole; } 2> /dev/null | { timeout 120 "$program" session -b base -x none > out 2> err || echo $? > status; }
+judge 'an input that is too long, whose last whole line is a change' 111
 rm whole
 : > out.wanted
 echo 'undorc: TooLong' > err.wanted

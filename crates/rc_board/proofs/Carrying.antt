@@ -1,10 +1,14 @@
-use Rattle.std.proofs.Common.{◌≡◌, ◌∙◌, ◌≤◌, ℕ, Bool, false, List, Option, Result, Ok, Err, IfErr, slice_index_or, ap, sym, subst, arith}
+use Rattle.std.proofs.Common.{◌≡◌, ◌∙◌, ◌≤◌, inr, ℕ, Bool, false, List, [], Option, Result, Ok, Err, IfErr, slice_index_or, ap, sym, subst, arith}
 use Rattle.rc_graph.specs.declared.Way.{Way}
 use Rattle.rc_select.specs.PlanSets.{PlanSets}
 use Rattle.rc_core.specs.declared.event.Outcome.{Outcome}
 use Rattle.rc_core.specs.declared.event.Event.{Event}
-use Rattle.rc_core.specs.Course.{Course, course_of}
+use Rattle.rc_core.specs.declared.event.Event.TheVariants.{Take}
+use Rattle.rc_core.specs.Course.{Course, IsPlanned, course_of}
 use Rattle.rc_core.specs.Settled.{RunSoFar, IsSettled}
+use Rattle.rc_core.proofs.RunLemmas.{run_empty}
+use Rattle.rc_core.proofs.Opening.{none_happened}
+use Rattle.rc_core.proofs.Places.{move_is_left}
 use Rattle.rc_db.specs.Database.{Database}
 use Rattle.rc_line.specs.Line.{Line}
 use Rattle.rc_session.specs.declared.refusal.Refusal.TheVariants.{Memory}
@@ -37,11 +41,25 @@ made_by_more workers Answers Gives up events some made = record {
   said = made.said;
 }
 
+-- where nothing is to move, the run is settled from the first
+idle_settled : (c : Course) → ((s : ℕ) → IsPlanned c s → ⊥) → IsSettled c []
+idle_settled c none = record {
+  run = run_empty c;
+  none_held = λ w s held. none_happened (Take w s) held.0;
+  ended = inr (λ w s legal. none s (move_is_left c [] s legal.3).0);
+}
+
+-- and nothing happens in it
+pub stays_idle : (first last : RunSoFar) (c d : Course) → first ≡ record { course = c; events = [] } → c ≡ d → (IsSettled first.course first.events → last.events ≡ first.events) → ((s : ℕ) → IsPlanned d s → ⊥) → last.events ≡ []
+stays_idle first last c d opened same still none =
+    let settled : IsSettled c [] = subst (λ (x : Course). IsSettled x []) (sym same) (idle_settled d none) in
+    still (subst (λ (r : RunSoFar). IsSettled r.course r.events) (sym opened) settled) ∙ ap (λ (r : RunSoFar). r.events) opened
+
 -- a run that was made, and a command that was completed with it
 pub carried : (workers start : ℕ) (Answers : ℕ → Way → Outcome → Type 0) (Gives : ℕ → Type 0) (h new : Holding) (command : Command) (task : Task) (run : RunSoFar) (told : Told) → IsCrew workers → h.spoiled ≡ false → IsBegun h command start task → Gives start →
     run.course ≡ course_of h.database.needs task.plan task.deadline → IsAtEnd Answers Gives run → Runs h.database h.line (with_events command run.events) told new.line → new ≡ with_line h new.line →
-    IsCarriedOut workers Answers Gives (with_line h h.line) command told new
-carried workers start Answers Gives h new command task run told crew whole begun given course end runs same =
+    (((s : ℕ) → IsPlanned (course_of h.database.needs task.plan task.deadline) s → ⊥) → run.events ≡ []) → IsCarriedOut workers Answers Gives (with_line h h.line) command told new
+carried workers start Answers Gives h new command task run told crew whole begun given course end runs same idle =
     let c : Course = course_of h.database.needs task.plan task.deadline in
     let trace : told.trace ≡ run.events = runs.is_told.trace ∙ events_given command task.opening.aim run.events begun.aims in
     let up : run.course.up ≡ h.line.current.live = ap (λ (x : Course). x.up) course ∙ task_opening h.database h.line command start task.plan task.deadline begun.asked in
@@ -54,6 +72,7 @@ carried workers start Answers Gives h new command task run told crew whole begun
       deadline = task.deadline;
       task = begun.asked;
       settled = subst (λ (es : List Event). IsSettled c es) (sym trace) (subst (λ (x : Course). IsSettled x run.events) course end.settled);
+      idle = λ none. trace ∙ idle none;
       made = subst (λ (es : List Event). AreMade workers Answers Gives h.line.current.live es) (sym trace)
           (subst (λ (set : List Bool). AreMade workers Answers Gives set run.events) up (made_by_more workers Answers Gives run.course.up run.events crew.0 end.made));
       runs = subst (λ (es : List Event). Runs h.database h.line (with_events command es) told new.line) (sym trace) runs;

@@ -25,7 +25,7 @@ use std::sync::Wait;
 use std::thread::Threads;
 
 /// Makes a change by this many workers, from 1 to 64. What the gate answers is how the transitions ended; each event is
-/// shown to the watch.
+/// shown to the watch. Where nothing is to move nothing happens, whatever the limit: no event, and no stop.
 pub fn change<R: Threads + Wait + Sync, G: Gate, W: Watch>(
     _rt: &R,
     alloc: Global,

@@ -14,7 +14,7 @@ use rc_core::{Ended, Job, NotLegal, Run, Took};
 /// The number of the one worker.
 const WORKER: u8 = 1;
 
-/// Makes a run to its end.
+/// Makes a run to its end. One that is settled already is left as it is, and no moment is asked for.
 pub(crate) fn worked<G: Gate, W: Watch>(
     mut run: Run,
     mut glance: Glance,
@@ -26,7 +26,11 @@ pub(crate) fn worked<G: Gate, W: Watch>(
     requires fresh { IsBetween (G.answers gate.now) (G.gives gate.now) run glance }
     ensures course { result.course ≡ run.course }
     ensures end { IsAtEnd (G.answers gate.now) (G.gives gate.now) result }
+    ensures idle { IsSettled run.course run.events → result.events ≡ run.events }
 {
+    if run.settled() {
+        return run.finish();
+    }
     while turn(&mut run, &mut glance, deadline, gate, watch) {}
     run.finish()
 }

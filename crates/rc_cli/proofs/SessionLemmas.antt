@@ -1,5 +1,5 @@
 -- How a session of the program ends.
-use Rattle.std.proofs.Common.{◌≡◌, ◌≢◌, ◌⊎◌, ℕ, List, Option, None, Some, Result, Err, inl, inr, refl, sym, subst}
+use Rattle.std.proofs.Common.{◌≡◌, ◌≢◌, ◌∙◌, ◌⊎◌, ℕ, true, false, List, Option, None, Some, Result, Err, inl, inr, ap, refl, sym, subst}
 use Rattle.clap.specs.Words.{Text}
 use Rattle.rc_graph.specs.declared.Way.{Way}
 use Rattle.rc_db.specs.Database.{Database}
@@ -8,36 +8,35 @@ use Rattle.rc_failing.specs.Listed.{Listed}
 use Rattle.rc_failing.specs.declared.gate.GateFault.{GateFault}
 use Rattle.rc_failing.specs.declared.gate.GateFault.TheVariants as gate
 use Rattle.rc_session.specs.Holding.{Holding}
-use Rattle.rc_serve.specs.Faults.{IsServeFault}
 use Rattle.rc_serve.specs.Serving.{ServesFront}
 use Rattle.rc_serve.specs.declared.fault.ServeFault.{ServeFault}
 use Rattle.rc_serve.specs.declared.fault.ServeFault.TheVariants.{Read, Write, TooLong, Memory, NoThread, Strange, Workers}
 use Rattle.rc_cli.specs.Base.{Spells}
 use Rattle.rc_cli.specs.Session.{Reads, Runs, RunsAsked, RunsOn, Serving, first_session}
 use Rattle.rc_cli.specs.SessionAsked.{AsksSession, SessionAsk}
-use Rattle.rc_cli.specs.SessionFaults.{EndsBy, EndsOn, IsGateFailing, IsRefusal, IsSessionRefused, IsToldAs, IsUnserved}
+use Rattle.rc_cli.specs.SessionFaults.{EndsBy, EndsOn, IsGateFailing, IsRefusal, IsServingFault, IsSessionRefused, IsToldAs, IsUnserved}
 use Rattle.rc_cli.specs.declared.session_fault.SessionFault.{SessionFault}
 use Rattle.rc_cli.specs.declared.session_fault.SessionFault.TheVariants.{OfText, Unknown, Failed}
 
 -- a fault of serving, by what it comes for
-pub fault_of_serving : {T : Type 0} (fault : ServeFault) (result : Result T ServeFault) (reader writer : Type 0) → result ≡ Err fault → result ≢ Err Workers
-    → (result ≡ Err Read → reader) → (result ≡ Err Write → writer) → IsServeFault reader writer (Unit {0}) fault
-fault_of_serving Read result reader writer is fits read written = read is
-fault_of_serving Write result reader writer is fits read written = written is
-fault_of_serving TooLong result reader writer is fits read written = tt
-fault_of_serving Memory result reader writer is fits read written = tt
-fault_of_serving NoThread result reader writer is fits read written = tt
-fault_of_serving Strange result reader writer is fits read written = tt
-fault_of_serving Workers result reader writer is fits read written = fits is
+pub fault_of_serving : {T : Type 0} (fault : ServeFault) (result : Result T ServeFault) (d : Database) (old : Holding) (reader writer : Type 0) → result ≡ Err fault → result ≢ Err Workers → old ≡ first_session d
+    → (result ≡ Err Read → reader) → (result ≡ Err Write → writer) → result ≢ Err NoThread → (result ≡ Err Strange → old.spoiled ≡ true) → IsServingFault reader writer fault
+fault_of_serving Read result d old reader writer is fits begins read written starts strange = read is
+fault_of_serving Write result d old reader writer is fits begins read written starts strange = written is
+fault_of_serving TooLong result d old reader writer is fits begins read written starts strange = tt
+fault_of_serving Memory result d old reader writer is fits begins read written starts strange = tt
+fault_of_serving NoThread result d old reader writer is fits begins read written starts strange = starts is
+fault_of_serving Strange result d old reader writer is fits begins read written starts strange = let bad : false ≡ true = sym (ap (λ (h : Holding). h.spoiled) begins) ∙ strange is in cc
+fault_of_serving Workers result d old reader writer is fits begins read written starts strange = fits is
 
 -- a fault of serving stays one where more counts as a failure of the devices
-pub fault_wider : (fault : ServeFault) (reader writer more others : Type 0) → (reader → more) → (writer → others) → IsServeFault reader writer (Unit {0}) fault → IsServeFault more others (Unit {0}) fault
+pub fault_wider : (fault : ServeFault) (reader writer more others : Type 0) → (reader → more) → (writer → others) → IsServingFault reader writer fault → IsServingFault more others fault
 fault_wider Read reader writer more others f g h = f h
 fault_wider Write reader writer more others f g h = g h
 fault_wider TooLong reader writer more others f g h = tt
 fault_wider Memory reader writer more others f g h = tt
-fault_wider NoThread reader writer more others f g h = tt
-fault_wider Strange reader writer more others f g h = tt
+fault_wider NoThread reader writer more others f g h = h
+fault_wider Strange reader writer more others f g h = h
 fault_wider Workers reader writer more others f g h = h
 
 -- the first name that is no service's ends the session on a database
@@ -56,7 +55,7 @@ gate_found d ask names listed table same all found =
 
 -- a fault of serving ends the session on a database
 pub serve_ends : (fault : ServeFault) (told : SessionFault) (d : Database) (ask : SessionAsk) (names : List (List ℕ)) (listed : List Listed) (table : List (ℕ × Way))
-    (input left written gained : Option (List ℕ)) (old new : Holding) (reader writer : Type 0) → told ≡ Failed fault → IsServeFault reader writer (Unit {0}) fault
+    (input left written gained : Option (List ℕ)) (old new : Holding) (reader writer : Type 0) → told ≡ Failed fault → IsServingFault reader writer fault
     → names ≡ d.names → listed ≡ ask.failing → AreFound names listed table → old ≡ first_session d → ServesFront fault input left written gained old new → EndsOn told d ask input left written gained reader writer
 serve_ends fault told d ask names listed table input left written gained old new reader writer is wrong same all found begins served =
     subst (λ (f : SessionFault). EndsOn f d ask input left written gained reader writer) (sym is) (
@@ -95,11 +94,11 @@ refusal_holds (Failed fault) base ask remaining after written gained reader writ
 -- what holds where a failure is told
 pub failure_holds : (fault : SessionFault) (told : ServeFault) (base : Option (List ℕ)) (ask : SessionAsk) (remaining after written gained : Option (List ℕ)) (reader writer : Type 0)
     → IsToldAs fault told → EndsBy fault base ask remaining after written gained reader writer
-    → IsServeFault reader writer (Unit {0}) told × ((IsUnserved told base remaining × (gained ≡ written)) ⊎ Runs (ServesFront told) base ask remaining after written gained)
-failure_holds (OfText fault) told base ask remaining after written gained reader writer is end = (subst (IsServeFault reader writer (Unit {0})) (sym is) tt, inl (subst (λ (f : ServeFault). IsUnserved f base remaining) (sym is) tt, end.1))
-failure_holds (Unknown word) told base ask remaining after written gained reader writer is end = (subst (IsServeFault reader writer (Unit {0})) (sym is) tt, inl (subst (λ (f : ServeFault). IsUnserved f base remaining) (sym is) tt, end.1))
+    → IsServingFault reader writer told × ((IsUnserved told base remaining × (gained ≡ written)) ⊎ Runs (ServesFront told) base ask remaining after written gained)
+failure_holds (OfText fault) told base ask remaining after written gained reader writer is end = (subst (IsServingFault reader writer) (sym is) tt, inl (subst (λ (f : ServeFault). IsUnserved f base remaining) (sym is) tt, end.1))
+failure_holds (Unknown word) told base ask remaining after written gained reader writer is end = (subst (IsServingFault reader writer) (sym is) tt, inl (subst (λ (f : ServeFault). IsUnserved f base remaining) (sym is) tt, end.1))
 failure_holds (Failed fault) told base ask remaining after written gained reader writer is end =
-    subst (λ (f : ServeFault). IsServeFault reader writer (Unit {0}) f × ((IsUnserved f base remaining × (gained ≡ written)) ⊎ Runs (ServesFront f) base ask remaining after written gained)) (sym is) end
+    subst (λ (f : ServeFault). IsServingFault reader writer f × ((IsUnserved f base remaining × (gained ≡ written)) ⊎ Runs (ServesFront f) base ask remaining after written gained)) (sym is) end
 
 -- a session was served for what the words ask, or not at all
 pub front_asked : (told : ServeFault) (words : List Text) (base : Option (List ℕ)) (ask : SessionAsk) (remaining after written gained : Option (List ℕ))

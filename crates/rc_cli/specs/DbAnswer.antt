@@ -10,7 +10,8 @@ use Rattle.rc_db.specs.Bundles.{value_of}
 use Rattle.rc_db.specs.Database.{Database}
 use Rattle.rc_db.specs.Named.{IsKnown, Selected}
 use Rattle.rc_db.specs.Pipeline.{InPipelineOf}
-use Rattle.rc_db.specs.Queries.{IsKindOf, IsNextTo, IsServiceNamed, IsShown, IsWithAll, ListsNames}
+use Rattle.rc_names.specs.Names.{ListsNames}
+use Rattle.rc_db.specs.Queries.{IsKindOf, IsNextTo, IsServiceNamed, IsShown, IsWithAll}
 use Rattle.rc_db.specs.Service.{Service, limit_of, script_of}
 use Rattle.rc_answers.specs.Lines.{line, name_lines, names_at}
 use Rattle.rc_cli.specs.Base.{Spells}

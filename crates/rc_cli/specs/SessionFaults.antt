@@ -50,17 +50,21 @@ IsUnserved NoThread base remaining = ⊥
 IsUnserved Strange base remaining = ⊥
 IsUnserved Workers base remaining = ⊥
 
+-- when each fault of serving comes in a session of the program, which is not spoiled at first
+abbrev pub IsServingFault : (reader writer : Type 0) → ServeFault → Type 0
+IsServingFault reader writer = IsServeFault reader writer ⊥
+
 -- how a session on a database ends before its input: refused with nothing read and nothing written, or by a fault of serving with a front of its input served, or for want of memory with nothing written
 abbrev pub EndsOn : SessionFault → Database → SessionAsk → (input left written gained : Option (List ℕ)) → (reader writer : Type 0) → Type 0
 EndsOn (OfText fault) d ask input left written gained reader writer = ⊥
 EndsOn (Unknown word) d ask input left written gained reader writer = IsFirstUnknown d.names ask.failing word.now × (left ≡ input) × (gained ≡ written)
-EndsOn (Failed fault) d ask input left written gained reader writer = IsServeFault reader writer (Unit {0}) fault × (((fault ≡ Memory) × (gained ≡ written)) ⊎ RunsOn (ServesFront fault) d ask input left written gained)
+EndsOn (Failed fault) d ask input left written gained reader writer = IsServingFault reader writer fault × (((fault ≡ Memory) × (gained ≡ written)) ⊎ RunsOn (ServesFront fault) d ask input left written gained)
 
 -- the same of a session whose database is looked for first
 abbrev pub EndsBy : SessionFault → Option (List ℕ) → SessionAsk → (remaining after written gained : Option (List ℕ)) → (reader writer : Type 0) → Type 0
 EndsBy (OfText fault) base ask remaining after written gained reader writer = ((input : List ℕ) × Reads base remaining after input × IsSessionRefused (OfText fault) ask base input) × (gained ≡ written)
 EndsBy (Unknown word) base ask remaining after written gained reader writer = ((input : List ℕ) × Reads base remaining after input × IsSessionRefused (Unknown word) ask base input) × (gained ≡ written)
-EndsBy (Failed fault) base ask remaining after written gained reader writer = IsServeFault reader writer (Unit {0}) fault × ((IsUnserved fault base remaining × (gained ≡ written)) ⊎ Runs (ServesFront fault) base ask remaining after written gained)
+EndsBy (Failed fault) base ask remaining after written gained reader writer = IsServingFault reader writer fault × ((IsUnserved fault base remaining × (gained ≡ written)) ⊎ Runs (ServesFront fault) base ask remaining after written gained)
 
 -- a fault of the database text, as one of the session
 abbrev pub IsTextFailing : TextFault → SessionFault → Type 0
@@ -101,5 +105,5 @@ TellsRefusal words base remaining after old new = (ask : SessionAsk) × (fault :
 
 -- a fault of serving comes, and a writer gains a front of the line that tells it; nothing was served and nothing written, or what serving comes to before that fault
 abbrev pub TellsServeFault : List Text → Option (List ℕ) → (remaining after written gained : Option (List ℕ)) → (reader writer : Type 0) → (old new : Option (List ℕ)) → Type 0
-TellsServeFault words base remaining after written gained reader writer old new = (fault : ServeFault) × IsServeFault reader writer (Unit {0}) fault
+TellsServeFault words base remaining after written gained reader writer old new = (fault : ServeFault) × IsServingFault reader writer fault
     × AppendsFront old new (fault_line (serve_word fault)) × ((IsUnserved fault base remaining × (gained ≡ written)) ⊎ RunsAsked (ServesFront fault) words base remaining after written gained)

@@ -76,18 +76,25 @@ lacks_part failed old new before here after line TooLong hands same fault =
 lacks_part failed old new before here after line Memory hands same fault =
     subst (λ (h : Held). LacksLine failed old new before h Memory) (sym same) (record { takes = takes_of old new before here line hands; fault = tt })
 
+-- nothing was taken after what was handed out
+takes_kept : (old here new : Option (List ℕ)) (before held : Held) (after : ℕ) (line : List ℕ) → HandsOut old here before held line → Keeps here new → after ≡ held.taken → Takes old new before.taken after
+takes_kept old here new before held after line hands kept count = record { bytes = hands.bytes; consumed = Consumes-kept old here new hands.bytes hands.consumed kept; counted = count ∙ hands.counted }
+
+-- where nothing more is held, all that was is the line
+all_held : (old here : Option (List ℕ)) (before held : Held) (line : List ℕ) (hands : HandsOut old here before held line) → held.pending ≡ [] → before.pending ++ hands.bytes ≡ line
+all_held old here before held line hands none = hands.split ∙ (ap (λ (t : List ℕ). line ++ t) none ∙ append-nil line)
+
 -- there is no next piece
 pub lacks_piece : (failed : Type 0) (old here new : Option (List ℕ)) (before held after : Held) (line : List ℕ) (failure : Failure) → HandsOut old here before held line → held.pending ≡ [] → IsLine line
     → Takes here new held.taken after.taken → IsRefillFault failed here new held.taken after.taken failure → LacksLine failed old new before after failure
+unfolding takes_kept
 lacks_piece failed old here new before held after line Read hands none one takes fault =
     let (was, kept, count, within) = fault in
-    let all : before.pending ++ hands.bytes ≡ line = hands.split ∙ (ap (λ (t : List ℕ). line ++ t) none ∙ append-nil line) in
-    record {
-      takes = record { bytes = hands.bytes; consumed = Consumes-kept old here new hands.bytes hands.consumed kept; counted = count ∙ hands.counted };
-      fault = (was, subst IsLine (sym all) one, within);
-    }
+    record { takes = takes_kept old here new before held after.taken line hands kept count; fault = (was, subst IsLine (sym (all_held old here before held line hands none)) one, within) }
 lacks_piece failed old here new before held after line Write hands none one takes fault = absurd fault
-lacks_piece failed old here new before held after line TooLong hands none one takes fault = record { takes = takes_more old here new before.taken held.taken after.taken (takes_of old here before held line hands) takes; fault = inl fault }
+lacks_piece failed old here new before held after line TooLong hands none one takes fault =
+    let (kept, count, passed) = fault in
+    record { takes = takes_kept old here new before held after.taken line hands kept count; fault = inl (subst IsLine (sym (all_held old here before held line hands none)) one, passed) }
 lacks_piece failed old here new before held after line Memory hands none one takes fault = record { takes = takes_more old here new before.taken held.taken after.taken (takes_of old here before held line hands) takes; fault = tt }
 
 -- a part at the front of what is held, with no newline in it, for which the line has no room

@@ -67,19 +67,19 @@ IsPartFault long Write = ⊥
 IsPartFault long TooLong = long
 IsPartFault long Memory = Unit {0}
 
--- why there is no next piece: a read has failed within the bound, and took nothing; or the bound is passed; or memory ran out
+-- why there is no next piece: nothing was taken, and a read has failed within the bound or the bound is passed; or memory ran out
 abbrev pub IsRefillFault : (failed : Type 0) → Option (List ℕ) → Option (List ℕ) → ℕ → ℕ → Failure → Type 0
 IsRefillFault failed old new before after Read = failed × Keeps old new × (after ≡ before) × (after ≤ 16777216)
 IsRefillFault failed old new before after Write = ⊥
-IsRefillFault failed old new before after TooLong = 16777216 < after
+IsRefillFault failed old new before after TooLong = Keeps old new × (after ≡ before) × (16777216 < after)
 IsRefillFault failed old new before after Memory = Unit {0}
 
--- why there is no next line, where so many bytes were read in all, and these are not handed out: a read has failed while no line was whole and no bound passed;
--- or the bound of the input or of the line is passed; or memory ran out
+-- why there is no next line, where so many bytes were read in all, and these are not handed out: no line of them is whole, and a read has failed within the bound of the input or this bound is passed;
+-- or the next line is too long; or memory ran out
 abbrev pub IsLineFault : (failed : Type 0) → ℕ → List ℕ → Failure → Type 0
 IsLineFault failed taken left Read = failed × IsLine left × (taken ≤ 16777216)
 IsLineFault failed taken left Write = ⊥
-IsLineFault failed taken left TooLong = (16777216 < taken) ⊎ BeginsTooLong left
+IsLineFault failed taken left TooLong = (IsLine left × (16777216 < taken)) ⊎ BeginsTooLong left
 IsLineFault failed taken left Memory = Unit {0}
 
 -- known bytes lost some from their front, and with these behind those that were held there is no next line

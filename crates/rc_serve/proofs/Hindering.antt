@@ -1,5 +1,5 @@
 -- Refusals and faults, and what they leave.
-use Rattle.std.proofs.Common.{◌≡◌, ◌∙◌, inl, inr, ℕ, List, [], true, false, Result, Ok, Err, IfOk, IfErr, OnErr, refl, ap, sym, subst}
+use Rattle.std.proofs.Common.{◌≡◌, ◌∙◌, ◌⊎◌, inl, inr, ℕ, List, [], true, false, Result, Ok, Err, IfOk, IfErr, OnErr, refl, ap, sym, subst}
 use Rattle.std.specs.Global.{Vec}
 use Rattle.rc_core.specs.declared.event.Event.{Event}
 use Rattle.rc_session.specs.declared.refusal.Refusal.{Refusal}
@@ -8,7 +8,7 @@ use Rattle.rc_session.specs.Commands.{Command, Change, Undo, Redo, Add, Delete, 
 use Rattle.rc_session.specs.Holding.{Holding, IsHindrance}
 use Rattle.rc_board.specs.declared.fault.Fault.{Fault}
 use Rattle.rc_board.specs.declared.fault.Fault.TheVariants as faults
-use Rattle.rc_board.specs.Working.{IsCarriedOut, IsFault, LeavesSession}
+use Rattle.rc_board.specs.Working.{HasWork, IsCarriedOut, IsFault, IsPlain, LeavesSession}
 use Rattle.rc_session.specs.Refusals.{IsOwnFault}
 use Rattle.rc_graph.specs.declared.Way.{Way}
 use Rattle.rc_core.specs.declared.event.Outcome.{Outcome}
@@ -19,7 +19,7 @@ use Rattle.rc_told.specs.ReportText.{report_text}
 use Rattle.rc_told.specs.AnswerText.{words_of}
 use Rattle.rc_serve.specs.declared.fault.ServeFault.{ServeFault}
 use Rattle.rc_serve.specs.declared.fault.ServeFault.TheVariants as serve
-use Rattle.rc_serve.specs.Faults.{IsInner, IsStrange}
+use Rattle.rc_serve.specs.Faults.{EndsSession, IsInner, IsSpoiledBy, IsStrange}
 use Rattle.rc_serve.specs.Meeting.{IsAnswered, IsToldAs, MayMeet, MeetsCommand}
 use Rattle.rc_serve.specs.Serving.{Stays}
 
@@ -97,32 +97,128 @@ retold names others words more outcome result a b told =
     subst (λ (w : List (List ℕ)). IfOk result (λ text. IsToldAs others w outcome text.items)) b (subst (λ (n : List (List ℕ)). IfOk result (λ text. IsToldAs n words outcome text.items)) a told)
 
 -- a fault that ends the session for one reason does for another that follows
-pub inner_as : (P Q : Type 0) (fault : ServeFault) → (P → Q) → IsInner P fault → IsInner Q fault
-inner_as P Q serve.Read more inner = inner
-inner_as P Q serve.Write more inner = inner
-inner_as P Q serve.TooLong more inner = inner
-inner_as P Q serve.Memory more inner = inner
-inner_as P Q serve.NoThread more inner = inner
-inner_as P Q serve.Strange more inner = more inner
-inner_as P Q serve.Workers more inner = inner
+pub inner_as : (P Q T U : Type 0) (fault : ServeFault) → (P → Q) → (T → U) → IsInner P T fault → IsInner Q U fault
+inner_as P Q T U serve.Read strange threads inner = inner
+inner_as P Q T U serve.Write strange threads inner = inner
+inner_as P Q T U serve.TooLong strange threads inner = inner
+inner_as P Q T U serve.Memory strange threads inner = inner
+inner_as P Q T U serve.NoThread strange threads inner = threads inner
+inner_as P Q T U serve.Strange strange threads inner = strange inner
+inner_as P Q T U serve.Workers strange threads inner = inner
 
-pub inner_by : {A : Type 0} (P Q : Type 0) (result : Result A ServeFault) → (P → Q) → IfErr result (IsInner P) → IfErr result (IsInner Q)
-inner_by P Q (Ok text) more inner = tt
-inner_by P Q (Err fault) more inner = inner_as P Q fault more inner
+pub inner_by : {A : Type 0} (P Q T U : Type 0) (result : Result A ServeFault) → (P → Q) → (T → U) → IfErr result (IsInner P T) → IfErr result (IsInner Q U)
+inner_by P Q T U (Ok text) strange threads inner = tt
+inner_by P Q T U (Err fault) strange threads inner = inner_as P Q T U fault strange threads inner
 
--- a session that refuses as strange is spoiled
-pub spoiled_by : {A : Type 0} (Own : Refusal → Type 0) (old new : Holding) (outcome : Result A Refusal) → IfErr outcome (IsHindrance Own old) → OnErr outcome (new ≡ old) → outcome ≡ Err Strange → new.spoiled ≡ true
-spoiled_by {A} Own old new outcome refused same is =
-    let was : old.spoiled ≡ true = subst (λ (o : Result A Refusal). IfErr o (IsHindrance Own old)) is refused in
-    let kept : new ≡ old = subst (λ (o : Result A Refusal). OnErr o (new ≡ old)) is same in
-    ap (λ (h : Holding). h.spoiled) kept ∙ was
+-- where there is work, there is also this
+pub ends_as : {A : Type 0} (P Q : Type 0) (old new : Holding) (result : Result A ServeFault) → (P → Q) → IfErr result (EndsSession P old new) → IfErr result (EndsSession Q old new)
+ends_as P Q old new result more ends =
+    inner_by (((old.spoiled ≡ true) ⊎ P) × (new.line ≡ old.line)) (((old.spoiled ≡ true) ⊎ Q) × (new.line ≡ old.line)) (P × (new.line ≡ old.line)) (Q × (new.line ≡ old.line)) result
+    (λ strange. (elim strange.0 [ inl was ↦ inl was | inr work ↦ inr (more work) ], strange.1)) (λ threads. (more threads.0, threads.1)) ends
 
--- and one that was found strange is from then on
-pub spoiled_run : (workers : ℕ) (old new : Holding) (command : Command) (outcome : Result Report Fault) → IfErr outcome (IsFault workers old command) → IfErr outcome (λ fault. LeavesSession old fault new)
-    → IsStrange outcome → new.spoiled ≡ true
-spoiled_run workers old new command (Ok report) fault left strange = absurd strange
-spoiled_run workers old new command (Err faults.Workers) fault left strange = absurd strange
-spoiled_run workers old new command (Err faults.NoThread) fault left strange = absurd strange
-spoiled_run workers old new command (Err faults.Strange) fault left strange = ap (λ (h : Holding). h.spoiled) left
-spoiled_run workers old new command (Err (faults.Refused refusal)) fault left strange =
-    ap (λ (h : Holding). h.spoiled) left ∙ subst (λ (r : Refusal). IsHindrance (IsOwnFault old.database old.line command) old r) strange fault.1
+-- a session of which nothing else changes is spoiled where it ends as strange
+pub kept_spoils : {A : Type 0} (P Q : Type 0) (result : Result A ServeFault) (old new : Holding) → new.spoiled ≡ old.spoiled → (P → new.spoiled ≡ true) → IfErr result (IsInner P Q) → IsSpoiledBy result old new
+kept_spoils P Q (Ok text) old new same strange inner = same
+kept_spoils P Q (Err serve.Read) old new same strange inner = same
+kept_spoils P Q (Err serve.Write) old new same strange inner = same
+kept_spoils P Q (Err serve.TooLong) old new same strange inner = same
+kept_spoils P Q (Err serve.Memory) old new same strange inner = same
+kept_spoils P Q (Err serve.NoThread) old new same strange inner = same
+kept_spoils P Q (Err serve.Strange) old new same strange inner = strange inner
+kept_spoils P Q (Err serve.Workers) old new same strange inner = same
+
+-- a session that is only looked at is spoiled where it ends as strange
+pub shown_spoils : {A : Type 0} (h : Holding) (result : Result A ServeFault) → IfErr result (EndsSession ⊥ h h) → IsSpoiledBy result h h
+shown_spoils h result ends =
+    kept_spoils (((h.spoiled ≡ true) ⊎ ⊥) × (h.line ≡ h.line)) (⊥ × (h.line ≡ h.line)) result h h refl (λ strange. elim strange.0 [ inl was ↦ was | inr none ↦ absurd none ]) ends
+
+-- a session that refuses as strange is spoiled, and was before
+spoiled_by : {A : Type 0} (Own : Refusal → Type 0) (old : Holding) (outcome : Result A Refusal) → IfErr outcome (IsHindrance Own old) → outcome ≡ Err Strange → old.spoiled ≡ true
+spoiled_by {A} Own old outcome refused is = subst (λ (o : Result A Refusal). IfErr o (IsHindrance Own old)) is refused
+
+-- where a refusal ends the session, nothing has changed
+pub ends_refused : {A B : Type 0} (Own : Refusal → Type 0) (old new : Holding) (outcome : Result A Refusal) (result : Result B ServeFault) → IfErr outcome (IsHindrance Own old) → OnErr outcome (new ≡ old)
+    → IfErr result (IsInner (outcome ≡ Err Strange) ⊥) → IfErr result (EndsSession ⊥ old new)
+ends_refused {A} {B} Own old new outcome result refused same told =
+    inner_by (outcome ≡ Err Strange) (((old.spoiled ≡ true) ⊎ ⊥) × (new.line ≡ old.line)) ⊥ (⊥ × (new.line ≡ old.line)) result
+    (λ is. (inl (spoiled_by Own old outcome refused is), ap (λ (h : Holding). h.line) (subst (λ (o : Result A Refusal). OnErr o (new ≡ old)) is same))) (λ none. absurd none) told
+
+-- likewise of a session that is only looked at
+pub ends_shown : {A B : Type 0} (Own : Refusal → Type 0) (h : Holding) (outcome : Result A Refusal) (result : Result B ServeFault) → IfErr outcome (IsHindrance Own h) → IfErr result (IsInner (outcome ≡ Err Strange) ⊥) → IfErr result (EndsSession ⊥ h h)
+ends_shown {A} {B} Own h outcome result refused told =
+    inner_by (outcome ≡ Err Strange) (((h.spoiled ≡ true) ⊎ ⊥) × (h.line ≡ h.line)) ⊥ (⊥ × (h.line ≡ h.line)) result (λ is. (inl (spoiled_by Own h outcome refused is), refl)) (λ none. absurd none) told
+
+pub refused_spoils : {A B : Type 0} (Own : Refusal → Type 0) (old new : Holding) (outcome : Result A Refusal) (result : Result B ServeFault) → IfErr outcome (IsHindrance Own old) → new.spoiled ≡ old.spoiled
+    → IfErr result (IsInner (outcome ≡ Err Strange) ⊥) → IsSpoiledBy result old new
+refused_spoils Own old new outcome result refused same told = kept_spoils (outcome ≡ Err Strange) ⊥ result old new same (λ is. same ∙ spoiled_by Own old outcome refused is) told
+
+-- what a fault of workers tells of the work that there is
+abbrev TellsWork : (work : Type 0) → Fault → Type 0
+TellsWork work faults.Workers = Unit {0}
+TellsWork work faults.NoThread = work
+TellsWork work faults.Strange = work
+TellsWork work (faults.Refused refusal) = Unit {0}
+
+tells_work : (workers : ℕ) (h : Holding) (command : Command) (outcome : Result Report Fault) → IfErr outcome (IsFault workers h command) → IfErr outcome (TellsWork (HasWork h.database h.line command))
+tells_work workers h command (Ok report) fault = tt
+tells_work workers h command (Err faults.Workers) fault = tt
+tells_work workers h command (Err faults.NoThread) fault = fault.2
+tells_work workers h command (Err faults.Strange) fault = fault.2
+tells_work workers h command (Err (faults.Refused refusal)) fault = tt
+
+tells_none : (outcome : Result Report Fault) → IfErr outcome IsPlain → IfErr outcome (TellsWork ⊥)
+tells_none (Ok report) plain = tt
+tells_none (Err faults.Workers) plain = tt
+tells_none (Err faults.NoThread) plain = plain
+tells_none (Err faults.Strange) plain = plain
+tells_none (Err (faults.Refused refusal)) plain = tt
+
+-- what came of a command is strange: for work that there is, or in a session that was spoiled before
+strange_run : (work : Type 0) (workers : ℕ) (old new : Holding) (command : Command) (outcome : Result Report Fault) → IfErr outcome (IsFault workers old command) → IfErr outcome (λ fault. LeavesSession old fault new)
+    → IfErr outcome (TellsWork work) → IsStrange outcome → ((old.spoiled ≡ true) ⊎ work) × (new.line ≡ old.line)
+strange_run work workers old new command (Ok report) fault left tells strange = absurd strange
+strange_run work workers old new command (Err faults.Workers) fault left tells strange = absurd strange
+strange_run work workers old new command (Err faults.NoThread) fault left tells strange = absurd strange
+strange_run work workers old new command (Err faults.Strange) fault left tells strange = (inr tells, left_line old new faults.Strange left)
+strange_run work workers old new command (Err (faults.Refused refusal)) fault left tells strange =
+    (inl (subst (λ (r : Refusal). IsHindrance (IsOwnFault old.database old.line command) old r) strange fault.1), left_line old new (faults.Refused refusal) left)
+
+-- no thread was started: for work that there is
+unstarted_run : (work : Type 0) (old new : Holding) (outcome : Result Report Fault) → IfErr outcome (λ fault. LeavesSession old fault new) → IfErr outcome (TellsWork work) → outcome ≡ Err faults.NoThread → work × (new.line ≡ old.line)
+unstarted_run work old new outcome left tells is = (
+  subst (λ (o : Result Report Fault). IfErr o (TellsWork work)) is tells,
+  left_line old new faults.NoThread (subst (λ (o : Result Report Fault). IfErr o (λ fault. LeavesSession old fault new)) is left),
+)
+
+ends_run : {A : Type 0} (work : Type 0) (workers : ℕ) (old new : Holding) (command : Command) (outcome : Result Report Fault) (result : Result A ServeFault) → IfErr outcome (IsFault workers old command) → IfErr outcome (λ fault. LeavesSession old fault new)
+    → IfErr outcome (TellsWork work) → IfErr result (IsInner (IsStrange outcome) (outcome ≡ Err faults.NoThread)) → IfErr result (EndsSession work old new)
+ends_run work workers old new command outcome result fault left tells told =
+    inner_by (IsStrange outcome) (((old.spoiled ≡ true) ⊎ work) × (new.line ≡ old.line)) (outcome ≡ Err faults.NoThread) (work × (new.line ≡ old.line)) result
+    (strange_run work workers old new command outcome fault left tells) (unstarted_run work old new outcome left tells) told
+
+-- a command that workers carry out ends the session only where it has work
+pub ends_at_work : {A : Type 0} (workers : ℕ) (old new : Holding) (command : Command) (outcome : Result Report Fault) (result : Result A ServeFault) → IfErr outcome (IsFault workers old command) → IfErr outcome (λ fault. LeavesSession old fault new)
+    → IfErr result (IsInner (IsStrange outcome) (outcome ≡ Err faults.NoThread)) → IfErr result (EndsSession (HasWork old.database old.line command) old new)
+ends_at_work workers old new command outcome result fault left told =
+    ends_run (HasWork old.database old.line command) workers old new command outcome result fault left (tells_work workers old command outcome fault) told
+
+-- and not even there, where the one worker is the caller
+pub ends_plainly : {A : Type 0} (workers : ℕ) (old new : Holding) (command : Command) (outcome : Result Report Fault) (result : Result A ServeFault) → IfErr outcome (IsFault workers old command) → IfErr outcome (λ fault. LeavesSession old fault new)
+    → IfErr outcome IsPlain → IfErr result (IsInner (IsStrange outcome) (outcome ≡ Err faults.NoThread)) → IfErr result (EndsSession ⊥ old new)
+ends_plainly workers old new command outcome result fault left plain told = ends_run ⊥ workers old new command outcome result fault left (tells_none outcome plain) told
+
+-- a session is spoiled by what is strange alone
+pub spoils_run : {A : Type 0} (workers : ℕ) (Says : ℕ → Way → Outcome → Type 0) (Gives : ℕ → Type 0) (old new : Holding) (command : Command) (outcome : Result Report Fault) (result : Result A ServeFault)
+    → IfOk outcome (λ report. IsCarriedOut workers Says Gives old command (told_of report) new) → IfErr outcome (IsFault workers old command) → IfErr outcome (λ fault. LeavesSession old fault new)
+    → (outcome ≡ Err faults.Strange → result ≡ Err serve.Strange) → IfErr result (IsInner (IsStrange outcome) (outcome ≡ Err faults.NoThread)) → IsSpoiledBy result old new
+spoils_run workers Says Gives old new command (Ok report) result done fault left strange told =
+    kept_spoils ⊥ (Ok report ≡ Err faults.NoThread) result old new (ap (λ (h : Holding). h.spoiled) done.session) (λ none. absurd none) told
+spoils_run workers Says Gives old new command (Err faults.Workers) result done fault left strange told =
+    kept_spoils ⊥ (Err faults.Workers ≡ Err faults.NoThread) result old new (ap (λ (h : Holding). h.spoiled) left) (λ none. absurd none) told
+spoils_run workers Says Gives old new command (Err faults.NoThread) result done fault left strange told =
+    kept_spoils ⊥ (Err faults.NoThread ≡ Err faults.NoThread) result old new (ap (λ (h : Holding). h.spoiled) left) (λ none. absurd none) told
+spoils_run {A} workers Says Gives old new command (Err faults.Strange) result done fault left strange told =
+    subst (λ (r : Result A ServeFault). IsSpoiledBy r old new) (sym (strange refl)) (ap (λ (h : Holding). h.spoiled) left)
+spoils_run workers Says Gives old new command (Err (faults.Refused refusal)) result done fault left strange told =
+    kept_spoils (refusal ≡ Strange) (Err (faults.Refused refusal) ≡ Err faults.NoThread) result old new (ap (λ (h : Holding). h.spoiled) left)
+    (λ is. ap (λ (h : Holding). h.spoiled) left ∙ subst (λ (r : Refusal). IsHindrance (IsOwnFault old.database old.line command) old r) is fault.1) told

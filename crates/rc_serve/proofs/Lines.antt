@@ -1,5 +1,5 @@
 -- One line after another.
-use Rattle.std.proofs.Common.{◌≡◌, ◌∙◌, ◌⊎◌, inl, inr, ℕ, ◌+◌, ◌-◌, ◌<◌, ◌≤◌, Bool, true, false, List, [], ◌∷◌, ◌++◌, Option, length, ap, sym, refl, subst, arith, append_assoc, length-append}
+use Rattle.std.proofs.Common.{◌≡◌, ◌∙◌, ◌⊎◌, inl, inr, ℕ, ◌+◌, ◌-◌, ◌<◌, ◌≤◌, Bool, true, false, List, [], ◌∷◌, ◌++◌, Option, length, take, ap, sym, refl, subst, arith, append_assoc, length-append}
 use Rattle.std.proofs.lemmas.List.{append-nil}
 use Rattle.std.proofs.lemmas.List.Elements.{All-nil, All-push}
 use Rattle.std.specs.List.{flat_map}
@@ -11,14 +11,13 @@ use Rattle.rc_session.specs.Holding.{Holding}
 use Rattle.rc_answers.specs.Lines.{line}
 use Rattle.rc_answers.proofs.LineLemmas.{one_more}
 use Rattle.rc_streams.specs.Input.{AppendsFront, ConsumesAtMost}
-use Rattle.rc_streams.proofs.InputLemmas.{AppendsFront-last, AppendsFront-split}
 use Rattle.rc_noted.specs.Taking.{Held, BeginsTooLong, HandsLine, HandsOut, IsLine, LacksLine, Takes, fresh}
 use Rattle.rc_streams.specs.declared.input.Failure.{Failure}
 use Rattle.rc_streams.specs.declared.input.Failure.TheVariants as failures
 use Rattle.rc_serve.specs.declared.fault.ServeFault.{ServeFault}
 use Rattle.rc_serve.specs.declared.fault.ServeFault.TheVariants.{Read, Write, TooLong, Memory, NoThread, Strange, Workers}
-use Rattle.rc_serve.specs.Faults.{IsInner, IsOfLine, StandsAt, of_failure}
-use Rattle.rc_serve.specs.Serving.{IsServing, MayMeetBytes, MeetsBytes, Serves, ServesAll, ServesFront, ServesNext, Stays, StopsAt}
+use Rattle.rc_serve.specs.Faults.{EndsSession, IsOfAnswer, IsServeFault, Spoils, StandsAt, of_failure}
+use Rattle.rc_serve.specs.Serving.{AreLines, BytesWantWork, IsServing, MayMeetBytes, MeetsBytes, NextWantsWork, Serves, ServesAll, ServesFront, ServesNext, Stays, StopsAt}
 
 -- one more line is met
 pub serves_more : (d : Database) (here : Line) (lines : List (List ℕ)) (text : List ℕ) (mid : Line) (bytes first : List ℕ) (new : Line) → Serves d here lines text mid → MeetsBytes d mid bytes first new
@@ -42,8 +41,8 @@ hands_on old here new before held after front more first next = record {
 
 -- one more line with its newline
 pub serving_on : (input here left : Option (List ℕ)) (held after : Held) (written mid gained : Option (List ℕ)) (old now new : Holding) → IsServing input here held written mid old now
-    → ServesNext true here left held after mid gained now new → Stays now new → after.taken ≤ 16777217 → IsServing input left after written gained old new
-serving_on input here left held after written mid gained old now new so next stays within =
+    → ServesNext true here left held after mid gained now new → Stays now new → new.spoiled ≡ now.spoiled → after.taken ≤ 16777217 → IsServing input left after written gained old new
+serving_on input here left held after written mid gained old now new so next stays whole within =
     let (bytes, text, handed, met, told) = next in
     record {
       lines = so.lines ++ bytes ∷ [];
@@ -53,6 +52,7 @@ serving_on input here left held after written mid gained old now new so next sta
       met = serves_more old.database old.line so.lines so.text now.line bytes text new.line so.met (subst (λ (d : Database). MeetsBytes d now.line bytes text new.line) so.stays.0 met);
       told = Appends-trans written mid gained so.text text so.told told;
       stays = (stays.0 ∙ so.stays.0, stays.1);
+      whole = whole ∙ so.whole;
       within = within;
     }
 
@@ -95,53 +95,42 @@ serves_all input here left held after written mid gained old now new so (inr nex
       told = subst (λ (c : Option (List ℕ)). Appends written c so.text) (sym kept) so.told;
     }
 
--- a fault that comes of a line stands anywhere
-of_line : (fault : ServeFault) (taken : ℕ) (rest : List ℕ) (answered : Type 0) → IsOfLine fault → StandsAt fault taken rest answered
-of_line Read taken rest answered of = absurd of
-of_line Write taken rest answered of = tt
-of_line TooLong taken rest answered of = absurd of
-of_line Memory taken rest answered of = tt
-of_line NoThread taken rest answered of = tt
-of_line Strange taken rest answered of = tt
-of_line Workers taken rest answered of = tt
+-- a fault stands for other reasons that follow, where as many bytes were read
+stands_as : (fault : ServeFault) (P Q W X : Type 0) (taken count : ℕ) (rest : List ℕ) → (P → Q) → (W → X) → taken ≡ count → StandsAt fault P W taken rest → StandsAt fault Q X count rest
+stands_as Read P Q W X taken count rest spoiled work is stands = (stands.0, omega (arith, is, stands.1))
+stands_as Write P Q W X taken count rest spoiled work is stands = tt
+stands_as TooLong P Q W X taken count rest spoiled work is stands = subst (λ (n : ℕ). (IsLine rest × (16777216 < n)) ⊎ BeginsTooLong rest) is stands
+stands_as Memory P Q W X taken count rest spoiled work is stands = tt
+stands_as NoThread P Q W X taken count rest spoiled work is stands = work stands
+stands_as Strange P Q W X taken count rest spoiled work is stands = elim stands [ inl was ↦ inl (spoiled was) | inr wants ↦ inr (work wants) ]
+stands_as Workers P Q W X taken count rest spoiled work is stands = tt
 
--- so does each by which a command ends the session
-pub inner_of_line : (spoiled : Type 0) (fault : ServeFault) → IsInner spoiled fault → IsOfLine fault
-inner_of_line spoiled Read inner = absurd inner
-inner_of_line spoiled Write inner = absurd inner
-inner_of_line spoiled TooLong inner = absurd inner
-inner_of_line spoiled Memory inner = tt
-inner_of_line spoiled NoThread inner = tt
-inner_of_line spoiled Strange inner = tt
-inner_of_line spoiled Workers inner = absurd inner
+-- one line is met
+serves_one : (d : Database) (here : Line) (bytes text : List ℕ) (new : Line) → MeetsBytes d here bytes text new → Serves d here (bytes ∷ []) text new
+serves_one d here bytes text new met = (text, new, [], met, (refl, refl), sym (append-nil text))
 
--- it stands where as many bytes were read
-stands_as : (fault : ServeFault) (taken count : ℕ) (rest : List ℕ) (answered whole : Type 0) → taken ≡ count → (answered → whole) → StandsAt fault taken rest answered → StandsAt fault count rest whole
-stands_as Read taken count rest answered whole is more stands = (stands.0, omega (arith, is, stands.1), more stands.2)
-stands_as Write taken count rest answered whole is more stands = tt
-stands_as TooLong taken count rest answered whole is more stands = (subst (λ (n : ℕ). (16777216 < n) ⊎ BeginsTooLong rest) is stands.0, more stands.1)
-stands_as Memory taken count rest answered whole is more stands = tt
-stands_as NoThread taken count rest answered whole is more stands = tt
-stands_as Strange taken count rest answered whole is more stands = tt
-stands_as Workers taken count rest answered whole is more stands = tt
-
-front_line : (fault : ServeFault) (input here left : Option (List ℕ)) (held after : Held) (written mid gained : Option (List ℕ)) (old now new : Holding) (ends : Bool) (bytes text : List ℕ) → IsOfLine fault → IsServing input here held written mid old now
+front_line : (fault : ServeFault) (input here left : Option (List ℕ)) (held after : Held) (written mid gained : Option (List ℕ)) (old now new : Holding) (ends : Bool) (bytes text : List ℕ) → IsOfAnswer fault → IsServing input here held written mid old now
     → HandsLine ends here left held after bytes → MeetsBytes now.database now.line bytes text new.line → AppendsFront mid gained text → ServesFront fault input left written gained old new
 front_line fault input here left held after written mid gained old now new true bytes text of so handed met told =
     let all = hands_on input here left fresh held after (flat_map line so.lines) (line bytes) so.hands handed.1 in
     record {
       bytes = all.bytes;
       rest = after.pending;
-      lines = so.lines ++ bytes ∷ [];
-      text = so.text ++ text;
+      lines = so.lines;
+      text = so.text;
+      here = now.line;
+      more = bytes ∷ [];
+      answer = text;
       consumed = all.consumed;
       spelled = (
         All-push IsLine so.lines bytes so.each handed.0,
         inl (all.split ∙ ap (λ (t : List ℕ). t ++ after.pending) (sym (one_more line so.lines bytes))),
       );
-      met = serves_more old.database old.line so.lines so.text now.line bytes text new.line so.met (subst (λ (d : Database). MeetsBytes d now.line bytes text new.line) so.stays.0 met);
-      told = AppendsFront-last written mid gained (so.text ++ text) so.text text refl so.told told;
-      stands = of_line fault (length all.bytes) after.pending (Appends written gained (so.text ++ text)) of;
+      met = so.met;
+      one = omega arith;
+      met_more = serves_one old.database now.line bytes text new.line (subst (λ (d : Database). MeetsBytes d now.line bytes text new.line) so.stays.0 met);
+      told = (told.0, Appends-trans written mid gained so.text (take told.0 text) so.told told.1);
+      stands = inl of;
     }
 front_line fault input here left held after written mid gained old now new false bytes text of so handed met told =
     let (one, hands, some, ended) = handed in
@@ -150,53 +139,133 @@ front_line fault input here left held after written mid gained old now new false
     record {
       bytes = all.bytes;
       rest = [];
-      lines = so.lines ++ bytes ∷ [];
-      text = so.text ++ text;
+      lines = so.lines;
+      text = so.text;
+      here = now.line;
+      more = bytes ∷ [];
+      answer = text;
       consumed = all.consumed;
       spelled = (
         All-push IsLine so.lines bytes so.each one,
         inr (so.lines, bytes, refl, some, all.split ∙ (ap (λ (t : List ℕ). (flat_map line so.lines ++ bytes) ++ t) none ∙ append-nil (flat_map line so.lines ++ bytes)), refl),
       );
-      met = serves_more old.database old.line so.lines so.text now.line bytes text new.line so.met (subst (λ (d : Database). MeetsBytes d now.line bytes text new.line) so.stays.0 met);
-      told = AppendsFront-last written mid gained (so.text ++ text) so.text text refl so.told told;
-      stands = of_line fault (length all.bytes) [] (Appends written gained (so.text ++ text)) of;
+      met = so.met;
+      one = omega arith;
+      met_more = serves_one old.database now.line bytes text new.line (subst (λ (d : Database). MeetsBytes d now.line bytes text new.line) so.stays.0 met);
+      told = (told.0, Appends-trans written mid gained so.text (take told.0 text) so.told told.1);
+      stands = inl of;
     }
+
+-- what the next line wants, it wants of the same database and line of states
+wants_as : (d e : Database) (here there : Line) (bytes : List ℕ) → d ≡ e → there ≡ here → NextWantsWork d here bytes → NextWantsWork e there bytes
+wants_as d e here there bytes same still wants = subst (λ (b : Database). NextWantsWork b there bytes) same (subst (λ (l : Line). NextWantsWork d l bytes) (sym still) wants)
 
 -- a fault came
 pub serves_front : (fault : ServeFault) (input here left : Option (List ℕ)) (held after : Held) (written mid gained : Option (List ℕ)) (old now new : Holding) → IsServing input here held written mid old now
     → StopsAt fault here left held after mid gained now new → ServesFront fault input left written gained old new
 serves_front fault input here left held after written mid gained old now new so (inl stop) =
-    let (takes, stands, same, kept) = stop in
+    let (takes, same, kept, stands) = stop in
     let told = subst (λ (c : Option (List ℕ)). Appends written c so.text) (sym kept) so.told in
     record {
       bytes = so.hands.bytes ++ takes.bytes;
       rest = held.pending ++ takes.bytes;
       lines = so.lines;
       text = so.text;
+      here = now.line;
+      more = [];
+      answer = [];
       consumed = Consumes-trans input here left so.hands.bytes takes.bytes so.hands.consumed takes.consumed;
-      spelled = (so.each, inl (ap (λ (t : List ℕ). t ++ takes.bytes) so.hands.split ∙ append_assoc (flat_map line so.lines) held.pending takes.bytes));
-      met = subst (λ (l : Line). Serves old.database old.line so.lines so.text l) (sym same) so.met;
-      told = AppendsFront-split written gained so.text so.text [] (sym (append-nil so.text)) told;
-      stands = stands_as fault after.taken (length (so.hands.bytes ++ takes.bytes)) (held.pending ++ takes.bytes) (gained ≡ mid) (Appends written gained so.text)
-          (omega (arith, so.hands.counted, takes.counted, length-append so.hands.bytes takes.bytes)) (λ _. told) stands;
+      spelled = subst (λ (all : List (List ℕ)). AreLines all (so.hands.bytes ++ takes.bytes) (held.pending ++ takes.bytes)) (sym (append-nil so.lines))
+          (so.each, inl (ap (λ (t : List ℕ). t ++ takes.bytes) so.hands.split ∙ append_assoc (flat_map line so.lines) held.pending takes.bytes));
+      met = so.met;
+      one = omega arith;
+      met_more = (refl, same);
+      told = (0, subst (λ (t : List ℕ). Appends written gained t) (sym (append-nil so.text)) told);
+      stands = inr (
+        refl,
+        stands_as fault (now.spoiled ≡ true) (old.spoiled ≡ true) (NextWantsWork now.database now.line (held.pending ++ takes.bytes)) (NextWantsWork old.database new.line (held.pending ++ takes.bytes))
+            after.taken (length (so.hands.bytes ++ takes.bytes)) (held.pending ++ takes.bytes) (λ was. sym so.whole ∙ was) (wants_as now.database old.database now.line new.line (held.pending ++ takes.bytes) so.stays.0 same)
+            (omega (arith, so.hands.counted, takes.counted, length-append so.hands.bytes takes.bytes)) stands,
+      );
     }
 serves_front fault input here left held after written mid gained old now new so (inr stop) =
     let (of, ends, bytes, text, handed, met, told) = stop in
     front_line fault input here left held after written mid gained old now new ends bytes text of so handed met told
 
+-- the line that was handed out is the next one of what was held and read
+next_line : (ends : Bool) (input left : Option (List ℕ)) (held after : Held) (bytes : List ℕ) → HandsLine ends input left held after bytes
+    → (takes : Takes input left held.taken after.taken) × (rest : List ℕ) × AreLines (bytes ∷ []) (held.pending ++ takes.bytes) rest
+next_line true input left held after bytes (one, hands) = (
+  record { bytes = hands.bytes; consumed = hands.consumed; counted = hands.counted },
+  after.pending,
+  (All-push IsLine [] bytes (All-nil IsLine) one, inl (hands.split ∙ ap (λ (t : List ℕ). t ++ after.pending) (sym (one_more line [] bytes)))),
+)
+next_line false input left held after bytes (one, hands, some, ended) = (
+  record { bytes = hands.bytes; consumed = hands.consumed; counted = hands.counted },
+  [],
+  (All-push IsLine [] bytes (All-nil IsLine) one, inr ([], bytes, refl, some, hands.split ∙ (ap (λ (t : List ℕ). bytes ++ t) ended.0 ∙ append-nil bytes), refl)),
+)
+
 -- a line was handed out, and no answer came of it
 pub stops_short : (fault : ServeFault) (ends : Bool) (input left : Option (List ℕ)) (held after : Held) (written : Option (List ℕ)) (old new : Holding) (bytes : List ℕ) → HandsLine ends input left held after bytes → Takes input left held.taken after.taken
-    → MayMeetBytes old.database old.line bytes new.line → IsOfLine fault → StopsAt fault input left held after written written old new
-stops_short fault ends input left held after written old new bytes handed takes (inl same) of = inl (takes, of_line fault after.taken (held.pending ++ takes.bytes) (written ≡ written) of, same, refl)
-stops_short fault ends input left held after written old new bytes handed takes (inr met) of = inr (of, ends, bytes, met.0, handed, met.1, (0, Appends-nil written))
+    → MayMeetBytes old.database old.line bytes new.line → EndsSession (BytesWantWork old.database old.line bytes) old new fault → StopsAt fault input left held after written written old new
+stops_short Read ends input left held after written old new bytes handed takes may end = absurd end
+stops_short Write ends input left held after written old new bytes handed takes may end = absurd end
+stops_short TooLong ends input left held after written old new bytes handed takes may end = absurd end
+stops_short Memory ends input left held after written old new bytes handed takes (inl same) end = inl (takes, same, refl, tt)
+stops_short Memory ends input left held after written old new bytes handed takes (inr met) end = inr (tt, ends, bytes, met.0, handed, met.1, (0, Appends-nil written))
+stops_short NoThread ends input left held after written old new bytes handed takes may end =
+    let (taken, rest, spelled) = next_line ends input left held after bytes handed in
+    inl (taken, end.1, refl, (bytes, rest, spelled, end.0))
+stops_short Strange ends input left held after written old new bytes handed takes may end =
+    let (taken, rest, spelled) = next_line ends input left held after bytes handed in
+    inl (taken, end.1, refl, elim end.0 [ inl was ↦ inl was | inr work ↦ inr (bytes, rest, spelled, work) ])
+stops_short Workers ends input left held after written old new bytes handed takes may end = absurd end
 
 -- there was no line to hand out
 pub stops_unread : (failed : Type 0) (failure : Failure) (input left : Option (List ℕ)) (held after : Held) (written : Option (List ℕ)) (old : Holding) → LacksLine failed input left held after failure
     → StopsAt (of_failure failure) input left held after written written old old
-stops_unread failed failures.Read input left held after written old lacks = inl (lacks.takes, (lacks.fault.1, lacks.fault.2, refl), refl, refl)
+stops_unread failed failures.Read input left held after written old lacks = inl (lacks.takes, refl, refl, (lacks.fault.1, lacks.fault.2))
 stops_unread failed failures.Write input left held after written old lacks = absurd lacks.fault
-stops_unread failed failures.TooLong input left held after written old lacks = inl (lacks.takes, (lacks.fault, refl), refl, refl)
-stops_unread failed failures.Memory input left held after written old lacks = inl (lacks.takes, tt, refl, refl)
+stops_unread failed failures.TooLong input left held after written old lacks = inl (lacks.takes, refl, refl, lacks.fault)
+stops_unread failed failures.Memory input left held after written old lacks = inl (lacks.takes, refl, refl, tt)
+
+-- a device or its bound spoils no session
+pub spoils_failure : (failure : Failure) (h : Holding) → Spoils (of_failure failure) h h
+spoils_failure failures.Read h = refl
+spoils_failure failures.Write h = refl
+spoils_failure failures.TooLong h = refl
+spoils_failure failures.Memory h = refl
+
+-- a session is spoiled as one before it was that is spoiled alike
+pub spoils_on : (fault : ServeFault) (old now new : Holding) → now.spoiled ≡ old.spoiled → Spoils fault now new → Spoils fault old new
+spoils_on Read old now new same spoils = spoils ∙ same
+spoils_on Write old now new same spoils = spoils ∙ same
+spoils_on TooLong old now new same spoils = spoils ∙ same
+spoils_on Memory old now new same spoils = spoils ∙ same
+spoils_on NoThread old now new same spoils = spoils ∙ same
+spoils_on Strange old now new same spoils = spoils
+spoils_on Workers old now new same spoils = spoils ∙ same
+
+-- where no thread is wanting, a fault of a command comes as one of serving
+pub plain_fault : (reader writer : Type 0) (fault : ServeFault) (old new : Holding) → EndsSession ⊥ old new fault → IsServeFault reader writer (old.spoiled ≡ true) fault
+plain_fault reader writer Read old new end = absurd end
+plain_fault reader writer Write old new end = absurd end
+plain_fault reader writer TooLong old new end = absurd end
+plain_fault reader writer Memory old new end = tt
+plain_fault reader writer NoThread old new end = end.0
+plain_fault reader writer Strange old new end = elim end.0 [ inl was ↦ was | inr none ↦ absurd none ]
+plain_fault reader writer Workers old new end = absurd end
+
+-- and likewise of a session that was spoiled alike before
+pub fault_on : (reader writer : Type 0) (fault : ServeFault) (old now : Holding) → now.spoiled ≡ old.spoiled → IsServeFault reader writer (now.spoiled ≡ true) fault → IsServeFault reader writer (old.spoiled ≡ true) fault
+fault_on reader writer Read old now same wrong = wrong
+fault_on reader writer Write old now same wrong = wrong
+fault_on reader writer TooLong old now same wrong = wrong
+fault_on reader writer Memory old now same wrong = wrong
+fault_on reader writer NoThread old now same wrong = wrong
+fault_on reader writer Strange old now same wrong = sym same ∙ wrong
+fault_on reader writer Workers old now same wrong = wrong
 
 -- nothing was read yet
 pub serving_none : (input written : Option (List ℕ)) (old : Holding) → old.begun ≡ false → IsServing input input fresh written written old old
@@ -208,6 +277,7 @@ serving_none input written old closed = record {
   met = (refl, refl);
   told = Appends-nil written;
   stays = (refl, closed);
+  whole = refl;
   within = omega arith;
 }
 
@@ -258,9 +328,14 @@ serves_none input written old = record {
   rest = [];
   lines = [];
   text = [];
+  here = old.line;
+  more = [];
+  answer = [];
   consumed = Consumes-nil input;
   spelled = (All-nil IsLine, inl refl);
   met = (refl, refl);
+  one = omega arith;
+  met_more = (refl, refl);
   told = (0, Appends-nil written);
-  stands = tt;
+  stands = inr (refl, tt);
 }

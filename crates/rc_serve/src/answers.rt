@@ -2,10 +2,11 @@
 ghost use Rattle.std.specs.Prelude.{◌≡◌, [], true, false, IfOk, IfErr};
 ghost use Rattle.rc_session.specs.Commands.{Command, command_of, events_of, with_events};
 ghost use Rattle.rc_board.specs.Crew.{IsCrew};
+ghost use Rattle.rc_board.specs.Working.{HasWork};
 ghost use Rattle.rc_lines.specs.Says.{SaysStep, saying_of};
-ghost use Rattle.rc_serve.specs.Faults.{IsInner};
-ghost use Rattle.rc_serve.specs.Meeting.{MayMeet, MayMeetSaying, Meets, MeetsCommand};
-ghost use Rattle.rc_serve.specs.Serving.{MayMeetBytes, MeetsBytes, Stays};
+ghost use Rattle.rc_serve.specs.Faults.{EndsSession, IsSpoiledBy};
+ghost use Rattle.rc_serve.specs.Meeting.{MayMeet, MayMeetSaying, Meets, MeetsCommand, WantsWork};
+ghost use Rattle.rc_serve.specs.Serving.{BytesWantWork, MayMeetBytes, MeetsBytes, Stays};
 
 use crate::edits::{add_answer, delete_answer};
 use crate::fault::ServeFault;
@@ -34,7 +35,9 @@ pub(crate) fn line_answer<T: Threads + Wait + Sync, G: Gate>(
     ensures met { IfOk result (λ text. MeetsBytes session.old.database session.old.line line.now text.items session.new.line) }
     ensures may { MayMeetBytes session.old.database session.old.line line.now session.new.line }
     ensures stays { Stays session.old session.new }
-    ensures fault { IfErr result (IsInner (session.new.spoiled ≡ true)) }
+    ensures fault { IfErr result (EndsSession (BytesWantWork session.old.database session.old.line line.now) session.old session.new) }
+    ensures whole { IsSpoiledBy result session.old session.new }
+    ensures plain { IfErr result (EndsSession ⊥ session.old session.new) }
 {
     lines_give_no_events();
     match read_line(alloc, line) {
@@ -59,7 +62,9 @@ fn said_answer<T: Threads + Wait + Sync, G: Gate>(
     ensures met { IfOk result (λ text. Meets session.old.database session.old.line (saying_of said.now) text.items session.new.line) }
     ensures may { MayMeetSaying session.old.database session.old.line (saying_of said.now) session.new.line }
     ensures stays { Stays session.old session.new }
-    ensures fault { IfErr result (IsInner (session.new.spoiled ≡ true)) }
+    ensures fault { IfErr result (EndsSession (WantsWork session.old.database session.old.line (saying_of said.now)) session.old session.new) }
+    ensures whole { IsSpoiledBy result session.old session.new }
+    ensures plain { IfErr result (EndsSession ⊥ session.old session.new) }
 {
     match said {
         SessionLine::Step(step) => step_answer(rt, alloc, session, gate, workers, step),
@@ -72,7 +77,7 @@ fn shown(alloc: Global, session: &Session, said: &SessionLine) -> Result<Vec<u8>
     requires closed { session.now.begun ≡ false }
     requires shows { (command : Command) → saying_of said.now ≡ SaysStep command → ⊥ }
     ensures met { IfOk result (λ text. Meets session.now.database session.now.line (saying_of said.now) text.items session.now.line) }
-    ensures fault { IfErr result (IsInner (session.now.spoiled ≡ true)) }
+    ensures fault { IfErr result (EndsSession ⊥ session.now session.now) }
 {
     match said {
         SessionLine::Nothing => Ok(Vec::new(alloc)),
@@ -100,7 +105,9 @@ fn step_answer<T: Threads + Wait + Sync, G: Gate>(
     ensures met { IfOk result (λ text. MeetsCommand session.old.database session.old.line (with_events (command_of step.now) []) text.items session.new.line) }
     ensures may { MayMeet session.old.database session.old.line (with_events (command_of step.now) []) session.new.line }
     ensures stays { Stays session.old session.new }
-    ensures fault { IfErr result (IsInner (session.new.spoiled ≡ true)) }
+    ensures fault { IfErr result (EndsSession (HasWork session.old.database session.old.line (with_events (command_of step.now) [])) session.old session.new) }
+    ensures whole { IsSpoiledBy result session.old session.new }
+    ensures plain { IfErr result (EndsSession ⊥ session.old session.new) }
 {
     match step {
         Step::Change(request, _) => change_answer(rt, alloc, session, gate, workers, request),

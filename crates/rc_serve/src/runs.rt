@@ -3,7 +3,8 @@ ghost use Rattle.std.specs.Prelude.{◌≡◌, [], true, false, map, string_byte
 ghost use Rattle.rc_select.specs.Ask.{ask_of};
 ghost use Rattle.rc_session.specs.Commands.{Change, Undo, Redo};
 ghost use Rattle.rc_board.specs.Crew.{IsCrew};
-ghost use Rattle.rc_serve.specs.Faults.{IsInner, IsStrange};
+ghost use Rattle.rc_board.specs.Working.{HasWork};
+ghost use Rattle.rc_serve.specs.Faults.{EndsSession, IsInner, IsSpoiledBy, IsStrange};
 ghost use Rattle.rc_serve.specs.Meeting.{IsToldAs, MayMeet, MeetsCommand};
 ghost use Rattle.rc_serve.specs.Serving.{Stays};
 
@@ -31,7 +32,9 @@ pub(crate) fn change_answer<T: Threads + Wait + Sync, G: Gate>(
     ensures met { IfOk result (λ text. MeetsCommand session.old.database session.old.line (Change (ask_of request.now) []) text.items session.new.line) }
     ensures may { MayMeet session.old.database session.old.line (Change (ask_of request.now) []) session.new.line }
     ensures stays { Stays session.old session.new }
-    ensures fault { IfErr result (IsInner (session.new.spoiled ≡ true)) }
+    ensures fault { IfErr result (EndsSession (HasWork session.old.database session.old.line (Change (ask_of request.now) [])) session.old session.new) }
+    ensures whole { IsSpoiledBy result session.old session.new }
+    ensures plain { IfErr result (EndsSession ⊥ session.old session.new) }
 {
     let outcome = change(rt, alloc, session, request, gate, workers, &NoWatch);
     told(alloc, session.db().names(), &request.names, outcome)
@@ -51,7 +54,9 @@ pub(crate) fn undo_answer<T: Threads + Wait + Sync, G: Gate>(
     ensures met { IfOk result (λ text. MeetsCommand session.old.database session.old.line (Undo limit []) text.items session.new.line) }
     ensures may { MayMeet session.old.database session.old.line (Undo limit []) session.new.line }
     ensures stays { Stays session.old session.new }
-    ensures fault { IfErr result (IsInner (session.new.spoiled ≡ true)) }
+    ensures fault { IfErr result (EndsSession (HasWork session.old.database session.old.line (Undo limit [])) session.old session.new) }
+    ensures whole { IsSpoiledBy result session.old session.new }
+    ensures plain { IfErr result (EndsSession ⊥ session.old session.new) }
 {
     let outcome = undo(rt, alloc, session, limit, gate, workers, &NoWatch);
     told(alloc, session.db().names(), &[], outcome)
@@ -71,7 +76,9 @@ pub(crate) fn redo_answer<T: Threads + Wait + Sync, G: Gate>(
     ensures met { IfOk result (λ text. MeetsCommand session.old.database session.old.line (Redo limit []) text.items session.new.line) }
     ensures may { MayMeet session.old.database session.old.line (Redo limit []) session.new.line }
     ensures stays { Stays session.old session.new }
-    ensures fault { IfErr result (IsInner (session.new.spoiled ≡ true)) }
+    ensures fault { IfErr result (EndsSession (HasWork session.old.database session.old.line (Redo limit [])) session.old session.new) }
+    ensures whole { IsSpoiledBy result session.old session.new }
+    ensures plain { IfErr result (EndsSession ⊥ session.old session.new) }
 {
     let outcome = redo(rt, alloc, session, limit, gate, workers, &NoWatch);
     told(alloc, session.db().names(), &[], outcome)
@@ -86,7 +93,8 @@ fn told(
 ) -> Result<Vec<u8>, ServeFault>
     requires { outcome ≡ Err Fault.Workers → ⊥ }
     ensures told { IfOk result (λ text. IsToldAs names.now (map string_bytes words.now) outcome text.items) }
-    ensures fault { IfErr result (IsInner (IsStrange outcome)) }
+    ensures strange { outcome ≡ Err Fault.Strange → result ≡ Err ServeFault.Strange }
+    ensures fault { IfErr result (IsInner (IsStrange outcome) (outcome ≡ Err Fault.NoThread)) }
 {
     match outcome {
         Ok(report) => Ok(report_text(alloc, names, &report)?),

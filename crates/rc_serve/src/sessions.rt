@@ -3,7 +3,7 @@ ghost use Rattle.std.specs.Prelude.{◌≡◌, ◌⊎◌, ◌≤◌, ◌↔◌, 
 ghost use Rattle.rc_streams.specs.Input.{ConsumesAtMost};
 ghost use Rattle.rc_noted.specs.Noting.{HasFailed, IsFlushed, inner_of};
 ghost use Rattle.rc_board.specs.Crew.{IsCrew};
-ghost use Rattle.rc_serve.specs.Faults.{IsOfLine, IsServeFault};
+ghost use Rattle.rc_serve.specs.Faults.{IsOfAnswer, IsServeFault, IsSpoiledBy};
 ghost use Rattle.rc_serve.specs.Serving.{ServesAll, ServesFront, ServesNext, Stays, StopsAt};
 
 use crate::answers::line_answer;
@@ -22,7 +22,8 @@ const MAX_WORKERS: u8 = 64;
 /// Runs a session: reads lines, does what each says, and answers it before the next one is waited for.
 ///
 /// An answer is written whole and flushed. A refused command is answered too, and the session goes on. It ends with
-/// the input, or with a fault; the lines before were done then, and all but the last of them were answered whole.
+/// the input, or with a fault: then the lines before were done and answered whole. The line whose answer could not be made
+/// or written may be done as well, and nothing behind it is.
 ///
 /// Time: it grows with the bytes of the lines and with what the commands do; a line costs no more the longer the journal is,
 /// but for `journal`, which shows it.
@@ -43,13 +44,15 @@ pub fn serve<T: Threads + Wait + Sync, R: Read, W: Write, G: Gate>(
     ensures done { OnOk result (ServesAll (R.remaining (inner_of reader.old)) (R.remaining (inner_of reader.new))
         (W.contents (inner_of writer.old)) (W.contents (inner_of writer.new)) session.old session.new) }
 
-    // Lines at the front of the input were met, and what was written is a front of their answers. A read fails only
-    // where every whole line is answered, and TooLong comes only where the next line or the input passes its bound.
+    // Lines at the front of the input were met and answered whole, and then one more at most, of whose answer a front was
+    // written. There is one more only where a write failed or memory was wanting. A read fails only where no whole line is
+    // left. TooLong comes only where none is left, and the input passes its bound, or where the next line passes its own.
+    // Workers fail only where the next line is a command that moves a service.
     ensures begun { IfErr result (λ fault. ServesFront fault (R.remaining (inner_of reader.old)) (R.remaining (inner_of reader.new))
         (W.contents (inner_of writer.old)) (W.contents (inner_of writer.new)) session.old session.new) }
 
     // Answers are flushed at the end, and before each read.
-    ensures flushed { MatchResult result (λ _. IsFlushed writer.old → IsFlushed writer.new) (λ fault. IsOfLine fault ⊎ (IsFlushed writer.old → IsFlushed writer.new)) }
+    ensures flushed { MatchResult result (λ _. IsFlushed writer.old → IsFlushed writer.new) (λ fault. IsOfAnswer fault ⊎ (IsFlushed writer.old → IsFlushed writer.new)) }
 
     // With a wrong number of workers nothing is read and nothing written, and with a right one that is no fault.
     ensures crew { OnOk result (IsCrew workers) }
@@ -58,12 +61,16 @@ pub fn serve<T: Threads + Wait + Sync, R: Read, W: Write, G: Gate>(
     ensures unwritten { result ≡ Err ServeFault.Workers → writer.new ≡ writer.old }
     ensures same { result ≡ Err ServeFault.Workers → session.new ≡ session.old }
 
-    // A fault of the reader or the writer comes only where that one has failed.
+    // Where a device has failed it ends by a fault, and by one of the reader or the writer only where that one has failed.
+    ensures sound { OnOk result ((HasFailed reader.new → ⊥) × (HasFailed writer.new → ⊥)) }
     ensures read { result ≡ Err ServeFault.Read → HasFailed reader.new }
     ensures written { result ≡ Err ServeFault.Write → HasFailed writer.new }
 
-    // A session that ends as strange is spoiled.
-    ensures strange { result ≡ Err ServeFault.Strange → session.new.spoiled ≡ true }
+    // A session is spoiled by a strange fault, and by nothing else.
+    ensures whole { IsSpoiledBy result session.old session.new }
+
+    // For now the one worker is the caller: no thread is wanting, and strange is only a session that was spoiled before.
+    ensures plain { (result ≡ Err ServeFault.NoThread → ⊥) × (result ≡ Err ServeFault.Strange → session.old.spoiled ≡ true) }
 
     // Whatever the result, the database stays, nothing is begun, and one byte past the bound is the last that is taken.
     ensures stays { Stays session.old session.new }
@@ -93,9 +100,11 @@ fn serve_lines<T: Threads + Wait + Sync, R: Read, W: Write, G: Gate>(
         (W.contents (inner_of writer.old)) (W.contents (inner_of writer.new)) session.old session.new) }
     ensures begun { IfErr result (λ fault. ServesFront fault (R.remaining (inner_of reader.old)) (R.remaining (inner_of reader.new))
         (W.contents (inner_of writer.old)) (W.contents (inner_of writer.new)) session.old session.new) }
-    ensures flushed { MatchResult result (λ _. IsFlushed writer.old → IsFlushed writer.new) (λ fault. IsOfLine fault ⊎ (IsFlushed writer.old → IsFlushed writer.new)) }
+    ensures flushed { MatchResult result (λ _. IsFlushed writer.old → IsFlushed writer.new) (λ fault. IsOfAnswer fault ⊎ (IsFlushed writer.old → IsFlushed writer.new)) }
+    ensures sound { OnOk result ((HasFailed reader.new → ⊥) × (HasFailed writer.new → ⊥)) }
     ensures stays { Stays session.old session.new }
-    ensures fault { IfErr result (IsServeFault (HasFailed reader.new) (HasFailed writer.new) (session.new.spoiled ≡ true)) }
+    ensures fault { IfErr result (IsServeFault (HasFailed reader.new) (HasFailed writer.new) (session.old.spoiled ≡ true)) }
+    ensures whole { IsSpoiledBy result session.old session.new }
     ensures taken { ConsumesAtMost (R.remaining (inner_of reader.old)) (R.remaining (inner_of reader.new)) 16777217 }
 {
     let mut lines = Lines::new(alloc);
@@ -124,11 +133,12 @@ fn next_answer<T: Threads + Wait + Sync, R: Read, W: Write, G: Gate>(
         (W.contents (inner_of writer.old)) (W.contents (inner_of writer.new)) session.old session.new) }
     ensures stopped { IfErr result (λ fault. StopsAt fault (R.remaining (inner_of reader.old)) (R.remaining (inner_of reader.new)) lines.old lines.new
         (W.contents (inner_of writer.old)) (W.contents (inner_of writer.new)) session.old session.new) }
-    ensures flushed { MatchResult result (λ _. IsFlushed writer.old → IsFlushed writer.new) (λ fault. IsOfLine fault ⊎ (IsFlushed writer.old → IsFlushed writer.new)) }
+    ensures flushed { MatchResult result (λ _. IsFlushed writer.old → IsFlushed writer.new) (λ fault. IsOfAnswer fault ⊎ (IsFlushed writer.old → IsFlushed writer.new)) }
     ensures stays { Stays session.old session.new }
     ensures reader { OnOk result (HasFailed reader.new → ⊥) }
     ensures writer { OnOk result (HasFailed writer.new → ⊥) }
-    ensures fault { IfErr result (IsServeFault (HasFailed reader.new) (HasFailed writer.new) (session.new.spoiled ≡ true)) }
+    ensures fault { IfErr result (IsServeFault (HasFailed reader.new) (HasFailed writer.new) (session.old.spoiled ≡ true)) }
+    ensures whole { IsSpoiledBy result session.old session.new }
     ensures within { lines.new.taken ≤ 16777217 }
 {
     let Some((line, ends)) = lines.next(alloc, reader)? else {

@@ -60,6 +60,7 @@ pub fn read_all<R: Read>(alloc: Global, reader: &mut R) -> Result<Vec<u8>, Failu
     ensures within { IfOk result (λ bytes. vec_len bytes ≤ MAX_INPUT) }
     ensures too_long { result ≡ Err Failure.TooLong
         → IfSome (R.remaining reader.old) (λ input. MAX_INPUT < length input) }
+    ensures fault { IfErr result (λ e. e ≢ Failure.Write) }
 
     // Whatever the result, one byte past the bound is the last that is taken.
     ensures taken { ConsumesAtMost (R.remaining reader.old) (R.remaining reader.new)
@@ -83,7 +84,7 @@ fn take_piece<R: Read>(reader: &mut R, room: usize, bytes: &mut Vec<u8>) -> Resu
         bytes.old.items bytes.new.items) }
     ensures fits { IfOk result (λ count. count ≤ room) }
     ensures end { IfOk result (λ count. count ≡ 0 → IsAtEnd (R.remaining reader.new)) }
-    ensures fault { IfErr result (λ e. e ≢ Failure.TooLong) }
+    ensures fault { IfErr result (λ e. (e ≢ Failure.TooLong) × (e ≢ Failure.Write)) }
     ensures taken { ConsumesAtMost (R.remaining reader.old) (R.remaining reader.new) room }
 {
     let mut buffer = [0; MAX_PIECE];

@@ -20,6 +20,7 @@ returns-in_err-serve-clause-ended g c =
     (λ told is. serve_ends c.in_err-serve.field-0.0 told c.args.db (session_ask_of c.args.request.now) c.names.result.now (map listed_of c.deref.result.now) c.in_ok-gate.gate.failing
     (g.R.Read.remaining (inner_of c.args.reader.now)) (g.R.Read.remaining (inner_of c.serve.new.reader))
     (g.W.Write.contents (inner_of c.args.writer.now)) (g.W.Write.contents (inner_of c.serve.new.writer)) c.in_ok-session.session c.serve.new.session _ _
-    is (fault_of_serving c.in_err-serve.field-0.0 c.serve.result _ _ c.in_err-serve.was (λ wrong. c.serve.ensures.workers.0 wrong c.requires.crew) c.serve.ensures.read c.serve.ensures.written)
+    is (fault_of_serving c.in_err-serve.field-0.0 c.serve.result c.args.db c.in_ok-session.session _ _ c.in_err-serve.was (λ wrong. c.serve.ensures.workers.0 wrong c.requires.crew) c.in_ok-session.ensures
+    c.serve.ensures.read c.serve.ensures.written c.serve.ensures.plain.0 c.serve.ensures.plain.1)
     c.names.ensures.names (ap (map listed_of) c.deref.ensures.value) c.in_ok-gate.ensures.found c.in_ok-session.ensures c.in_err-serve.ensures.begun)
     c.from_residual-in_err-serve.ensures.1

@@ -1,5 +1,8 @@
 use Rattle.std.proofs.Common.{inl, refl, subst}
 use Rattle.rc_lines.specs.Says.{Saying, Says, saying_of}
+use Rattle.rc_serve.specs.Meeting.{WantsWork}
+use Rattle.rc_serve.specs.Serving.{BytesWantWork}
+use Rattle.rc_serve.proofs.Hindering.{ends_as}
 use Rattle.rc_serve.proofs.Steps.{bytes_may, bytes_met, read_says}
 use Rattle.rc_serve.proofs.answers.line_answer.Goals as goal
 
@@ -22,10 +25,20 @@ pub returns-in-Ok-clause-stays : goal.returns-in-Ok-clause-stays
 returns-in-Ok-clause-stays g c = c.said_answer.ensures.stays
 
 pub returns-in-Ok-clause-fault : goal.returns-in-Ok-clause-fault
-returns-in-Ok-clause-fault g c = c.said_answer.ensures.fault
+returns-in-Ok-clause-fault g c = ends_as (WantsWork c.args.session.now.database c.args.session.now.line (saying_of c.in-Ok.said)) (BytesWantWork c.args.session.now.database c.args.session.now.line c.args.line.now) c.args.session.now c.said_answer.new.session c.said_answer.result
+    (λ work. (saying_of c.in-Ok.said, read_says _ c.args.line.now c.read_line.result c.in-Ok.said c.in-Ok.is c.read_line.ensures.said, work)) c.said_answer.ensures.fault
+
+pub returns-in-Ok-clause-whole : goal.returns-in-Ok-clause-whole
+returns-in-Ok-clause-whole g c = c.said_answer.ensures.whole
+
+pub returns-in-Ok-clause-plain : goal.returns-in-Ok-clause-plain
+returns-in-Ok-clause-plain g c = c.said_answer.ensures.plain
 
 pub returns-in-Err-clause-may : goal.returns-in-Err-clause-may
 returns-in-Err-clause-may g c = inl refl
 
 pub returns-in-Err-clause-stays : goal.returns-in-Err-clause-stays
 returns-in-Err-clause-stays g c = (refl, c.requires.closed)
+
+pub returns-in-Err-clause-whole : goal.returns-in-Err-clause-whole
+returns-in-Err-clause-whole g c = refl

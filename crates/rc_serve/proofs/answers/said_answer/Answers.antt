@@ -1,7 +1,10 @@
-use Rattle.std.proofs.Common.{ap, refl}
-use Rattle.rc_session.specs.Commands.{command_of}
+use Rattle.std.proofs.Common.{[], ap, refl}
+use Rattle.rc_session.specs.Commands.{command_of, with_events}
 use Rattle.rc_lines.specs.Says.{saying_of}
-use Rattle.rc_serve.proofs.Steps.{may_stay, not_step, step_may, step_met}
+use Rattle.rc_board.specs.Working.{HasWork}
+use Rattle.rc_serve.specs.Meeting.{WantsWork}
+use Rattle.rc_serve.proofs.Hindering.{ends_as, shown_spoils}
+use Rattle.rc_serve.proofs.Steps.{may_stay, not_step, step_may, step_met, step_wants}
 use Rattle.rc_serve.proofs.answers.said_answer.Goals as goal
 
 pub step_answer-requires-clause-closed : goal.step_answer-requires-clause-closed
@@ -23,12 +26,21 @@ pub returns-in-Step-clause-stays : goal.returns-in-Step-clause-stays
 returns-in-Step-clause-stays g c = c.step_answer.ensures.stays
 
 pub returns-in-Step-clause-fault : goal.returns-in-Step-clause-fault
-returns-in-Step-clause-fault g c = c.step_answer.ensures.fault
+returns-in-Step-clause-fault g c = ends_as (HasWork c.args.session.now.database c.args.session.now.line (with_events (command_of c.in-Step.step) [])) (WantsWork c.args.session.now.database c.args.session.now.line (saying_of c.args.said.now)) c.args.session.now c.step_answer.new.session c.step_answer.result
+    (step_wants (saying_of c.args.said.now) (command_of c.in-Step.step) c.args.session.now.database c.args.session.now.line (ap saying_of c.in-Step.is) (c.requires.eventless (command_of c.in-Step.step) (ap saying_of c.in-Step.is))) c.step_answer.ensures.fault
+
+pub returns-in-Step-clause-whole : goal.returns-in-Step-clause-whole
+returns-in-Step-clause-whole g c = c.step_answer.ensures.whole
+
+pub returns-in-Step-clause-plain : goal.returns-in-Step-clause-plain
+returns-in-Step-clause-plain g c = c.step_answer.ensures.plain
 
 pub returns-in_default : goal.returns-in_default
 returns-in_default g c = record {
   met = c.shown.ensures.met;
   may = may_stay c.args.session.now.database c.args.session.now.line (saying_of c.args.said.now);
   stays = (refl, c.requires.closed);
-  fault = c.shown.ensures.fault;
+  fault = ends_as ⊥ (WantsWork c.args.session.now.database c.args.session.now.line (saying_of c.args.said.now)) c.args.session.now c.args.session.now c.shown.result (λ none. absurd none) c.shown.ensures.fault;
+  whole = shown_spoils c.args.session.now c.shown.result c.shown.ensures.fault;
+  plain = c.shown.ensures.fault;
 }

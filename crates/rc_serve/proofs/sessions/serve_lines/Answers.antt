@@ -1,8 +1,9 @@
-use Rattle.std.proofs.Common.{rules, sym, subst, true, false}
-use Rattle.rc_noted.specs.Noting.{inner_of}
+use Rattle.std.proofs.Common.{◌≡◌, ◌∙◌, rules, sym, subst, true, false}
+use Rattle.rc_noted.specs.Noting.{HasFailed, inner_of}
 use Rattle.rc_noted.specs.Taking.{Held}
+use Rattle.rc_serve.specs.Faults.{IsServeFault, Spoils}
 use Rattle.rc_serve.specs.Serving.{IsServing, ServesFront}
-use Rattle.rc_serve.proofs.Lines.{left_less, serves_all, serves_front, serving_none, serving_on, takes_all, takes_next, takes_stop, where_more}
+use Rattle.rc_serve.proofs.Lines.{fault_on, left_less, serves_all, serves_front, serving_none, serving_on, spoils_on, takes_all, takes_next, takes_stop, where_more}
 use Rattle.rc_serve.proofs.sessions.serve_lines.Goals as goal
 
 pub loop-lines-init : goal.loop-lines-init
@@ -20,7 +21,7 @@ loop-lines-preserved g c =
       reads = c.in_ok-next_answer.ensures.reader;
       writes = c.in_ok-next_answer.ensures.writer;
       flushed = λ was. c.in_ok-next_answer.ensures.flushed (c.loop-lines.invariant.flushed was);
-      serving = serving_on (g.R.Read.remaining (inner_of c.args.reader.now)) (g.R.Read.remaining (inner_of c.loop-lines.reader)) (g.R.Read.remaining (inner_of c.next_answer.new.reader)) c.loop-lines.lines c.next_answer.new.lines (g.W.Write.contents (inner_of c.args.writer.now)) (g.W.Write.contents (inner_of c.loop-lines.writer)) (g.W.Write.contents (inner_of c.next_answer.new.writer)) c.args.session.now c.loop-lines.session c.next_answer.new.session c.loop-lines.invariant.serving next c.in_ok-next_answer.ensures.stays c.in_ok-next_answer.ensures.within;
+      serving = serving_on (g.R.Read.remaining (inner_of c.args.reader.now)) (g.R.Read.remaining (inner_of c.loop-lines.reader)) (g.R.Read.remaining (inner_of c.next_answer.new.reader)) c.loop-lines.lines c.next_answer.new.lines (g.W.Write.contents (inner_of c.args.writer.now)) (g.W.Write.contents (inner_of c.loop-lines.writer)) (g.W.Write.contents (inner_of c.next_answer.new.writer)) c.args.session.now c.loop-lines.session c.next_answer.new.session c.loop-lines.invariant.serving next c.in_ok-next_answer.ensures.stays c.in_ok-next_answer.ensures.whole c.in_ok-next_answer.ensures.within;
     }
 
 pub loop-lines-smaller : goal.loop-lines-smaller
@@ -44,3 +45,18 @@ returns-in_err-next_answer-clause-begun g c =
 
 pub returns-in_err-next_answer-clause-taken : goal.returns-in_err-next_answer-clause-taken
 returns-in_err-next_answer-clause-taken g c = takes_all (g.R.Read.remaining (inner_of c.args.reader.now)) (g.R.Read.remaining (inner_of c.loop-lines.reader)) (g.R.Read.remaining (inner_of c.next_answer.new.reader)) c.loop-lines.lines c.next_answer.new.lines (g.W.Write.contents (inner_of c.args.writer.now)) (g.W.Write.contents (inner_of c.loop-lines.writer)) c.args.session.now c.loop-lines.session c.loop-lines.invariant.serving (takes_stop c.in_err-next_answer.field-0.0 (g.R.Read.remaining (inner_of c.loop-lines.reader)) (g.R.Read.remaining (inner_of c.next_answer.new.reader)) c.loop-lines.lines c.next_answer.new.lines (g.W.Write.contents (inner_of c.loop-lines.writer)) (g.W.Write.contents (inner_of c.next_answer.new.writer)) c.loop-lines.session c.next_answer.new.session c.in_err-next_answer.ensures.stopped) c.in_err-next_answer.ensures.within
+
+pub returns-clause-whole : goal.returns-clause-whole
+returns-clause-whole g c = c.in_ok-next_answer.ensures.whole ∙ c.loop-lines.invariant.serving.whole
+
+pub returns-in_err-next_answer-clause-fault : goal.returns-in_err-next_answer-clause-fault
+returns-in_err-next_answer-clause-fault g c =
+    let wrong : IsServeFault (HasFailed c.next_answer.new.reader) (HasFailed c.next_answer.new.writer) (c.args.session.now.spoiled ≡ true) c.in_err-next_answer.field-0.0 =
+    fault_on _ _ c.in_err-next_answer.field-0.0 c.args.session.now c.loop-lines.session c.loop-lines.invariant.serving.whole c.in_err-next_answer.ensures.fault in
+    search rules
+
+pub returns-in_err-next_answer-clause-whole : goal.returns-in_err-next_answer-clause-whole
+returns-in_err-next_answer-clause-whole g c =
+    let spoils : Spoils c.in_err-next_answer.field-0.0 c.args.session.now c.next_answer.new.session =
+    spoils_on c.in_err-next_answer.field-0.0 c.args.session.now c.loop-lines.session c.next_answer.new.session c.loop-lines.invariant.serving.whole c.in_err-next_answer.ensures.whole in
+    search rules
