@@ -1,4 +1,4 @@
-//! Small sets and graphs that tests share.
+//! Small sets and graphs that tests share, and how a table of rows is told.
 #![tactic(auto)]
 
 ghost use Rattle.std.specs.Prelude.{◌≡◌, ◌≤◌, length, IfOk};
@@ -6,6 +6,7 @@ ghost use Rattle.std.specs.Prelude.{◌≡◌, ◌≤◌, length, IfOk};
 use rc_graph::{Draft, Graph};
 use rc_set::{NoMem, Set};
 use std::alloc::Global;
+use std::io;
 use std::test::Fail;
 
 /// The services of the sample, in the order of their names.
@@ -36,10 +37,16 @@ pub fn set_of(alloc: Global, bound: u16, ids: &[u16]) -> Result<Set, NoMem>
     Ok(set)
 }
 
-/// The graph of these pairs, without those that name what is no service.
-pub fn graph_of(alloc: Global, services: u16, pairs: &[(u16, u16)]) -> Result<Graph, Fail>
+/// Whether these are the ids of a set, ascending.
+pub fn has_ids(alloc: Global, set: &Set, ids: &[u16]) -> Result<bool, NoMem> {
+    let found = set.ids(alloc)?;
+    Ok(found.as_slice() == ids)
+}
+
+/// The draft of these pairs, without those that name what is no service.
+pub fn draft_of(alloc: Global, services: u16, pairs: &[(u16, u16)]) -> Result<Draft, NoMem>
     requires { services ≤ 4096 }
-    ensures { IfOk result (λ graph. length graph ≡ services) }
+    ensures { IfOk result (λ draft. length draft ≡ services) }
 {
     let mut draft = Draft::new(alloc, services)?;
     for (service, needed) in pairs {
@@ -47,6 +54,15 @@ pub fn graph_of(alloc: Global, services: u16, pairs: &[(u16, u16)]) -> Result<Gr
             draft.need(*service, *needed)?;
         }
     }
+    Ok(draft)
+}
+
+/// The graph of these pairs, without those that name what is no service.
+pub fn graph_of(alloc: Global, services: u16, pairs: &[(u16, u16)]) -> Result<Graph, Fail>
+    requires { services ≤ 4096 }
+    ensures { IfOk result (λ graph. length graph ≡ services) }
+{
+    let draft = draft_of(alloc, services, pairs)?;
     Ok(draft.finish()?)
 }
 
@@ -59,4 +75,12 @@ pub fn widest_fan(alloc: Global) -> Result<Graph, Fail>
         pairs.push((service, 0))?;
     }
     graph_of(alloc, 4096, &pairs)
+}
+
+/// Tells the number of a row that is wrong, and nothing of one that is right.
+pub fn show_row(rt: &impl Print, number: usize, is_right: bool) -> io::Result<()> {
+    if is_right {
+        return Ok(());
+    }
+    print!(rt; ", row {number} is wrong")
 }

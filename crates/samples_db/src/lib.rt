@@ -1,10 +1,15 @@
-//! Small databases that tests share.
+//! Small databases that tests share, whether two databases are the same, and how bundles and edits are printed.
 #![tactic(auto)]
 
-ghost use Rattle.std.specs.Prelude.{◌≤◌};
+ghost use Rattle.std.specs.Prelude.{◌<◌, ◌≤◌, length};
 
-use rc_db::{Db, MAX_BUNDLES, Parts, Service, Table};
-use rc_names::{Kind, MAX_NAMES, Name, Names};
+mod same;
+mod show;
+
+pub use crate::same::is_same;
+pub use crate::show::{name_of, show_edit, show_names, show_set, show_words};
+use rc_db::{Db, MAX_BUNDLES, NoMem, Parts, Service, Table};
+use rc_names::{Kind, MAX_NAMES, Name, NameFault, Names};
 use samples::{LOG, SAMPLE, WEB, graph_of, set_of};
 use std::alloc::Global;
 use std::test::Fail;
@@ -40,30 +45,51 @@ pub fn db_of(
     needs: &[(u16, u16)],
     bundles: &[Bundle],
 ) -> Result<Db, Fail> {
-    let names = names_of(alloc, rows)?;
+    let parts = parts_of(alloc, rows, rows, needs, bundles)?;
+    Ok(Db::join(parts)?)
+}
+
+/// The parts of a database: the names of some services, and the others of these.
+pub fn parts_of(
+    alloc: Global,
+    named: &[Row],
+    rows: &[Row],
+    needs: &[(u16, u16)],
+    bundles: &[Bundle],
+) -> Result<Parts, Fail> {
+    let names = names_of(alloc, named)?;
     let services = services_of(alloc, rows)?;
     let graph = graph_of(alloc, names.len(), needs)?;
     let table = table_of(alloc, names.len(), bundles)?;
-    let parts = Parts {
+    Ok(Parts {
         names,
         services,
         graph,
         table,
-    };
-    Ok(Db::join(parts)?)
+    })
 }
 
-fn names_of(alloc: Global, rows: &[Row]) -> Result<Names, Fail> {
+fn names_of(alloc: Global, rows: &[Row]) -> Result<Names, NameFault> {
     let mut names = Names::new(alloc);
     for (name, _, _, _) in rows {
         if names.len() < MAX_NAMES {
-            names.add(Name::read(alloc, name)?)?;
+            add_name(alloc, &mut names, name)?;
         }
     }
     Ok(names)
 }
 
-fn services_of(alloc: Global, rows: &[Row]) -> Result<Vec<Service>, Fail> {
+fn add_name(alloc: Global, names: &mut Names, text: &str) -> Result<(), NameFault>
+    requires { length names.old < 4096 }
+{
+    let name = Name::read(alloc, text)?;
+    match names.add(name) {
+        Ok(_) => Ok(()),
+        Err(_) => Err(NameFault::Memory),
+    }
+}
+
+fn services_of(alloc: Global, rows: &[Row]) -> Result<Vec<Service>, NoMem> {
     let mut services = Vec::new(alloc);
     for (_, kind, essential, producer_for) in rows {
         services.push(service_of(alloc, *kind, *essential, *producer_for)?)?;
@@ -76,19 +102,21 @@ fn service_of(
     kind: Kind,
     essential: bool,
     producer_for: Option<u16>,
-) -> Result<Service, Fail> {
+) -> Result<Service, NoMem> {
+    let text_up = text_of(alloc, kind == Kind::Oneshot)?;
+    let text_down = text_of(alloc, kind == Kind::Oneshot && !essential)?;
     Ok(Service {
         kind,
         essential,
         limit_up: 0,
         limit_down: 0,
-        text_up: text_of(alloc, kind == Kind::Oneshot)?,
-        text_down: text_of(alloc, kind == Kind::Oneshot && !essential)?,
+        text_up,
+        text_down,
         producer_for,
     })
 }
 
-fn text_of(alloc: Global, has_text: bool) -> Result<Option<String>, Fail> {
+fn text_of(alloc: Global, has_text: bool) -> Result<Option<String>, NoMem> {
     if has_text {
         Ok(Some(String::from_str(alloc, "true\n")?))
     } else {
@@ -110,7 +138,7 @@ pub fn table_of(alloc: Global, bound: u16, bundles: &[Bundle]) -> Result<Table, 
 }
 
 /// These words as owned text.
-pub fn words_of(alloc: Global, words: &[&str]) -> Result<Vec<String>, Fail> {
+pub fn words_of(alloc: Global, words: &[&str]) -> Result<Vec<String>, NoMem> {
     let mut texts = Vec::new(alloc);
     for word in words {
         texts.push(String::from_str(alloc, word)?)?;

@@ -7,4 +7,4 @@ mod work;
 
 pub use crate::draw::{Change, Draw, drawn_needs};
 pub use crate::plain::{End, end_of};
-pub use crate::work::carry_out;
+pub use crate::work::{carry_out, run_between};

@@ -22,17 +22,37 @@ pub fn carry_out(
     change: &Change,
     workers: u16,
 ) -> Result<Option<Finish>, NoMem> {
-    let from = set_of(alloc, change.graph.len(), &change.up)?;
-    let to = set_of(alloc, change.graph.len(), &change.to)?;
-    if !change.graph.closed(&from) || !change.graph.closed(&to) {
+    let begun = run_between(
+        alloc,
+        &change.graph,
+        &change.up,
+        &change.to,
+        change.deadline,
+    )?;
+    let Some(mut run) = begun else {
         return Ok(None);
-    }
-    let mut run = open_between(alloc, &change.graph, &from, &to, change.deadline)?;
+    };
     let worked = work(alloc, draw, &mut run, change, workers)?;
     if worked.is_err() || !run.settled() {
         return Ok(None);
     }
     Ok(Some(run.finish().take_apart()))
+}
+
+/// A run from some services to others, or nothing where some of these lack what they need.
+pub fn run_between(
+    alloc: Global,
+    graph: &Graph,
+    from: &[u16],
+    to: &[u16],
+    deadline: Option<u64>,
+) -> Result<Option<Run>, NoMem> {
+    let from = set_of(alloc, graph.len(), from)?;
+    let to = set_of(alloc, graph.len(), to)?;
+    if !graph.closed(&from) || !graph.closed(&to) {
+        return Ok(None);
+    }
+    Ok(Some(open_between(alloc, graph, &from, &to, deadline)?))
 }
 
 fn open_between(

@@ -2,18 +2,20 @@
 
 ghost use Rattle.std.specs.Prelude.{◌≤◌};
 
+use crate::ends::make;
 use crate::plain::{Plain, is_legal};
-use crate::sample::run_between;
 use rc_core::{Event, Outcome};
 use rc_graph::Graph;
+use rc_set::NoMem;
 use samples::graph_of;
+use samples_drawn::run_between;
 use std::alloc::Global;
-use std::process::Abort;
+use std::io;
 use std::test::Fail;
 
-// Takes and ends of each service by workers 1 and 2.
-fn alphabet(alloc: Global, services: u16) -> Result<Vec<Event>, Fail> {
-    let mut events = Vec::new(alloc);
+/// Takes and ends of each service by workers 1 and 2, and further events.
+fn alphabet(alloc: Global, services: u16, further: &[Event]) -> Result<Vec<Event>, NoMem> {
+    let mut events = Vec::from_slice(alloc, further)?;
     for service in 0..services {
         events.push(Event::Take(1, service))?;
         events.push(Event::Take(2, service))?;
@@ -32,14 +34,15 @@ struct Trial<'a> {
     alphabet: &'a [Event],
 }
 
-// Tries each event after each list of at most so many legal ones. A refused event changes nothing, so these are all lists.
-fn try_all(
-    rt: &impl Abort,
-    alloc: Global,
-    plain: &Plain,
-    alphabet: &[Event],
-    length: u32,
-) -> Result<(), Fail>
+/// How many lists were tried, and how many of them were taken or refused otherwise than the plain program says.
+#[derive(Clone, Copy, Drop)]
+struct Tally {
+    tried: u32,
+    wrong: u32,
+}
+
+/// Tries each event after each list of at most so many legal ones. A refused event changes nothing, so these are all lists.
+fn try_all(alloc: Global, plain: &Plain, alphabet: &[Event], length: u32) -> Result<Tally, Fail>
     requires { plain.now.services ≤ 4096 }
 {
     let graph = graph_of(alloc, plain.services, plain.needs)?;
@@ -48,103 +51,141 @@ fn try_all(
         plain,
         alphabet,
     };
+    Ok(try_trial(alloc, &trial, length)?)
+}
+
+fn try_trial(alloc: Global, trial: &Trial, length: u32) -> Result<Tally, NoMem> {
     let mut made = Vec::new(alloc);
-    try_after(rt, alloc, &trial, &mut made, length)
+    let mut tally = Tally { tried: 0, wrong: 0 };
+    try_after(alloc, trial, &mut made, length, &mut tally)?;
+    Ok(tally)
 }
 
 fn try_after(
-    rt: &impl Abort,
     alloc: Global,
     trial: &Trial,
     made: &mut Vec<Event>,
     more: u32,
-) -> Result<(), Fail> {
+    tally: &mut Tally,
+) -> Result<(), NoMem> {
     for event in trial.alphabet {
-        if try_one(rt, alloc, trial, made, *event)? && more > 0 {
+        if try_one(alloc, trial, made, *event, tally)? && more > 0 {
             made.push(*event)?;
-            try_after(rt, alloc, trial, made, more - 1)?;
+            try_after(alloc, trial, made, more - 1, tally)?;
             made.pop();
         }
     }
     Ok(())
 }
 
-// Makes the events of a list, and then tries one more. True: it is legal.
+/// Tries one more event after a list. True: it is legal.
 fn try_one(
-    rt: &impl Abort,
     alloc: Global,
     trial: &Trial,
     made: &[Event],
     event: Event,
-) -> Result<bool, Fail> {
-    let plain = trial.plain;
-    let mut run = run_between(
-        rt,
-        alloc,
-        trial.graph,
-        plain.up,
-        plain.target,
-        plain.deadline,
-    )?;
-    for earlier in made {
-        run.step(*earlier)?;
+    tally: &mut Tally,
+) -> Result<bool, NoMem> {
+    let legal = is_legal(trial.plain, made, event);
+    let taken = is_taken(alloc, trial, made, event)?;
+    tally.tried = tally.tried.saturating_add(1);
+    if taken != Some(legal) {
+        tally.wrong = tally.wrong.saturating_add(1);
     }
-    let legal = is_legal(plain, made, event);
-    assert_eq!(rt; run.step(event).is_ok(), legal, "{event:?} after {made:?}");
-    assert_eq!(rt; run.trace().len(), made.len() + usize::from(legal));
     Ok(legal)
 }
 
-#[test]
-fn a_chain_that_comes_up_or_is_stopped(rt: HostRuntime) -> Result<(), Fail> {
-    let plain = Plain {
-        services: 2,
-        needs: &[(0, 1)],
-        up: &[],
-        target: &[0, 1],
-        deadline: Some(5),
+/// Whether a run takes one more event after these, or nothing where these are refused or its trace is not as it must be.
+fn is_taken(
+    alloc: Global,
+    trial: &Trial,
+    made: &[Event],
+    event: Event,
+) -> Result<Option<bool>, NoMem> {
+    let plain = trial.plain;
+    let run = run_between(alloc, trial.graph, plain.up, plain.target, plain.deadline)?;
+    let Some(mut run) = run else {
+        return Ok(None);
     };
-    let mut events = alphabet(rt.alloc(), 2)?;
-    events.push(Event::Stop(2, 4))?;
-    events.push(Event::Stop(1, 5))?;
-    events.push(Event::Take(0, 1))?;
-    events.push(Event::Take(65, 1))?;
-    events.push(Event::Take(1, 2))?;
-    try_all(&rt, rt.alloc(), &plain, &events, 5)
+    if make(&mut run, made).is_err() {
+        return Ok(None);
+    }
+    let taken = run.step(event).is_ok();
+    let is_traced = run.trace().len() == made.len() + usize::from(taken);
+    Ok(is_traced.then_some(taken))
 }
 
-#[test]
-fn a_fork_that_goes_down(rt: HostRuntime) -> Result<(), Fail> {
-    let plain = Plain {
-        services: 3,
-        needs: &[(1, 0), (2, 0)],
-        up: &[0, 1, 2],
-        target: &[],
-        deadline: None,
-    };
-    try_all(
-        &rt,
-        rt.alloc(),
-        &plain,
-        alphabet(rt.alloc(), 3)?.as_slice(),
+/// What is shown, the change, further events that are tried, and how long the lists are.
+type Change<'a> = (&'a str, Plain<'a>, &'a [Event], u32);
+
+static CHANGES: [Change; 3] = [
+    (
+        "a chain that comes up or is stopped",
+        Plain {
+            services: 2,
+            needs: &[(0, 1)],
+            up: &[],
+            target: &[0, 1],
+            deadline: Some(5),
+        },
+        &[
+            Event::Stop(2, 4),
+            Event::Stop(1, 5),
+            Event::Take(0, 1),
+            Event::Take(65, 1),
+            Event::Take(1, 2),
+        ],
+        5,
+    ),
+    (
+        "a fork that goes down",
+        Plain {
+            services: 3,
+            needs: &[(1, 0), (2, 0)],
+            up: &[0, 1, 2],
+            target: &[],
+            deadline: None,
+        },
+        &[],
         7,
-    )
+    ),
+    (
+        "services that go down before another comes up",
+        Plain {
+            services: 3,
+            needs: &[(1, 0)],
+            up: &[0, 1],
+            target: &[0, 2],
+            deadline: None,
+        },
+        &[],
+        7,
+    ),
+];
+
+pub(crate) fn show_legality(rt: &(impl Print + AllocGlobal)) -> Result<(), Fail> {
+    show_changes(rt, &CHANGES)
 }
 
-#[test]
-fn services_that_go_down_before_another_comes_up(rt: HostRuntime) -> Result<(), Fail> {
-    let plain = Plain {
-        services: 3,
-        needs: &[(1, 0)],
-        up: &[0, 1],
-        target: &[0, 2],
-        deadline: None,
-    };
-    try_all(
-        &rt,
-        rt.alloc(),
-        &plain,
-        alphabet(rt.alloc(), 3)?.as_slice(),
-        7,
+fn show_changes(rt: &(impl Print + AllocGlobal), changes: &[Change]) -> Result<(), Fail> {
+    for (what, plain, further, length) in changes {
+        let tally = tried(rt.alloc(), plain, further, *length)?;
+        show_tally(rt, what, tally)?;
+    }
+    Ok(())
+}
+
+fn tried(alloc: Global, plain: &Plain, further: &[Event], length: u32) -> Result<Tally, Fail> {
+    let alphabet = alphabet(alloc, plain.services, further)?;
+    if plain.services > 4096 {
+        return Err(Fail::new("too many services"));
+    }
+    try_all(alloc, plain, &alphabet, length)
+}
+
+fn show_tally(rt: &impl Print, what: &str, tally: Tally) -> io::Result<()> {
+    println!(rt;
+        "{what}: {} lists, taken or refused otherwise than the rules say: {}",
+        tally.tried, tally.wrong
     )
 }

@@ -7,14 +7,14 @@ mod show;
 
 use crate::Command::{Add, Bundles, CompareCopy, Delete, SinceFirst};
 use crate::book::Book;
-use crate::show::{
-    show_bundles, show_copy, show_count, show_outcome, show_since_first, show_words,
-};
-use rc_db::{Db, MAX_BUNDLES};
+use crate::show::{show_bundles, show_copy, show_count, show_outcome, show_since_first};
+use rc_bundle::{BundleFault, Edit};
+use rc_db::{Db, MAX_BUNDLES, NoMem};
 use rc_names::Name;
 use samples::{LOG, SAMPLE};
-use samples_db::{SERVICES, db_of, sample, words_of};
-use std::alloc::Global;
+use samples_db::{SERVICES, db_of, sample, show_words, words_of};
+use std::alloc::{AllocError, Global};
+use std::io;
 use std::test::Fail;
 
 /// A command on a table of bundles.
@@ -80,10 +80,7 @@ fn main(rt: HostRuntime) -> Result<(), Fail> {
 
 /// The services of the sample, with as many bundles as there may be.
 fn full(alloc: Global) -> Result<Db, Fail> {
-    let mut names = Vec::new(alloc);
-    for place in 0..MAX_BUNDLES {
-        names.push(format!(in alloc; "b{place}")?)?;
-    }
+    let names = numbered(alloc)?;
     let log: &[u16] = &[LOG];
     let mut bundles = Vec::new(alloc);
     for name in &names {
@@ -92,17 +89,26 @@ fn full(alloc: Global) -> Result<Db, Fail> {
     db_of(alloc, &SERVICES, &SAMPLE, &bundles)
 }
 
+/// `b0` and on, one for each bundle that there may be.
+fn numbered(alloc: Global) -> Result<Vec<String>, NoMem> {
+    let mut names = Vec::new(alloc);
+    for place in 0..MAX_BUNDLES {
+        names.push(format!(in alloc; "b{place}")?)?;
+    }
+    Ok(names)
+}
+
 fn run(rt: &(impl Print + AllocGlobal), db: Db, commands: &[Command<'_>]) -> Result<(), Fail> {
     let mut book = Book::new(rt.alloc(), db)?;
-    show_count(rt, &book)?;
-    obey_all(rt, &mut book, commands)
+    Ok(obey_all(rt, &mut book, commands)?)
 }
 
 fn obey_all(
     rt: &(impl Print + AllocGlobal),
     book: &mut Book,
     commands: &[Command<'_>],
-) -> Result<(), Fail> {
+) -> io::Result<()> {
+    show_count(rt, book)?;
     for command in commands {
         obey(rt, book, *command)?;
     }
@@ -110,46 +116,54 @@ fn obey_all(
 }
 
 /// One command, in a line.
-fn obey(
-    rt: &(impl Print + AllocGlobal),
-    book: &mut Book,
-    command: Command<'_>,
-) -> Result<(), Fail> {
+fn obey(rt: &(impl Print + AllocGlobal), book: &mut Book, command: Command<'_>) -> io::Result<()> {
     match command {
-        Add(name, contents, force) => obey_add(rt, book, name, contents, force),
-        Delete(names, force) => obey_delete(rt, book, names, force),
-        Bundles => Ok(show_bundles(rt, book)?),
-        SinceFirst => Ok(show_since_first(rt, book)?),
-        CompareCopy => Ok(show_copy(rt, book)?),
+        Add(name, contents, force) => {
+            print!(rt; "add{} {name}", flag(force))?;
+            show_words(rt, contents)?;
+            let outcome = added(rt.alloc(), book, name, contents, force);
+            show_outcome(rt, book.db(), &outcome)
+        }
+        Delete(names, force) => {
+            print!(rt; "delete{}", flag(force))?;
+            show_words(rt, names)?;
+            let outcome = deleted(rt.alloc(), book, names, force);
+            show_outcome(rt, book.db(), &outcome)
+        }
+        Bundles => show_bundles(rt, book),
+        SinceFirst => show_since_first(rt, book),
+        CompareCopy => show_copy(rt, book),
     }
 }
 
-fn obey_add(
-    rt: &(impl Print + AllocGlobal),
+fn added(
+    alloc: Global,
     book: &mut Book,
     name: &str,
     contents: &[&str],
     force: bool,
-) -> Result<(), Fail> {
-    print!(rt; "add{} {name}", flag(force))?;
-    show_words(rt, contents)?;
-    let name = Name::read(rt.alloc(), name)?;
-    let contents = words_of(rt.alloc(), contents)?;
-    let outcome = book.add(rt.alloc(), &name, &contents, force);
-    Ok(show_outcome(rt, book.db(), outcome)?)
+) -> Result<Edit, BundleFault> {
+    let name = named(alloc, name)?;
+    let contents = words_of(alloc, contents)?;
+    book.add(alloc, &name, &contents, force)
 }
 
-fn obey_delete(
-    rt: &(impl Print + AllocGlobal),
+fn deleted(
+    alloc: Global,
     book: &mut Book,
     names: &[&str],
     force: bool,
-) -> Result<(), Fail> {
-    print!(rt; "delete{}", flag(force))?;
-    show_words(rt, names)?;
-    let names = words_of(rt.alloc(), names)?;
-    let outcome = book.delete(rt.alloc(), &names, force);
-    Ok(show_outcome(rt, book.db(), outcome)?)
+) -> Result<Edit, BundleFault> {
+    let names = words_of(alloc, names)?;
+    book.delete(alloc, &names, force)
+}
+
+/// The name of a bundle. Those of the commands are names.
+fn named(alloc: Global, text: &str) -> Result<Name, NoMem> {
+    match Name::read(alloc, text) {
+        Ok(name) => Ok(name),
+        Err(_) => Err(AllocError),
+    }
 }
 
 fn flag(force: bool) -> &'static str {

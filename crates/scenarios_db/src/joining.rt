@@ -1,71 +1,60 @@
 //! Parts that fit together, and parts that do not.
 
-use rc_db::{Db, Parts, Service, Unfit};
-use rc_names::{MAX_NAMES, Name, Names};
-use samples::{LOG, SAMPLE, WEB, graph_of};
-use samples_db::{BUNDLES, Bundle, Row, SERVICES, table_of};
+use rc_db::{Db, Unfit};
+use samples::{LOG, SAMPLE, WEB};
+use samples_db::{BUNDLES, Bundle, SERVICES, parts_of};
 use std::alloc::Global;
+use std::io;
 use std::test::Fail;
 
-fn names_of(alloc: Global, rows: &[Row]) -> Result<Names, Fail> {
-    let mut names = Names::new(alloc);
-    for (name, _, _, _) in rows {
-        if names.len() < MAX_NAMES {
-            names.add(Name::read(alloc, name)?)?;
-        }
-    }
-    Ok(names)
-}
+/// What is shown, how many of the sample's services there are, the needs, and the bundles.
+type Row<'a> = (&'a str, usize, &'a [(u16, u16)], &'a [Bundle<'a>]);
 
-fn services_of(alloc: Global, rows: &[Row]) -> Result<Vec<Service>, Fail> {
-    let mut services = Vec::new(alloc);
-    for (_, kind, essential, producer_for) in rows {
-        services.push(Service {
-            kind: *kind,
-            essential: *essential,
-            limit_up: 0,
-            limit_down: 0,
-            text_up: None,
-            text_down: None,
-            producer_for: *producer_for,
-        })?;
-    }
-    Ok(services)
-}
+static ROWS: [Row; 4] = [
+    ("the sample", 5, &SAMPLE, &BUNDLES),
+    (
+        "a service list shorter than the names",
+        4,
+        &SAMPLE,
+        &BUNDLES,
+    ),
+    (
+        "a producer target that is not needed",
+        5,
+        &[(WEB, 0)],
+        &BUNDLES,
+    ),
+    (
+        "a bundle of a service's name",
+        5,
+        &SAMPLE,
+        &[("web", &[LOG])],
+    ),
+];
 
-// Why the sample is refused with these services, needs and bundles in place of its own.
-fn refusal(
-    alloc: Global,
-    services: &[Row],
-    needs: &[(u16, u16)],
-    bundles: &[Bundle],
-) -> Result<Option<Unfit>, Fail> {
-    let names = names_of(alloc, &SERVICES)?;
-    let services = services_of(alloc, services)?;
-    let graph = graph_of(alloc, names.len(), needs)?;
-    let table = table_of(alloc, 5, bundles)?;
-    let parts = Parts {
-        names,
-        services,
-        graph,
-        table,
-    };
+/// Why the parts of a row are refused, which have all names of the sample.
+fn refusal(alloc: Global, row: &Row) -> Result<Option<Unfit>, Fail> {
+    let (_, count, needs, bundles) = row;
+    let services = SERVICES.get(..*count).unwrap_or(&SERVICES);
+    let parts = parts_of(alloc, &SERVICES, services, needs, bundles)?;
     Ok(Db::join(parts).err())
 }
 
-#[test]
-fn parts_that_do_not_fit_are_refused(rt: HostRuntime) -> Result<(), Fail> {
-    let alloc = rt.alloc();
-    assert_eq!(rt; refusal(alloc, &SERVICES, &SAMPLE, &BUNDLES)?, None);
-    let fewer = refusal(alloc, &SERVICES[..4], &SAMPLE, &BUNDLES)?;
-    assert_eq!(rt; fewer, Some(Unfit), "a service list shorter than the names");
-    let without_need = refusal(alloc, &SERVICES, &[(WEB, 0)], &BUNDLES)?;
-    assert_eq!(rt;
-        without_need,
-        Some(Unfit),
-        "a producer target that isn't needed"
-    );
-    let named_twice = refusal(alloc, &SERVICES, &SAMPLE, &[("web", &[LOG])])?;
-    assert_eq!(rt; named_twice, Some(Unfit), "a bundle of a service's name");
+pub(crate) fn show_joined(rt: &(impl Print + AllocGlobal)) -> Result<(), Fail> {
+    show_rows(rt, &ROWS)
+}
+
+fn show_rows(rt: &(impl Print + AllocGlobal), rows: &[Row]) -> Result<(), Fail> {
+    for row in rows {
+        let found = refusal(rt.alloc(), row)?;
+        show_refusal(rt, row.0, found)?;
+    }
     Ok(())
+}
+
+fn show_refusal(rt: &impl Print, what: &str, found: Option<Unfit>) -> io::Result<()> {
+    match found {
+        Some(unfit) => println!(rt; "{what}: {unfit:?}"),
+        None => println!(rt; "{what}: fits"),
+    }
 }

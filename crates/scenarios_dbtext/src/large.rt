@@ -1,7 +1,7 @@
 //! Texts of the greatest sizes that are read, and of one more.
 
+use rc_db::NoMem;
 use std::alloc::Global;
-use std::test::Fail;
 
 /// What a text shows, what stands in front, a piece and how often it stands, and what stands behind.
 pub(crate) static LONG: [(&str, &str, &str, u32, &str); 20] = [
@@ -201,7 +201,7 @@ pub(crate) fn repeated(
     piece: &str,
     times: u32,
     behind: &str,
-) -> Result<String, Fail> {
+) -> Result<String, NoMem> {
     let mut text = String::from_str(alloc, front)?;
     for _ in 0..times {
         text.push_str(piece)?;
@@ -216,20 +216,35 @@ pub(crate) fn many_services(
     count: u32,
     services: u32,
     needs: Needs,
-) -> Result<String, Fail> {
+) -> Result<String, NoMem> {
     let mut text = format!(in alloc; "undorc-db 1\nservices {count}\n")?;
     for service in 0..services {
-        let name = 1_000_u32.saturating_add(service);
-        let head = format!(in alloc; "service s{name} longrun plain 0 0\nneeds")?;
-        text.push_str(head.as_str())?;
-        if let Some(need) = need_of(needs, service, services) {
-            let word = format!(in alloc; " s{}", 1_000_u32.saturating_add(need))?;
-            text.push_str(word.as_str())?;
-        }
-        text.push_str("\nproducer -\n")?;
+        push_service(alloc, &mut text, service, need_of(needs, service, services))?;
     }
     text.push_str("bundles 0\nend\n")?;
     Ok(text)
+}
+
+/// A longrun, and what it needs.
+fn push_service(
+    alloc: Global,
+    text: &mut String,
+    service: u32,
+    need: Option<u32>,
+) -> Result<(), NoMem> {
+    let name = 1_000_u32.saturating_add(service);
+    let head = format!(in alloc; "service s{name} longrun plain 0 0\nneeds")?;
+    text.push_str(head.as_str())?;
+    push_need(alloc, text, need)?;
+    text.push_str("\nproducer -\n")
+}
+
+fn push_need(alloc: Global, text: &mut String, need: Option<u32>) -> Result<(), NoMem> {
+    if let Some(need) = need {
+        let word = format!(in alloc; " s{}", 1_000_u32.saturating_add(need))?;
+        text.push_str(word.as_str())?;
+    }
+    Ok(())
 }
 
 /// Which of so many services one of them needs.
@@ -246,12 +261,16 @@ fn need_of(needs: Needs, service: u32, services: u32) -> Option<u32> {
 }
 
 /// A text of so many empty bundles under a count.
-pub(crate) fn many_bundles(alloc: Global, count: u32, bundles: u32) -> Result<String, Fail> {
+pub(crate) fn many_bundles(alloc: Global, count: u32, bundles: u32) -> Result<String, NoMem> {
     let mut text = format!(in alloc; "undorc-db 1\nservices 0\nbundles {count}\n")?;
     for bundle in 0..bundles {
-        let line = format!(in alloc; "bundle b{}\n", 1_000_u32.saturating_add(bundle))?;
-        text.push_str(line.as_str())?;
+        push_bundle(alloc, &mut text, bundle)?;
     }
     text.push_str("end\n")?;
     Ok(text)
+}
+
+fn push_bundle(alloc: Global, text: &mut String, bundle: u32) -> Result<(), NoMem> {
+    let line = format!(in alloc; "bundle b{}\n", 1_000_u32.saturating_add(bundle))?;
+    text.push_str(line.as_str())
 }

@@ -112,3 +112,82 @@ pub(crate) static TEXTS: [(&str, &str); 15] = [
         "undorc-db 1\nservices 1\nservice a oneshot plain 0 0\nneeds\nup 4\nend\n\ndown -\nbundles 0\nend",
     ),
 ];
+
+/// Lines in form, on which the next rows build.
+const FIRST: &str = "undorc-db 1\n";
+
+const SERVICE: &str = "undorc-db 1\nservices 1\n";
+
+const NEEDS: &str = "undorc-db 1\nservices 1\nservice a longrun plain 0 0\n";
+
+const PRODUCER: &str = "undorc-db 1\nservices 1\nservice a longrun plain 0 0\nneeds\n";
+
+const UP: &str = "undorc-db 1\nservices 1\nservice a oneshot plain 0 0\nneeds\n";
+
+const DOWN: &str = "undorc-db 1\nservices 1\nservice a oneshot plain 0 0\nneeds\nup 0\n\n";
+
+const BUNDLES: &str = "undorc-db 1\nservices 0\n";
+
+const BUNDLE: &str = "undorc-db 1\nservices 0\nbundles 1\n";
+
+const LAST: &str = "undorc-db 1\nservices 0\nbundles 0\n";
+
+/// Lines in form, and what stands in place of the next one.
+pub(crate) static NEARLY: [(&str, &str); 39] = [
+    ("", "undorc-db 01\n"),
+    ("", "undorc-db  1\n"),
+    ("", "undorc-db x\n"),
+    ("", "undorc-db 9\nservices"),
+    ("", "undorc-db 10000000000000000000001\n"),
+    (FIRST, "services\n"),
+    (FIRST, "services 04\n"),
+    (FIRST, "services -1\n"),
+    (FIRST, "services 99999999999999999999\n"),
+    (SERVICE, "services 4097\n"),
+    (SERVICE, "service a bundle plain 0 0\n"),
+    (SERVICE, "service a longrun normal 0 0\n"),
+    (SERVICE, "service a longrun plain 0 4294967296\n"),
+    (SERVICE, "service -a longrun plain 0 0\n"),
+    (SERVICE, "service a  longrun plain 0 0\n"),
+    (SERVICE, "service a longrun plain 0 0 \n"),
+    (NEEDS, "needs \n"),
+    (NEEDS, "needs  b\n"),
+    (NEEDS, "needs a/b\n"),
+    (NEEDS, "need b\n"),
+    (PRODUCER, "producer\n"),
+    (PRODUCER, "producer a b\n"),
+    (PRODUCER, "up 0\n\n"),
+    (UP, "producer -\n"),
+    (UP, "up -\n"),
+    (UP, "up 1\n\n"),
+    (UP, "up 1\n\0\n"),
+    (UP, "up 1\n\u{e9}\n"),
+    (UP, "up 65537\n"),
+    (DOWN, "down\n"),
+    (DOWN, "down 00\n\n"),
+    (DOWN, "down - \n"),
+    (BUNDLES, "end\n"),
+    (BUNDLE, "bundle\n"),
+    (BUNDLE, "bundle a \n"),
+    (BUNDLE, "bundle a  b\n"),
+    (LAST, "end"),
+    (LAST, "end \n"),
+    (LAST, "bundle a\n"),
+];
+
+/// What a text is called, and the text, whose lines are in form whatever follows.
+pub(crate) static WHOLE: [(&str, &str); 4] = [
+    ("the sample", SAMPLE),
+    (
+        "a text of nothing",
+        "undorc-db 1\nservices 0\nbundles 0\nend\n",
+    ),
+    (
+        "a text with the word end and newlines in a script",
+        "undorc-db 1\nservices 1\nservice a oneshot plain 4294967295 0\nneeds b a a\nup 9\n\nend\n-\nx\n\ndown 0\n\nbundles 0\nend\n",
+    ),
+    (
+        "a bundle with the name of a service",
+        "undorc-db 1\nservices 1\nservice \u{e9} oneshot plain 7 8\nneeds\nup 2\n\u{e9}\ndown -\nbundles 1\nbundle \u{e9}\nend\n",
+    ),
+];

@@ -1,12 +1,17 @@
 //! Plans of all modes.
 
-use rc_db::Db;
+ghost use Rattle.std.specs.Prelude.{◌≡◌, length};
+ghost use Rattle.rc_set.specs.Set.{Has};
+ghost use Rattle.rc_graph.specs.Closure.{IsClosed};
+
+use rc_db::{Db, NoMem};
 use rc_names::Kind;
 use rc_select::{Mode, Plan, PlanFault, Request, plan};
-use samples::{DB, LOG, NET, ROOT, WEB, set_of};
+use rc_set::Set;
+use samples::{DB, LOG, NET, ROOT, WEB, has_ids, set_of, show_row};
 use samples_db::{Row as Service, db_of, sample, words_of};
 use std::alloc::Global;
-use std::process::Abort;
+use std::io;
 use std::test::Fail;
 
 /// What goes down, what comes up and what is kept, or why there is no plan.
@@ -19,7 +24,7 @@ const ALL: [u16; 5] = [DB, LOG, NET, ROOT, WEB];
 
 const NONE: [u16; 0] = [];
 
-const PLANS: [Row; 16] = [
+static PLANS: [Row; 16] = [
     (
         Mode::Up,
         false,
@@ -150,12 +155,6 @@ const PLANS: [Row; 16] = [
     ),
 ];
 
-#[test]
-fn plans_of_the_sample(rt: HostRuntime) -> Result<(), Fail> {
-    let db = sample(rt.alloc())?;
-    must_plan(&rt, rt.alloc(), &db, &PLANS)
-}
-
 const APP: u16 = 0;
 
 const DISK: u16 = 1;
@@ -176,7 +175,7 @@ const HOUSE_NEEDS: [(u16, u16); 3] = [(APP, DISK), (DISK, POWER), (LAMP, POWER)]
 
 const HOUSE_ALL: [u16; 4] = [APP, DISK, LAMP, POWER];
 
-const HELD: [Row; 5] = [
+static HELD: [Row; 5] = [
     (
         Mode::Down,
         false,
@@ -219,50 +218,76 @@ const HELD: [Row; 5] = [
     ),
 ];
 
-#[test]
-fn essential_services_hold_up_what_they_need(rt: HostRuntime) -> Result<(), Fail> {
+pub(crate) fn show_sample(rt: &(impl Print + AllocGlobal)) -> Result<(), Fail> {
+    let db = sample(rt.alloc())?;
+    Ok(show_table(rt, "plans of the sample", &db, &PLANS)?)
+}
+
+pub(crate) fn show_house(rt: &(impl Print + AllocGlobal)) -> Result<(), Fail> {
     let db = db_of(rt.alloc(), &HOUSE, &HOUSE_NEEDS, &[])?;
-    must_plan(&rt, rt.alloc(), &db, &HELD)
+    let what = "essential services hold up what they need";
+    Ok(show_table(rt, what, &db, &HELD)?)
 }
 
-fn must_plan(rt: &impl Abort, alloc: Global, db: &Db, rows: &[Row]) -> Result<(), Fail> {
-    for row in rows {
-        must_be(rt, alloc, planned(rt, alloc, db, row)?, &row.5)?;
-    }
-    Ok(())
-}
-
-fn planned(
-    rt: &impl Abort,
-    alloc: Global,
+fn show_table(
+    rt: &(impl Print + AllocGlobal),
+    what: &str,
     db: &Db,
-    row: &Row,
-) -> Result<Result<Plan, PlanFault>, Fail> {
-    let request = Request {
+    rows: &[Row],
+) -> io::Result<()> {
+    print!(rt; "{what}: {} rows", rows.len())?;
+    for (number, row) in rows.iter().enumerate() {
+        let right = is_right(rt.alloc(), db, row)?;
+        show_row(rt, number, right)?;
+    }
+    println!(rt; "")
+}
+
+fn is_right(alloc: Global, db: &Db, row: &Row) -> Result<bool, NoMem> {
+    match (planned(alloc, db, row)?, &row.5) {
+        (Some(Ok(plan)), Ok((lower, raise, kept))) => is_plan(alloc, &plan, lower, raise, kept),
+        (Some(Err(found)), Err(fault)) => Ok(found == *fault),
+        _ => Ok(false),
+    }
+}
+
+fn is_plan(
+    alloc: Global,
+    plan: &Plan,
+    lower: &[u16],
+    raise: &[u16],
+    kept: &[u16],
+) -> Result<bool, NoMem> {
+    let lowers = has_ids(alloc, plan.lower(), lower)?;
+    let raises = has_ids(alloc, plan.raise(), raise)?;
+    let keeps = has_ids(alloc, plan.kept(), kept)?;
+    Ok(lowers && raises && keeps)
+}
+
+/// The plan of a row, or nothing where what is up lacks what it needs.
+fn planned(alloc: Global, db: &Db, row: &Row) -> Result<Option<Result<Plan, PlanFault>>, NoMem> {
+    let request = request_of(alloc, row)?;
+    let up = set_of(alloc, db.names().len(), row.4)?;
+    if !db.graph().closed(&up) {
+        return Ok(None);
+    }
+    Ok(Some(plan_on(alloc, db, &up, &request)))
+}
+
+fn request_of(alloc: Global, row: &Row) -> Result<Request, NoMem> {
+    Ok(Request {
         mode: row.0,
         prune: row.1,
         all: row.2,
         names: words_of(alloc, row.3)?,
         limit: 0,
-    };
-    let up = set_of(alloc, db.names().len(), row.4)?;
-    assert!(rt; db.graph().closed(&up));
-    Ok(plan(alloc, db, db.table(), &up, &request))
+    })
 }
 
-fn must_be(
-    rt: &impl Abort,
-    alloc: Global,
-    outcome: Result<Plan, PlanFault>,
-    want: &Want,
-) -> Result<(), Fail> {
-    match (outcome, want) {
-        (Ok(plan), Ok((lower, raise, kept))) => {
-            assert_eq!(rt; plan.lower().ids(alloc)?.as_slice(), *lower);
-            assert_eq!(rt; plan.raise().ids(alloc)?.as_slice(), *raise);
-            assert_eq!(rt; plan.kept().ids(alloc)?.as_slice(), *kept);
-        }
-        (outcome, want) => assert_eq!(rt; outcome.err(), want.err()),
-    }
-    Ok(())
+/// What a plan promises is not asked here.
+fn plan_on(alloc: Global, db: &Db, up: &Set, request: &Request) -> Result<Plan, PlanFault>
+    requires bound { length up.now ≡ length db.now.names }
+    requires closed { IsClosed db.now.needs (Has up.now) }
+{
+    plan(alloc, db, db.table(), up, request)
 }

@@ -6,10 +6,11 @@ mod show;
 use crate::Query::{
     AllDependencies, Atomics, Contents, Dependencies, Flags, KindOf, Limit, List, Pipeline, Script,
 };
-use crate::show::{show, show_ids, show_names, show_text, show_words};
+use crate::show::{show, show_ids, show_list, show_text};
 use rc_db::{Db, Which};
 use rc_graph::Way;
-use samples_db::{sample, words_of};
+use samples_db::{sample, show_words, words_of};
+use std::io;
 use std::test::Fail;
 
 /// A query, with its words and the way where it has one.
@@ -70,70 +71,74 @@ static OF_MORE: [Query; 13] = [
 
 fn main(rt: HostRuntime) -> Result<(), Fail> {
     let db = sample(rt.alloc())?;
+    Ok(ask_all(&rt, &db)?)
+}
+
+fn ask_all(rt: &(impl Print + AllocGlobal), db: &Db) -> io::Result<()> {
     for query in &OF_ONE_NAME {
-        ask_of_one(&rt, &db, *query)?;
+        ask_of_one(rt, db, *query)?;
     }
     for query in &OF_MORE {
-        ask_of_more(&rt, &db, *query)?;
+        ask_of_more(rt, db, *query)?;
     }
     Ok(())
 }
 
 /// A query of one name, and its answer.
-fn ask_of_one(rt: &(impl Print + AllocGlobal), db: &Db, query: Query<'_>) -> Result<(), Fail> {
+fn ask_of_one(rt: &(impl Print + AllocGlobal), db: &Db, query: Query<'_>) -> io::Result<()> {
     match query {
         KindOf(name) => {
             print!(rt; "kind {name}:")?;
-            Ok(show(rt, db.kind(name))?)
+            show(rt, db.kind(name))
         }
         Limit(name) => {
             print!(rt; "limit {name}:")?;
-            Ok(show(rt, db.limit(name, Way::Raise))?)
+            show(rt, db.limit(name, Way::Raise))
         }
         Flags(name) => {
             print!(rt; "flags {name}: essential")?;
-            Ok(show(rt, db.flags(name))?)
+            show(rt, db.flags(name))
         }
         Contents(name) => {
             print!(rt; "contents {name}:")?;
-            Ok(show_ids(rt, db, db.contents(rt.alloc(), name))?)
+            show_ids(rt, db, db.contents(rt.alloc(), name))
         }
         Pipeline(name) => {
             print!(rt; "pipeline {name}:")?;
-            Ok(show_ids(rt, db, db.pipeline(rt.alloc(), name))?)
+            show_ids(rt, db, db.pipeline(rt.alloc(), name))
         }
         Script(name, way) => {
             print!(rt; "script {name} {way:?}:")?;
-            Ok(show_text(rt, db.script(rt.alloc(), name, way))?)
+            show_text(rt, db.script(rt.alloc(), name, way))
         }
         _ => Ok(()),
     }
 }
 
 /// A query of any number of names, and its answer.
-fn ask_of_more(rt: &(impl Print + AllocGlobal), db: &Db, query: Query<'_>) -> Result<(), Fail> {
+fn ask_of_more(rt: &(impl Print + AllocGlobal), db: &Db, query: Query<'_>) -> io::Result<()> {
     match query {
         Dependencies(names, way) => {
             print!(rt; "dependencies {way:?}")?;
             show_words(rt, names)?;
             let names = words_of(rt.alloc(), names)?;
-            Ok(show_ids(rt, db, db.dependencies(rt.alloc(), &names, way))?)
+            show_ids(rt, db, db.dependencies(rt.alloc(), &names, way))
         }
         AllDependencies(names, way) => {
             print!(rt; "all dependencies {way:?}")?;
             show_words(rt, names)?;
             let names = words_of(rt.alloc(), names)?;
-            Ok(show_ids(rt, db, db.all_dependencies(rt.alloc(), &names, way))?)
+            show_ids(rt, db, db.all_dependencies(rt.alloc(), &names, way))
         }
         Atomics(names) => {
             print!(rt; "atomics")?;
             show_words(rt, names)?;
             let names = words_of(rt.alloc(), names)?;
-            Ok(show_ids(rt, db, db.atomics(rt.alloc(), &names))?)
+            show_ids(rt, db, db.atomics(rt.alloc(), &names))
         }
         List(which) => {
             print!(rt; "list {which:?}:")?;
-            Ok(show_names(rt, db.list(rt.alloc(), which))?)
+            show_list(rt, db.list(rt.alloc(), which))
         }
         _ => Ok(()),
     }

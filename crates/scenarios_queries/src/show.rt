@@ -2,16 +2,9 @@
 
 use rc_db::{Db, QueryFault};
 use rc_names::Name;
+use samples_db::show_names;
 use std::fmt::Debug;
 use std::io;
-
-/// Words, and what stands before an answer.
-pub(crate) fn show_words(rt: &impl Print, words: &[&str]) -> io::Result<()> {
-    for word in words {
-        print!(rt; " {word}")?;
-    }
-    print!(rt; ":")
-}
 
 /// A plain answer, or why there is none.
 pub(crate) fn show<T: Debug + Drop>(
@@ -40,9 +33,7 @@ pub(crate) fn show_ids(
 ) -> io::Result<()> {
     match answer {
         Ok(ids) => {
-            for id in &ids {
-                print!(rt; " {}", name_of(db, *id))?;
-            }
+            show_names(rt, db, &ids)?;
             println!(rt; "")
         }
         Err(fault) => println!(rt; " {fault:?}"),
@@ -50,10 +41,7 @@ pub(crate) fn show_ids(
 }
 
 /// Names, or why there are none.
-pub(crate) fn show_names(
-    rt: &impl Print,
-    answer: Result<Vec<&Name>, QueryFault>,
-) -> io::Result<()> {
+pub(crate) fn show_list(rt: &impl Print, answer: Result<Vec<&Name>, QueryFault>) -> io::Result<()> {
     match answer {
         Ok(names) => {
             for name in &names {
@@ -62,14 +50,5 @@ pub(crate) fn show_names(
             println!(rt; "")
         }
         Err(fault) => println!(rt; " {fault:?}"),
-    }
-}
-
-fn name_of(db: &Db, id: u16) -> &str {
-    let names = db.names();
-    if id < names.len() {
-        names.name_of(id).text()
-    } else {
-        "?"
     }
 }

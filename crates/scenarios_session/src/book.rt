@@ -1,29 +1,28 @@
 //! A session, and workers who make the events that a command wants.
 
-ghost use Rattle.std.specs.Prelude.{◌≡◌, ◌<◌, false, length};
+ghost use Rattle.std.specs.Prelude.{◌≡◌, false};
 
+use crate::desk::Desk;
 use rc_core::Event;
 use rc_db::Db;
-use rc_names::Name;
 use rc_select::{Plan, Request};
 use rc_session::{Refusal, Report, Session};
 use rc_set::{NoMem, Set};
 use samples_drawn::{Change, Draw, carry_out};
 use std::alloc::Global;
 
-/// A session on which no run is begun.
+/// A session, and what its workers draw.
 #[derive(Drop)]
 pub(crate) struct Book {
-    pub(crate) session: Session,
+    pub(crate) desk: Desk,
     draw: Draw,
-    ghost ended: { session.begun ≡ false },
 }
 
 impl Book {
     pub(crate) fn new(alloc: Global, db: Db) -> Result<Book, NoMem> {
-        let session = Session::new(alloc, db)?;
+        let desk = Desk::new(alloc, db)?;
         Ok(Book {
-            session,
+            desk,
             draw: Draw::new(1),
         })
     }
@@ -35,50 +34,47 @@ impl Book {
         request: &Request,
         fails: &[u16],
     ) -> Result<Report, Refusal> {
-        let plan = self.session.dry(alloc, request)?;
-        let to = led_to(alloc, &plan)?;
+        let to = self.planned(alloc, request)?;
         let events = self.events(alloc, to, fails)?;
-        self.session.change_by(alloc, request, &events)
+        self.desk.change_by(alloc, request, &events)
     }
 
     /// An undo, or a redo, by workers, for whom these services fail.
     pub(crate) fn step_back(&mut self, alloc: Global, fails: &[u16]) -> Result<Report, Refusal> {
-        let cursor = self.session.journal().cursor();
-        let to = match cursor.checked_sub(1) {
-            Some(place) => self.live_at(alloc, place)?,
-            None => Vec::new(alloc),
-        };
-        let events = self.events(alloc, to, fails)?;
-        self.session.undo_by(alloc, 0, &events)
+        let before = self.desk.session().journal().cursor().checked_sub(1);
+        let events = self.events_to(alloc, before, fails)?;
+        self.desk.undo_by(alloc, &events)
     }
 
     pub(crate) fn step_on(&mut self, alloc: Global, fails: &[u16]) -> Result<Report, Refusal> {
-        let place = self.session.journal().cursor().saturating_add(1);
-        let to = self.live_at(alloc, place)?;
-        let events = self.events(alloc, to, fails)?;
-        self.session.redo_by(alloc, 0, &events)
+        let after = self.desk.session().journal().cursor().checked_add(1);
+        let events = self.events_to(alloc, after, fails)?;
+        self.desk.redo_by(alloc, &events)
     }
 
-    /// What is live in the state at a place, or nothing where there is none.
-    fn live_at(&self, alloc: Global, place: usize) -> Result<Vec<u16>, NoMem> {
-        let journal = self.session.journal();
-        if place < journal.states() {
-            let (live, _) = journal.state(alloc, place)?;
-            live.ids(alloc)
-        } else {
-            Ok(Vec::new(alloc))
-        }
+    /// What is to be up by the plan of a request.
+    fn planned(&self, alloc: Global, request: &Request) -> Result<Vec<u16>, Refusal> {
+        let plan = self.desk.dry(alloc, request)?;
+        Ok(led_to(alloc, &plan)?)
+    }
+
+    /// The events by which two workers bring about what is live in the state at a place.
+    fn events_to(
+        &mut self,
+        alloc: Global,
+        place: Option<usize>,
+        fails: &[u16],
+    ) -> Result<Vec<Event>, NoMem> {
+        let to = match place {
+            Some(place) => live_at(alloc, self.desk.session(), place)?,
+            None => Vec::new(alloc),
+        };
+        self.events(alloc, to, fails)
     }
 
     /// The events by which two workers bring about that these services are up.
     fn events(&mut self, alloc: Global, to: Vec<u16>, fails: &[u16]) -> Result<Vec<Event>, NoMem> {
-        let change = Change {
-            graph: self.session.db().graph().share()?,
-            up: self.session.live().ids(alloc)?,
-            to,
-            fails: copied(alloc, fails)?,
-            deadline: None,
-        };
+        let change = change_to(alloc, self.desk.session(), to, fails)?;
         match carry_out(alloc, &mut self.draw, &change, 2)? {
             Some(finish) => Ok(finish.trace),
             None => Ok(Vec::new(alloc)),
@@ -86,10 +82,36 @@ impl Book {
     }
 }
 
-fn copied(alloc: Global, ids: &[u16]) -> Result<Vec<u16>, NoMem> {
-    let mut list = Vec::with_capacity(alloc, ids.len())?;
-    list.extend_from_slice(ids)?;
-    Ok(list)
+/// What is live in the state at a place, or nothing where there is none.
+fn live_at(alloc: Global, session: &Session, place: usize) -> Result<Vec<u16>, NoMem>
+    requires { session.now.begun ≡ false }
+{
+    let journal = session.journal();
+    if place < journal.states() {
+        let (live, _) = journal.state(alloc, place)?;
+        live.ids(alloc)
+    } else {
+        Ok(Vec::new(alloc))
+    }
+}
+
+/// The change from what is live to these services, for which some fail.
+fn change_to(
+    alloc: Global,
+    session: &Session,
+    to: Vec<u16>,
+    fails: &[u16],
+) -> Result<Change, NoMem> {
+    let up = session.live().ids(alloc)?;
+    let fails = Vec::from_slice(alloc, fails)?;
+    let graph = session.db().graph().share()?;
+    Ok(Change {
+        graph,
+        up,
+        to,
+        fails,
+        deadline: None,
+    })
 }
 
 /// What is to be up by a plan.

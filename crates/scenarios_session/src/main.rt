@@ -4,6 +4,7 @@
 #![tactic(auto)]
 
 mod book;
+mod desk;
 mod show;
 
 use crate::Command::{
@@ -11,16 +12,20 @@ use crate::Command::{
     UndoEdit,
 };
 use crate::book::Book;
+use crate::desk::Desk;
 use crate::show::{show_answer, show_done, show_journal, show_plan, show_state};
 use rc_core::Event::{Done, Stop, Take};
 use rc_core::{Event, Outcome};
+use rc_db::Db;
 use rc_names::Name;
 use rc_select::Mode::{Down, DownAll, Up};
-use rc_select::{Mode, Request};
+use rc_select::{Mode, Plan, Request};
 use rc_session::{Refusal, Report};
+use rc_set::NoMem;
 use samples::{LOG, NET, ROOT, WEB};
 use samples_db::{sample, words_of};
-use std::alloc::Global;
+use std::alloc::{AllocError, Global};
+use std::io;
 use std::test::Fail;
 
 /// A change as it is asked for: which way, whether it prunes, whether all that is up is wanted too, the names.
@@ -296,18 +301,28 @@ static SESSIONS: [(&str, &[Command]); 22] = [
 
 fn main(rt: HostRuntime) -> Result<(), Fail> {
     for (what, commands) in &SESSIONS {
-        println!(rt; "== {what}")?;
-        let mut book = Book::new(rt.alloc(), sample(rt.alloc())?)?;
-        obey_all(&rt, &mut book, commands)?;
+        let db = sample(rt.alloc())?;
+        show_one(&rt, what, db, commands)?;
     }
     Ok(())
+}
+
+fn show_one(
+    rt: &(impl Print + AllocGlobal),
+    what: &str,
+    db: Db,
+    commands: &[Command<'_>],
+) -> io::Result<()> {
+    let mut book = Book::new(rt.alloc(), db)?;
+    println!(rt; "== {what}")?;
+    obey_all(rt, &mut book, commands)
 }
 
 fn obey_all(
     rt: &(impl Print + AllocGlobal),
     book: &mut Book,
     commands: &[Command<'_>],
-) -> Result<(), Fail> {
+) -> io::Result<()> {
     for command in commands {
         obey(rt, book, *command)?;
     }
@@ -315,72 +330,76 @@ fn obey_all(
 }
 
 /// One command, and what it comes to.
-fn obey(
-    rt: &(impl Print + AllocGlobal),
-    book: &mut Book,
-    command: Command<'_>,
-) -> Result<(), Fail> {
+fn obey(rt: &(impl Print + AllocGlobal), book: &mut Book, command: Command<'_>) -> io::Result<()> {
     match command {
         Auto(_, _) | AutoUndo(_) | AutoRedo(_) | By(_, _, _) | UndoBy(_) | RedoBy(_) => {
-            let answer = run(rt.alloc(), book, command)?;
-            Ok(show_answer(rt, book.session.db(), answer)?)
+            let answer = run(rt.alloc(), book, command);
+            show_answer(rt, book.desk.session().db(), &answer)
         }
         UndoEdit | RedoEdit | Add(_, _, _) | Delete(_, _) => {
-            let answer = edit(rt.alloc(), book, command)?;
-            Ok(show_done(rt, answer)?)
+            let answer = edit(rt.alloc(), &mut book.desk, command);
+            show_done(rt, &answer)
         }
         Dry(ask) => {
-            let request = request_of(rt.alloc(), ask, 0)?;
-            let plan = book.session.dry(rt.alloc(), &request);
-            Ok(show_plan(rt, book.session.db(), plan)?)
+            let plan = planned(rt.alloc(), &book.desk, ask);
+            show_plan(rt, book.desk.session().db(), &plan)
         }
-        Journal => Ok(show_journal(rt, &book.session)?),
-        Show => Ok(show_state(rt, &book.session)?),
+        Journal => show_journal(rt, book.desk.session()),
+        Show => show_state(rt, book.desk.session()),
     }
 }
 
 /// A command that runs.
-fn run(
-    alloc: Global,
-    book: &mut Book,
-    command: Command<'_>,
-) -> Result<Result<Report, Refusal>, Fail> {
+fn run(alloc: Global, book: &mut Book, command: Command<'_>) -> Result<Report, Refusal> {
     match command {
         Auto(ask, fails) => {
             let request = request_of(alloc, ask, 0)?;
-            Ok(book.change(alloc, &request, fails))
+            book.change(alloc, &request, fails)
         }
         By(ask, limit, events) => {
             let request = request_of(alloc, ask, limit)?;
-            Ok(book.session.change_by(alloc, &request, events))
+            book.desk.change_by(alloc, &request, events)
         }
-        AutoUndo(fails) => Ok(book.step_back(alloc, fails)),
-        AutoRedo(fails) => Ok(book.step_on(alloc, fails)),
-        UndoBy(events) => Ok(book.session.undo_by(alloc, 0, events)),
-        RedoBy(events) => Ok(book.session.redo_by(alloc, 0, events)),
-        _ => Ok(Err(Refusal::Strange)),
+        AutoUndo(fails) => book.step_back(alloc, fails),
+        AutoRedo(fails) => book.step_on(alloc, fails),
+        UndoBy(events) => book.desk.undo_by(alloc, events),
+        RedoBy(events) => book.desk.redo_by(alloc, events),
+        _ => Err(Refusal::Strange),
     }
 }
 
 /// A command that edits bundles.
-fn edit(alloc: Global, book: &mut Book, command: Command<'_>) -> Result<Result<(), Refusal>, Fail> {
+fn edit(alloc: Global, desk: &mut Desk, command: Command<'_>) -> Result<(), Refusal> {
     match command {
-        UndoEdit => Ok(book.session.undo_edit(alloc)),
-        RedoEdit => Ok(book.session.redo_edit(alloc)),
+        UndoEdit => desk.undo_edit(alloc),
+        RedoEdit => desk.redo_edit(alloc),
         Add(name, contents, force) => {
-            let name = Name::read(alloc, name)?;
+            let name = named(alloc, name)?;
             let contents = words_of(alloc, contents)?;
-            Ok(book.session.bundle_add(alloc, &name, &contents, force))
+            desk.bundle_add(alloc, &name, &contents, force)
         }
         Delete(names, force) => {
             let names = words_of(alloc, names)?;
-            Ok(book.session.bundle_delete(alloc, &names, force))
+            desk.bundle_delete(alloc, &names, force)
         }
-        _ => Ok(Err(Refusal::Strange)),
+        _ => Err(Refusal::Strange),
     }
 }
 
-fn request_of(alloc: Global, ask: Ask<'_>, limit: u32) -> Result<Request, Fail> {
+/// The name of a bundle. Those of the commands are names.
+fn named(alloc: Global, text: &str) -> Result<Name, NoMem> {
+    match Name::read(alloc, text) {
+        Ok(name) => Ok(name),
+        Err(_) => Err(AllocError),
+    }
+}
+
+fn planned(alloc: Global, desk: &Desk, ask: Ask<'_>) -> Result<Plan, Refusal> {
+    let request = request_of(alloc, ask, 0)?;
+    desk.dry(alloc, &request)
+}
+
+fn request_of(alloc: Global, ask: Ask<'_>, limit: u32) -> Result<Request, NoMem> {
     let (mode, prune, all, names) = ask;
     Ok(Request {
         mode,

@@ -2,36 +2,38 @@
 
 ghost use Rattle.std.specs.Prelude.{◌≡◌, false};
 
-use rc_bundle::Edit;
-use rc_db::Db;
+use rc_db::{Db, Table};
 use rc_line::{Entry, Line};
 use rc_select::Plan;
 use rc_session::{Refusal, Report, Session};
 use rc_set::Set;
+use samples_db::{name_of, show_edit, show_names, show_set};
 use std::io;
 
 /// The lists of a report that are not empty, or why the command was refused.
 pub(crate) fn show_answer(
     rt: &impl Print,
     db: &Db,
-    answer: Result<Report, Refusal>,
+    answer: &Result<Report, Refusal>,
 ) -> io::Result<()> {
     match answer {
-        Ok(report) => {
-            show_ids(rt, db, "lowered", &report.lowered)?;
-            show_ids(rt, db, "raised", &report.raised)?;
-            show_ids(rt, db, "failed", &report.failed)?;
-            show_ids(rt, db, "blocked", &report.blocked)?;
-            show_ids(rt, db, "untried", &report.untried)?;
-            show_ids(rt, db, "kept", &report.kept)?;
-            println!(rt; "ok")
-        }
+        Ok(report) => show_report(rt, db, report),
         Err(refusal) => println!(rt; "refused {refusal:?}"),
     }
 }
 
+fn show_report(rt: &impl Print, db: &Db, report: &Report) -> io::Result<()> {
+    show_ids(rt, db, "lowered", &report.lowered)?;
+    show_ids(rt, db, "raised", &report.raised)?;
+    show_ids(rt, db, "failed", &report.failed)?;
+    show_ids(rt, db, "blocked", &report.blocked)?;
+    show_ids(rt, db, "untried", &report.untried)?;
+    show_ids(rt, db, "kept", &report.kept)?;
+    println!(rt; "ok")
+}
+
 /// That an edit was made, or why it was refused.
-pub(crate) fn show_done(rt: &impl Print, answer: Result<(), Refusal>) -> io::Result<()> {
+pub(crate) fn show_done(rt: &impl Print, answer: &Result<(), Refusal>) -> io::Result<()> {
     match answer {
         Ok(()) => println!(rt; "ok"),
         Err(refusal) => println!(rt; "refused {refusal:?}"),
@@ -42,39 +44,49 @@ pub(crate) fn show_done(rt: &impl Print, answer: Result<(), Refusal>) -> io::Res
 pub(crate) fn show_plan(
     rt: &(impl Print + AllocGlobal),
     db: &Db,
-    plan: Result<Plan, Refusal>,
+    plan: &Result<Plan, Refusal>,
 ) -> io::Result<()> {
     match plan {
         Ok(plan) => {
-            show_ids(rt, db, "lower", &plan.lower().ids(rt.alloc())?)?;
-            show_ids(rt, db, "raise", &plan.raise().ids(rt.alloc())?)?;
-            show_ids(rt, db, "kept", &plan.kept().ids(rt.alloc())?)?;
+            show_members(rt, db, "lower", plan.lower())?;
+            show_members(rt, db, "raise", plan.raise())?;
+            show_members(rt, db, "kept", plan.kept())?;
             println!(rt; "ok")
         }
         Err(refusal) => println!(rt; "refused {refusal:?}"),
     }
 }
 
+fn show_members(rt: &(impl Print + AllocGlobal), db: &Db, what: &str, set: &Set) -> io::Result<()> {
+    let ids = set.ids(rt.alloc())?;
+    show_ids(rt, db, what, &ids)
+}
+
 /// The live services, and the bundles.
 pub(crate) fn show_state(rt: &(impl Print + AllocGlobal), session: &Session) -> io::Result<()> {
-    let db = session.db();
+    show_live(rt, session)?;
+    show_bundles(rt, session.db(), session.table())
+}
+
+fn show_live(rt: &(impl Print + AllocGlobal), session: &Session) -> io::Result<()> {
+    let ids = session.live().ids(rt.alloc())?;
     print!(rt; "live")?;
-    for id in &session.live().ids(rt.alloc())? {
-        print!(rt; " {}", name_of(db, *id))?;
-    }
-    println!(rt; "")?;
-    let table = session.table();
+    show_names(rt, session.db(), &ids)?;
+    println!(rt; "")
+}
+
+fn show_bundles(rt: &impl Print, db: &Db, table: &Table) -> io::Result<()> {
     for place in 0..table.len() {
         let (name, set) = table.at(place);
         print!(rt; "bundle {} ", name.text())?;
-        show_set(rt, db, set)?;
+        show_set(rt, db, set, ",")?;
         println!(rt; "")?;
     }
     Ok(())
 }
 
 /// Where the cursor stands, and each entry.
-pub(crate) fn show_journal(rt: &(impl Print + AllocGlobal), session: &Session) -> io::Result<()> {
+pub(crate) fn show_journal(rt: &impl Print, session: &Session) -> io::Result<()> {
     let journal = session.journal();
     println!(rt; "at {} of {}", journal.cursor(), journal.states())?;
     if !journal.is_open() {
@@ -83,7 +95,7 @@ pub(crate) fn show_journal(rt: &(impl Print + AllocGlobal), session: &Session) -
     Ok(())
 }
 
-fn show_entries(rt: &(impl Print + AllocGlobal), db: &Db, journal: &Line) -> io::Result<()>
+fn show_entries(rt: &impl Print, db: &Db, journal: &Line) -> io::Result<()>
     requires { journal.now.is_open ≡ false }
 {
     for place in 1..journal.states() {
@@ -95,7 +107,7 @@ fn show_entries(rt: &(impl Print + AllocGlobal), db: &Db, journal: &Line) -> io:
 }
 
 /// What an entry alters: services in byte order with the way that they went, then bundles with both values.
-fn show_entry(rt: &(impl Print + AllocGlobal), db: &Db, entry: &Entry) -> io::Result<()> {
+fn show_entry(rt: &impl Print, db: &Db, entry: &Entry) -> io::Result<()> {
     for id in 0..db.names().len() {
         if entry.raised().contains(&id) {
             print!(rt; " +{}", name_of(db, id))?;
@@ -104,36 +116,7 @@ fn show_entry(rt: &(impl Print + AllocGlobal), db: &Db, entry: &Entry) -> io::Re
             print!(rt; " -{}", name_of(db, id))?;
         }
     }
-    show_edit(rt, db, entry.edit())
-}
-
-fn show_edit(rt: &(impl Print + AllocGlobal), db: &Db, edit: &Edit) -> io::Result<()> {
-    for place in 0..edit.len() {
-        let (name, before, after) = edit.at(place);
-        print!(rt; " {}:", name.text())?;
-        show_value(rt, db, before)?;
-        print!(rt; ">")?;
-        show_value(rt, db, after)?;
-    }
-    Ok(())
-}
-
-fn show_value(rt: &(impl Print + AllocGlobal), db: &Db, value: Option<&Set>) -> io::Result<()> {
-    match value {
-        Some(set) => show_set(rt, db, set),
-        None => print!(rt; "none"),
-    }
-}
-
-fn show_set(rt: &(impl Print + AllocGlobal), db: &Db, set: &Set) -> io::Result<()> {
-    print!(rt; "[")?;
-    for (place, id) in set.ids(rt.alloc())?.iter().enumerate() {
-        if place > 0 {
-            print!(rt; ",")?;
-        }
-        print!(rt; "{}", name_of(db, *id))?;
-    }
-    print!(rt; "]")
+    show_edit(rt, db, entry.edit(), ",")
 }
 
 /// A line of names, or nothing where there are none.
@@ -142,17 +125,6 @@ fn show_ids(rt: &impl Print, db: &Db, what: &str, ids: &[u16]) -> io::Result<()>
         return Ok(());
     }
     print!(rt; "{what}")?;
-    for id in ids {
-        print!(rt; " {}", name_of(db, *id))?;
-    }
+    show_names(rt, db, ids)?;
     println!(rt; "")
-}
-
-fn name_of(db: &Db, id: u16) -> &str {
-    let names = db.names();
-    if id < names.len() {
-        names.name_of(id).text()
-    } else {
-        "?"
-    }
 }

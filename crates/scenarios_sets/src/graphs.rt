@@ -1,12 +1,11 @@
 //! Graphs: who needs whom, what follows from it, and cycles.
 
-ghost use Rattle.std.specs.Prelude.{◌≡◌, ◌≤◌, length};
+ghost use Rattle.std.specs.Prelude.{◌<◌, ◌≤◌, length};
 
-use rc_graph::{Draft, Graph, GraphFault};
-use rc_set::Set;
-use samples::{DB, LOG, NET, ROOT, SAMPLE, WEB, graph_of, set_of};
+use rc_graph::{Graph, GraphFault};
+use rc_set::NoMem;
+use samples::{DB, LOG, NET, ROOT, SAMPLE, WEB, draft_of, graph_of, has_ids, set_of};
 use std::alloc::{AllocError, Global};
-use std::process::Abort;
 use std::test::Fail;
 
 /// A service, what it needs, what needs it, what it reaches and itself, and what reaches it and itself.
@@ -20,47 +19,42 @@ const ROWS: [Row; 5] = [
     (WEB, &[DB, LOG], &[], &[DB, LOG, NET, ROOT, WEB], &[WEB]),
 ];
 
-fn must_be(rt: &impl Abort, alloc: Global, graph: &Graph, rows: &[Row]) -> Result<(), Fail> {
-    for (service, needs, needed_by, up, down) in rows {
-        if *service < graph.len() {
-            assert_eq!(rt; graph.needs(*service), *needs);
-            assert_eq!(rt; graph.needed_by(*service), *needed_by);
-            must_reach(
-                rt,
-                alloc,
-                graph,
-                &set_of(alloc, graph.len(), &[*service])?,
-                (up, down),
-            )?;
+/// Whether the sample's graph says of each service what it must.
+pub fn first(alloc: Global) -> Result<Vec<bool>, Fail> {
+    let graph = graph_of(alloc, 5, &SAMPLE)?;
+    Ok(rows_of(alloc, &graph)?)
+}
+
+/// Whether another handle to it says the same when the first is gone. The last row is its order and its length.
+pub fn shared(alloc: Global) -> Result<Vec<bool>, Fail> {
+    let graph = graph_of(alloc, 5, &SAMPLE)?;
+    let shared = graph.share()?;
+    let order = Vec::from_slice(alloc, graph.order())?;
+    drop(graph);
+    let mut right = rows_of(alloc, &shared)?;
+    right.push(shared.order() == order.as_slice() && shared.len() == 5)?;
+    Ok(right)
+}
+
+fn rows_of(alloc: Global, graph: &Graph) -> Result<Vec<bool>, NoMem> {
+    let mut right = Vec::new(alloc);
+    for row in &ROWS {
+        if row.0 < graph.len() {
+            right.push(is_so(alloc, graph, row)?)?;
         }
     }
-    Ok(())
+    Ok(right)
 }
 
-fn must_reach(
-    rt: &impl Abort,
-    alloc: Global,
-    graph: &Graph,
-    set: &Set,
-    want: (&[u16], &[u16]),
-) -> Result<(), Fail>
-    requires { length set.now ≡ length graph.now }
+fn is_so(alloc: Global, graph: &Graph, row: &Row) -> Result<bool, NoMem>
+    requires { row.now.0 < length graph.now }
 {
-    assert_eq!(rt; graph.up_of(alloc, set)?.ids(alloc)?.as_slice(), want.0);
-    assert_eq!(rt; graph.down_of(alloc, set)?.ids(alloc)?.as_slice(), want.1);
-    Ok(())
-}
-
-#[test]
-fn a_shared_graph_outlives_the_first_handle(rt: HostRuntime) -> Result<(), Fail> {
-    let graph = graph_of(rt.alloc(), 5, &SAMPLE)?;
-    let shared = graph.share()?;
-    must_be(&rt, rt.alloc(), &graph, &ROWS)?;
-    let order = Vec::from_slice(rt.alloc(), graph.order())?;
-    drop(graph);
-    assert_eq!(rt; shared.order(), order.as_slice());
-    assert_eq!(rt; shared.len(), 5);
-    must_be(&rt, rt.alloc(), &shared, &ROWS)
+    let set = set_of(alloc, graph.len(), &[row.0])?;
+    let up = has_ids(alloc, &graph.up_of(alloc, &set)?, row.3)?;
+    let down = has_ids(alloc, &graph.down_of(alloc, &set)?, row.4)?;
+    let needs = graph.needs(row.0) == row.1;
+    let needed_by = graph.needed_by(row.0) == row.2;
+    Ok(needs & needed_by & up & down)
 }
 
 /// How many services, the pairs, and the cycle that is shown, which is empty where the pairs make a graph.
@@ -78,32 +72,23 @@ const DRAFTS: [Sketch; 8] = [
 ];
 
 // The ids of the cycle that is shown, or none where the draft becomes a graph.
-fn cycle_of(alloc: Global, services: u16, pairs: &[(u16, u16)]) -> Result<Vec<u16>, Fail>
+fn cycle_of(alloc: Global, services: u16, pairs: &[(u16, u16)]) -> Result<Vec<u16>, NoMem>
     requires { services ≤ 4096 }
 {
-    let mut draft = Draft::new(alloc, services)?;
-    for (service, needed) in pairs {
-        if *service < draft.len() && *needed < draft.len() {
-            draft.need(*service, *needed)?;
-        }
-    }
-    match draft.finish() {
+    match draft_of(alloc, services, pairs)?.finish() {
         Ok(_) => Ok(Vec::new(alloc)),
-        Err(GraphFault::Cycle(cycle)) => Ok(Vec::from_slice(alloc, cycle.ids())?),
-        Err(GraphFault::Memory) => Err(AllocError.into()),
+        Err(GraphFault::Cycle(cycle)) => Vec::from_slice(alloc, cycle.ids()),
+        Err(GraphFault::Memory) => Err(AllocError),
     }
 }
 
-fn must_show(rt: &impl Abort, alloc: Global, rows: &[Sketch]) -> Result<(), Fail> {
-    for (services, pairs, want) in rows {
+/// Whether each draft becomes a graph, or shows its cycle.
+pub fn cycles(alloc: Global) -> Result<Vec<bool>, NoMem> {
+    let mut right = Vec::new(alloc);
+    for (services, pairs, want) in &DRAFTS {
         if *services <= 4096 {
-            assert_eq!(rt; cycle_of(alloc, *services, pairs)?.as_slice(), *want);
+            right.push(cycle_of(alloc, *services, pairs)?.as_slice() == *want)?;
         }
     }
-    Ok(())
-}
-
-#[test]
-fn a_cycle_is_shown_from_its_least_service_on(rt: HostRuntime) -> Result<(), Fail> {
-    must_show(&rt, rt.alloc(), &DRAFTS)
+    Ok(right)
 }

@@ -1,9 +1,10 @@
 //! What is a name, and which place it has among others.
 
-use rc_names::{MAX_NAMES, Name, NameFault, Names};
+ghost use Rattle.std.specs.Prelude.{◌<◌, length};
+
+use rc_names::{MAX_NAMES, Name, NameFault, Names, NoMem};
 use std::alloc::Global;
 use std::fmt::InlineText;
-use std::process::Abort;
 use std::test::Fail;
 
 // So many times a text, and why that is no name.
@@ -36,36 +37,26 @@ const TEXTS: [(&str, usize, Option<NameFault>); 26] = [
     ("é", 128, Some(NameFault::Long)),
 ];
 
-// A name keeps its text.
-fn fault_of(rt: &impl Abort, alloc: Global, text: &str) -> Option<NameFault> {
-    match Name::read(alloc, text) {
-        Ok(name) => {
-            assert_eq!(rt; name.text(), text);
-            None
-        }
-        Err(fault) => Some(fault),
-    }
-}
-
-fn must_read(
-    rt: &impl Abort,
-    alloc: Global,
-    rows: &[(&str, usize, Option<NameFault>)],
-) -> Result<(), Fail> {
-    for (part, count, want) in rows {
+/// Whether each text is read as it must be. A name keeps its text.
+pub fn texts(alloc: Global) -> Result<Vec<bool>, NoMem> {
+    let mut right = Vec::new(alloc);
+    for (part, count, want) in &TEXTS {
         let text = part.repeat(alloc, *count)?;
-        assert_eq!(rt;
-            fault_of(rt, alloc, text.as_str()),
-            *want,
-            "{count} times {part}"
-        );
+        right.push(is_read_so(alloc, text.as_str(), *want))?;
     }
-    Ok(())
+    Ok(right)
 }
 
-#[test]
-fn texts_are_names_or_say_why_not(rt: HostRuntime) -> Result<(), Fail> {
-    must_read(&rt, rt.alloc(), &TEXTS)
+fn is_read_so(alloc: Global, text: &str, want: Option<NameFault>) -> bool {
+    match Name::read(alloc, text) {
+        Ok(name) => want.is_none() & is_same(name.text(), text),
+        Err(fault) => want == Some(fault),
+    }
+}
+
+// Compared where no name is owned, which is proved sooner.
+fn is_same(text: &str, other: &str) -> bool {
+    text == other
 }
 
 const FAULTS: [(NameFault, u8, &str); 5] = [
@@ -84,17 +75,14 @@ const FAULTS: [(NameFault, u8, &str); 5] = [
     (NameFault::Memory, 5, "out of memory"),
 ];
 
-fn must_say(rt: &impl Abort, rows: &[(NameFault, u8, &str)]) {
-    for (fault, code, message) in rows {
+/// Whether each fault has its code and its message.
+pub fn faults(alloc: Global) -> Result<Vec<bool>, NoMem> {
+    let mut right = Vec::new(alloc);
+    for (fault, code, message) in &FAULTS {
         let said: InlineText<128> = InlineText::of(*fault);
-        assert_eq!(rt; *fault as u8, *code);
-        assert_eq!(rt; said.as_str(), *message);
+        right.push(*fault as u8 == *code && said.as_str() == *message)?;
     }
-}
-
-#[test]
-fn faults_have_codes_and_messages(rt: HostRuntime) {
-    must_say(&rt, &FAULTS);
+    Ok(right)
 }
 
 // Names in the order in which they come, and whether each is new.
@@ -124,27 +112,42 @@ const PLACES: [(&str, Option<u16>); 11] = [
     ("zz", None),
 ];
 
-fn names_of(rt: &impl Abort, alloc: Global, rows: &[(&str, bool)]) -> Result<Names, Fail> {
+/// Whether each name is told to be new or not.
+pub fn added(alloc: Global) -> Result<Vec<bool>, Fail> {
     let mut names = Names::new(alloc);
-    for (text, want) in rows {
+    let mut right = Vec::new(alloc);
+    for (text, want) in &ADDED {
         if names.len() < MAX_NAMES {
-            let name = Name::read(alloc, text)?;
-            assert_eq!(rt; names.add(name)?, *want, "at {text}");
+            right.push(is_new(alloc, &mut names, text)? == *want)?;
         }
     }
-    Ok(names)
+    Ok(right)
 }
 
-fn must_find(rt: &impl Abort, names: &Names, rows: &[(&str, Option<u16>)]) {
-    for (text, want) in rows {
-        assert_eq!(rt; names.find(text), *want, "at {text}");
+/// Whether each text has its place among the names. The first row is their number.
+pub fn places(alloc: Global) -> Result<Vec<bool>, Fail> {
+    let mut names = Names::new(alloc);
+    for (text, _) in &ADDED {
+        if names.len() < MAX_NAMES {
+            is_new(alloc, &mut names, text)?;
+        }
     }
+    Ok(places_in(alloc, &names)?)
 }
 
-#[test]
-fn ids_are_places_in_byte_order(rt: HostRuntime) -> Result<(), Fail> {
-    let names = names_of(&rt, rt.alloc(), &ADDED)?;
-    assert_eq!(rt; names.len(), 6);
-    must_find(&rt, &names, &PLACES);
-    Ok(())
+fn places_in(alloc: Global, names: &Names) -> Result<Vec<bool>, NoMem> {
+    let mut right = Vec::new(alloc);
+    right.push(names.len() == 6)?;
+    for (text, want) in &PLACES {
+        right.push(names.find(text) == *want)?;
+    }
+    Ok(right)
+}
+
+// Puts a name in.
+fn is_new(alloc: Global, names: &mut Names, text: &str) -> Result<bool, Fail>
+    requires { length names.old < 4096 }
+{
+    let name = Name::read(alloc, text)?;
+    Ok(names.add(name)?)
 }

@@ -2,20 +2,19 @@
 
 use rc_graph::Graph;
 use rc_select::{Plan, between, plan_up};
-use samples::{DB, LOG, NET, ROOT, SAMPLE, WEB, graph_of, set_of};
+use rc_set::NoMem;
+use samples::{DB, LOG, NET, ROOT, SAMPLE, WEB, graph_of, has_ids, set_of};
 use std::alloc::Global;
-use std::process::Abort;
 use std::test::Fail;
 
 /// What is up, what is wanted or to be up, and what goes down and comes up for it.
 type Row<'a> = (&'a [u16], &'a [u16], &'a [u16], &'a [u16]);
 
-fn must_plan(rt: &impl Abort, alloc: Global, plan: &Plan, want: &Row) -> Result<(), Fail> {
-    assert_eq!(rt; plan.opening().ids(alloc)?.as_slice(), want.0);
-    assert_eq!(rt; plan.lower().ids(alloc)?.as_slice(), want.2);
-    assert_eq!(rt; plan.raise().ids(alloc)?.as_slice(), want.3);
-    assert!(rt; plan.kept().is_empty());
-    Ok(())
+fn is_so(alloc: Global, plan: &Plan, want: &Row) -> Result<bool, NoMem> {
+    let opening = has_ids(alloc, plan.opening(), want.0)?;
+    let lower = has_ids(alloc, plan.lower(), want.2)?;
+    let raise = has_ids(alloc, plan.raise(), want.3)?;
+    Ok(opening & lower & raise & plan.kept().is_empty())
 }
 
 const WANTED: [Row; 4] = [
@@ -25,24 +24,24 @@ const WANTED: [Row; 4] = [
     (&[LOG, NET, ROOT], &[NET], &[], &[]),
 ];
 
-fn brought_up(rt: &impl Abort, alloc: Global, graph: &Graph, row: &Row) -> Result<Plan, Fail> {
+/// Whether bringing up raises what is needed.
+pub fn brought_up(alloc: Global) -> Result<Vec<bool>, Fail> {
+    let graph = graph_of(alloc, 5, &SAMPLE)?;
+    let mut right = Vec::new(alloc);
+    for row in &WANTED {
+        right.push(is_brought_up(alloc, &graph, row)?)?;
+    }
+    Ok(right)
+}
+
+// What is up has to be closed.
+fn is_brought_up(alloc: Global, graph: &Graph, row: &Row) -> Result<bool, NoMem> {
     let up = set_of(alloc, graph.len(), row.0)?;
     let wanted = set_of(alloc, graph.len(), row.1)?;
-    assert!(rt; graph.closed(&up));
-    Ok(plan_up(alloc, graph, &up, &wanted)?)
-}
-
-fn must_bring_up(rt: &impl Abort, alloc: Global, graph: &Graph, rows: &[Row]) -> Result<(), Fail> {
-    for row in rows {
-        must_plan(rt, alloc, &brought_up(rt, alloc, graph, row)?, row)?;
+    if !graph.closed(&up) {
+        return Ok(false);
     }
-    Ok(())
-}
-
-#[test]
-fn bringing_up_raises_what_is_needed(rt: HostRuntime) -> Result<(), Fail> {
-    let graph = graph_of(rt.alloc(), 5, &SAMPLE)?;
-    must_bring_up(&rt, rt.alloc(), &graph, &WANTED)
+    is_so(alloc, &plan_up(alloc, graph, &up, &wanted)?, row)
 }
 
 const BETWEEN: [Row; 3] = [
@@ -56,23 +55,22 @@ const BETWEEN: [Row; 3] = [
     ),
 ];
 
-fn led(rt: &impl Abort, alloc: Global, graph: &Graph, row: &Row) -> Result<Plan, Fail> {
+/// Whether a plan between two sets has their differences.
+pub fn led(alloc: Global) -> Result<Vec<bool>, Fail> {
+    let graph = graph_of(alloc, 5, &SAMPLE)?;
+    let mut right = Vec::new(alloc);
+    for row in &BETWEEN {
+        right.push(is_led(alloc, &graph, row)?)?;
+    }
+    Ok(right)
+}
+
+// Both sets have to be closed.
+fn is_led(alloc: Global, graph: &Graph, row: &Row) -> Result<bool, NoMem> {
     let from = set_of(alloc, graph.len(), row.0)?;
     let to = set_of(alloc, graph.len(), row.1)?;
-    assert!(rt; graph.closed(&from));
-    assert!(rt; graph.closed(&to));
-    Ok(between(alloc, graph, &from, &to)?)
-}
-
-fn must_lead(rt: &impl Abort, alloc: Global, graph: &Graph, rows: &[Row]) -> Result<(), Fail> {
-    for row in rows {
-        must_plan(rt, alloc, &led(rt, alloc, graph, row)?, row)?;
+    if !graph.closed(&from) || !graph.closed(&to) {
+        return Ok(false);
     }
-    Ok(())
-}
-
-#[test]
-fn a_plan_between_two_sets_has_their_differences(rt: HostRuntime) -> Result<(), Fail> {
-    let graph = graph_of(rt.alloc(), 5, &SAMPLE)?;
-    must_lead(&rt, rt.alloc(), &graph, &BETWEEN)
+    is_so(alloc, &between(alloc, graph, &from, &to)?, row)
 }

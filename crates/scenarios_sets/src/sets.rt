@@ -1,10 +1,8 @@
 //! Sets as their ids.
 
 use rc_set::NoMem;
-use samples::set_of;
+use samples::{has_ids, set_of};
 use std::alloc::Global;
-use std::process::Abort;
-use std::test::Fail;
 
 /// Ids of two sets, what both have together, and what the first has alone.
 type Row<'a> = (&'a [u16], &'a [u16], &'a [u16], &'a [u16]);
@@ -16,27 +14,24 @@ const ROWS: [Row; 4] = [
     (&[65, 64, 1, 0], &[0, 1, 64], &[0, 1, 64, 65], &[65]),
 ];
 
-fn joined(alloc: Global, ids: &[u16], others: &[u16]) -> Result<Vec<u16>, NoMem> {
-    let mut set = set_of(alloc, 70, ids)?.copy(alloc)?;
-    set.join(&set_of(alloc, 70, others)?);
-    set.ids(alloc)
+fn is_joined(alloc: Global, row: &Row) -> Result<bool, NoMem> {
+    let mut set = set_of(alloc, 70, row.0)?.copy(alloc)?;
+    set.join(&set_of(alloc, 70, row.1)?);
+    has_ids(alloc, &set, row.2)
 }
 
-fn parted(alloc: Global, ids: &[u16], others: &[u16]) -> Result<Vec<u16>, NoMem> {
-    let mut set = set_of(alloc, 70, ids)?;
-    set.without(&set_of(alloc, 70, others)?);
-    set.ids(alloc)
+fn is_parted(alloc: Global, row: &Row) -> Result<bool, NoMem> {
+    let mut set = set_of(alloc, 70, row.0)?;
+    set.without(&set_of(alloc, 70, row.1)?);
+    has_ids(alloc, &set, row.3)
 }
 
-fn must_join_and_part(rt: &impl Abort, alloc: Global, rows: &[Row]) -> Result<(), Fail> {
-    for (ids, others, together, alone) in rows {
-        assert_eq!(rt; joined(alloc, ids, others)?.as_slice(), *together);
-        assert_eq!(rt; parted(alloc, ids, others)?.as_slice(), *alone);
+/// Whether each two sets join and part as they must.
+pub fn rows(alloc: Global) -> Result<Vec<bool>, NoMem> {
+    let mut right = Vec::new(alloc);
+    for row in &ROWS {
+        let is_joined = is_joined(alloc, row)?;
+        right.push(is_joined & is_parted(alloc, row)?)?;
     }
-    Ok(())
-}
-
-#[test]
-fn sets_join_and_part(rt: HostRuntime) -> Result<(), Fail> {
-    must_join_and_part(&rt, rt.alloc(), &ROWS)
+    Ok(right)
 }

@@ -1,15 +1,14 @@
-//! Runs on the sample, and on a graph of as many services as there may be.
+//! Runs on the sample: how they end by what failed, and what is refused.
 
-use crate::sample::{make, run_between};
 use rc_core::{Event, Finish, NotLegal, Outcome, Run, Took};
 use rc_graph::Graph;
 use rc_set::NoMem;
-use samples::{DB, LOG, NET, ROOT, SAMPLE, WEB, graph_of, set_of, widest_fan};
+use samples::{DB, LOG, NET, ROOT, WEB, has_ids, show_row};
+use samples_drawn::run_between;
 use std::alloc::Global;
-use std::process::Abort;
-use std::test::Fail;
+use std::io;
 
-const ALL: [u16; 5] = [DB, LOG, NET, ROOT, WEB];
+pub(crate) const ALL: [u16; 5] = [DB, LOG, NET, ROOT, WEB];
 
 /// A change, the events that are made, and what it has come to once one worker has gone on to the end.
 #[derive(Drop)]
@@ -25,7 +24,7 @@ struct Row<'a> {
     traced: usize,
 }
 
-const ENDS: [Row; 9] = [
+static ENDS: [Row; 9] = [
     // All comes up.
     Row {
         from: &[],
@@ -169,7 +168,14 @@ const ENDS: [Row; 9] = [
     },
 ];
 
-// One worker takes what it is given, and each transition succeeds, until there is no job.
+pub(crate) fn make(run: &mut Run, events: &[Event]) -> Result<(), NotLegal> {
+    for event in events {
+        run.step(*event)?;
+    }
+    Ok(())
+}
+
+/// One worker takes what it is given, and each transition succeeds, until there is no job.
 fn go_on(run: &mut Run) -> Result<(), NotLegal> {
     for _ in 0..ALL.len() {
         if let Took::Job(job) = run.take(1)? {
@@ -179,36 +185,53 @@ fn go_on(run: &mut Run) -> Result<(), NotLegal> {
     Ok(())
 }
 
-fn must_be(rt: &impl Abort, alloc: Global, end: &Finish, row: &Row) -> Result<(), Fail> {
-    assert_eq!(rt; end.live.ids(alloc)?.as_slice(), row.live);
-    assert_eq!(rt; end.failed.as_slice(), row.failed);
-    assert_eq!(rt; end.left.as_slice(), row.left);
-    assert_eq!(rt; end.stopped, row.stopped);
-    assert_eq!(rt; end.trace.len(), row.traced);
-    Ok(())
+/// What a row comes to, or nothing where something is refused that may not be.
+fn ended(alloc: Global, graph: &Graph, row: &Row) -> Result<Option<Finish>, NoMem> {
+    let Some(mut run) = run_between(alloc, graph, row.from, row.to, row.deadline)? else {
+        return Ok(None);
+    };
+    if make(&mut run, row.events).is_err() || go_on(&mut run).is_err() || !run.settled() {
+        return Ok(None);
+    }
+    Ok(Some(run.finish().take_apart()))
 }
 
-fn must_end(rt: &impl Abort, alloc: Global, graph: &Graph, rows: &[Row]) -> Result<(), Fail> {
-    for row in rows {
-        let mut run = run_between(rt, alloc, graph, row.from, row.to, row.deadline)?;
-        make(&mut run, row.events)?;
-        go_on(&mut run)?;
-        assert!(rt; run.settled());
-        must_be(rt, alloc, &run.finish().take_apart(), row)?;
+fn is_as(alloc: Global, end: &Finish, row: &Row) -> Result<bool, NoMem> {
+    let is_live = has_ids(alloc, &end.live, row.live)?;
+    Ok(
+        is_live
+            && end.failed.as_slice() == row.failed
+            && end.left.as_slice() == row.left
+            && end.stopped == row.stopped
+            && end.trace.len() == row.traced,
+    )
+}
+
+fn ends_so(alloc: Global, graph: &Graph, row: &Row) -> Result<bool, NoMem> {
+    match ended(alloc, graph, row)? {
+        Some(end) => is_as(alloc, &end, row),
+        None => Ok(false),
+    }
+}
+
+pub(crate) fn show_ends(rt: &(impl Print + AllocGlobal), graph: &Graph) -> io::Result<()> {
+    print!(rt; "runs end by what failed: {} rows", ENDS.len())?;
+    show_end_rows(rt, graph, &ENDS)?;
+    println!(rt; "")
+}
+
+fn show_end_rows(rt: &(impl Print + AllocGlobal), graph: &Graph, rows: &[Row]) -> io::Result<()> {
+    for (number, row) in rows.iter().enumerate() {
+        let right = ends_so(rt.alloc(), graph, row)?;
+        show_row(rt, number, right)?;
     }
     Ok(())
-}
-
-#[test]
-fn runs_end_by_what_failed(rt: HostRuntime) -> Result<(), Fail> {
-    let graph = graph_of(rt.alloc(), 5, &SAMPLE)?;
-    must_end(&rt, rt.alloc(), &graph, &ENDS)
 }
 
 /// A deadline, the events that are made, and those that are then refused.
 type Refusals<'a> = (Option<u64>, &'a [Event], &'a [Event]);
 
-const REFUSALS: [Refusals; 4] = [
+static REFUSALS: [Refusals; 4] = [
     (
         None,
         &[Event::Take(1, LOG), Event::Take(2, ROOT)],
@@ -250,75 +273,42 @@ const REFUSALS: [Refusals; 4] = [
     ),
 ];
 
-// Tries events, which must each be refused and leave the trace as it is.
-fn must_refuse(rt: &impl Abort, run: &mut Run, events: &[Event]) {
+/// Whether each of these events is refused, and leaves the trace as it is.
+pub(crate) fn refuses(run: &mut Run, events: &[Event]) -> bool {
     let before = run.trace().len();
     for event in events {
-        assert_eq!(rt; run.step(*event), Err(NotLegal), "{event:?}");
-        assert_eq!(rt; run.trace().len(), before, "{event:?}");
+        if run.step(*event).is_ok() || run.trace().len() != before {
+            return false;
+        }
     }
+    true
 }
 
-fn must_refuse_all(
-    rt: &impl Abort,
-    alloc: Global,
+fn refuses_after(alloc: Global, graph: &Graph, row: &Refusals) -> Result<bool, NoMem> {
+    let (deadline, made, refused) = row;
+    let Some(mut run) = run_between(alloc, graph, &[], &ALL, *deadline)? else {
+        return Ok(false);
+    };
+    Ok(make(&mut run, made).is_ok() && refuses(&mut run, refused))
+}
+
+pub(crate) fn show_refusals(rt: &(impl Print + AllocGlobal), graph: &Graph) -> io::Result<()> {
+    print!(rt;
+        "what is not legal changes nothing: {} rows",
+        REFUSALS.len()
+    )?;
+    show_refused_rows(rt, graph, &REFUSALS)?;
+    println!(rt; "")
+}
+
+fn show_refused_rows(
+    rt: &(impl Print + AllocGlobal),
     graph: &Graph,
     rows: &[Refusals],
-) -> Result<(), Fail> {
-    for (deadline, made, refused) in rows {
-        let mut run = run_between(rt, alloc, graph, &[], &ALL, *deadline)?;
-        make(&mut run, made)?;
-        must_refuse(rt, &mut run, refused);
+) -> io::Result<()> {
+    for (number, row) in rows.iter().enumerate() {
+        let right = refuses_after(rt.alloc(), graph, row)?;
+        show_row(rt, number, right)?;
     }
     Ok(())
 }
-
-#[test]
-fn what_is_not_legal_changes_nothing(rt: HostRuntime) -> Result<(), Fail> {
-    let graph = graph_of(rt.alloc(), 5, &SAMPLE)?;
-    must_refuse_all(&rt, rt.alloc(), &graph, &REFUSALS)
-}
-
-#[test]
-fn a_worker_waits_for_what_is_under_way(rt: HostRuntime) -> Result<(), Fail> {
-    let graph = graph_of(rt.alloc(), 5, &SAMPLE)?;
-    let mut run = run_between(&rt, rt.alloc(), &graph, &[], &ALL, None)?;
-    make(&mut run, &[Event::Take(1, LOG), Event::Take(2, ROOT)])?;
-    assert!(rt; matches!(run.take(3)?, Took::Wait));
-    Ok(())
-}
-
-#[test]
-fn a_refusal_says_so(rt: HostRuntime) -> Result<(), Fail> {
-    let text = format!(in rt.alloc(); "{NotLegal}")?;
-    assert_eq!(rt; text.as_str(), "the event is not legal now");
-    Ok(())
-}
-
-// All that need the first service, with it.
-fn whole_fan(alloc: Global, graph: &Graph) -> Result<Vec<u16>, NoMem> {
-    let first = set_of(alloc, graph.len(), &[0])?;
-    graph.down_of(alloc, &first)?.ids(alloc)
-}
-
-#[test]
-fn as_many_services_as_there_may_be_are_planned(rt: HostRuntime) -> Result<(), Fail> {
-    let graph = widest_fan(rt.alloc())?;
-    let all = whole_fan(rt.alloc(), &graph)?;
-    assert_eq!(rt; (all.len(), all.last().copied()), (4096, Some(4095)));
-    let mut run = run_between(&rt, rt.alloc(), &graph, &[], &all, None)?;
-    make(&mut run, &WIDE)?;
-    must_refuse(
-        &rt,
-        &mut run,
-        &[Event::Take(64, 4095), Event::Take(64, 4096)],
-    );
-    Ok(())
-}
-
-const WIDE: [Event; 4] = [
-    Event::Take(1, 0),
-    Event::Done(1, 0, Outcome::Ok),
-    Event::Take(64, 4095),
-    Event::Done(64, 4095, Outcome::Ok),
-];

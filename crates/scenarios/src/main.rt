@@ -1,0 +1,35 @@
+//! Whole runs on small graphs: how they end, what is refused, what a worker that asks is answered, and whether lists of
+//! events are taken exactly where a plain program says that they are legal. Prints a line a table: how many rows it has,
+//! and which of them are wrong.
+#![tactic(auto)]
+
+mod ends;
+mod legality;
+mod plain;
+mod taking;
+mod wide;
+
+use crate::ends::{show_ends, show_refusals};
+use crate::legality::show_legality;
+use crate::taking::show_asked;
+use crate::wide::show_wide;
+use rc_core::NotLegal;
+use rc_graph::Graph;
+use samples::{SAMPLE, graph_of};
+use std::io;
+use std::test::Fail;
+
+fn main(rt: HostRuntime) -> Result<(), Fail> {
+    let graph = graph_of(rt.alloc(), 5, &SAMPLE)?;
+    show_sample(&rt, &graph)?;
+    show_wide(&rt)?;
+    show_legality(&rt)
+}
+
+/// Runs on the sample.
+fn show_sample(rt: &(impl Print + AllocGlobal), graph: &Graph) -> io::Result<()> {
+    show_ends(rt, graph)?;
+    show_refusals(rt, graph)?;
+    show_asked(rt, graph)?;
+    println!(rt; "a refusal says: {NotLegal}")
+}

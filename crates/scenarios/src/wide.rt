@@ -1,0 +1,45 @@
+//! A graph of as many services as there may be, of which each but the first needs the first.
+
+use crate::ends::{make, refuses};
+use rc_core::{Event, Outcome};
+use rc_graph::Graph;
+use rc_set::NoMem;
+use samples::{set_of, widest_fan};
+use samples_drawn::run_between;
+use std::alloc::Global;
+use std::test::Fail;
+
+/// The first comes up, and then the last.
+const WIDE: [Event; 4] = [
+    Event::Take(1, 0),
+    Event::Done(1, 0, Outcome::Ok),
+    Event::Take(64, 4095),
+    Event::Done(64, 4095, Outcome::Ok),
+];
+
+/// What may not come then.
+const AFTER_WIDE: [Event; 2] = [Event::Take(64, 4095), Event::Take(64, 4096)];
+
+pub(crate) fn show_wide(rt: &(impl Print + AllocGlobal)) -> Result<(), Fail> {
+    let graph = widest_fan(rt.alloc())?;
+    let all = whole_fan(rt.alloc(), &graph)?;
+    let is_whole = all.len() == 4096 && all.last().copied() == Some(4095);
+    let is_planned = is_planned(rt.alloc(), &graph, &all)?;
+    Ok(println!(rt;
+        "as many services as there may be, all of them: {is_whole}, planned: {is_planned}"
+    )?)
+}
+
+/// All that need the first service, with it.
+fn whole_fan(alloc: Global, graph: &Graph) -> Result<Vec<u16>, NoMem> {
+    let first = set_of(alloc, graph.len(), &[0])?;
+    graph.down_of(alloc, &first)?.ids(alloc)
+}
+
+/// Whether all services of the fan rise after the first.
+fn is_planned(alloc: Global, graph: &Graph, all: &[u16]) -> Result<bool, NoMem> {
+    let Some(mut run) = run_between(alloc, graph, &[], all, None)? else {
+        return Ok(false);
+    };
+    Ok(make(&mut run, &WIDE).is_ok() && refuses(&mut run, &AFTER_WIDE))
+}

@@ -1,0 +1,60 @@
+//! Names, sets, graphs, cycles and plans: tables of what goes in and what must come out. A line for each
+//! table says how many rows it has, behind a line for each row that is wrong.
+#![tactic(auto)]
+
+mod graphs;
+mod names;
+mod plans;
+mod sets;
+
+use std::io;
+use std::test::Fail;
+
+fn main(rt: HostRuntime) -> Result<(), Fail> {
+    let alloc = rt.alloc();
+    tell(
+        &rt,
+        "texts that are names or say why not",
+        &names::texts(alloc)?,
+    )?;
+    tell(
+        &rt,
+        "faults with codes and messages",
+        &names::faults(alloc)?,
+    )?;
+    tell(&rt, "names that are new or not", &names::added(alloc)?)?;
+    tell(&rt, "places in byte order", &names::places(alloc)?)?;
+    tell(&rt, "sets that join and part", &sets::rows(alloc)?)?;
+    tell(&rt, "a graph", &graphs::first(alloc)?)?;
+    tell(
+        &rt,
+        "the graph of another handle, when the first is gone",
+        &graphs::shared(alloc)?,
+    )?;
+    tell(
+        &rt,
+        "cycles from their least service on, or none",
+        &graphs::cycles(alloc)?,
+    )?;
+    tell(
+        &rt,
+        "bringing up raises what is needed",
+        &plans::brought_up(alloc)?,
+    )?;
+    tell(
+        &rt,
+        "plans between two sets have their differences",
+        &plans::led(alloc)?,
+    )?;
+    Ok(())
+}
+
+/// Prints which rows of a table are wrong, and how many there are.
+fn tell(rt: &impl Print, what: &str, right: &[bool]) -> io::Result<()> {
+    for (row, is_right) in right.iter().enumerate() {
+        if !is_right {
+            println!(rt; "{what}: row {row} is wrong")?;
+        }
+    }
+    println!(rt; "{what}: {} rows", right.len())
+}

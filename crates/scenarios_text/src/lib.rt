@@ -1,5 +1,0 @@
-//! Texts and what is read of them.
-#![tactic(auto)]
-
-#[cfg(test)]
-mod forms;
