@@ -1,14 +1,18 @@
-//! Begins a run on sessions over the sample, and abandons, completes or spoils it; then plays the same
-//! change as one of a list of commands.
+//! Begins runs on sessions over the sample, and abandons, completes or spoils them; plays the same change
+//! as one of a list of commands; and goes on with a line that was made of its states.
 #![tactic(auto)]
+
+mod resumed;
 
 ghost use Rattle.std.specs.Prelude.{◌≡◌, false, length, IfOk};
 ghost use Rattle.rc_set.specs.Set.{Has};
 ghost use Rattle.rc_graph.specs.Closure.{IsClosed};
 ghost use Rattle.rc_core.specs.Course.{course_of, TargetOf};
+ghost use Rattle.rc_session.specs.Commands.{HasRun, command_of};
 
+use crate::resumed::resumed;
 use rc_core::{Ended, Event, Outcome, Run, Took};
-use rc_db::Db;
+use rc_db::{Db, Table};
 use rc_graph::Graph;
 use rc_names::Name;
 use rc_select::{Mode, Plan, Request};
@@ -25,15 +29,30 @@ const TURNS: u16 = 20;
 fn main(rt: HostRuntime) -> Result<(), Fail> {
     let db = sample(rt.alloc())?;
     let other = sample(rt.alloc())?;
-    Ok(show_all(&rt, db, other)?)
+    show_all(&rt, db, other)?;
+    Ok(show_resumed(&rt, sample(rt.alloc())?)?)
 }
 
 fn show_all(rt: &(impl Print + AllocGlobal), db: Db, other: Db) -> io::Result<()> {
     let mut session = Session::new(rt.alloc(), db)?;
     show_abandoned(rt, &mut session)?;
     let events = show_completed(rt, &mut session)?;
+    show_step(rt, &mut session, &back(rt.alloc()))?;
+    show_step(rt, &mut session, &on(rt.alloc()))?;
     show_played(rt, played(rt.alloc(), other, &events)?)?;
-    show_spoiled(rt, &mut session)
+    show_spoiled(rt, &mut session)?;
+    show_refused(rt, &mut session)
+}
+
+/// An undo on a session that goes on with a line.
+fn show_resumed(rt: &(impl Print + AllocGlobal), db: Db) -> io::Result<()> {
+    match resumed(rt.alloc(), db)? {
+        Some(mut session) => {
+            show_place(rt, &session)?;
+            show_step(rt, &mut session, &back(rt.alloc()))
+        }
+        None => println!(rt; "no states of the database"),
+    }
 }
 
 fn show_abandoned(rt: &(impl Print + AllocGlobal), session: &mut Session) -> io::Result<()>
@@ -52,7 +71,7 @@ fn show_completed(rt: &(impl Print + AllocGlobal), session: &mut Session) -> io:
     requires { session.old.begun ≡ false }
     ensures { session.new.begun ≡ false }
 {
-    let completed = completed(rt.alloc(), session);
+    let completed = brought_up(rt.alloc(), session);
     show_line(rt, session)?;
     match completed {
         Ok(report) => {
@@ -66,14 +85,53 @@ fn show_completed(rt: &(impl Print + AllocGlobal), session: &mut Session) -> io:
     }
 }
 
+/// An undo or a redo that is begun and completed.
+fn show_step(rt: &(impl Print + AllocGlobal), session: &mut Session, step: &Step) -> io::Result<()>
+    requires closed { session.old.begun ≡ false }
+    requires run { HasRun (command_of step.now) }
+    ensures { session.new.begun ≡ false }
+{
+    match completed(rt.alloc(), session, step) {
+        Ok(report) => {
+            let (lowered, raised) = (report.lowered.len(), report.raised.len());
+            println!(rt; "completed, lowered {lowered}, raised {raised}")?;
+        }
+        Err(refusal) => println!(rt; "refused {refusal:?}")?,
+    }
+    show_place(rt, session)
+}
+
 fn show_spoiled(rt: &(impl Print + AllocGlobal), session: &mut Session) -> io::Result<()>
     requires { session.old.begun ≡ false }
+    ensures { session.new.begun ≡ false }
 {
     match spoiled(rt.alloc(), session) {
         Ok(()) => println!(rt; "spoiled, and not refused")?,
         Err(refusal) => println!(rt; "spoiled, and then refused {refusal:?}")?,
     }
     show_place(rt, session)
+}
+
+/// A change on a spoiled session, and what it has then.
+fn show_refused(rt: &(impl Print + AllocGlobal), session: &mut Session) -> io::Result<()>
+    requires { session.old.begun ≡ false }
+{
+    match changed(rt.alloc(), session) {
+        Ok(_) => println!(rt; "changed")?,
+        Err(refusal) => println!(rt; "a change is refused {refusal:?}")?,
+    }
+    show_place(rt, session)?;
+    show_table(rt, session.table())
+}
+
+/// The bundles, each with the number of its services.
+fn show_table(rt: &impl Print, table: &Table) -> io::Result<()> {
+    print!(rt; "bundles:")?;
+    for place in 0..table.len() {
+        let (name, set) = table.at(place);
+        print!(rt; " {} of {}", name.text(), set.len())?;
+    }
+    println!(rt; "")
 }
 
 /// Where the line stands, and how many services are live.
@@ -148,13 +206,35 @@ fn abandoned(alloc: Global, session: &mut Session) -> Result<u16, Refusal>
     Ok(services)
 }
 
-/// Begins the change, and completes it by a run in which all goes well.
-fn completed(alloc: Global, session: &mut Session) -> Result<Report, Refusal>
+/// The undo, and the redo, without a limit.
+fn back(alloc: Global) -> Step
+    ensures { HasRun (command_of result) }
+{
+    Step::Undo(0, Vec::new(alloc))
+}
+
+fn on(alloc: Global) -> Step
+    ensures { HasRun (command_of result) }
+{
+    Step::Redo(0, Vec::new(alloc))
+}
+
+/// Begins the change, and completes it.
+fn brought_up(alloc: Global, session: &mut Session) -> Result<Report, Refusal>
     requires { session.old.begun ≡ false }
     ensures { session.new.begun ≡ false }
 {
     let step = Step::Change(up_site(alloc)?, Vec::new(alloc));
-    let begun = session.begin(alloc, &step, 0)?;
+    completed(alloc, session, &step)
+}
+
+/// Begins a step, and completes it by a run in which all goes well.
+fn completed(alloc: Global, session: &mut Session, step: &Step) -> Result<Report, Refusal>
+    requires closed { session.old.begun ≡ false }
+    requires run { HasRun (command_of step.now) }
+    ensures { session.new.begun ≡ false }
+{
+    let begun = session.begin(alloc, step, 0)?;
     match ended(alloc, session.db().graph(), begun.plan(), begun.deadline()) {
         Ok(run) => Ok(session.complete(begun, run)),
         Err(_) => {
@@ -167,6 +247,7 @@ fn completed(alloc: Global, session: &mut Session) -> Result<Report, Refusal>
 /// Begins the change and spoils it, and asks for a plan.
 fn spoiled(alloc: Global, session: &mut Session) -> Result<(), Refusal>
     requires { session.old.begun ≡ false }
+    ensures { session.new.begun ≡ false }
 {
     let request = up_site(alloc)?;
     let step = Step::Change(up_site(alloc)?, Vec::new(alloc));
@@ -174,6 +255,14 @@ fn spoiled(alloc: Global, session: &mut Session) -> Result<(), Refusal>
     session.spoil(begun);
     session.dry(alloc, &request)?;
     Ok(())
+}
+
+/// Makes the change by no events.
+fn changed(alloc: Global, session: &mut Session) -> Result<Report, Refusal>
+    requires { session.old.begun ≡ false }
+{
+    let request = up_site(alloc)?;
+    session.change_by(alloc, &request, &[])
 }
 
 /// The end of a run of a plan by one worker.
