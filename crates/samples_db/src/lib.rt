@@ -1,4 +1,4 @@
-//! Small databases that tests share, whether two databases are the same, and how bundles and edits are printed.
+//! Small databases that tests share, whether two databases are the same, and how services are printed.
 #![tactic(auto)]
 
 ghost use Rattle.std.specs.Prelude.{◌<◌, ◌≤◌, length};
@@ -7,7 +7,7 @@ mod same;
 mod show;
 
 pub use crate::same::is_same;
-pub use crate::show::{name_of, show_edit, show_names, show_set, show_words};
+pub use crate::show::show_names;
 use rc_db::{Db, MAX_BUNDLES, NoMem, Parts, Service, Table};
 use rc_names::{Kind, MAX_NAMES, Name, NameFault, Names};
 use samples::{LOG, SAMPLE, WEB, graph_of, set_of};
