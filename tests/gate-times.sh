@@ -30,9 +30,9 @@ for crate in ${*:-$(sed -n 's/^\([a-z][a-z0-9_]*\)[^:#]*:.*/\1/p' crates.txt)}; 
   (cd "$folder" && rt lib --jobs 1 >"$room/log" 2>&1) || true
   rm -rf "$folder/out/incremental"
   proof=$(seconds "$folder" rt check --jobs 1 $tests)
-  edits=$(find "$folder/must-fail" -name '*.edit' 2>/dev/null | wc -l)
+  edits=$(find "$folder/edits" -name '*.edit' 2>/dev/null | wc -l)
   tried=0
-  if [ "$edits" -gt 0 ]; then tried=$(seconds . rt must-fail "$crate"); fi
+  if [ "$edits" -gt 0 ]; then tried=$(seconds . sh tests/edits.sh "$crate"); fi
   code=$(lines "$folder/src" '*.rt') specs=$(lines "$folder/specs" '*.antt') proofs=$(lines "$folder/proofs" '*.antt')
   rate=$(awk -v s="$((proof + tried))" -v n="$((code + specs + proofs))" 'BEGIN { printf "%.1f", n ? s / 60 / (n / 1000) : 0 }')
   echo "| \`$crate\` | $code | $specs | $proofs | $proof | $edits | $tried | $rate |"
