@@ -1,8 +1,8 @@
-# `make demo` shows the main job on the sample; `make test` is the merge gate.
+# `make demo` shows the main job on the sample; `make build` proves and builds the program; `make test`
+# is the merge gate.
 # `rt` is the command of the Rattle kit: it proves, builds and runs.
 PREFIX ?= /usr/local
 PROGRAM := crates/undorc/out/undorc
-SAMPLES := docs/samples
 SOURCES := $(shell find crates -name out -prune -o -type f -print) crates.txt
 
 .PHONY: build demo test install
@@ -14,10 +14,9 @@ build: $(PROGRAM)
 $(PROGRAM): $(SOURCES)
 	@sh tests/build.sh
 
-demo: build
-	$(PROGRAM) compile $(SAMPLES)/source
-	$(PROGRAM) compile $(SAMPLES)/source | cat - $(SAMPLES)/up-root.txt | $(PROGRAM) plan -u web
-	$(PROGRAM) compile $(SAMPLES)/source | cat - $(SAMPLES)/session.txt | $(PROGRAM) session -x down:log
+# Shows the proved program where it is there, else the program as it stands, with nothing proved.
+demo:
+	@sh tests/demo.sh $(PROGRAM)
 
 test:
 	@sh tests/all.sh

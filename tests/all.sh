@@ -26,6 +26,7 @@ count() {
 
 # The gate builds the program twice, by LLVM and by Rattle's own compiler.
 count rt ci
+count sh tests/edits.sh
 count sh tests/program.sh crates/undorc/out/undorc
 if [ -f crates/undorc/out/undorc.by-rattle ]; then
     count sh tests/program.sh crates/undorc/out/undorc.by-rattle
