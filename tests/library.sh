@@ -1,5 +1,5 @@
-# What the tests of the built program share: a folder of their own, runs, and what is wanted of them. The script that reads
-# this file has set `here` to the folder tests and `program` to the built program's path.
+# What the tests of the built program share: a folder of their own, texts, runs, and what is wanted of them. The script that
+# reads this file has set `here` to the folder tests and `program` to the built program's path.
 samples=$(realpath "$here/../docs/samples")
 room=$(mktemp -d)
 trap 'rm -rf "$room"' EXIT
@@ -7,7 +7,19 @@ cd "$room"
 passed=0
 failed=0
 patience=30
+
+# Texts are written as printf's %b reads them, each on one line.
+sample=$(sed 's/$/\\n/' "$samples/sample.txt" | tr -d '\n')
+first='undorc-db 1\n'
+none="${first}services 0\nbundles 0\nend\n"
+one="${first}services 1\n"
+last='bundles 0\nend\n'
 strange=$(printf '\377')
+
+# with OLD NEW: the sample with other words in one place.
+with() {
+    printf '%s' "$sample" | sed "s/$1/$2/"
+}
 
 # judge WHAT STATUS: the files `status`, `out` and `err` against what is wanted.
 judge() {
@@ -23,8 +35,55 @@ judge() {
     done
 }
 
-# Begins a session through pipes, with these words: 3 is where lines go, 4 is where answers come from. It is ended after
-# some seconds, so that an answer that does not come ends the waiting for it.
+# wants OUTPUT FAULT: what is wanted on standard output and standard error.
+wants() {
+    printf '%b' "$1" > out.wanted
+    printf '%b' "$2" > err.wanted
+}
+
+# runs WORDS..: a run on the file `in`.
+runs() {
+    echo 0 > status
+    "$program" "$@" < in > out 2> err || echo $? > status
+}
+
+# expect STATUS OUTPUT FAULT INPUT WORDS..: one run, judged.
+expect() {
+    wanted=$1
+    wants "$2" "$3"
+    printf '%b' "$4" > in
+    shift 4
+    runs "$@"
+    judge "undorc $*" "$wanted"
+}
+
+# A wrong command line: it ends with 100, something is told, nothing written, and nothing read.
+wrong() {
+    printf '%b' "$sample" > in
+    echo 0 > status
+    { "$program" "$@" > out 2> err || echo $? > status; cat > rest; } < in
+    if cmp -s in rest && [ -s err ]; then
+        cp err err.wanted
+    else
+        echo 'a line on standard error, and all of the input left' > err.wanted
+    fi
+    : > out.wanted
+    judge "undorc $*" 100
+}
+
+# What is told of a wrong command line has this line.
+says() {
+    passed=$((passed + 1))
+    if ! grep -q -e "$1" err; then
+        passed=$((passed - 1))
+        failed=$((failed + 1))
+        echo "FAILED: no line of the message is like '$1':"
+        cat err
+    fi
+}
+
+# begins WORDS..: begins a session through pipes: 3 is where lines go, 4 is where answers come from. It is ended after some
+# seconds, so that an answer that does not come ends the waiting for it.
 begins() {
     [ -p to ] || mkfifo to from
     : > out
@@ -33,7 +92,7 @@ begins() {
     exec 3> to 4< from
 }
 
-# tell LINE: writes a line of a session, with printf's escapes. It may be that nobody reads any more.
+# Writes a line of a session. It may be that nobody reads any more.
 tell() {
     (printf '%b\n' "$1" >&3) 2> /dev/null || true
 }
