@@ -377,6 +377,24 @@ compiles "${first}services 4096\\n$text$last" chain
 oneshot chain/s4097
 fails 1 TooMany chain
 
+# 4,096 bundles, one more, and a pipeline of a further name and of one of theirs.
+tree many
+(cd many && seq -f 'b%g' 1000 5095 | xargs mkdir)
+for entry in many/b*; do printf bundle > "$entry/type"; done
+text=$(seq -f 'bundle b%g' 1000 5095 | sed 's/$/\\n/' | tr -d '\n')
+compiles "${first}services 0\\nbundles 4096\\n${text}end\\n" many
+bundle many/b5096 ''
+fails 1 TooMany many
+rm -r many/b5096
+longrun many/p
+printf q > many/p/producer-for
+longrun many/q
+printf p > many/q/consumer-for
+printf pipe > many/q/pipeline-name
+fails 1 TooMany many
+printf b1000 > many/q/pipeline-name
+fails 1 'PipelineName q' many
+
 # Wrong command lines, and devices that fail.
 wrong compile
 wrong compile -x

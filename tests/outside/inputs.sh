@@ -1,7 +1,8 @@
 # How much of an input is read, texts that are cut short, and inputs at their bounds. tests/program.sh reads this file.
 printf '%b' "$sample" > base
 
-# A text that is cut short is bad at its last line, wherever it is cut; a script counts with the line above it.
+# A text that is cut short is bad at its last line, wherever it is cut, by the reader of a front and by that of a whole
+# text; a script counts with the line above it.
 cut=0
 at=0
 end=0
@@ -14,6 +15,8 @@ while read -r line; do
     for length in $(seq "$end" $((next - 1))); do
         head -c "$length" base > in
         "$program" plan < in > out 2> err || true
+        [ "$(cat out err)" = "undorc: Bad $at" ] || cut=$((cut + 1))
+        "$program" db -b in check > out 2> err || true
         [ "$(cat out err)" = "undorc: Bad $at" ] || cut=$((cut + 1))
     done
     end=$next

@@ -5,7 +5,8 @@ ghost use Rattle.rc_source.specs.TreeFaults.{IsCallFault};
 use rc_source::{MemoryTree, Tree, TreeFault};
 use std::alloc::Global;
 
-/// Does well so often, fails once, and does well from then on: so a reader that asks again is found out.
+/// Does well so often, fails once, and does well from then on: so a reader that asks again is
+/// found out.
 #[derive(Drop)]
 pub struct FailingTree {
     tree: MemoryTree,

@@ -7,7 +7,7 @@ use std::alloc::Global;
 pub type File<'a> = (&'a str, &'a str, &'a [u8]);
 
 /// The services of the sample.
-pub static SAMPLE: [File<'static>; 17] = [
+static SAMPLE: [File<'static>; 17] = [
     ("root", "type", b"oneshot\n"),
     ("root", "flag-essential", b""),
     ("root", "up", b"true\n"),
@@ -45,7 +45,7 @@ pub fn sample(alloc: Global) -> Result<MemoryTree, NoMem> {
 }
 
 /// Puts files into a tree.
-pub fn add_files(tree: &mut MemoryTree, files: &[File<'_>]) -> Result<(), NoMem> {
+fn add_files(tree: &mut MemoryTree, files: &[File<'_>]) -> Result<(), NoMem> {
     for (service, path, bytes) in files {
         tree.put(service, path, bytes)?;
     }

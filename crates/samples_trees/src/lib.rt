@@ -5,4 +5,4 @@ mod failing;
 mod files;
 
 pub use crate::failing::FailingTree;
-pub use crate::files::{File, SAMPLE, SITE, add_files, sample, tree_of};
+pub use crate::files::{SITE, sample, tree_of};

@@ -12,7 +12,8 @@ pub(crate) struct Sink {
 }
 
 impl Sink {
-    /// At most so many bytes a write, and so many calls, flushes among them, that do well before all fail.
+    /// At most so many bytes a write, and so many calls, flushes among them, that do well before
+    /// all fail.
     pub(crate) fn new(alloc: Global, piece: usize, good: usize) -> Sink {
         Sink {
             taken: Vec::new(alloc),

@@ -1,12 +1,10 @@
 //! The command over a tree, a writer and a teller that fail.
 use crate::compiled::status_of;
 use crate::device::Sink;
+use crate::refused::SAMPLE_CALLS;
 use rc_source::Tree;
 use samples_trees::{FailingTree, sample, tree_of};
 use std::io;
-
-/// The calls that reading the sample takes: one for the list, and one for each file that is looked for.
-const SAMPLE_CALLS: usize = 56;
 
 const ALL: usize = 4_096;
 
@@ -30,7 +28,7 @@ static TELLERS: [(&str, usize, usize); 2] = [
 /// The sample on a device that fails after each number of calls.
 pub(crate) fn show_devices(rt: &(impl Print + AllocGlobal)) -> io::Result<()> {
     println!(rt; "\nthe sample on devices that fail:")?;
-    for calls in 0..SAMPLE_CALLS + 1 {
+    for calls in 0..=SAMPLE_CALLS {
         print!(rt; "after {calls} calls: ")?;
         show_device(rt, calls)?;
     }

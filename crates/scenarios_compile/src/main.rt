@@ -1,58 +1,33 @@
-//! Compiles source trees in memory, by the library's calls and as the command does, and prints the text of
-//! each database or the refusal.
+//! Reads source trees that stand in memory, and compiles the sample: by the library's calls, and
+//! as the command does over devices that fail.
 #![tactic(auto)]
 
-mod bundles;
-mod compared;
 mod compiled;
+mod definitions;
 mod device;
 mod devices;
-mod files;
-mod large;
-mod orders;
-mod pipes;
-mod rows;
-mod shown;
-mod trees;
-mod worked;
+mod refused;
 
-use crate::bundles::BUNDLES;
+use crate::compiled::show_sample;
+use crate::definitions::show;
 use crate::devices::{show_devices, show_tellers, show_writers};
-use crate::files::FILES;
-use crate::large::{show_bundles, show_services, show_sizes};
-use crate::orders::ORDERS;
-use crate::pipes::PIPES;
-use crate::rows::Row;
-use crate::shown::{show_pairs, show_rows, show_sample};
-use crate::worked::WORKED;
+use crate::refused::{show_calls, show_files, show_sizes, show_trees};
+use samples_trees::sample;
 use std::io;
 
 fn main(rt: HostRuntime) -> io::Result<()> {
-    show_small(&rt)?;
-    show_large(&rt)?;
+    show_read(&rt)?;
+    show_sample(&rt)?;
     show_failing(&rt)
 }
 
-/// Trees of a few entries.
-fn show_small(rt: &(impl Print + AllocGlobal)) -> io::Result<()> {
-    show_sample(rt)?;
-    show_tables(rt)?;
-    show_pairs(rt)
-}
-
-fn show_tables(rt: &(impl Print + AllocGlobal)) -> io::Result<()> {
-    let tables: [&[Row]; 5] = [&WORKED, &BUNDLES, &PIPES, &ORDERS, &FILES];
-    for rows in tables {
-        show_rows(rt, rows)?;
-    }
-    Ok(())
-}
-
-/// Trees of the greatest sizes.
-fn show_large(rt: &(impl Print + AllocGlobal)) -> io::Result<()> {
+/// What is read of trees.
+fn show_read(rt: &(impl Print + AllocGlobal)) -> io::Result<()> {
+    show(rt, "the sample", &mut [sample(rt.alloc())?])?;
+    show_trees(rt)?;
+    show_files(rt)?;
     show_sizes(rt)?;
-    show_services(rt)?;
-    show_bundles(rt)
+    show_calls(rt)
 }
 
 /// Devices that fail.

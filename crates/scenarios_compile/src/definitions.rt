@@ -1,10 +1,10 @@
-//! What was read of trees, in lines.
+//! What is read of trees, in lines.
 use rc_names::Name;
 use rc_source::{Definition, Tree, read_all};
 use std::io;
 
 /// Reads trees, and prints their definitions or the fault.
-pub fn show<T: Tree>(
+pub(crate) fn show<T: Tree>(
     rt: &(impl Print + AllocGlobal),
     what: &str,
     trees: &mut [T],
@@ -21,7 +21,7 @@ pub fn show<T: Tree>(
     }
 }
 
-// A definition, in a line for its service and one for each list of names.
+/// A definition, in a line for its service and one for each list of names.
 fn show_definition(rt: &(impl Print + AllocGlobal), d: &Definition) -> io::Result<()> {
     println!(rt;
         "  {} {:?} {} {} {}",
@@ -40,7 +40,7 @@ fn show_definition(rt: &(impl Print + AllocGlobal), d: &Definition) -> io::Resul
     show_names(rt, "contents", &d.contents)
 }
 
-// A text by its length, if it is there.
+/// A text by its length, if it is there.
 fn show_text(rt: &(impl Print + AllocGlobal), what: &str, text: &Option<String>) -> io::Result<()> {
     match text {
         Some(text) => println!(rt; "    {what} of {} bytes", text.len()),
@@ -48,7 +48,7 @@ fn show_text(rt: &(impl Print + AllocGlobal), what: &str, text: &Option<String>)
     }
 }
 
-// A name, if it is there.
+/// A name, if it is there.
 fn show_name(rt: &(impl Print + AllocGlobal), what: &str, name: &Option<Name>) -> io::Result<()> {
     match name {
         Some(name) => println!(rt; "    {what} {}", name.text()),
@@ -56,7 +56,7 @@ fn show_name(rt: &(impl Print + AllocGlobal), what: &str, name: &Option<Name>) -
     }
 }
 
-// Names, one a line.
+/// Names, one a line.
 fn show_names(rt: &(impl Print + AllocGlobal), what: &str, names: &[Name]) -> io::Result<()> {
     for name in names {
         println!(rt; "    {what} {}", name.text())?;

@@ -1,0 +1,55 @@
+//! What reading bytes must come to.
+
+use rc_db::{Db, NoMem};
+use rc_dbtext::{TextFault, read_db, read_db_front, write_db};
+use samples_db::is_same;
+use std::alloc::Global;
+
+/// Whether bytes are refused, or read as a database whose text they are: the one of this text only
+/// where they are it. The front reader is asked too.
+pub(crate) fn is_right(alloc: Global, db: &Db, text: &[u8], bytes: &[u8]) -> Result<bool, NoMem> {
+    Ok(is_right_whole(alloc, db, text, bytes)? && is_right_front(alloc, bytes)?)
+}
+
+fn is_right_whole(alloc: Global, db: &Db, text: &[u8], bytes: &[u8]) -> Result<bool, NoMem> {
+    match read_db(alloc, bytes) {
+        Ok(other) => is_right_read(alloc, db, other, text, bytes),
+        Err(fault) => Ok(fault != TextFault::Memory && bytes != text),
+    }
+}
+
+fn is_right_read(
+    alloc: Global,
+    db: &Db,
+    other: Db,
+    text: &[u8],
+    bytes: &[u8],
+) -> Result<bool, NoMem> {
+    let is_alike = is_same(db, &other) == (bytes == text);
+    let is_text = is_text_of(alloc, &other, bytes);
+    drop(other);
+    Ok(is_text? && is_alike)
+}
+
+fn is_right_front(alloc: Global, bytes: &[u8]) -> Result<bool, NoMem> {
+    match read_db_front(alloc, bytes) {
+        Ok((other, long)) => is_front_of(alloc, other, long, bytes),
+        Err(fault) => Ok(fault != TextFault::Memory),
+    }
+}
+
+/// Whether so many bytes at the front are the text of a database.
+pub(crate) fn is_front_of(alloc: Global, db: Db, long: usize, bytes: &[u8]) -> Result<bool, NoMem> {
+    let is_text = match bytes.get(..long) {
+        Some(front) => is_text_of(alloc, &db, front),
+        None => Ok(false),
+    };
+    drop(db);
+    is_text
+}
+
+/// Whether bytes are the text of a database.
+pub(crate) fn is_text_of(alloc: Global, db: &Db, bytes: &[u8]) -> Result<bool, NoMem> {
+    let text = write_db(alloc, db)?;
+    Ok(text.as_slice() == bytes)
+}
