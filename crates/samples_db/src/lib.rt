@@ -1,13 +1,11 @@
-//! Small databases that tests share, whether two databases are the same, and how services are printed.
+//! Small databases that tests share, and whether two databases are the same.
 #![tactic(auto)]
 
 ghost use Rattle.std.specs.Prelude.{◌<◌, ◌≤◌, length};
 
 mod same;
-mod show;
 
 pub use crate::same::is_same;
-pub use crate::show::show_names;
 use rc_db::{Db, MAX_BUNDLES, NoMem, Parts, Service, Table};
 use rc_names::{Kind, MAX_NAMES, Name, NameFault, Names};
 use samples::{LOG, SAMPLE, WEB, graph_of, set_of};
