@@ -38,7 +38,8 @@ fn show_filled(
 fn filled(alloc: Global, star: &str, text: &str) -> Result<String, NoMem> {
     let (times, piece) = star.split_once(' ').unwrap_or(("0", ""));
     let piece = piece.replacen(alloc, "\\n", "\n", 1)?;
-    let pieces = piece.repeat(alloc, times.parse().unwrap_or(0))?;
+    let times = times.parse::<usize>().unwrap_or(0);
+    let pieces = piece.as_str().repeat(alloc, times)?;
     text.replacen(alloc, "*", pieces.as_str(), 1)
 }
 
