@@ -6,21 +6,57 @@ ghost use Rattle.rc_line.specs.Line.{states};
 ghost use Rattle.rc_line.specs.Keeping.{state};
 ghost use Rattle.rc_session.specs.Doing.{IsStateOf};
 
+use crate::runs::{back, show_step};
+use crate::show::show_place;
 use rc_db::{Db, Table};
 use rc_line::Line;
 use rc_session::Session;
 use rc_set::{NoMem, Set};
 use samples::ROOT;
+use samples_db::sample;
 use std::alloc::Global;
+use std::io;
+use std::test::Fail;
+
+/// An undo on a session that goes on with a line.
+pub(crate) fn show_resumed(rt: &(impl Print + AllocGlobal)) -> Result<(), Fail> {
+    let db = sample(rt.alloc())?;
+    match resumed(rt.alloc(), db)? {
+        Some(session) => Ok(show_undo(rt, session)?),
+        None => Ok(println!(rt; "no states of the database")?),
+    }
+}
+
+fn show_undo(rt: &(impl Print + AllocGlobal), mut session: Session) -> io::Result<()>
+    requires { session.begun ≡ false }
+{
+    let shown = show_undone(rt, &mut session);
+    drop(session);
+    shown
+}
+
+fn show_undone(rt: &(impl Print + AllocGlobal), session: &mut Session) -> io::Result<()>
+    requires { session.old.begun ≡ false }
+{
+    show_place(rt, session)?;
+    show_step(rt, session, back(rt.alloc()))
+}
 
 /// A session that stands on the second of two states: in the first nothing is live, in the second `root`. None,
 /// where these are no two states of the database.
-pub(crate) fn resumed(alloc: Global, db: Db) -> Result<Option<Session>, NoMem>
+fn resumed(alloc: Global, db: Db) -> Result<Option<Session>, NoMem>
     ensures { IfOk result (λ made. IfSome made (λ session. session.begun ≡ false)) }
 {
-    match two_states(alloc, &db)? {
-        Some(line) => Ok(Some(Session::resume(db, line)?)),
-        None => Ok(None),
+    match two_states(alloc, &db) {
+        Ok(Some(line)) => Ok(Some(Session::resume(db, line)?)),
+        Ok(None) => {
+            drop(db);
+            Ok(None)
+        }
+        Err(short) => {
+            drop(db);
+            Err(short)
+        }
     }
 }
 
