@@ -9,7 +9,7 @@ use Rattle.rc_holds.specs.Mirror.{HasListed}
 use Rattle.rc_holds.specs.declared.rows.Listed.TheVariants.{Producer}
 use Rattle.rc_compile.specs.Told.{IsMatchedAt}
 use Rattle.rc_compile.proofs.Looking.{paired, writes_listed}
-use Rattle.rc_compile.proofs.book.filled.Goals as goal
+use Rattle.rc_compile.proofs.book.listed.Goals as goal
 
 pub shared_of-requires : goal.shared_of-requires
 shared_of-requires c name given = (c.requires.bundles name).1 given
@@ -20,7 +20,7 @@ matched_of-requires c = ap length c.deref.ensures.value ∙ sym (length-rows c.i
 pub returns : goal.returns
 returns c =
     let ms = map meaning_of c.args.definitions.now in
-    let names = c.args.services in
+    let names = c.args.services.now in
     let feeds = c.in_ok-feeds.feeds.items in
     let pair = paired (HasListed Producer ms) names (rows feeds) c.in_ok-feeds.ensures in
     let Fed : List (Vec ℕ) → Type 0 = λ v. Holds c.in_ok-matched.matched (λ s. (m : Meaning) × Contains ms m × IsMatchedAt names (rows v) m s) in
