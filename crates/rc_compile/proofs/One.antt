@@ -15,7 +15,7 @@ use Rattle.rc_db.proofs.Values.{named_by_value}
 use Rattle.rc_db.proofs.Words.{bound_of_value, value_of-named}
 use Rattle.rc_source.specs.Meaning.{Meaning, ListsNames}
 use Rattle.rc_source.proofs.Members.{Contains-cons_cases, Contains-there, Contains-here, Contains-nil}
-use Rattle.rc_source.proofs.SameNames.{same_names}
+use Rattle.rc_names.proofs.ByteOrder.{same_names}
 use Rattle.rc_holds.specs.Pipelines.{IsService}
 use Rattle.rc_holds.specs.Standing.{IsBundle}
 use Rattle.rc_holds.proofs.Orders.{contains_at, one_place}

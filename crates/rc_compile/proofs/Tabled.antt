@@ -10,9 +10,8 @@ use Rattle.rc_names.specs.Names.{IsBefore, IsInByteOrder}
 use Rattle.rc_db.specs.Bundles.{Bundles, names_of, value_of, AreBelow, IsChangedAt, IsTable}
 use Rattle.rc_db.proofs.Words.{value_of-named}
 use Rattle.rc_db.proofs.Values.{named_by_value}
-use Rattle.rc_names.proofs.ByteOrder.{order_head, order_tail}
+use Rattle.rc_names.proofs.ByteOrder.{order_head, order_tail, same_names}
 use Rattle.rc_set.specs.Set.{Has}
-use Rattle.rc_source.proofs.SameNames.{same_names}
 use Rattle.rc_holds.specs.Joining.{AllWithin}
 use Rattle.rc_holds.specs.Sets.{AreSetsOf}
 use Rattle.rc_holds.proofs.Orders.{one_place, place_of, irreflexive}

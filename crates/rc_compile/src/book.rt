@@ -43,7 +43,12 @@ pub(crate) fn book_of(alloc: Global, definitions: &[Definition]) -> Result<Book,
     let Some(services) = names_of(alloc, definitions, Which::Services)? else {
         return Err(CompileFault::TooMany);
     };
-    let Some(bundles) = names_of(alloc, definitions, Which::Bundles)? else {
+    let Ok(found) = names_of(alloc, definitions, Which::Bundles) else {
+        drop(services);
+        return Err(CompileFault::Memory);
+    };
+    let Some(bundles) = found else {
+        drop(services);
         return Err(CompileFault::TooMany);
     };
     Ok(filled(alloc, definitions, services, bundles)?)
@@ -60,17 +65,47 @@ fn filled(
     requires bundles { (name : List ℕ) → Contains bundles name ↔ IsBundle (map meaning_of definitions.now) name }
     ensures { IfOk result (IsBook (map meaning_of definitions.now)) }
 {
+    match listed(alloc, definitions, &services, &bundles) {
+        Ok((shared, longruns, feeds, matched)) => Ok(Book {
+            services,
+            bundles,
+            shared,
+            longruns,
+            feeds,
+            matched,
+        }),
+        Err(short) => {
+            drop((services, bundles));
+            Err(short)
+        }
+    }
+}
+
+// What a book lists beside the tables of names, in its order.
+type Lists = (Set, Set, Vec<Vec<u16>>, Set);
+
+// The lists of a book with these tables of names.
+fn listed(
+    alloc: Global,
+    definitions: &[Definition],
+    services: &Names,
+    bundles: &Names,
+) -> Result<Lists, NoMem>
+    requires services { (name : List ℕ) → Contains services.now name ↔ IsService (map meaning_of definitions.now) name }
+    requires bundles { (name : List ℕ) → Contains bundles.now name ↔ IsBundle (map meaning_of definitions.now) name }
+    ensures { IfOk result (λ lists. IsBook (map meaning_of definitions.now) (record {
+      services = services.now;
+      bundles = bundles.now;
+      shared = lists.0;
+      longruns = lists.1;
+      feeds = lists.2;
+      matched = lists.3;
+    })) }
+{
     let _count = services.len();
-    let shared = shared_of(alloc, definitions, &bundles)?;
-    let longruns = longruns_of(alloc, definitions, &services)?;
-    let feeds = rows_of(alloc, definitions, Listed::Producer, &services, &services)?;
-    let matched = matched_of(alloc, definitions, &services, &feeds)?;
-    Ok(Book {
-        services,
-        bundles,
-        shared,
-        longruns,
-        feeds,
-        matched,
-    })
+    let shared = shared_of(alloc, definitions, bundles)?;
+    let longruns = longruns_of(alloc, definitions, services)?;
+    let feeds = rows_of(alloc, definitions, Listed::Producer, services, services)?;
+    let matched = matched_of(alloc, definitions, services, &feeds)?;
+    Ok((shared, longruns, feeds, matched))
 }

@@ -35,11 +35,22 @@ pub(crate) fn build(
     ensures free { OnOk result (AreFree (map meaning_of definitions.now) 7) }
     ensures fault { IfErr result (IsCompileFault (map meaning_of definitions.now)) }
 {
-    let sets = bundle_sets(alloc, definitions, &book.services, &book.bundles, contents)?;
+    let Ok(sets) = bundle_sets(alloc, definitions, &book.services, &book.bundles, contents) else {
+        drop(book);
+        return Err(CompileFault::Memory);
+    };
     let graph = match graph_of(alloc, definitions, &book.services, &book.bundles, &sets) {
         Ok(graph) => graph,
-        Err(CycleFault::Cycle(names)) => return Err(CompileFault::Cycle(names)),
-        Err(CycleFault::Memory) => return Err(CompileFault::Memory),
+        Err(CycleFault::Cycle(names)) => {
+            drop((book, sets));
+            return Err(CompileFault::Cycle(names));
+        }
+        Err(CycleFault::Memory) => {
+            drop((book, sets));
+            return Err(CompileFault::Memory);
+        }
     };
-    Ok(joined(alloc, definitions, book, graph, &sets)?)
+    let db = joined(alloc, definitions, book, graph, &sets);
+    drop(sets);
+    Ok(db?)
 }

@@ -22,7 +22,7 @@ use rc_graph::Graph;
 use rc_names::Names;
 use rc_set::{NoMem, Set};
 use rc_source::Definition;
-use std::alloc::Global;
+use std::alloc::{AllocError, Global};
 
 // The database of definitions whose pipes are right: the graph says what each service needs, and the
 // sets what the names of bundles stand for.
@@ -44,16 +44,23 @@ pub(crate) fn joined(
     ensures db { IfOk result (IsDatabaseOf (map meaning_of definitions.now)) }
     ensures writable { IfOk result IsWritable }
 {
-    let table = table_of(alloc, &book.bundles, sets)?;
-    let services = described(alloc, definitions, &book.services)?;
+    let Ok(table) = table_of(alloc, &book.bundles, sets) else {
+        drop((book, graph));
+        return Err(AllocError);
+    };
+    let Ok(services) = described(alloc, definitions, &book.services) else {
+        drop((book, graph, table));
+        return Err(AllocError);
+    };
     let Book {
         services: names,
-        bundles: _,
-        shared: _,
-        longruns: _,
-        feeds: _,
-        matched: _,
+        bundles,
+        shared,
+        longruns,
+        feeds,
+        matched,
     } = book;
+    drop((bundles, shared, longruns, feeds, matched));
     Ok(join(definitions, names, services, graph, table))
 }
 

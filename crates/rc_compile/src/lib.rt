@@ -80,6 +80,14 @@ pub fn compile(alloc: Global, definitions: &[Definition]) -> Result<Db, CompileF
     ensures fault { IfErr result (IsCompileFault (map meaning_of definitions.now)) }
 {
     let book = book_of(alloc, definitions)?;
-    let contents = test_all(alloc, definitions, &book)?;
-    build(alloc, definitions, book, &contents)
+    let contents = match test_all(alloc, definitions, &book) {
+        Ok(contents) => contents,
+        Err(fault) => {
+            drop(book);
+            return Err(fault);
+        }
+    };
+    let db = build(alloc, definitions, book, &contents);
+    drop(contents);
+    db
 }

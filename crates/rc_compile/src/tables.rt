@@ -32,6 +32,7 @@ pub(crate) fn names_of(
     let mut names = Names::new(alloc);
     for definition in definitions {
         if !add_given(alloc, &mut names, definition, which)? {
+            drop(names);
             return Ok(None);
         }
     }

@@ -1,4 +1,4 @@
-ghost use Rattle.std.specs.Prelude.{◌≡◌, ◌<◌, ◌↔◌, ℕ, Bool, [], length, take, IsTrue, IfOk, OnOk, OnErr};
+ghost use Rattle.std.specs.Prelude.{◌≡◌, ◌<◌, ◌≤◌, ◌↔◌, ℕ, Bool, [], length, take, vec_len, vec_capacity, IsTrue, IfOk, OnOk, OnErr};
 ghost use Rattle.rc_set.specs.Set.{Has};
 ghost use Rattle.rc_graph.specs.Closure.{IsClosed};
 ghost use Rattle.rc_graph.specs.declared.Way.{Way};
@@ -11,6 +11,7 @@ ghost use Rattle.rc_core.specs.Events.{IsWorker, IsFree, HasFailed, IsStopped};
 ghost use Rattle.rc_core.specs.Legal.{IsLegal, IsRun};
 ghost use Rattle.rc_core.specs.Settled.{with_event, IsStrictlyClosed, IsLive, IsSettled};
 ghost use Rattle.rc_core.specs.Taking.{IsAnswered};
+ghost use Rattle.rc_core.specs.Tables.{IsRoomFor};
 
 use crate::ended::Ended;
 use crate::event::{Event, Outcome};
@@ -21,7 +22,7 @@ use crate::took::Took;
 use rc_graph::Graph;
 use rc_select::Plan;
 use rc_set::{NoMem, Set};
-use std::alloc::Global;
+use std::alloc::{AllocError, Global};
 use std::marker::Model;
 use thiserror::Error;
 
@@ -83,16 +84,30 @@ impl Run {
         let tables = Tables::new(alloc, plan.opening(), plan.lower(), plan.raise())?;
         let events = 2 * tables.left.len() as usize + 1;
         let services = graph.len() as usize;
+        let Ok(rooms) = rooms_of(alloc, events, services) else {
+            drop(tables);
+            return Err(AllocError);
+        };
+        let Ok(sets) = sets_of(alloc, plan) else {
+            drop((tables, rooms));
+            return Err(AllocError);
+        };
+        let Ok(graph) = graph.share() else {
+            drop((tables, rooms, sets));
+            return Err(AllocError);
+        };
+        let (trace, failed_room, left_room) = rooms;
+        let (opening, lower, raise) = sets;
         Ok(Run {
-            graph: graph.share()?,
-            opening: plan.opening().copy(alloc)?,
-            lower: plan.lower().copy(alloc)?,
-            raise: plan.raise().copy(alloc)?,
+            graph,
+            opening,
+            lower,
+            raise,
             deadline,
             tables,
-            trace: Vec::with_capacity(alloc, events)?,
-            failed_room: Vec::with_capacity(alloc, services)?,
-            left_room: Vec::with_capacity(alloc, services)?,
+            trace,
+            failed_room,
+            left_room,
         })
     }
 
@@ -199,4 +214,32 @@ impl Run {
         self.tables.note(event);
         self.trace.push_reserved(event);
     }
+}
+
+/// The services that are up, those that are to go down and those that are to come up.
+fn sets_of(alloc: Global, plan: &Plan) -> Result<(Set, Set, Set), NoMem>
+    ensures opening { IfOk result (λ sets. sets.0 ≡ plan.now.opening) }
+    ensures lower { IfOk result (λ sets. sets.1 ≡ plan.now.lower) }
+    ensures raise { IfOk result (λ sets. sets.2 ≡ plan.now.raise) }
+{
+    let opening = plan.opening().copy(alloc)?;
+    let lower = plan.lower().copy(alloc)?;
+    let raise = plan.raise().copy(alloc)?;
+    Ok((opening, lower, raise))
+}
+
+/// Room for the events of a run, and for the two lists of its end.
+type Rooms = (Vec<Event>, Vec<u16>, Vec<u16>);
+
+/// Empty lists with room for so many events, and for so many services each.
+fn rooms_of(alloc: Global, events: usize, services: usize) -> Result<Rooms, NoMem>
+    ensures trace { IfOk result (λ rooms. (rooms.0.items ≡ []) × (vec_len rooms.0 ≡ 0)
+        × (events ≤ vec_capacity rooms.0)) }
+    ensures failed { IfOk result (λ rooms. IsRoomFor services rooms.1) }
+    ensures left { IfOk result (λ rooms. IsRoomFor services rooms.2) }
+{
+    let trace = Vec::with_capacity(alloc, events)?;
+    let failed = Vec::with_capacity(alloc, services)?;
+    let left = Vec::with_capacity(alloc, services)?;
+    Ok((trace, failed, left))
 }

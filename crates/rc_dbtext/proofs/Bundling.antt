@@ -12,7 +12,7 @@ use Rattle.rc_names.specs.Names.{IsBefore, IsInByteOrder}
 use Rattle.rc_db.specs.Bundles.{Bundles, names_of, value_of, IsTable, IsChangedAt}
 use Rattle.rc_dbtext.specs.Parts.{IsNamed}
 use Rattle.rc_dbtext.specs.Spelling.{members, name_at}
-use Rattle.rc_dbtext.proofs.Orders.{never_before_itself}
+use Rattle.rc_names.proofs.ByteOrder.{not_before_itself}
 use Rattle.rc_dbtext.proofs.Naming.{mapped_member, member_mapped, named_back}
 
 -- the first of a list, or one of the rest
@@ -101,7 +101,7 @@ module _ (name : List ℕ) (set : List Bool) where
       by : (b : Bool) → bytes_eq name bundle.0 ≡ b → value_of (more table) name ≡ Some set → cond b (Some bundle.1) (value_of (more table) name) ≡ Some set
       by true e later =
           let before : IsBefore bundle.0 name = All-head (λ other. IsBefore other name) bundle.0 (names_of table) last in
-          absurd (never_before_itself name (subst (λ (x : List ℕ). IsBefore x name) (sym ((bytes_eq-Decides name bundle.0).0 e)) before))
+          absurd (not_before_itself name (subst (λ (x : List ℕ). IsBefore x name) (sym ((bytes_eq-Decides name bundle.0).0 e)) before))
       by false e later = later
 
   value_named : (table : Bundles) → value_of table name ≡ Some set → Contains (names_of table) name

@@ -8,7 +8,7 @@ use Rattle.rc_dbform.specs.Text.{ServiceText, BundleText, DbText}
 use Rattle.rc_dbtext.specs.Meaning.{IsComplete, IsLongrunName, service_names}
 use Rattle.rc_dbtext.specs.Parts.{AreBundlesComplete, AreKnown, AreServicesComplete, IsApart, IsKnown}
 use Rattle.rc_dbtext.specs.Spelling.{name_at}
-use Rattle.rc_dbtext.proofs.Orders.{one_place}
+use Rattle.rc_names.proofs.ByteOrder.{one_place}
 use Rattle.rc_dbtext.proofs.Naming.{place_of}
 
 -- both halves together, over the names of the services
@@ -48,7 +48,7 @@ longrun_iff names services name id item told named order at here says =
           slice_get-get_or names place.0 [] (omega arith)
           ∙ ap (λ (n : List ℕ). Some n) (ap (λ (ns : List (List ℕ)). name_at ns place.0) named ∙ get_or-map (λ (x : ServiceText). x.head.name) services place.0 s [] inside
           ∙ ap (λ (x : ServiceText). x.head.name) (get_or_from_slice_get services place.0 s s place.1) ∙ is_named) in
-          let same : place.0 ≡ id = one_place names place.0 id name order other at in
+          let same : place.0 ≡ id = one_place names name place.0 id order other at in
           let it : s ≡ item = sym (get_or_from_slice_get services place.0 s item place.1) ∙ ap (λ (k : ℕ). get_or services k item) same ∙ sym here in
           says.1 (ap (λ (x : ServiceText). x.head.kind) (sym it) ∙ longrun),
     )

@@ -12,7 +12,7 @@ use Rattle.rc_dbform.specs.Text.{ServiceText, OfLongrun}
 use Rattle.rc_dbtext.specs.Meaning.{service_names, EachNeedsNextByName, IsCyclic, NeedsByName}
 use Rattle.rc_dbtext.specs.Parts.{AreNeedsOf, IsNamed}
 use Rattle.rc_dbtext.specs.Spelling.{name_at}
-use Rattle.rc_dbtext.proofs.Orders.{one_place}
+use Rattle.rc_names.proofs.ByteOrder.{one_place}
 use Rattle.rc_dbtext.proofs.Naming.{mapped_member, named_back}
 
 -- what stands past the end of the services
@@ -44,7 +44,7 @@ pub named_push : (names needs : List (List ℕ)) (need : List ℕ) (id t : ℕ) 
 named_push names needs need id t order found = (
   λ (name, at, listed). elim (Contains-push_cases needs need name listed) [
     | inl earlier ↦ inl (name, at, earlier)
-    | inr same ↦ inr (one_place names t id need order (at ∙ ap Some (sym same)) found)
+    | inr same ↦ inr (one_place names need t id order (at ∙ ap Some (sym same)) found)
   ],
   λ h. elim h [
     | inl (name, at, listed) ↦ (name, at, Contains-append_left needs (need ∷ []) name listed)

@@ -15,7 +15,7 @@ use Rattle.rc_dbtext.specs.Meaning.{FeedsWell, IsComplete, IsLongrunName, bundle
 use Rattle.rc_dbtext.specs.Parts.{AreNeedsOf, FeedsKnown, IsServiceOf}
 use Rattle.rc_dbtext.specs.Spelling.{bundle_text, head_of, members, name_at, service_text, service_texts, text_of}
 use Rattle.rc_dbtext.proofs.Zips.{zip_at, zip_length}
-use Rattle.rc_dbtext.proofs.Orders.{one_place}
+use Rattle.rc_names.proofs.ByteOrder.{one_place}
 use Rattle.rc_dbtext.proofs.Naming.{mapped_member, member_mapped, place_of}
 use Rattle.rc_dbtext.proofs.Drafting.{no_service, row_at}
 
@@ -114,7 +114,7 @@ module _ (t : DbText) (names : List (List ℕ)) (services : List Service) (lists
       slice_get-get_or names place.0 [] (omega (arith, as_many_names))
       ∙ ap Some (ap (λ ns. name_at ns place.0) named ∙ get_or-map (λ (s : ServiceText). s.head.name) t.services place.0 text [] within_t
       ∙ ap (λ (s : ServiceText). s.head.name) (get_or_from_slice_get t.services place.0 text text place.1) ∙ is_named) in
-      let same : place.0 ≡ u = one_place names place.0 u name order its_name at in
+      let same : place.0 ≡ u = one_place names name place.0 u order its_name at in
       let inside : u < length services = omega (arith, as_many, same) in
       let d : Service = record { kind = kinds.Longrun; essential = text.head.essential; limit_up = 0; limit_down = 0; text_up = None; text_down = None; producer_for = None } in (
         get_or services u d,
@@ -129,7 +129,7 @@ module _ (t : DbText) (names : List (List ℕ)) (services : List Service) (lists
       let low : found.0 < length lists = are.known s found.0 found.1 in
       let its_name : slice_get names found.0 ≡ Some name =
       slice_get-get_or names found.0 [] (omega (arith, as_many_names, length-map lists (map (name_at names)), length-map t.services (λ (x : ServiceText). x.needs), ap length needs)) ∙ ap Some found.2 in
-      subst (Needs lists s) (one_place names found.0 u name order its_name at) found.1
+      subst (Needs lists s) (one_place names name found.0 u order its_name at) found.1
 
   all_fed : (s u : ℕ) → Feeds made s u → IsKind made u kinds.Longrun × Needs lists s u
   all_fed s u (service, at, feeds) =

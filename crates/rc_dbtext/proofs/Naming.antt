@@ -7,7 +7,7 @@ use Rattle.rc_set.specs.Set.{IsAscending}
 use Rattle.rc_names.specs.Names.{IsInByteOrder}
 use Rattle.rc_dbtext.specs.Parts.{IsNamed}
 use Rattle.rc_dbtext.specs.Spelling.{name_at}
-use Rattle.rc_dbtext.proofs.Orders.{in_order_same}
+use Rattle.rc_names.proofs.ByteOrder.{same_names}
 
 -- a member stands at some place
 pub place_of : {X : Type 0} (xs : List X) (x : X) → Contains xs x → (k : ℕ) × (slice_get xs k ≡ Some x)
@@ -55,6 +55,6 @@ module _ (names texts : List (List ℕ)) (ids : List ℕ) (known : All (Contains
   -- ascending places of the names that texts in order name have those texts as their names
   pub named_back : IsInByteOrder names → IsInByteOrder texts → IsAscending ids → map (name_at names) ids ≡ texts
   named_back order ordered ascending =
-      in_order_same (map (name_at names) ids) texts (names_ascend names ids order ascending (λ k d within.
+      same_names (map (name_at names) ids) texts (names_ascend names ids order ascending (λ k d within.
       let named = (same (get_or ids k d)).0 (Contains-get_or ids k d within) in slice_get_within names (get_or ids k d) named.0 named.1))
       ordered (λ text. (there text, back text))

@@ -16,7 +16,7 @@ use Rattle.rc_db.specs.Database.{Database, IsDatabase, IsKind, IsWritable}
 use Rattle.rc_dbform.specs.Text.{OfLongrun, ServiceText, BundleText, IsBody, IsServiceText, IsBundleText, IsDbText}
 use Rattle.rc_dbtext.specs.Meaning.{EachNeedsNextByName, FeedsWell, IsComplete, IsCyclic, IsLongrunName, IsSorted, NeedsByName, service_names}
 use Rattle.rc_dbtext.specs.Spelling.{body_of, bundle_text, members, name_at, service_text, service_texts, text_of}
-use Rattle.rc_dbtext.proofs.Orders.{one_place}
+use Rattle.rc_names.proofs.ByteOrder.{one_place}
 use Rattle.rc_dbtext.proofs.Naming.{mapped_member, member_at, member_mapped, names_ascend, place_of}
 use Rattle.rc_dbtext.proofs.Bundling.{has_member, members_ascend}
 use Rattle.rc_dbtext.proofs.Joining.{names_of_bundles}
@@ -220,12 +220,12 @@ module _ (d : Database) (is : IsDatabase d) (writable : IsWritable d) where
       → (ids : List ℕ) × EachNeedsNext d.needs (s ∷ (ids ++ e ∷ []))
   chain [] a end s e at_s at_e each =
       let found = need_of a end each.0 in
-      let first : found.0 ≡ s = one_place d.names found.0 s a is.names.order found.2 at_s in
-      let last : found.1 ≡ e = one_place d.names found.1 e end is.names.order found.3 at_e in
+      let first : found.0 ≡ s = one_place d.names a found.0 s is.names.order found.2 at_s in
+      let last : found.1 ≡ e = one_place d.names end found.1 e is.names.order found.3 at_e in
       ([], (subst (λ n. Needs d.needs n e) first (subst (Needs d.needs found.0) last found.4), tt))
   chain (b ∷ between) a end s e at_s at_e each =
       let found = need_of a b each.0 in
-      let first : found.0 ≡ s = one_place d.names found.0 s a is.names.order found.2 at_s in
+      let first : found.0 ≡ s = one_place d.names a found.0 s is.names.order found.2 at_s in
       let rest = chain between b end found.1 e found.3 at_e each.1 in
       (found.1 ∷ rest.0, (subst (λ n. Needs d.needs n found.1) first found.4, rest.1))
 

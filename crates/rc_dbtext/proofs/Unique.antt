@@ -14,7 +14,7 @@ use Rattle.rc_db.specs.Database.{Database, IsDatabase, IsWritable}
 use Rattle.rc_dbform.specs.Text.{OfLongrun, OfOneshot, ServiceText, BundleText, DbText}
 use Rattle.rc_dbtext.specs.Meaning.{service_names}
 use Rattle.rc_dbtext.specs.Spelling.{body_of, bundle_text, members, name_at, service_text, service_texts, text_of}
-use Rattle.rc_dbtext.proofs.Orders.{one_place}
+use Rattle.rc_names.proofs.ByteOrder.{one_place}
 use Rattle.rc_dbtext.proofs.Bundling.{has_member, member_has}
 use Rattle.rc_dbtext.proofs.Spelled.{below, fed_low, has_low, named_texts}
 
@@ -49,7 +49,7 @@ some_once (Some x) (Some y) some_a some_b same = ap (λ (t : List ℕ). Some t) 
 
 module _ (names : List (List ℕ)) (order : IsInByteOrder names) where
   name_once : (s t : ℕ) → s < length names → t < length names → name_at names s ≡ name_at names t → s ≡ t
-  name_once s t low_s low_t same = one_place names s t (name_at names s) order (slice_get-get_or names s [] low_s) (slice_get-get_or names t [] low_t ∙ ap (λ (n : List ℕ). Some n) (sym same))
+  name_once s t low_s low_t same = one_place names (name_at names s) s t order (slice_get-get_or names s [] low_s) (slice_get-get_or names t [] low_t ∙ ap (λ (n : List ℕ). Some n) (sym same))
 
   ids_once : (xs ys : List ℕ) → All (λ t. t < length names) xs → All (λ t. t < length names) ys → map (name_at names) xs ≡ map (name_at names) ys → xs ≡ ys
   ids_once [] [] low_x low_y same = refl

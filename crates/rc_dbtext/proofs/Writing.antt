@@ -14,7 +14,7 @@ use Rattle.rc_db.specs.Database.{Database, IsDatabase}
 use Rattle.rc_dbform.specs.Text.{Line, OfService, OfNeeds, Last, ServiceText, BundleText, body_lines, bundle_lines, service_lines, spell, spells, worded}
 use Rattle.rc_dbtext.specs.Lines.{bundles_part, services_part}
 use Rattle.rc_dbtext.specs.Spelling.{body_of, bundle_text, head_of, members, name_at, service_text, service_texts, spelling, text_of}
-use Rattle.rc_dbtext.proofs.Orders.{one_place}
+use Rattle.rc_names.proofs.ByteOrder.{one_place}
 use Rattle.rc_dbtext.proofs.Naming.{mapped_member, member_mapped, named_back, names_ascend}
 use Rattle.rc_dbtext.proofs.Bundling.{has_member, member_has, members_ascend}
 use Rattle.rc_dbtext.proofs.Spelled.{has_low, named_texts, text_there}
@@ -104,7 +104,7 @@ module _ (d : Database) (is : IsDatabase d) where
             let found = member_mapped (name_at d.names) (members set) name listed in
             let below : found.0 < length set = has_low set found.0 (has_member set found.0 found.1) in
             let here : slice_get d.names found.0 ≡ Some name = slice_get-get_or d.names found.0 [] (omega arith) ∙ ap (λ (n : List ℕ). Some n) found.2 in
-            (are.same t).1 (subst (Has set) (one_place d.names found.0 t name is.names.order here at) (has_member set found.0 found.1)),
+            (are.same t).1 (subst (Has set) (one_place d.names name found.0 t is.names.order here at) (has_member set found.0 found.1)),
       )) is.names.order (names_ascend d.names (members set) is.names.order (members_ascend set) low) are.ascending
 
   long_at : (place : ℕ) (name : List ℕ) (set : List Bool) → slice_get d.table place ≡ Some (name, set) → length set ≡ length d.names

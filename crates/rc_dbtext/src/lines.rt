@@ -12,7 +12,6 @@ use rc_names::{Kind, Name, Names};
 use std::alloc::Global;
 
 /// The first line of a service.
-#[tactic(auto, using(crate::proofs::LineLemmas::six_words))]
 pub(crate) fn push_head(
     alloc: Global,
     out: &mut Vec<u8>,
@@ -23,12 +22,28 @@ pub(crate) fn push_head(
 {
     let up = service.limit_up.to_string(alloc)?;
     let down = service.limit_down.to_string(alloc)?;
+    push_head_with(out, name, service, up.as_bytes(), down.as_bytes())
+}
+
+// The first line of a service, with its limits as they are written.
+#[tactic(auto, using(crate::proofs::LineLemmas::six_words))]
+fn push_head_with(
+    out: &mut Vec<u8>,
+    name: &Name,
+    service: &Service,
+    up: &[u8],
+    down: &[u8],
+) -> Result<(), NoMem>
+    ensures { OnOk result (out.new.items ≡ out.old.items ++ (worded (codes "service" ∷ name.now
+        ∷ text.kind_word service.now.kind ∷ text.flag_word service.now.essential
+        ∷ up.now ∷ down.now ∷ []) ++ [])) }
+{
     out.extend_from_slice(b"service")?;
     push_word(out, name.text().as_bytes())?;
     push_word(out, kind_word(service.kind))?;
     push_word(out, flag_word(service.essential))?;
-    push_word(out, up.as_bytes())?;
-    push_word(out, down.as_bytes())?;
+    push_word(out, up)?;
+    push_word(out, down)?;
     out.extend_from_slice(b"\n")?;
     Ok(())
 }

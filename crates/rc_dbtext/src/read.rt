@@ -18,7 +18,7 @@ use rc_db::{Db, NoMem, Parts};
 use rc_dbform::{DbForm, FormFault, read_form};
 use rc_graph::Graph;
 use rc_names::Names;
-use std::alloc::Global;
+use std::alloc::{AllocError, Global};
 
 /// The database whose text the bytes are.
 pub fn read_db(alloc: Global, bytes: &[u8]) -> Result<Db, TextFault>
@@ -94,12 +94,19 @@ fn db_of(alloc: Global, form: &DbForm) -> Result<Db, TextFault>
         return Err(TextFault::Memory);
     };
     if !is_complete(form, &names) {
+        drop(names);
         return Err(TextFault::Dangling);
     }
     let graph = match graph_of(alloc, form.services.as_slice(), &names) {
         Ok(Some(graph)) => graph,
-        Ok(None) => return Err(TextFault::Cyclic),
-        Err(_) => return Err(TextFault::Memory),
+        Ok(None) => {
+            drop(names);
+            return Err(TextFault::Cyclic);
+        }
+        Err(_) => {
+            drop(names);
+            return Err(TextFault::Memory);
+        }
     };
     match joined(alloc, form, names, graph) {
         Ok(db) => Ok(db),
@@ -119,8 +126,14 @@ fn joined(alloc: Global, form: &DbForm, names: Names, graph: Graph) -> Result<Db
     // The names ascend, and what is needed is a service.
     let _count = names.len();
     let _lists = graph.len();
-    let services = services_of(alloc, form.services.as_slice(), &names)?;
-    let table = table_of(alloc, form.bundles.as_slice(), &names)?;
+    let Ok(services) = services_of(alloc, form.services.as_slice(), &names) else {
+        drop((names, graph));
+        return Err(AllocError);
+    };
+    let Ok(table) = table_of(alloc, form.bundles.as_slice(), &names) else {
+        drop((names, graph, services));
+        return Err(AllocError);
+    };
     let parts = Parts {
         names,
         services,

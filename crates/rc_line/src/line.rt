@@ -19,7 +19,7 @@ use rc_bundle::Edit;
 use rc_db::Table;
 use rc_select::Plan;
 use rc_set::{NoMem, Set};
-use std::alloc::Global;
+use std::alloc::{AllocError, Global};
 use std::marker::Model;
 
 /// A line of states with a cursor on the current one.
@@ -253,6 +253,7 @@ impl Line {
         } = opening;
         self.is_open = false;
         if edit.len() == 0 {
+            drop((table, near, edit));
             return;
         }
         let Room { raised, lowered } = near;
@@ -289,8 +290,11 @@ impl Line {
         ensures line { self.new.line ≡ self.old.line }
         ensures err { OnErr result (self.new ≡ self.old) }
     {
-        make_room(&mut self.done, &mut self.undone)?;
         let opening = Open::new(alloc, aim, live, table)?;
+        let Ok(()) = make_room(&mut self.done, &mut self.undone) else {
+            opening.spend();
+            return Err(AllocError);
+        };
         self.is_open = true;
         Ok(opening)
     }
@@ -337,10 +341,13 @@ impl Line {
             self.undone.push_reserved(entry);
             self.live = target;
             replace(&mut self.table, table);
+            drop((near, far, no_edit));
             return;
         }
         if self.live.same(live) {
             self.done.push_reserved(entry);
+            drop((near, far, no_edit));
+            drop((target, table));
             return;
         }
         let Entry {
@@ -352,6 +359,7 @@ impl Line {
         self.undone
             .push_reserved(far.entry(live, &self.live, no_edit));
         overwrite(&mut self.live, live);
+        drop((target, table));
     }
 
     fn close_redo(
@@ -378,10 +386,13 @@ impl Line {
             self.done.push_reserved(entry);
             self.live = target;
             replace(&mut self.table, table);
+            drop((near, far, no_edit));
             return;
         }
         if self.live.same(live) {
             self.undone.push_reserved(entry);
+            drop((near, far, no_edit));
+            drop((target, table));
             return;
         }
         let Entry {
@@ -393,6 +404,7 @@ impl Line {
             .push_reserved(near.entry(&self.live, live, no_edit));
         self.undone.push_reserved(far.entry(live, &target, edit));
         overwrite(&mut self.live, live);
+        drop((target, table));
     }
 
     /// Puts a state in front of a line that stands on its first one, and stands on it.
@@ -406,8 +418,14 @@ impl Line {
     {
         // A table tells by its length that it is one.
         let _ = table.len();
-        self.undone.reserve(1)?;
-        let entry = Entry::between(alloc, &live, &table, &self.live, &self.table)?;
+        let Ok(()) = self.undone.reserve(1) else {
+            drop((live, table));
+            return Err(AllocError);
+        };
+        let Ok(entry) = Entry::between(alloc, &live, &table, &self.live, &self.table) else {
+            drop((live, table));
+            return Err(AllocError);
+        };
         self.undone.push_reserved(entry);
         self.live = live;
         self.table = table;
@@ -423,7 +441,10 @@ impl Line {
     {
         let entry = self.step_at(self.cursor());
         let (live, table) = entry.after(alloc, self.live(), self.table())?;
-        self.done.reserve(1)?;
+        let Ok(()) = self.done.reserve(1) else {
+            drop((live, table));
+            return Err(AllocError);
+        };
         let entry = self.undone.take_last();
         self.done.push_reserved(entry);
         self.live = live;

@@ -4,7 +4,7 @@ use Rattle.std.proofs.lemmas.List.Elements.{All-cons, All-map}
 use Rattle.rc_names.specs.Name.{IsName}
 use Rattle.rc_source.specs.declared.fault.Flaw.{Flaw}
 use Rattle.rc_source.specs.declared.fault.Flaw.TheVariants.{BadName, Twice}
-use Rattle.rc_source.specs.Tree.{Source}
+use Rattle.rc_tree.specs.Tree.{Source}
 use Rattle.rc_source.specs.Files.{FilePasses, StopsAtFile, FilesPass, StopsInFiles}
 use Rattle.rc_source.specs.Tests.{Check, Named, New, File, Test, Passes, StopsAt, AllPass, StopsInTests, files_of_entry, tests_of_entry}
 use Rattle.rc_source.proofs.Stopping.{stops_map}

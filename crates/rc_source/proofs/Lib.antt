@@ -4,15 +4,13 @@ pub mod EntryMeaning
 pub mod EntryTests
 pub mod Exits
 pub mod FileFlaws
+pub mod Filtering
 pub mod Folders
-pub mod Known
 pub mod Lines
 pub mod Meant
 pub mod Members
 pub mod OneMeaning
 pub mod OneRefusal
 pub mod Reading
-pub mod SameNames
 pub mod Sources
 pub mod Stopping
-pub mod TextSets

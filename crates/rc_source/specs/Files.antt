@@ -2,8 +2,8 @@ use Rattle.std.specs.Prelude.{◌≡◌, ◌<◌, ◌⊎◌, ℕ, List, false, l
 use Rattle.rc_names.specs.Name.{IsName}
 use Rattle.rc_source.specs.declared.fault.Flaw.{Flaw}
 use Rattle.rc_source.specs.declared.fault.Flaw.TheVariants.{Io, NotText, TooLong, BadName, NoType, BadType, NoUp, NoRun, BadTimeout}
-use Rattle.rc_source.specs.Tree.{Source, file_at, listed}
-use Rattle.rc_source.specs.TreeFaults.{IsTooLong}
+use Rattle.rc_tree.specs.Tree.{Source, file_at, listed}
+use Rattle.rc_tree.specs.TreeFaults.{IsTooLong}
 use Rattle.rc_source.specs.Texts.{IsText, IsLimit, unended, kind_of_word, names_in}
 use Rattle.rc_source.specs.Stops.{StopsFirst}
 use Rattle.rc_source.specs.Kinds.{Holds, KindWord, UpText, Anything, Limit, Flag, Names, NameEach, OneName, is_hidden}

@@ -3,7 +3,7 @@ use Rattle.std.specs.Str.{bytes_eq}
 use Rattle.std.specs.List.{list_any}
 use Rattle.rc_names.specs.declared.kind.Kind.{Kind}
 use Rattle.rc_names.specs.declared.kind.Kind.TheVariants.{Oneshot, Longrun, Bundle}
-use Rattle.rc_source.specs.Tree.{Source, file_at}
+use Rattle.rc_tree.specs.Tree.{Source, file_at}
 use Rattle.rc_source.specs.Texts.{unended, kind_of_word}
 
 -- a name that begins with a dot

@@ -1,6 +1,6 @@
-pub mod Tree
-pub mod Shown
-pub mod TreeFaults
+pub use Rattle.rc_tree.specs.Tree
+pub use Rattle.rc_tree.specs.Shown
+pub use Rattle.rc_tree.specs.TreeFaults
 pub mod Texts
 pub mod Kinds
 pub mod Stops

@@ -6,7 +6,7 @@ use Rattle.rc_names.specs.declared.kind.Kind.{Kind}
 use Rattle.rc_names.specs.declared.kind.Kind.TheVariants.{Oneshot, Bundle}
 use Rattle.rc_names.specs.Name.{IsName}
 use Rattle.rc_names.specs.Names.{IsInByteOrder}
-use Rattle.rc_source.specs.Tree.{Source, file_at, listed}
+use Rattle.rc_tree.specs.Tree.{Source, file_at, listed}
 use Rattle.rc_source.specs.Texts.{IsScriptText, unended, names_in}
 use Rattle.rc_source.specs.Kinds.{is_hidden, kind_of, is_file_of}
 use Rattle.rc_source.specs.Tests.{entries_of}

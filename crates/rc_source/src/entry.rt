@@ -2,8 +2,8 @@
 ghost use Rattle.std.specs.Prelude.{◌≡◌, ◌≢◌, ◌≤◌, ◌∷◌, [], false, All, Contains, IfOk, IfErr, OnOk, Some, None, codes, option_map, string_bytes};
 ghost use Rattle.rc_names.specs.Name.{IsName};
 ghost use Rattle.rc_names.specs.declared.kind.Kind.TheVariants.{Oneshot, Longrun, Bundle};
-ghost use Rattle.rc_source.specs.Tree.{Source, file_at};
-ghost use Rattle.rc_source.specs.TreeFaults.{HasFailed};
+ghost use Rattle.rc_tree.specs.Tree.{Source, file_at};
+ghost use Rattle.rc_tree.specs.TreeFaults.{HasFailed};
 ghost use Rattle.rc_source.specs.Kinds.{Names, NameEach, limit_files, pipe_files, files_of_atomic, files_of_kind, kind_of};
 ghost use Rattle.rc_source.specs.Files.{FilePasses, StopsAtFile, FilesPass, StopsInFiles};
 ghost use Rattle.rc_source.specs.Tests.{files_of_entry};
@@ -12,9 +12,9 @@ ghost use Rattle.rc_source.specs.Said.{meaning_of, IsNamedIn, SayLimits, AreLimi
 
 use crate::definition::Definition;
 use crate::fault::Flaw;
-use crate::tree::Tree;
-use crate::{file, folder, sets};
+use crate::{file, folder};
 use rc_names::{Kind, Name};
+use rc_tree::{Tree, sets};
 use std::alloc::Global;
 use std::collections::BTreeSet;
 

@@ -1,31 +1,27 @@
 use std::alloc::{AllocError, AllocFailed};
+use std::fmt;
 use thiserror::Error;
 
 /// What is wrong with an entry of a tree.
 #[derive(Clone, Copy, PartialEq, Eq, Debug, Error)]
 pub enum Flaw {
-    #[error("Io")]
     Io = 1,
-    #[error("NotText")]
     NotText = 2,
-    #[error("TooLong")]
     TooLong = 3,
-    #[error("BadName")]
     BadName = 4,
-    #[error("Twice")]
     Twice = 5,
-    #[error("NoType")]
     NoType = 6,
-    #[error("BadType")]
     BadType = 7,
-    #[error("NoUp")]
     NoUp = 8,
-    #[error("NoRun")]
     NoRun = 9,
-    #[error("BadTimeout")]
     BadTimeout = 10,
-    #[error("Memory")]
     Memory = 11,
+}
+
+impl fmt::Display for Flaw {
+    fn fmt<W: fmt::Write>(&self, f: &mut fmt::Formatter<W>) -> fmt::Result {
+        write!(f, "{self:?}")
+    }
 }
 
 impl From<AllocError> for Flaw {
@@ -53,27 +49,16 @@ impl<T: Drop> From<AllocFailed<T>> for Flaw {
 /// Why trees give no definitions, and at which entry; the name is empty where a tree could not be listed.
 #[derive(Debug, Drop, Error)]
 pub enum SourceFault {
-    #[error("Io {0}")]
     Io(String),
-    #[error("NotText {0}")]
     NotText(String),
-    #[error("TooLong {0}")]
     TooLong(String),
-    #[error("BadName {0}")]
     BadName(String),
-    #[error("Twice {0}")]
     Twice(String),
-    #[error("NoType {0}")]
     NoType(String),
-    #[error("BadType {0}")]
     BadType(String),
-    #[error("NoUp {0}")]
     NoUp(String),
-    #[error("NoRun {0}")]
     NoRun(String),
-    #[error("BadTimeout {0}")]
     BadTimeout(String),
-    #[error("Memory")]
     Memory,
 }
 
@@ -116,6 +101,15 @@ impl SourceFault {
             | SourceFault::NoRun(name)
             | SourceFault::BadTimeout(name) => name.as_str(),
             SourceFault::Memory => "",
+        }
+    }
+}
+
+impl fmt::Display for SourceFault {
+    fn fmt<W: fmt::Write>(&self, f: &mut fmt::Formatter<W>) -> fmt::Result {
+        match self {
+            SourceFault::Memory => write!(f, "Memory"),
+            fault => write!(f, "{} {}", fault.flaw(), fault.entry()),
         }
     }
 }

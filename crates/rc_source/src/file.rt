@@ -2,17 +2,17 @@
 ghost use Rattle.std.specs.Prelude.{◌≡◌, ◌≢◌, ◌≤◌, ◌⊎◌, ◌↔◌, ◌<◌, ◌^◌, ℕ, List, IfOk, IfErr, IfSome, OnOk, Some, None, IsTrue, false, map, option_map, string_bytes, Contains, codes, slice_get};
 ghost use Rattle.std.specs.Option.{is_some};
 ghost use Rattle.rc_names.specs.Name.{IsName};
-ghost use Rattle.rc_source.specs.Tree.{Source, file_at, listed};
-ghost use Rattle.rc_source.specs.TreeFaults.{HasFailed};
+ghost use Rattle.rc_tree.specs.Tree.{Source, file_at, listed};
+ghost use Rattle.rc_tree.specs.TreeFaults.{HasFailed};
 ghost use Rattle.rc_source.specs.Texts.{IsScriptText};
 ghost use Rattle.rc_source.specs.Kinds.{KindWord, UpText, DownText, Anything, Limit, Flag, Names, NameEach, OneName, is_hidden, kind_of};
 ghost use Rattle.rc_source.specs.Files.{IsNoText, FilePasses, StopsAtFile};
 ghost use Rattle.rc_source.specs.Meaning.{limit_in, given_in};
 
 use crate::fault::Flaw;
-use crate::tree::{Tree, TreeFault};
-use crate::{sets, text};
+use crate::text;
 use rc_names::{Kind, Name};
+use rc_tree::{Tree, TreeFault, sets};
 use std::alloc::Global;
 use std::collections::BTreeSet;
 

@@ -2,15 +2,15 @@
 ghost use Rattle.std.specs.Prelude.{◌≡◌, ◌≢◌, ◌≤◌, ◌⊎◌, ◌↔◌, ℕ, List, false, All, Contains, IfOk, IfErr, OnOk, Some, map, string_bytes};
 ghost use Rattle.rc_names.specs.Name.{IsName};
 ghost use Rattle.rc_names.specs.Names.{IsInByteOrder};
-ghost use Rattle.rc_source.specs.Tree.{Source, listed};
-ghost use Rattle.rc_source.specs.TreeFaults.{HasFailed};
+ghost use Rattle.rc_tree.specs.Tree.{Source, listed};
+ghost use Rattle.rc_tree.specs.TreeFaults.{HasFailed};
 ghost use Rattle.rc_source.specs.Kinds.{NameEach, is_hidden};
 ghost use Rattle.rc_source.specs.Files.{FilePasses, StopsAtFile};
 
 use crate::fault::Flaw;
-use crate::tree::{Tree, TreeFault};
-use crate::{sets, text};
+use crate::text;
 use rc_names::{Name, NoMem};
+use rc_tree::{Tree, TreeFault, sets};
 use std::alloc::Global;
 use std::collections::BTreeSet;
 

@@ -3,9 +3,9 @@ ghost use Rattle.rc_source.specs.Meaning.{IsMeaning, AreMeanings};
 ghost use Rattle.rc_source.specs.Said.{meaning_of, meant};
 
 use crate::definition::Definition;
-use crate::sets;
 use rc_names::NoMem;
-use std::alloc::Global;
+use rc_tree::sets;
+use std::alloc::{AllocError, Global};
 use std::collections::BTreeSet;
 use std::marker::Model;
 
@@ -55,8 +55,14 @@ impl Found {
         ensures added { OnOk result (self.new ≡ self.old ++ meaning_of definition ∷ []) }
         ensures err { OnErr result (self.new ≡ self.old) }
     {
-        self.definitions.reserve(1)?;
-        sets::add(self.alloc, &mut self.names, definition.name.text())?;
+        let Ok(()) = self.definitions.reserve(1) else {
+            drop(definition);
+            return Err(AllocError);
+        };
+        let Ok(_) = sets::add(self.alloc, &mut self.names, definition.name.text()) else {
+            drop(definition);
+            return Err(AllocError);
+        };
         self.definitions.push_reserved(definition);
         Ok(())
     }

@@ -1,4 +1,4 @@
-//! Source trees: what service directories hold, and the definitions that their files give.
+//! Source trees: the definitions that the files of service directories give.
 #![tactic(auto)]
 
 mod definition;
@@ -6,18 +6,12 @@ mod entry;
 mod fault;
 mod file;
 mod folder;
-mod folder_tree;
 mod found;
 pub mod laws;
-mod memory_tree;
 mod read;
-mod sets;
 mod text;
-mod tree;
 
 pub use crate::definition::Definition;
 pub use crate::fault::{Flaw, SourceFault};
-pub use crate::folder_tree::FolderTree;
-pub use crate::memory_tree::MemoryTree;
 pub use crate::read::read_all;
-pub use crate::tree::{Tree, TreeFault};
+pub use rc_tree::{FolderTree, MemoryTree, Tree, TreeFault};

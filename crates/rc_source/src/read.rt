@@ -2,8 +2,8 @@
 ghost use Rattle.std.specs.Prelude.{◌≡◌, ◌≢◌, ◌≤◌, ◌++◌, ◌∷◌, [], List, IfOk, IfErr, OnOk, Some, map, string_bytes};
 ghost use Rattle.std.specs.List.{AllZip};
 ghost use Rattle.rc_source.specs.declared.fault.Flaw.{Flaw};
-ghost use Rattle.rc_source.specs.Tree.{Source, IsSource};
-ghost use Rattle.rc_source.specs.TreeFaults.{HasFailed};
+ghost use Rattle.rc_tree.specs.Tree.{Source, IsSource};
+ghost use Rattle.rc_tree.specs.TreeFaults.{HasFailed};
 ghost use Rattle.rc_source.specs.Tests.{all_tests, tests_of_source, tests_of_entry, entries_of, AllPass, StopsInTests, SomeFailed, flaw_of, carried};
 ghost use Rattle.rc_source.specs.Meaning.{Meaning, Means, MeanAll, AreMeanings, all_entries};
 ghost use Rattle.rc_source.specs.Said.{meaning_of, meant};
@@ -11,8 +11,8 @@ ghost use Rattle.rc_source.specs.Said.{meaning_of, meant};
 use crate::definition::Definition;
 use crate::fault::{Flaw, SourceFault};
 use crate::found::Found;
-use crate::tree::{Tree, TreeFault};
 use crate::{entry, folder, text};
+use rc_tree::{Tree, TreeFault};
 use std::alloc::Global;
 
 /// The definitions of trees, in the order of the trees and in each in byte order of the names; or the first fault in the order of the tests.

@@ -14,4 +14,4 @@ returns-clause-free c =
     let Services : Option (List (List ℕ)) → Type 0 = λ found. IfSome found (λ names. AreTooMany (IsService ms) → ⊥) in
     let Bundles : Option (List (List ℕ)) → Type 0 = λ found. IfSome found (λ names. AreTooMany (IsBundle ms) → ⊥) in
     one_more_free ms 0 TooMany refl (All-nil (IsFree ms))
-    (λ flaw. ⊎_elim (subst Services c.in-Some.is c.in_ok-services.ensures.few) (subst Bundles c.in-Some-2.is c.in_ok-bundles.ensures.few) flaw)
+    (λ flaw. ⊎_elim (subst Services c.in-Some.is c.in_ok-services.ensures.few) (subst Bundles c.in-Some-found.is c.in-Ok.ensures.few) flaw)

@@ -27,17 +27,17 @@ graph_of-requires-clause-bundles c = c.requires.book.bundle
 
 pub graph_of-requires-clause-sets : goal.graph_of-requires-clause-sets
 graph_of-requires-clause-sets c =
-    let Of : List (List Bool) → Type 0 = AreSetsOf (StandsFor (map meaning_of c.args.definitions.now)) c.args.book.bundles c.args.book.services in subst Of (sym c.deref.ensures.value) c.in_ok-sets.ensures.sets
+    let Of : List (List Bool) → Type 0 = AreSetsOf (StandsFor (map meaning_of c.args.definitions.now)) c.args.book.bundles c.args.book.services in subst Of (sym c.deref.ensures.value) c.in-Ok.ensures.sets
 
-pub joined-requires-clause-sets : goal.joined-requires-clause-sets
-joined-requires-clause-sets c =
-    let Of : List (List Bool) → Type 0 = AreSetsOf (StandsFor (map meaning_of c.args.definitions.now)) c.args.book.bundles c.args.book.services in subst Of (sym c.deref-2.ensures.value) c.in_ok-sets.ensures.sets
+pub joined-db-requires-clause-sets : goal.joined-db-requires-clause-sets
+joined-db-requires-clause-sets c =
+    let Of : List (List Bool) → Type 0 = AreSetsOf (StandsFor (map meaning_of c.args.definitions.now)) c.args.book.bundles c.args.book.services in subst Of (sym c.deref-2.ensures.value) c.in-Ok.ensures.sets
 
-pub joined-requires-clause-types : goal.joined-requires-clause-types
-joined-requires-clause-types c = no_type (map meaning_of c.args.definitions.now) c.requires.free
+pub joined-db-requires-clause-types : goal.joined-db-requires-clause-types
+joined-db-requires-clause-types c = no_type (map meaning_of c.args.definitions.now) c.requires.free
 
-pub joined-requires-clause-taken : goal.joined-requires-clause-taken
-joined-requires-clause-taken c = no_taken (map meaning_of c.args.definitions.now) c.requires.free
+pub joined-db-requires-clause-taken : goal.joined-db-requires-clause-taken
+joined-db-requires-clause-taken c = no_taken (map meaning_of c.args.definitions.now) c.requires.free
 
 pub returns-clause-free : goal.returns-clause-free
-returns-clause-free c = one_more_free (map meaning_of c.args.definitions.now) 6 Cycle refl c.requires.free (λ (names, ring). c.in-Ok.ensures.free names ring)
+returns-clause-free c = one_more_free (map meaning_of c.args.definitions.now) 6 Cycle refl c.requires.free (λ (names, ring). c.in-Ok-graph_of.ensures.free names ring)

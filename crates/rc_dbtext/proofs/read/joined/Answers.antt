@@ -24,19 +24,19 @@ pub unreachable-requires : goal.unreachable-requires
 unreachable-requires c =
     let services : c.as_slice.result.now ≡ c.args.form.now.services = c.as_slice.ensures.value ∙ ap (λ (t : DbText). t.services) c.form.view_is in
     let bundles : c.as_slice-2.result.now ≡ c.args.form.now.bundles = c.as_slice-2.ensures.value ∙ ap (λ (t : DbText). t.bundles) c.form.view_is in
-    c.in-Err.ensures.unfit (fits c.args.form.now c.args.names c.in_ok-services.services.items c.args.graph c.in_ok-table.table c.requires.text c.requires.complete c.requires.names c.len-count.ensures.names.order
-    (subst (λ (texts : List ServiceText). AllZip (IsServiceOf c.args.names) texts c.in_ok-services.services.items) services c.in_ok-services.ensures) c.requires.needs c.len-lists.ensures.lists (c.in_ok-table.ensures.bundles ∙ bundles) c.in_ok-table.ensures.bounds)
+    c.in-Err.ensures.unfit (fits c.args.form.now c.args.names c.in-Ok.services.items c.args.graph c.in-Ok-table_of.table c.requires.text c.requires.complete c.requires.names c.len-count.ensures.names.order
+    (subst (λ (texts : List ServiceText). AllZip (IsServiceOf c.args.names) texts c.in-Ok.services.items) services c.in-Ok.ensures) c.requires.needs c.len-lists.ensures.lists (c.in-Ok-table_of.ensures.bundles ∙ bundles) c.in-Ok-table_of.ensures.bounds)
 
 pub returns : goal.returns
 returns c =
     let services : c.as_slice.result.now ≡ c.args.form.now.services = c.as_slice.ensures.value ∙ ap (λ (t : DbText). t.services) c.form.view_is in
     let bundles : c.as_slice-2.result.now ≡ c.args.form.now.bundles = c.as_slice-2.ensures.value ∙ ap (λ (t : DbText). t.bundles) c.form.view_is in
-    let each : AllZip (IsServiceOf c.args.names) c.args.form.now.services c.in_ok-services.services.items =
-    subst (λ (texts : List ServiceText). AllZip (IsServiceOf c.args.names) texts c.in_ok-services.services.items) services c.in_ok-services.ensures in (
-      subst (λ (d : Database). All IsWritableService d.services) (sym c.in-Ok.ensures.database)
-          (all_writable c.args.form.now c.args.names c.in_ok-services.services.items c.args.graph c.in_ok-table.table c.requires.text c.requires.complete c.requires.names c.len-count.ensures.names.order each c.requires.needs
-          c.len-lists.ensures.lists (c.in_ok-table.ensures.bundles ∙ bundles) c.in_ok-table.ensures.bounds),
-      ap text_of c.in-Ok.ensures.database
-          ∙ says c.args.form.now c.args.names c.in_ok-services.services.items c.args.graph c.in_ok-table.table c.requires.text c.requires.complete c.requires.names c.len-count.ensures.names.order each c.requires.needs
-          c.len-lists.ensures.lists (c.in_ok-table.ensures.bundles ∙ bundles) c.in_ok-table.ensures.bounds,
+    let each : AllZip (IsServiceOf c.args.names) c.args.form.now.services c.in-Ok.services.items =
+    subst (λ (texts : List ServiceText). AllZip (IsServiceOf c.args.names) texts c.in-Ok.services.items) services c.in-Ok.ensures in (
+      subst (λ (d : Database). All IsWritableService d.services) (sym c.in-Ok-join.ensures.database)
+          (all_writable c.args.form.now c.args.names c.in-Ok.services.items c.args.graph c.in-Ok-table_of.table c.requires.text c.requires.complete c.requires.names c.len-count.ensures.names.order each c.requires.needs
+          c.len-lists.ensures.lists (c.in-Ok-table_of.ensures.bundles ∙ bundles) c.in-Ok-table_of.ensures.bounds),
+      ap text_of c.in-Ok-join.ensures.database
+          ∙ says c.args.form.now c.args.names c.in-Ok.services.items c.args.graph c.in-Ok-table_of.table c.requires.text c.requires.complete c.requires.names c.len-count.ensures.names.order each c.requires.needs
+          c.len-lists.ensures.lists (c.in-Ok-table_of.ensures.bundles ∙ bundles) c.in-Ok-table_of.ensures.bounds,
     )

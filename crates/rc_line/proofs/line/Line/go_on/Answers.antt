@@ -35,7 +35,7 @@ invariant_of-self-2 c =
     let m = gone_on c.self.inside.done.items c.self.inside.undone.items c.take_last-entry.new.self.items c.take_last-entry.result c.step_at-entry.result.now s (state c.in_ok-live.live c.replace.new.table) line shown c.take_last-entry.ensures.items c.self.invariant.fits at
     (λ to h. ap (state c.in_ok-live.live) table ∙ c.in_ok-live.ensures to (rw (c.live.ensures, c.table.ensures) h)) in
     let closed : c.self.inside.is_open ≡ false = ap (λ (j : Journal). j.is_open) c.self.view_is ∙ c.requires.closed in
-    rw closed (kept_closed _ _ _ (rw (c.push_reserved.ensures.items, c.in_ok-reserve.ensures.items) m.0))
+    rw closed (kept_closed _ _ _ (rw (c.push_reserved.ensures.items, c.in-Ok.ensures.items) m.0))
 
 pub returns-clause-line : goal.returns-clause-line
 returns-clause-line c =
@@ -47,4 +47,4 @@ returns-clause-line c =
     c.replace.ensures ∙ ap (λ (t : State). table_or c.in_ok-live.table t.table) (current_shown c.self.inside.done.items c.self.inside.undone.items s line shown) ∙ ap (table_or c.in_ok-live.table) (sym c.table.ensures) in
     let m = gone_on c.self.inside.done.items c.self.inside.undone.items c.take_last-entry.new.self.items c.take_last-entry.result c.step_at-entry.result.now s (state c.in_ok-live.live c.replace.new.table) line shown c.take_last-entry.ensures.items c.self.invariant.fits at
     (λ to h. ap (state c.in_ok-live.live) table ∙ c.in_ok-live.ensures to (rw (c.live.ensures, c.table.ensures) h)) in
-    rw (c.push_reserved.ensures.items, c.in_ok-reserve.ensures.items) m.1
+    rw (c.push_reserved.ensures.items, c.in-Ok.ensures.items) m.1

@@ -19,10 +19,10 @@ invariant_of-self-2 c =
     let from : State = state c.args.live c.args.table in
     let here = current_shown c.self.inside.done.items c.self.inside.undone.items s c.args.self.now.line shown in
     let bound : length s.live ≡ length from.live = ap (λ (t : State). length t.live) here ∙ sym c.requires.bound in
-    let step : IsStep from s c.in_ok-entry.entry = step_of from s c.in_ok-entry.entry bound (λ same. c.requires.differ (same ∙ here)) c.len.ensures.table c.self.invariant.fits.table c.in_ok-entry.ensures in
-    let m = prepended c.self.inside.done.items c.self.inside.undone.items c.in_ok-entry.entry from s c.args.self.now.line shown c.self.invariant.fits c.requires.first step in
+    let step : IsStep from s c.in-Ok-between.entry = step_of from s c.in-Ok-between.entry bound (λ same. c.requires.differ (same ∙ here)) c.len.ensures.table c.self.invariant.fits.table c.in-Ok-between.ensures in
+    let m = prepended c.self.inside.done.items c.self.inside.undone.items c.in-Ok-between.entry from s c.args.self.now.line shown c.self.invariant.fits c.requires.first step in
     let closed : c.self.inside.is_open ≡ false = ap (λ (j : Journal). j.is_open) c.self.view_is ∙ c.requires.closed in
-    rw closed (kept_closed _ _ _ (rw (c.push_reserved.ensures.items, c.in_ok-reserve.ensures.items) m.0))
+    rw closed (kept_closed _ _ _ (rw (c.push_reserved.ensures.items, c.in-Ok.ensures.items) m.0))
 
 pub returns-clause-line : goal.returns-clause-line
 returns-clause-line c =
@@ -31,6 +31,6 @@ returns-clause-line c =
     let from : State = state c.args.live c.args.table in
     let here = current_shown c.self.inside.done.items c.self.inside.undone.items s c.args.self.now.line shown in
     let bound : length s.live ≡ length from.live = ap (λ (t : State). length t.live) here ∙ sym c.requires.bound in
-    let step : IsStep from s c.in_ok-entry.entry = step_of from s c.in_ok-entry.entry bound (λ same. c.requires.differ (same ∙ here)) c.len.ensures.table c.self.invariant.fits.table c.in_ok-entry.ensures in
-    let m = prepended c.self.inside.done.items c.self.inside.undone.items c.in_ok-entry.entry from s c.args.self.now.line shown c.self.invariant.fits c.requires.first step in
-    rw (c.push_reserved.ensures.items, c.in_ok-reserve.ensures.items) m.1
+    let step : IsStep from s c.in-Ok-between.entry = step_of from s c.in-Ok-between.entry bound (λ same. c.requires.differ (same ∙ here)) c.len.ensures.table c.self.invariant.fits.table c.in-Ok-between.ensures in
+    let m = prepended c.self.inside.done.items c.self.inside.undone.items c.in-Ok-between.entry from s c.args.self.now.line shown c.self.invariant.fits c.requires.first step in
+    rw (c.push_reserved.ensures.items, c.in-Ok.ensures.items) m.1

@@ -18,4 +18,4 @@ invariant_of-self-2 c =
     subst (λ (ms : List Meaning). AreFound ms more) (sym items)
     (added_to (map meaning_of old) (meaning_of d) names more c.self.invariant c.requires.meaning
     (λ there. c.requires.free (subst (λ (ms : List Meaning). Contains (meant ms) d.name) c.self.view_is there))
-    (subst (λ (text : List ℕ). Adds names text more) c.text.ensures.bytes c.in_ok-add.ensures.adds))
+    (subst (λ (text : List ℕ). Adds names text more) c.text.ensures.bytes c.in-Ok-add.ensures.adds))
