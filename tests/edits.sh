@@ -162,6 +162,11 @@ goal() {
     esac
 }
 
+# first_error CRATE: why the check came to no proof
+first_error() {
+    grep -m 1 -E '^(rattle|error)|: error' "$room/$1.log" || tail -n 1 "$room/$1.log"
+}
+
 # refused CRATE EDIT GOAL: counts it and says so
 refused() {
     echo "$1/$(basename "$2" .edit): refused, as it must be: $(function_of "$2"): $3"
@@ -215,9 +220,9 @@ try_alone() {
     elif [ "$said" = proved ]; then
         failed "$1" "$2" "$function is still proved"
     elif [ -n "$said" ]; then
-        failed "$1" "$2" "no goal of $function's own is open, though it is $said"
+        failed "$1" "$2" "no goal of $function's own is open: it is $said"
     else
-        failed "$1" "$2" "no proof was tried: $(grep -m 1 -i error "$room/$1.log" | cut -c 1-200)"
+        failed "$1" "$2" "no proof was tried: $(first_error "$1" | cut -c 1-200)"
     fi
 }
 
