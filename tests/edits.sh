@@ -146,8 +146,8 @@ verdict() {
         "$room/$1.log"
 }
 
-# What is said of a proof file that names what the edit took away, which shows nothing of a contract.
-gone='has no field|is not in scope|has no `|was not admitted'
+# Said where a proof file names what the edit took away, which shows nothing of a contract.
+gone='defines no `|has no `|has no field|is not in scope|was not admitted'
 
 # goal CRATE FUNCTION: the first open goal of the function's own, or status 1
 goal() {
