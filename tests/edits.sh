@@ -146,20 +146,31 @@ verdict() {
         "$room/$1.log"
 }
 
-# What is said of a proof file that names what the edit took away, which shows nothing of a contract.
-gone='has no field|is not in scope|has no `|was not admitted'
+# own_error CRATE FUNCTION: the first error in the function's own proof, or status 1. One that only
+# misses a name that the edit took away shows nothing of a contract.
+own_error() {
+    awk -v front="./proofs/$(echo "$2" | sed 's|::|/|g')/" '
+        index($0, front) != 1 { next }
+        /defines no `|has no `|has no field|is not in scope|was not admitted|was rejected/ { next }
+        substr($0, length(front) + 1) ~ /^[A-Za-z]*\.antt:[0-9:]*: error/ { found = 1; print; exit }
+        END { exit !found }
+    ' "$room/$1.log"
+}
 
 # goal CRATE FUNCTION: the first open goal of the function's own, or status 1
 goal() {
-    said=$(verdict "$1" "$2")
-    case $said in
-    'no proof: expected answers in'*) echo "${said#*; }" ;;
-    'not proved'*)
-        grep "^\./proofs/$(echo "$2" | sed 's|::|/|g')/[A-Za-z]*\.antt:[0-9:]*: error" \
-            "$room/$1.log" | grep -v -E "$gone" | head -n 1 | cut -c 1-200 | grep .
-        ;;
+    open=$(verdict "$1" "$2")
+    case $open in
+    'no proof: expected answers in'*) open=${open#*; } ;;
+    'not proved'*) open=$(own_error "$1" "$2") || return 1 ;;
     *) return 1 ;;
     esac
+    echo "$open" | cut -d ' ' -f 1-25
+}
+
+# first_error CRATE: why the check came to no proof
+first_error() {
+    grep -m 1 -E '^(rattle|error)|: error' "$room/$1.log" || tail -n 1 "$room/$1.log"
 }
 
 # refused CRATE EDIT GOAL: counts it and says so
@@ -215,9 +226,9 @@ try_alone() {
     elif [ "$said" = proved ]; then
         failed "$1" "$2" "$function is still proved"
     elif [ -n "$said" ]; then
-        failed "$1" "$2" "no goal of $function's own is open, though it is $said"
+        failed "$1" "$2" "no goal of $function's own is open: it is $said"
     else
-        failed "$1" "$2" "no proof was tried: $(grep -m 1 -i error "$room/$1.log" | cut -c 1-200)"
+        failed "$1" "$2" "no proof was tried: $(first_error "$1" | cut -d ' ' -f 1-25)"
     fi
 }
 
