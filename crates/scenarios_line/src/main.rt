@@ -5,11 +5,13 @@
 ghost use Rattle.std.specs.Prelude.{◌≡◌, length, IfOk, IfSome};
 
 mod book;
+mod bundles;
 mod long;
 mod show;
 
 use crate::Move::{Change, Copy, Edit, GiveUp, Redo, States, Undo};
 use crate::book::Book;
+use crate::bundles::show_bundling;
 use crate::long::walk_long;
 use crate::show::{show_book, show_outcome, show_part, show_state};
 use rc_graph::Graph;
@@ -121,7 +123,8 @@ fn main(rt: HostRuntime) -> Result<(), Fail> {
         make_all(&rt, first(rt.alloc())?, moves)?;
     }
     make_all(&rt, both(rt.alloc())?, &BOTH_ALTER)?;
-    walk_long(&rt)
+    walk_long(&rt)?;
+    show_bundling(&rt)
 }
 
 /// The line on which nothing is live yet.

@@ -53,7 +53,7 @@ fn show_entry(rt: &impl Print, entry: &Entry) -> io::Result<()> {
 }
 
 /// Each name that alters, with its services before and after.
-fn show_edit(rt: &impl Print, edit: &Edit) -> io::Result<()> {
+pub(crate) fn show_edit(rt: &impl Print, edit: &Edit) -> io::Result<()> {
     for place in 0..edit.len() {
         let (name, before, after) = edit.at(place);
         print!(rt; " {}:", name.text())?;
