@@ -187,13 +187,20 @@ fn go_on(run: &mut Run) -> Result<(), NotLegal> {
 
 /// What a row comes to, or nothing where something is refused that may not be.
 fn ended(alloc: Global, graph: &Graph, row: &Row) -> Result<Option<Finish>, NoMem> {
-    let Some(mut run) = run_between(alloc, graph, row.from, row.to, row.deadline)? else {
-        return Ok(None);
-    };
-    if make(&mut run, row.events).is_err() || go_on(&mut run).is_err() || !run.settled() {
-        return Ok(None);
+    match run_between(alloc, graph, row.from, row.to, row.deadline)? {
+        Some(run) => Ok(finished(run, row.events)),
+        None => Ok(None),
     }
-    Ok(Some(run.finish().take_apart()))
+}
+
+fn finished(mut run: Run, events: &[Event]) -> Option<Finish> {
+    let is_made = make(&mut run, events).is_ok() && go_on(&mut run).is_ok();
+    if is_made && run.settled() {
+        Some(run.finish().take_apart())
+    } else {
+        drop(run);
+        None
+    }
 }
 
 fn is_as(alloc: Global, end: &Finish, row: &Row) -> Result<bool, NoMem> {

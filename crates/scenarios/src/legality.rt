@@ -4,7 +4,7 @@ ghost use Rattle.std.specs.Prelude.{◌≤◌};
 
 use crate::ends::make;
 use crate::plain::{Plain, is_legal};
-use rc_core::{Event, Outcome};
+use rc_core::{Event, Outcome, Run};
 use rc_graph::Graph;
 use rc_set::NoMem;
 use samples::graph_of;
@@ -46,18 +46,26 @@ fn try_all(alloc: Global, plain: &Plain, alphabet: &[Event], length: u32) -> Res
     requires { plain.now.services ≤ 4096 }
 {
     let graph = graph_of(alloc, plain.services, plain.needs)?;
+    let tally = try_on(alloc, &graph, plain, alphabet, length);
+    drop(graph);
+    Ok(tally?)
+}
+
+fn try_on(
+    alloc: Global,
+    graph: &Graph,
+    plain: &Plain,
+    alphabet: &[Event],
+    length: u32,
+) -> Result<Tally, NoMem> {
     let trial = Trial {
-        graph: &graph,
+        graph,
         plain,
         alphabet,
     };
-    Ok(try_trial(alloc, &trial, length)?)
-}
-
-fn try_trial(alloc: Global, trial: &Trial, length: u32) -> Result<Tally, NoMem> {
     let mut made = Vec::new(alloc);
     let mut tally = Tally { tried: 0, wrong: 0 };
-    try_after(alloc, trial, &mut made, length, &mut tally)?;
+    try_after(alloc, &trial, &mut made, length, &mut tally)?;
     Ok(tally)
 }
 
@@ -103,16 +111,18 @@ fn is_taken(
     event: Event,
 ) -> Result<Option<bool>, NoMem> {
     let plain = trial.plain;
-    let run = run_between(alloc, trial.graph, plain.up, plain.target, plain.deadline)?;
-    let Some(mut run) = run else {
-        return Ok(None);
-    };
-    if make(&mut run, made).is_err() {
-        return Ok(None);
+    match run_between(alloc, trial.graph, plain.up, plain.target, plain.deadline)? {
+        Some(run) => Ok(takes(run, made, event)),
+        None => Ok(None),
     }
+}
+
+fn takes(mut run: Run, made: &[Event], event: Event) -> Option<bool> {
+    let is_made = make(&mut run, made).is_ok();
     let taken = run.step(event).is_ok();
     let is_traced = run.trace().len() == made.len() + usize::from(taken);
-    Ok(is_traced.then_some(taken))
+    drop(run);
+    (is_made && is_traced).then_some(taken)
 }
 
 /// What is shown, the change, further events that are tried, and how long the lists are.

@@ -1,16 +1,18 @@
 //! Whole runs on small graphs: how they end, what is refused, what a worker that asks is answered, and whether lists of
 //! events are taken exactly where a plain program says that they are legal. Prints a line a table: how many rows it has,
-//! and which of them are wrong.
+//! and which of them are wrong. And drawn changes, each carried out in many orders.
 #![tactic(auto)]
 
 mod ends;
 mod legality;
 mod plain;
+mod schedules;
 mod taking;
 mod wide;
 
 use crate::ends::{show_ends, show_refusals};
 use crate::legality::show_legality;
+use crate::schedules::show_schedules;
 use crate::taking::show_asked;
 use crate::wide::show_wide;
 use rc_core::NotLegal;
@@ -19,11 +21,23 @@ use samples::{SAMPLE, graph_of};
 use std::io;
 use std::test::Fail;
 
+/// Each topic is shown also where another one ends by a fault.
 fn main(rt: HostRuntime) -> Result<(), Fail> {
+    let runs = show_runs(&rt);
+    let wide = show_wide(&rt);
+    let legality = show_legality(&rt);
+    let schedules = show_schedules(&rt);
+    runs?;
+    wide?;
+    legality?;
+    schedules
+}
+
+fn show_runs(rt: &(impl Print + AllocGlobal)) -> Result<(), Fail> {
     let graph = graph_of(rt.alloc(), 5, &SAMPLE)?;
-    show_sample(&rt, &graph)?;
-    show_wide(&rt)?;
-    show_legality(&rt)
+    let shown = show_sample(rt, &graph);
+    drop(graph);
+    Ok(shown?)
 }
 
 /// Runs on the sample.

@@ -7,6 +7,7 @@ use rc_set::NoMem;
 use samples::{set_of, widest_fan};
 use samples_drawn::run_between;
 use std::alloc::Global;
+use std::io;
 use std::test::Fail;
 
 /// The first comes up, and then the last.
@@ -22,12 +23,16 @@ const AFTER_WIDE: [Event; 2] = [Event::Take(64, 4095), Event::Take(64, 4096)];
 
 pub(crate) fn show_wide(rt: &(impl Print + AllocGlobal)) -> Result<(), Fail> {
     let graph = widest_fan(rt.alloc())?;
-    let all = whole_fan(rt.alloc(), &graph)?;
+    let shown = show_fan(rt, &graph);
+    drop(graph);
+    Ok(shown?)
+}
+
+fn show_fan(rt: &(impl Print + AllocGlobal), graph: &Graph) -> io::Result<()> {
+    let all = whole_fan(rt.alloc(), graph)?;
     let is_whole = all.len() == 4096 && all.last().copied() == Some(4095);
-    let is_planned = is_planned(rt.alloc(), &graph, &all)?;
-    Ok(println!(rt;
-        "as many services as there may be, all of them: {is_whole}, planned: {is_planned}"
-    )?)
+    let is_planned = is_planned(rt.alloc(), graph, &all)?;
+    println!(rt; "as many services as there may be, all of them: {is_whole}, planned: {is_planned}")
 }
 
 /// All that need the first service, with it.
@@ -38,8 +43,8 @@ fn whole_fan(alloc: Global, graph: &Graph) -> Result<Vec<u16>, NoMem> {
 
 /// Whether all services of the fan rise after the first.
 fn is_planned(alloc: Global, graph: &Graph, all: &[u16]) -> Result<bool, NoMem> {
-    let Some(mut run) = run_between(alloc, graph, &[], all, None)? else {
-        return Ok(false);
-    };
-    Ok(make(&mut run, &WIDE).is_ok() && refuses(&mut run, &AFTER_WIDE))
+    match run_between(alloc, graph, &[], all, None)? {
+        Some(mut run) => Ok(make(&mut run, &WIDE).is_ok() && refuses(&mut run, &AFTER_WIDE)),
+        None => Ok(false),
+    }
 }

@@ -45,8 +45,20 @@ fn show_rows<R: Print + AllocGlobal + Threads + Wait + Sync>(
 fn show_row<R: Print + AllocGlobal + Threads + Wait + Sync>(rt: &R, row: &Row) -> Result<(), Fail> {
     let (moments, transitions, steps) = row;
     let gate = gate_of(rt.alloc(), moments, transitions)?;
+    let shown = show_with(rt, &gate, steps);
+    drop(gate);
+    shown
+}
+
+fn show_with<R: Print + AllocGlobal + Threads + Wait + Sync>(
+    rt: &R,
+    gate: &TableGate,
+    steps: &[(&str, Step)],
+) -> Result<(), Fail> {
     let mut desk = Desk::new(rt.alloc())?;
-    Ok(show_steps(rt, &mut desk, &gate, steps)?)
+    let shown = show_steps(rt, &mut desk, gate, steps);
+    drop(desk);
+    Ok(shown?)
 }
 
 fn show_steps<R: Print + AllocGlobal + Threads + Wait + Sync>(
@@ -70,7 +82,9 @@ fn show_step<R: Print + AllocGlobal + Threads + Wait + Sync>(
     step: Step,
 ) -> io::Result<()> {
     let answer = answer_to(rt, desk, gate, step)?;
-    show_answer(rt, &answer)?;
+    let shown = show_answer(rt, &answer);
+    drop(answer);
+    shown?;
     show_place(rt, desk)
 }
 
@@ -83,7 +97,9 @@ fn answer_to<R: AllocGlobal + Threads + Wait + Sync>(
     match step {
         Step::Change(workers, limit) => {
             let request = up_site(rt.alloc(), limit)?;
-            Ok(desk.change(rt, &request, gate, workers, &NoWatch))
+            let answer = desk.change(rt, &request, gate, workers, &NoWatch);
+            drop(request);
+            Ok(answer)
         }
         Step::Undo => Ok(desk.undo(rt, gate, 2, &NoWatch)),
         Step::Redo => Ok(desk.redo(rt, gate, 2, &NoWatch)),
@@ -92,28 +108,50 @@ fn answer_to<R: AllocGlobal + Threads + Wait + Sync>(
 
 /// The gate is asked once for each take, and each event is followed by one look, the last at all of them.
 fn show_counts<R: Print + AllocGlobal + Threads + Wait + Sync>(rt: &R) -> Result<(), Fail> {
-    let gate = Counting::new(gate_of(rt.alloc(), &[], &[])?);
-    let request = up_site(rt.alloc(), 0)?;
     let mut desk = Desk::new(rt.alloc())?;
-    Ok(show_counted(rt, &mut desk, &request, &gate)?)
+    let shown = show_on(rt, &mut desk);
+    drop(desk);
+    Ok(shown?)
+}
+
+fn show_on<R: Print + AllocGlobal + Threads + Wait + Sync>(
+    rt: &R,
+    desk: &mut Desk,
+) -> io::Result<()> {
+    let gate = Counting::new(gate_of(rt.alloc(), &[], &[])?);
+    let shown = show_counted(rt, desk, &gate);
+    drop(gate);
+    shown
 }
 
 fn show_counted<R: Print + AllocGlobal + Threads + Wait + Sync>(
     rt: &R,
     desk: &mut Desk,
-    request: &Request,
     gate: &Counting<TableGate>,
 ) -> io::Result<()> {
     let watch = Looks::new();
-    let answer = desk.change(rt, request, gate, 2, &watch);
-    show_answer(rt, &answer)?;
-    println!(rt;
-        "asked {}, looks {}, the last saw {} events and {} up",
-        gate.calls(),
-        watch.looks(),
-        watch.events(),
-        watch.up()
-    )
+    let answer = watched(rt, desk, gate, &watch)?;
+    let shown = show_answer(rt, &answer);
+    drop(answer);
+    shown?;
+    show_looks(rt, gate.calls(), &watch)
+}
+
+fn watched<R: AllocGlobal + Threads + Wait + Sync>(
+    rt: &R,
+    desk: &mut Desk,
+    gate: &Counting<TableGate>,
+    watch: &Looks,
+) -> Result<Result<Report, Fault>, NoMem> {
+    let request = up_site(rt.alloc(), 0)?;
+    let answer = desk.change(rt, &request, gate, 2, watch);
+    drop(request);
+    Ok(answer)
+}
+
+fn show_looks(rt: &impl Print, calls: u64, watch: &Looks) -> io::Result<()> {
+    let (looks, events, up) = (watch.looks(), watch.events(), watch.up());
+    println!(rt; "asked {calls}, looks {looks}, the last saw {events} events and {up} up")
 }
 
 /// Where the line stands, and how many services are live.

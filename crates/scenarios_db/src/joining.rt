@@ -36,8 +36,13 @@ static ROWS: [Row; 4] = [
 fn refusal(alloc: Global, row: &Row) -> Result<Option<Unfit>, Fail> {
     let (_, count, needs, bundles) = row;
     let services = SERVICES.get(..*count).unwrap_or(&SERVICES);
-    let parts = parts_of(alloc, &SERVICES, services, needs, bundles)?;
-    Ok(Db::join(parts).err())
+    match Db::join(parts_of(alloc, &SERVICES, services, needs, bundles)?) {
+        Ok(db) => {
+            drop(db);
+            Ok(None)
+        }
+        Err(unfit) => Ok(Some(unfit)),
+    }
 }
 
 pub(crate) fn show_joined(rt: &(impl Print + AllocGlobal)) -> Result<(), Fail> {

@@ -13,13 +13,32 @@ use std::test::Fail;
 /// A table of as many bundles as there may be, each of the one service that there is.
 fn full_table(alloc: Global) -> Result<Table, NameFault> {
     let mut table = Table::new(alloc);
-    for number in 0..MAX_BUNDLES {
-        if table.len() < MAX_BUNDLES {
-            let name = numbered(alloc, number)?;
-            put(alloc, &mut table, &name, 1)?;
+    let filled = fill(alloc, &mut table);
+    match filled {
+        Ok(()) => Ok(table),
+        Err(fault) => {
+            drop(table);
+            Err(fault)
         }
     }
-    Ok(table)
+}
+
+fn fill(alloc: Global, table: &mut Table) -> Result<(), NameFault> {
+    for number in 0..MAX_BUNDLES {
+        if table.len() < MAX_BUNDLES {
+            put_numbered(alloc, table, number)?;
+        }
+    }
+    Ok(())
+}
+
+fn put_numbered(alloc: Global, table: &mut Table, number: u16) -> Result<bool, NameFault>
+    requires { length table.old < 4096 }
+{
+    let name = numbered(alloc, number)?;
+    let put = put(alloc, table, &name, 1);
+    drop(name);
+    put
 }
 
 fn numbered(alloc: Global, number: u16) -> Result<Name, NameFault> {
@@ -46,27 +65,40 @@ fn put(alloc: Global, table: &mut Table, name: &Name, services: u16) -> Result<b
 /// A full table is copied whole.
 pub(crate) fn show_full(rt: &(impl Print + AllocGlobal)) -> Result<(), Fail> {
     let table = full_table(rt.alloc())?;
-    Ok(show_copy(rt, &table)?)
+    let shown = show_copy(rt, &table);
+    drop(table);
+    Ok(shown?)
 }
 
 fn show_copy(rt: &(impl Print + AllocGlobal), table: &Table) -> io::Result<()> {
     let mut copy = table.copy(rt.alloc())?;
     let before = copy.same(table);
-    let cleared = copy.clear("b7").is_some();
+    let cleared = is_cleared(&mut copy);
     let after = copy.same(table);
+    drop(copy);
     println!(rt;
         "a full table of {}: its copy is the same: {before}; a bundle is cleared: {cleared}; it is the same then: {after}",
         table.len()
     )
 }
 
+fn is_cleared(table: &mut Table) -> bool {
+    table.clear("b7").is_some()
+}
+
 /// A set replaces the old one.
 pub(crate) fn show_replaced(rt: &(impl Print + AllocGlobal)) -> Result<(), Fail> {
     let mut table = site_of(rt.alloc(), &[1])?;
-    let replaced = put_site(rt.alloc(), &mut table)?;
+    let shown = show_put(rt, &mut table);
+    drop(table);
+    shown
+}
+
+fn show_put(rt: &(impl Print + AllocGlobal), table: &mut Table) -> Result<(), Fail> {
+    let replaced = put_site(rt.alloc(), table)?;
     println!(rt; "a set replaces the old one: {replaced}")?;
-    show_same(rt, "the new one", &table, &[0])?;
-    show_same(rt, "the old one", &table, &[1])?;
+    show_same(rt, "the new one", table, &[0])?;
+    show_same(rt, "the old one", table, &[1])?;
     Ok(println!(rt; "it has another bundle: {}", table.get("web").is_some())?)
 }
 
@@ -76,12 +108,20 @@ fn site_of(alloc: Global, services: &[u16]) -> Result<Table, Fail> {
 }
 
 fn put_site(alloc: Global, table: &mut Table) -> Result<bool, NameFault> {
-    let site = Name::read(alloc, "site")?;
     if table.len() < MAX_BUNDLES {
-        put(alloc, table, &site, 2)
+        put_in(alloc, table)
     } else {
         Ok(false)
     }
+}
+
+fn put_in(alloc: Global, table: &mut Table) -> Result<bool, NameFault>
+    requires { length table.old < 4096 }
+{
+    let site = Name::read(alloc, "site")?;
+    let put = put(alloc, table, &site, 2);
+    drop(site);
+    put
 }
 
 fn show_same(
@@ -91,5 +131,7 @@ fn show_same(
     services: &[u16],
 ) -> Result<(), Fail> {
     let other = site_of(rt.alloc(), services)?;
-    Ok(println!(rt; "the table is {what}: {}", table.same(&other))?)
+    let same = table.same(&other);
+    drop(other);
+    Ok(println!(rt; "the table is {what}: {same}")?)
 }

@@ -14,12 +14,15 @@ use crate::book::Book;
 use crate::bundles::show_bundling;
 use crate::long::walk_long;
 use crate::show::{show_book, show_outcome, show_part, show_state};
+use rc_db::Table;
 use rc_graph::Graph;
+use rc_line::LineFault;
 use rc_select::{Plan, between};
 use rc_set::{NoMem, Set};
 use samples::{DB, LOG, NET, ROOT, SAMPLE, WEB, graph_of, set_of};
 use samples_db::{BUNDLES, Bundle, table_of};
 use std::alloc::Global;
+use std::io;
 use std::test::Fail;
 
 /// A move on a line of the sample's services.
@@ -129,22 +132,45 @@ fn main(rt: HostRuntime) -> Result<(), Fail> {
 
 /// The line on which nothing is live yet.
 fn first(alloc: Global) -> Result<Book, Fail> {
-    let live = set_of(alloc, 5, NOTHING)?;
-    Ok(Book::new(alloc, live, table_of(alloc, 5, &[("site", &[WEB])])?))
+    let table = table_of(alloc, 5, &[("site", &[WEB])])?;
+    match set_of(alloc, 5, NOTHING) {
+        Ok(live) => Ok(Book::new(alloc, live, table)),
+        Err(short) => {
+            drop(table);
+            Err(Fail::from(short))
+        }
+    }
 }
 
 /// The line of two states that differ in services and bundles.
 fn both(alloc: Global) -> Result<Book, Fail> {
-    let first = (
-        set_of(alloc, 5, NOTHING)?,
-        table_of(alloc, 5, &[("site", &[WEB])])?,
-    );
-    let bundles: [Bundle; 2] = [("base", &[ROOT]), ("site", &[LOG])];
-    let second = (
-        set_of(alloc, 5, &[LOG, ROOT])?,
-        table_of(alloc, 5, &bundles)?,
-    );
-    Ok(Book::of_two(alloc, first, second)?)
+    let before = table_of(alloc, 5, &[("site", &[WEB])])?;
+    match table_of(alloc, 5, &[("base", &[ROOT]), ("site", &[LOG])]) {
+        Ok(now) => Ok(of_tables(alloc, before, now)?),
+        Err(fault) => {
+            drop(before);
+            Err(fault)
+        }
+    }
+}
+
+fn of_tables(alloc: Global, before: Table, now: Table) -> Result<Book, NoMem> {
+    match sets(alloc) {
+        Ok((first, second)) => Book::of_two(alloc, (first, before), (second, now)),
+        Err(short) => {
+            drop(before);
+            drop(now);
+            Err(short)
+        }
+    }
+}
+
+fn sets(alloc: Global) -> Result<(Set, Set), NoMem>
+    ensures { IfOk result (λ sets. length sets.1 ≡ length sets.0) }
+{
+    let first = set_of(alloc, 5, NOTHING)?;
+    let second = set_of(alloc, 5, &[LOG, ROOT])?;
+    Ok((first, second))
 }
 
 fn make_all(
@@ -152,10 +178,20 @@ fn make_all(
     mut book: Book,
     moves: &[Move<'_>],
 ) -> Result<(), Fail> {
+    let made = make_each(rt, &mut book, moves);
+    drop(book);
+    made
+}
+
+fn make_each(
+    rt: &(impl Print + AllocGlobal),
+    book: &mut Book,
+    moves: &[Move<'_>],
+) -> Result<(), Fail> {
     print!(rt; "a line")?;
-    show_book(rt, &book)?;
+    show_book(rt, book)?;
     for each in moves {
-        make(rt, &mut book, *each)?;
+        make(rt, book, *each)?;
     }
     Ok(())
 }
@@ -165,20 +201,24 @@ fn make(rt: &(impl Print + AllocGlobal), book: &mut Book, made: Move<'_>) -> Res
     match made {
         Change(target, live) => make_change(rt, book, target, live),
         Edit(what, bundles) => make_edit(rt, book, what, bundles),
-        Undo(live) => make_undo(rt, book, live),
-        Redo(live) => make_redo(rt, book, live),
-        GiveUp => {
-            print!(rt; "give up")?;
-            let outcome = book.give_up(rt.alloc());
-            Ok(show_outcome(rt, book, outcome)?)
-        }
-        Copy => {
-            print!(rt; "copy")?;
-            *book = book.copy(rt.alloc())?;
-            Ok(show_book(rt, book)?)
-        }
-        States => show_states(rt, book),
+        Undo(live) => Ok(make_undo(rt, book, live)?),
+        Redo(live) => Ok(make_redo(rt, book, live)?),
+        GiveUp => Ok(make_none(rt, book)?),
+        Copy => Ok(make_copy(rt, book)?),
+        States => Ok(show_states(rt, book)?),
     }
+}
+
+fn make_none(rt: &(impl Print + AllocGlobal), book: &mut Book) -> io::Result<()> {
+    print!(rt; "give up")?;
+    let outcome = book.give_up(rt.alloc());
+    show_outcome(rt, book, outcome)
+}
+
+fn make_copy(rt: &(impl Print + AllocGlobal), book: &mut Book) -> io::Result<()> {
+    print!(rt; "copy")?;
+    *book = book.copy(rt.alloc())?;
+    show_book(rt, book)
 }
 
 fn make_change(
@@ -191,13 +231,43 @@ fn make_change(
     show_part(rt, ", live", live)?;
     let bound = book.line().live().bound();
     let graph = graph_of(rt.alloc(), bound, &SAMPLE)?;
-    let target = set_of(rt.alloc(), bound, target)?;
-    let live = set_of(rt.alloc(), bound, live)?;
-    let Some(plan) = plan_of(rt.alloc(), &graph, book.line().live(), &target)? else {
-        return Ok(());
+    let outcome = changed(rt.alloc(), book, &graph, target, live);
+    drop(graph);
+    match outcome? {
+        Some(outcome) => Ok(show_outcome(rt, book, outcome)?),
+        None => Ok(()),
+    }
+}
+
+/// A change on a graph. None: what is live or to be live lacks what it needs.
+fn changed(
+    alloc: Global,
+    book: &mut Book,
+    graph: &Graph,
+    target: &[u16],
+    live: &[u16],
+) -> Result<Option<Result<(), LineFault>>, NoMem>
+    requires { length graph.now ≡ length book.old.line.line.current.live }
+{
+    let live = set_of(alloc, graph.len(), live)?;
+    let outcome = match plan_to(alloc, book, graph, target) {
+        Ok(Some(plan)) => Ok(Some(book.change(alloc, &plan, &live))),
+        Ok(None) => Ok(None),
+        Err(short) => Err(short),
     };
-    let outcome = book.change(rt.alloc(), &plan, &live);
-    Ok(show_outcome(rt, book, outcome)?)
+    drop(live);
+    outcome
+}
+
+/// The plan to these services. None: what is live or to be live lacks what it needs.
+fn plan_to(alloc: Global, book: &Book, graph: &Graph, target: &[u16]) -> Result<Option<Plan>, NoMem>
+    requires { length graph.now ≡ length book.now.line.line.current.live }
+    ensures { IfOk result (λ plan. IfSome plan (λ plan. length plan.opening ≡ length book.now.line.line.current.live)) }
+{
+    let target = set_of(alloc, graph.len(), target)?;
+    let plan = plan_of(alloc, graph, book.line().live(), &target);
+    drop(target);
+    plan
 }
 
 /// The plan from some services to others. None: some of these lack what they need.
@@ -222,29 +292,35 @@ fn make_edit(
     print!(rt; "edit, {what}")?;
     let table = table_of(rt.alloc(), book.line().live().bound(), bundles)?;
     let outcome = book.edit(rt.alloc(), &table);
+    drop(table);
     Ok(show_outcome(rt, book, outcome)?)
 }
 
-fn make_undo(rt: &(impl Print + AllocGlobal), book: &mut Book, live: &[u16]) -> Result<(), Fail> {
+fn make_undo(rt: &(impl Print + AllocGlobal), book: &mut Book, live: &[u16]) -> io::Result<()> {
     show_part(rt, "undo, live", live)?;
     let live = set_of(rt.alloc(), book.line().live().bound(), live)?;
     let outcome = book.undo(rt.alloc(), &live);
-    Ok(show_outcome(rt, book, outcome)?)
+    drop(live);
+    show_outcome(rt, book, outcome)
 }
 
-fn make_redo(rt: &(impl Print + AllocGlobal), book: &mut Book, live: &[u16]) -> Result<(), Fail> {
+fn make_redo(rt: &(impl Print + AllocGlobal), book: &mut Book, live: &[u16]) -> io::Result<()> {
     show_part(rt, "redo, live", live)?;
     let live = set_of(rt.alloc(), book.line().live().bound(), live)?;
     let outcome = book.redo(rt.alloc(), &live);
-    Ok(show_outcome(rt, book, outcome)?)
+    drop(live);
+    show_outcome(rt, book, outcome)
 }
 
 /// Each state of the line, in a line.
-fn show_states(rt: &(impl Print + AllocGlobal), book: &Book) -> Result<(), Fail> {
+fn show_states(rt: &(impl Print + AllocGlobal), book: &Book) -> io::Result<()> {
     for place in 0..book.line().states() {
         print!(rt; "state {place}:")?;
         let (live, table) = book.line().state(rt.alloc(), place)?;
-        show_state(rt, &live, &table)?;
+        let shown = show_state(rt, &live, &table);
+        drop(live);
+        drop(table);
+        shown?;
     }
     Ok(())
 }

@@ -6,6 +6,7 @@ mod devices;
 
 use crate::devices::{Sink, Source};
 use rc_cli::plan_run;
+use std::alloc::{AllocError, Global};
 use std::io::ErrorKind;
 use std::io::ErrorKind::{BrokenPipe, Interrupted};
 use std::{io, str};
@@ -54,24 +55,50 @@ static TELLERS: [(&str, usize, usize); 3] = [
 ];
 
 fn main(rt: HostRuntime) -> io::Result<()> {
-    let alloc = rt.alloc();
-    for (what, piece, interrupts, good) in READERS {
-        let reader = Source::new(INPUT.as_bytes(), piece, interrupts, good);
-        let writer = Sink::new(alloc, ALL, EVER, BrokenPipe);
-        let faults = Sink::new(alloc, ALL, EVER, BrokenPipe);
-        show(&rt, what, reader, writer, faults)?;
+    let words = words_of(rt.alloc())?;
+    show_readers(&rt, &words, &READERS)?;
+    show_writers(&rt, &words, &WRITERS)?;
+    show_tellers(&rt, &words, &TELLERS)
+}
+
+fn show_readers(
+    rt: &(impl Print + AllocGlobal),
+    words: &[String],
+    rows: &[(&str, usize, usize, usize)],
+) -> io::Result<()> {
+    for (what, piece, interrupts, good) in rows {
+        let reader = Source::new(INPUT.as_bytes(), *piece, *interrupts, *good);
+        let writer = Sink::new(rt.alloc(), ALL, EVER, BrokenPipe);
+        let faults = Sink::new(rt.alloc(), ALL, EVER, BrokenPipe);
+        show(rt, words, what, reader, writer, faults)?;
     }
-    for (what, piece, good, error) in WRITERS {
+    Ok(())
+}
+
+fn show_writers(
+    rt: &(impl Print + AllocGlobal),
+    words: &[String],
+    rows: &[(&str, usize, usize, ErrorKind)],
+) -> io::Result<()> {
+    for (what, piece, good, error) in rows {
         let reader = Source::new(INPUT.as_bytes(), ALL, 0, EVER);
-        let writer = Sink::new(alloc, piece, good, error);
-        let faults = Sink::new(alloc, ALL, EVER, BrokenPipe);
-        show(&rt, what, reader, writer, faults)?;
+        let writer = Sink::new(rt.alloc(), *piece, *good, *error);
+        let faults = Sink::new(rt.alloc(), ALL, EVER, BrokenPipe);
+        show(rt, words, what, reader, writer, faults)?;
     }
-    for (what, piece, good) in TELLERS {
+    Ok(())
+}
+
+fn show_tellers(
+    rt: &(impl Print + AllocGlobal),
+    words: &[String],
+    rows: &[(&str, usize, usize)],
+) -> io::Result<()> {
+    for (what, piece, good) in rows {
         let reader = Source::new(INPUT.as_bytes(), ALL, 0, 0);
-        let writer = Sink::new(alloc, ALL, EVER, BrokenPipe);
-        let faults = Sink::new(alloc, piece, good, BrokenPipe);
-        show(&rt, what, reader, writer, faults)?;
+        let writer = Sink::new(rt.alloc(), ALL, EVER, BrokenPipe);
+        let faults = Sink::new(rt.alloc(), *piece, *good, BrokenPipe);
+        show(rt, words, what, reader, writer, faults)?;
     }
     Ok(())
 }
@@ -79,18 +106,33 @@ fn main(rt: HostRuntime) -> io::Result<()> {
 /// One run, in a line.
 fn show(
     rt: &(impl Print + AllocGlobal),
+    words: &[String],
     what: &str,
     mut reader: Source<'_>,
     mut writer: Sink,
     mut faults: Sink,
 ) -> io::Result<()> {
-    let alloc = rt.alloc();
+    let status = planned(rt.alloc(), words, &mut reader, &mut writer, &mut faults);
+    let written = str::from_utf8(&writer.taken).unwrap_or("no text");
+    let told = str::from_utf8(&faults.taken).unwrap_or("no text");
+    println!(rt; "{what}: {status} {written:?} {told:?}")
+}
+
+fn words_of(alloc: Global) -> Result<Vec<String>, AllocError> {
     let mut words = Vec::new(alloc);
     for word in ["undorc", "plan", "web"] {
         words.push(String::from_str(alloc, word)?)?;
     }
-    let status = plan_run(alloc, &words, None, &mut reader, &mut writer, &mut faults);
-    let written = str::from_utf8(&writer.taken).unwrap_or("no text");
-    let told = str::from_utf8(&faults.taken).unwrap_or("no text");
-    println!(rt; "{what}: {status} {written:?} {told:?}")
+    Ok(words)
+}
+
+/// The status. What the command promises stands on its contract, so none of it is asked here.
+fn planned(
+    alloc: Global,
+    words: &[String],
+    reader: &mut Source<'_>,
+    writer: &mut Sink,
+    faults: &mut Sink,
+) -> u8 {
+    plan_run(alloc, words, None, reader, writer, faults)
 }

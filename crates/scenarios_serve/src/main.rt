@@ -12,9 +12,10 @@ use crate::cases::{ALL, CREWS, Case, EVER, READS, SHORT, WRITES};
 use crate::devices::{Endless, Interrupted, Sink, Source};
 use crate::long::{long_input, long_line, many_services};
 use crate::rows::{ROWS, Row};
-use crate::serving::{Ended, served};
+use crate::serving::{Desk, Ended};
+use rc_serve::ServeFault;
 use samples_db::sample;
-use std::alloc::AllocGlobal;
+use std::alloc::{AllocGlobal, Global};
 use std::io::{Print, Read};
 use std::sync::Wait;
 use std::test::Fail;
@@ -65,11 +66,21 @@ fn is_alike<T: AllocGlobal + Threads + Wait + Sync>(
     whole: &[u8],
 ) -> Result<bool, Fail> {
     for piece in [1, 7] {
-        if written_of(rt, row, piece)?.as_slice() != whole {
+        if !is_written(rt, row, piece, whole)? {
             return Ok(false);
         }
     }
     Ok(true)
+}
+
+fn is_written<T: AllocGlobal + Threads + Wait + Sync>(
+    rt: &T,
+    row: &Row,
+    piece: usize,
+    whole: &[u8],
+) -> Result<bool, Fail> {
+    let taken = written_of(rt, row, piece)?;
+    Ok(taken.as_slice() == whole)
 }
 
 /// What a worked session on the sample writes, which is to end well, in pieces of this size.
@@ -78,31 +89,41 @@ fn written_of<T: AllocGlobal + Threads + Wait + Sync>(
     row: &Row,
     piece: usize,
 ) -> Result<Vec<u8>, Fail> {
-    let (_, failing, input) = row;
-    let db = sample(rt.alloc())?;
+    let mut desk = Desk::new(rt.alloc(), sample(rt.alloc())?, row.1)?;
+    let written = written_on(rt, &mut desk, row.2.as_bytes(), piece);
+    drop(desk);
+    Ok(written?)
+}
+
+fn written_on<T: AllocGlobal + Threads + Wait + Sync>(
+    rt: &T,
+    desk: &mut Desk,
+    input: &[u8],
+    piece: usize,
+) -> Result<Vec<u8>, ServeFault> {
     let mut taken = Vec::new(rt.alloc());
-    let reader = Source::new(input.as_bytes(), piece, EVER);
+    let reader = Source::new(input, piece, EVER);
     let writer = Sink::new(&mut taken, piece, EVER);
-    let (end, _, _) = served(rt, db, *failing, reader, writer, 4)?;
+    let (end, _, _) = desk.served(rt, reader, writer, 4);
     match end {
         Ok(()) => Ok(taken),
-        Err(fault) => Err(Fail::from(fault)),
+        Err(fault) => Err(fault),
     }
 }
 
 /// Shows a short session with this reader, a writer that takes pieces and fails after some calls, and so many workers.
 fn show_short<T: Print + AllocGlobal + Threads + Wait + Sync, R: Read + Drop>(
     rt: &T,
+    desk: &mut Desk,
     what: &str,
     reader: R,
     (piece, good): (usize, usize),
     workers: u8,
-) -> Result<(), Fail> {
-    let db = sample(rt.alloc())?;
+) -> io::Result<()> {
     let mut taken = Vec::new(rt.alloc());
     let writer = Sink::new(&mut taken, piece, good);
-    let end = served(rt, db, None, reader, writer, workers)?;
-    Ok(show_end(rt, what, end, &taken)?)
+    let end = desk.served(rt, reader, writer, workers);
+    show_end(rt, what, end, &taken)
 }
 
 /// How a session ended, which devices have failed, and what was written.
@@ -117,11 +138,27 @@ fn show_cases<T: Print + AllocGlobal + Threads + Wait + Sync>(
     rt: &T,
     cases: &[Case],
 ) -> Result<(), Fail> {
-    for (what, (piece, good), writes, workers) in cases {
-        let reader = Source::new(SHORT.as_bytes(), *piece, *good);
-        show_short(rt, what, reader, *writes, *workers)?;
+    for case in cases {
+        show_case(rt, case)?;
     }
     Ok(())
+}
+
+fn show_case<T: Print + AllocGlobal + Threads + Wait + Sync>(
+    rt: &T,
+    case: &Case,
+) -> Result<(), Fail> {
+    let (what, (piece, good), writes, workers) = case;
+    let mut desk = desk_of_sample(rt.alloc())?;
+    let reader = Source::new(SHORT.as_bytes(), *piece, *good);
+    let shown = show_short(rt, &mut desk, what, reader, *writes, *workers);
+    drop(desk);
+    Ok(shown?)
+}
+
+/// A session over the sample at whose gate all goes well.
+fn desk_of_sample(alloc: Global) -> Result<Desk, Fail> {
+    Desk::new(alloc, sample(alloc)?, None)
 }
 
 /// Devices that fail.
@@ -130,19 +167,46 @@ fn show_faults<T: Print + AllocGlobal + Threads + Wait + Sync>(rt: &T) -> Result
         "\nhow it ended, whether the reader and the writer have failed, what was written:"
     )?;
     show_cases(rt, &READS)?;
-    show_short(rt, "interrupted reads", Interrupted, (ALL, EVER), 1)?;
+    show_interrupted(rt)?;
     show_cases(rt, &WRITES)
+}
+
+fn show_interrupted<T: Print + AllocGlobal + Threads + Wait + Sync>(rt: &T) -> Result<(), Fail> {
+    let mut desk = desk_of_sample(rt.alloc())?;
+    let shown = show_short(
+        rt,
+        &mut desk,
+        "interrupted reads",
+        Interrupted,
+        (ALL, EVER),
+        1,
+    );
+    drop(desk);
+    Ok(shown?)
 }
 
 /// Lines and inputs at their bounds.
 fn show_bounds<T: Print + AllocGlobal + Threads + Wait + Sync>(rt: &T) -> Result<(), Fail> {
     show_line(rt, "a line of 65536 bytes", 65_536)?;
     show_line(rt, "a line of 65537 bytes", 65_537)?;
+    show_endless(rt)
+}
+
+fn show_endless<T: Print + AllocGlobal + Threads + Wait + Sync>(rt: &T) -> Result<(), Fail> {
+    let mut desk = desk_of_sample(rt.alloc())?;
     let mut given = 0;
     let endless = Endless::new(&mut given);
-    show_short(rt, "an input without end", endless, (ALL, EVER), 1)?;
-    println!(rt; "{given} bytes of it were read")?;
-    Ok(())
+    let shown = show_short(
+        rt,
+        &mut desk,
+        "an input without end",
+        endless,
+        (ALL, EVER),
+        1,
+    );
+    drop(desk);
+    shown?;
+    Ok(println!(rt; "{given} bytes of it were read")?)
 }
 
 /// A session with a line of so many bytes.
@@ -151,24 +215,41 @@ fn show_line<T: Print + AllocGlobal + Threads + Wait + Sync>(
     what: &str,
     bytes: usize,
 ) -> Result<(), Fail> {
+    let mut desk = desk_of_sample(rt.alloc())?;
+    let shown = show_long(rt, &mut desk, what, bytes);
+    drop(desk);
+    Ok(shown?)
+}
+
+fn show_long<T: Print + AllocGlobal + Threads + Wait + Sync>(
+    rt: &T,
+    desk: &mut Desk,
+    what: &str,
+    bytes: usize,
+) -> io::Result<()> {
     let text = long_line(rt.alloc(), bytes)?;
     let reader = Source::new(text.as_bytes(), ALL, EVER);
-    show_short(rt, what, reader, (ALL, EVER), 1)
+    show_short(rt, desk, what, reader, (ALL, EVER), 1)
 }
 
 /// A session of many lines on many services, each of which adds a state.
 fn show_many<T: Print + AllocGlobal + Threads + Wait + Sync>(rt: &T) -> Result<(), Fail> {
-    let db = many_services(rt.alloc())?;
+    let mut desk = Desk::new(rt.alloc(), many_services(rt.alloc())?, None)?;
+    let shown = show_count(rt, &mut desk);
+    drop(desk);
+    Ok(shown?)
+}
+
+fn show_count<T: Print + AllocGlobal + Threads + Wait + Sync>(
+    rt: &T,
+    desk: &mut Desk,
+) -> io::Result<()> {
     let input = long_input(rt.alloc(), LINES)?;
     let mut taken = Vec::new(rt.alloc());
     let reader = Source::new(input.as_bytes(), ALL, EVER);
     let writer = Sink::new(&mut taken, ALL, EVER);
-    let end = served(rt, db, None, reader, writer, 4)?;
-    Ok(show_count(rt, end, count_done(&taken))?)
-}
-
-fn show_count(rt: &impl Print, end: Ended, done: usize) -> io::Result<()> {
-    let (end, _, states) = end;
+    let (end, _, states) = desk.served(rt, reader, writer, 4);
+    let done = count_done(&taken);
     println!(rt; "{LINES} lines: {end:?}, {done} of them done, {states} states")
 }
 

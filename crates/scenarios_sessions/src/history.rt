@@ -14,9 +14,13 @@ pub(crate) struct History {
 }
 
 impl History {
-    pub(crate) fn new(alloc: Global, first: State) -> Result<History, NoMem> {
+    /// The line of one state, in which nothing is live, and no bundle is defined.
+    pub(crate) fn new(alloc: Global) -> Result<History, NoMem> {
         let mut states = Vec::new(alloc);
-        states.push(first)?;
+        states.push(State {
+            live: 0,
+            bundles: [None; 3],
+        })?;
         Ok(History {
             states,
             cursor: 0,
@@ -52,6 +56,12 @@ impl History {
             self.states.push(to)?;
         }
         Ok(())
+    }
+
+    /// A change ends with these services live.
+    pub(crate) fn go_live(&mut self, live: u16) -> Result<(), NoMem> {
+        let current = self.current();
+        self.go(State { live, ..current })
     }
 
     /// An undo towards the state before ends with these services live.

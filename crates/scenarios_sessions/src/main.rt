@@ -3,6 +3,7 @@
 #![tactic(auto)]
 
 mod compare;
+mod desk;
 mod edits;
 mod history;
 mod plain;
@@ -12,6 +13,7 @@ mod words;
 use crate::plain::{BUNDLES, World, bit};
 use crate::trial::Trial;
 use crate::words::SERVICES;
+use rc_db::Db;
 use rc_names::{Kind, Name};
 use rc_set::NoMem;
 use samples_db::db_of;
@@ -26,14 +28,7 @@ const SESSIONS: u32 = 150;
 const COMMANDS: u32 = 30;
 
 fn main(rt: HostRuntime) -> Result<(), Fail> {
-    let mut draw = Draw::new(SEED);
-    let mut alike = 0_u32;
-    let mut splits = 0_u32;
-    for _ in 0..SESSIONS {
-        let mut trial = drawn_trial(rt.alloc(), &mut draw)?;
-        alike = alike.saturating_add(try_all(rt.alloc(), &mut draw, &mut trial)?);
-        splits = splits.saturating_add(u32::from(trial.history.has_split));
-    }
+    let (alike, splits) = try_sessions(rt.alloc())?;
     println!(rt; "seed {SEED}, {SESSIONS} sessions of {COMMANDS} commands")?;
     println!(rt; "answers and lines as the rules say: {alike}")?;
     println!(rt;
@@ -43,24 +38,58 @@ fn main(rt: HostRuntime) -> Result<(), Fail> {
     Ok(())
 }
 
+/// How many commands were answered, and left the line, as the rules say, and how many sessions had a run that failed in
+/// part.
+fn try_sessions(alloc: Global) -> Result<(u32, u32), Fail> {
+    let mut draw = Draw::new(SEED);
+    let mut alike = 0_u32;
+    let mut splits = 0_u32;
+    for _ in 0..SESSIONS {
+        let (right, has_split) = try_session(alloc, &mut draw)?;
+        alike = alike.saturating_add(right);
+        splits = splits.saturating_add(u32::from(has_split));
+    }
+    Ok((alike, splits))
+}
+
+fn try_session(alloc: Global, draw: &mut Draw) -> Result<(u32, bool), Fail> {
+    let mut trial = drawn_trial(alloc, draw)?;
+    let tried = try_all(alloc, draw, &mut trial);
+    let has_split = trial.history.has_split;
+    drop(trial);
+    Ok((tried?, has_split))
+}
+
 /// A session on two to nine services, some of them essential, and no bundles yet.
 fn drawn_trial(alloc: Global, draw: &mut Draw) -> Result<Trial, Fail> {
     let services = 2 + draw.below(8);
-    let mut world = World {
+    let needs = drawn_needs(alloc, draw, services)?;
+    let (db, essential) = drawn_db(alloc, draw, &needs, services)?;
+    let world = World {
         services,
-        needs: drawn_needs(alloc, draw, services)?,
-        essential: 0,
+        needs,
+        essential,
     };
+    Ok(Trial::new(alloc, world, db)?)
+}
+
+/// The database of so many services with these needs, and which of them are essential.
+fn drawn_db(
+    alloc: Global,
+    draw: &mut Draw,
+    needs: &[(u16, u16)],
+    services: u16,
+) -> Result<(Db, u16), Fail> {
+    let mut essential = 0;
     let mut rows = Vec::new(alloc);
     for (service, name) in SERVICES.iter().take(usize::from(services)).enumerate() {
         let is_essential = draw.below(5) == 0;
         if is_essential {
-            world.essential |= bit(service as u16);
+            essential |= bit(service as u16);
         }
         rows.push((*name, Kind::Longrun, is_essential, None))?;
     }
-    let db = db_of(alloc, &rows, &world.needs, &[])?;
-    Ok(Trial::new(alloc, world, db)?)
+    Ok((db_of(alloc, &rows, needs, &[])?, essential))
 }
 
 /// How many drawn commands were answered, and left the line, as the rules say.
@@ -77,17 +106,31 @@ fn try_all(alloc: Global, draw: &mut Draw, trial: &mut Trial) -> Result<u32, Fai
 
 /// A drawn command.
 fn try_one(alloc: Global, draw: &mut Draw, trial: &mut Trial) -> Result<bool, Fail> {
-    match draw.below(14) {
-        0..=4 => Ok(trial.change(alloc, draw)?),
-        5..=7 => Ok(trial.undo(alloc, draw)?),
-        8 | 9 => Ok(trial.redo(alloc, draw)?),
-        10 => Ok(trial.undo_edit(alloc)?),
-        11 => Ok(trial.redo_edit(alloc)?),
-        12 => Ok(trial.delete(alloc, draw)?),
-        _ => {
-            let place = usize::from(draw.below(3));
-            let name = Name::read(alloc, BUNDLES.get(place).copied().unwrap_or("x"))?;
-            Ok(trial.add(alloc, draw, &name, place)?)
-        }
+    let drawn = draw.below(14);
+    if drawn < 13 {
+        Ok(try_other(alloc, draw, trial, drawn)?)
+    } else {
+        add_one(alloc, draw, trial)
     }
+}
+
+/// A drawn command that takes no name.
+fn try_other(alloc: Global, draw: &mut Draw, trial: &mut Trial, drawn: u16) -> Result<bool, NoMem> {
+    match drawn {
+        0..=4 => trial.change(alloc, draw),
+        5..=7 => trial.undo(alloc, draw),
+        8 | 9 => trial.redo(alloc, draw),
+        10 => trial.undo_edit(alloc),
+        11 => trial.redo_edit(alloc),
+        _ => trial.delete(alloc, draw),
+    }
+}
+
+/// A drawn bundle is defined.
+fn add_one(alloc: Global, draw: &mut Draw, trial: &mut Trial) -> Result<bool, Fail> {
+    let place = usize::from(draw.below(3));
+    let name = Name::read(alloc, BUNDLES.get(place).copied().unwrap_or("x"))?;
+    let right = trial.add(alloc, draw, &name, place);
+    drop(name);
+    Ok(right?)
 }

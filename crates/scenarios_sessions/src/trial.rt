@@ -1,108 +1,126 @@
 //! One session with its plain history, and drawn commands on both.
 
-ghost use Rattle.std.specs.Prelude.{◌≡◌, false};
-
 use crate::compare::{Course, is_like, tells};
+use crate::desk::Desk;
 use crate::history::History;
 use crate::plain::{Ask, State, World, live_after};
 use crate::words::Words;
 use rc_core::Event;
 use rc_db::Db;
 use rc_select::{Mode, Request};
-use rc_session::{Refusal, Report, Session};
+use rc_session::{Refusal, Report};
 use rc_set::NoMem;
 use samples_drawn::{Change, Draw, carry_out};
 use std::alloc::Global;
 
-/// A session on which no run is begun, with what the rules say of it.
+/// A session, with what the rules say of it.
 #[derive(Drop)]
 pub(crate) struct Trial {
     pub(crate) world: World,
-    pub(crate) session: Session,
+    pub(crate) desk: Desk,
     pub(crate) history: History,
-    ghost ended: { session.begun ≡ false },
 }
 
 impl Trial {
     pub(crate) fn new(alloc: Global, world: World, db: Db) -> Result<Trial, NoMem> {
-        let first = State {
-            live: 0,
-            bundles: [None; 3],
-        };
+        let history = History::new(alloc)?;
+        let desk = Desk::new(alloc, db)?;
         Ok(Trial {
             world,
-            session: Session::new(alloc, db)?,
-            history: History::new(alloc, first)?,
+            desk,
+            history,
         })
     }
 
     /// Whether the session's line is the history.
     pub(crate) fn is_like_history(&self, alloc: Global) -> Result<bool, NoMem> {
-        is_like(alloc, &self.session, &self.history)
+        is_like(alloc, self.desk.session(), &self.history)
     }
 
     /// A drawn change. Whether it was answered as the rules say.
     pub(crate) fn change(&mut self, alloc: Global, draw: &mut Draw) -> Result<bool, NoMem> {
-        let state = self.history.current();
-        let words = Words::drawn(alloc, draw, &self.world, state)?;
+        let words = Words::drawn(alloc, draw, &self.world, self.history.current())?;
         let ask = Ask {
             mode: drawn_mode(draw),
             prune: draw.below(4) == 0,
             all: draw.below(8) == 0,
             wanted: words.wanted,
         };
-        let limit = if draw.below(4) == 0 { 5 } else { 0 };
-        let to = self.world.target(state.live, ask);
-        let given = self.events(alloc, draw, to, limit)?;
-        let refusal = refusal_of(ask, words.unknown).or(given.fault);
+        let fault = refusal_of(ask, words.unknown);
         let request = Request {
             mode: ask.mode,
             prune: ask.prune,
             all: ask.all,
             names: words.texts,
-            limit,
+            limit: if draw.below(4) == 0 { 5 } else { 0 },
         };
-        let answer = self.session.change_by(alloc, &request, &given.events);
-        let course = self.course(to, self.world.kept(state.live, ask), &given.events);
+        let right = self.change_to(alloc, draw, ask, &request, fault);
+        drop(request);
+        right
+    }
+
+    /// A change that is refused by its words, or not.
+    fn change_to(
+        &mut self,
+        alloc: Global,
+        draw: &mut Draw,
+        ask: Ask,
+        request: &Request,
+        fault: Option<Refusal>,
+    ) -> Result<bool, NoMem> {
+        let to = self.world.target(self.history.current().live, ask);
+        let given = self.events(alloc, draw, to, request.limit)?;
+        let refusal = fault.or(given.fault);
+        let kept = self.world.kept(self.history.current().live, ask);
+        let course = self.course(to, kept, &given.events);
+        let answer = self.desk.change_by(alloc, request, &given.events);
+        let right = is_answer(&self.world, course, &given.events, refusal, &answer);
+        drop(answer);
+        drop(given);
         if refusal.is_none() {
-            self.history.go(State {
-                live: course.end,
-                ..state
-            })?;
+            self.history.go_live(course.end)?;
         }
-        Ok(is_answer(&self.world, course, &given.events, refusal, &answer))
+        Ok(right)
     }
 
     /// A drawn undo. Whether it was answered as the rules say.
     pub(crate) fn undo(&mut self, alloc: Global, draw: &mut Draw) -> Result<bool, NoMem> {
         let Some(before) = self.history.before() else {
-            let answer = self.session.undo_by(alloc, 0, &[]);
+            let answer = self.desk.undo_by(alloc, 0, &[]);
             return Ok(is_refused(&answer, Refusal::NothingToUndo));
         };
         let limit = self.drawn_limit(draw, before);
         let given = self.events(alloc, draw, before.live, limit)?;
-        let answer = self.session.undo_by(alloc, limit, &given.events);
+        let fault = given.fault;
         let course = self.course(before.live, 0, &given.events);
-        if given.fault.is_none() {
+        let answer = self.desk.undo_by(alloc, limit, &given.events);
+        let right = is_answer(&self.world, course, &given.events, fault, &answer);
+        drop(answer);
+        drop(given);
+        if fault.is_none() {
             self.history.go_back(before, course.end)?;
         }
-        Ok(is_answer(&self.world, course, &given.events, given.fault, &answer))
+        Ok(right)
     }
 
     /// A drawn redo. Whether it was answered as the rules say.
     pub(crate) fn redo(&mut self, alloc: Global, draw: &mut Draw) -> Result<bool, NoMem> {
         let Some(after) = self.history.after() else {
-            let answer = self.session.redo_by(alloc, 0, &[]);
+            let answer = self.desk.redo_by(alloc, 0, &[]);
             return Ok(is_refused(&answer, Refusal::NothingToRedo));
         };
         let limit = self.drawn_limit(draw, after);
         let given = self.events(alloc, draw, after.live, limit)?;
-        let answer = self.session.redo_by(alloc, limit, &given.events);
+        let fault = given.fault;
         let course = self.course(after.live, 0, &given.events);
-        if given.fault.is_none() {
+        let answer = self.desk.redo_by(alloc, limit, &given.events);
+        let right = is_answer(&self.world, course, &given.events, fault, &answer);
+        drop(answer);
+        drop(given);
+        if fault.is_none() {
             self.history.go_on(after, course.end)?;
         }
-        Ok(is_answer(&self.world, course, &given.events, given.fault, &answer))
+        Ok(right)
     }
 
     /// A limit for the way to a neighbour. An edit has none, so its events are made without one.
@@ -127,23 +145,44 @@ impl Trial {
 
     /// Events by which drawn workers bring about a target while drawn services fail; sometimes they are spoiled.
     fn events(&self, alloc: Global, draw: &mut Draw, to: u16, limit: u32) -> Result<Given, NoMem> {
-        let change = Change {
-            graph: self.session.db().graph().share()?,
-            up: self.world.list(alloc, self.history.current().live)?,
-            to: self.world.list(alloc, to)?,
-            fails: draw.some(alloc, self.world.services, 6)?,
-            deadline: if limit > 0 {
-                Some(u64::from(limit))
-            } else {
-                None
-            },
-        };
+        let change = self.drawn_change(alloc, draw, to, limit)?;
         let workers = 1 + draw.below(4);
-        let events = match carry_out(alloc, draw, &change, workers)? {
+        let finish = carry_out(alloc, draw, &change, workers);
+        drop(change);
+        let events = match finish? {
             Some(finish) => finish.trace,
             None => Vec::new(alloc),
         };
         Given::spoiled(draw, events, limit)
+    }
+
+    /// The change to a target, with drawn services that fail.
+    fn drawn_change(
+        &self,
+        alloc: Global,
+        draw: &mut Draw,
+        to: u16,
+        limit: u32,
+    ) -> Result<Change, NoMem> {
+        let up = self.world.list(alloc, self.history.current().live)?;
+        let to = self.world.list(alloc, to)?;
+        let fails = draw.some(alloc, self.world.services, 6)?;
+        Ok(Change {
+            graph: self.desk.graph()?,
+            up,
+            to,
+            fails,
+            deadline: deadline_of(limit),
+        })
+    }
+}
+
+/// The moment from which a run may be stopped that begins at 0.
+fn deadline_of(limit: u32) -> Option<u64> {
+    if limit > 0 {
+        Some(u64::from(limit))
+    } else {
+        None
     }
 }
 

@@ -1,11 +1,11 @@
 //! Carries drawn changes out in many orders, with drawn transitions that fail, and prints how many ended
 //! as the plain rules say that what fails makes them end, whatever the order.
-#![tactic(auto)]
 
 use rc_core::Finish;
 use rc_set::NoMem;
 use samples_drawn::{Change, Draw, End, carry_out, end_of};
 use std::alloc::Global;
+use std::io;
 use std::test::Fail;
 
 const SEED: u64 = 20_261_122;
@@ -25,15 +25,41 @@ struct Tally {
     raised: bool,
 }
 
-fn main(rt: HostRuntime) -> Result<(), Fail> {
+pub(crate) fn show_schedules(rt: &(impl Print + AllocGlobal)) -> Result<(), Fail> {
+    let tally = try_changes(rt.alloc())?;
+    Ok(show_tally(rt, &tally)?)
+}
+
+fn try_changes(alloc: Global) -> Result<Tally, Fail> {
     let mut draw = Draw::new(SEED);
     let mut tally = Tally::default();
     for _ in 0..CHANGES {
-        let change = Change::drawn(rt.alloc(), &mut draw)?;
-        let end = end_of(rt.alloc(), &change)?;
-        note_kinds(&mut tally, &change, &end);
-        try_orders(rt.alloc(), &mut draw, &change, &end, &mut tally)?;
+        try_change(alloc, &mut draw, &mut tally)?;
     }
+    Ok(tally)
+}
+
+fn try_change(alloc: Global, draw: &mut Draw, tally: &mut Tally) -> Result<(), Fail> {
+    let change = Change::drawn(alloc, draw)?;
+    let tried = try_to_end(alloc, draw, &change, tally);
+    drop(change);
+    Ok(tried?)
+}
+
+fn try_to_end(
+    alloc: Global,
+    draw: &mut Draw,
+    change: &Change,
+    tally: &mut Tally,
+) -> Result<(), NoMem> {
+    let end = end_of(alloc, change)?;
+    note_kinds(tally, change, &end);
+    let tried = try_orders(alloc, draw, change, &end, tally);
+    drop(end);
+    tried
+}
+
+fn show_tally(rt: &impl Print, tally: &Tally) -> io::Result<()> {
     println!(rt; "seed {SEED}, {CHANGES} changes, {ORDERS} orders each, by one to four workers")?;
     println!(rt; "end as the rules say: {}", tally.alike)?;
     println!(rt; "end otherwise: {}", tally.otherwise)?;
@@ -44,8 +70,7 @@ fn main(rt: HostRuntime) -> Result<(), Fail> {
     println!(rt;
         "some go down: {}, some come up: {}",
         tally.lowered, tally.raised
-    )?;
-    Ok(())
+    )
 }
 
 /// Notes what kinds of ends there were, so that it can be seen that the draws are not all alike.
@@ -63,7 +88,7 @@ fn try_orders(
     change: &Change,
     end: &End,
     tally: &mut Tally,
-) -> Result<(), Fail> {
+) -> Result<(), NoMem> {
     for _ in 0..ORDERS {
         let workers = 1 + draw.below(4);
         let finish = carry_out(alloc, draw, change, workers)?;
@@ -78,9 +103,17 @@ fn try_orders(
 
 /// Whether a run came to this end.
 fn ends_so(alloc: Global, finish: Option<Finish>, end: &End) -> Result<bool, NoMem> {
-    let Some(finish) = finish else {
-        return Ok(false);
-    };
+    match finish {
+        Some(finish) => {
+            let right = is_end(alloc, &finish, end);
+            drop(finish);
+            right
+        }
+        None => Ok(false),
+    }
+}
+
+fn is_end(alloc: Global, finish: &Finish, end: &End) -> Result<bool, NoMem> {
     let live = finish.live.ids(alloc)?;
     Ok(
         live == end.live

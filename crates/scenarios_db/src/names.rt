@@ -115,24 +115,33 @@ const PLACES: [(&str, Option<u16>); 11] = [
 /// Whether each name is told to be new or not.
 pub fn added(alloc: Global) -> Result<Vec<bool>, Fail> {
     let mut names = Names::new(alloc);
-    let mut right = Vec::new(alloc);
-    for (text, want) in &ADDED {
-        if names.len() < MAX_NAMES {
-            right.push(is_new(alloc, &mut names, text)? == *want)?;
-        }
-    }
-    Ok(right)
+    let right = add_all(alloc, &mut names);
+    drop(names);
+    right
 }
 
 /// Whether each text has its place among the names. The first row is their number.
 pub fn places(alloc: Global) -> Result<Vec<bool>, Fail> {
     let mut names = Names::new(alloc);
-    for (text, _) in &ADDED {
+    let right = places_of_all(alloc, &mut names);
+    drop(names);
+    right
+}
+
+fn places_of_all(alloc: Global, names: &mut Names) -> Result<Vec<bool>, Fail> {
+    add_all(alloc, names)?;
+    Ok(places_in(alloc, names)?)
+}
+
+/// Puts the names in, and tells of each whether it is told to be new or not as it must.
+fn add_all(alloc: Global, names: &mut Names) -> Result<Vec<bool>, Fail> {
+    let mut right = Vec::new(alloc);
+    for (text, want) in &ADDED {
         if names.len() < MAX_NAMES {
-            is_new(alloc, &mut names, text)?;
+            right.push(is_new(alloc, names, text)? == *want)?;
         }
     }
-    Ok(places_in(alloc, &names)?)
+    Ok(right)
 }
 
 fn places_in(alloc: Global, names: &Names) -> Result<Vec<bool>, NoMem> {

@@ -1,9 +1,9 @@
 //! Graphs: who needs whom, what follows from it, and cycles.
 
-ghost use Rattle.std.specs.Prelude.{◌<◌, ◌≤◌, length};
+ghost use Rattle.std.specs.Prelude.{◌≡◌, ◌<◌, ◌≤◌, length};
 
 use rc_graph::{Graph, GraphFault};
-use rc_set::NoMem;
+use rc_set::{NoMem, Set};
 use samples::{DB, LOG, NET, ROOT, SAMPLE, WEB, draft_of, graph_of, has_ids, set_of};
 use std::alloc::{AllocError, Global};
 use std::test::Fail;
@@ -22,17 +22,27 @@ const ROWS: [Row; 5] = [
 /// Whether the sample's graph says of each service what it must.
 pub fn first(alloc: Global) -> Result<Vec<bool>, Fail> {
     let graph = graph_of(alloc, 5, &SAMPLE)?;
-    Ok(rows_of(alloc, &graph)?)
+    let right = rows_of(alloc, &graph);
+    drop(graph);
+    Ok(right?)
 }
 
 /// Whether another handle to it says the same when the first is gone. The last row is its order and its length.
 pub fn shared(alloc: Global) -> Result<Vec<bool>, Fail> {
     let graph = graph_of(alloc, 5, &SAMPLE)?;
-    let shared = graph.share()?;
-    let order = Vec::from_slice(alloc, graph.order())?;
+    let order = Vec::from_slice(alloc, graph.order());
+    let shared = graph.share();
     drop(graph);
-    let mut right = rows_of(alloc, &shared)?;
-    right.push(shared.order() == order.as_slice() && shared.len() == 5)?;
+    let order = order?;
+    let shared = shared?;
+    let right = says(alloc, &shared, &order);
+    drop(shared);
+    Ok(right?)
+}
+
+fn says(alloc: Global, graph: &Graph, order: &[u16]) -> Result<Vec<bool>, NoMem> {
+    let mut right = rows_of(alloc, graph)?;
+    right.push(graph.order() == order && graph.len() == 5)?;
     Ok(right)
 }
 
@@ -50,11 +60,24 @@ fn is_so(alloc: Global, graph: &Graph, row: &Row) -> Result<bool, NoMem>
     requires { row.now.0 < length graph.now }
 {
     let set = set_of(alloc, graph.len(), &[row.0])?;
-    let up = has_ids(alloc, &graph.up_of(alloc, &set)?, row.3)?;
-    let down = has_ids(alloc, &graph.down_of(alloc, &set)?, row.4)?;
+    let right = are_closures(alloc, graph, &set, row);
+    drop(set);
     let needs = graph.needs(row.0) == row.1;
     let needed_by = graph.needed_by(row.0) == row.2;
-    Ok(needs & needed_by & up & down)
+    Ok(right? & needs & needed_by)
+}
+
+fn are_closures(alloc: Global, graph: &Graph, set: &Set, row: &Row) -> Result<bool, NoMem>
+    requires { length set.now ≡ length graph.now }
+{
+    let up = is_set(alloc, graph.up_of(alloc, set)?, row.3)?;
+    Ok(is_set(alloc, graph.down_of(alloc, set)?, row.4)? & up)
+}
+
+fn is_set(alloc: Global, set: Set, ids: &[u16]) -> Result<bool, NoMem> {
+    let right = has_ids(alloc, &set, ids);
+    drop(set);
+    right
 }
 
 /// How many services, the pairs, and the cycle that is shown, which is empty where the pairs make a graph.

@@ -1,52 +1,50 @@
 //! Names, sets, graphs, cycles and plans: tables of what goes in and what must come out. A line for each
 //! table says how many rows it has, behind a line for each row that is wrong.
-#![tactic(auto)]
 
-mod graphs;
-mod names;
-mod plans;
-mod sets;
-
+use crate::{graphs, names, plans, sets};
 use std::io;
 use std::test::Fail;
 
-fn main(rt: HostRuntime) -> Result<(), Fail> {
+pub(crate) fn show_names(rt: &(impl Print + AllocGlobal)) -> Result<(), Fail> {
     let alloc = rt.alloc();
     tell(
-        &rt,
+        rt,
         "texts that are names or say why not",
         &names::texts(alloc)?,
     )?;
+    tell(rt, "faults with codes and messages", &names::faults(alloc)?)?;
+    tell(rt, "names that are new or not", &names::added(alloc)?)?;
+    Ok(tell(rt, "places in byte order", &names::places(alloc)?)?)
+}
+
+pub(crate) fn show_graphs(rt: &(impl Print + AllocGlobal)) -> Result<(), Fail> {
+    let alloc = rt.alloc();
+    tell(rt, "sets that join and part", &sets::rows(alloc)?)?;
+    tell(rt, "a graph", &graphs::first(alloc)?)?;
     tell(
-        &rt,
-        "faults with codes and messages",
-        &names::faults(alloc)?,
-    )?;
-    tell(&rt, "names that are new or not", &names::added(alloc)?)?;
-    tell(&rt, "places in byte order", &names::places(alloc)?)?;
-    tell(&rt, "sets that join and part", &sets::rows(alloc)?)?;
-    tell(&rt, "a graph", &graphs::first(alloc)?)?;
-    tell(
-        &rt,
+        rt,
         "the graph of another handle, when the first is gone",
         &graphs::shared(alloc)?,
     )?;
-    tell(
-        &rt,
+    Ok(tell(
+        rt,
         "cycles from their least service on, or none",
         &graphs::cycles(alloc)?,
-    )?;
+    )?)
+}
+
+pub(crate) fn show_plans(rt: &(impl Print + AllocGlobal)) -> Result<(), Fail> {
+    let alloc = rt.alloc();
     tell(
-        &rt,
+        rt,
         "bringing up raises what is needed",
         &plans::brought_up(alloc)?,
     )?;
-    tell(
-        &rt,
+    Ok(tell(
+        rt,
         "plans between two sets have their differences",
         &plans::led(alloc)?,
-    )?;
-    Ok(())
+    )?)
 }
 
 /// Prints which rows of a table are wrong, and how many there are.
