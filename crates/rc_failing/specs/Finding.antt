@@ -1,6 +1,6 @@
 use Rattle.std.specs.Prelude.{◌≡◌, ◌++◌, ◌∷◌, ℕ, List, [], Some, slice_get, All, Contains}
 use Rattle.rc_graph.specs.declared.Way.{Way}
-use Rattle.rc_failing.specs.Listed.{Listed}
+use Rattle.rc_transitions.specs.Listed.{Listed}
 use Rattle.rc_failing.specs.declared.gate.GateFault.{GateFault}
 use Rattle.rc_failing.specs.declared.gate.GateFault.TheVariants.{Unknown, Memory}
 

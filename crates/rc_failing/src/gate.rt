@@ -1,13 +1,13 @@
 //! The gate at which listed transitions fail.
 
 ghost use Rattle.std.specs.Prelude.{◌≡◌, ◌++◌, ◌∷◌, [], map, slice_get, Some, Contains, IfOk, OnOk, IfErr, IfSome, IfNone};
-ghost use Rattle.rc_failing.specs.Reading.{listed_of};
+ghost use Rattle.rc_transitions.specs.Reading.{listed_of};
 ghost use Rattle.rc_failing.specs.Finding.{AreFound, IsGateFault};
 
-use crate::list::Transition;
 use rc_graph::Way;
 use rc_names::Names;
 use rc_runner::{StepClock, TableGate};
+use rc_transitions::Transition;
 use std::alloc::{AllocError, Global};
 use std::str;
 

@@ -1,8 +1,6 @@
-//! What `-x` says: the transitions that are to fail, by the names of their services, and the gate at which they do.
+//! The gate at which listed transitions fail, found by the names of their services.
 #![tactic(auto)]
 
 mod gate;
-mod list;
 
 pub use crate::gate::{GateFault, gate_of};
-pub use crate::list::{ListFault, Transition, transitions_of};

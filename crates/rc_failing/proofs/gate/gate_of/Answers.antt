@@ -1,12 +1,11 @@
-use Rattle.std.proofs.Common.{◌≡◌, ◌∙◌, ◌+◌, ◌++◌, ◌∷◌, [], ℕ, List, Bor, length, map, take, drop, get_or, All, Contains, ap, sym, subst, refl}
-use Rattle.std.proofs.lemmas.List.{get_or-map, length-map}
-use Rattle.std.proofs.lemmas.List.Elements.{All-push}
+use Rattle.std.proofs.Common.{◌≡◌, ◌+◌, ◌++◌, ◌∷◌, [], ℕ, List, map, take, drop, get_or, All, Contains, sym, subst, refl}
 use Rattle.rc_graph.specs.declared.Way.TheVariants.{Raise}
-use Rattle.rc_failing.specs.declared.list.Transition.{Transition}
-use Rattle.rc_failing.specs.Listed.{Listed}
-use Rattle.rc_failing.specs.Reading.{listed_of}
+use Rattle.rc_transitions.specs.declared.list.Transition.{Transition}
+use Rattle.rc_transitions.specs.Listed.{Listed}
+use Rattle.rc_transitions.specs.Reading.{listed_of}
 use Rattle.rc_failing.specs.Finding.{AreFound}
-use Rattle.rc_failing.proofs.Spelling.{found_on, known_one, mapped_more, cut_at}
+use Rattle.rc_failing.proofs.Found.{found_on, known_one}
+use Rattle.rc_transitions.proofs.Mapped.{cut_at, mapped_more}
 use Rattle.rc_failing.proofs.gate.gate_of.Goals as goal
 
 -- what stands past the end of the transitions

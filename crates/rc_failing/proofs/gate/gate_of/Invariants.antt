@@ -1,5 +1,5 @@
 use Rattle.std.proofs.Common.{map, take, All, Contains}
-use Rattle.rc_failing.specs.Reading.{listed_of}
+use Rattle.rc_transitions.specs.Reading.{listed_of}
 use Rattle.rc_failing.specs.Finding.{AreFound}
 use Rattle.rc_failing.proofs.gate.gate_of.Given as goal
 

@@ -1,0 +1,5 @@
+pub mod AskedLemmas
+pub mod DbAskedLemmas
+pub mod CompilingLemmas
+pub mod SessionWordsLemmas
+pub mod FileLemmas

@@ -1,0 +1,30 @@
+use Rattle.std.proofs.Common.{◌≡◌, ◌∙◌, ◌∷◌, Bool, Option, IfNone, IfSome, codes, ap, if◌then◌else◌, subst, sym}
+use Rattle.clap.specs.Words.{found_of, rows_of}
+use Rattle.clap.proofs.WalkLemmas.{first_value-rows}
+use Rattle.rc_graph.specs.declared.Way.TheVariants.{Lower, Raise}
+use Rattle.rc_asked.specs.Query.{Question, question_of, spelled}
+use Rattle.rc_command.specs.Words.{words_in}
+use Rattle.rc_asked.specs.declared.query.Query.{Query}
+use Rattle.rc_asked.proofs.DbAskedLemmas.{no_query, query_by}
+use Rattle.rc_asked.proofs.db_words.request_in.Goals as goal
+
+pub returns-in_default-clause-wrong : goal.returns-in_default-clause-wrong
+returns-in_default-clause-wrong c = λ _ ask asks.
+    no_query (rows_of (found_of c.args.matches.now)) ask (c.in_default.ensures ∙ first_value-rows (found_of c.args.matches.now) (codes "query")) asks
+
+pub returns-in-Some-2-clause-asked : goal.returns-in-Some-2-clause-asked
+returns-in-Some-2-clause-asked c =
+    let rows = rows_of (found_of c.args.matches.now) in
+    let word = c.in-Some.word.now in (
+      query_by rows word (c.in-Some.ensures ∙ first_value-rows (found_of c.args.matches.now) (codes "query"))
+          ∙ subst (λ (found : Option Query). IfSome found (λ query. word ∷ words_in rows ≡ spelled (question_of query))) c.in-Some-2.is c.in_ok-query.ensures.some,
+      c.way_of-way.ensures ∙ ap (λ (down : Bool). if down then Lower else Raise) c.is_on.ensures,
+    )
+
+pub returns-in-None-clause-wrong : goal.returns-in-None-clause-wrong
+returns-in-None-clause-wrong c = λ _ ask asks.
+    let rows = rows_of (found_of c.args.matches.now) in
+    let word = c.in-Some.word.now in
+    let none : (question : Question) → word ∷ words_in rows ≡ spelled question → ⊥ =
+    subst (λ (found : Option Query). IfNone found ((question : Question) → word ∷ words_in rows ≡ spelled question → ⊥)) c.in-None.is c.in_ok-query.ensures.none in
+    none ask.question (sym (query_by rows word (c.in-Some.ensures ∙ first_value-rows (found_of c.args.matches.now) (codes "query"))) ∙ asks.0)

@@ -1,0 +1,148 @@
+//! What the words ask of a command.
+ghost use Rattle.std.specs.Prelude.{◌≡◌, ◌≢◌, ◌⊎◌, ◌↔◌, map, None, Some, string_bytes, IfErr, IfOk, IsTrue};
+ghost use Rattle.clap.specs.Words.{found_of, rows_of};
+ghost use Rattle.rc_select.specs.Ask.{ask_of};
+ghost use Rattle.rc_asked.specs.Asked.{ask_in, mode_of, plan_asked};
+ghost use Rattle.rc_streams.specs.Input.{AppendsFront, failure_text, fault_line};
+ghost use Rattle.rc_asked.specs.declared.asked.WordsFault.TheVariants.{Memory};
+
+use crate::texts::words_in;
+use clap::{ArgMatches, Error};
+use rc_command::{command_named, is_memory, is_on, matches_of};
+use rc_ending::{WRONG_LINE, fail};
+use rc_select::{Mode, Request};
+use rc_streams::{Failure, tell};
+use std::alloc::{AllocError, Global};
+use std::io::Write;
+
+/// Why words ask nothing of a command.
+#[derive(Drop)]
+pub enum WordsFault {
+    /// `clap` finds a fault in them, or they ask for help.
+    Found(Error),
+    /// They name another command.
+    OtherCommand,
+    /// They name more than one way.
+    Ways,
+    /// They ask no question of a database.
+    Query,
+    /// Their number of workers is none from 1 to 64.
+    Workers,
+    /// Their list of transitions that fail has not the form of one.
+    List,
+    Memory,
+}
+
+impl From<AllocError> for WordsFault {
+    ghost from_gives = { λ _ fault. fault ≡ Memory };
+
+    fn from(_: AllocError) -> Self {
+        WordsFault::Memory
+    }
+}
+
+/// What the words ask of `plan`. The first word is the program's own name.
+pub fn plan_asked(alloc: Global, words: &[String]) -> Result<Request, WordsFault>
+    ensures asked { IfOk result (λ request. plan_asked (map string_bytes words.now) ≡ Some (ask_of request)) }
+    ensures wrong { IfErr result (λ fault. fault ≢ Memory → plan_asked (map string_bytes words.now) ≡ None) }
+{
+    let matches = match matches_of(alloc, words) {
+        Ok(matches) => matches,
+        Err(error) => {
+            if is_memory(&error) {
+                return Err(WordsFault::Memory);
+            }
+            return Err(WordsFault::Found(error));
+        }
+    };
+    match command_named(&matches, "plan") {
+        Some(inner) => request_in(alloc, inner),
+        None => Err(WordsFault::OtherCommand),
+    }
+}
+
+// What the matches of `plan` ask.
+fn request_in(alloc: Global, matches: &ArgMatches<'_>) -> Result<Request, WordsFault>
+    ensures asked { IfOk result (λ request. ask_in (rows_of (found_of matches.now)) ≡ Some (ask_of request)) }
+    ensures wrong { IfErr result (λ fault. fault ≢ Memory → ask_in (rows_of (found_of matches.now)) ≡ None) }
+{
+    let up = is_on(matches, "up");
+    let down = is_on(matches, "down");
+    let down_all = is_on(matches, "down-all");
+    match mode_of(up, down, down_all) {
+        Some(mode) => Ok(Request {
+            mode,
+            prune: is_on(matches, "prune"),
+            all: is_on(matches, "all"),
+            names: words_in(alloc, matches)?,
+            limit: 0,
+        }),
+        None => Err(WordsFault::Ways),
+    }
+}
+
+// The mode of the flags of the ways, of which one at most may be given.
+fn mode_of(up: bool, down: bool, down_all: bool) -> Option<Mode>
+    ensures { result ≡ mode_of up down down_all }
+{
+    match (up, down, down_all) {
+        (_, false, false) => Some(Mode::Up),
+        (false, true, false) => Some(Mode::Down),
+        (false, false, true) => Some(Mode::DownAll),
+        _ => None,
+    }
+}
+
+/// Whether words are refused for want of memory alone.
+pub fn wants_memory(fault: &WordsFault) -> bool
+    ensures { IsTrue result ↔ (fault.now ≡ Memory) }
+{
+    matches!(fault, WordsFault::Memory)
+}
+
+/// Tells why the words ask nothing, and answers the status.
+pub fn tell_words<F: Write>(faults: &mut F, fault: &WordsFault) -> u8
+    ensures statuses { (result ≡ 100) ⊎ (result ≡ 111) }
+    ensures wrong { result ≡ 100 → fault.now ≢ Memory }
+    ensures failed { result ≡ 111 → AppendsFront (F.contents faults.old) (F.contents faults.new) (fault_line (failure_text Failure.Memory)) }
+{
+    match fault {
+        WordsFault::Found(error) => {
+            write_usage(error, faults);
+            WRONG_LINE
+        }
+        WordsFault::OtherCommand => {
+            tell(faults, b"another command is named");
+            WRONG_LINE
+        }
+        WordsFault::Ways => {
+            tell(faults, b"-u, -d and -D exclude each other");
+            WRONG_LINE
+        }
+        WordsFault::Query => {
+            tell(
+                faults,
+                b"db has no such query, or it takes other words; `undorc db --help` lists the queries",
+            );
+            WRONG_LINE
+        }
+        WordsFault::Workers => {
+            tell(faults, b"-w wants a number from 1 to 64");
+            WRONG_LINE
+        }
+        WordsFault::List => {
+            tell(
+                faults,
+                b"-x wants `none`, or `up:NAME` and `down:NAME` joined by commas",
+            );
+            WRONG_LINE
+        }
+        WordsFault::Memory => fail(faults, Failure::Memory),
+    }
+}
+
+// Writes what `clap` has to say to the user, which ends in a newline. A writer that fails is
+// ignored.
+fn write_usage<F: Write>(error: &Error, faults: &mut F) {
+    let _ = write!(faults, "{error}");
+}

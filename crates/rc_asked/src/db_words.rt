@@ -1,0 +1,180 @@
+//! What the words ask of `db`.
+ghost use Rattle.std.specs.Prelude.{◌≡◌, ◌≢◌, ◌∷◌, [], codes, if◌then◌else◌, map, string_bytes, IfErr, IfNone, IfOk, IfSome};
+ghost use Rattle.clap.specs.Words.{found_of, rows_of};
+ghost use Rattle.rc_asked.specs.DbAsked.{AsksDb, AsksIn, AsksNothing};
+ghost use Rattle.rc_asked.specs.Query.{DbAsk, Question, db_ask_of, list_word, name_word, names_word, question_of, spelled};
+ghost use Rattle.rc_command.specs.Words.{words_in};
+ghost use Rattle.rc_asked.specs.declared.asked.WordsFault.TheVariants.{Memory};
+ghost use Rattle.rc_asked.specs.declared.query.NameQuery.{NameQuery as OfOne};
+ghost use Rattle.rc_asked.specs.declared.query.NamesQuery.{NamesQuery as OfMany};
+ghost use Rattle.rc_db.specs.declared.which.Which.{Which as Sort};
+
+use crate::asked::WordsFault;
+use crate::query::{DbRequest, NameQuery, NamesQuery, Query};
+use crate::texts::strings_of;
+use clap::ArgMatches;
+use rc_command::{command_named, is_memory, is_on, matches_of};
+use rc_db::{NoMem, Which};
+use rc_graph::Way;
+use std::alloc::Global;
+
+/// What the words ask of `db`. The first word is the program's own name.
+pub fn db_asked<'a>(alloc: Global, words: &'a [String]) -> Result<DbRequest<'a>, WordsFault>
+    ensures asked { IfOk result (λ request. AsksDb (map string_bytes words.entry.now) (db_ask_of request)) }
+    ensures wrong { IfErr result (λ fault. fault ≢ Memory → AsksNothing (map string_bytes words.entry.now)) }
+{
+    let matches = match matches_of(alloc, words) {
+        Ok(matches) => matches,
+        Err(error) => {
+            if is_memory(&error) {
+                return Err(WordsFault::Memory);
+            }
+            return Err(WordsFault::Found(error));
+        }
+    };
+    match command_named(&matches, "db") {
+        Some(inner) => request_in(alloc, inner),
+        None => Err(WordsFault::OtherCommand),
+    }
+}
+
+// What the matches of `db` ask.
+fn request_in<'a>(alloc: Global, matches: &ArgMatches<'a>) -> Result<DbRequest<'a>, WordsFault>
+    ensures asked { IfOk result (λ request. AsksIn (rows_of (found_of matches.now)) (db_ask_of request)) }
+    ensures wrong { IfErr result (λ fault. fault ≢ Memory → (ask : DbAsk) → AsksIn (rows_of (found_of matches.now)) ask → ⊥) }
+{
+    let Some(word) = matches.get_str("query") else {
+        return Err(WordsFault::Query);
+    };
+    let way = way_of(is_on(matches, "down"));
+    match query_in(alloc, word, matches)? {
+        Some(query) => Ok(DbRequest { query, way }),
+        None => Err(WordsFault::Query),
+    }
+}
+
+// The way that is asked about.
+fn way_of(down: bool) -> Way
+    ensures { result ≡ (if down then Way.Lower else Way.Raise) }
+{
+    if down { Way::Lower } else { Way::Raise }
+}
+
+// The question of a query's word and of the other words of the matches.
+fn query_in<'a>(
+    alloc: Global,
+    word: &str,
+    matches: &ArgMatches<'a>,
+) -> Result<Option<Query<'a>>, NoMem>
+    ensures some { IfOk result (λ found. IfSome found (λ query.
+        word.now ∷ words_in (rows_of (found_of matches.now)) ≡ spelled (question_of query))) }
+    ensures none { IfOk result (λ found. IfNone found
+        ((question : Question) → word.now ∷ words_in (rows_of (found_of matches.now)) ≡ spelled question → ⊥)) }
+{
+    match matches.get_strs("words") {
+        Some(words) => query_of(alloc, word, words),
+        None => query_of(alloc, word, &[]),
+    }
+}
+
+// The question of a query's word and of the words behind it.
+fn query_of<'a>(alloc: Global, word: &str, words: &[&'a str]) -> Result<Option<Query<'a>>, NoMem>
+    ensures some { IfOk result (λ found. IfSome found (λ query.
+        word.now ∷ map (λ w. w.now) words.now ≡ spelled (question_of query))) }
+    ensures none { IfOk result (λ found. IfNone found
+        ((question : Question) → word.now ∷ map (λ w. w.now) words.now ≡ spelled question → ⊥)) }
+{
+    match names_query(word) {
+        Some(query) => Ok(Some(Query::OfNames(query, strings_of(alloc, words)?))),
+        None => Ok(small_query(word, words)),
+    }
+}
+
+// The same, where the query is not of any number of names.
+fn small_query<'a>(word: &str, words: &[&'a str]) -> Option<Query<'a>>
+    requires { (query : OfMany) → word.now ≡ names_word query → ⊥ }
+    ensures some { IfSome result (λ query. word.now ∷ map (λ w. w.now) words.now ≡ spelled (question_of query)) }
+    ensures none { IfNone result ((question : Question) → word.now ∷ map (λ w. w.now) words.now ≡ spelled question → ⊥) }
+{
+    match words {
+        [] => {
+            if word == "check" {
+                Some(Query::Check)
+            } else {
+                None
+            }
+        }
+        [name] => query_of_one(word, name),
+        _ => None,
+    }
+}
+
+// The question of a query's word and of the one word behind it.
+fn query_of_one<'a>(word: &str, name: &'a str) -> Option<Query<'a>>
+    requires { (query : OfMany) → word.now ≡ names_word query → ⊥ }
+    ensures some { IfSome result (λ query. word.now ∷ name.now ∷ [] ≡ spelled (question_of query)) }
+    ensures none { IfNone result ((question : Question) → word.now ∷ name.now ∷ [] ≡ spelled question → ⊥) }
+{
+    if word == "list" {
+        return list_of(name);
+    }
+    match name_query(word) {
+        Some(query) => Some(Query::OfName(query, name)),
+        None => None,
+    }
+}
+
+// The list of a word.
+fn list_of<'a>(word: &str) -> Option<Query<'a>>
+    ensures some { IfSome result (λ query. codes "list" ∷ word.now ∷ [] ≡ spelled (question_of query)) }
+    ensures none { IfNone result ((which : Sort) → word.now ≡ list_word which → ⊥) }
+{
+    match which_of(word) {
+        Some(which) => Some(Query::List(which)),
+        None => None,
+    }
+}
+
+// The sort of a list.
+fn which_of(word: &str) -> Option<Which>
+    ensures some { IfSome result (λ which. word.now ≡ list_word which) }
+    ensures none { IfNone result ((which : Sort) → word.now ≡ list_word which → ⊥) }
+{
+    match word {
+        "all" => Some(Which::All),
+        "services" => Some(Which::Services),
+        "oneshots" => Some(Which::Oneshots),
+        "longruns" => Some(Which::Longruns),
+        "bundles" => Some(Which::Bundles),
+        _ => None,
+    }
+}
+
+// The query of one name that has this word.
+fn name_query(word: &str) -> Option<NameQuery>
+    ensures some { IfSome result (λ query. word.now ≡ name_word query) }
+    ensures none { IfNone result ((query : OfOne) → word.now ≡ name_word query → ⊥) }
+{
+    match word {
+        "type" => Some(NameQuery::Kind),
+        "timeout" => Some(NameQuery::Limit),
+        "flags" => Some(NameQuery::Flags),
+        "contents" => Some(NameQuery::Contents),
+        "pipeline" => Some(NameQuery::Pipeline),
+        "script" => Some(NameQuery::Script),
+        _ => None,
+    }
+}
+
+// The query of any number of names that has this word.
+fn names_query(word: &str) -> Option<NamesQuery>
+    ensures some { IfSome result (λ query. word.now ≡ names_word query) }
+    ensures none { IfNone result ((query : OfMany) → word.now ≡ names_word query → ⊥) }
+{
+    match word {
+        "atomics" => Some(NamesQuery::Atomics),
+        "dependencies" => Some(NamesQuery::Dependencies),
+        "all-dependencies" => Some(NamesQuery::AllDependencies),
+        _ => None,
+    }
+}

@@ -1,0 +1,95 @@
+//! What the words ask of `session`.
+ghost use Rattle.std.specs.Prelude.{◌≢◌, ℕ, map, option_map, string_bytes, IfErr, IfNone, IfOk, IfSome};
+ghost use Rattle.clap.specs.Words.{found_of, rows_of};
+ghost use Rattle.rc_asked.specs.SessionAsked.{AsksNoSession, AsksSession, AsksSessionIn, IsCrewIn, SessionAsk, SpellsCrew, session_ask_of};
+ghost use Rattle.rc_asked.specs.declared.asked.WordsFault.TheVariants.{Memory};
+
+use crate::asked::WordsFault;
+use clap::ArgMatches;
+use rc_command::{command_named, is_memory, matches_of};
+use rc_transitions::{ListFault, Transition, transitions_of};
+use std::alloc::Global;
+
+/// The workers of a session, where no number is given.
+const USUAL_WORKERS: u8 = 4;
+
+/// The most workers of a session.
+const MAX_WORKERS: u8 = 64;
+
+/// What the words ask of `session`.
+#[derive(Drop)]
+pub struct SessionRequest<'a> {
+    /// How many transitions are made at once.
+    pub workers: u8,
+    /// Those that fail.
+    pub failing: Vec<Transition<'a>>,
+}
+
+/// What the words ask of `session`. The first word is the program's own name.
+pub fn session_asked<'a>(
+    alloc: Global,
+    words: &'a [String],
+) -> Result<SessionRequest<'a>, WordsFault>
+    ensures asked { IfOk result (λ request. AsksSession (map string_bytes words.entry.now) (session_ask_of request)) }
+    ensures wrong { IfErr result (λ fault. fault ≢ Memory → AsksNoSession (map string_bytes words.entry.now)) }
+{
+    let matches = match matches_of(alloc, words) {
+        Ok(matches) => matches,
+        Err(error) => {
+            if is_memory(&error) {
+                return Err(WordsFault::Memory);
+            }
+            return Err(WordsFault::Found(error));
+        }
+    };
+    match command_named(&matches, "session") {
+        Some(inner) => request_in(alloc, inner),
+        None => Err(WordsFault::OtherCommand),
+    }
+}
+
+// What the matches of `session` ask.
+fn request_in<'a>(alloc: Global, matches: &ArgMatches<'a>) -> Result<SessionRequest<'a>, WordsFault>
+    ensures asked { IfOk result (λ request. AsksSessionIn (rows_of (found_of matches.now)) (session_ask_of request)) }
+    ensures wrong { IfErr result (λ fault. fault ≢ Memory → (ask : SessionAsk) → AsksSessionIn (rows_of (found_of matches.now)) ask → ⊥) }
+{
+    let Some(workers) = workers_of(matches.get_str("workers")) else {
+        return Err(WordsFault::Workers);
+    };
+    let Some(list) = matches.get_str("failing") else {
+        return Err(WordsFault::List);
+    };
+    match transitions_of(alloc, list.as_bytes()) {
+        Ok(failing) => Ok(SessionRequest { workers, failing }),
+        Err(ListFault::Form) => Err(WordsFault::List),
+        Err(ListFault::Memory) => Err(WordsFault::Memory),
+    }
+}
+
+// The number of workers that is given, if it is one.
+fn workers_of(given: Option<&str>) -> Option<u8>
+    ensures some { IfSome result (λ workers. IsCrewIn (option_map (λ text. text.now) given.entry) workers) }
+    ensures none { IfNone result ((workers : ℕ) → IsCrewIn (option_map (λ text. text.now) given.entry) workers → ⊥) }
+{
+    match given {
+        Some(text) => crew_of(text),
+        None => Some(USUAL_WORKERS),
+    }
+}
+
+// The number of workers that a text spells.
+fn crew_of(text: &str) -> Option<u8>
+    ensures some { IfSome result (λ workers. SpellsCrew text.now workers) }
+    ensures none { IfNone result ((workers : ℕ) → SpellsCrew text.now workers → ⊥) }
+{
+    match text.parse::<u8>() {
+        Ok(workers) => {
+            if 1 <= workers && workers <= MAX_WORKERS {
+                Some(workers)
+            } else {
+                None
+            }
+        }
+        Err(_) => None,
+    }
+}

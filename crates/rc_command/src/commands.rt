@@ -1,0 +1,301 @@
+//! The commands of the program, as they are told to `clap`.
+ghost use Rattle.std.specs.Prelude.{◌≡◌};
+ghost use Rattle.clap.specs.Words.{App};
+ghost use Rattle.rc_command.specs.Commands.{IsOwn, Reads, rule_in, bare, bare_program, with_arg, with_command};
+ghost use Rattle.rc_command.specs.Commands.{compile_command, db_command, plan_command, program, replay_command, session_command};
+ghost use Rattle.rc_command.specs.Commands.{base_option, failing_option, flag, option, query_word, source_list, with_names, with_ways, word_list};
+
+use clap::{Arg, ArgAction, Command};
+use std::alloc::{AllocError, Global};
+
+/// The program, with its commands.
+#[tactic(auto, unfolding(crate::specs::Commands::program))]
+pub(crate) fn undorc_command<'a>(alloc: Global) -> Result<Command<'a>, AllocError>
+    ensures { Reads result program }
+{
+    let command = undorc_alone(alloc);
+    let command = with_command(command, compile_command(alloc));
+    let command = with_command(command, db_command(alloc));
+    let command = with_command(command, plan_command(alloc));
+    let command = with_command(command, replay_command(alloc));
+    with_command(command, session_command(alloc))
+}
+
+#[tactic(auto, unfolding(crate::specs::Commands::Reads, crate::specs::Commands::bare_program))]
+fn undorc_alone<'a>(alloc: Global) -> Result<Command<'a>, AllocError>
+    ensures { Reads result bare_program }
+{
+    Ok(
+        Command::new(alloc, "undorc")
+            .about("A manager of services whose every change can be undone")
+            .subcommand_required(true),
+    )
+}
+
+// A command with one more below it.
+#[tactic(auto, unfolding(crate::specs::Commands::Reads, crate::specs::Commands::with_command))]
+fn with_command<'a>(
+    command: Result<Command<'a>, AllocError>,
+    sub: Result<Command<'a>, AllocError>,
+) -> Result<Command<'a>, AllocError>
+    ensures { (app : App) → (below : App) → Reads command.entry app → Reads sub.entry below → Reads result (with_command app below) }
+{
+    let command = command?;
+    command.subcommand(sub?)
+}
+
+// A command with one more argument.
+#[tactic(auto, unfolding(crate::specs::Commands::Reads, crate::specs::Commands::rule_in, crate::specs::Commands::IsOwn, crate::specs::Commands::with_arg))]
+fn with_arg<'a>(
+    command: Result<Command<'a>, AllocError>,
+    arg: Arg<'a>,
+) -> Result<Command<'a>, AllocError>
+    requires { IsOwn arg }
+    ensures { (app : App) → Reads command.entry app → Reads result (with_arg app (rule_in arg.entry)) }
+{
+    command?.arg(arg)
+}
+
+// A command alone.
+#[tactic(auto, unfolding(crate::specs::Commands::Reads, crate::specs::Commands::bare))]
+fn bare<'a>(alloc: Global, name: &'a str, about: &'a str) -> Result<Command<'a>, AllocError>
+    ensures { Reads result (bare name.entry.now) }
+{
+    Ok(Command::new(alloc, name).about(about))
+}
+
+#[tactic(auto, unfolding(crate::specs::Commands::compile_command))]
+fn compile_command<'a>(alloc: Global) -> Result<Command<'a>, AllocError>
+    ensures { Reads result compile_command }
+{
+    let command = bare(
+        alloc,
+        "compile",
+        "Prints the database that source directories define",
+    );
+    with_arg(command, sources_argument(alloc))
+}
+
+#[tactic(auto, unfolding(crate::specs::Commands::db_command))]
+fn db_command<'a>(alloc: Global) -> Result<Command<'a>, AllocError>
+    ensures { Reads result db_command }
+{
+    let command = bare(
+        alloc,
+        "db",
+        "Reads a database, and prints the answer of a query",
+    );
+    let command = with_arg(command, base_argument(alloc));
+    let command = with_arg(
+        command,
+        flag(
+            alloc,
+            "down",
+            'd',
+            "Ask for what needs the names, or for the way down",
+        ),
+    );
+    let command = with_arg(command, query_argument(alloc));
+    with_arg(
+        command,
+        words_argument(alloc, "WORD", "The names that it is asked of"),
+    )
+}
+
+#[tactic(auto, unfolding(crate::specs::Commands::plan_command))]
+fn plan_command<'a>(alloc: Global) -> Result<Command<'a>, AllocError>
+    ensures { Reads result plan_command }
+{
+    let command = bare(
+        alloc,
+        "plan",
+        "Reads a database, and then from standard input the names that are up, one a line, and prints the plan",
+    );
+    let command = with_arg(command, base_argument(alloc));
+    let command = with_ways(alloc, command);
+    with_names(alloc, command)
+}
+
+#[tactic(auto, unfolding(crate::specs::Commands::replay_command))]
+fn replay_command<'a>(alloc: Global) -> Result<Command<'a>, AllocError>
+    ensures { Reads result replay_command }
+{
+    let command = bare(
+        alloc,
+        "replay",
+        "Reads a database, and then from standard input commands with the events of their runs, and prints what they come to",
+    );
+    with_arg(command, base_argument(alloc))
+}
+
+#[tactic(auto, unfolding(crate::specs::Commands::session_command))]
+fn session_command<'a>(alloc: Global) -> Result<Command<'a>, AllocError>
+    ensures { Reads result session_command }
+{
+    let command = bare(
+        alloc,
+        "session",
+        "Reads a database, and then from standard input session lines; does what each says, and answers it",
+    );
+    let command = with_arg(command, base_argument(alloc));
+    let command = with_arg(
+        command,
+        option(
+            alloc,
+            "workers",
+            'w',
+            "N",
+            "Make so many transitions at once, 1 to 64; 4 without it",
+        ),
+    );
+    with_arg(command, failing_argument(alloc))
+}
+
+// The command with the flags of the three ways.
+fn with_ways<'a>(
+    alloc: Global,
+    command: Result<Command<'a>, AllocError>,
+) -> Result<Command<'a>, AllocError>
+    ensures { (app : App) → Reads command.entry app → Reads result (with_ways app) }
+{
+    let command = with_arg(
+        command,
+        flag(
+            alloc,
+            "up",
+            'u',
+            "Raise the names and all that they need; so it is without -d and -D",
+        ),
+    );
+    let command = with_arg(
+        command,
+        flag(
+            alloc,
+            "down",
+            'd',
+            "Lower the names and all that need them, but for what essential services hold up",
+        ),
+    );
+    with_arg(
+        command,
+        flag(
+            alloc,
+            "down-all",
+            'D',
+            "Lower the names and all that need them",
+        ),
+    )
+}
+
+// The command with the flags of the names, and the names.
+fn with_names<'a>(
+    alloc: Global,
+    command: Result<Command<'a>, AllocError>,
+) -> Result<Command<'a>, AllocError>
+    ensures { (app : App) → Reads command.entry app → Reads result (with_names app) }
+{
+    let command = with_arg(
+        command,
+        flag(
+            alloc,
+            "prune",
+            'p',
+            "With -u: lower what is not named, but for what essential services hold up",
+        ),
+    );
+    let command = with_arg(command, flag(alloc, "all", 'a', "Name all that is up, too"));
+    with_arg(
+        command,
+        words_argument(alloc, "NAME", "The name of a service or of a bundle"),
+    )
+}
+
+#[tactic(auto, unfolding(crate::specs::Commands::rule_in, crate::specs::Commands::IsOwn, crate::specs::Commands::flag))]
+fn flag<'a>(alloc: Global, id: &'a str, letter: char, help: &'a str) -> Arg<'a>
+    ensures rule { rule_in result ≡ flag id.entry.now letter }
+    ensures local { IsOwn result }
+{
+    Arg::new(alloc, id)
+        .short(letter)
+        .action(ArgAction::SetTrue)
+        .help(help)
+}
+
+#[tactic(auto, unfolding(crate::specs::Commands::rule_in, crate::specs::Commands::IsOwn, crate::specs::Commands::option))]
+fn option<'a>(alloc: Global, id: &'a str, letter: char, value: &'a str, help: &'a str) -> Arg<'a>
+    ensures rule { rule_in result ≡ option id.entry.now letter }
+    ensures local { IsOwn result }
+{
+    Arg::new(alloc, id)
+        .short(letter)
+        .value_name(value)
+        .action(ArgAction::Set)
+        .help(help)
+}
+
+fn base_argument<'a>(alloc: Global) -> Arg<'a>
+    ensures rule { rule_in result ≡ base_option }
+    ensures local { IsOwn result }
+{
+    option(
+        alloc,
+        "base",
+        'b',
+        "FILE",
+        "Read the database from this file, and not from the front of the input",
+    )
+}
+
+#[tactic(auto, unfolding(crate::specs::Commands::rule_in, crate::specs::Commands::IsOwn, crate::specs::Commands::word_list))]
+fn words_argument<'a>(alloc: Global, name: &'a str, help: &'a str) -> Arg<'a>
+    ensures rule { rule_in result ≡ word_list }
+    ensures local { IsOwn result }
+{
+    Arg::new(alloc, "words")
+        .value_name(name)
+        .action(ArgAction::Append)
+        .num_args(0..)
+        .help(help)
+}
+
+#[tactic(auto, unfolding(crate::specs::Commands::rule_in, crate::specs::Commands::IsOwn, crate::specs::Commands::failing_option))]
+fn failing_argument<'a>(alloc: Global) -> Arg<'a>
+    ensures rule { rule_in result ≡ failing_option }
+    ensures local { IsOwn result }
+{
+    Arg::new(alloc, "failing")
+        .short('x')
+        .value_name("LIST")
+        .action(ArgAction::Set)
+        .required(true)
+        .help(
+            "The transitions that fail, none of which is started: `none`, or `up:NAME` and `down:NAME` joined by commas",
+        )
+}
+
+#[tactic(auto, unfolding(crate::specs::Commands::rule_in, crate::specs::Commands::IsOwn, crate::specs::Commands::query_word))]
+fn query_argument<'a>(alloc: Global) -> Arg<'a>
+    ensures rule { rule_in result ≡ query_word }
+    ensures local { IsOwn result }
+{
+    Arg::new(alloc, "query")
+        .value_name("QUERY")
+        .action(ArgAction::Set)
+        .required(true)
+        .help(
+            "What is asked: check, list, type, timeout, flags, contents, pipeline, script, atomics, dependencies or all-dependencies",
+        )
+}
+
+#[tactic(auto, unfolding(crate::specs::Commands::rule_in, crate::specs::Commands::IsOwn, crate::specs::Commands::source_list))]
+fn sources_argument<'a>(alloc: Global) -> Arg<'a>
+    ensures rule { rule_in result ≡ source_list }
+    ensures local { IsOwn result }
+{
+    Arg::new(alloc, "words")
+        .value_name("SOURCE")
+        .action(ArgAction::Append)
+        .num_args(1..)
+        .required(true)
+        .help("A directory that has a subdirectory for each service or bundle")
+}

@@ -1,0 +1,7 @@
+//! The command `compile`: source directories as the text of a database.
+#![tactic(auto)]
+
+mod compile;
+mod compile_faults;
+
+pub use crate::compile::compile_run;

@@ -1,0 +1,99 @@
+-- What is printed for a question.
+use Rattle.std.specs.Prelude.{◌≡◌, ℕ, Bool, true, false, List, [], All, Option, Some, codes, slice_get}
+use Rattle.std.specs.Fmt.{decimal}
+use Rattle.clap.specs.Words.{Text}
+use Rattle.rc_names.specs.declared.kind.Kind.{Kind}
+use Rattle.rc_names.specs.declared.kind.Kind.TheVariants.{Oneshot, Longrun, Bundle}
+use Rattle.rc_set.specs.Set.{Has, Lists}
+use Rattle.rc_graph.specs.declared.Way.{Way}
+use Rattle.rc_db.specs.Bundles.{value_of}
+use Rattle.rc_db.specs.Database.{Database}
+use Rattle.rc_db.specs.Named.{IsKnown, Selected}
+use Rattle.rc_db.specs.Pipeline.{InPipelineOf}
+use Rattle.rc_names.specs.Names.{ListsNames}
+use Rattle.rc_db.specs.Queries.{IsKindOf, IsNextTo, IsServiceNamed, IsShown, IsWithAll}
+use Rattle.rc_db.specs.Service.{Service, limit_of, script_of}
+use Rattle.rc_answers.specs.Lines.{line, name_lines, names_at}
+use Rattle.rc_queries.specs.Base.{Spells}
+use Rattle.rc_asked.specs.DbAsked.{AsksDb}
+use Rattle.rc_asked.specs.Query.{Check, DbAsk, ListOf, OfName, OfNames, Question}
+use Rattle.rc_asked.specs.declared.query.NameQuery.{NameQuery}
+use Rattle.rc_asked.specs.declared.query.NameQuery.TheVariants as of_name
+use Rattle.rc_asked.specs.declared.query.NamesQuery.{NamesQuery}
+use Rattle.rc_asked.specs.declared.query.NamesQuery.TheVariants as of_names
+
+-- the names of the services of which this holds, one a line, in byte order
+abbrev pub IsListed : Database → (ℕ → Type 0) → List ℕ → Type 0
+IsListed d P text = (ids : List ℕ) × Lists P ids × (text ≡ name_lines (names_at d.names ids))
+
+-- the word of a kind
+abbrev pub kind_word : Kind → List ℕ
+kind_word Oneshot = codes "oneshot"
+kind_word Longrun = codes "longrun"
+kind_word Bundle = codes "bundle"
+
+-- the line of an essential service, and of no other
+abbrev pub flag_lines : Bool → List ℕ
+flag_lines true = line (codes "essential")
+flag_lines false = []
+
+-- the kind of a name
+abbrev pub IsKindText : Database → Text → List ℕ → Type 0
+IsKindText d name text = (kind : Kind) × IsKindOf d name kind × (text ≡ line (kind_word kind))
+
+-- the limit of a service on its way
+abbrev pub IsLimitText : Database → Way → Text → List ℕ → Type 0
+IsLimitText d way name text = (service : Service) × IsServiceNamed d name service × (text ≡ line (decimal (limit_of service way)))
+
+-- the flags of a service
+abbrev pub IsFlagsText : Database → Text → List ℕ → Type 0
+IsFlagsText d name text = (service : Service) × IsServiceNamed d name service × (text ≡ flag_lines service.essential)
+
+-- the services of a bundle
+abbrev pub IsContentsText : Database → Text → List ℕ → Type 0
+IsContentsText d name text = (set : List Bool) × (value_of d.table name ≡ Some set) × IsListed d (Has set) text
+
+-- the longruns of a longrun's pipeline
+abbrev pub IsPipelineText : Database → Text → List ℕ → Type 0
+IsPipelineText d name text = IsKindOf d name Longrun × ((s : ℕ) × (slice_get d.names s ≡ Some name) × IsListed d (InPipelineOf d s) text)
+
+-- the bytes that are run for a oneshot on its way, as they stand
+abbrev pub IsScriptText : Database → Way → Text → List ℕ → Type 0
+IsScriptText d way name text = IsKindOf d name Oneshot × ((service : Service) × IsServiceNamed d name service × (text ≡ script_of service way))
+
+-- the answer of a query of one name
+abbrev pub IsNameAnswer : Database → Way → NameQuery → Text → List ℕ → Type 0
+IsNameAnswer d way of_name.Kind = IsKindText d
+IsNameAnswer d way of_name.Limit = IsLimitText d way
+IsNameAnswer d way of_name.Flags = IsFlagsText d
+IsNameAnswer d way of_name.Contents = IsContentsText d
+IsNameAnswer d way of_name.Pipeline = IsPipelineText d
+IsNameAnswer d way of_name.Script = IsScriptText d way
+
+-- the services that a query finds for those that names stand for
+abbrev pub IsFound : Database → Way → NamesQuery → (ℕ → Type 0) → ℕ → Type 0
+IsFound d way of_names.Atomics In = In
+IsFound d way of_names.Dependencies In = IsNextTo d.needs way In
+IsFound d way of_names.AllDependencies In = IsWithAll d.needs way In
+
+-- the answer of a query of any number of names
+abbrev pub IsNamesAnswer : Database → Way → NamesQuery → List Text → List ℕ → Type 0
+IsNamesAnswer d way query names text = All (IsKnown d.names d.table) names × IsListed d (IsFound d way query (Selected d.names d.table names)) text
+
+-- the answer of a question: nothing, names in byte order, or that of its query
+abbrev pub IsAnswerTo : Database → Way → Question → List ℕ → Type 0
+IsAnswerTo d way Check text = text ≡ []
+IsAnswerTo d way (ListOf which) text = (names : List Text) × ListsNames (IsShown d which) names × (text ≡ name_lines names)
+IsAnswerTo d way (OfName query name) text = IsNameAnswer d way query name text
+IsAnswerTo d way (OfNames query names) text = IsNamesAnswer d way query names text
+
+-- what is written for what is asked, in the database that is spelled
+pub record IsAnswerFor (ask : DbAsk) (base : Option (List ℕ)) (input output : List ℕ) : Type 0 where
+  pub database : Database
+  pub rest : List ℕ
+  pub spelled : Spells base input database rest
+  pub text : IsAnswerTo database ask.way ask.question output
+
+-- the same, of the words that ask
+abbrev pub IsDbAnswer : List Text → Option (List ℕ) → List ℕ → List ℕ → Type 0
+IsDbAnswer words base input output = (ask : DbAsk) × AsksDb words ask × IsAnswerFor ask base input output

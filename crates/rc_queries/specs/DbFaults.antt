@@ -1,0 +1,89 @@
+-- When `db` refuses, and how it tells that.
+use Rattle.std.specs.Prelude.{◌≡◌, ◌≢◌, ◌⊎◌, ◌++◌, ℕ, List, [], Option, None, Some, IfSome, codes, slice_get, unwrap_or}
+use Rattle.std.specs.Fmt.{decimal}
+use Rattle.clap.specs.Words.{Text}
+use Rattle.rc_db.specs.Database.{Database}
+use Rattle.rc_db.specs.QueryFaults.{AnyName, Asked, IsNamesFault, IsQueryFault, OfBundle, OfLongrun, OfOneshot, OfService}
+use Rattle.rc_db.specs.declared.fault.QueryFault.{QueryFault}
+use Rattle.rc_db.specs.declared.fault.QueryFault.TheVariants as wrong
+use Rattle.rc_dbtext.specs.declared.fault.TextFault.{TextFault}
+use Rattle.rc_dbtext.specs.declared.fault.TextFault.TheVariants as text
+use Rattle.rc_queries.specs.Base.{IsTextFault, Spells}
+use Rattle.rc_asked.specs.DbAsked.{AsksDb}
+use Rattle.rc_streams.specs.Input.{AppendsFront, fault_line}
+use Rattle.rc_asked.specs.Query.{Check, DbAsk, ListOf, OfName, OfNames, Question, names_in}
+use Rattle.rc_queries.specs.declared.db_fault.DbFault.{DbFault}
+use Rattle.rc_queries.specs.declared.db_fault.DbFault.TheVariants.{OfText, OfQuery, Memory}
+use Rattle.rc_asked.specs.declared.query.NameQuery.{NameQuery}
+use Rattle.rc_asked.specs.declared.query.NameQuery.TheVariants as of_name
+
+-- what a query asks of its one name
+abbrev pub asked_by : NameQuery → Asked
+asked_by of_name.Kind = AnyName
+asked_by of_name.Limit = OfService
+asked_by of_name.Flags = OfService
+asked_by of_name.Contents = OfBundle
+asked_by of_name.Pipeline = OfLongrun
+asked_by of_name.Script = OfOneshot
+
+-- when a question is refused, want of memory aside
+abbrev pub IsQuestionFault : Database → Question → QueryFault → Type 0
+IsQuestionFault d Check fault = ⊥
+IsQuestionFault d (ListOf which) fault = ⊥
+IsQuestionFault d (OfName query name) fault = IsQueryFault d (asked_by query) name fault
+IsQuestionFault d (OfNames query names) fault = IsNamesFault d.names d.table names fault
+
+-- a fault that is one of a query, or want of memory
+abbrev pub IsOfQuery : (QueryFault → Type 0) → DbFault → Type 0
+IsOfQuery Is (OfText fault) = ⊥
+IsOfQuery Is (OfQuery fault) = (fault ≢ wrong.Memory) × Is fault
+IsOfQuery Is Memory = Unit {0}
+
+-- when each refusal comes: those of the text, and then those of the query
+abbrev pub IsDbRefused : DbFault → DbAsk → Option (List ℕ) → List ℕ → Type 0
+IsDbRefused (OfText fault) ask base input = (fault ≢ text.Memory) × IsTextFault base input fault
+IsDbRefused (OfQuery fault) ask base input = (fault ≢ wrong.Memory) × ((d : Database) × (rest : List ℕ) × Spells base input d rest × IsQuestionFault d ask.question fault)
+IsDbRefused Memory ask base input = Unit {0}
+
+-- a fault of the text in words
+abbrev pub text_word : TextFault → List ℕ
+text_word (text.Bad offset) = codes "Bad " ++ decimal offset
+text_word text.Version = codes "Version"
+text_word text.NotSorted = codes "NotSorted"
+text_word text.Cyclic = codes "Cyclic"
+text_word text.TooMany = codes "TooMany"
+text_word text.Dangling = codes "Dangling"
+text_word text.Memory = codes "Memory"
+
+-- a fault of a question in words: of an unknown name the name, too
+abbrev pub query_word : QueryFault → Question → List ℕ
+query_word (wrong.Unknown place) question = codes "Unknown " ++ unwrap_or (slice_get (names_in question) place) []
+query_word wrong.NotAtomic question = codes "NotAtomic"
+query_word wrong.NotBundle question = codes "NotBundle"
+query_word wrong.NotLongrun question = codes "NotLongrun"
+query_word wrong.NotOneshot question = codes "NotOneshot"
+query_word wrong.Memory question = codes "Memory"
+
+-- how a refusal is told
+abbrev pub db_fault_text : DbFault → Question → List ℕ
+db_fault_text (OfText fault) question = text_word fault
+db_fault_text (OfQuery fault) question = query_word fault question
+db_fault_text Memory question = codes "Memory"
+
+-- a refusal holds, and a writer gains a front of the line that tells it
+abbrev pub TellsDbFault : List Text → Option (List ℕ) → List ℕ → Option (List ℕ) → Option (List ℕ) → Type 0
+TellsDbFault words base input old new = (ask : DbAsk) × (fault : DbFault) × AsksDb words ask × IsDbRefused fault ask base input
+    × (fault ≢ Memory) × AppendsFront old new (fault_line (db_fault_text fault ask.question))
+
+-- a fault of the text as a refusal
+abbrev pub IsTextTold : TextFault → DbFault → Type 0
+IsTextTold fault refusal = ((fault ≡ text.Memory) × (refusal ≡ Memory)) ⊎ ((fault ≢ text.Memory) × (refusal ≡ OfText fault))
+
+-- a fault of a query as a refusal
+abbrev pub IsQueryTold : QueryFault → DbFault → Type 0
+IsQueryTold fault refusal = ((fault ≡ wrong.Memory) × (refusal ≡ Memory)) ⊎ ((fault ≢ wrong.Memory) × (refusal ≡ OfQuery fault))
+
+-- what is so of the input that is read: none of it where there is a base, and else all of what a reader has
+abbrev pub IfRead : Option (List ℕ) → Option (List ℕ) → (List ℕ → Type 0) → Type 0
+IfRead (Some base) remaining P = P []
+IfRead None remaining P = IfSome remaining P

@@ -1,0 +1,7 @@
+pub mod Base
+pub mod Named
+pub mod PlanText
+pub mod PlanFaults
+pub mod DbAnswer
+pub mod DbFaults
+pub mod Replay

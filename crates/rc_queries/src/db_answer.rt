@@ -1,0 +1,162 @@
+//! The answers of questions about a database, as they are printed.
+ghost use Rattle.std.specs.Prelude.{◌≡◌, map, string_bytes, All, IfErr, IfOk, OnOk};
+ghost use Rattle.rc_set.specs.Set.{Lists};
+ghost use Rattle.rc_answers.specs.Lines.{line};
+ghost use Rattle.rc_db.specs.Named.{IsKnown, Selected};
+ghost use Rattle.rc_db.specs.QueryFaults.{AnyName, IsNamesFault, IsQueryFault, OfBundle, OfLongrun, OfOneshot, OfService};
+ghost use Rattle.rc_queries.specs.DbAnswer.{IsAnswerTo, IsContentsText, IsFlagsText, IsFound, IsKindText, IsLimitText, IsNameAnswer, IsNamesAnswer, IsPipelineText, IsScriptText, kind_word};
+ghost use Rattle.rc_queries.specs.DbFaults.{IsOfQuery, IsQuestionFault, asked_by};
+ghost use Rattle.rc_asked.specs.Query.{ListOf, question_of};
+
+use crate::db_fault::DbFault;
+use rc_answers::{id_lines, name_lines};
+use rc_asked::{NameQuery, NamesQuery, Query};
+use rc_db::{Db, QueryFault, Which};
+use rc_graph::Way;
+use rc_names::Kind;
+use std::alloc::Global;
+
+/// What is printed for a query.
+pub(crate) fn answer_to(
+    alloc: Global,
+    db: &Db,
+    query: &Query<'_>,
+    way: Way,
+) -> Result<Vec<u8>, DbFault>
+    ensures text { IfOk result (λ text. IsAnswerTo db.now way (question_of query.now) text.items) }
+    ensures fault { IfErr result (IsOfQuery (IsQuestionFault db.now (question_of query.now))) }
+{
+    match query {
+        Query::Check => Ok(Vec::new(alloc)),
+        Query::List(which) => list_text(alloc, db, *which),
+        Query::OfName(query, name) => name_text(alloc, db, *query, name, way),
+        Query::OfNames(query, names) => names_text(alloc, db, *query, names, way),
+    }
+}
+
+// The names of one sort.
+fn list_text(alloc: Global, db: &Db, which: Which) -> Result<Vec<u8>, DbFault>
+    ensures text { IfOk result (λ text. IsAnswerTo db.now Way.Raise (ListOf which) text.items) }
+    ensures fault { IfErr result (λ fault. fault ≡ DbFault.Memory) }
+{
+    let names = db.list(alloc, which)?;
+    Ok(name_lines(alloc, &names)?)
+}
+
+// The answer of a query of one name.
+fn name_text(
+    alloc: Global,
+    db: &Db,
+    query: NameQuery,
+    name: &str,
+    way: Way,
+) -> Result<Vec<u8>, DbFault>
+    ensures text { IfOk result (λ text. IsNameAnswer db.now way query name.now text.items) }
+    ensures fault { IfErr result (IsOfQuery (IsQueryFault db.now (asked_by query) name.now)) }
+{
+    match query {
+        NameQuery::Kind => kind_text(alloc, db, name),
+        NameQuery::Limit => limit_text(alloc, db, name, way),
+        NameQuery::Flags => flags_text(alloc, db, name),
+        NameQuery::Contents => contents_text(alloc, db, name),
+        NameQuery::Pipeline => pipeline_text(alloc, db, name),
+        NameQuery::Script => script_text(alloc, db, name, way),
+    }
+}
+
+fn kind_text(alloc: Global, db: &Db, name: &str) -> Result<Vec<u8>, DbFault>
+    ensures text { IfOk result (λ text. IsKindText db.now name.now text.items) }
+    ensures fault { IfErr result (IsOfQuery (IsQueryFault db.now AnyName name.now)) }
+{
+    let kind = db.kind(name)?;
+    Ok(Vec::from_slice(alloc, kind_line(kind))?)
+}
+
+// The line of a kind.
+fn kind_line(kind: Kind) -> &'static [u8]
+    ensures { result.now ≡ line (kind_word kind) }
+{
+    match kind {
+        Kind::Oneshot => b"oneshot\n",
+        Kind::Longrun => b"longrun\n",
+        Kind::Bundle => b"bundle\n",
+    }
+}
+
+fn limit_text(alloc: Global, db: &Db, name: &str, way: Way) -> Result<Vec<u8>, DbFault>
+    ensures text { IfOk result (λ text. IsLimitText db.now way name.now text.items) }
+    ensures fault { IfErr result (IsOfQuery (IsQueryFault db.now OfService name.now)) }
+{
+    let limit = db.limit(name, way)?;
+    Ok(format!(in alloc; "{limit}\n")?.into_bytes())
+}
+
+fn flags_text(alloc: Global, db: &Db, name: &str) -> Result<Vec<u8>, DbFault>
+    ensures text { IfOk result (λ text. IsFlagsText db.now name.now text.items) }
+    ensures fault { IfErr result (IsOfQuery (IsQueryFault db.now OfService name.now)) }
+{
+    if db.flags(name)? {
+        Ok(Vec::from_slice(alloc, b"essential\n")?)
+    } else {
+        Ok(Vec::new(alloc))
+    }
+}
+
+fn contents_text(alloc: Global, db: &Db, name: &str) -> Result<Vec<u8>, DbFault>
+    ensures text { IfOk result (λ text. IsContentsText db.now name.now text.items) }
+    ensures fault { IfErr result (IsOfQuery (IsQueryFault db.now OfBundle name.now)) }
+{
+    let ids = db.contents(alloc, name)?;
+    Ok(id_lines(alloc, db.names(), &ids)?)
+}
+
+fn pipeline_text(alloc: Global, db: &Db, name: &str) -> Result<Vec<u8>, DbFault>
+    ensures text { IfOk result (λ text. IsPipelineText db.now name.now text.items) }
+    ensures fault { IfErr result (IsOfQuery (IsQueryFault db.now OfLongrun name.now)) }
+{
+    let ids = db.pipeline(alloc, name)?;
+    Ok(id_lines(alloc, db.names(), &ids)?)
+}
+
+fn script_text(alloc: Global, db: &Db, name: &str, way: Way) -> Result<Vec<u8>, DbFault>
+    ensures text { IfOk result (λ text. IsScriptText db.now way name.now text.items) }
+    ensures fault { IfErr result (IsOfQuery (IsQueryFault db.now OfOneshot name.now)) }
+{
+    let text = db.script(alloc, name, way)?;
+    Ok(text.into_bytes())
+}
+
+// The answer of a query of any number of names.
+fn names_text(
+    alloc: Global,
+    db: &Db,
+    query: NamesQuery,
+    names: &[String],
+    way: Way,
+) -> Result<Vec<u8>, DbFault>
+    ensures text { IfOk result (λ text. IsNamesAnswer db.now way query (map string_bytes names.now) text.items) }
+    ensures fault { IfErr result (IsOfQuery (IsNamesFault db.now.names db.now.table (map string_bytes names.now))) }
+{
+    let ids = ids_found(alloc, db, query, names, way)?;
+    Ok(id_lines(alloc, db.names(), &ids)?)
+}
+
+// The services that a query of any number of names finds.
+fn ids_found(
+    alloc: Global,
+    db: &Db,
+    query: NamesQuery,
+    names: &[String],
+    way: Way,
+) -> Result<Vec<u16>, QueryFault>
+    ensures ids { IfOk result (λ ids. Lists (IsFound db.now way query
+        (Selected db.now.names db.now.table (map string_bytes names.now))) ids.items) }
+    ensures known { OnOk result (All (IsKnown db.now.names db.now.table) (map string_bytes names.now)) }
+    ensures fault { IfErr result (IsNamesFault db.now.names db.now.table (map string_bytes names.now)) }
+{
+    match query {
+        NamesQuery::Atomics => db.atomics(alloc, names),
+        NamesQuery::Dependencies => db.dependencies(alloc, names, way),
+        NamesQuery::AllDependencies => db.all_dependencies(alloc, names, way),
+    }
+}

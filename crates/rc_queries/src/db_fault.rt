@@ -1,0 +1,136 @@
+//! Why `db` refuses, and how it tells that.
+ghost use Rattle.std.specs.Prelude.{◌≡◌, ◌≢◌, ◌⊎◌, slice_get, option_map, IfOk};
+ghost use Rattle.rc_queries.specs.DbFaults.{IsQueryTold, IsTextTold, db_fault_text, query_word, text_word};
+ghost use Rattle.rc_streams.specs.Input.{AppendsFront, failure_text, fault_line};
+ghost use Rattle.rc_asked.specs.Query.{names_in, question_of};
+ghost use Rattle.rc_queries.specs.declared.db_fault.DbFault.TheVariants.{Memory};
+
+use rc_asked::Query;
+use rc_db::{NoMem, QueryFault};
+use rc_dbtext::TextFault;
+use rc_ending::{REFUSED, fail};
+use rc_streams::{Failure, tell};
+use std::alloc::{AllocError, Global};
+use std::io::Write;
+
+/// Why there is no answer to print.
+#[derive(Clone, Copy)]
+pub(crate) enum DbFault {
+    /// The database text is none.
+    OfText(TextFault),
+    /// The query is refused.
+    OfQuery(QueryFault),
+    Memory,
+}
+
+impl From<AllocError> for DbFault {
+    ghost from_gives = { λ _ fault. fault ≡ Memory };
+
+    fn from(_: AllocError) -> Self {
+        DbFault::Memory
+    }
+}
+
+impl From<TextFault> for DbFault {
+    ghost from_gives = { IsTextTold };
+
+    fn from(fault: TextFault) -> Self {
+        match fault {
+            TextFault::Memory => DbFault::Memory,
+            fault => DbFault::OfText(fault),
+        }
+    }
+}
+
+impl From<QueryFault> for DbFault {
+    ghost from_gives = { IsQueryTold };
+
+    fn from(fault: QueryFault) -> Self {
+        match fault {
+            QueryFault::Memory => DbFault::Memory,
+            fault => DbFault::OfQuery(fault),
+        }
+    }
+}
+
+/// Tells why there is no answer, and answers the status.
+pub(crate) fn tell_db_fault<F: Write>(
+    alloc: Global,
+    faults: &mut F,
+    fault: DbFault,
+    query: &Query<'_>,
+) -> u8
+    ensures statuses { (result ≡ 1) ⊎ (result ≡ 111) }
+    ensures refused { result ≡ 1 → (fault ≢ Memory)
+        × AppendsFront (F.contents faults.old) (F.contents faults.new) (fault_line (db_fault_text fault (question_of query.now))) }
+    ensures failed { result ≡ 111 → AppendsFront (F.contents faults.old) (F.contents faults.new) (fault_line (failure_text Failure.Memory)) }
+{
+    if let DbFault::Memory = fault {
+        return fail(faults, Failure::Memory);
+    }
+    match text_of(alloc, fault, query) {
+        Ok(text) => {
+            tell(faults, &text);
+            REFUSED
+        }
+        Err(_) => fail(faults, Failure::Memory),
+    }
+}
+
+// A refusal in words.
+fn text_of(alloc: Global, fault: DbFault, query: &Query<'_>) -> Result<Vec<u8>, NoMem>
+    ensures { IfOk result (λ text. text.items ≡ db_fault_text fault (question_of query.now)) }
+{
+    match fault {
+        DbFault::OfText(fault) => text_word(alloc, fault),
+        DbFault::OfQuery(fault) => query_word(alloc, fault, query),
+        DbFault::Memory => Vec::from_slice(alloc, b"Memory"),
+    }
+}
+
+/// A fault of the text in words.
+pub fn text_word(alloc: Global, fault: TextFault) -> Result<Vec<u8>, NoMem>
+    ensures { IfOk result (λ text. text.items ≡ text_word fault) }
+{
+    match fault {
+        TextFault::Bad(offset) => Ok(format!(in alloc; "Bad {offset}")?.into_bytes()),
+        TextFault::Version => Vec::from_slice(alloc, b"Version"),
+        TextFault::NotSorted => Vec::from_slice(alloc, b"NotSorted"),
+        TextFault::Cyclic => Vec::from_slice(alloc, b"Cyclic"),
+        TextFault::TooMany => Vec::from_slice(alloc, b"TooMany"),
+        TextFault::Dangling => Vec::from_slice(alloc, b"Dangling"),
+        TextFault::Memory => Vec::from_slice(alloc, b"Memory"),
+    }
+}
+
+// A fault of a query in words: of an unknown name the name, too.
+fn query_word(alloc: Global, fault: QueryFault, query: &Query<'_>) -> Result<Vec<u8>, NoMem>
+    ensures { IfOk result (λ text. text.items ≡ query_word fault (question_of query.now)) }
+{
+    match fault {
+        QueryFault::Unknown(place) => {
+            let mut text = Vec::from_slice(alloc, b"Unknown ")?;
+            text.extend_from_slice(name_at(query, place).unwrap_or("").as_bytes())?;
+            Ok(text)
+        }
+        QueryFault::NotAtomic => Vec::from_slice(alloc, b"NotAtomic"),
+        QueryFault::NotBundle => Vec::from_slice(alloc, b"NotBundle"),
+        QueryFault::NotLongrun => Vec::from_slice(alloc, b"NotLongrun"),
+        QueryFault::NotOneshot => Vec::from_slice(alloc, b"NotOneshot"),
+        QueryFault::Memory => Vec::from_slice(alloc, b"Memory"),
+    }
+}
+
+// The name at a place of those that a query is of.
+fn name_at<'q>(query: &'q Query<'_>, place: usize) -> Option<&'q str>
+    ensures { option_map (λ name. name.now) result ≡ slice_get (names_in (question_of query.entry.now)) place }
+{
+    match query {
+        Query::OfName(_, name) if place == 0 => Some(name),
+        Query::OfNames(_, names) => match names.get(place) {
+            Some(name) => Some(name.as_str()),
+            None => None,
+        },
+        _ => None,
+    }
+}

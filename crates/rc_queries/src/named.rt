@@ -1,0 +1,72 @@
+//! Words that name services.
+ghost use Rattle.std.specs.Prelude.{◌≡◌, ◌<◌, length, map, slice_get, Some, Contains, IfOk, IfErr, IfSome, IfNone};
+ghost use Rattle.rc_set.specs.Set.{Holds};
+ghost use Rattle.rc_queries.specs.declared.named.NamedFault.TheVariants.{Memory};
+ghost use Rattle.rc_queries.specs.Named.{IsNamed, AreNamed, IsNamedFault, word_lines};
+
+use rc_names::Names;
+use rc_set::{NoMem, Set};
+use std::alloc::{AllocError, Global};
+use std::str;
+
+/// Why words are no set of services.
+#[derive(Clone, Copy)]
+pub(crate) enum NamedFault<'a> {
+    /// The first word that names no service.
+    Unknown(&'a [u8]),
+    Memory,
+}
+
+impl From<AllocError> for NamedFault<'_> {
+    ghost from_gives = { λ _ fault. fault ≡ Memory };
+
+    fn from(_: AllocError) -> Self {
+        NamedFault::Memory
+    }
+}
+
+/// The lines of a list of words: empty ones do not count, and the last may lack its newline.
+pub(crate) fn word_lines<'a>(alloc: Global, bytes: &'a [u8]) -> Result<Vec<&'a [u8]>, NoMem>
+    ensures { IfOk result (λ lines. map (λ line. line.now) lines.items
+        ≡ word_lines bytes.entry.now) }
+{
+    bytes
+        .split(|byte| *byte == b'\n')
+        .filter(|line| line.len() > 0)
+        .collect(alloc)
+}
+
+/// The set of the services that words name.
+pub(crate) fn named_set<'a>(
+    alloc: Global,
+    names: &Names,
+    words: &[&'a [u8]],
+) -> Result<Set, NamedFault<'a>>
+    ensures bound { IfOk result (λ set. length set ≡ length names.now) }
+    ensures members { IfOk result (λ set. Holds set
+        (IsNamed names.now (map (λ w. w.now) words.now))) }
+    ensures known { IfOk result (λ set. AreNamed names.now (map (λ w. w.now) words.now)) }
+    ensures fault { IfErr result (λ fault. IsNamedFault fault names.now
+        (map (λ w. w.now) words.now)) }
+{
+    let mut set = Set::empty(alloc, names.len())?;
+    for word in words {
+        match find(names, word) {
+            Some(id) => set.insert(id),
+            None => return Err(NamedFault::Unknown(word)),
+        };
+    }
+    Ok(set)
+}
+
+/// The id of a name that is given as bytes. Bytes that are no text are no name.
+fn find(names: &Names, word: &[u8]) -> Option<u16>
+    ensures found { IfSome result (λ id. slice_get names.now id ≡ Some word.now) }
+    ensures missing { IfNone result (Contains names.now word.now → ⊥) }
+{
+    let _known = names.len();
+    match str::from_utf8(word) {
+        Ok(text) => names.find(text),
+        Err(_) => None,
+    }
+}

@@ -1,0 +1,152 @@
+//! The command `replay`: commands with the events of their runs, and what they come to.
+ghost use Rattle.std.specs.Prelude.{◌≡◌, ◌≢◌, ◌⊎◌, ◌<◌, ◌≤◌, ◌+◌, codes, None, length, map, string_bytes, IfErr, IfOk, IfSome};
+ghost use Rattle.std.specs.Io.KnownBytes.{IsAtEnd};
+ghost use Rattle.rc_streams.specs.Input.{AppendsFront, ConsumesAtMost, TellsFailure, WritesAll, WritesFront, failure_text, fault_line};
+ghost use Rattle.rc_queries.specs.Base.{bytes_of};
+ghost use Rattle.rc_asked.specs.ReplayAsked.{AsksReplay};
+ghost use Rattle.rc_queries.specs.Replay.{IsReplayFor, IsReplayRefused, IsScriptAs, IsTextAs, TellsReplayFault, replay_fault_text};
+ghost use Rattle.rc_command.specs.Words.{rows_for};
+ghost use Rattle.rc_queries.specs.declared.replay.ReplayFault.TheVariants.{Memory};
+
+use crate::base::database_of;
+use crate::db_fault::text_word;
+use rc_asked::{replay_asked, tell_words};
+use rc_db::NoMem;
+use rc_dbtext::TextFault;
+use rc_ending::{REFUSED, fail, write_answer};
+use rc_replay::{ScriptFault, replay_text};
+use rc_streams::{Failure, MAX_INPUT, read_all, tell};
+use std::alloc::{AllocError, Global};
+use std::io::{Read, Write};
+
+/// Why there is nothing to print.
+#[derive(Clone, Copy)]
+pub(crate) enum ReplayFault {
+    /// The database text is none.
+    OfText(TextFault),
+    /// The line of this number behind the database may not stand where it does.
+    BadLine(usize),
+    Memory,
+}
+
+impl From<AllocError> for ReplayFault {
+    ghost from_gives = { λ _ fault. fault ≡ Memory };
+
+    fn from(_: AllocError) -> Self {
+        ReplayFault::Memory
+    }
+}
+
+impl From<TextFault> for ReplayFault {
+    ghost from_gives = { IsTextAs };
+
+    fn from(fault: TextFault) -> Self {
+        match fault {
+            TextFault::Memory => ReplayFault::Memory,
+            fault => ReplayFault::OfText(fault),
+        }
+    }
+}
+
+impl From<ScriptFault> for ReplayFault {
+    ghost from_gives = { IsScriptAs };
+
+    fn from(fault: ScriptFault) -> Self {
+        match fault {
+            ScriptFault::BadLine(number) => ReplayFault::BadLine(number),
+            ScriptFault::Memory => ReplayFault::Memory,
+        }
+    }
+}
+
+/// Runs `undorc replay` on its words, and answers the status.
+///
+/// The database is `base`, where there is one, and else the front of the input. Behind it the input has
+/// the script. What it comes to is written to `writer`, and why there is nothing to write to `faults`.
+pub fn replay_run<R: Read, W: Write, F: Write>(
+    alloc: Global,
+    words: &[String],
+    base: Option<&[u8]>,
+    reader: &mut R,
+    writer: &mut W,
+    faults: &mut F,
+) -> u8
+    ensures statuses { (result ≡ 0) ⊎ (result ≡ 1) ⊎ (result ≡ 100) ⊎ (result ≡ 111) }
+
+    // What was written is what the script comes to, and nothing was told.
+    ensures done { result ≡ 0 → IfSome (R.remaining reader.old) (λ input. WritesAll
+        (IsReplayFor (bytes_of base.entry) input) (W.contents writer.old) (W.contents writer.new)) }
+    ensures untold { result ≡ 0 → F.contents faults.new ≡ F.contents faults.old }
+
+    // A refusal holds, and a front of its line was told, or all of it.
+    ensures refused { result ≡ 1 → IfSome (R.remaining reader.old) (λ input. TellsReplayFault
+        (bytes_of base.entry) input (F.contents faults.old) (F.contents faults.new)) }
+
+    // A wrong command line is found before anything is read.
+    ensures wrong { result ≡ 100 → rows_for (codes "replay") (map string_bytes words.now) ≡ None }
+    ensures right { result ≢ 100 → result ≢ 111 → AsksReplay (map string_bytes words.now) }
+    ensures unread { result ≡ 100 → R.remaining reader.new ≡ R.remaining reader.old }
+
+    // A failure is told by its line, and what was written is nothing or a front of what the script comes to.
+    ensures failed { result ≡ 111 → TellsFailure (R.remaining reader.old) (F.contents faults.old) (F.contents faults.new) }
+    ensures begun { result ≡ 111 → (W.contents writer.new ≡ W.contents writer.old) ⊎ IfSome (R.remaining reader.old) (λ input. WritesFront
+        (IsReplayFor (bytes_of base.entry) input) (W.contents writer.old) (W.contents writer.new)) }
+    ensures unwritten { (result ≡ 1) ⊎ (result ≡ 100) → W.contents writer.new ≡ W.contents writer.old }
+
+    // An input that was answered was read to its end, and whatever the status, one byte past the bound is the last that is taken.
+    ensures within { (result ≡ 0) ⊎ (result ≡ 1) → IfSome (R.remaining reader.old) (λ input. length input ≤ MAX_INPUT) }
+    ensures end { (result ≡ 0) ⊎ (result ≡ 1) → IsAtEnd (R.remaining reader.new) }
+    ensures taken { ConsumesAtMost (R.remaining reader.old) (R.remaining reader.new) (MAX_INPUT + 1) }
+{
+    if let Err(fault) = replay_asked(alloc, words) {
+        return tell_words(faults, &fault);
+    }
+    let input = match read_all(alloc, reader) {
+        Ok(input) => input,
+        Err(failure) => return fail(faults, failure),
+    };
+    match replay_of(alloc, base, &input) {
+        Ok(text) => write_answer(writer, faults, &text),
+        Err(fault) => tell_replay_fault(alloc, faults, fault),
+    }
+}
+
+/// What the script behind the database comes to.
+fn replay_of(alloc: Global, base: Option<&[u8]>, input: &[u8]) -> Result<Vec<u8>, ReplayFault>
+    ensures text { IfOk result (λ text. IsReplayFor (bytes_of base.entry) input.now text.items) }
+    ensures fault { IfErr result (λ fault. IsReplayRefused fault (bytes_of base.entry) input.now) }
+{
+    let (db, script) = database_of(alloc, base, input)?;
+    let text = replay_text(alloc, db, script)?;
+    Ok(text)
+}
+
+/// Tells why there is nothing to print, and answers the status.
+fn tell_replay_fault<F: Write>(alloc: Global, faults: &mut F, fault: ReplayFault) -> u8
+    ensures statuses { (result ≡ 1) ⊎ (result ≡ 111) }
+    ensures refused { result ≡ 1 → (fault ≢ Memory)
+        × AppendsFront (F.contents faults.old) (F.contents faults.new) (fault_line (replay_fault_text fault)) }
+    ensures failed { result ≡ 111 → AppendsFront (F.contents faults.old) (F.contents faults.new) (fault_line (failure_text Failure.Memory)) }
+{
+    if let ReplayFault::Memory = fault {
+        return fail(faults, Failure::Memory);
+    }
+    match text_of(alloc, fault) {
+        Ok(text) => {
+            tell(faults, &text);
+            REFUSED
+        }
+        Err(_) => fail(faults, Failure::Memory),
+    }
+}
+
+/// A refusal in words.
+fn text_of(alloc: Global, fault: ReplayFault) -> Result<Vec<u8>, NoMem>
+    ensures { IfOk result (λ text. text.items ≡ replay_fault_text fault) }
+{
+    match fault {
+        ReplayFault::OfText(fault) => text_word(alloc, fault),
+        ReplayFault::BadLine(number) => Ok(format!(in alloc; "BadLine {number}")?.into_bytes()),
+        ReplayFault::Memory => Vec::from_slice(alloc, b"Memory"),
+    }
+}

@@ -1,0 +1,52 @@
+-- What a session of the program does.
+use Rattle.std.specs.Prelude.{◌≡◌, ◌≤◌, ℕ, List, [], Option, None, Some, IfSome, false, length}
+use Rattle.std.specs.Io.KnownBytes.{IsAtEnd}
+use Rattle.clap.specs.Words.{Text}
+use Rattle.rc_graph.specs.declared.Way.{Way}
+use Rattle.rc_db.specs.Database.{Database}
+use Rattle.rc_session.specs.Holding.{Holding, first_line}
+use Rattle.rc_failing.specs.Finding.{AreFound}
+use Rattle.rc_queries.specs.Base.{Spells}
+use Rattle.rc_asked.specs.SessionAsked.{AsksSession, SessionAsk}
+
+-- the session that a database begins with: nothing is up
+abbrev pub first_session : Database → Holding
+first_session d = record { database = d; line = first_line d; begun = false; spoiled = false }
+
+-- what was served: what a reader had and has left, what a writer held and holds, and the session before and after
+abbrev pub Serving : Type 1
+Serving = (input left written gained : Option (List ℕ)) → Holding → Holding → Type 0
+
+-- the session that the database begins with was served
+pub record RunsGated (Serves : Serving) (d : Database) (input left written gained : Option (List ℕ)) : Type 0 where
+  pub new : Holding
+  pub served : Serves input left written gained (first_session d) new
+
+-- each name that is to fail is a service's, and the session that the database begins with was served
+pub record RunsOn (Serves : Serving) (d : Database) (ask : SessionAsk) (input left written gained : Option (List ℕ)) : Type 0 where
+  pub table : List (ℕ × Way)
+  pub new : Holding
+  pub found : AreFound d.names ask.failing table
+  pub served : Serves input left written gained (first_session d) new
+
+-- the input that the database is looked for in: none of it where there is a base, and else all of what a reader has, which is within the bound
+abbrev pub Reads : Option (List ℕ) → (remaining after : Option (List ℕ)) → List ℕ → Type 0
+Reads (Some base) remaining after input = (input ≡ []) × (after ≡ remaining)
+Reads None remaining after input = IfSome remaining (λ all. input ≡ all) × (length input ≤ 16777216) × IsAtEnd after
+
+-- the session's own input, and what is left of it: with a base that of the reader; without one what is behind the database's text
+abbrev pub Opens : Option (List ℕ) → (remaining after : Option (List ℕ)) → Database → (input left : Option (List ℕ)) → Type 0
+Opens (Some base) remaining after d input left = Spells (Some base) [] d [] × (input ≡ remaining) × (left ≡ after)
+Opens None remaining after d input left = (all : List ℕ) × (rest : List ℕ) × Reads None remaining after all × Spells None all d rest × (input ≡ Some rest)
+
+-- there is a database, and its session was served
+pub record Runs (Serves : Serving) (base : Option (List ℕ)) (ask : SessionAsk) (remaining after written gained : Option (List ℕ)) : Type 0 where
+  pub database : Database
+  pub input : Option (List ℕ)
+  pub left : Option (List ℕ)
+  pub opened : Opens base remaining after database input left
+  pub run : RunsOn Serves database ask input left written gained
+
+-- the words ask for a session, and it was served
+abbrev pub RunsAsked : Serving → List Text → Option (List ℕ) → (remaining after written gained : Option (List ℕ)) → Type 0
+RunsAsked Serves words base remaining after written gained = (ask : SessionAsk) × AsksSession words ask × Runs Serves base ask remaining after written gained

@@ -1,0 +1,7 @@
+//! The command `session`: lines in, what each says done, and its answer out.
+#![tactic(auto)]
+
+mod session;
+mod session_fault;
+
+pub use crate::session::session_run;

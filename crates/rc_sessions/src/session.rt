@@ -1,0 +1,242 @@
+//! The command `session`: lines in, what each says done, and its answer out.
+ghost use Rattle.std.specs.Prelude.{◌≡◌, ◌⊎◌, ◌+◌, false, [], None, Some, map, string_bytes, IfErr, OnOk};
+ghost use Rattle.rc_board.specs.Crew.{IsCrew};
+ghost use Rattle.rc_noted.specs.Noting.{HasFailed, inner_of};
+ghost use Rattle.rc_serve.specs.Serving.{ServesAll, ServesFront};
+ghost use Rattle.rc_streams.specs.Input.{ConsumesAtMost};
+ghost use Rattle.rc_queries.specs.Base.{bytes_of};
+ghost use Rattle.rc_sessions.specs.Session.{Runs, RunsAsked, RunsGated, RunsOn};
+ghost use Rattle.rc_asked.specs.SessionAsked.{AsksNoSession, session_ask_of};
+ghost use Rattle.rc_sessions.specs.SessionFaults.{EndsBy, EndsGated, EndsOn, IsServingFault, TellsRefusal, TellsServeFault, reading_fault};
+
+use crate::session_fault::{SessionFault, tell_session_fault};
+use rc_asked::{SessionRequest, session_asked, tell_words};
+use rc_board::Gate;
+use rc_db::Db;
+use rc_ending::DONE;
+use rc_failing::gate_of;
+use rc_noted::Noted;
+use rc_queries::database_of;
+use rc_serve::{ServeFault, serve};
+use rc_session::Session;
+use rc_streams::{Failure, MAX_INPUT, read_all};
+use std::alloc::Global;
+use std::io::{Read, Write};
+use std::sync::Wait;
+use std::thread::Threads;
+
+/// Runs `undorc session` on its words, and answers the status.
+///
+/// The database is `base`, where there is one, and then each line of the input is answered before the
+/// next one is waited for. Without one the database stands at the front of the input, which is read
+/// whole first, and the lines behind it. The answers are written to `writer`, and why the session ended
+/// before its input to `faults`. The two devices must not have failed before.
+pub fn session_run<T: Threads + Wait + Sync, R: Read, W: Write, F: Write>(
+    rt: &T,
+    alloc: Global,
+    words: &[String],
+    base: Option<&[u8]>,
+    reader: &mut Noted<R>,
+    writer: &mut Noted<W>,
+    faults: &mut F,
+) -> u8
+    requires reader { HasFailed reader.old → ⊥ }
+    requires writer { HasFailed writer.old → ⊥ }
+    ensures statuses { (result ≡ 0) ⊎ (result ≡ 1) ⊎ (result ≡ 100) ⊎ (result ≡ 111) }
+
+    // The names that are to fail are services', all lines of the session were met, what was written is their answers, and nothing was told.
+    ensures done { result ≡ 0 → RunsAsked ServesAll (map string_bytes words.now) (bytes_of base.entry)
+        (R.remaining (inner_of reader.old)) (R.remaining (inner_of reader.new)) (W.contents (inner_of writer.old)) (W.contents (inner_of writer.new)) }
+    ensures untold { result ≡ 0 → F.contents faults.new ≡ F.contents faults.old }
+
+    // A refusal holds, and a front of its line was told, or all of it. With a base nothing was read for it.
+    ensures refused { result ≡ 1 → TellsRefusal (map string_bytes words.now) (bytes_of base.entry)
+        (R.remaining (inner_of reader.old)) (R.remaining (inner_of reader.new)) (F.contents faults.old) (F.contents faults.new) }
+
+    // A wrong command line is found before anything is read.
+    ensures wrong { result ≡ 100 → AsksNoSession (map string_bytes words.now) }
+    ensures unread { result ≡ 100 → R.remaining (inner_of reader.new) ≡ R.remaining (inner_of reader.old) }
+    ensures unwritten { (result ≡ 1) ⊎ (result ≡ 100) → W.contents (inner_of writer.new) ≡ W.contents (inner_of writer.old) }
+
+    // A failure is told by its line. The session was served up to that very fault, or not at all, and then nothing was written.
+    ensures failed { result ≡ 111 → TellsServeFault (map string_bytes words.now) (bytes_of base.entry)
+        (R.remaining (inner_of reader.old)) (R.remaining (inner_of reader.new)) (W.contents (inner_of writer.old)) (W.contents (inner_of writer.new))
+        (HasFailed reader.new ⊎ (bytes_of base.entry ≡ None)) (HasFailed writer.new) (F.contents faults.old) (F.contents faults.new) }
+
+    // Whatever the status, one byte past the bound is the last that is taken.
+    ensures taken { ConsumesAtMost (R.remaining (inner_of reader.old)) (R.remaining (inner_of reader.new)) (MAX_INPUT + 1) }
+{
+    let request = match session_asked(alloc, words) {
+        Ok(request) => request,
+        Err(fault) => return tell_words(faults, &fault),
+    };
+    match run_asked(rt, alloc, &request, base, reader, writer) {
+        Ok(()) => DONE,
+        Err(fault) => tell_session_fault(alloc, faults, fault),
+    }
+}
+
+// Runs what is asked.
+fn run_asked<'a, T: Threads + Wait + Sync, R: Read, W: Write>(
+    rt: &T,
+    alloc: Global,
+    request: &SessionRequest<'a>,
+    base: Option<&[u8]>,
+    reader: &mut Noted<R>,
+    writer: &mut Noted<W>,
+) -> Result<(), SessionFault<'a>>
+    requires crew { IsCrew request.now.workers }
+    requires reader { HasFailed reader.old → ⊥ }
+    requires writer { HasFailed writer.old → ⊥ }
+    ensures done { OnOk result (Runs ServesAll (bytes_of base.entry) (session_ask_of request.now) (R.remaining (inner_of reader.old)) (R.remaining (inner_of reader.new))
+        (W.contents (inner_of writer.old)) (W.contents (inner_of writer.new))) }
+    ensures ended { IfErr result (λ fault. EndsBy fault (bytes_of base.entry) (session_ask_of request.now) (R.remaining (inner_of reader.old)) (R.remaining (inner_of reader.new))
+        (W.contents (inner_of writer.old)) (W.contents (inner_of writer.new)) (HasFailed reader.new ⊎ (bytes_of base.entry ≡ None)) (HasFailed writer.new)) }
+    ensures taken { ConsumesAtMost (R.remaining (inner_of reader.old)) (R.remaining (inner_of reader.new)) (MAX_INPUT + 1) }
+{
+    match base {
+        Some(bytes) => run_on_base(rt, alloc, request, bytes, reader, writer),
+        None => run_on_input(rt, alloc, request, reader, writer),
+    }
+}
+
+// Runs a session on the database of a text of its own.
+fn run_on_base<'a, T: Threads + Wait + Sync, R: Read, W: Write>(
+    rt: &T,
+    alloc: Global,
+    request: &SessionRequest<'a>,
+    base: &[u8],
+    reader: &mut Noted<R>,
+    writer: &mut Noted<W>,
+) -> Result<(), SessionFault<'a>>
+    requires crew { IsCrew request.now.workers }
+    requires reader { HasFailed reader.old → ⊥ }
+    requires writer { HasFailed writer.old → ⊥ }
+    ensures done { OnOk result (Runs ServesAll (Some base.now) (session_ask_of request.now) (R.remaining (inner_of reader.old)) (R.remaining (inner_of reader.new))
+        (W.contents (inner_of writer.old)) (W.contents (inner_of writer.new))) }
+    ensures ended { IfErr result (λ fault. EndsBy fault (Some base.now) (session_ask_of request.now) (R.remaining (inner_of reader.old)) (R.remaining (inner_of reader.new))
+        (W.contents (inner_of writer.old)) (W.contents (inner_of writer.new)) (HasFailed reader.new) (HasFailed writer.new)) }
+    ensures taken { ConsumesAtMost (R.remaining (inner_of reader.old)) (R.remaining (inner_of reader.new)) (MAX_INPUT + 1) }
+{
+    let (db, _none) = database_of(alloc, Some(base), &[])?;
+    run_on(rt, alloc, db, request, reader, writer)
+}
+
+// Runs a session on the database at the front of the input, and on the lines behind it.
+fn run_on_input<'a, T: Threads + Wait + Sync, R: Read, W: Write>(
+    rt: &T,
+    alloc: Global,
+    request: &SessionRequest<'a>,
+    reader: &mut Noted<R>,
+    writer: &mut Noted<W>,
+) -> Result<(), SessionFault<'a>>
+    requires crew { IsCrew request.now.workers }
+    requires reader { HasFailed reader.old → ⊥ }
+    requires writer { HasFailed writer.old → ⊥ }
+    ensures done { OnOk result (Runs ServesAll None (session_ask_of request.now) (R.remaining (inner_of reader.old)) (R.remaining (inner_of reader.new))
+        (W.contents (inner_of writer.old)) (W.contents (inner_of writer.new))) }
+    ensures ended { IfErr result (λ fault. EndsBy fault None (session_ask_of request.now) (R.remaining (inner_of reader.old)) (R.remaining (inner_of reader.new))
+        (W.contents (inner_of writer.old)) (W.contents (inner_of writer.new)) (Unit {0}) (HasFailed writer.new)) }
+    ensures taken { ConsumesAtMost (R.remaining (inner_of reader.old)) (R.remaining (inner_of reader.new)) (MAX_INPUT + 1) }
+{
+    let input = match read_all(alloc, reader) {
+        Ok(input) => input,
+        Err(failure) => return Err(SessionFault::Failed(reading_fault(failure))),
+    };
+    let (db, lines) = database_of(alloc, None, &input)?;
+    run_on(rt, alloc, db, request, &mut Noted::new(lines), writer)
+}
+
+// Why the input was not read whole, as a fault of serving. A read fails as none but a read does.
+fn reading_fault(failure: Failure) -> ServeFault
+    ensures { result ≡ reading_fault failure }
+{
+    match failure {
+        Failure::TooLong => ServeFault::TooLong,
+        Failure::Memory => ServeFault::Memory,
+        Failure::Read | Failure::Write => ServeFault::Read,
+    }
+}
+
+// Runs a session on a database, over its own input.
+fn run_on<'a, T: Threads + Wait + Sync, R: Read, W: Write>(
+    rt: &T,
+    alloc: Global,
+    db: Db,
+    request: &SessionRequest<'a>,
+    reader: &mut Noted<R>,
+    writer: &mut Noted<W>,
+) -> Result<(), SessionFault<'a>>
+    requires crew { IsCrew request.now.workers }
+    requires reader { HasFailed reader.old → ⊥ }
+    requires writer { HasFailed writer.old → ⊥ }
+    ensures done { OnOk result (RunsOn ServesAll db (session_ask_of request.now) (R.remaining (inner_of reader.old)) (R.remaining (inner_of reader.new))
+        (W.contents (inner_of writer.old)) (W.contents (inner_of writer.new))) }
+    ensures ended { IfErr result (λ fault. EndsOn fault db (session_ask_of request.now) (R.remaining (inner_of reader.old)) (R.remaining (inner_of reader.new))
+        (W.contents (inner_of writer.old)) (W.contents (inner_of writer.new)) (HasFailed reader.new) (HasFailed writer.new)) }
+    ensures taken { ConsumesAtMost (R.remaining (inner_of reader.old)) (R.remaining (inner_of reader.new)) (MAX_INPUT + 1) }
+{
+    let gate = match gate_of(alloc, db.names(), &request.failing) {
+        Ok(gate) => gate,
+        Err(fault) => {
+            drop(db);
+            return Err(SessionFault::from(fault));
+        }
+    };
+    let ended = run_gated(rt, alloc, db, &gate, request.workers, reader, writer);
+    drop(gate);
+    match ended {
+        Ok(()) => Ok(()),
+        Err(fault) => Err(SessionFault::Failed(fault)),
+    }
+}
+
+// Runs a session on a database, past a gate.
+fn run_gated<T: Threads + Wait + Sync, R: Read, W: Write, G: Gate>(
+    rt: &T,
+    alloc: Global,
+    db: Db,
+    gate: &G,
+    workers: u8,
+    reader: &mut Noted<R>,
+    writer: &mut Noted<W>,
+) -> Result<(), ServeFault>
+    requires crew { IsCrew workers }
+    requires reader { HasFailed reader.old → ⊥ }
+    requires writer { HasFailed writer.old → ⊥ }
+    ensures done { OnOk result (RunsGated ServesAll db (R.remaining (inner_of reader.old)) (R.remaining (inner_of reader.new))
+        (W.contents (inner_of writer.old)) (W.contents (inner_of writer.new))) }
+    ensures ended { IfErr result (λ fault. EndsGated fault db (R.remaining (inner_of reader.old)) (R.remaining (inner_of reader.new))
+        (W.contents (inner_of writer.old)) (W.contents (inner_of writer.new)) (HasFailed reader.new) (HasFailed writer.new)) }
+    ensures taken { ConsumesAtMost (R.remaining (inner_of reader.old)) (R.remaining (inner_of reader.new)) (MAX_INPUT + 1) }
+{
+    let mut session = Session::new(alloc, db)?;
+    let ended = serve_narrow(rt, alloc, &mut session, gate, workers, reader, writer);
+    drop(session);
+    ended
+}
+
+// Serves a session, which must be whole.
+fn serve_narrow<T: Threads + Wait + Sync, R: Read, W: Write, G: Gate>(
+    rt: &T,
+    alloc: Global,
+    session: &mut Session,
+    gate: &G,
+    workers: u8,
+    reader: &mut Noted<R>,
+    writer: &mut Noted<W>,
+) -> Result<(), ServeFault>
+    requires crew { IsCrew workers }
+    requires closed { session.old.begun ≡ false }
+    requires whole { session.old.spoiled ≡ false }
+    requires reader { HasFailed reader.old → ⊥ }
+    requires writer { HasFailed writer.old → ⊥ }
+    ensures done { OnOk result (ServesAll (R.remaining (inner_of reader.old)) (R.remaining (inner_of reader.new))
+        (W.contents (inner_of writer.old)) (W.contents (inner_of writer.new)) session.old session.new) }
+    ensures begun { IfErr result (λ fault. ServesFront fault (R.remaining (inner_of reader.old)) (R.remaining (inner_of reader.new))
+        (W.contents (inner_of writer.old)) (W.contents (inner_of writer.new)) session.old session.new) }
+    ensures fault { IfErr result (IsServingFault (HasFailed reader.new) (HasFailed writer.new)) }
+    ensures taken { ConsumesAtMost (R.remaining (inner_of reader.old)) (R.remaining (inner_of reader.new)) (MAX_INPUT + 1) }
+{
+    serve(rt, alloc, reader, writer, session, gate, workers)
+}
