@@ -567,5 +567,12 @@ echo 0 > status
 "$program" db check < whole > out 2> err || echo $? > status
 fault 'a query of an input of 16,777,217 bytes' 'undorc: TooLong\n' 111
 
+# What comes up does not wait for what goes down: `log` comes up while `net` is on its way down.
+script='-u change net\ntake 1 root\ndone 1 root ok\ntake 1 net\ndone 1 net ok\n'
+script="$script"'-pu change log\ntake 1 net\ntake 2 log\ndone 2 log ok\ndone 1 net failed 1\n'
+answers='raised net root\nok\nraised log\nfailed net\nkept root\nok\n'
+answers="$answers"'live log net root\nat 2 of 3\n0 +net +root\n1 +log\n'
+expect 0 "$answers" '' "$sample$script" replay
+
 echo "$passed passed, $failed failed"
 [ "$failed" -eq 0 ]
