@@ -794,7 +794,7 @@ plays 'raised root\nok\nrefused BadEvent 0\nuntried root\nok\nrefused BadEvent 1
 plays 'raised root\nuntried log\nok\nrefused BadEvent 2\nlive root\nat 1 of 2\n0 +root\n' \
     "-t 5 change log root\ntake 1 root\nstop 2 7\ndone 1 root ok\n-t 5 change site\ntake 1 log\nstop 2 7\ntake 2 net\n"
 plays 'raised net root\nok\nrefused BadEvent 1\nraised log\nfailed net\nkept root\nok\nlive log net root\nat 2 of 3\n0 +net +root\n1 +log\n' \
-    "-u change net\n${root}take 1 net\ndone 1 net ok\n-pu change log\ntake 1 net\ntake 2 log\ndone 2 log ok\n${net}-pu change log\n$net$log"
+    "-u change net\n${root}take 1 net\ndone 1 net ok\n-pu change log\ntake 1 net\ntake 1 log\n-pu change log\n$net$log"
 answers='refused NotSettled 0\nrefused NotSettled 1\nrefused NotSettled 2\nrefused BadEvent 1\nrefused BadEvent 1\n'
 answers="$answers"'refused BadEvent 1\nrefused BadEvent 1\nrefused BadEvent 0\nrefused BadEvent 0\nrefused BadEvent 0\nrefused BadEvent 0\n'
 plays "${answers}live\nat 0 of 1\n" "change log\nchange log\ntake 1 log\nchange web\n${log}change web\ntake 1 log\ntake 1 root\n\
