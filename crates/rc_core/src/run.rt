@@ -16,6 +16,7 @@ ghost use Rattle.rc_core.specs.Tables.{IsRoomFor};
 use crate::ended::Ended;
 use crate::event::{Event, Outcome};
 use crate::job::Job;
+use crate::ready::Ready;
 use crate::standing::Standing;
 use crate::tables::Tables;
 use crate::took::Took;
@@ -34,8 +35,9 @@ pub struct NotLegal;
 /// A change on its way: what was to move, and the events so far.
 ///
 /// It borrows nothing. No call but `open` can be refused for want of memory.
-/// Time: `take`, `step` of a take, and `settled` grow with the services and their pairs, `open` and `take_apart`
-/// with the services; the others take one step.
+/// Time: `open` grows with the services and their pairs, `take_apart` with the services; `done` with
+/// those that the service needs or that need it; `step` of a take looks for the service among those
+/// that may be taken; the others take one step. So a whole run looks at each service and pair once.
 #[derive(Debug, Drop)]
 pub struct Run {
     pub(crate) graph: Graph,
@@ -44,6 +46,7 @@ pub struct Run {
     pub(crate) raise: Set,
     pub(crate) deadline: Option<u64>,
     pub(crate) tables: Tables,
+    pub(crate) ready: Ready,
     pub(crate) trace: Vec<Event>,
     /// Room for the lists of the end.
     pub(crate) failed_room: Vec<u16>,
@@ -51,7 +54,8 @@ pub struct Run {
 }
 
 impl Model for Run {
-    ghost use Rattle.std.specs.Prelude.{length};
+    ghost use Rattle.std.specs.Prelude.{◌≤◌, length, vec_capacity};
+    ghost use Rattle.rc_core.specs.Ready.{AreReady};
     ghost use Rattle.rc_core.specs.Settled.{RunSoFar};
     ghost use Rattle.rc_core.specs.Tables.{IsKept, IsRoomFor};
 
@@ -64,7 +68,11 @@ impl Model for Run {
 
     ghost invariant = { λ r. IsKept (record { needs = r.graph; up = r.opening; lower = r.lower; raise = r.raise; deadline = r.deadline })
         r.trace r.tables
-        × IsRoomFor (length r.graph) r.failed_room × IsRoomFor (length r.graph) r.left_room };
+        × IsRoomFor (length r.graph) r.failed_room × IsRoomFor (length r.graph) r.left_room
+        × AreReady
+        (record { needs = r.graph; up = r.opening; lower = r.lower; raise = r.raise; deadline = r.deadline })
+        r.trace.items r.ready.waits.items r.ready.queue.items
+        × (length r.graph ≤ vec_capacity r.ready.queue) };
 }
 
 impl Run {
@@ -84,16 +92,24 @@ impl Run {
         let tables = Tables::new(alloc, plan.opening(), plan.lower(), plan.raise())?;
         let events = 2 * tables.left.len() as usize + 1;
         let services = graph.len() as usize;
+        let ready = Ready::new(
+            alloc,
+            graph,
+            plan.opening(),
+            plan.lower(),
+            plan.raise(),
+            &tables.left,
+        )?;
         let Ok(rooms) = rooms_of(alloc, events, services) else {
-            drop(tables);
+            drop((tables, ready));
             return Err(AllocError);
         };
         let Ok(sets) = sets_of(alloc, plan) else {
-            drop((tables, rooms));
+            drop((tables, ready, rooms));
             return Err(AllocError);
         };
         let Ok(graph) = graph.share() else {
-            drop((tables, rooms, sets));
+            drop((tables, ready, rooms, sets));
             return Err(AllocError);
         };
         let (trace, failed_room, left_room) = rooms;
@@ -105,6 +121,7 @@ impl Run {
             raise,
             deadline,
             tables,
+            ready,
             trace,
             failed_room,
             left_room,
@@ -212,6 +229,8 @@ impl Run {
         ensures { self.new ≡ with_event self.old event }
     {
         self.tables.note(event);
+        self.ready
+            .note(event, &self.graph, &self.lower, &self.raise);
         self.trace.push_reserved(event);
     }
 }

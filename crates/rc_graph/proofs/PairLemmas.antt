@@ -1,6 +1,6 @@
 use Rattle.std.proofs.Common.{◌≡◌, ◌∙◌, ℕ, ◌+◌, ◌<◌, ◌≤◌, ◌⊎◌, ◌↔◌, List, [], ◌∷◌, ◌++◌, Contains, inl, inr, arith, sym, subst, slice_index_or, slice_set, length, length-set, zero, suc, Ok, Err, ◌-◌, Result, IsOk, OnOk, OnErr}
 use Rattle.std.specs.List.{insert}
-use Rattle.std.specs.Global.{Vec}
+use Rattle.smallvec.specs.SmallVec.{SmallVec}
 use Rattle.std.specs.List.Sorted.{IsBinarySearchResult}
 use Rattle.std.specs.Ordering.{nat_cmp}
 use Rattle.std.proofs.lemmas.Bool.{cases_order, cases_eq, cases_lt}
@@ -74,7 +74,8 @@ one_only y s (zero, low, is) = sym is
 one_only y s (suc k, low, is) = absurd (omega arith)
 
 -- the table with a row changed
-rows_set : (vectors : List (Vec ℕ)) (i : ℕ) (v : Vec ℕ) → rows (slice_set vectors i v) ≡ slice_set (rows vectors) i v.items
+rows_set : (vectors : List (SmallVec ℕ)) (i : ℕ) (v : SmallVec ℕ)
+    → rows (slice_set vectors i v) ≡ slice_set (rows vectors) i v.items
 rows_set vectors i v = map-set (λ v. v.items) vectors i v
 
 -- what is in a list after an insert
@@ -124,7 +125,13 @@ put_pairs lists from to row h members s t = elim (cases_eq s from) [
 ]
 
 -- the lists of a table of vectors, one of which took a service in, or stayed as it was for want of memory
-pub lists_put : {T E : Type 0} (vectors : List (Vec ℕ)) (from to : ℕ) (d v : Vec ℕ) (r : Result T E) → AreNeeds (rows vectors) → from < length vectors → to < length vectors → IsAscending v.items → OnOk r ((t : ℕ) → Contains v.items t ↔ (Contains (slice_index_or vectors from d).items t ⊎ (t ≡ to))) → OnErr r (v.items ≡ (slice_index_or vectors from d).items) → AreNeeds (rows (slice_set vectors from v))
+pub lists_put : {T E : Type 0} (vectors : List (SmallVec ℕ)) (from to : ℕ) (d v : SmallVec ℕ)
+    (r : Result T E) → AreNeeds (rows vectors) → from < length vectors → to < length vectors
+    → IsAscending v.items
+    → OnOk r
+    ((t : ℕ) → Contains v.items t ↔ (Contains (slice_index_or vectors from d).items t ⊎ (t ≡ to)))
+    → OnErr r (v.items ≡ (slice_index_or vectors from d).items)
+    → AreNeeds (rows (slice_set vectors from v))
 lists_put vectors from to d v (Ok x) needs from_in to_in up members err =
     let n : length (rows vectors) ≡ length vectors = length-rows vectors in
     rw (rows_set vectors from v) (put_lists (rows vectors) from v.items needs (omega arith) up (λ t h. elim ((members t).0 h) [
@@ -136,29 +143,46 @@ lists_put vectors from to d v (Err e) needs from_in to_in up members err =
     rw (rows_set vectors from v) (put_lists (rows vectors) from v.items needs (omega arith) up (λ t h. needs.known from t (rw (row_at vectors from d from_in, ← err) h)))
 
 -- its pairs
-pub pairs_put : {T E : Type 0} (vectors : List (Vec ℕ)) (from to : ℕ) (d v : Vec ℕ) (r : Result T E) → from < length vectors → OnOk r ((t : ℕ) → Contains v.items t ↔ (Contains (slice_index_or vectors from d).items t ⊎ (t ≡ to))) → OnOk r ((s t : ℕ) → Needs (rows (slice_set vectors from v)) s t ↔ (Needs (rows vectors) s t ⊎ ((s ≡ from) × (t ≡ to))))
+pub pairs_put : {T E : Type 0} (vectors : List (SmallVec ℕ)) (from to : ℕ) (d v : SmallVec ℕ)
+    (r : Result T E) → from < length vectors
+    → OnOk r
+    ((t : ℕ) → Contains v.items t ↔ (Contains (slice_index_or vectors from d).items t ⊎ (t ≡ to)))
+    → OnOk r
+    ((s t : ℕ)
+    → Needs (rows (slice_set vectors from v)) s t
+    ↔ (Needs (rows vectors) s t ⊎ ((s ≡ from) × (t ≡ to))))
 pairs_put vectors from to d v (Ok x) from_in members =
     let n : length (rows vectors) ≡ length vectors = length-rows vectors in
     rw (rows_set vectors from v) (put_pairs (rows vectors) from to v.items (omega arith) (rw (row_at vectors from d from_in) members))
 pairs_put vectors from to d v (Err e) from_in members = tt
 
 -- the table as it was, where a row was written as it was
-rows_same : (vectors : List (Vec ℕ)) (from : ℕ) (d v : Vec ℕ) → from < length vectors → v.items ≡ (slice_index_or vectors from d).items → rows (slice_set vectors from v) ≡ rows vectors
+rows_same : (vectors : List (SmallVec ℕ)) (from : ℕ) (d v : SmallVec ℕ) → from < length vectors
+    → v.items ≡ (slice_index_or vectors from d).items
+    → rows (slice_set vectors from v) ≡ rows vectors
 rows_same vectors from d v from_in same = rows_set vectors from v ∙ (rw (same, ← row_at vectors from d from_in) (set-get_or (rows vectors) from []))
 
 -- its lists are as they were where memory was lacking
-pub rows_kept : {T E : Type 0} (vectors : List (Vec ℕ)) (from : ℕ) (d v : Vec ℕ) (r : Result T E) → from < length vectors → OnErr r (v.items ≡ (slice_index_or vectors from d).items) → OnErr r (rows (slice_set vectors from v) ≡ rows vectors)
+pub rows_kept : {T E : Type 0} (vectors : List (SmallVec ℕ)) (from : ℕ) (d v : SmallVec ℕ)
+    (r : Result T E) → from < length vectors
+    → OnErr r (v.items ≡ (slice_index_or vectors from d).items)
+    → OnErr r (rows (slice_set vectors from v) ≡ rows vectors)
 rows_kept vectors from d v (Ok x) from_in err = tt
 rows_kept vectors from d v (Err e) from_in err = rows_same vectors from d v from_in err
 
 -- and where the pair was there
-pub rows_again : {T E : Type 0} (vectors : List (Vec ℕ)) (from to : ℕ) (d v : Vec ℕ) (r : Result T E) → from < length vectors → (Contains (slice_index_or vectors from d).items to → IsOk r × (v.items ≡ (slice_index_or vectors from d).items)) → Needs (rows vectors) from to → IsOk r × (rows (slice_set vectors from v) ≡ rows vectors)
+pub rows_again : {T E : Type 0} (vectors : List (SmallVec ℕ)) (from to : ℕ) (d v : SmallVec ℕ)
+    (r : Result T E) → from < length vectors
+    → (Contains (slice_index_or vectors from d).items to
+    → IsOk r × (v.items ≡ (slice_index_or vectors from d).items)) → Needs (rows vectors) from to
+    → IsOk r × (rows (slice_set vectors from v) ≡ rows vectors)
 rows_again vectors from to d v r from_in again needs =
     let was = again (rw (row_at vectors from d from_in) at needs) in
     (was.0, rows_same vectors from d v from_in was.1)
 
 -- each vector of the table is ascending
-pub row_ascending : (vectors : List (Vec ℕ)) (s : ℕ) (d : Vec ℕ) → s < length vectors → AreNeeds (rows vectors) → IsAscending (slice_index_or vectors s d).items
+pub row_ascending : (vectors : List (SmallVec ℕ)) (s : ℕ) (d : SmallVec ℕ) → s < length vectors
+    → AreNeeds (rows vectors) → IsAscending (slice_index_or vectors s d).items
 row_ascending vectors s d h needs = rw (← row_at vectors s d h) (needs.ascending s)
 
 -- an id behind lower ones
@@ -173,5 +197,7 @@ contains_push xs y s = (
 )
 
 -- what is lower than the pairs of a table is lower than those of its vector
-pub row_lower : (vectors : List (Vec ℕ)) (s : ℕ) (d : Vec ℕ) (bound : ℕ) → s < length vectors → ((t : ℕ) → Needs (rows vectors) s t → t < bound) → (t : ℕ) → Contains (slice_index_or vectors s d).items t → t < bound
+pub row_lower : (vectors : List (SmallVec ℕ)) (s : ℕ) (d : SmallVec ℕ) (bound : ℕ)
+    → s < length vectors → ((t : ℕ) → Needs (rows vectors) s t → t < bound) → (t : ℕ)
+    → Contains (slice_index_or vectors s d).items t → t < bound
 row_lower vectors s d bound h lower t has = lower t (rw (row_at vectors s d h) has)

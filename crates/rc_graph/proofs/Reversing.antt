@@ -2,7 +2,7 @@ use Rattle.std.proofs.Common.{◌≡◌, ◌∙◌, ℕ, ◌+◌, ◌<◌, ◌�
 use Rattle.std.proofs.lemmas.Bool.{cases_lt, cases_order}
 use Rattle.std.proofs.lemmas.List.{length-replicate, get_or-replicate, get_or_past}
 use Rattle.std.proofs.lemmas.List.Elements.{Contains-append_left, Contains-push, Contains-push_cases}
-use Rattle.std.specs.Global.{Vec}
+use Rattle.smallvec.specs.SmallVec.{SmallVec}
 use Rattle.rc_graph.specs.Needs.{Needs, AreNeeds, IsReverse}
 use Rattle.rc_graph.specs.Rows.{rows}
 use Rattle.rc_graph.proofs.RowLemmas.{length-rows}
@@ -115,7 +115,11 @@ all_reversed needs needed_by n high reversed =
     }
 
 -- the same of the tables that the vectors hold, of which some were lent
-pub added_lent : (mid lent new : List (Vec ℕ)) (row list : List ℕ) (service : ℕ) → lent ≡ mid → length new ≡ length lent → row ≡ list → AreNeeds (rows new) → ((t s : ℕ) → Needs (rows new) t s ↔ (Needs (rows lent) t s ⊎ ((s ≡ service) × Contains list t))) → HasAdded (rows mid) (rows new) row service
+pub added_lent : (mid lent new : List (SmallVec ℕ)) (row list : List ℕ) (service : ℕ) → lent ≡ mid
+    → length new ≡ length lent → row ≡ list → AreNeeds (rows new)
+    → ((t s : ℕ)
+    → Needs (rows new) t s ↔ (Needs (rows lent) t s ⊎ ((s ≡ service) × Contains list t)))
+    → HasAdded (rows mid) (rows new) row service
 added_lent mid lent new row list service same_table bound same lists pairs =
     rw (same, ← same_table) (record {
       bound = length-rows new ∙ (bound ∙ sym (length-rows lent));

@@ -6,6 +6,7 @@ ghost use Rattle.rc_graph.specs.Order.{IsOrder};
 
 use crate::closure::{down_closure, is_closed, up_closure};
 use rc_set::{NoMem, Set};
+use smallvec::SmallVec;
 use std::alloc::Global;
 use std::marker::Model;
 use std::sync::Arc;
@@ -20,11 +21,14 @@ pub struct Graph {
     pub(crate) lists: Arc<Lists, Global>,
 }
 
+/// Services, ascending. Up to eight stand in the value itself, which is no larger than for two.
+pub(crate) type Row = SmallVec<u16, 8>;
+
 /// What the handles to one graph share: what each service needs, who needs it, and the order.
 #[derive(Debug, Drop)]
 pub(crate) struct Lists {
-    pub(crate) needs: Vec<Vec<u16>>,
-    pub(crate) needed_by: Vec<Vec<u16>>,
+    pub(crate) needs: Vec<Row>,
+    pub(crate) needed_by: Vec<Row>,
     pub(crate) order: Vec<u16>,
 }
 

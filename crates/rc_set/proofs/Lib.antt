@@ -1,2 +1,7 @@
+pub mod Bits
+pub mod Counts
+pub mod Flags
+pub mod Writes
 pub mod Listing
 pub mod Members
+pub mod WordIds

@@ -1,14 +1,18 @@
 //! Sets of ids below a bound that is fixed when a set is made.
 //!
-//! Time: `insert`, `remove`, `contains` and `bound` take one step; all other calls grow with the bound.
+//! A set has a bit for each id, in words of 64.
+//!
+//! Time: `insert`, `remove`, `contains` and `bound` take one step; all other calls grow with the bound,
+//! a word at a time, and `ids` with the ids too.
 #![tactic(auto)]
 
-ghost use Rattle.std.specs.Prelude.{◌≡◌, ◌≢◌, ℕ, ◌<◌, ◌≤◌, ◌⊎◌, ◌↔◌, length, count_by, IsTrue, IfOk};
+ghost use Rattle.std.specs.Prelude.{◌≡◌, ◌≢◌, ℕ, ◌+◌, ◌*◌, ◌<◌, ◌≤◌, ◌⊎◌, ◌↔◌, length, count_by, IsTrue, IfOk, OnOk};
 ghost use Rattle.rc_set.specs.Set.{Has, Holds, Lists};
+ghost use Rattle.rc_set.specs.Words.{has_bit, HasBit, flags_of};
+ghost use Rattle.rc_set.specs.Listed.{ListsBelow};
 
 use std::alloc::{AllocError, Global};
 use std::marker::Model;
-use std::mem;
 
 /// Want of memory, the only refusal of the calls that answer it. Nothing has changed.
 pub type NoMem = AllocError;
@@ -16,17 +20,19 @@ pub type NoMem = AllocError;
 /// A set of ids below a bound that is fixed when the set is made.
 #[derive(Debug, Drop)]
 pub struct Set {
-    flags: Vec<bool>,
+    words: Vec<u64>,
+    bound: u16,
 }
 
 impl Model for Set {
-    ghost use Rattle.std.specs.Prelude.{List, Bool, length, ◌≤◌, vec_len};
+    ghost use Rattle.std.specs.Prelude.{List, Bool};
+    ghost use Rattle.rc_set.specs.Words.{flags_of, AreWords};
 
     ghost Value = { List Bool };
 
-    ghost view = { λ s. s.flags.items };
+    ghost view = { λ s. flags_of s.bound s.words.items };
 
-    ghost invariant = { λ s. vec_len s.flags ≤ 4096 };
+    ghost invariant = { λ s. AreWords s.bound s.words.items };
 }
 
 impl Set {
@@ -36,8 +42,8 @@ impl Set {
         ensures bound { IfOk result (λ set. length set ≡ bound) }
         ensures members { IfOk result (λ set. (s : ℕ) → Has set s → ⊥) }
     {
-        let flags = vec![in alloc; false; bound as usize]?;
-        Ok(Set { flags })
+        let words = vec![in alloc; 0; (bound as usize).div_ceil(64)]?;
+        Ok(Set { words, bound })
     }
 
     /// Puts an id in. True: it is new.
@@ -47,7 +53,9 @@ impl Set {
         ensures members { Holds self.new (λ s. Has self.old s ⊎ (s ≡ id)) }
         ensures bound { length self.new ≡ length self.old }
     {
-        !mem::replace(&mut self.flags[id as usize], true)
+        let fresh = !bit(&self.words, id);
+        set_bit(&mut self.words, id);
+        fresh
     }
 
     /// Takes an id out. True: it was there.
@@ -57,7 +65,9 @@ impl Set {
         ensures members { Holds self.new (λ s. Has self.old s × (s ≢ id)) }
         ensures bound { length self.new ≡ length self.old }
     {
-        mem::replace(&mut self.flags[id as usize], false)
+        let found = bit(&self.words, id);
+        clear_bit(&mut self.words, id);
+        found
     }
 
     /// Whether the set has an id.
@@ -65,7 +75,7 @@ impl Set {
         requires { id < length self.now }
         ensures { IsTrue result ↔ Has self.now id }
     {
-        self.flags[id as usize]
+        bit(&self.words, id)
     }
 
     /// Adds all ids of a set of the same bound.
@@ -74,7 +84,7 @@ impl Set {
         ensures members { Holds self.new (λ s. Has self.old s ⊎ Has other.now s) }
         ensures bound { length self.new ≡ length self.old }
     {
-        join_flags(&mut self.flags, &other.flags);
+        join_words(&mut self.words, &other.words);
     }
 
     /// Takes out all ids of a set of the same bound.
@@ -83,7 +93,7 @@ impl Set {
         ensures members { Holds self.new (λ s. Has self.old s × (Has other.now s → ⊥)) }
         ensures bound { length self.new ≡ length self.old }
     {
-        clear_flags(&mut self.flags, &other.flags);
+        clear_words(&mut self.words, &other.words);
     }
 
     /// Whether two sets of one bound have the same ids.
@@ -91,36 +101,39 @@ impl Set {
         requires { length other.now ≡ length self.now }
         ensures { IsTrue result ↔ (self.now ≡ other.now) }
     {
-        are_same(&self.flags, &other.flags)
+        are_same(&self.words, &other.words)
     }
 
     /// Another set with the same ids and bound.
     pub fn copy(&self, alloc: Global) -> Result<Set, NoMem>
         ensures { IfOk result (λ set. set ≡ self.now) }
     {
-        let flags = self.flags.as_slice().to_vec(alloc)?;
-        Ok(Set { flags })
+        let words = self.words.as_slice().to_vec(alloc)?;
+        Ok(Set {
+            words,
+            bound: self.bound,
+        })
     }
 
     /// The ids, each once, ascending.
     pub fn ids(&self, alloc: Global) -> Result<Vec<u16>, NoMem>
         ensures { IfOk result (λ ids. Lists (Has self.now) ids.items) }
     {
-        ids_of(alloc, &self.flags)
+        ids_of(alloc, &self.words)
     }
 
     /// How many ids the set has.
     pub fn len(&self) -> u16
         ensures { result ≡ count_by (λ flag. flag) self.now }
     {
-        count_of(&self.flags)
+        count_of(&self.words)
     }
 
     /// Whether the set has no id.
     pub fn is_empty(&self) -> bool
         ensures { IsTrue result ↔ ((s : ℕ) → Has self.now s → ⊥) }
     {
-        !self.flags.contains(&true)
+        are_zero(&self.words)
     }
 
     /// The bound: ids of the set are below it. It is at most 4,096.
@@ -128,50 +141,115 @@ impl Set {
         ensures bound { result ≡ length self.now }
         ensures small { length self.now ≤ 4096 }
     {
-        self.flags.len() as u16
+        self.bound
     }
 }
 
-fn join_flags(flags: &mut [bool], others: &[bool])
-    requires { length others.now ≡ length flags.old }
-    ensures members { Holds flags.new (λ s. Has flags.old s ⊎ Has others.now s) }
+/// Whether the bit of an id is set.
+fn bit(words: &[u64], id: u16) -> bool
+    requires { id < 64 * length words.now }
+    ensures { result ≡ has_bit words.now id }
 {
-    for i in 0..flags.len() {
-        flags[i] |= others[i];
-    }
+    (words[(id / 64) as usize] >> (id % 64)) & 1 == 1
 }
 
-fn clear_flags(flags: &mut [bool], others: &[bool])
-    requires { length others.now ≡ length flags.old }
-    ensures members { Holds flags.new (λ s. Has flags.old s × (Has others.now s → ⊥)) }
+/// Sets the bit of an id.
+fn set_bit(words: &mut [u64], id: u16)
+    requires { id < 64 * length words.old }
+    ensures { (s : ℕ) → HasBit words.new s ↔ (HasBit words.old s ⊎ (s ≡ id)) }
 {
-    for i in 0..flags.len() {
-        flags[i] &= !others[i];
+    words[(id / 64) as usize] |= 1 << (id % 64);
+}
+
+/// Clears the bit of an id.
+fn clear_bit(words: &mut [u64], id: u16)
+    requires { id < 64 * length words.old }
+    ensures { (s : ℕ) → HasBit words.new s ↔ (HasBit words.old s × (s ≢ id)) }
+{
+    words[(id / 64) as usize] &= !(1 << (id % 64));
+}
+
+/// Sets the bits of other words, word by word.
+fn join_words(words: &mut [u64], others: &[u64])
+    requires { length others.now ≡ length words.old }
+    ensures { (s : ℕ) → HasBit words.new s ↔ (HasBit words.old s ⊎ HasBit others.now s) }
+{
+    for i in 0..words.len() {
+        words[i] |= others[i];
     }
 }
 
-fn ids_of(alloc: Global, flags: &[bool]) -> Result<Vec<u16>, NoMem>
-    requires { length flags.now ≤ 4096 }
-    ensures { IfOk result (λ ids. Lists (Has flags.now) ids.items) }
+/// Clears the bits of other words, word by word.
+fn clear_words(words: &mut [u64], others: &[u64])
+    requires { length others.now ≡ length words.old }
+    ensures { (s : ℕ) → HasBit words.new s ↔ (HasBit words.old s × (HasBit others.now s → ⊥)) }
+{
+    for i in 0..words.len() {
+        words[i] &= !others[i];
+    }
+}
+
+/// The ids whose bits are set.
+fn ids_of(alloc: Global, words: &[u64]) -> Result<Vec<u16>, NoMem>
+    requires { length words.now ≤ 64 }
+    ensures { IfOk result (λ ids. Lists (HasBit words.now) ids.items) }
 {
     let mut ids = Vec::new(alloc);
-    for id in 0..flags.len() {
-        if flags[id] {
-            ids.push(id as u16)?;
-        }
+    for at in 0..words.len() {
+        push_ids(&mut ids, words, at)?;
     }
     Ok(ids)
 }
 
-fn count_of(flags: &[bool]) -> u16
-    requires { length flags.now ≤ 4096 }
-    ensures { result ≡ count_by (λ flag. flag) flags.now }
+/// Lists the ids of a word, behind those of the words before it.
+fn push_ids(ids: &mut Vec<u16>, words: &[u64], at: usize) -> Result<(), NoMem>
+    requires few { length words.now ≤ 64 }
+    requires place { at < length words.now }
+    requires listed { ListsBelow (HasBit words.now) (64 * at) ids.old.items }
+    ensures { OnOk result (ListsBelow (HasBit words.now) (64 * (at + 1)) ids.new.items) }
 {
-    flags.iter().filter(|flag| **flag).count() as u16
+    let mut left = words[at];
+    while left != 0 {
+        let place = left.trailing_zeros();
+        ids.push((64 * at) as u16 + place as u16)?;
+        left &= !(1 << place);
+    }
+    Ok(())
 }
 
-fn are_same(flags: &[bool], others: &[bool]) -> bool
-    ensures { IsTrue result ↔ (flags.now ≡ others.now) }
+/// How many bits are set.
+fn count_of(words: &[u64]) -> u16
+    requires { length words.now ≤ 64 }
+    ensures { result ≡ count_by (λ flag. flag) (flags_of (64 * length words.now) words.now) }
 {
-    flags == others
+    let mut count = 0;
+    for word in words {
+        count += word.count_ones() as u16;
+    }
+    count
+}
+
+/// Whether no bit is set.
+fn are_zero(words: &[u64]) -> bool
+    ensures { IsTrue result ↔ ((s : ℕ) → HasBit words.now s → ⊥) }
+{
+    for i in 0..words.len() {
+        if words[i] != 0 {
+            return false;
+        }
+    }
+    true
+}
+
+/// Whether the same bits are set.
+fn are_same(words: &[u64], others: &[u64]) -> bool
+    requires { length others.now ≡ length words.now }
+    ensures { IsTrue result ↔ ((s : ℕ) → has_bit words.now s ≡ has_bit others.now s) }
+{
+    for i in 0..words.len() {
+        if words[i] != others[i] {
+            return false;
+        }
+    }
+    true
 }

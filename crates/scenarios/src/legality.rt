@@ -160,7 +160,7 @@ static CHANGES: [Change; 3] = [
         7,
     ),
     (
-        "services that go down before another comes up",
+        "services that go down while another comes up",
         Plain {
             services: 3,
             needs: &[(1, 0)],

@@ -86,14 +86,9 @@ fn can_sink(p: &Plain, events: &[Event], service: u16) -> bool {
         && p.needs.iter().all(|(s, t)| *t != service || standing(p, events, *s) == Standing::Down)
 }
 
-fn is_lowered(p: &Plain, events: &[Event]) -> bool {
-    (0..p.services).all(|s| standing(p, events, s) != Standing::Sinking && !can_sink(p, events, s))
-}
-
 fn can_rise(p: &Plain, events: &[Event], service: u16) -> bool {
     p.target.contains(&service)
         && !p.up.contains(&service)
         && !was_taken(events, service)
         && p.needs.iter().all(|(s, t)| *s != service || standing(p, events, *t) == Standing::Up)
-        && is_lowered(p, events)
 }

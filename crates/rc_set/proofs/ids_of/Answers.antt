@@ -1,10 +1,17 @@
-use Rattle.std.proofs.Common.{◌≡◌, true, false, slice_index_or}
-use Rattle.rc_set.proofs.Listing.{one_listed, one_passed}
+use Rattle.std.proofs.Common.{◌*◌, arith}
+use Rattle.rc_set.specs.Words.{HasBit}
+use Rattle.rc_set.proofs.Bits.{bit_low}
+use Rattle.rc_set.proofs.Listing.{none_listed, all_listed}
 use Rattle.rc_set.proofs.ids_of.Goals as goal
-use Rattle.rc_set.proofs.ids_of.Goals.{then-flags-id+in_ok-push, else-flags-id}
 
-pub loop-id-preserved : goal.loop-id-preserved
-loop-id-preserved c = elim c.if-flags-id.branch [
-  | then-flags-id+in_ok-push w ↦ rw (w.ids-is, w.in_ok-push.ensures.items) (one_listed _ _ _ c.loop-id.invariant w.if-flags-id.true)
-  | else-flags-id w ↦ rw w.ids-is (one_passed _ _ _ c.loop-id.invariant (λ has. let e : slice_index_or c.args.flags.now c.loop-id.id false ≡ true = has in cc))
-]
+pub loop-at-init : goal.loop-at-init
+loop-at-init c = rw c.new-ids.ensures.items (none_listed (HasBit c.args.words.now))
+
+pub loop-at-preserved : goal.loop-at-preserved
+loop-at-preserved c = c.in_ok-push_ids.ensures
+
+pub returns : goal.returns
+returns c =
+    let words = c.args.words.now in
+    all_listed (HasBit words) (64 * c.loop-at.at) c.loop-at.ids.items c.loop-at.invariant
+    (λ s has. omega (arith, bit_low words s has))

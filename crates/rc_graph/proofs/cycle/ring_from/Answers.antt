@@ -1,5 +1,5 @@
 use Rattle.std.proofs.Common.{◌≡◌, ◌∙◌, ℕ, ◌<◌, List, Contains, length, refl, inl, inr, sym, subst, arith}
-use Rattle.std.specs.Global.{Vec}
+use Rattle.smallvec.specs.SmallVec.{SmallVec}
 use Rattle.std.proofs.lemmas.Bool.{false≢true}
 use Rattle.std.proofs.lemmas.Result.{IfOk-weaker}
 use Rattle.rc_set.proofs.Members.{has_or_lacks}
@@ -10,12 +10,14 @@ use Rattle.rc_graph.proofs.Orders.{misses_within}
 use Rattle.rc_graph.proofs.Rings.{walk_begins, walk_goes_on, walk_closes}
 use Rattle.rc_graph.proofs.cycle.ring_from.Goals as goal
 
-in_table : (vectors : List (Vec ℕ)) (s : ℕ) → s < length (rows vectors) → s < length vectors
+in_table : (vectors : List (SmallVec ℕ)) (s : ℕ) → s < length (rows vectors) → s < length vectors
 in_table vectors s h = let n : length (rows vectors) ≡ length vectors = length-rows vectors in omega arith
 
 pub left_need-at-requires-clause-known : goal.left_need-at-requires-clause-known
 left_need-at-requires-clause-known c =
-    row_known _ _ _ _ (row_is c.args.needs.now c.loop-path.at c.index-needs-at.result c.as_slice.result.now (in_table _ _ c.loop-path.invariant.known) c.index-needs-at.is c.as_slice.ensures.value)
+    row_known _ _ _ _
+    (row_is c.args.needs.now c.loop-path.at c.index-needs-at.result c.as_slice.result.now
+    (in_table _ _ c.loop-path.invariant.known) c.index-needs-at.is c.as_slice.ensures)
     c.requires.lists.known c.requires.bound
 
 pub loop-path-init : goal.loop-path-init
@@ -25,7 +27,8 @@ loop-path-init c =
 
 pub left_need-at-requires-clause-some : goal.left_need-at-requires-clause-some
 left_need-at-requires-clause-some c =
-    let e = row_is c.args.needs.now c.loop-path.at c.index-needs-at.result c.as_slice.result.now (in_table _ _ c.loop-path.invariant.known) c.index-needs-at.is c.as_slice.ensures.value in
+    let e = row_is c.args.needs.now c.loop-path.at c.index-needs-at.result c.as_slice.result.now
+    (in_table _ _ c.loop-path.invariant.known) c.index-needs-at.is c.as_slice.ensures in
     let some = c.requires.stuck c.loop-path.at c.loop-path.invariant.left in
     (some.0, (row_needs c.args.needs.now c.loop-path.at c.as_slice.result.now e some.0).0 some.1, some.2)
 
@@ -41,7 +44,8 @@ loop-path-smaller c =
 
 pub loop-path-preserved : goal.loop-path-preserved
 loop-path-preserved c =
-    let e = row_is c.args.needs.now c.loop-path.at c.index-needs-at.result c.as_slice.result.now (in_table _ _ c.loop-path.invariant.known) c.index-needs-at.is c.as_slice.ensures.value in
+    let e = row_is c.args.needs.now c.loop-path.at c.index-needs-at.result c.as_slice.result.now
+    (in_table _ _ c.loop-path.invariant.known) c.index-needs-at.is c.as_slice.ensures in
     let needed = (row_needs c.args.needs.now c.loop-path.at c.as_slice.result.now e c.left_need-at.result).1 c.left_need-at.ensures.listed in
     rw c.in_ok-push.ensures.items (walk_goes_on _ _ _ _ _ _ _ c.loop-path.invariant (c.loop-path-test.ensures.fresh.0 refl) c.insert.ensures.members c.insert.ensures.bound
     needed (c.requires.lists.known _ _ needed) c.left_need-at.ensures.left)

@@ -24,7 +24,12 @@ row : (c : After-as_slice) → slice_index_or (rows c.args.needed_by.now) c.inde
 row c =
     let low : slice_index c.loop-passed.placing.order.items c.loop-passed.passed < length (rows c.args.needs.now) = next_known _ _ _ _ c.loop-passed.invariant (ahead c) in
     row_is c.args.needed_by.now c.index-service.result.now c.index-needed_by-service.result c.as_slice.result.now
-    (omega (arith, next_read _ _ _ (ahead c) c.index-service.ensures, c.requires.reverse.few, length-rows c.args.needed_by.now)) c.index-needed_by-service.is c.as_slice.ensures.value
+    (omega (
+      arith,
+      next_read _ _ _ (ahead c) c.index-service.ensures,
+      c.requires.reverse.few,
+      length-rows c.args.needed_by.now,
+    )) c.index-needed_by-service.is c.as_slice.ensures
 
 listed : (c : After-as_slice) → (s : ℕ) → Contains c.as_slice.result.now s ↔ Needs (rows c.args.needs.now) s (slice_index c.loop-passed.placing.order.items c.loop-passed.passed)
 listed c = rw (next_read _ _ _ (ahead c) c.index-service.ensures) (needing (rows c.args.needs.now) (rows c.args.needed_by.now) c.as_slice.result.now c.index-service.result.now c.requires.reverse (row c))

@@ -8,12 +8,16 @@ use Rattle.rc_graph.proofs.reverse.reversed.Goals as goal
 
 pub add_needing-requires-clause-known : goal.add_needing-requires-clause-known
 add_needing-requires-clause-known c =
-    row_known _ _ _ _ (row_is c.args.needs.now c.loop-s.s c.index-needs-s.result c.as_slice.result.now c.loop-s-test.true c.index-needs-s.is c.as_slice.ensures.value) c.requires.known
+    row_known _ _ _ _
+    (row_is c.args.needs.now c.loop-s.s c.index-needs-s.result c.as_slice.result.now
+    c.loop-s-test.true c.index-needs-s.is c.as_slice.ensures) c.requires.known
     (ap length c.deref_mut.ensures.value ∙ (sym (length-rows c.loop-s.needed_by.items) ∙ (c.loop-s.invariant.few ∙ length-rows c.args.needs.now)))
 
 pub add_needing-requires-clause-list : goal.add_needing-requires-clause-list
 add_needing-requires-clause-list c =
-    subst IsAscending (row_is c.args.needs.now c.loop-s.s c.index-needs-s.result c.as_slice.result.now c.loop-s-test.true c.index-needs-s.is c.as_slice.ensures.value) (c.requires.ascending c.loop-s.s)
+    subst IsAscending
+    (row_is c.args.needs.now c.loop-s.s c.index-needs-s.result c.as_slice.result.now
+    c.loop-s-test.true c.index-needs-s.is c.as_slice.ensures) (c.requires.ascending c.loop-s.s)
 
 pub add_needing-requires-clause-lower : goal.add_needing-requires-clause-lower
 add_needing-requires-clause-lower c = λ t s need. ((c.loop-s.invariant.same s t).0 (rw c.deref_mut.ensures.value at need)).0
@@ -22,7 +26,9 @@ pub loop-s-preserved : goal.loop-s-preserved
 loop-s-preserved c =
     rw (take_at _ _ _ (c.add_needing.auto.needed_by ∙ c.deref_mut.ensures.len)) (one_reversed _ _ _ _ c.loop-s.invariant
     (added_lent c.loop-s.needed_by.items c.deref_mut.result.now c.add_needing.new.needed_by _ c.as_slice.result.now _ c.deref_mut.ensures.value c.add_needing.auto.needed_by
-    (row_is c.args.needs.now c.loop-s.s c.index-needs-s.result c.as_slice.result.now c.loop-s-test.true c.index-needs-s.is c.as_slice.ensures.value) c.add_needing.ensures.lists c.in_ok-add_needing.ensures.pairs))
+    (row_is c.args.needs.now c.loop-s.s c.index-needs-s.result c.as_slice.result.now
+    c.loop-s-test.true c.index-needs-s.is c.as_slice.ensures) c.add_needing.ensures.lists
+    c.in_ok-add_needing.ensures.pairs))
 
 pub returns : goal.returns
 returns c = all_reversed _ _ _ (let n : length (rows c.args.needs.now) ≡ length c.args.needs.now = length-rows c.args.needs.now in omega (arith, c.loop-s-test.false)) c.loop-s.invariant

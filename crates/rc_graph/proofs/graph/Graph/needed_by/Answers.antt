@@ -10,7 +10,13 @@ use Rattle.rc_graph.proofs.graph.Graph.needed_by.Goals as goal
 row : (c : goal.After-as_slice) → slice_index_or (rows (arc_value c.self.inside.lists).needed_by.items) c.args.service [] ≡ c.as_slice.result.now
 row c =
     let needed_by = (arc_value c.self.inside.lists).needed_by.items in
-    row_is needed_by c.args.service c.index.result.now _ (omega (arith, length-rows needed_by, ap length c.self.view_is, c.self.invariant.reverse.few)) (rw (← c.deref.ensures) c.index.ensures) c.as_slice.ensures.value
+    row_is needed_by c.args.service c.index.result.now _
+    (omega (
+      arith,
+      length-rows needed_by,
+      ap length c.self.view_is,
+      c.self.invariant.reverse.few,
+    )) (rw (← c.deref.ensures) c.index.ensures) c.as_slice.ensures
 
 pub returns-clause-ascending : goal.returns-clause-ascending
 returns-clause-ascending c = subst IsAscending (row c) (c.self.invariant.reverse.ascending c.args.service)

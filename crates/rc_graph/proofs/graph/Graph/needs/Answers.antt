@@ -8,5 +8,6 @@ pub returns-clause-ascending : goal.returns-clause-ascending
 returns-clause-ascending c =
     let needs = (arc_value c.self.inside.lists).needs.items in
     subst IsAscending (row_is needs c.args.service c.index.result.now c.as_slice.result.now
-    (omega (arith, length-rows needs, ap length c.self.view_is)) (rw (← c.deref.ensures) c.index.ensures) c.as_slice.ensures.value)
+    (omega (arith, length-rows needs, ap length c.self.view_is))
+    (rw (← c.deref.ensures) c.index.ensures) c.as_slice.ensures)
     (c.self.invariant.lists.ascending c.args.service)

@@ -1,0 +1,312 @@
+use Rattle.std.proofs.Common.{◌≡◌, ◌≢◌, ◌∙◌, ◌↔◌, ℕ, ◌+◌, ◌-◌, ◌<◌, ◌≤◌, List, [], ◌∷◌, ◌++◌, Bool, true, false, Contains, eqb, inl, inr, length, take, slice_index, slice_index_or, slice_set, vec_len, vec_capacity, zero, suc, refl, sym, subst, arith}
+use Rattle.std.specs.Global.{Vec}
+use Rattle.std.proofs.lemmas.Bool.{cases_lt, cases_eq, ne_eqb}
+use Rattle.std.proofs.lemmas.List.{length_push, get_or_past, get_or_default, get_or-take, length-take-le, get_or_append_left, get_or_push}
+use Rattle.std.proofs.lemmas.List.Elements.{Contains-append_left, Contains-append_cases, Contains-push, Contains-push_cases, Contains-get_or}
+use Rattle.std.proofs.lemmas.List.Quantifiers.{all_pairs_push}
+use Rattle.std.proofs.lemmas.Map.Keys.{IsDistinct-from_apart}
+use Rattle.std.proofs.lemmas.Map.Steps.{length-le_from_distinct_below}
+use Rattle.rc_set.specs.Set.{Has, IsAscending}
+use Rattle.rc_graph.specs.Order.{AreDistinct}
+use Rattle.rc_graph.specs.Placing.{Meets}
+use Rattle.rc_graph.proofs.Orders.{none_met, last_met, more_met, distinct_ascending, not_before}
+use Rattle.rc_graph.proofs.PairLemmas.{no_member}
+use Rattle.rc_graph.proofs.Unmet.{contains_any}
+use Rattle.rc_core.specs.declared.ready.Ready.{Ready}
+use Rattle.rc_set.proofs.Members.{has_within}
+use Rattle.rc_core.specs.Ready.{IsCount, HasQueue, Arrives, QueuesFrom}
+use Rattle.rc_core.proofs.Counted.{distinct_both}
+
+-- none of a list
+pub none_arrive : (set : List Bool) (old : Ready) → Arrives [] set old old
+none_arrive set old = record {
+  those = [];
+  same = λ s. (λ h. absurd (no_member s h), λ h. absurd (no_member s h.0));
+  meets = none_met old.queue.items old.waits.items;
+  capacity = refl;
+}
+
+-- the queue as far as it has come has room for one more that waited for one
+pub room_for_one : (those waits mid_waits : List ℕ) (queue mid : Vec ℕ) (x : ℕ)
+    → HasQueue waits queue → Meets those queue.items waits mid.items mid_waits
+    → (Contains those x → ⊥) → x < length waits → slice_index mid_waits x ≡ 1
+    → length mid.items + 1 ≤ vec_capacity queue
+room_for_one those waits mid_waits queue mid x has meets out low one =
+    let was : slice_index waits x ≡ 1 = sym (meets.same x out) ∙ one in
+    let apart : (s : ℕ) → Contains queue.items s → Contains meets.more s → ⊥ =
+    λ s first second. omega (arith, (has.none s first).1, ((meets.placed s).0 second).1) in
+    let once : AreDistinct mid.items =
+    subst AreDistinct (sym meets.behind)
+    (distinct_both queue.items meets.more has.once meets.once apart) in
+    let lacks : Contains mid.items x → ⊥ =
+    λ there.
+    elim (Contains-append_cases queue.items meets.more x
+    (subst (λ (xs : List ℕ). Contains xs x) meets.behind there)) [
+      | inl earlier ↦ omega (arith, was, (has.none x earlier).1)
+      | inr now ↦ out ((meets.placed x).0 now).0
+    ] in
+    let all : AreDistinct (mid.items ++ x ∷ []) =
+    all_pairs_push (λ a b. a ≢ b) mid.items x once
+    (λ k d h same. lacks (subst (Contains mid.items) same (Contains-get_or mid.items k d h))) in
+    let below : (q : ℕ) → Contains (mid.items ++ x ∷ []) q → q < length waits =
+    λ q there. elim (Contains-push_cases mid.items x q there) [
+      | inl earlier ↦ elim (Contains-append_cases queue.items meets.more q
+          (subst (λ (xs : List ℕ). Contains xs q) meets.behind earlier)) [
+            | inl first ↦ (has.none q first).0
+            | inr second ↦ listed_low waits q ((meets.placed q).0 second).1
+          ]
+      | inr now ↦ subst (λ (y : ℕ). y < length waits) now low
+    ] in
+    let short =
+    length-le_from_distinct_below (mid.items ++ x ∷ []) (length waits)
+    (IsDistinct-from_apart eqb (mid.items ++ x ∷ [])
+    (λ i j d before within. ne_eqb _ _ (all i j d before within)))
+    (λ q any. below q (contains_any (mid.items ++ x ∷ []) q any)) in
+    omega (arith, short, has.room, length_push mid.items x)
+  where
+    listed_low : (ws : List ℕ) (q : ℕ) → slice_index ws q ≡ 1 → q < length ws
+    listed_low ws q here = elim (cases_lt q (length ws)) [
+      | inl within ↦ within
+      | inr past ↦ absurd (omega (arith, here, get_or_past ws q 0 past))
+    ]
+
+-- one more of the list, which is in the set
+pub one_arrives : (front : List ℕ) (set : List Bool) (old mid new : Ready) (x : ℕ)
+    (before : Arrives front set old mid) → (Contains before.those x → ⊥)
+    → x < length old.waits.items → 0 < slice_index old.waits.items x → Has set x
+    → new.waits.items ≡ slice_set mid.waits.items x (slice_index mid.waits.items x - 1)
+    → (slice_index mid.waits.items x ≡ 1 → new.queue.items ≡ mid.queue.items ++ x ∷ [])
+    → (slice_index mid.waits.items x ≢ 1 → new.queue.items ≡ mid.queue.items)
+    → vec_capacity new.queue ≡ vec_capacity mid.queue → Arrives (front ++ x ∷ []) set old new
+one_arrives front set old mid new x before out low some has waits last more capacity =
+    let here = before.meets.same x out in
+    record {
+      those = before.those ++ x ∷ [];
+      same = λ s. (
+        λ there. elim (Contains-push_cases before.those x s there) [
+          | inl earlier ↦
+              let h = (before.same s).0 earlier in
+              (Contains-append_left front (x ∷ []) s h.0, h.1)
+          | inr now ↦ (
+            subst (Contains (front ++ x ∷ [])) now (Contains-push front x),
+            subst (Has set) now has,
+          )
+        ],
+        λ h. elim (Contains-push_cases front x s h.0) [
+          | inl earlier ↦ Contains-append_left before.those (x ∷ []) s
+              ((before.same s).1 (earlier, h.1))
+          | inr now ↦ subst (Contains (before.those ++ x ∷ [])) now (Contains-push before.those x)
+        ],
+      );
+      meets = subst
+          (λ (ws : List ℕ).
+          Meets (before.those ++ x ∷ []) old.queue.items old.waits.items new.queue.items ws)
+          (sym waits) (elim (cases_eq (slice_index old.waits.items x) 1) [
+            | inl one ↦ last_met before.those old.queue.items old.waits.items mid.queue.items
+                mid.waits.items new.queue.items x before.meets out low one (last (here ∙ one))
+            | inr many ↦ more_met before.those old.queue.items old.waits.items mid.queue.items
+                mid.waits.items new.queue.items x before.meets out low some many
+                (more (λ e. many (sym here ∙ e)))
+          ]);
+      capacity = capacity ∙ before.capacity;
+    }
+
+-- one more of the list, which is not
+pub one_stays : (front : List ℕ) (set : List Bool) (old mid : Ready) (x : ℕ)
+    → Arrives front set old mid → (Has set x → ⊥) → Arrives (front ++ x ∷ []) set old mid
+one_stays front set old mid x before lacks = record {
+  those = before.those;
+  same = λ s. (
+    λ there. let h = (before.same s).0 there in (Contains-append_left front (x ∷ []) s h.0, h.1),
+    λ h. elim (Contains-push_cases front x s h.0) [
+      | inl earlier ↦ (before.same s).1 (earlier, h.1)
+      | inr now ↦ absurd (lacks (subst (Has set) (sym now) h.1))
+    ],
+  );
+  meets = before.meets;
+  capacity = before.capacity;
+}
+
+-- the next of an ascending list was not among those before it
+pub not_yet : (list : List ℕ) (k : ℕ) (set : List Bool) (old mid : Ready)
+    (before : Arrives (take k list) set old mid) → IsAscending list → k < length list
+    → Contains before.those (slice_index list k) → ⊥
+not_yet list k set old mid before up within there =
+    not_before list k (distinct_ascending list up) within
+    ((before.same (slice_index list k)).0 there).0
+
+-- and is above them
+pub above_front : (list : List ℕ) (k s : ℕ) → IsAscending list → k < length list
+    → Contains (take k list) s → s < slice_index list k
+above_front list k s up within (j, low, is) =
+    let n : length (take k list) ≡ k = length-take-le k list (omega arith) in
+    let before : j < k = omega arith in
+    let at : slice_index_or list j s ≡ s = sym (get_or-take k list j s before) ∙ is in
+    let less : slice_index_or list j s < slice_index_or list k s = up j k s before within in
+    let here : slice_index_or list k s ≡ slice_index list k = get_or_default list k s 0 within in
+    omega (arith, less, at, here)
+
+-- nothing is counted in an empty list
+pub none_counted : (In : ℕ → Type 0) → IsCount (λ t. Contains [] t × In t) 0
+none_counted In = record {
+  ids = [];
+  lists = record {
+    ascending = λ i j d first within. absurd (omega arith);
+    same = λ s. (λ h. absurd (no_member s h), λ h. absurd (no_member s h.0));
+  };
+  long = refl;
+}
+
+-- one more, which counts
+pub one_counted : (In : ℕ → Type 0) (front : List ℕ) (n x : ℕ)
+    → IsCount (λ t. Contains front t × In t) n → ((s : ℕ) → Contains front s → s < x) → In x
+    → IsCount (λ t. Contains (front ++ x ∷ []) t × In t) (n + 1)
+one_counted In front n x count above holds = record {
+  ids = count.ids ++ x ∷ [];
+  lists = record {
+    ascending =
+        all_pairs_push (λ a b. a < b) count.ids x count.lists.ascending
+        (λ k d h.
+        above (slice_index_or count.ids k d)
+        ((count.lists.same (slice_index_or count.ids k d)).0 (Contains-get_or count.ids k d h)).0);
+    same = λ s. (
+      λ there. elim (Contains-push_cases count.ids x s there) [
+        | inl earlier ↦
+            let h = (count.lists.same s).0 earlier in
+            (Contains-append_left front (x ∷ []) s h.0, h.1)
+        | inr now ↦ (
+          subst (Contains (front ++ x ∷ [])) now (Contains-push front x),
+          subst In now holds,
+        )
+      ],
+      λ h. elim (Contains-push_cases front x s h.0) [
+        | inl earlier ↦ Contains-append_left count.ids (x ∷ []) s
+            ((count.lists.same s).1 (earlier, h.1))
+        | inr now ↦ subst (Contains (count.ids ++ x ∷ [])) now (Contains-push count.ids x)
+      ],
+    );
+  };
+  long = omega (arith, length_push count.ids x, count.long);
+}
+
+-- one more, which does not
+pub one_passed_by : (In : ℕ → Type 0) (front : List ℕ) (n x : ℕ)
+    → IsCount (λ t. Contains front t × In t) n → (In x → ⊥)
+    → IsCount (λ t. Contains (front ++ x ∷ []) t × In t) n
+one_passed_by In front n x count not_in = record {
+  ids = count.ids;
+  lists = record {
+    ascending = count.lists.ascending;
+    same = λ s. (
+      λ there.
+          let h = (count.lists.same s).0 there in
+          (Contains-append_left front (x ∷ []) s h.0, h.1),
+      λ h. elim (Contains-push_cases front x s h.0) [
+        | inl earlier ↦ (count.lists.same s).1 (earlier, h.1)
+        | inr now ↦ absurd (not_in (subst In (sym now) h.1))
+      ],
+    );
+  };
+  long = count.long;
+}
+
+-- two truth values of which one is true where the other is
+pub same_truth : (a b : Bool) → (a ≡ true) ↔ (b ≡ true) → a ≡ b
+same_truth true b iff = sym (iff.0 refl)
+same_truth false true iff = iff.1 refl
+same_truth false false iff = refl
+
+-- an ascending list has no number below its place
+pub at_least : (list : List ℕ) (k : ℕ) → IsAscending list → k < length list → k ≤ slice_index list k
+at_least list zero up within = omega arith
+at_least list (suc k) up within =
+    let before : k < suc k = omega arith in
+    let less : slice_index_or list k 0 < slice_index_or list (suc k) 0 =
+    up k (suc k) 0 before within in
+    let far : k ≤ slice_index list k = at_least list k up (omega arith) in
+    omega (arith, less, far)
+
+-- a count at each service below a bound, with one more behind
+pub one_more_count : (P : ℕ → ℕ → Type 0) (waits more : List ℕ) (k n : ℕ) → length waits ≡ k
+    → more ≡ waits ++ n ∷ [] → ((s : ℕ) → s < k → P s (slice_index waits s)) → P k n → (s : ℕ)
+    → s < k + 1 → P s (slice_index more s)
+one_more_count P waits more k n long is each here s low = elim (cases_lt s k) [
+  | inl before ↦
+      let at : slice_index more s ≡ slice_index waits s =
+      rw is (get_or_append_left waits (n ∷ []) 0 s (omega arith)) in
+      subst (P s) (sym at) (each s before)
+  | inr after ↦
+      let same : k ≡ s = omega arith in
+      let at : slice_index more k ≡ n = rw is (get_or_push waits n 0 k long) in
+      subst (λ (j : ℕ). P j (slice_index more j)) same (subst (P k) (sym at) here)
+]
+
+-- no service yet
+pub none_queued : (waits : List ℕ) (planned : List Bool) (queue : Vec ℕ) (from : ℕ)
+    → length planned ≡ length waits → from ≡ length waits → queue.items ≡ [] → vec_len queue ≡ 0
+    → length waits ≤ vec_capacity queue → QueuesFrom waits planned from queue
+none_queued waits planned queue from bound end empty len room = record {
+  once = rw empty (λ i j d first within. absurd (omega arith));
+  ones = λ s. (
+    λ there. absurd (no_member s (subst (λ (xs : List ℕ). Contains xs s) empty there)),
+    λ h. absurd (omega (arith, has_within planned s h.0, h.2)),
+  );
+  few = omega (arith, len, end);
+  room = room;
+}
+
+-- one more in front, which goes in
+pub one_queued : (waits : List ℕ) (planned : List Bool) (queue more : Vec ℕ) (from x : ℕ)
+    → QueuesFrom waits planned from queue → x + 1 ≡ from → Has planned x × (slice_index waits x ≡ 0)
+    → more.items ≡ queue.items ++ x ∷ [] → vec_len more ≡ vec_len queue + 1
+    → vec_capacity more ≡ vec_capacity queue → QueuesFrom waits planned x more
+one_queued waits planned queue more from x before next ready is len capacity = record {
+  once = rw is
+      (all_pairs_push (λ a b. a ≢ b) queue.items x before.once
+      (λ k d h same.
+      omega (
+        arith,
+        ((before.ones (slice_index_or queue.items k d)).0 (Contains-get_or queue.items k d h)).2,
+        same,
+      )));
+  ones = λ s. (
+    λ there.
+        elim (Contains-push_cases queue.items x s
+        (subst (λ (xs : List ℕ). Contains xs s) is there)) [
+          | inl earlier ↦ let h = (before.ones s).0 earlier in (h.0, h.1, omega (arith, h.2))
+          | inr now ↦ (
+            subst (Has planned) now ready.0,
+            subst (λ (y : ℕ). slice_index waits y ≡ 0) now ready.1,
+            omega (arith, now),
+          )
+        ],
+    λ h. subst (λ (xs : List ℕ). Contains xs s) (sym is) (elim (cases_eq x s) [
+      | inl same ↦ subst (Contains (queue.items ++ x ∷ [])) same (Contains-push queue.items x)
+      | inr other ↦ Contains-append_left queue.items (x ∷ []) s
+          ((before.ones s).1 (h.0, h.1, omega (arith, h.2)))
+    ]),
+  );
+  few = omega (arith, before.few, len);
+  room = omega (arith, before.room, capacity);
+}
+
+-- one more in front, which stays out
+pub none_more_queued : (waits : List ℕ) (planned : List Bool) (queue : Vec ℕ) (from x : ℕ)
+    → QueuesFrom waits planned from queue → x + 1 ≡ from
+    → (Has planned x × (slice_index waits x ≡ 0) → ⊥) → QueuesFrom waits planned x queue
+none_more_queued waits planned queue from x before next out = record {
+  once = before.once;
+  ones = λ s. (
+    λ there. let h = (before.ones s).0 there in (h.0, h.1, omega (arith, h.2)),
+    λ h. elim (cases_eq x s) [
+      | inl same ↦ absurd
+          (out (
+            subst (Has planned) (sym same) h.0,
+            subst (λ (y : ℕ). slice_index waits y ≡ 0) (sym same) h.1,
+          ))
+      | inr other ↦ (before.ones s).1 (h.0, h.1, omega (arith, h.2))
+    ],
+  );
+  few = omega (arith, before.few);
+  room = before.room;
+}

@@ -1,0 +1,74 @@
+use Rattle.std.proofs.Common.{◌≡◌, ℕ, List, inl, inr, true, false, Contains, length, refl, sym, subst}
+use Rattle.rc_set.specs.Set.{Has}
+use Rattle.rc_core.proofs.MoveLemmas.{needs_within, needers_within}
+use Rattle.rc_core.proofs.ready.Ready.note_arrival.Goals as goal
+
+pub arrive-requires-clause-known : goal.arrive-requires-clause-known
+arrive-requires-clause-known c =
+    needs_within c.args.graph.now c.needs.result.now c.args.service
+    (length c.args.self.now.waits.items) c.needs.ensures.list c.requires.lists.known
+    c.requires.can.bound
+
+pub arrive-requires-clause-missing : goal.arrive-requires-clause-missing
+arrive-requires-clause-missing c t there has =
+    c.requires.can.missing t
+    (inl (
+      c.if-contains.ensures.0 refl,
+      has,
+      subst (λ (list : List ℕ). Contains list t) c.needs.ensures.list there,
+    ))
+
+pub arrive-requires-else-contains-clause-known : goal.arrive-requires-else-contains-clause-known
+arrive-requires-else-contains-clause-known c =
+    needers_within c.args.graph.now c.needed_by.result.now c.args.service
+    (length c.args.self.now.waits.items) c.needed_by.ensures.same c.requires.can.bound
+
+pub arrive-requires-else-contains-clause-missing : goal.arrive-requires-else-contains-clause-missing
+arrive-requires-else-contains-clause-missing c t there has =
+    c.requires.can.missing t
+    (inr (
+      λ lower. (let bad : false ≡ true = c.if-contains.ensures.1 lower in cc),
+      has,
+      (c.needed_by.ensures.same t).0 there,
+    ))
+
+pub returns-then-contains : goal.returns-then-contains
+returns-then-contains c =
+    let lower = c.if-contains.ensures.0 refl in
+    record {
+      those = c.arrive.ensures.those;
+      same = λ t. (
+        λ there.
+            let h = (c.arrive.ensures.same t).0 there in
+            inl (lower, h.1, subst (λ (list : List ℕ). Contains list t) c.needs.ensures.list h.0),
+        λ next. (c.arrive.ensures.same t).1 (elim next [
+          | inl falls ↦ (
+            subst (λ (list : List ℕ). Contains list t) (sym c.needs.ensures.list)
+                falls.2,
+            falls.1,
+          )
+          | inr rises ↦ absurd (rises.0 lower)
+        ]),
+      );
+      meets = c.arrive.ensures.meets;
+      capacity = c.arrive.ensures.capacity;
+    }
+
+pub returns-else-contains : goal.returns-else-contains
+returns-else-contains c =
+    let out : Has c.args.lower.now c.args.service → ⊥ = λ lower. let bad : false ≡ true =
+    c.if-contains.ensures.1 lower in cc in
+    record {
+      those = c.arrive-else-contains.ensures.those;
+      same = λ t. (
+        λ there.
+            let h = (c.arrive-else-contains.ensures.same t).0 there in
+            inr (out, h.1, (c.needed_by.ensures.same t).0 h.0),
+        λ next. (c.arrive-else-contains.ensures.same t).1 (elim next [
+          | inl falls ↦ absurd (out falls.0)
+          | inr rises ↦ ((c.needed_by.ensures.same t).1 rises.2, rises.1)
+        ]),
+      );
+      meets = c.arrive-else-contains.ensures.meets;
+      capacity = c.arrive-else-contains.ensures.capacity;
+    }

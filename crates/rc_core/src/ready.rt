@@ -1,0 +1,231 @@
+//! How many others each service waits for, and the queue of those that may be taken.
+
+ghost use Rattle.std.specs.Prelude.{false, ◌≡◌, ◌≢◌, ℕ, ◌-◌, ◌<◌, ◌≤◌, ◌⊎◌, ◌↔◌, ◌++◌, ◌∷◌, [], Bool, List, IsTrue, IfSome, IfNone, IfOk, All, Contains, length, slice_index, slice_index_or, slice_set, vec_len, vec_capacity};
+ghost use Rattle.rc_set.specs.Set.{Has, IsAscending};
+ghost use Rattle.rc_graph.specs.Needs.{AreNeeds};
+ghost use Rattle.rc_graph.specs.Order.{AreDistinct};
+ghost use Rattle.rc_core.specs.Ready.{IsCount, HasQueue, Arrives, TakesOut, IsFirstReady, IsFirstCount, IsNext, NotesArrival, QueuesFrom, CanArrive, CanNoteReady, NotesReady};
+
+use crate::event::Event;
+use rc_graph::Graph;
+use rc_set::{NoMem, Set};
+use std::alloc::Global;
+
+/// How many others each service waits for, and the services that wait for none.
+#[derive(Debug, Drop)]
+pub(crate) struct Ready {
+    /// How many must still arrive before a service may be taken: of those that it needs, where
+    /// it is to come up; of those that need it, where it is to go down.
+    pub(crate) waits: Vec<u16>,
+    /// The services that are to move, were never taken and wait for none. The last is taken next.
+    pub(crate) queue: Vec<u16>,
+}
+
+impl Ready {
+    /// The counts before the first event, and the queue, with room for all services.
+    pub(crate) fn new(
+        alloc: Global,
+        graph: &Graph,
+        up: &Set,
+        lower: &Set,
+        raise: &Set,
+        planned: &Set,
+    ) -> Result<Ready, NoMem>
+        requires lists { AreNeeds graph.now }
+        requires planned { length planned.now ≡ length graph.now }
+        requires up { length up.now ≡ length graph.now }
+        requires lower { length lower.now ≡ length graph.now }
+        requires raise { length raise.now ≡ length graph.now }
+        ensures { IfOk result (IsFirstReady graph.now up.now lower.now raise.now planned.now) }
+    {
+        let waits = waits_of(alloc, graph, up, lower, raise)?;
+        let queue = queue_of(alloc, &waits, planned)?;
+        Ok(Ready { waits, queue })
+    }
+
+    /// The service that is to be taken next.
+    pub(crate) fn first(&self) -> Option<u16>
+        ensures some { IfSome result (λ s. Contains self.now.queue.items s) }
+        ensures none { IfNone result (self.now.queue.items ≡ []) }
+    {
+        match self.queue.last() {
+            Some(service) => Some(*service),
+            None => None,
+        }
+    }
+
+    /// Whether a service waits for none.
+    pub(crate) fn waits_for_none(&self, service: u16) -> bool
+        requires { service < length self.now.waits.items }
+        ensures { IsTrue result ↔ (slice_index self.now.waits.items service ≡ 0) }
+    {
+        self.waits[service as usize] == 0
+    }
+
+    /// Writes one more event in. Takes no memory.
+    pub(crate) fn note(&mut self, event: Event, graph: &Graph, lower: &Set, raise: &Set)
+        requires lists { AreNeeds graph.now }
+        requires lower { length lower.now ≡ length graph.now }
+        requires raise { length raise.now ≡ length graph.now }
+        requires can { CanNoteReady graph.now lower.now raise.now self.old event }
+        ensures { NotesReady graph.now lower.now raise.now self.old event self.new }
+    {
+        match event {
+            Event::Take(_, service) => self.take_out(service),
+            Event::Done(_, service, outcome) => {
+                if outcome.is_ok() {
+                    self.note_arrival(graph, lower, raise, service);
+                }
+            },
+            Event::Stop(_, _) => {},
+        }
+    }
+
+    /// Takes a service out of the queue.
+    fn take_out(&mut self, service: u16)
+        requires queued { Contains self.old.queue.items service }
+        requires once { AreDistinct self.old.queue.items }
+        ensures { TakesOut self.old service self.new }
+    {
+        let mut at = self.queue.len() - 1;
+        while self.queue[at] != service {
+            at -= 1;
+        }
+        self.queue.remove(at);
+    }
+
+    /// A service has arrived for which those of a list wait that are in a set.
+    fn arrive(&mut self, list: &[u16], set: &Set)
+        requires list { IsAscending list.now }
+        requires known { All (λ t. t < length self.old.waits.items) list.now }
+        requires bound { length set.now ≡ length self.old.waits.items }
+        requires missing { (t : ℕ) → Contains list.now t → Has set.now t →
+            0 < slice_index self.old.waits.items t }
+        requires queue { HasQueue self.old.waits.items self.old.queue }
+        ensures { Arrives list.now set.now self.old self.new }
+    {
+        for service in list {
+            if set.contains(*service) {
+                self.wait_for_less(*service);
+            }
+        }
+    }
+
+    /// A service has gone where it was to go.
+    fn note_arrival(&mut self, graph: &Graph, lower: &Set, raise: &Set, service: u16)
+        requires lists { AreNeeds graph.now }
+        requires lower { length lower.now ≡ length graph.now }
+        requires raise { length raise.now ≡ length graph.now }
+        requires can { CanArrive graph.now lower.now raise.now service self.old }
+        ensures { NotesArrival graph.now lower.now raise.now service self.old self.new }
+    {
+        if lower.contains(service) {
+            self.arrive(graph.needs(service), lower);
+        } else {
+            self.arrive(graph.needed_by(service), raise);
+        }
+    }
+
+    /// A service waits for one less. It goes into the queue if that was the last.
+    fn wait_for_less(&mut self, service: u16)
+        requires known { service < length self.old.waits.items }
+        requires missing { 0 < slice_index self.old.waits.items service }
+        requires room { slice_index self.old.waits.items service ≡ 1 →
+            vec_len self.old.queue < vec_capacity self.old.queue }
+        ensures missing { self.new.waits.items ≡ slice_set self.old.waits.items service
+            (slice_index self.old.waits.items service - 1) }
+        ensures last { slice_index self.old.waits.items service ≡ 1 →
+            self.new.queue.items ≡ self.old.queue.items ++ service ∷ [] }
+        ensures more { slice_index self.old.waits.items service ≢ 1 →
+            self.new.queue.items ≡ self.old.queue.items }
+        ensures capacity { vec_capacity self.new.queue ≡ vec_capacity self.old.queue }
+    {
+        let left = self.waits[service as usize] - 1;
+        self.waits[service as usize] = left;
+        if left == 0 {
+            self.queue.push_reserved(service);
+        }
+    }
+}
+
+/// Of each service, how many must arrive before it may be taken.
+fn waits_of(
+    alloc: Global,
+    graph: &Graph,
+    up: &Set,
+    lower: &Set,
+    raise: &Set,
+) -> Result<Vec<u16>, NoMem>
+    requires lists { AreNeeds graph.now }
+    requires up { length up.now ≡ length graph.now }
+    requires lower { length lower.now ≡ length graph.now }
+    requires raise { length raise.now ≡ length graph.now }
+    ensures bound { IfOk result (λ waits. length waits.items ≡ length graph.now) }
+    ensures counts { IfOk result (λ waits. (s : ℕ) → s < length graph.now →
+        IsFirstCount graph.now up.now lower.now raise.now s (slice_index waits.items s)) }
+{
+    let mut waits = Vec::with_capacity(alloc, graph.len() as usize)?;
+    for service in 0..graph.len() {
+        waits.push(count_for(graph, up, lower, raise, service))?;
+    }
+    Ok(waits)
+}
+
+/// How many must arrive before a service may be taken.
+fn count_for(graph: &Graph, up: &Set, lower: &Set, raise: &Set, service: u16) -> u16
+    requires lists { AreNeeds graph.now }
+    requires known { service < length graph.now }
+    requires up { length up.now ≡ length graph.now }
+    requires lower { length lower.now ≡ length graph.now }
+    requires raise { length raise.now ≡ length graph.now }
+    ensures { IsFirstCount graph.now up.now lower.now raise.now service result }
+{
+    if raise.contains(service) {
+        count_of(graph.needs(service), up, false)
+    } else if lower.contains(service) {
+        count_of(graph.needed_by(service), up, true)
+    } else {
+        0
+    }
+}
+
+/// How many of a list are in a set, or are not.
+fn count_of(list: &[u16], set: &Set, inside: bool) -> u16
+    requires list { IsAscending list.now }
+    requires known { All (λ t. t < length set.now) list.now }
+    requires few { length set.now ≤ 4096 }
+    ensures { IsCount (λ t. Contains list.now t × (slice_index_or set.now t false ≡ inside))
+        result }
+{
+    let mut count = 0;
+    for service in list {
+        if set.contains(*service) == inside {
+            count += 1;
+        }
+    }
+    count
+}
+
+/// The services that are to move and wait for none, the first of them last.
+fn queue_of(alloc: Global, waits: &[u16], planned: &Set) -> Result<Vec<u16>, NoMem>
+    requires few { length waits.now ≤ 4096 }
+    requires planned { length planned.now ≡ length waits.now }
+    ensures { IfOk result (λ queue. QueuesFrom waits.now planned.now 0 queue) }
+{
+    let mut queue = Vec::with_capacity(alloc, waits.len())?;
+    for service in (0..waits.len()).rev() {
+        if may_go(waits, planned, service as u16) {
+            queue.push_reserved(service as u16);
+        }
+    }
+    Ok(queue)
+}
+
+/// Whether a service is to move and waits for none.
+fn may_go(waits: &[u16], planned: &Set, service: u16) -> bool
+    requires known { service < length waits.now }
+    requires planned { length planned.now ≡ length waits.now }
+    ensures { IsTrue result ↔ (Has planned.now service × (slice_index waits.now service ≡ 0)) }
+{
+    planned.contains(service) && waits[service as usize] == 0
+}
