@@ -105,6 +105,16 @@ ask '-D change root' 'lowered root' ok
 ask 'live' live ok
 session 'essential services go down by -D alone' none
 ask '-u change site' "raised $all" ok
+ask '-d change root' 'lowered db net web' 'kept root' ok
+ask 'undo' 'raised db net web' ok
+ask 'undo' "lowered $all" ok
+ask 'redo' "raised $all" ok
+ask '-D change root' 'lowered db net root web' ok
+ask 'undo' 'raised db net root web' ok
+ask 'redo' 'lowered db net root web' ok
+ask 'live' 'live log' ok
+session 'an undo and a redo lower essential services too' none
+ask '-u change site' "raised $all" ok
 ask '-pu change log' 'lowered db net web' 'kept root' ok
 ask 'live' 'live log root' ok
 session 'what is not wanted goes' none
