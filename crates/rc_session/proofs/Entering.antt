@@ -45,7 +45,7 @@ change_entered d line ask events told new does = elim does [
 ]
 
 pub edit_entered : (d : Database) (line : Line) → EditsAreEntered d line
-edit_entered d line command told new edit makes is = enters line new (with_table line makes.table) (record { raised = []; lowered = []; edit = edit }) makes.moved (record {
+edit_entered d line command told new makes edit is = enters line new (with_table line makes.table) (record { raised = []; lowered = []; edit = edit }) makes.moved (record {
   raised = none_gained line.current.live;
   lowered = none_gained line.current.live;
   edit = subst (λ table. IsEdit line.current.table table edit) (ap (λ s. s.table) (ends_in line new (with_table line makes.table) makes.moved)) is;

@@ -5,7 +5,7 @@ use Rattle.rc_line.proofs.Lines.{length_push, cons_head, cons_tail}
 use Rattle.rc_line.proofs.Closings.{same_line, last_same}
 
 -- all but the last of two equal lists
-push_front : (xs ys : List State) (x y : State) → xs ++ x ∷ [] ≡ ys ++ y ∷ [] → xs ≡ ys
+pub push_front : (xs ys : List State) (x y : State) → xs ++ x ∷ [] ≡ ys ++ y ∷ [] → xs ≡ ys
 push_front [] [] x y same = refl
 push_front [] (b ∷ ys) x y same = let lengths : 1 ≡ suc (length (ys ++ y ∷ [])) = ap length same in absurd (omega (arith, lengths, length_push ys y))
 push_front (a ∷ xs) [] x y same = let lengths : suc (length (xs ++ x ∷ [])) ≡ 1 = ap length same in absurd (omega (arith, lengths, length_push xs x))

@@ -19,6 +19,8 @@ use Rattle.rc_session.proofs.Courses.{task_is_course}
 use Rattle.rc_session.proofs.Arriving.{ends_in_target}
 use Rattle.rc_session.proofs.Splits.{undo_leaves}
 use Rattle.rc_session.proofs.Undos.{undos_restore, redos_restore}
+use Rattle.rc_session.proofs.History.{history_kept}
+use Rattle.rc_session.proofs.FailedWays.{redo_leaves, undos_go_on, redos_go_on}
 use Rattle.rc_session.proofs.Playing.{play_parts}
 
 -- the new state has what is live after the run
@@ -77,9 +79,13 @@ promised d line is_db of = record {
   orderly = runs_orderly d line is_db of;
   changes = change_entered d line;
   edits = edit_entered d line;
+  history = history_kept d line;
   undos = undos_restore d is_db line of;
   redos = redos_restore d is_db line of;
   remains = undo_leaves d line;
+  remains_ahead = redo_leaves d line;
+  undos_go_on = undos_go_on d is_db line of;
+  redos_go_on = redos_go_on d is_db line of;
 }
 
 pub all_along : (d : Database) (line new : Line) (commands : List Command) (answers : List (Result Told Refusal)) → IsDatabase d → IsLineOf d line → Plays d line commands answers new → HoldsAllAlong d line commands answers new

@@ -20,12 +20,14 @@ ghost use Rattle.rc_session.specs.Task.{IsTask, deadline_of};
 ghost use Rattle.rc_session.specs.Doing.{Runs, IsLineOf};
 ghost use Rattle.rc_session.specs.Plays.{Answers, Plays};
 ghost use Rattle.rc_session.specs.Alike.{IsEndOfFailing};
-ghost use Rattle.rc_session.specs.Promise.{RunsAreOrderly, ChangesAreEntered, EditsAreEntered, UndosRestore, RedosRestore, UndosLeaveWhatRemains, HoldsAllAlong};
+ghost use Rattle.rc_session.specs.Existence.{WaysBack, WaysOn, EachIsAnswered};
+ghost use Rattle.rc_session.specs.Promise.{RunsAreOrderly, ChangesAreEntered, EditsAreEntered, UndosRestore, RedosRestore, UndosLeaveWhatRemains, RedosLeaveWhatRemains, HistoryIsKept, UndosGoOn, RedosGoOn, HoldsAllAlong};
 
-/// The headline. For every database, every line of it and every list of commands, with whatever events: each change runs in dependency
-/// order and keeps what is live strictly closed; its entry names exactly what it altered; undos that all go well restore, one after the
-/// other, each state that the line keeps, live set and bundles, and redos the same forwards; and a failed undo leaves exactly the inverse
-/// of what remains.
+/// The headline. For every database, every line of it and every list of commands, with whatever events: each change runs in
+/// dependency order and keeps what is live strictly closed; its entry names exactly what it altered; no history is lost; undos that
+/// all go well restore, one after the other, each state that the line keeps, live set and bundles, and redos the same forwards; a
+/// failed undo leaves exactly the inverse of what remains, a failed redo what remains; and the next one that goes well ends where
+/// the failed one was to end.
 pub fn headline()
     ensures { (d : Database) (line new : Line) (commands : List Command) (answers : List (Result Told Refusal)) →
         IsDatabase d → IsLineOf d line → Plays d line commands answers new → HoldsAllAlong d line commands answers new }
@@ -59,6 +61,33 @@ pub fn redos_restore()
 /// An undo that does not come to the state before leaves, before the cursor, exactly the inverse of what remains to be undone.
 pub fn failed_undo_leaves_what_remains()
     ensures { (d : Database) (line : Line) → UndosLeaveWhatRemains d line }
+{}
+
+/// Whatever is done keeps history: a change or an edit each state up to the cursor, an undo or a redo, failed or not, each state.
+pub fn history_is_kept()
+    ensures { (d : Database) (line : Line) → HistoryIsKept d line }
+{}
+
+/// A redo that does not come to the state after leaves, after the cursor, exactly what remains to be redone.
+pub fn failed_redo_leaves_what_remains()
+    ensures { (d : Database) (line : Line) → RedosLeaveWhatRemains d line }
+{}
+
+/// Where an undo or a redo failed, the next one that goes well ends where it was to end.
+pub fn next_goes_on()
+    ensures undo { (d : Database) (line : Line) → IsDatabase d → IsLineOf d line → UndosGoOn d line }
+    ensures redo { (d : Database) (line : Line) → IsDatabase d → IsLineOf d line → RedosGoOn d line }
+{}
+
+/// Each command that names what it defines cannot be begun for a fault of its own, or can go well. So there is always an answer.
+pub fn each_command_is_answered()
+    ensures { (d : Database) (line : Line) → IsDatabase d → IsLineOf d line → EachIsAnswered d line }
+{}
+
+/// Where there is a state before the current one its undo can go well, and then the line stands on it; and so with a redo.
+pub fn ways_lead_back_and_on()
+    ensures back { (d : Database) (line : Line) → IsDatabase d → IsLineOf d line → WaysBack d line }
+    ensures on { (d : Database) (line : Line) → IsDatabase d → IsLineOf d line → WaysOn d line }
 {}
 
 /// A play is its steps: what is said of one command, from a line of the database, reaches each command of a list.
