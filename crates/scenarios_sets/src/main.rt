@@ -25,6 +25,7 @@ fn main(rt: HostRuntime) -> Result<(), Fail> {
     tell(&rt, "names that are new or not", &names::added(alloc)?)?;
     tell(&rt, "places in byte order", &names::places(alloc)?)?;
     tell(&rt, "sets that join and part", &sets::rows(alloc)?)?;
+    tell(&rt, "sets of all ids below a bound", &sets::whole(alloc)?)?;
     tell(&rt, "a graph", &graphs::first(alloc)?)?;
     tell(
         &rt,
