@@ -20,6 +20,7 @@ pub(crate) fn show_names(rt: &(impl Print + AllocGlobal)) -> Result<(), Fail> {
 pub(crate) fn show_graphs(rt: &(impl Print + AllocGlobal)) -> Result<(), Fail> {
     let alloc = rt.alloc();
     tell(rt, "sets that join and part", &sets::rows(alloc)?)?;
+    tell(rt, "sets of all ids below a bound", &sets::whole(alloc)?)?;
     tell(rt, "a graph", &graphs::first(alloc)?)?;
     tell(
         rt,

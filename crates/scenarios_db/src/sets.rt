@@ -1,6 +1,8 @@
 //! Sets as their ids.
 
-use rc_set::NoMem;
+ghost use Rattle.std.specs.Prelude.{◌≡◌, length};
+
+use rc_set::{NoMem, Set};
 use samples::{has_ids, set_of};
 use std::alloc::Global;
 
@@ -32,6 +34,48 @@ pub fn rows(alloc: Global) -> Result<Vec<bool>, NoMem> {
     for row in &ROWS {
         let is_joined = is_joined(alloc, row)?;
         right.push(is_joined & is_parted(alloc, row)?)?;
+    }
+    Ok(right)
+}
+
+/// Bounds below, at and above a word of 64 ids, and the greatest.
+const BOUNDS: [u16; 6] = [0, 1, 63, 64, 65, 4096];
+
+/// Whether a set takes each id below a bound as a new one, and then has them all.
+fn is_whole(alloc: Global, bound: u16) -> Result<bool, NoMem> {
+    let many = bound.min(4096);
+    let mut set = Set::empty(alloc, many)?;
+    let mut are_new = true;
+    for id in 0..many {
+        are_new &= set.insert(id);
+    }
+    let ids = set.ids(alloc)?;
+    let are_listed = ids.iter().enumerate().all(|(at, id)| at == *id as usize);
+    let all = set.copy(alloc)?;
+    Ok(
+        are_new
+            & are_listed
+            & (ids.len() == set.len() as usize)
+            & (set.len() == bound)
+            & comes_back(&mut set, &all),
+    )
+}
+
+/// Whether a set is the same again when its last id has gone out and come back in.
+fn comes_back(set: &mut Set, all: &Set) -> bool
+    requires { length all.now ≡ length set.old }
+{
+    let Some(last) = set.bound().checked_sub(1) else {
+        return set.same(all);
+    };
+    set.remove(last) & !set.same(all) & set.insert(last) & set.same(all)
+}
+
+/// Whether sets of all ids below each bound are whole.
+pub fn whole(alloc: Global) -> Result<Vec<bool>, NoMem> {
+    let mut right = Vec::new(alloc);
+    for bound in &BOUNDS {
+        right.push(is_whole(alloc, *bound)?)?;
     }
     Ok(right)
 }
