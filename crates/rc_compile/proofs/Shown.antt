@@ -3,7 +3,7 @@ use Rattle.std.proofs.Common.{◌≡◌, ◌≢◌, ◌∙◌, ◌<◌, ◌⊎�
 use Rattle.std.proofs.lemmas.Bool.{cases_lt}
 use Rattle.std.proofs.lemmas.Option.{same_Some}
 use Rattle.rc_names.specs.declared.kind.Kind.TheVariants.{Longrun, Bundle}
-use Rattle.rc_graph.specs.Rows.{rows}
+use Rattle.rc_holds.specs.Rows.{rows}
 use Rattle.rc_db.proofs.Places.{contains_at, place_of}
 use Rattle.rc_source.specs.Meaning.{Meaning, AreMeanings}
 use Rattle.rc_holds.specs.Along.{IsLeast}

@@ -2,7 +2,7 @@ use Rattle.std.specs.Prelude.{◌≡◌, ◌<◌, ◌↔◌, ◌⊎◌, ℕ, Boo
 use Rattle.rc_names.specs.declared.kind.Kind.TheVariants.{Longrun}
 use Rattle.rc_set.specs.Set.{Has, Holds}
 use Rattle.rc_graph.specs.Needs.{Needs}
-use Rattle.rc_graph.specs.Rows.{rows}
+use Rattle.rc_holds.specs.Rows.{rows}
 use Rattle.rc_source.specs.Meaning.{Meaning}
 use Rattle.rc_holds.specs.Pipelines.{IsService, WritesTo, NamesPipeline}
 use Rattle.rc_holds.specs.Standing.{IsBundle}

@@ -7,3 +7,4 @@ pub mod Drafts
 pub mod Meanings
 pub mod Stands
 pub mod SetLists
+pub mod RowLemmas

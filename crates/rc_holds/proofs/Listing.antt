@@ -8,8 +8,8 @@ use Rattle.std.proofs.lemmas.List.Elements.{Contains-push, Contains-push_cases, 
 use Rattle.std.proofs.lemmas.Option.{get_or_from_slice_get}
 use Rattle.rc_names.specs.Names.{IsInByteOrder}
 use Rattle.rc_graph.specs.Needs.{Needs}
-use Rattle.rc_graph.specs.Rows.{rows}
-use Rattle.rc_graph.proofs.RowLemmas.{row_at, length-rows}
+use Rattle.rc_holds.specs.Rows.{rows}
+use Rattle.rc_holds.proofs.RowLemmas.{row_at, length-rows}
 use Rattle.rc_source.specs.Meaning.{Meaning}
 use Rattle.rc_source.specs.declared.definition.Definition.{Definition}
 use Rattle.rc_source.specs.Said.{meaning_of}

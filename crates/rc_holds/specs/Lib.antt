@@ -6,3 +6,4 @@ pub mod CycleFaults
 pub mod Walking
 pub mod Joining
 pub mod Sets
+pub mod Rows

@@ -1,7 +1,7 @@
 // The graph of bundles in bundles, or a cycle of them.
 ghost use Rattle.std.specs.Prelude.{◌≡◌, ◌<◌, ◌≤◌, ◌⊎◌, ◌↔◌, ℕ, List, [], length, map, slice_index_or, All, Contains, IfOk, IfErr, OnOk};
 ghost use Rattle.rc_graph.specs.Needs.{Needs, AreKnown};
-ghost use Rattle.rc_graph.specs.Rows.{rows};
+ghost use Rattle.rc_holds.specs.Rows.{rows};
 ghost use Rattle.rc_source.specs.Meaning.{AreMeanings};
 ghost use Rattle.rc_source.specs.Said.{meaning_of};
 ghost use Rattle.rc_holds.specs.Along.{IsShownCycle};

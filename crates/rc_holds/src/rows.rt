@@ -3,7 +3,7 @@ ghost use Rattle.std.specs.Prelude.{◌≡◌, ◌⊎◌, ◌↔◌, ℕ, List, 
 ghost use Rattle.std.specs.Option.{option_to_list};
 ghost use Rattle.rc_names.specs.Names.{IsInByteOrder};
 ghost use Rattle.rc_graph.specs.Needs.{Needs};
-ghost use Rattle.rc_graph.specs.Rows.{rows};
+ghost use Rattle.rc_holds.specs.Rows.{rows};
 ghost use Rattle.rc_source.specs.Said.{meaning_of};
 ghost use Rattle.rc_holds.specs.Mirror.{HasListed, Mirrors, listed_of};
 

@@ -3,7 +3,7 @@ ghost use Rattle.std.specs.Prelude.{◌≡◌, ◌≤◌, ◌<◌, ◌+◌, ◌�
 ghost use Rattle.rc_set.specs.Set.{Has, Holds};
 ghost use Rattle.rc_graph.specs.Needs.{AreKnown};
 ghost use Rattle.rc_graph.specs.Closure.{UpFrom};
-ghost use Rattle.rc_graph.specs.Rows.{rows};
+ghost use Rattle.rc_holds.specs.Rows.{rows};
 ghost use Rattle.rc_holds.specs.Walking.{Meets};
 
 use rc_set::{NoMem, Set};

@@ -1,8 +1,8 @@
 use Rattle.std.proofs.Common.{Contains, List, ap, length, map, subst, sym, ℕ, ◌∙◌}
 use Rattle.std.specs.Global.{Vec}
 use Rattle.rc_set.specs.Set.{Holds}
-use Rattle.rc_graph.specs.Rows.{rows}
-use Rattle.rc_graph.proofs.RowLemmas.{length-rows}
+use Rattle.rc_holds.specs.Rows.{rows}
+use Rattle.rc_holds.proofs.RowLemmas.{length-rows}
 use Rattle.rc_source.specs.Meaning.{Meaning}
 use Rattle.rc_source.specs.Said.{meaning_of}
 use Rattle.rc_holds.specs.Mirror.{HasListed}

@@ -1,6 +1,6 @@
 use Rattle.std.proofs.Common.{◌↔◌, List, IsTrue, IfOk, ℕ, sym, subst}
 use Rattle.std.specs.Global.{Vec}
-use Rattle.rc_graph.specs.Rows.{rows}
+use Rattle.rc_holds.specs.Rows.{rows}
 use Rattle.rc_source.specs.Said.{meaning_of}
 use Rattle.rc_compile.specs.declared.scan.Told.{Told}
 use Rattle.rc_compile.specs.Told.{Shows, IsUnmatched}

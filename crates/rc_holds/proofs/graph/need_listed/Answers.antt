@@ -1,7 +1,7 @@
 use Rattle.std.proofs.Common.{◌≡◌, ◌∙◌, inl, inr, map, length, sym, ap, subst}
 use Rattle.std.proofs.lemmas.Result.{on_ok_weaker}
-use Rattle.rc_graph.specs.Rows.{rows}
-use Rattle.rc_graph.proofs.RowLemmas.{length-rows}
+use Rattle.rc_holds.specs.Rows.{rows}
+use Rattle.rc_holds.proofs.RowLemmas.{length-rows}
 use Rattle.rc_source.specs.Said.{meaning_of}
 use Rattle.rc_holds.specs.Mirror.{HasListed, Mirrors}
 use Rattle.rc_holds.proofs.Drafts.{known_among}

@@ -1,7 +1,7 @@
 use Rattle.std.proofs.Common.{◌≡◌, ◌∙◌, [], slice_index_or, sym, arith}
 use Rattle.rc_graph.specs.Needs.{Needs}
-use Rattle.rc_graph.specs.Rows.{rows}
-use Rattle.rc_graph.proofs.RowLemmas.{length-rows, row_is, row_needs, row_known}
+use Rattle.rc_holds.specs.Rows.{rows}
+use Rattle.rc_holds.proofs.RowLemmas.{length-rows, row_is, row_needs, row_known}
 use Rattle.rc_holds.proofs.Drafts.{lists_more, lists_all}
 use Rattle.rc_holds.proofs.graph.need_lists.Goals as goal
 

@@ -1,6 +1,6 @@
 use Rattle.std.proofs.Common.{◌≡◌, ◌<◌, ◌⊎◌, ◌↔◌, ℕ, length}
 use Rattle.rc_graph.specs.Needs.{Needs}
-use Rattle.rc_graph.specs.Rows.{rows}
+use Rattle.rc_holds.specs.Rows.{rows}
 use Rattle.rc_holds.proofs.graph.need_lists.Given as goal
 
 -- the pairs of the lists passed

@@ -1,6 +1,6 @@
 use Rattle.std.proofs.Common.{◌≡◌, ◌∙◌, ◌↔◌, ℕ, List, Some, slice_get, ap}
 use Rattle.rc_graph.specs.Closure.{UpFrom}
-use Rattle.rc_graph.specs.Rows.{rows}
+use Rattle.rc_holds.specs.Rows.{rows}
 use Rattle.rc_source.specs.Said.{meaning_of}
 use Rattle.rc_holds.proofs.SetLists.{from_place, pipe_gain}
 use Rattle.rc_holds.proofs.pipes.add_pipeline.Goals as goal

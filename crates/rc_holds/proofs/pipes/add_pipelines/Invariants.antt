@@ -1,5 +1,5 @@
 use Rattle.std.proofs.Common.{◌≡◌, ℕ, List, Some, length, map, take, slice_get}
-use Rattle.rc_graph.specs.Rows.{rows}
+use Rattle.rc_holds.specs.Rows.{rows}
 use Rattle.rc_source.specs.Said.{meaning_of}
 use Rattle.rc_holds.specs.Joining.{AllWithin}
 use Rattle.rc_holds.specs.Sets.{HasPiped}

@@ -1,6 +1,6 @@
 use Rattle.std.proofs.Common.{◌∙◌, List, map, take, sym, subst}
 use Rattle.std.proofs.lemmas.List.{take_at, take_all}
-use Rattle.rc_graph.specs.Rows.{rows}
+use Rattle.rc_holds.specs.Rows.{rows}
 use Rattle.rc_source.specs.Meaning.{Meaning}
 use Rattle.rc_source.specs.Said.{meaning_of}
 use Rattle.rc_source.specs.declared.definition.Definition.{Definition}

@@ -1,6 +1,6 @@
 use Rattle.std.proofs.Common.{◌∙◌, ap, map, sym, subst}
 use Rattle.std.proofs.lemmas.List.{take_at}
-use Rattle.rc_graph.specs.Rows.{rows}
+use Rattle.rc_holds.specs.Rows.{rows}
 use Rattle.rc_source.specs.Said.{meaning_of}
 use Rattle.rc_holds.specs.Pipelines.{ReadsFrom}
 use Rattle.rc_holds.specs.Standing.{HasContent}

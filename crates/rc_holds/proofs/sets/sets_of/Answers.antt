@@ -1,8 +1,8 @@
 use Rattle.std.proofs.Common.{◌≡◌, Bool, List, [], length, get_or, slice_index_or, sym, ap, subst, arith}
 use Rattle.std.proofs.lemmas.List.{length_push}
 use Rattle.std.proofs.lemmas.List.Elements.{All-push, Contains-get_or}
-use Rattle.rc_graph.specs.Rows.{rows}
-use Rattle.rc_graph.proofs.RowLemmas.{row_is, row_needs}
+use Rattle.rc_holds.specs.Rows.{rows}
+use Rattle.rc_holds.proofs.RowLemmas.{row_is, row_needs}
 use Rattle.rc_holds.specs.Joining.{AllWithin}
 use Rattle.rc_holds.proofs.SetLists.{sets_more}
 use Rattle.rc_holds.proofs.sets.sets_of.Goals as goal

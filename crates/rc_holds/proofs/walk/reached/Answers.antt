@@ -1,6 +1,6 @@
 use Rattle.std.proofs.Common.{◌≡◌, ◌∙◌, ◌<◌, [], length, slice_index_or, sym, arith}
-use Rattle.rc_graph.specs.Rows.{rows}
-use Rattle.rc_graph.proofs.RowLemmas.{length-rows, row_is, row_needs, row_known}
+use Rattle.rc_holds.specs.Rows.{rows}
+use Rattle.rc_holds.proofs.RowLemmas.{length-rows, row_is, row_needs, row_known}
 use Rattle.rc_holds.proofs.Walks.{walk_begins, walk_follows, walk_ends, followed_within, none_left}
 use Rattle.rc_holds.proofs.walk.reached.Goals as goal
 

@@ -1,5 +1,5 @@
 use Rattle.std.proofs.Common.{◌+◌, not, length, count_by}
-use Rattle.rc_graph.specs.Rows.{rows}
+use Rattle.rc_holds.specs.Rows.{rows}
 use Rattle.rc_holds.proofs.Walks.{IsWalk}
 use Rattle.rc_holds.proofs.walk.reached.Given as goal
 
