@@ -21,16 +21,11 @@ use samples::{SAMPLE, graph_of};
 use std::io;
 use std::test::Fail;
 
-/// Each topic is shown also where another one ends by a fault.
 fn main(rt: HostRuntime) -> Result<(), Fail> {
-    let runs = show_runs(&rt);
-    let wide = show_wide(&rt);
-    let legality = show_legality(&rt);
-    let schedules = show_schedules(&rt);
-    runs?;
-    wide?;
-    legality?;
-    schedules
+    show_runs(&rt)?;
+    show_wide(&rt)?;
+    show_legality(&rt)?;
+    show_schedules(&rt)
 }
 
 fn show_runs(rt: &(impl Print + AllocGlobal)) -> Result<(), Fail> {
