@@ -3,7 +3,8 @@ use Rattle.std.proofs.Common.{◌≡◌, ◌≢◌, ◌∙◌, ◌↔◌, ◌⊎
 use Rattle.std.proofs.lemmas.Bool.{cases_eq, cases_lt}
 use Rattle.rc_set.specs.Set.{Has, Holds, Lists}
 use Rattle.rc_set.proofs.Members.{has_or_lacks, has_within}
-use Rattle.rc_set.proofs.Listing.{ListsBelow, one_listed, one_passed, lists_as}
+use Rattle.rc_set.specs.Listed.{ListsBelow}
+use Rattle.rc_set.proofs.Listing.{one_listed, one_passed, lists_as}
 use Rattle.rc_core.proofs.Finishing.{none_listed, all_listed}
 
 abbrev pub Decided : Type 0 → Type 0
@@ -103,14 +104,15 @@ holds_of P n set is within s = (
 )
 
 -- the ids of a set
-listed_below : (set : List Bool) (n : ℕ) → (ids : List ℕ) × ListsBelow set n ids
+listed_below : (set : List Bool) (n : ℕ) → (ids : List ℕ) × ListsBelow (Has set) n ids
 listed_below set zero = ([], none_listed set [] refl)
 listed_below set (suc n) =
     let rest = listed_below set n in
     let next : n + 1 ≡ suc n = omega arith in
+    let before : ListsBelow (Has set) n rest.0 = rest.1 in
     elim (has_or_lacks set n) [
-      | inl has ↦ (rest.0 ++ n ∷ [], subst (λ m. ListsBelow set m (rest.0 ++ n ∷ [])) next (one_listed set n rest.0 rest.1 has))
-      | inr lacks ↦ (rest.0, subst (λ m. ListsBelow set m rest.0) next (one_passed set n rest.0 rest.1 lacks))
+      | inl has ↦ (rest.0 ++ n ∷ [], subst (λ m. ListsBelow (Has set) m (rest.0 ++ n ∷ [])) next (one_listed (Has set) n rest.0 before has))
+      | inr lacks ↦ (rest.0, subst (λ m. ListsBelow (Has set) m rest.0) next (one_passed (Has set) n rest.0 before lacks))
     ]
 
 pub ids_of_set : (set : List Bool) → (ids : List ℕ) × Lists (Has set) ids

@@ -13,16 +13,16 @@ use Rattle.rc_core.specs.declared.event.Event.TheVariants.{Take, Done}
 use Rattle.rc_core.specs.Course.{Course, IsCourse, IsPlanned, TargetOf}
 use Rattle.rc_core.specs.Standing.{standing_of}
 use Rattle.rc_core.specs.Events.{WasTaken, IsHeldBy, NoneHeld, HasFailed, IsStopped}
-use Rattle.rc_core.specs.Legal.{CanSink, CanRise, CanMove, IsLowered, IsLeft, IsLegal, IsRun}
+use Rattle.rc_core.specs.Legal.{CanSink, CanRise, CanMove, IsLeft, IsLegal, IsRun}
 use Rattle.rc_core.specs.Settled.{IsLive, IsSettled}
-use Rattle.rc_core.proofs.Ends.{stood_up, stood_down, went_down, came_up, ends_by_what_failed, end_is_target}
+use Rattle.rc_core.proofs.Ends.{ends_by_what_failed, end_is_target}
 use Rattle.rc_core.proofs.EventLemmas.{still_there, take_then_take, take_then_done, done_then_take, done_then_done, stop_then_take, stop_then_done}
 use Rattle.rc_core.proofs.Members.{fewer_in}
 use Rattle.rc_core.proofs.MoveLemmas.{settled_from}
 use Rattle.rc_core.proofs.Opening.{none_happened}
 use Rattle.rc_core.proofs.Places.{planned_within, move_is_left}
 use Rattle.rc_core.proofs.RunLemmas.{run_empty, run_push, done_was_taken}
-use Rattle.rc_core.proofs.Stories.{story_of, at_rest}
+use Rattle.rc_core.proofs.Stories.{story_of}
 use Rattle.rc_session.proofs.Deciding.{Decided, both, either, not, some_below, member_decided, number_decided, IsSetOf, set_of, holds_of}
 
 -- a run in which nothing is held, nothing failed and nobody stopped
@@ -100,28 +100,15 @@ module _ (c : Course) (course : IsCourse c) where
     ]
   ]
 
-  rise_decided : (events : List Event) → IsRun c events → IsLowered c events → (s : ℕ) → Decided (CanRise c events s)
-  rise_decided events run lowered s = elim (both (Has c.raise s) (standing_of c events s ≡ Down) (has_or_lacks c.raise s) (standing_decided (standing_of c events s) Down)) [
+  rise_decided : (events : List Event) → IsRun c events → (s : ℕ) → Decided (CanRise c events s)
+  rise_decided events run s = elim (both (Has c.raise s) (standing_of c events s ≡ Down) (has_or_lacks c.raise s) (standing_decided (standing_of c events s) Down)) [
     | inr never ↦ inr (λ can. never (can.planned, can.down))
     | inl stands ↦ elim (taken_decided events run s) [
       | inl was ↦ inr (λ can. can.fresh was)
       | inr fresh ↦ elim (below_decided events s) [
         | inr some ↦ inr (λ can. some can.needs_up)
-        | inl all ↦ inl (record { planned = stands.0; down = stands.1; fresh = fresh; needs_up = all; lowered = lowered })
+        | inl all ↦ inl (record { planned = stands.0; down = stands.1; fresh = fresh; needs_up = all })
       ]
-    ]
-  ]
-
-  -- where nothing is held nothing is on its way down
-  none_sinking : (events : List Event) → IsRun c events → NoneHeld events → (s : ℕ) → standing_of c events s ≢ Sinking
-  none_sinking events run none_held s sinking = elim (at_rest c events run none_held s) [
-    | inl stood ↦ elim (has_or_lacks c.up s) [
-      | inl up ↦ let bad : Up ≡ Sinking = sym (stood_up c events s up stood) ∙ sinking in cc
-      | inr lacks ↦ let bad : Down ≡ Sinking = sym (stood_down c events s lacks stood) ∙ sinking in cc
-    ]
-    | inr moved ↦ elim (has_or_lacks c.up s) [
-      | inl up ↦ let bad : Down ≡ Sinking = sym (went_down c events s up moved) ∙ sinking in cc
-      | inr lacks ↦ let bad : Up ≡ Sinking = sym (came_up c events s lacks moved) ∙ sinking in cc
     ]
   ]
 
@@ -129,16 +116,13 @@ module _ (c : Course) (course : IsCourse c) where
   move_or_none : (events : List Event) → GoesWell c events → ((s : ℕ) × CanMove c events s) ⊎ ((s : ℕ) → CanMove c events s → ⊥)
   move_or_none events goes = elim (some_below (CanSink c events) (length c.needs) (λ s low. sink_decided events goes.run s)) [
     | inl sinks ↦ inl (sinks.0, inl sinks.2)
-    | inr none ↦
-        let none_left : (s : ℕ) → CanSink c events s → ⊥ = λ s can. none s (planned_within c s course (inl can.planned)) can in
-        let lowered : IsLowered c events = record { none_sinking = none_sinking events goes.run goes.none_held; none_left = none_left } in
-        elim (some_below (CanRise c events) (length c.needs) (λ s low. rise_decided events goes.run lowered s)) [
-          | inl rises ↦ inl (rises.0, inr rises.2)
-          | inr neither ↦ inr (λ s can. elim can [
-            | inl sinks ↦ none_left s sinks
-            | inr rises ↦ neither s (planned_within c s course (inr rises.planned)) rises
-          ])
-        ]
+    | inr none ↦ elim (some_below (CanRise c events) (length c.needs) (λ s low. rise_decided events goes.run s)) [
+      | inl rises ↦ inl (rises.0, inr rises.2)
+      | inr neither ↦ inr (λ s can. elim can [
+        | inl sinks ↦ none s (planned_within c s course (inl sinks.planned)) sinks
+        | inr rises ↦ neither s (planned_within c s course (inr rises.planned)) rises
+      ])
+    ]
   ]
 
   -- a service that may be taken is taken by the first worker, and ends well
