@@ -7,10 +7,12 @@ room=$(mktemp -d)
 trap 'rm -rf "$room"' EXIT
 passed=0
 failed=0
+spent=
 
 # Runs a command whose last line counts what passed and what failed, and adds that up. A command that
 # ends badly without saying what failed is one failure.
 count() {
+    begin=$(date +%s)
     echo 1 > "$room/status"
     { status=0; "$@" || status=$?; echo "$status" > "$room/status"; } 2>&1 | tee "$room/said"
     line=$(tail -n 1 "$room/said")
@@ -22,6 +24,8 @@ count() {
     fi
     passed=$((passed + ${good:-0}))
     failed=$((failed + bad))
+    spent="${spent}$(($(date +%s) - begin)) s by the clock: $*
+"
 }
 
 # The gate builds the program twice, by LLVM and by Rattle's own compiler.
@@ -32,5 +36,9 @@ if [ -f crates/undorc/out/undorc.by-rattle ]; then
     count sh tests/program.sh crates/undorc/out/undorc.by-rattle
 fi
 
+# What it cost: the clock, and of the processors user and system time of the last line of `times`.
+times > "$room/times"
+printf '%s' "$spent"
+echo "processor time, user and system: $(tail -n 1 "$room/times")"
 echo "$passed passed, $failed failed"
 [ "$failed" -eq 0 ]
