@@ -4,8 +4,8 @@ ghost use Rattle.rc_source.specs.Meaning.{AreMeanings};
 ghost use Rattle.rc_source.specs.Said.{meaning_of};
 
 use crate::device::Sink;
-use rc_cli::compile_run;
 use rc_compile::compile;
+use rc_compiling::compile_run;
 use rc_db::{Db, NoMem};
 use rc_dbtext::{read_db, write_db};
 use rc_source::{Definition, Tree, read_all};

@@ -5,7 +5,7 @@
 mod devices;
 
 use crate::devices::{Sink, Source};
-use rc_cli::plan_run;
+use rc_queries::plan_run;
 use std::alloc::{AllocError, Global};
 use std::io::ErrorKind;
 use std::io::ErrorKind::{BrokenPipe, Interrupted};
