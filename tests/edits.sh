@@ -5,9 +5,11 @@
 # An edit makes a body wrong. Its lines are 'refuses: FUNCTION', the function whose proof must fail,
 # by its path below the crate; 'file: src/..'; and pairs 'old: TEXT' and 'new: TEXT', of which each
 # old text stands in the file once.
-# The edits of a crate stand together in one copy, those that name a function again in a second one,
-# and so on; of a copy the named functions alone are proved. Each must be refused for a goal of its
-# own. Where it is not, as where it only calls another that is refused, its edit is tried alone.
+# Edits stand together in one copy of their crates, those that name a function again in a second one,
+# and so on; of a copy the named functions are proved, with those of their crates that they call. Crates
+# that do not stand on each other are proved in one run of the prover, since most of what an edit costs
+# is to load what its crate stands on. Each edit must be refused for a goal of its function's own. Where
+# it is not, as where it only calls another that is refused, it is tried alone.
 # The last line is 'N passed, M failed'.
 set -eu
 cd "$(dirname "$0")/.."
@@ -58,11 +60,6 @@ lib() {
     echo "$top/crates/$1/out/rlib/$1.rlib"
 }
 
-# function_of EDIT: the function that it says is refused
-function_of() {
-    sed -n 's/^refuses: //p' "$1"
-}
-
 # copy CRATE: makes a fresh copy of its texts, $room/CRATE
 copy() {
     rm -rf "${room:?}/$1"
@@ -109,52 +106,66 @@ apply() {
         }' "$2"
 }
 
-# check CRATE FUNCTION..: proves these functions of the copy alone, from nothing, and leaves what is
-# said of them in $room/CRATE.log
+# check FUNCTION..: proves these functions of the copies alone, CRATE::PATH each and none of a crate that
+# another of these stands on, from nothing, and leaves what is said of them in $log
 check() {
-    name=$1
-    shift
-    for function in "$@"; do
+    sources=$(printf '%s\n' "$@" | sed 's/::.*//' | uniq)
+    last=$(echo "$sources" | tail -n 1)
+    for path in "$@"; do
         shift
-        set -- "$@" "--only=$name::$function"
+        set -- "$@" "--only=$path"
     done
-    for dep in $(uses "$name"); do
+    libraries=
+    for name in $sources; do
+        [ "$name" = "$last" ] ||
+            set -- "$@" --lib "$name:$(uses "$name" | sed 's/^ *//; s/  */,/g'),std=$room/$name/src/lib.rt"
+        libraries="$libraries $(uses "$name")"
+        for dep in $(below "$name"); do
+            set -- "$@" -L "dependency=$(dirname "$(lib "$dep")")"
+        done
+    done
+    # shellcheck disable=SC2086
+    for dep in $(printf '%s\n' $libraries | sort -u); do
         if [ -d "crates/$dep" ]; then
             set -- "$@" --extern "$dep=$(lib "$dep")"
         else
             set -- "$@" --extern "$dep=$kit/rlibs/$dep.rlib"
         fi
     done
-    for dep in $(below "$name"); do
-        set -- "$@" -L "dependency=$(dirname "$(lib "$dep")")"
-    done
     root=src/lib.rt
-    [ -f "crates/$name/$root" ] || root=src/main.rt
+    [ -f "crates/$last/$root" ] || root=src/main.rt
     (
-        cd "$room/$name"
-        exec "$kit/bin/rattle" check --crate-name "$name" "$root" "$@" --jobs 1 \
+        cd "$room/$last"
+        exec "$kit/bin/rattle" check --crate-name "$last" "$root" "$@" --jobs 1 \
             --extern "std=$kit/rlibs/std.rlib" -L "dependency=$kit/rlibs" \
             --antt-project "$kit/rattle/logic/antt-project.json" --logic-built "$kit/logic_built"
-    ) > "$room/$name.log" 2>&1 < /dev/null &
+    ) > "$log" 2>&1 < /dev/null &
     checking=$!
     wait "$checking" || true
 }
 
 # verdict CRATE FUNCTION: what the check says of the function
 verdict() {
-    awk -v head="fn $1::$2: " 'index($0, head) == 1 { print substr($0, length(head) + 1); exit }' \
-        "$room/$1.log"
+    awk -v head="fn $1::$2: " 'index($0, head) == 1 { print substr($0, length(head) + 1); exit }' "$log"
 }
 
 # own_error CRATE FUNCTION: the first error in the function's own proof, or status 1. One that only
 # misses a name that the edit took away shows nothing of a contract.
 own_error() {
-    awk -v front="./proofs/$(echo "$2" | sed 's|::|/|g')/" '
-        index($0, front) != 1 { next }
+    here=$room/$1
+    [ "$1" != "$last" ] || here=.
+    awk -v here="$here/" -v path="proofs/$(echo "$2" | sed 's|::|/|g')/" '
+        index($0, here path) != 1 { next }
         /defines no `|has no `|has no field|is not in scope|was not admitted|was rejected/ { next }
-        substr($0, length(front) + 1) ~ /^[A-Za-z]*\.antt:[0-9:]*: error/ { found = 1; print; exit }
+        {
+            $0 = substr($0, length(here) + 1)
+            if (substr($0, length(path) + 1) !~ /^[A-Za-z]*\.antt:[0-9:]*: error/) next
+            found = 1
+            print
+            exit
+        }
         END { exit !found }
-    ' "$room/$1.log"
+    ' "$log"
 }
 
 # goal CRATE FUNCTION: the first open goal of the function's own, or status 1
@@ -168,35 +179,43 @@ goal() {
     echo "$open" | cut -d ' ' -f 1-25
 }
 
-# first_error CRATE: why the check came to no proof
+# first_error: why the check came to no proof
 first_error() {
-    grep -m 1 -E '^(rattle|error)|: error' "$room/$1.log" || tail -n 1 "$room/$1.log"
+    grep -m 1 -E '^(rattle|error)|: error' "$log" || tail -n 1 "$log"
 }
 
-# refused CRATE EDIT GOAL: counts it and says so
+# crate_of EDIT, function_of EDIT: where it stands, and what it says is refused
+crate_of() {
+    basename "$(dirname "$(dirname "$1")")"
+}
+function_of() {
+    sed -n 's/^refuses: //p' "$1"
+}
+
+# refused EDIT GOAL: counts it and says so
 refused() {
-    echo "$1/$(basename "$2" .edit): refused, as it must be: $(function_of "$2"): $3"
-    echo "$2" >> "$room/refused"
+    echo "$(crate_of "$1")/$(basename "$1" .edit): refused, as it must be: $(function_of "$1"): $2"
+    echo "$1" >> "$room/refused"
 }
 
-# failed CRATE EDIT WHY: says so
+# failed EDIT WHY: says so
 failed() {
-    echo "$1/$(basename "$2" .edit): FAILED: $3"
+    echo "$(crate_of "$1")/$(basename "$1" .edit): FAILED: $2"
 }
 
-# try_together CRATE EDIT..: leaves in $later those that do not stand in one copy with the others,
-# and in $alone those that were not refused in it
+# try_together EDIT..: leaves in $later those that do not stand in one copy with the others, and in
+# $alone those that were not refused in it
 try_together() {
-    crate=$1
-    shift
-    copy "$crate"
+    for crate in $(printf '%s\n' "$@" | cut -d / -f 2 | uniq); do
+        copy "$crate"
+    done
     functions=
     tried=
     later=
     for edit in "$@"; do
-        function=$(function_of "$edit")
+        function=$(crate_of "$edit")::$(function_of "$edit")
         case " $functions " in *" $function "*) later="$later $edit" && continue ;; esac
-        if apply "$crate" "$edit" > /dev/null; then
+        if apply "$(crate_of "$edit")" "$edit" > /dev/null; then
             functions="$functions $function"
             tried="$tried $edit"
         else
@@ -204,43 +223,50 @@ try_together() {
         fi
     done
     # shellcheck disable=SC2086
-    check "$crate" $functions
+    check $functions
     for edit in $tried; do
-        if open=$(goal "$crate" "$(function_of "$edit")"); then
-            refused "$crate" "$edit" "$open"
+        if open=$(goal "$(crate_of "$edit")" "$(function_of "$edit")"); then
+            refused "$edit" "$open"
         else
             alone="$alone $edit"
         fi
     done
 }
 
-# try_alone CRATE EDIT
+# try_alone EDIT
 try_alone() {
-    function=$(function_of "$2")
-    copy "$1"
-    apply "$1" "$2" > /dev/null
-    check "$1" "$function"
-    said=$(verdict "$1" "$function")
-    if open=$(goal "$1" "$function"); then
-        refused "$1" "$2" "$open"
+    crate=$(crate_of "$1")
+    function=$(function_of "$1")
+    copy "$crate"
+    apply "$crate" "$1" > /dev/null
+    check "$crate::$function"
+    said=$(verdict "$crate" "$function")
+    if open=$(goal "$crate" "$function"); then
+        refused "$1" "$open"
     elif [ "$said" = proved ]; then
-        failed "$1" "$2" "$function is still proved"
+        failed "$1" "$function is still proved"
     elif [ -n "$said" ]; then
-        failed "$1" "$2" "no goal of $function's own is open: it is $said"
+        failed "$1" "no goal of $function's own is open: it is $said"
     else
-        failed "$1" "$2" "no proof was tried: $(first_error "$1" | cut -d ' ' -f 1-25)"
+        failed "$1" "no proof was tried: $(first_error | cut -d ' ' -f 1-25)"
     fi
 }
 
-# try_crate NAME: tries its edits, with a line for each
-try_crate() {
+# missing CRATE: the first crate that it stands on and that has no proved library, or status 1
+missing() {
     for dep in $(below "$1"); do
-        [ ! -d "$(lib "$dep")" ] || continue
+        [ -d "$(lib "$dep")" ] || { echo "$dep" && return; }
+    done
+    return 1
+}
+
+# sort_edits CRATE: puts its edits into $left, those of a constant into $alone, since other functions
+# read it too, and says which are no edits
+sort_edits() {
+    if dep=$(missing "$1"); then
         echo "$1: FAILED: there is no proved library of $dep: run rt ci, or rt all check"
         return
-    done
-    left=
-    alone=
+    fi
     copy "$1"
     for edit in "crates/$1"/edits/*; do
         case $edit in
@@ -248,54 +274,76 @@ try_crate() {
         *) why='its name does not end in .edit' ;;
         esac
         if [ -n "$why" ]; then
-            failed "$1" "$edit" "$why"
+            failed "$edit" "$why"
             continue
         fi
         copy "$1"
-        # Other functions read a constant too.
         if grep -q -E '^old: *(pub(\([a-z]+\))? )?(const|static) ' "$edit"; then
             alone="$alone $edit"
         else
             left="$left $edit"
         fi
     done
+}
+
+# try_rank NUMBER: tries the edits of its crates, with a line for each
+try_rank() {
+    log=$room/$1.log
+    left=
+    alone=
+    for crate in $(sed -n "s/^$1 //p" "$room/ranks"); do
+        sort_edits "$crate"
+    done
     while [ -n "$left" ]; do
         # shellcheck disable=SC2086
-        try_together "$1" $left
+        try_together $left
         left=$later
     done
     for edit in $alone; do
-        try_alone "$1" "$edit"
+        try_alone "$edit"
     done
 }
 
-# lane: tries each crate that no other lane has taken
+# lane: tries each rank that no other lane has taken
 lane() {
     checking=
     trap '[ -z "$checking" ] || kill "$checking"; exit 143' TERM
-    for taken in $crates; do
+    for taken in $(cut -d ' ' -f 1 "$room/ranks" | uniq); do
         if mkdir "$room/$taken.taken" 2> /dev/null; then
-            try_crate "$taken" > "$room/$taken.said" 2>&1 || true
+            try_rank "$taken" > "$room/$taken.said" 2>&1 || true
             cat "$room/$taken.said"
         fi
     done
 }
 
-# sizes NAME..: of each crate with edits, how much there is to try
-sizes() {
-    for name in "$@"; do
-        [ -d "crates/$name/edits" ] || continue
-        edits=$(find "crates/$name/edits" -mindepth 1 -maxdepth 1 | wc -l)
-        lines=$(find "crates/$name" -path '*/out' -prune -o -type f -exec cat {} + | wc -l)
-        echo "$((edits * lines)) $name $edits"
-    done
+# ranks NAME..: a line for each of these crates with its rank and its name, highest first: none stands on
+# another of its rank
+ranks() {
+    awk -v given="$*" '
+        function rank(name,  i, count, named, below, most) {
+            if (name in known) return known[name]
+            count = split(uses[name], named, " ")
+            for (i = 1; i <= count; i++) if (named[i] in uses) {
+                below = rank(named[i])
+                if (below > most) most = below
+            }
+            return known[name] = most + (name in asked)
+        }
+        BEGIN { count = split(given, names, " "); for (i = 1; i <= count; i++) asked[names[i]] }
+        { sub(/#.*/, "") }
+        /:/ { name = $0; sub(/[ :].*/, "", name); sub(/^[^:]*:/, ""); uses[name] = $0 }
+        END { for (i = 1; i <= count; i++) print rank(names[i]), names[i] }
+    ' crates.txt | sort -rn
 }
 
 # shellcheck disable=SC2046
 [ $# -gt 0 ] || set -- $(ls crates)
-sizes "$@" | sort -rn > "$room/sizes"
-crates=$(cut -d ' ' -f 2 "$room/sizes")
-total=$(awk '{ total += $3 } END { print total + 0 }' "$room/sizes")
+for name in "$@"; do
+    shift
+    [ ! -d "crates/$name/edits" ] || set -- "$@" "$name"
+done
+ranks "$@" > "$room/ranks"
+total=$(for name in "$@"; do find "crates/$name/edits" -mindepth 1 -maxdepth 1; done | wc -l)
 : > "$room/refused"
 lanes_begun=0
 while [ "$lanes_begun" -lt "$lanes" ]; do
