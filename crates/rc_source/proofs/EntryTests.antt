@@ -1,13 +1,18 @@
 -- What the parts of reading an entry say of its tests.
-use Rattle.std.proofs.Common.{◌≡◌, ⊎_elim, inl, inr, ℕ, List, ◌∷◌, map, Contains, refl, sym, subst}
+use Rattle.std.proofs.Common.{◌≡◌, ◌≢◌, ◌∙◌, ⊎_elim, inl, inr, ℕ, List, ◌∷◌, map, Contains, refl, sym, subst}
 use Rattle.std.proofs.lemmas.List.Elements.{All-cons, All-map}
 use Rattle.rc_names.specs.Name.{IsName}
 use Rattle.rc_source.specs.declared.fault.Flaw.{Flaw}
-use Rattle.rc_source.specs.declared.fault.Flaw.TheVariants.{BadName, Twice}
+use Rattle.rc_source.specs.declared.fault.Flaw.TheVariants.{Io, BadName, Twice, Memory}
 use Rattle.rc_tree.specs.Tree.{Source}
 use Rattle.rc_source.specs.Files.{FilePasses, StopsAtFile, FilesPass, StopsInFiles}
 use Rattle.rc_source.specs.Tests.{Check, Named, New, File, Test, Passes, StopsAt, AllPass, StopsInTests, IsNoNewName, files_of_entry, tests_of_entry}
 use Rattle.rc_source.proofs.Stopping.{stops_map}
+
+-- the flaw of a name is none of the device
+pub asks_no_device : (before : List (List ℕ)) (name : List ℕ) (flaw : Flaw) → (flaw ≢ Memory → IsNoNewName before name flaw) → flaw ≡ Io → ⊥
+asks_no_device before name flaw told io = ⊎_elim (λ bad. let e : BadName ≡ Io = sym bad.0 ∙ io in absurd cc) (λ twice. let e : Twice ≡ Io = sym twice.0 ∙ io in absurd cc)
+    (told (λ memory. let e : Io ≡ Memory = sym io ∙ memory in absurd cc))
 
 module _ (before : List (List ℕ)) (source : Source) (name : List ℕ) where
   -- a test of the entry

@@ -1,15 +1,20 @@
-use Rattle.std.proofs.Common.{◌∙◌, Contains, subst}
+use Rattle.std.proofs.Common.{◌∙◌, Contains, refl, subst}
+use Rattle.rc_source.specs.declared.fault.Flaw.TheVariants.{Memory}
 use Rattle.rc_source.specs.Files.{FilesPass, StopsInFiles}
 use Rattle.rc_source.specs.Meaning.{Means}
 use Rattle.rc_source.specs.Said.{meaning_of, meant}
 use Rattle.rc_source.specs.Tests.{files_of_entry}
 use Rattle.rc_source.proofs.Exits.{exit}
-use Rattle.rc_source.proofs.EntryTests.{entry_passes, stops_at_new_name, stops_in_files}
+use Rattle.rc_source.proofs.EntryTests.{entry_passes, asks_no_device, stops_at_new_name, stops_in_files}
 use Rattle.rc_source.proofs.read.read_entry.Goals as goal
 
 pub returns-in_err-name-clause-fault : goal.returns-in_err-name-clause-fault
 returns-in_err-name-clause-fault g c = exit c.from_residual.result c.in_err-name.field-0.0 _ c.from_residual.ensures.1
     (λ no_memory source known. stops_at_new_name (meant c.args.found.now) source c.args.entry.now c.in_err-name.field-0.0 (c.in_err-name.ensures.fault no_memory))
+
+pub returns-in_err-name-clause-io : goal.returns-in_err-name-clause-io
+returns-in_err-name-clause-io g c = exit c.from_residual.result c.in_err-name.field-0.0 _ c.from_residual.ensures.1
+    (λ io. absurd (asks_no_device (meant c.args.found.now) c.args.entry.now c.in_err-name.field-0.0 c.in_err-name.ensures.fault io))
 
 pub returns-in_err-definition-clause-fault : goal.returns-in_err-definition-clause-fault
 returns-in_err-definition-clause-fault g c = exit c.from_residual-in_err-definition.result c.in_err-definition.field-0.0 _ c.from_residual-in_err-definition.ensures.1
@@ -23,6 +28,9 @@ add-requires-clause-meaning g c = c.in_ok-definition.ensures.meaning
 pub add-requires-clause-free : goal.add-requires-clause-free
 add-requires-clause-free g c = λ there.
     c.in_ok-name.ensures.free (subst (Contains (meant c.args.found.now)) (c.in_ok-definition.ensures.named ∙ c.in_ok-name.ensures.name.0) there)
+
+pub returns-in_err-add-clause-fault : goal.returns-in_err-add-clause-fault
+returns-in_err-add-clause-fault g c = exit c.from_residual-in_err-add.result Memory _ c.from_residual-in_err-add.ensures.1 (λ no_memory. absurd (no_memory refl))
 
 pub returns-clause-meaning : goal.returns-clause-meaning
 returns-clause-meaning g c = λ source known. (
