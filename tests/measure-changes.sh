@@ -10,7 +10,7 @@ cd "$(dirname "$0")/.."
 program=${1:-crates/undorc/out/undorc}
 old=${2:-}
 runs=${3:-5}
-pairs=50
+pairs=500
 room=$(mktemp -d)
 trap 'rm -rf "$room"' EXIT
 cc -O2 -o "$room/plain" tests/plain.c
@@ -35,26 +35,28 @@ least() {
         END { print best, peak }'
 }
 
-# session PROGRAM INPUT TIMES: so many sessions on the graph
+# session PROGRAM INPUT RUNS TIMES: so many sessions on the graph
 session() {
-    least "$runs" "$3" "$room/$2" "$1" session -x none -b "$room/text"
+    least "$3" "$4" "$room/$2" "$1" session -x none -b "$room/text"
 }
 
 : > "$room/nothing"
 echo '-u change all' > "$room/change"
+printf '%s\n' '-u change all' undo redo > "$room/few"
 { cat "$room/change"; for _ in $(seq $pairs); do printf 'undo\nredo\n'; done; } > "$room/lines"
 for kind in none next before fan layers random; do
     sh tests/graph.sh text $kind > "$room/text"
     sh tests/graph.sh ninja $kind > "$room/build.ninja"
     "$program" session -x none -b "$room/text" < "$room/lines" > "$room/answers"
     "$room/plain" "$room/text" $pairs | cmp - "$room/answers" >&2
-    echo "$kind $(session "$program" nothing 10) $(session "$program" change 10) $(session "$program" lines 1)" \
-        "$(least "$runs" 10 /dev/null "$room/plain" "$room/text" 0)" \
+    echo "$kind $(session "$program" nothing "$runs" 50) $(session "$program" change "$runs" 50)" \
+        "$(session "$program" lines "$runs" 1) $(session "$program" few 1 1)" \
+        "$(least "$runs" 50 /dev/null "$room/plain" "$room/text" 0)" \
         "$(least "$runs" 1 /dev/null "$room/plain" "$room/text" $pairs)" \
-        "$(least "$runs" 10 "$room/text" wc)" \
+        "$(least "$runs" 50 "$room/text" wc)" \
         "$(least "$runs" 10 /dev/null ninja -C "$room" -n --quiet)" \
         "$(least 1 1 /dev/null ninja -C "$room" --quiet)" \
-        "${old:+$(session "$old" change 1) $(session "$old" lines 1)}"
+        "${old:+$(session "$old" few 1 1)}"
 done > "$room/figures"
 
 # table HEAD ROW..: the figures of each graph, as awk prints them
@@ -65,13 +67,13 @@ table() {
     echo
 }
 
-# Of what was measured: time and peak of a session that reads alone, with a change of all, with so many pairs of its undo
-# and redo, of the loop that changes once, with so many pairs, of wc, of ninja -n and of ninja; and of OLD the two latter.
-table '| Graph of 4,096 | An undo or redo of all, as a multiple of the loop | and of reading the database | A change of all, as a multiple of reading |' \
-    '{ move = ($6 - $4) / moves; loop = ($10 - $8) / moves; printf "| %s | %.2f | %.2f | %.2f |\n", $1, move / loop, move / $2, ($4 - $2) / $2 }'
+# Of what was measured, time and memory each: a session that reads alone, with a change of all, with its undos and redos,
+# with one of each; the loop that changes once, with its undos and redos; wc, ninja -n, ninja; and OLD with one of each.
+table '| Graph of 4,096 | An undo or redo of all, as a multiple of the loop | and of reading the database |' \
+    '{ printf "| %s | %.2f | %.2f |\n", $1, ($6 - $4) / ($12 - $10), ($6 - $4) / moves / $2 }'
 table '| Graph of 4,096 | Reading the database, as a multiple of the reading of the loop | of `wc` |' \
-    '{ printf "| %s | %.2f | %.2f |\n", $1, $2 / $8, $2 / $12 }'
-table '| Graph of 4,096 | A session with a change of all, as a multiple of `ninja -n` | of `ninja`, which starts `true` 4,096 times |' \
-    '{ printf "| %s | %.2f | %.4f |\n", $1, $4 / $14, $4 / $16 }'
-table '| Graph of 4,096 | Peak of a session with a change of all | with 50 undos and redos | Peak of OLD | with 50 undos and redos |' \
-    '{ printf "| %s | %.1f MB | %.1f MB |", $1, $5 / 1024, $7 / 1024; if (NF > 17) printf " %.1f MB | %.1f MB |\n", $19 / 1024, $21 / 1024; else print " - | - |" }'
+    '{ printf "| %s | %.2f | %.2f |\n", $1, $2 / $10, $2 / $14 }'
+table '| Graph of 4,096 | A session with a change of all, as a multiple of `ninja -n` | of `ninja`, which starts `true` for each |' \
+    '{ printf "| %s | %.2f | %.4f |\n", $1, $4 / $16, $4 / $18 }'
+table '| Graph of 4,096 | Peak of a session with a change of all, its undo and redo | Peak of OLD |' \
+    '{ old = "-"; if (NF > 19) old = sprintf("%.1f MB", $21 / 1024); printf "| %s | %.1f MB | %s |\n", $1, $9 / 1024, old }'
