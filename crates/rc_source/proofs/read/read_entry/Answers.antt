@@ -1,10 +1,9 @@
-use Rattle.std.proofs.Common.{◌∙◌, Contains, refl, subst}
-use Rattle.rc_source.specs.declared.fault.Flaw.TheVariants.{Memory}
+use Rattle.std.proofs.Common.{◌∙◌, Contains, subst}
 use Rattle.rc_source.specs.Files.{FilesPass, StopsInFiles}
 use Rattle.rc_source.specs.Meaning.{Means}
 use Rattle.rc_source.specs.Said.{meaning_of, meant}
 use Rattle.rc_source.specs.Tests.{files_of_entry}
-use Rattle.rc_source.proofs.Exits.{exit}
+use Rattle.rc_source.proofs.Exits.{exit, exit_memory}
 use Rattle.rc_source.proofs.EntryTests.{entry_passes, asks_no_device, stops_at_new_name, stops_in_files}
 use Rattle.rc_source.proofs.read.read_entry.Goals as goal
 
@@ -30,7 +29,7 @@ add-requires-clause-free g c = λ there.
     c.in_ok-name.ensures.free (subst (Contains (meant c.args.found.now)) (c.in_ok-definition.ensures.named ∙ c.in_ok-name.ensures.name.0) there)
 
 pub returns-in_err-add-clause-fault : goal.returns-in_err-add-clause-fault
-returns-in_err-add-clause-fault g c = exit c.from_residual-in_err-add.result Memory _ c.from_residual-in_err-add.ensures.1 (λ no_memory. absurd (no_memory refl))
+returns-in_err-add-clause-fault g c = exit_memory c.from_residual-in_err-add.result _ c.from_residual-in_err-add.ensures.1
 
 pub returns-clause-meaning : goal.returns-clause-meaning
 returns-clause-meaning g c = λ source known. (
