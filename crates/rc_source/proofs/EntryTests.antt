@@ -1,13 +1,18 @@
 -- What the parts of reading an entry say of its tests.
-use Rattle.std.proofs.Common.{◌≡◌, ⊎_elim, inl, inr, ℕ, List, ◌∷◌, map, Contains, refl}
+use Rattle.std.proofs.Common.{◌≡◌, ◌≢◌, ◌∙◌, ⊎_elim, inl, inr, ℕ, List, ◌∷◌, map, Contains, refl, sym, subst}
 use Rattle.std.proofs.lemmas.List.Elements.{All-cons, All-map}
 use Rattle.rc_names.specs.Name.{IsName}
 use Rattle.rc_source.specs.declared.fault.Flaw.{Flaw}
-use Rattle.rc_source.specs.declared.fault.Flaw.TheVariants.{BadName, Twice}
+use Rattle.rc_source.specs.declared.fault.Flaw.TheVariants.{Io, BadName, Twice, Memory}
 use Rattle.rc_tree.specs.Tree.{Source}
 use Rattle.rc_source.specs.Files.{FilePasses, StopsAtFile, FilesPass, StopsInFiles}
-use Rattle.rc_source.specs.Tests.{Check, Named, New, File, Test, Passes, StopsAt, AllPass, StopsInTests, files_of_entry, tests_of_entry}
+use Rattle.rc_source.specs.Tests.{Check, Named, New, File, Test, Passes, StopsAt, AllPass, StopsInTests, IsNoNewName, files_of_entry, tests_of_entry}
 use Rattle.rc_source.proofs.Stopping.{stops_map}
+
+-- the flaw of a name is none of the device
+pub asks_no_device : (before : List (List ℕ)) (name : List ℕ) (flaw : Flaw) → (flaw ≢ Memory → IsNoNewName before name flaw) → flaw ≡ Io → ⊥
+asks_no_device before name flaw told io = ⊎_elim (λ bad. let e : BadName ≡ Io = sym bad.0 ∙ io in absurd cc) (λ twice. let e : Twice ≡ Io = sym twice.0 ∙ io in absurd cc)
+    (told (λ memory. let e : Io ≡ Memory = sym io ∙ memory in absurd cc))
 
 module _ (before : List (List ℕ)) (source : Source) (name : List ℕ) where
   -- a test of the entry
@@ -29,12 +34,17 @@ module _ (before : List (List ℕ)) (source : Source) (name : List ℕ) where
       (All-cons Passes (test_of New) (map test_of (map File (files_of_entry source name))) (new_passes free) (files_pass all))
 
   -- reading stops at its name
-  pub stops_at_name : (flaw : Flaw) → flaw ≡ BadName → (IsName name → ⊥) → StopsInTests (tests_of_entry before source name) flaw name
+  stops_at_name : (flaw : Flaw) → flaw ≡ BadName → (IsName name → ⊥) → StopsInTests (tests_of_entry before source name) flaw name
   stops_at_name flaw told bad = inl (inl (told, bad), refl)
 
   -- since its name is not new
-  pub stops_as_twice : IsName name → Contains before name → StopsInTests (tests_of_entry before source name) Twice name
+  stops_as_twice : IsName name → Contains before name → StopsInTests (tests_of_entry before source name) Twice name
   stops_as_twice is there = inr (name_passes is, inl (inl (refl, there), refl))
+
+  -- by either flaw of a name
+  pub stops_at_new_name : (flaw : Flaw) → IsNoNewName before name flaw → StopsInTests (tests_of_entry before source name) flaw name
+  stops_at_new_name flaw (inl bad) = stops_at_name flaw bad.0 bad.1
+  stops_at_new_name flaw (inr twice) = subst (λ f. StopsInTests (tests_of_entry before source name) f name) (sym twice.0) (stops_as_twice twice.1 twice.2)
 
   -- in its files
   pub stops_in_files : (flaw : Flaw) → IsName name → (Contains before name → ⊥) → StopsInFiles source name (files_of_entry source name) flaw

@@ -58,6 +58,10 @@ IsCheckFlaw test Named flaw = (flaw ≡ BadName) × (IsName test.name → ⊥)
 IsCheckFlaw test New flaw = (flaw ≡ Twice) × Contains test.before test.name
 IsCheckFlaw test (File file) flaw = IsFileFlaw test.source test.name file flaw
 
+-- the flaw of what is no name, or a name that came before
+abbrev pub IsNoNewName : List (List ℕ) → List ℕ → Flaw → Type 0
+IsNoNewName before name flaw = ((flaw ≡ BadName) × (IsName name → ⊥)) ⊎ ((flaw ≡ Twice) × IsName name × Contains before name)
+
 -- the device is asked, unlike for a name
 abbrev pub AsksDevice : Check → Type 0
 AsksDevice Named = ⊥

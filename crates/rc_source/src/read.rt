@@ -1,10 +1,11 @@
 // The reading of whole trees.
-ghost use Rattle.std.specs.Prelude.{◌≡◌, ◌≢◌, ◌≤◌, ◌++◌, ◌∷◌, [], List, IfOk, IfErr, OnOk, Some, map, string_bytes};
+ghost use Rattle.std.specs.Prelude.{◌≡◌, ◌≢◌, ◌≤◌, ◌++◌, ◌∷◌, [], Contains, List, IfOk, IfErr, OnOk, Some, map, string_bytes};
 ghost use Rattle.std.specs.List.{AllZip};
 ghost use Rattle.rc_source.specs.declared.fault.Flaw.{Flaw};
 ghost use Rattle.rc_tree.specs.Tree.{Source, IsSource};
 ghost use Rattle.rc_tree.specs.TreeFaults.{HasFailed};
-ghost use Rattle.rc_source.specs.Tests.{all_tests, tests_of_source, tests_of_entry, entries_of, AllPass, StopsInTests, SomeFailed, flaw_of, carried};
+ghost use Rattle.rc_names.specs.Name.{IsName};
+ghost use Rattle.rc_source.specs.Tests.{all_tests, tests_of_source, tests_of_entry, entries_of, AllPass, StopsInTests, IsNoNewName, SomeFailed, flaw_of, carried};
 ghost use Rattle.rc_source.specs.Meaning.{Meaning, Means, MeanAll, AreMeanings, all_entries};
 ghost use Rattle.rc_source.specs.Said.{meaning_of, meant};
 
@@ -12,6 +13,7 @@ use crate::definition::Definition;
 use crate::fault::{Flaw, SourceFault};
 use crate::found::Found;
 use crate::{entry, folder, text};
+use rc_names::Name;
 use rc_tree::{Tree, TreeFault};
 use std::alloc::Global;
 
@@ -91,13 +93,24 @@ fn read_entry<T: Tree>(
     ensures count { T.failed tree.old ≤ T.failed tree.new }
     ensures quiet { OnOk result (T.failed tree.new ≡ T.failed tree.old) }
 {
-    let name = text::name_in(alloc, entry.as_bytes())?;
-    if found.has(entry) {
-        return Err(Flaw::Twice);
-    }
+    let name = new_name(alloc, entry, found)?;
     let definition = entry::definition_at(alloc, tree, name)?;
     found.add(definition)?;
     Ok(())
+}
+
+// The name that an entry is, unless a definition has it already.
+fn new_name(alloc: Global, entry: &str, found: &Found) -> Result<Name, Flaw>
+    ensures name { IfOk result (λ name. (name ≡ entry.now) × IsName entry.now) }
+    ensures free { OnOk result (Contains (meant found.now) entry.now → ⊥) }
+    ensures fault { IfErr result (λ flaw. flaw ≢ Flaw.Memory → IsNoNewName (meant found.now) entry.now flaw) }
+{
+    let name = text::name_in(alloc, entry.as_bytes())?;
+    if found.has(entry) {
+        drop(name);
+        return Err(Flaw::Twice);
+    }
+    Ok(name)
 }
 
 // The fault of an entry that has a flaw.

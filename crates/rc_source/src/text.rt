@@ -36,7 +36,7 @@ pub(crate) fn text_of(bytes: Vec<u8>) -> Result<String, Flaw>
 fn is_text(bytes: &[u8]) -> bool
     ensures { IsTrue result ↔ IsText bytes.now }
 {
-    std::str::from_utf8(bytes).is_ok() && bytes.iter().all(|&byte| byte != 0)
+    std::str::from_utf8(bytes).is_ok() && !bytes.contains(&0)
 }
 
 // A text without the newline at its end.

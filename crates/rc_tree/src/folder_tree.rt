@@ -1,19 +1,34 @@
 ghost use Rattle.std.specs.Prelude.{◌≡◌, ◌≤◌, IfOk, IfErr, IfSome, OnOk, vec_len};
 ghost use Rattle.rc_tree.specs.TreeFaults.{IsCallFault};
 
-use crate::tree::{MAX_FILE, Tree, TreeFault, path_to};
+use crate::tree::{MAX_FILE, Tree, TreeFault, first_part, path_to};
 use rc_names::NoMem;
 use std::alloc::Global;
 use std::io::{ErrorKind, Read};
 use std::rt::Files;
 use std::{fs, io};
 
+// The most reads of the names in a service directory, of 4,096 bytes each.
+const MAX_READS: u64 = 16;
+
 /// A tree in a file system: the subdirectories of a directory. No contract can say what it holds.
+///
+/// A service directory is listed once, and what is not in it is not asked for. Where it can't be
+/// listed, each of its files is.
 #[derive(Drop)]
 pub struct FolderTree<R: Files + AllocGlobal + Clone + Drop> {
     rt: R,
     root: String,
     failures: u64,
+    seen: Option<Seen>,
+}
+
+// What was seen in the service directory that was asked last.
+#[derive(Drop)]
+struct Seen {
+    service: String,
+    // Each with a byte 0 behind it; none where the directory could not be listed.
+    names: Option<Vec<u8>>,
 }
 
 impl<R: Files + AllocGlobal + Clone + Drop> FolderTree<R> {
@@ -24,13 +39,13 @@ impl<R: Files + AllocGlobal + Clone + Drop> FolderTree<R> {
             rt,
             root,
             failures: 0,
+            seen: None,
         })
     }
 
     // The path of a file of a service directory.
     fn path(&self, alloc: Global, service: &str, file: &str) -> Result<String, NoMem> {
-        let directory = path_to(alloc, self.root.as_str(), service)?;
-        path_to(alloc, directory.as_str(), file)
+        path_in(alloc, self.root.as_str(), service, file)
     }
 }
 
@@ -54,6 +69,16 @@ impl<R: Files + AllocGlobal + Clone + Drop> Tree for FolderTree<R> {
         service: &str,
         folder: &str,
     ) -> Result<Option<Vec<String>>, TreeFault> {
+        if lacks(
+            &self.rt,
+            alloc,
+            self.root.as_str(),
+            &mut self.seen,
+            service,
+            folder,
+        )? {
+            return Ok(None);
+        }
         let path = self.path(alloc, service, folder)?;
         noted(&mut self.failures, names_at(&self.rt, alloc, path.as_str()))
     }
@@ -64,6 +89,16 @@ impl<R: Files + AllocGlobal + Clone + Drop> Tree for FolderTree<R> {
         service: &str,
         file: &str,
     ) -> Result<Option<Vec<u8>>, TreeFault> {
+        if lacks(
+            &self.rt,
+            alloc,
+            self.root.as_str(),
+            &mut self.seen,
+            service,
+            file,
+        )? {
+            return Ok(None);
+        }
         let path = self.path(alloc, service, file)?;
         let bytes = noted(
             &mut self.failures,
@@ -76,6 +111,16 @@ impl<R: Files + AllocGlobal + Clone + Drop> Tree for FolderTree<R> {
     }
 
     fn has(&mut self, alloc: Global, service: &str, file: &str) -> Result<bool, TreeFault> {
+        if lacks(
+            &self.rt,
+            alloc,
+            self.root.as_str(),
+            &mut self.seen,
+            service,
+            file,
+        )? {
+            return Ok(false);
+        }
         let path = self.path(alloc, service, file)?;
         let found = noted(
             &mut self.failures,
@@ -83,6 +128,71 @@ impl<R: Files + AllocGlobal + Clone + Drop> Tree for FolderTree<R> {
         )?;
         Ok(found.is_some())
     }
+}
+
+// The path of a file of a service directory below a root.
+fn path_in(alloc: Global, root: &str, service: &str, file: &str) -> Result<String, NoMem> {
+    let directory = path_to(alloc, root, service)?;
+    path_to(alloc, directory.as_str(), file)
+}
+
+// Whether a service directory can be listed and has nothing of this name. It is listed unless it was
+// asked last.
+fn lacks<R: Files>(
+    rt: &R,
+    alloc: Global,
+    root: &str,
+    seen: &mut Option<Seen>,
+    service: &str,
+    file: &str,
+) -> Result<bool, NoMem> {
+    if !is_of(seen, service) {
+        let path = path_in(alloc, root, service, "")?;
+        let names = names_seen(rt, alloc, path.as_str())?;
+        let service = String::from_str(alloc, service)?;
+        *seen = Some(Seen { service, names });
+    }
+    Ok(is_unseen(seen, file))
+}
+
+// Whether this is what was seen in a service directory.
+fn is_of(seen: &Option<Seen>, service: &str) -> bool {
+    match seen {
+        Some(seen) => seen.service.as_str() == service,
+        None => false,
+    }
+}
+
+// Whether a directory was listed and has nothing of this name, or of what stands before its first slash.
+fn is_unseen(seen: &Option<Seen>, file: &str) -> bool {
+    let name = first_part(file).as_bytes();
+    match seen {
+        Some(
+            Seen {
+                names: Some(names),
+                ..
+            },
+        ) => !names.split(|byte| *byte == 0).any(|seen| seen == name),
+        _ => false,
+    }
+}
+
+// The names in a directory, each with a byte 0 behind it; none where it can't be listed or holds more of
+// them than are worth a look.
+fn names_seen<R: Files>(rt: &R, alloc: Global, path: &str) -> Result<Option<Vec<u8>>, NoMem> {
+    let mut names = Vec::new(alloc);
+    let Ok(mut directory) = rt.open_dir(path) else {
+        return Ok(None);
+    };
+    let mut buffer = [0u8; 4096];
+    for _ in 0..MAX_READS {
+        match directory.read(&mut buffer) {
+            Ok(0) => return Ok(Some(names)),
+            Ok(count) => names.extend_from_slice(&buffer[..count])?,
+            Err(_) => return Ok(None),
+        }
+    }
+    Ok(None)
 }
 
 // What a device answered; a failure is counted.

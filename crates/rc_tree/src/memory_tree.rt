@@ -7,7 +7,7 @@ ghost use Rattle.rc_tree.specs.TreeFaults.{IsTooLong};
 ghost use Rattle.rc_tree.specs.Shown.{shown_files};
 
 use crate::sets;
-use crate::tree::{MAX_FILE, Tree, TreeFault, path_to};
+use crate::tree::{MAX_FILE, Tree, TreeFault, first_part, path_to};
 use rc_names::NoMem;
 use std::alloc::{AllocError, Global};
 use std::collections::{BTreeMap, BTreeSet};
@@ -172,15 +172,5 @@ fn next_name_of<'a>(beginning: &str, path: &'a str) -> Option<&'a str>
     match path.strip_prefix(beginning) {
         Some(rest) => Some(first_part(rest)),
         None => None,
-    }
-}
-
-// What stands before the first slash.
-fn first_part(path: &str) -> &str
-    ensures { result.now ≡ before_first (λ byte. byte == 47) path.now }
-{
-    match path.split_once('/') {
-        Some((part, _)) => part,
-        None => path,
     }
 }

@@ -1,5 +1,6 @@
-ghost use Rattle.std.specs.Prelude.{◌≡◌, ◌≤◌, ◌↔◌, ℕ, [], ◌∷◌, ◌++◌, Option, None, IfOk, IfErr, IfSome, OnOk, IsTrue, IsSome, map, option_map, string_bytes, vec_len};
+ghost use Rattle.std.specs.Prelude.{◌≡◌, ◌==◌, ◌≤◌, ◌↔◌, ℕ, [], ◌∷◌, ◌++◌, Option, None, IfOk, IfErr, IfSome, OnOk, IsTrue, IsSome, map, option_map, string_bytes, vec_len};
 ghost use Rattle.rc_tree.specs.Tree.{Source, IsSource, file_at, path_of, IsListing, AreEntries};
+ghost use Rattle.std.specs.List.{before_first};
 ghost use Rattle.rc_tree.specs.TreeFaults.{IsCallFault, IsReadFault};
 
 use rc_names::NoMem;
@@ -108,4 +109,14 @@ pub(crate) fn path_to(alloc: Global, directory: &str, name: &str) -> Result<Stri
     path.push_str("/")?;
     path.push_str(name)?;
     Ok(path)
+}
+
+// What stands before the first slash.
+pub(crate) fn first_part(path: &str) -> &str
+    ensures { result.now ≡ before_first (λ byte. byte == 47) path.now }
+{
+    match path.split_once('/') {
+        Some((part, _)) => part,
+        None => path,
+    }
 }

@@ -1,12 +1,15 @@
 use Rattle.std.proofs.Common.{Contains, map, codes, ap, string_bytes}
 use Rattle.rc_tree.specs.Tree.{file_at}
 use Rattle.rc_source.specs.Meaning.{given_in}
-use Rattle.rc_source.proofs.Exits.{exit}
+use Rattle.rc_source.proofs.Exits.{exit, exit_memory}
 use Rattle.rc_source.proofs.Folders.{lists_one}
 use Rattle.rc_source.proofs.entry.consumer_for_at.Goals as goal
 
 pub returns-in_err-add_names_at-clause-fault : goal.returns-in_err-add_names_at-clause-fault
 returns-in_err-add_names_at-clause-fault g c = exit c.from_residual.result c.in_err-add_names_at.field-0.0 _ c.from_residual.ensures.1 c.in_err-add_names_at.ensures.fault
+
+pub returns-in_err-names-clause-fault : goal.returns-in_err-names-clause-fault
+returns-in_err-names-clause-fault g c = exit_memory c.from_residual-in_err-names.result _ c.from_residual-in_err-names.ensures.1
 
 pub returns-clause-names : goal.returns-clause-names
 returns-clause-names g c = λ source known.

@@ -2,7 +2,7 @@ use Rattle.std.proofs.Common.{◌≡◌, ◌∙◌, inl, inr, false, Contains, m
 use Rattle.rc_tree.specs.Tree.{file_at, listed}
 use Rattle.rc_source.specs.Kinds.{Names, NameEach, is_hidden}
 use Rattle.rc_source.specs.Meaning.{given_in}
-use Rattle.rc_source.proofs.Exits.{exit}
+use Rattle.rc_source.proofs.Exits.{exit, exit_memory}
 use Rattle.rc_source.proofs.EntryFiles.{two_pass}
 use Rattle.rc_source.proofs.Folders.{lists_both}
 use Rattle.rc_source.proofs.entry.joined_at.Goals as goal
@@ -14,6 +14,9 @@ returns-in_err-add_names_at-clause-fault g c = exit c.from_residual.result c.in_
 pub returns-in_err-add_folder_at-clause-fault : goal.returns-in_err-add_folder_at-clause-fault
 returns-in_err-add_folder_at-clause-fault g c = exit c.from_residual-in_err-add_folder_at.result c.in_err-add_folder_at.field-0.0 _ c.from_residual-in_err-add_folder_at.ensures.1
     (λ no_memory source known. inr (c.in_ok-add_names_at.ensures.passes source known, inl (c.in_err-add_folder_at.ensures.fault no_memory source (c.in_ok-add_names_at.ensures.same ∙ known))))
+
+pub returns-in_err-names-clause-fault : goal.returns-in_err-names-clause-fault
+returns-in_err-names-clause-fault g c = exit_memory c.from_residual-in_err-names.result _ c.from_residual-in_err-names.ensures.1
 
 pub returns-clause-names : goal.returns-clause-names
 returns-clause-names g c = λ source known.

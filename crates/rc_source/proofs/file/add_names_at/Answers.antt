@@ -1,5 +1,9 @@
 use Rattle.std.proofs.Common.{◌↔◌, ◌⊎◌, ◌∙◌, ℕ, List, Contains, map, subst, string_bytes}
+use Rattle.rc_source.proofs.Exits.{exit_memory}
 use Rattle.rc_source.proofs.file.add_names_at.Goals as goal
+
+pub returns-in_err-add_names-clause-fault : goal.returns-in_err-add_names-clause-fault
+returns-in_err-add_names-clause-fault g c = exit_memory c.from_residual-in_err-add_names.result _ c.from_residual-in_err-add_names.ensures.1
 
 pub returns-clause-names : goal.returns-clause-names
 returns-clause-names g c = λ source known.
