@@ -1,5 +1,5 @@
 //! Lines of an input under bounds.
-ghost use Rattle.std.specs.Prelude.{◌≡◌, ◌⊎◌, ◌+◌, ◌<◌, ◌≤◌, ◌++◌, [], false, length, IfOk, OnOk, OnErr, IfErr, MatchOption};
+ghost use Rattle.std.specs.Prelude.{◌≡◌, ◌⊎◌, ◌+◌, ◌<◌, ◌≤◌, ◌++◌, [], false, length, Err, IfOk, OnOk, OnErr, IfErr, MatchOption};
 ghost use Rattle.std.specs.Io.{ReadsAtMost};
 ghost use Rattle.std.specs.Io.KnownBytes.{ReadConsumes};
 ghost use Rattle.rc_noted.specs.Noting.{HasFailed, inner_of};
@@ -70,6 +70,9 @@ impl Lines {
         ensures taken { Takes (R.remaining (inner_of reader.old)) (R.remaining (inner_of reader.new)) self.old.taken self.new.taken }
         ensures within { self.new.taken ≤ 16777217 }
         ensures sound { OnOk result (HasFailed reader.new → ⊥) }
+
+        // A read that has failed is told as that, so none is made before a whole line that was read is handed out.
+        ensures told { HasFailed reader.new → result ≡ Err Failure.Read }
     {
         let mut line = Vec::new(alloc);
         loop {
@@ -117,6 +120,7 @@ impl Lines {
         ensures taken { Takes (R.remaining (inner_of reader.old)) (R.remaining (inner_of reader.new)) self.old.taken self.new.taken }
         ensures within { self.new.taken ≤ 16777217 }
         ensures sound { OnOk result (HasFailed reader.new → ⊥) }
+        ensures told { HasFailed reader.new → result ≡ Err Failure.Read }
         ensures fault { IfErr result (IsRefillFault (HasFailed reader.new) (R.remaining (inner_of reader.old)) (R.remaining (inner_of reader.new)) self.old.taken self.new.taken) }
     {
         if self.taken > MAX_INPUT {

@@ -20,7 +20,7 @@ use Rattle.rc_told.specs.AnswerText.{words_of}
 use Rattle.rc_serve.specs.declared.fault.ServeFault.{ServeFault}
 use Rattle.rc_serve.specs.declared.fault.ServeFault.TheVariants as serve
 use Rattle.rc_serve.specs.Faults.{EndsSession, IsInner, IsSpoiledBy, IsStrange}
-use Rattle.rc_serve.specs.Meeting.{IsAnswered, IsToldAs, MayMeet, MeetsCommand}
+use Rattle.rc_serve.specs.Meeting.{IsAnswered, IsDoneBy, IsToldAs, MayMeet, MeetsCommand}
 use Rattle.rc_serve.specs.Serving.{Stays}
 
 -- what hinders a command, where it is answered, is a fault of its own
@@ -64,9 +64,9 @@ eventless (Delete words force) none = refl
 -- what came of a command that workers carry out, and how it was told, is its answer
 pub met_by : (workers : ℕ) (Says : ℕ → Way → Outcome → Type 0) (Gives : ℕ → Type 0) (old new : Holding) (command : Command) (outcome : Result Report Fault) (result : Result (Vec ℕ) ServeFault)
     → IfOk outcome (λ report. IsCarriedOut workers Says Gives old command (told_of report) new) → IfErr outcome (IsFault workers old command) → IfErr outcome (λ fault. LeavesSession old fault new)
-    → IfOk result (λ text. IsToldAs old.database.names (words_of command) outcome text.items) → IfOk result (λ text. MeetsCommand old.database old.line command text.items new.line)
+    → IfOk result (λ text. IsToldAs old.database.names (words_of command) outcome text.items) → IfOk result (λ text. MeetsCommand (IsDoneBy workers Says Gives) old.database old.line command text.items new.line)
 met_by workers Says Gives old new command outcome (Err e) done fault left told = tt
-met_by workers Says Gives old new command (Ok report) (Ok text) done fault left told = inl (report.trace.items, told_of report, inl done.runs, told)
+met_by workers Says Gives old new command (Ok report) (Ok text) done fault left told = inl (report.trace.items, told_of report, done.made, inl done.runs, told)
 met_by workers Says Gives old new command (Err (faults.Refused refusal)) (Ok text) done fault left told =
     inr (refusal, own_fault (IsOwnFault old.database old.line command) old refusal fault.1 told.0, told.1, left_line old new (faults.Refused refusal) left)
 met_by workers Says Gives old new command (Err faults.Workers) (Ok text) done fault left told = absurd told
@@ -75,8 +75,8 @@ met_by workers Says Gives old new command (Err faults.Strange) (Ok text) done fa
 
 -- whether it is told or not
 pub may_by : (workers : ℕ) (Says : ℕ → Way → Outcome → Type 0) (Gives : ℕ → Type 0) (old new : Holding) (command : Command) (outcome : Result Report Fault)
-    → IfOk outcome (λ report. IsCarriedOut workers Says Gives old command (told_of report) new) → IfErr outcome (λ fault. LeavesSession old fault new) → MayMeet old.database old.line command new.line
-may_by workers Says Gives old new command (Ok report) done left = inr (report_text old.database.names (told_of report), inl (report.trace.items, told_of report, inl done.runs, refl))
+    → IfOk outcome (λ report. IsCarriedOut workers Says Gives old command (told_of report) new) → IfErr outcome (λ fault. LeavesSession old fault new) → MayMeet (IsDoneBy workers Says Gives) old.database old.line command new.line
+may_by workers Says Gives old new command (Ok report) done left = inr (report_text old.database.names (told_of report), inl (report.trace.items, told_of report, done.made, inl done.runs, refl))
 may_by workers Says Gives old new command (Err fault) done left = inl (left_line old new fault left)
 
 -- and the session keeps its database

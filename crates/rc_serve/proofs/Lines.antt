@@ -17,17 +17,18 @@ use Rattle.rc_streams.specs.declared.input.Failure.TheVariants as failures
 use Rattle.rc_serve.specs.declared.fault.ServeFault.{ServeFault}
 use Rattle.rc_serve.specs.declared.fault.ServeFault.TheVariants.{Read, Write, TooLong, Memory, NoThread, Strange, Workers}
 use Rattle.rc_serve.specs.Faults.{EndsSession, IsOfAnswer, IsServeFault, Spoils, StandsAt, of_failure}
+use Rattle.rc_serve.specs.Meeting.{Doing}
 use Rattle.rc_serve.specs.Serving.{AreLines, BytesWantWork, IsServing, MayMeetBytes, MeetsBytes, NextWantsWork, Serves, ServesAll, ServesFront, ServesNext, Stays, StopsAt}
 
 -- one more line is met
-pub serves_more : (d : Database) (here : Line) (lines : List (List ℕ)) (text : List ℕ) (mid : Line) (bytes first : List ℕ) (new : Line) → Serves d here lines text mid → MeetsBytes d mid bytes first new
-    → Serves d here (lines ++ bytes ∷ []) (text ++ first) new
-serves_more d here [] text mid bytes first new served met =
-    let there = subst (λ (l : Line). MeetsBytes d l bytes first new) served.1 met in
+pub serves_more : (Done : Doing) (d : Database) (here : Line) (lines : List (List ℕ)) (text : List ℕ) (mid : Line) (bytes first : List ℕ) (new : Line) → Serves Done d here lines text mid → MeetsBytes Done d mid bytes first new
+    → Serves Done d here (lines ++ bytes ∷ []) (text ++ first) new
+serves_more Done d here [] text mid bytes first new served met =
+    let there = subst (λ (l : Line). MeetsBytes Done d l bytes first new) served.1 met in
     (first, new, [], there, (refl, refl), ap (λ (t : List ℕ). t ++ first) served.0 ∙ sym (append-nil first))
-serves_more d here (x ∷ lines) text mid bytes first new served met =
+serves_more Done d here (x ∷ lines) text mid bytes first new served met =
     let (one, next, others, here_met, rest, whole) = served in
-    (one, next, others ++ first, here_met, serves_more d next lines others mid bytes first new rest met, ap (λ (t : List ℕ). t ++ first) whole ∙ append_assoc one others first)
+    (one, next, others ++ first, here_met, serves_more Done d next lines others mid bytes first new rest met, ap (λ (t : List ℕ). t ++ first) whole ∙ append_assoc one others first)
 
 -- what was handed out, and then the next part
 pub hands_on : (old here new : Option (List ℕ)) (before held after : Held) (front more : List ℕ) → HandsOut old here before held front → HandsOut here new held after more → HandsOut old new before after (front ++ more)
@@ -40,16 +41,16 @@ hands_on old here new before held after front more first next = record {
 }
 
 -- one more line with its newline
-pub serving_on : (input here left : Option (List ℕ)) (held after : Held) (written mid gained : Option (List ℕ)) (old now new : Holding) → IsServing input here held written mid old now
-    → ServesNext true here left held after mid gained now new → Stays now new → new.spoiled ≡ now.spoiled → after.taken ≤ 16777217 → IsServing input left after written gained old new
-serving_on input here left held after written mid gained old now new so next stays whole within =
+pub serving_on : (Done : Doing) (input here left : Option (List ℕ)) (held after : Held) (written mid gained : Option (List ℕ)) (old now new : Holding) → IsServing Done input here held written mid old now
+    → ServesNext Done true here left held after mid gained now new → Stays now new → new.spoiled ≡ now.spoiled → after.taken ≤ 16777217 → IsServing Done input left after written gained old new
+serving_on Done input here left held after written mid gained old now new so next stays whole within =
     let (bytes, text, handed, met, told) = next in
     record {
       lines = so.lines ++ bytes ∷ [];
       text = so.text ++ text;
       each = All-push IsLine so.lines bytes so.each handed.0;
       hands = subst (λ (t : List ℕ). HandsOut input left fresh after t) (sym (one_more line so.lines bytes)) (hands_on input here left fresh held after (flat_map line so.lines) (line bytes) so.hands handed.1);
-      met = serves_more old.database old.line so.lines so.text now.line bytes text new.line so.met (subst (λ (d : Database). MeetsBytes d now.line bytes text new.line) so.stays.0 met);
+      met = serves_more Done old.database old.line so.lines so.text now.line bytes text new.line so.met (subst (λ (d : Database). MeetsBytes Done d now.line bytes text new.line) so.stays.0 met);
       told = Appends-trans written mid gained so.text text so.told told;
       stays = (stays.0 ∙ so.stays.0, stays.1);
       whole = whole ∙ so.whole;
@@ -57,9 +58,9 @@ serving_on input here left held after written mid gained old now new so next sta
     }
 
 -- the input is at its end
-pub serves_all : (input here left : Option (List ℕ)) (held after : Held) (written mid gained : Option (List ℕ)) (old now new : Holding) → IsServing input here held written mid old now
-    → ServesNext false here left held after mid gained now new → ServesAll input left written gained old new
-serves_all input here left held after written mid gained old now new so (inl next) =
+pub serves_all : (Done : Doing) (input here left : Option (List ℕ)) (held after : Held) (written mid gained : Option (List ℕ)) (old now new : Holding) → IsServing Done input here held written mid old now
+    → ServesNext Done false here left held after mid gained now new → ServesAll Done input left written gained old new
+serves_all Done input here left held after written mid gained old now new so (inl next) =
     let (bytes, text, handed, met, told) = next in
     let (one, hands, some, ended) = handed in
     let (none, end, within) = ended in
@@ -75,10 +76,10 @@ serves_all input here left held after written mid gained old now new so (inl nex
         All-push IsLine so.lines bytes so.each one,
         inr (so.lines, bytes, refl, some, all.split ∙ (ap (λ (t : List ℕ). (flat_map line so.lines ++ bytes) ++ t) none ∙ append-nil (flat_map line so.lines ++ bytes)), refl),
       );
-      met = serves_more old.database old.line so.lines so.text now.line bytes text new.line so.met (subst (λ (d : Database). MeetsBytes d now.line bytes text new.line) so.stays.0 met);
+      met = serves_more Done old.database old.line so.lines so.text now.line bytes text new.line so.met (subst (λ (d : Database). MeetsBytes Done d now.line bytes text new.line) so.stays.0 met);
       told = Appends-trans written mid gained so.text text so.told told;
     }
-serves_all input here left held after written mid gained old now new so (inr next) =
+serves_all Done input here left held after written mid gained old now new so (inr next) =
     let (handed, same, kept) = next in
     let (hands, ended) = handed in
     let (none, end, within) = ended in
@@ -91,7 +92,7 @@ serves_all input here left held after written mid gained old now new so (inr nex
       end = end;
       within = omega (arith, all.counted, within);
       spelled = (so.each, inl (all.split ∙ ap (λ (t : List ℕ). (flat_map line so.lines ++ []) ++ t) none ∙ append-nil (flat_map line so.lines ++ [])));
-      met = subst (λ (l : Line). Serves old.database old.line so.lines so.text l) (sym same) so.met;
+      met = subst (λ (l : Line). Serves Done old.database old.line so.lines so.text l) (sym same) so.met;
       told = subst (λ (c : Option (List ℕ)). Appends written c so.text) (sym kept) so.told;
     }
 
@@ -106,12 +107,12 @@ stands_as Strange P Q W X taken count rest spoiled work is stands = elim stands 
 stands_as Workers P Q W X taken count rest spoiled work is stands = tt
 
 -- one line is met
-serves_one : (d : Database) (here : Line) (bytes text : List ℕ) (new : Line) → MeetsBytes d here bytes text new → Serves d here (bytes ∷ []) text new
-serves_one d here bytes text new met = (text, new, [], met, (refl, refl), sym (append-nil text))
+serves_one : (Done : Doing) (d : Database) (here : Line) (bytes text : List ℕ) (new : Line) → MeetsBytes Done d here bytes text new → Serves Done d here (bytes ∷ []) text new
+serves_one Done d here bytes text new met = (text, new, [], met, (refl, refl), sym (append-nil text))
 
-front_line : (fault : ServeFault) (input here left : Option (List ℕ)) (held after : Held) (written mid gained : Option (List ℕ)) (old now new : Holding) (ends : Bool) (bytes text : List ℕ) → IsOfAnswer fault → IsServing input here held written mid old now
-    → HandsLine ends here left held after bytes → MeetsBytes now.database now.line bytes text new.line → AppendsFront mid gained text → ServesFront fault input left written gained old new
-front_line fault input here left held after written mid gained old now new true bytes text of so handed met told =
+front_line : (Done : Doing) (fault : ServeFault) (input here left : Option (List ℕ)) (held after : Held) (written mid gained : Option (List ℕ)) (old now new : Holding) (ends : Bool) (bytes text : List ℕ) → IsOfAnswer fault → IsServing Done input here held written mid old now
+    → HandsLine ends here left held after bytes → MeetsBytes Done now.database now.line bytes text new.line → AppendsFront mid gained text → ServesFront Done fault input left written gained old new
+front_line Done fault input here left held after written mid gained old now new true bytes text of so handed met told =
     let all = hands_on input here left fresh held after (flat_map line so.lines) (line bytes) so.hands handed.1 in
     record {
       bytes = all.bytes;
@@ -128,11 +129,11 @@ front_line fault input here left held after written mid gained old now new true 
       );
       met = so.met;
       one = omega arith;
-      met_more = serves_one old.database now.line bytes text new.line (subst (λ (d : Database). MeetsBytes d now.line bytes text new.line) so.stays.0 met);
+      met_more = serves_one Done old.database now.line bytes text new.line (subst (λ (d : Database). MeetsBytes Done d now.line bytes text new.line) so.stays.0 met);
       told = (told.0, Appends-trans written mid gained so.text (take told.0 text) so.told told.1);
       stands = inl of;
     }
-front_line fault input here left held after written mid gained old now new false bytes text of so handed met told =
+front_line Done fault input here left held after written mid gained old now new false bytes text of so handed met told =
     let (one, hands, some, ended) = handed in
     let (none, end, within) = ended in
     let all = hands_on input here left fresh held after (flat_map line so.lines) bytes so.hands hands in
@@ -151,7 +152,7 @@ front_line fault input here left held after written mid gained old now new false
       );
       met = so.met;
       one = omega arith;
-      met_more = serves_one old.database now.line bytes text new.line (subst (λ (d : Database). MeetsBytes d now.line bytes text new.line) so.stays.0 met);
+      met_more = serves_one Done old.database now.line bytes text new.line (subst (λ (d : Database). MeetsBytes Done d now.line bytes text new.line) so.stays.0 met);
       told = (told.0, Appends-trans written mid gained so.text (take told.0 text) so.told told.1);
       stands = inl of;
     }
@@ -161,9 +162,9 @@ wants_as : (d e : Database) (here there : Line) (bytes : List ℕ) → d ≡ e �
 wants_as d e here there bytes same still wants = subst (λ (b : Database). NextWantsWork b there bytes) same (subst (λ (l : Line). NextWantsWork d l bytes) (sym still) wants)
 
 -- a fault came
-pub serves_front : (fault : ServeFault) (input here left : Option (List ℕ)) (held after : Held) (written mid gained : Option (List ℕ)) (old now new : Holding) → IsServing input here held written mid old now
-    → StopsAt fault here left held after mid gained now new → ServesFront fault input left written gained old new
-serves_front fault input here left held after written mid gained old now new so (inl stop) =
+pub serves_front : (Done : Doing) (fault : ServeFault) (input here left : Option (List ℕ)) (held after : Held) (written mid gained : Option (List ℕ)) (old now new : Holding) → IsServing Done input here held written mid old now
+    → StopsAt Done fault here left held after mid gained now new → ServesFront Done fault input left written gained old new
+serves_front Done fault input here left held after written mid gained old now new so (inl stop) =
     let (takes, same, kept, stands) = stop in
     let told = subst (λ (c : Option (List ℕ)). Appends written c so.text) (sym kept) so.told in
     record {
@@ -188,9 +189,9 @@ serves_front fault input here left held after written mid gained old now new so 
             (omega (arith, so.hands.counted, takes.counted, length-append so.hands.bytes takes.bytes)) stands,
       );
     }
-serves_front fault input here left held after written mid gained old now new so (inr stop) =
+serves_front Done fault input here left held after written mid gained old now new so (inr stop) =
     let (of, ends, bytes, text, handed, met, told) = stop in
-    front_line fault input here left held after written mid gained old now new ends bytes text of so handed met told
+    front_line Done fault input here left held after written mid gained old now new ends bytes text of so handed met told
 
 -- the line that was handed out is the next one of what was held and read
 next_line : (ends : Bool) (input left : Option (List ℕ)) (held after : Held) (bytes : List ℕ) → HandsLine ends input left held after bytes
@@ -207,28 +208,28 @@ next_line false input left held after bytes (one, hands, some, ended) = (
 )
 
 -- a line was handed out, and no answer came of it
-pub stops_short : (fault : ServeFault) (ends : Bool) (input left : Option (List ℕ)) (held after : Held) (written : Option (List ℕ)) (old new : Holding) (bytes : List ℕ) → HandsLine ends input left held after bytes → Takes input left held.taken after.taken
-    → MayMeetBytes old.database old.line bytes new.line → EndsSession (BytesWantWork old.database old.line bytes) old new fault → StopsAt fault input left held after written written old new
-stops_short Read ends input left held after written old new bytes handed takes may end = absurd end
-stops_short Write ends input left held after written old new bytes handed takes may end = absurd end
-stops_short TooLong ends input left held after written old new bytes handed takes may end = absurd end
-stops_short Memory ends input left held after written old new bytes handed takes (inl same) end = inl (takes, same, refl, tt)
-stops_short Memory ends input left held after written old new bytes handed takes (inr met) end = inr (tt, ends, bytes, met.0, handed, met.1, (0, Appends-nil written))
-stops_short NoThread ends input left held after written old new bytes handed takes may end =
+pub stops_short : (Done : Doing) (fault : ServeFault) (ends : Bool) (input left : Option (List ℕ)) (held after : Held) (written : Option (List ℕ)) (old new : Holding) (bytes : List ℕ) → HandsLine ends input left held after bytes → Takes input left held.taken after.taken
+    → MayMeetBytes Done old.database old.line bytes new.line → EndsSession (BytesWantWork old.database old.line bytes) old new fault → StopsAt Done fault input left held after written written old new
+stops_short Done Read ends input left held after written old new bytes handed takes may end = absurd end
+stops_short Done Write ends input left held after written old new bytes handed takes may end = absurd end
+stops_short Done TooLong ends input left held after written old new bytes handed takes may end = absurd end
+stops_short Done Memory ends input left held after written old new bytes handed takes (inl same) end = inl (takes, same, refl, tt)
+stops_short Done Memory ends input left held after written old new bytes handed takes (inr met) end = inr (tt, ends, bytes, met.0, handed, met.1, (0, Appends-nil written))
+stops_short Done NoThread ends input left held after written old new bytes handed takes may end =
     let (taken, rest, spelled) = next_line ends input left held after bytes handed in
     inl (taken, end.1, refl, (bytes, rest, spelled, end.0))
-stops_short Strange ends input left held after written old new bytes handed takes may end =
+stops_short Done Strange ends input left held after written old new bytes handed takes may end =
     let (taken, rest, spelled) = next_line ends input left held after bytes handed in
     inl (taken, end.1, refl, elim end.0 [ inl was ↦ inl was | inr work ↦ inr (bytes, rest, spelled, work) ])
-stops_short Workers ends input left held after written old new bytes handed takes may end = absurd end
+stops_short Done Workers ends input left held after written old new bytes handed takes may end = absurd end
 
 -- there was no line to hand out
-pub stops_unread : (failed : Type 0) (failure : Failure) (input left : Option (List ℕ)) (held after : Held) (written : Option (List ℕ)) (old : Holding) → LacksLine failed input left held after failure
-    → StopsAt (of_failure failure) input left held after written written old old
-stops_unread failed failures.Read input left held after written old lacks = inl (lacks.takes, refl, refl, (lacks.fault.1, lacks.fault.2))
-stops_unread failed failures.Write input left held after written old lacks = absurd lacks.fault
-stops_unread failed failures.TooLong input left held after written old lacks = inl (lacks.takes, refl, refl, lacks.fault)
-stops_unread failed failures.Memory input left held after written old lacks = inl (lacks.takes, refl, refl, tt)
+pub stops_unread : (Done : Doing) (failed : Type 0) (failure : Failure) (input left : Option (List ℕ)) (held after : Held) (written : Option (List ℕ)) (old : Holding) → LacksLine failed input left held after failure
+    → StopsAt Done (of_failure failure) input left held after written written old old
+stops_unread Done failed failures.Read input left held after written old lacks = inl (lacks.takes, refl, refl, (lacks.fault.1, lacks.fault.2))
+stops_unread Done failed failures.Write input left held after written old lacks = absurd lacks.fault
+stops_unread Done failed failures.TooLong input left held after written old lacks = inl (lacks.takes, refl, refl, lacks.fault)
+stops_unread Done failed failures.Memory input left held after written old lacks = inl (lacks.takes, refl, refl, tt)
 
 -- a device or its bound spoils no session
 pub spoils_failure : (failure : Failure) (h : Holding) → Spoils (of_failure failure) h h
@@ -268,8 +269,8 @@ fault_on reader writer Strange old now same wrong = sym same ∙ wrong
 fault_on reader writer Workers old now same wrong = wrong
 
 -- nothing was read yet
-pub serving_none : (input written : Option (List ℕ)) (old : Holding) → old.begun ≡ false → IsServing input input fresh written written old old
-serving_none input written old closed = record {
+pub serving_none : (Done : Doing) (input written : Option (List ℕ)) (old : Holding) → old.begun ≡ false → IsServing Done input input fresh written written old old
+serving_none Done input written old closed = record {
   lines = [];
   text = [];
   each = All-nil IsLine;
@@ -294,36 +295,36 @@ takes_line true here left held after bytes (one, hands) = record { bytes = hands
 takes_line false here left held after bytes (one, hands, some, ended) = record { bytes = hands.bytes; consumed = hands.consumed; counted = hands.counted }
 
 -- what was taken where a line was met, or none was left
-pub takes_next : (more : Bool) (here left : Option (List ℕ)) (held after : Held) (mid gained : Option (List ℕ)) (now new : Holding) → ServesNext more here left held after mid gained now new → Takes here left held.taken after.taken
-takes_next true here left held after mid gained now new next = takes_line true here left held after next.0 next.2
-takes_next false here left held after mid gained now new (inl next) = takes_line false here left held after next.0 next.2
-takes_next false here left held after mid gained now new (inr next) =
+pub takes_next : (Done : Doing) (more : Bool) (here left : Option (List ℕ)) (held after : Held) (mid gained : Option (List ℕ)) (now new : Holding) → ServesNext Done more here left held after mid gained now new → Takes here left held.taken after.taken
+takes_next Done true here left held after mid gained now new next = takes_line true here left held after next.0 next.2
+takes_next Done false here left held after mid gained now new (inl next) = takes_line false here left held after next.0 next.2
+takes_next Done false here left held after mid gained now new (inr next) =
     let (handed, same, kept) = next in
     let (hands, ended) = handed in
     record { bytes = hands.bytes; consumed = hands.consumed; counted = hands.counted }
 
 -- what was taken where a fault came
-pub takes_stop : (fault : ServeFault) (here left : Option (List ℕ)) (held after : Held) (mid gained : Option (List ℕ)) (now new : Holding) → StopsAt fault here left held after mid gained now new → Takes here left held.taken after.taken
-takes_stop fault here left held after mid gained now new (inl stop) = stop.0
-takes_stop fault here left held after mid gained now new (inr stop) =
+pub takes_stop : (Done : Doing) (fault : ServeFault) (here left : Option (List ℕ)) (held after : Held) (mid gained : Option (List ℕ)) (now new : Holding) → StopsAt Done fault here left held after mid gained now new → Takes here left held.taken after.taken
+takes_stop Done fault here left held after mid gained now new (inl stop) = stop.0
+takes_stop Done fault here left held after mid gained now new (inr stop) =
     let (of, ends, bytes, text, handed, met, told) = stop in
     takes_line ends here left held after bytes handed
 
 -- what was taken in all
-pub takes_all : (input here left : Option (List ℕ)) (held after : Held) (written mid : Option (List ℕ)) (old now : Holding) → IsServing input here held written mid old now → Takes here left held.taken after.taken → after.taken ≤ 16777217 → ConsumesAtMost input left 16777217
-takes_all input here left held after written mid old now so takes within = (
+pub takes_all : (Done : Doing) (input here left : Option (List ℕ)) (held after : Held) (written mid : Option (List ℕ)) (old now : Holding) → IsServing Done input here held written mid old now → Takes here left held.taken after.taken → after.taken ≤ 16777217 → ConsumesAtMost input left 16777217
+takes_all Done input here left held after written mid old now so takes within = (
   so.hands.bytes ++ takes.bytes,
   omega (arith, so.hands.counted, takes.counted, within, length-append so.hands.bytes takes.bytes),
   Consumes-trans input here left so.hands.bytes takes.bytes so.hands.consumed takes.consumed,
 )
 
 -- whether more follows, as it was tested
-pub where_more : (more test : Bool) (here left : Option (List ℕ)) (held after : Held) (mid gained : Option (List ℕ)) (now new : Holding) → more ≡ test → ServesNext more here left held after mid gained now new → ServesNext test here left held after mid gained now new
-where_more more test here left held after mid gained now new is next = subst (λ (b : Bool). ServesNext b here left held after mid gained now new) is next
+pub where_more : (Done : Doing) (more test : Bool) (here left : Option (List ℕ)) (held after : Held) (mid gained : Option (List ℕ)) (now new : Holding) → more ≡ test → ServesNext Done more here left held after mid gained now new → ServesNext Done test here left held after mid gained now new
+where_more Done more test here left held after mid gained now new is next = subst (λ (b : Bool). ServesNext Done b here left held after mid gained now new) is next
 
 -- nothing was read and nothing written
-pub serves_none : (input written : Option (List ℕ)) (old : Holding) → ServesFront Workers input input written written old old
-serves_none input written old = record {
+pub serves_none : (Done : Doing) (input written : Option (List ℕ)) (old : Holding) → ServesFront Done Workers input input written written old old
+serves_none Done input written old = record {
   bytes = [];
   rest = [];
   lines = [];

@@ -5,7 +5,7 @@ ghost use Rattle.rc_board.specs.Crew.{IsCrew};
 ghost use Rattle.rc_board.specs.Working.{HasWork};
 ghost use Rattle.rc_lines.specs.Says.{SaysStep, saying_of};
 ghost use Rattle.rc_serve.specs.Faults.{EndsSession, IsSpoiledBy};
-ghost use Rattle.rc_serve.specs.Meeting.{MayMeet, MayMeetSaying, Meets, MeetsCommand, WantsWork};
+ghost use Rattle.rc_serve.specs.Meeting.{IsDoneBy, IsEdited, MayMeet, MayMeetSaying, Meets, MeetsCommand, WantsWork};
 ghost use Rattle.rc_serve.specs.Serving.{BytesWantWork, MayMeetBytes, MeetsBytes, Stays};
 
 use crate::edits::{add_answer, delete_answer};
@@ -32,8 +32,10 @@ pub(crate) fn line_answer<T: Threads + Wait + Sync, G: Gate>(
 ) -> Result<Vec<u8>, ServeFault>
     requires closed { session.old.begun ≡ false }
     requires crew { IsCrew workers }
-    ensures met { IfOk result (λ text. MeetsBytes session.old.database session.old.line line.now text.items session.new.line) }
-    ensures may { MayMeetBytes session.old.database session.old.line line.now session.new.line }
+    ensures met { IfOk result (λ text. MeetsBytes (IsDoneBy workers (G.answers gate.now) (G.gives gate.now))
+        session.old.database session.old.line line.now text.items session.new.line) }
+    ensures may { MayMeetBytes (IsDoneBy workers (G.answers gate.now) (G.gives gate.now))
+        session.old.database session.old.line line.now session.new.line }
     ensures stays { Stays session.old session.new }
     ensures fault { IfErr result (EndsSession (BytesWantWork session.old.database session.old.line line.now) session.old session.new) }
     ensures whole { IsSpoiledBy result session.old session.new }
@@ -59,8 +61,10 @@ fn said_answer<T: Threads + Wait + Sync, G: Gate>(
     requires closed { session.old.begun ≡ false }
     requires crew { IsCrew workers }
     requires eventless { (command : Command) → saying_of said.now ≡ SaysStep command → events_of command ≡ [] }
-    ensures met { IfOk result (λ text. Meets session.old.database session.old.line (saying_of said.now) text.items session.new.line) }
-    ensures may { MayMeetSaying session.old.database session.old.line (saying_of said.now) session.new.line }
+    ensures met { IfOk result (λ text. Meets (IsDoneBy workers (G.answers gate.now) (G.gives gate.now))
+        session.old.database session.old.line (saying_of said.now) text.items session.new.line) }
+    ensures may { MayMeetSaying (IsDoneBy workers (G.answers gate.now) (G.gives gate.now))
+        session.old.database session.old.line (saying_of said.now) session.new.line }
     ensures stays { Stays session.old session.new }
     ensures fault { IfErr result (EndsSession (WantsWork session.old.database session.old.line (saying_of said.now)) session.old session.new) }
     ensures whole { IsSpoiledBy result session.old session.new }
@@ -76,7 +80,7 @@ fn said_answer<T: Threads + Wait + Sync, G: Gate>(
 fn shown(alloc: Global, session: &Session, said: &SessionLine) -> Result<Vec<u8>, ServeFault>
     requires closed { session.now.begun ≡ false }
     requires shows { (command : Command) → saying_of said.now ≡ SaysStep command → ⊥ }
-    ensures met { IfOk result (λ text. Meets session.now.database session.now.line (saying_of said.now) text.items session.now.line) }
+    ensures met { IfOk result (λ text. Meets IsEdited session.now.database session.now.line (saying_of said.now) text.items session.now.line) }
     ensures fault { IfErr result (EndsSession ⊥ session.now session.now) }
 {
     match said {
@@ -102,8 +106,10 @@ fn step_answer<T: Threads + Wait + Sync, G: Gate>(
 ) -> Result<Vec<u8>, ServeFault>
     requires closed { session.old.begun ≡ false }
     requires crew { IsCrew workers }
-    ensures met { IfOk result (λ text. MeetsCommand session.old.database session.old.line (with_events (command_of step.now) []) text.items session.new.line) }
-    ensures may { MayMeet session.old.database session.old.line (with_events (command_of step.now) []) session.new.line }
+    ensures met { IfOk result (λ text. MeetsCommand (IsDoneBy workers (G.answers gate.now) (G.gives gate.now))
+        session.old.database session.old.line (with_events (command_of step.now) []) text.items session.new.line) }
+    ensures may { MayMeet (IsDoneBy workers (G.answers gate.now) (G.gives gate.now))
+        session.old.database session.old.line (with_events (command_of step.now) []) session.new.line }
     ensures stays { Stays session.old session.new }
     ensures fault { IfErr result (EndsSession (HasWork session.old.database session.old.line (with_events (command_of step.now) [])) session.old session.new) }
     ensures whole { IsSpoiledBy result session.old session.new }

@@ -5,7 +5,7 @@ ghost use Rattle.rc_session.specs.Commands.{Change, Undo, Redo};
 ghost use Rattle.rc_board.specs.Crew.{IsCrew};
 ghost use Rattle.rc_board.specs.Working.{HasWork};
 ghost use Rattle.rc_serve.specs.Faults.{EndsSession, IsInner, IsSpoiledBy, IsStrange};
-ghost use Rattle.rc_serve.specs.Meeting.{IsToldAs, MayMeet, MeetsCommand};
+ghost use Rattle.rc_serve.specs.Meeting.{IsDoneBy, IsToldAs, MayMeet, MeetsCommand};
 ghost use Rattle.rc_serve.specs.Serving.{Stays};
 
 use crate::fault::{ServeFault, answered};
@@ -29,8 +29,10 @@ pub(crate) fn change_answer<T: Threads + Wait + Sync, G: Gate>(
 ) -> Result<Vec<u8>, ServeFault>
     requires closed { session.old.begun ≡ false }
     requires crew { IsCrew workers }
-    ensures met { IfOk result (λ text. MeetsCommand session.old.database session.old.line (Change (ask_of request.now) []) text.items session.new.line) }
-    ensures may { MayMeet session.old.database session.old.line (Change (ask_of request.now) []) session.new.line }
+    ensures met { IfOk result (λ text. MeetsCommand (IsDoneBy workers (G.answers gate.now) (G.gives gate.now))
+        session.old.database session.old.line (Change (ask_of request.now) []) text.items session.new.line) }
+    ensures may { MayMeet (IsDoneBy workers (G.answers gate.now) (G.gives gate.now))
+        session.old.database session.old.line (Change (ask_of request.now) []) session.new.line }
     ensures stays { Stays session.old session.new }
     ensures fault { IfErr result (EndsSession (HasWork session.old.database session.old.line (Change (ask_of request.now) [])) session.old session.new) }
     ensures whole { IsSpoiledBy result session.old session.new }
@@ -51,8 +53,10 @@ pub(crate) fn undo_answer<T: Threads + Wait + Sync, G: Gate>(
 ) -> Result<Vec<u8>, ServeFault>
     requires closed { session.old.begun ≡ false }
     requires crew { IsCrew workers }
-    ensures met { IfOk result (λ text. MeetsCommand session.old.database session.old.line (Undo limit []) text.items session.new.line) }
-    ensures may { MayMeet session.old.database session.old.line (Undo limit []) session.new.line }
+    ensures met { IfOk result (λ text. MeetsCommand (IsDoneBy workers (G.answers gate.now) (G.gives gate.now))
+        session.old.database session.old.line (Undo limit []) text.items session.new.line) }
+    ensures may { MayMeet (IsDoneBy workers (G.answers gate.now) (G.gives gate.now))
+        session.old.database session.old.line (Undo limit []) session.new.line }
     ensures stays { Stays session.old session.new }
     ensures fault { IfErr result (EndsSession (HasWork session.old.database session.old.line (Undo limit [])) session.old session.new) }
     ensures whole { IsSpoiledBy result session.old session.new }
@@ -73,8 +77,10 @@ pub(crate) fn redo_answer<T: Threads + Wait + Sync, G: Gate>(
 ) -> Result<Vec<u8>, ServeFault>
     requires closed { session.old.begun ≡ false }
     requires crew { IsCrew workers }
-    ensures met { IfOk result (λ text. MeetsCommand session.old.database session.old.line (Redo limit []) text.items session.new.line) }
-    ensures may { MayMeet session.old.database session.old.line (Redo limit []) session.new.line }
+    ensures met { IfOk result (λ text. MeetsCommand (IsDoneBy workers (G.answers gate.now) (G.gives gate.now))
+        session.old.database session.old.line (Redo limit []) text.items session.new.line) }
+    ensures may { MayMeet (IsDoneBy workers (G.answers gate.now) (G.gives gate.now))
+        session.old.database session.old.line (Redo limit []) session.new.line }
     ensures stays { Stays session.old session.new }
     ensures fault { IfErr result (EndsSession (HasWork session.old.database session.old.line (Redo limit [])) session.old session.new) }
     ensures whole { IsSpoiledBy result session.old session.new }

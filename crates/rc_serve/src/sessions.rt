@@ -1,10 +1,14 @@
 //! A session over a reader and a writer.
-ghost use Rattle.std.specs.Prelude.{◌≡◌, ◌⊎◌, ◌≤◌, ◌↔◌, true, false, IfOk, OnOk, IfErr, MatchResult};
+ghost use Rattle.std.specs.Prelude.{◌≡◌, ◌⊎◌, ◌≤◌, ◌↔◌, ℕ, Bool, true, false, Err, IfOk, OnOk, IfErr, MatchResult};
 ghost use Rattle.rc_streams.specs.Input.{ConsumesAtMost};
 ghost use Rattle.rc_noted.specs.Noting.{HasFailed, IsFlushed, inner_of};
+ghost use Rattle.rc_graph.specs.declared.Way.{Way};
 ghost use Rattle.rc_board.specs.Crew.{IsCrew};
 ghost use Rattle.rc_serve.specs.Faults.{IsOfAnswer, IsServeFault, IsSpoiledBy};
+ghost use Rattle.rc_serve.specs.Meeting.{IsDoneBy};
 ghost use Rattle.rc_serve.specs.Serving.{ServesAll, ServesFront, ServesNext, Stays, StopsAt};
+ghost use Rattle.rc_serve.specs.Playing.{PlaysInput};
+ghost use Rattle.rc_serve.specs.SessionText.{FailsExactly, IsTimeless, ServesFailing, ServesFrontFailing};
 
 use crate::answers::line_answer;
 use crate::fault::ServeFault;
@@ -41,15 +45,39 @@ pub fn serve<T: Threads + Wait + Sync, R: Read, W: Write, G: Gate>(
     requires writer { HasFailed writer.old → ⊥ }
 
     // The whole input was read, and what was written is the answers to all its lines.
-    ensures done { OnOk result (ServesAll (R.remaining (inner_of reader.old)) (R.remaining (inner_of reader.new))
+    ensures done { OnOk result (ServesAll (IsDoneBy workers (G.answers gate.now) (G.gives gate.now))
+        (R.remaining (inner_of reader.old)) (R.remaining (inner_of reader.new))
         (W.contents (inner_of writer.old)) (W.contents (inner_of writer.new)) session.old session.new) }
 
     // Lines at the front of the input were met and answered whole, and then one more at most, of whose answer a front was
     // written. There is one more only where a write failed or memory was wanting. A read fails only where no whole line is
     // left. TooLong comes only where none is left, and the input passes its bound, or where the next line passes its own.
     // Workers fail only where the next line is a command that moves a service.
-    ensures begun { IfErr result (λ fault. ServesFront fault (R.remaining (inner_of reader.old)) (R.remaining (inner_of reader.new))
+    ensures begun { IfErr result (λ fault. ServesFront (IsDoneBy workers (G.answers gate.now) (G.gives gate.now)) fault
+        (R.remaining (inner_of reader.old)) (R.remaining (inner_of reader.new))
         (W.contents (inner_of writer.old)) (W.contents (inner_of writer.new)) session.old session.new) }
+
+    // Where the gate lets exactly certain transitions fail, and no limit is reached, what was written is the text of the
+    // session for these, or a front of it: its bytes hang neither on the number of workers nor on who was quicker.
+    ensures text { (fails : ℕ → Way → Bool) →
+        FailsExactly (G.answers gate.now) fails →
+        IsTimeless (G.gives gate.now) (R.remaining (inner_of reader.old)) →
+        OnOk result (ServesFailing fails
+        (R.remaining (inner_of reader.old)) (R.remaining (inner_of reader.new))
+        (W.contents (inner_of writer.old)) (W.contents (inner_of writer.new))
+        session.old session.new) }
+    ensures front { (fails : ℕ → Way → Bool) →
+        FailsExactly (G.answers gate.now) fails →
+        IsTimeless (G.gives gate.now) (R.remaining (inner_of reader.old)) →
+        IfErr result (λ fault. ServesFrontFailing fault fails
+        (R.remaining (inner_of reader.old)) (R.remaining (inner_of reader.new))
+        (W.contents (inner_of writer.old)) (W.contents (inner_of writer.new))
+        session.old session.new) }
+
+    // Whatever the result, the commands among the lines that were met are played, and the headline holds all along.
+    ensures play { PlaysInput
+        (R.remaining (inner_of reader.old)) (R.remaining (inner_of reader.new))
+        session.old session.new }
 
     // Answers are flushed at the end, and before each read.
     ensures flushed { MatchResult result (λ _. IsFlushed writer.old → IsFlushed writer.new) (λ fault. IsOfAnswer fault ⊎ (IsFlushed writer.old → IsFlushed writer.new)) }
@@ -64,6 +92,9 @@ pub fn serve<T: Threads + Wait + Sync, R: Read, W: Write, G: Gate>(
     // Where a device has failed it ends by a fault, and by one of the reader or the writer only where that one has failed.
     ensures sound { OnOk result ((HasFailed reader.new → ⊥) × (HasFailed writer.new → ⊥)) }
     ensures read { result ≡ Err ServeFault.Read → HasFailed reader.new }
+
+    // Where the reader has failed that is what is told: no read is made before the lines that were read are answered.
+    ensures told { HasFailed reader.new → result ≡ Err ServeFault.Read }
     ensures written { result ≡ Err ServeFault.Write → HasFailed writer.new }
 
     // A session is spoiled by a strange fault, and by nothing else.
@@ -76,6 +107,9 @@ pub fn serve<T: Threads + Wait + Sync, R: Read, W: Write, G: Gate>(
     ensures stays { Stays session.old session.new }
     ensures taken { ConsumesAtMost (R.remaining (inner_of reader.old)) (R.remaining (inner_of reader.new)) 16777217 }
 {
+    // The session tells that its line is one of its database.
+    let _ = session.db();
+    let _ = session.journal();
     if workers == 0 || workers > MAX_WORKERS {
         return Err(ServeFault::Workers);
     }
@@ -96,12 +130,15 @@ fn serve_lines<T: Threads + Wait + Sync, R: Read, W: Write, G: Gate>(
     requires reader { HasFailed reader.old → ⊥ }
     requires writer { HasFailed writer.old → ⊥ }
     requires crew { IsCrew workers }
-    ensures done { OnOk result (ServesAll (R.remaining (inner_of reader.old)) (R.remaining (inner_of reader.new))
+    ensures done { OnOk result (ServesAll (IsDoneBy workers (G.answers gate.now) (G.gives gate.now))
+        (R.remaining (inner_of reader.old)) (R.remaining (inner_of reader.new))
         (W.contents (inner_of writer.old)) (W.contents (inner_of writer.new)) session.old session.new) }
-    ensures begun { IfErr result (λ fault. ServesFront fault (R.remaining (inner_of reader.old)) (R.remaining (inner_of reader.new))
+    ensures begun { IfErr result (λ fault. ServesFront (IsDoneBy workers (G.answers gate.now) (G.gives gate.now)) fault
+        (R.remaining (inner_of reader.old)) (R.remaining (inner_of reader.new))
         (W.contents (inner_of writer.old)) (W.contents (inner_of writer.new)) session.old session.new) }
     ensures flushed { MatchResult result (λ _. IsFlushed writer.old → IsFlushed writer.new) (λ fault. IsOfAnswer fault ⊎ (IsFlushed writer.old → IsFlushed writer.new)) }
     ensures sound { OnOk result ((HasFailed reader.new → ⊥) × (HasFailed writer.new → ⊥)) }
+    ensures told { HasFailed reader.new → result ≡ Err ServeFault.Read }
     ensures stays { Stays session.old session.new }
     ensures fault { IfErr result (IsServeFault (HasFailed reader.new) (HasFailed writer.new) (session.old.spoiled ≡ true)) }
     ensures whole { IsSpoiledBy result session.old session.new }
@@ -129,14 +166,17 @@ fn next_answer<T: Threads + Wait + Sync, R: Read, W: Write, G: Gate>(
     requires reader { HasFailed reader.old → ⊥ }
     requires writer { HasFailed writer.old → ⊥ }
     requires crew { IsCrew workers }
-    ensures next { IfOk result (λ more. ServesNext more (R.remaining (inner_of reader.old)) (R.remaining (inner_of reader.new)) lines.old lines.new
+    ensures next { IfOk result (λ more. ServesNext (IsDoneBy workers (G.answers gate.now) (G.gives gate.now)) more
+        (R.remaining (inner_of reader.old)) (R.remaining (inner_of reader.new)) lines.old lines.new
         (W.contents (inner_of writer.old)) (W.contents (inner_of writer.new)) session.old session.new) }
-    ensures stopped { IfErr result (λ fault. StopsAt fault (R.remaining (inner_of reader.old)) (R.remaining (inner_of reader.new)) lines.old lines.new
+    ensures stopped { IfErr result (λ fault. StopsAt (IsDoneBy workers (G.answers gate.now) (G.gives gate.now)) fault
+        (R.remaining (inner_of reader.old)) (R.remaining (inner_of reader.new)) lines.old lines.new
         (W.contents (inner_of writer.old)) (W.contents (inner_of writer.new)) session.old session.new) }
     ensures flushed { MatchResult result (λ _. IsFlushed writer.old → IsFlushed writer.new) (λ fault. IsOfAnswer fault ⊎ (IsFlushed writer.old → IsFlushed writer.new)) }
     ensures stays { Stays session.old session.new }
     ensures reader { OnOk result (HasFailed reader.new → ⊥) }
     ensures writer { OnOk result (HasFailed writer.new → ⊥) }
+    ensures told { HasFailed reader.new → result ≡ Err ServeFault.Read }
     ensures fault { IfErr result (IsServeFault (HasFailed reader.new) (HasFailed writer.new) (session.old.spoiled ≡ true)) }
     ensures whole { IsSpoiledBy result session.old session.new }
     ensures within { lines.new.taken ≤ 16777217 }

@@ -1,6 +1,7 @@
 -- When `session` refuses or fails, and how it tells that.
-use Rattle.std.specs.Prelude.{◌≡◌, ◌≢◌, ◌⊎◌, ◌++◌, ℕ, List, Option, codes, ◌<◌, None, IfSome, length}
+use Rattle.std.specs.Prelude.{◌≡◌, ◌≢◌, ◌⊎◌, ◌++◌, ℕ, Bool, List, Option, codes, ◌<◌, None, IfSome, length}
 use Rattle.clap.specs.Words.{Text}
+use Rattle.rc_graph.specs.declared.Way.{Way}
 use Rattle.rc_db.specs.Database.{Database}
 use Rattle.rc_dbtext.specs.declared.fault.TextFault.{TextFault}
 use Rattle.rc_dbtext.specs.declared.fault.TextFault.TheVariants as text
@@ -8,7 +9,6 @@ use Rattle.rc_failing.specs.Finding.{IsFirstUnknown}
 use Rattle.rc_failing.specs.declared.gate.GateFault.{GateFault}
 use Rattle.rc_failing.specs.declared.gate.GateFault.TheVariants as gate
 use Rattle.rc_serve.specs.Faults.{IsServeFault}
-use Rattle.rc_serve.specs.Serving.{ServesFront}
 use Rattle.rc_serve.specs.declared.fault.ServeFault.{ServeFault}
 use Rattle.rc_serve.specs.declared.fault.ServeFault.TheVariants.{Read, Write, TooLong, Memory, NoThread, Strange, Workers}
 use Rattle.rc_streams.specs.declared.input.Failure.{Failure}
@@ -16,7 +16,7 @@ use Rattle.rc_streams.specs.declared.input.Failure.TheVariants as failures
 use Rattle.rc_streams.specs.Input.{AppendsFront, fault_line}
 use Rattle.rc_queries.specs.Base.{IsTextFault, Spells}
 use Rattle.rc_queries.specs.DbFaults.{text_word}
-use Rattle.rc_sessions.specs.Session.{Reads, Runs, RunsAsked, RunsGated, RunsOn}
+use Rattle.rc_sessions.specs.Session.{Reads, Runs, RunsAsked, RunsGated, RunsOn, ServesUpTo}
 use Rattle.rc_asked.specs.SessionAsked.{AsksSession, SessionAsk}
 use Rattle.rc_sessions.specs.declared.session_fault.SessionFault.{SessionFault}
 use Rattle.rc_sessions.specs.declared.session_fault.SessionFault.TheVariants.{OfText, Unknown, Failed}
@@ -58,17 +58,18 @@ IsServingFault reader writer = IsServeFault reader writer ⊥
 abbrev pub EndsOn : SessionFault → Database → SessionAsk → (input left written gained : Option (List ℕ)) → (reader writer : Type 0) → Type 0
 EndsOn (OfText fault) d ask input left written gained reader writer = ⊥
 EndsOn (Unknown word) d ask input left written gained reader writer = IsFirstUnknown d.names ask.failing word.now × (left ≡ input) × (gained ≡ written)
-EndsOn (Failed fault) d ask input left written gained reader writer = IsServingFault reader writer fault × (((fault ≡ Memory) × (gained ≡ written)) ⊎ RunsOn (ServesFront fault) d ask input left written gained)
+EndsOn (Failed fault) d ask input left written gained reader writer = IsServingFault reader writer fault × (((fault ≡ Memory) × (gained ≡ written)) ⊎ RunsOn (ServesUpTo fault) d ask input left written gained)
 
--- how a session ends whose gate stands
-abbrev pub EndsGated : ServeFault → Database → (input left written gained : Option (List ℕ)) → (reader writer : Type 0) → Type 0
-EndsGated fault d input left written gained reader writer = IsServingFault reader writer fault × (((fault ≡ Memory) × (gained ≡ written)) ⊎ RunsGated (ServesFront fault) d input left written gained)
+-- how a session ends whose gate lets certain transitions fail
+abbrev pub EndsGated : ServeFault → (fails : ℕ → Way → Bool) → Database → (input left written gained : Option (List ℕ)) → (reader writer : Type 0) → Type 0
+EndsGated fault fails d input left written gained reader writer = IsServingFault reader writer fault
+    × (((fault ≡ Memory) × (gained ≡ written)) ⊎ RunsGated (ServesUpTo fault) fails d input left written gained)
 
 -- the same of a session whose database is looked for first
 abbrev pub EndsBy : SessionFault → Option (List ℕ) → SessionAsk → (remaining after written gained : Option (List ℕ)) → (reader writer : Type 0) → Type 0
 EndsBy (OfText fault) base ask remaining after written gained reader writer = ((input : List ℕ) × Reads base remaining after input × IsSessionRefused (OfText fault) ask base input) × (gained ≡ written)
 EndsBy (Unknown word) base ask remaining after written gained reader writer = ((input : List ℕ) × Reads base remaining after input × IsSessionRefused (Unknown word) ask base input) × (gained ≡ written)
-EndsBy (Failed fault) base ask remaining after written gained reader writer = IsServingFault reader writer fault × ((IsUnserved fault base remaining × (gained ≡ written)) ⊎ Runs (ServesFront fault) base ask remaining after written gained)
+EndsBy (Failed fault) base ask remaining after written gained reader writer = IsServingFault reader writer fault × ((IsUnserved fault base remaining × (gained ≡ written)) ⊎ Runs (ServesUpTo fault) base ask remaining after written gained)
 
 -- a fault of the database text, as one of the session
 abbrev pub IsTextFailing : TextFault → SessionFault → Type 0
@@ -110,4 +111,4 @@ TellsRefusal words base remaining after old new = (ask : SessionAsk) × (fault :
 -- a fault of serving comes, and a writer gains a front of the line that tells it; nothing was served and nothing written, or what serving comes to before that fault
 abbrev pub TellsServeFault : List Text → Option (List ℕ) → (remaining after written gained : Option (List ℕ)) → (reader writer : Type 0) → (old new : Option (List ℕ)) → Type 0
 TellsServeFault words base remaining after written gained reader writer old new = (fault : ServeFault) × IsServingFault reader writer fault
-    × AppendsFront old new (fault_line (serve_word fault)) × ((IsUnserved fault base remaining × (gained ≡ written)) ⊎ RunsAsked (ServesFront fault) words base remaining after written gained)
+    × AppendsFront old new (fault_line (serve_word fault)) × ((IsUnserved fault base remaining × (gained ≡ written)) ⊎ RunsAsked (ServesUpTo fault) words base remaining after written gained)

@@ -1,13 +1,16 @@
 //! The command `session`: lines in, what each says done, and its answer out.
-ghost use Rattle.std.specs.Prelude.{◌≡◌, ◌⊎◌, ◌+◌, false, [], None, Some, map, string_bytes, IfErr, OnOk};
+ghost use Rattle.std.specs.Prelude.{◌≡◌, ◌⊎◌, ◌+◌, ℕ, Bool, false, [], None, Some, Err, map, string_bytes, IfErr, OnOk};
+ghost use Rattle.rc_graph.specs.declared.Way.{Way};
 ghost use Rattle.rc_board.specs.Crew.{IsCrew};
 ghost use Rattle.rc_noted.specs.Noting.{HasFailed, inner_of};
-ghost use Rattle.rc_serve.specs.Serving.{ServesAll, ServesFront};
-ghost use Rattle.rc_streams.specs.Input.{ConsumesAtMost};
+ghost use Rattle.rc_serve.specs.SessionText.{FailsExactly, IsTimeless};
+ghost use Rattle.rc_streams.specs.Input.{AppendsFront, ConsumesAtMost, fault_line};
 ghost use Rattle.rc_queries.specs.Base.{bytes_of};
-ghost use Rattle.rc_sessions.specs.Session.{Runs, RunsAsked, RunsGated, RunsOn};
+ghost use Rattle.rc_sessions.specs.Session.{Runs, RunsAsked, RunsGated, RunsOn, Serves, ServesUpTo};
 ghost use Rattle.rc_asked.specs.SessionAsked.{AsksNoSession, session_ask_of};
-ghost use Rattle.rc_sessions.specs.SessionFaults.{EndsBy, EndsGated, EndsOn, IsServingFault, TellsRefusal, TellsServeFault, reading_fault};
+ghost use Rattle.rc_sessions.specs.SessionFaults.{EndsBy, EndsGated, EndsOn, IsServingFault, TellsRefusal, TellsServeFault, reading_fault, serve_word};
+ghost use Rattle.rc_sessions.specs.declared.session_fault.SessionFault.TheVariants.{Failed};
+ghost use Rattle.rc_serve.specs.declared.fault.ServeFault.TheVariants.{Read as Unread};
 
 use crate::session_fault::{SessionFault, tell_session_fault};
 use rc_asked::{SessionRequest, session_asked, tell_words};
@@ -44,8 +47,10 @@ pub fn session_run<T: Threads + Wait + Sync, R: Read, W: Write, F: Write>(
     requires writer { HasFailed writer.old → ⊥ }
     ensures statuses { (result ≡ 0) ⊎ (result ≡ 1) ⊎ (result ≡ 100) ⊎ (result ≡ 111) }
 
-    // The names that are to fail are services', all lines of the session were met, what was written is their answers, and nothing was told.
-    ensures done { result ≡ 0 → RunsAsked ServesAll (map string_bytes words.now) (bytes_of base.entry)
+    // The names that are to fail are services', and what was written is the text of the session that the database begins
+    // with, for these failing transitions and the whole input: no workers, no gate, no limit and no events are left in it.
+    // The commands among its lines were played, so all that the headline promises holds of them. Nothing was told.
+    ensures done { result ≡ 0 → RunsAsked Serves (map string_bytes words.now) (bytes_of base.entry)
         (R.remaining (inner_of reader.old)) (R.remaining (inner_of reader.new)) (W.contents (inner_of writer.old)) (W.contents (inner_of writer.new)) }
     ensures untold { result ≡ 0 → F.contents faults.new ≡ F.contents faults.old }
 
@@ -62,6 +67,10 @@ pub fn session_run<T: Threads + Wait + Sync, R: Read, W: Write, F: Write>(
     ensures failed { result ≡ 111 → TellsServeFault (map string_bytes words.now) (bytes_of base.entry)
         (R.remaining (inner_of reader.old)) (R.remaining (inner_of reader.new)) (W.contents (inner_of writer.old)) (W.contents (inner_of writer.new))
         (HasFailed reader.new ⊎ (bytes_of base.entry ≡ None)) (HasFailed writer.new) (F.contents faults.old) (F.contents faults.new) }
+
+    // With a base, where the reader has failed that is the cause that is told.
+    ensures cause { (bytes_of base.entry ≡ None → ⊥) → HasFailed reader.new → (result ≡ 111)
+        × AppendsFront (F.contents faults.old) (F.contents faults.new) (fault_line (serve_word Unread)) }
 
     // Whatever the status, one byte past the bound is the last that is taken.
     ensures taken { ConsumesAtMost (R.remaining (inner_of reader.old)) (R.remaining (inner_of reader.new)) (MAX_INPUT + 1) }
@@ -88,10 +97,11 @@ fn run_asked<'a, T: Threads + Wait + Sync, R: Read, W: Write>(
     requires crew { IsCrew request.now.workers }
     requires reader { HasFailed reader.old → ⊥ }
     requires writer { HasFailed writer.old → ⊥ }
-    ensures done { OnOk result (Runs ServesAll (bytes_of base.entry) (session_ask_of request.now) (R.remaining (inner_of reader.old)) (R.remaining (inner_of reader.new))
+    ensures done { OnOk result (Runs Serves (bytes_of base.entry) (session_ask_of request.now) (R.remaining (inner_of reader.old)) (R.remaining (inner_of reader.new))
         (W.contents (inner_of writer.old)) (W.contents (inner_of writer.new))) }
     ensures ended { IfErr result (λ fault. EndsBy fault (bytes_of base.entry) (session_ask_of request.now) (R.remaining (inner_of reader.old)) (R.remaining (inner_of reader.new))
         (W.contents (inner_of writer.old)) (W.contents (inner_of writer.new)) (HasFailed reader.new ⊎ (bytes_of base.entry ≡ None)) (HasFailed writer.new)) }
+    ensures told { (bytes_of base.entry ≡ None → ⊥) → HasFailed reader.new → result ≡ Err (Failed Unread) }
     ensures taken { ConsumesAtMost (R.remaining (inner_of reader.old)) (R.remaining (inner_of reader.new)) (MAX_INPUT + 1) }
 {
     match base {
@@ -112,10 +122,11 @@ fn run_on_base<'a, T: Threads + Wait + Sync, R: Read, W: Write>(
     requires crew { IsCrew request.now.workers }
     requires reader { HasFailed reader.old → ⊥ }
     requires writer { HasFailed writer.old → ⊥ }
-    ensures done { OnOk result (Runs ServesAll (Some base.now) (session_ask_of request.now) (R.remaining (inner_of reader.old)) (R.remaining (inner_of reader.new))
+    ensures done { OnOk result (Runs Serves (Some base.now) (session_ask_of request.now) (R.remaining (inner_of reader.old)) (R.remaining (inner_of reader.new))
         (W.contents (inner_of writer.old)) (W.contents (inner_of writer.new))) }
     ensures ended { IfErr result (λ fault. EndsBy fault (Some base.now) (session_ask_of request.now) (R.remaining (inner_of reader.old)) (R.remaining (inner_of reader.new))
         (W.contents (inner_of writer.old)) (W.contents (inner_of writer.new)) (HasFailed reader.new) (HasFailed writer.new)) }
+    ensures told { HasFailed reader.new → result ≡ Err (Failed Unread) }
     ensures taken { ConsumesAtMost (R.remaining (inner_of reader.old)) (R.remaining (inner_of reader.new)) (MAX_INPUT + 1) }
 {
     let (db, _none) = database_of(alloc, Some(base), &[])?;
@@ -133,7 +144,7 @@ fn run_on_input<'a, T: Threads + Wait + Sync, R: Read, W: Write>(
     requires crew { IsCrew request.now.workers }
     requires reader { HasFailed reader.old → ⊥ }
     requires writer { HasFailed writer.old → ⊥ }
-    ensures done { OnOk result (Runs ServesAll None (session_ask_of request.now) (R.remaining (inner_of reader.old)) (R.remaining (inner_of reader.new))
+    ensures done { OnOk result (Runs Serves None (session_ask_of request.now) (R.remaining (inner_of reader.old)) (R.remaining (inner_of reader.new))
         (W.contents (inner_of writer.old)) (W.contents (inner_of writer.new))) }
     ensures ended { IfErr result (λ fault. EndsBy fault None (session_ask_of request.now) (R.remaining (inner_of reader.old)) (R.remaining (inner_of reader.new))
         (W.contents (inner_of writer.old)) (W.contents (inner_of writer.new)) (Unit {0}) (HasFailed writer.new)) }
@@ -170,10 +181,11 @@ fn run_on<'a, T: Threads + Wait + Sync, R: Read, W: Write>(
     requires crew { IsCrew request.now.workers }
     requires reader { HasFailed reader.old → ⊥ }
     requires writer { HasFailed writer.old → ⊥ }
-    ensures done { OnOk result (RunsOn ServesAll db (session_ask_of request.now) (R.remaining (inner_of reader.old)) (R.remaining (inner_of reader.new))
+    ensures done { OnOk result (RunsOn Serves db (session_ask_of request.now) (R.remaining (inner_of reader.old)) (R.remaining (inner_of reader.new))
         (W.contents (inner_of writer.old)) (W.contents (inner_of writer.new))) }
     ensures ended { IfErr result (λ fault. EndsOn fault db (session_ask_of request.now) (R.remaining (inner_of reader.old)) (R.remaining (inner_of reader.new))
         (W.contents (inner_of writer.old)) (W.contents (inner_of writer.new)) (HasFailed reader.new) (HasFailed writer.new)) }
+    ensures told { HasFailed reader.new → result ≡ Err (Failed Unread) }
     ensures taken { ConsumesAtMost (R.remaining (inner_of reader.old)) (R.remaining (inner_of reader.new)) (MAX_INPUT + 1) }
 {
     let gate = match gate_of(alloc, db.names(), &request.failing) {
@@ -204,10 +216,20 @@ fn run_gated<T: Threads + Wait + Sync, R: Read, W: Write, G: Gate>(
     requires crew { IsCrew workers }
     requires reader { HasFailed reader.old → ⊥ }
     requires writer { HasFailed writer.old → ⊥ }
-    ensures done { OnOk result (RunsGated ServesAll db (R.remaining (inner_of reader.old)) (R.remaining (inner_of reader.new))
+    ensures done { (fails : ℕ → Way → Bool) →
+        FailsExactly (G.answers gate.now) fails →
+        IsTimeless (G.gives gate.now) (R.remaining (inner_of reader.old)) →
+        OnOk result (RunsGated Serves fails db
+        (R.remaining (inner_of reader.old)) (R.remaining (inner_of reader.new))
         (W.contents (inner_of writer.old)) (W.contents (inner_of writer.new))) }
-    ensures ended { IfErr result (λ fault. EndsGated fault db (R.remaining (inner_of reader.old)) (R.remaining (inner_of reader.new))
-        (W.contents (inner_of writer.old)) (W.contents (inner_of writer.new)) (HasFailed reader.new) (HasFailed writer.new)) }
+    ensures ended { (fails : ℕ → Way → Bool) →
+        FailsExactly (G.answers gate.now) fails →
+        IsTimeless (G.gives gate.now) (R.remaining (inner_of reader.old)) →
+        IfErr result (λ fault. EndsGated fault fails db
+        (R.remaining (inner_of reader.old)) (R.remaining (inner_of reader.new))
+        (W.contents (inner_of writer.old)) (W.contents (inner_of writer.new))
+        (HasFailed reader.new) (HasFailed writer.new)) }
+    ensures told { HasFailed reader.new → result ≡ Err ServeFault.Read }
     ensures taken { ConsumesAtMost (R.remaining (inner_of reader.old)) (R.remaining (inner_of reader.new)) (MAX_INPUT + 1) }
 {
     let mut session = Session::new(alloc, db)?;
@@ -231,11 +253,22 @@ fn serve_narrow<T: Threads + Wait + Sync, R: Read, W: Write, G: Gate>(
     requires whole { session.old.spoiled ≡ false }
     requires reader { HasFailed reader.old → ⊥ }
     requires writer { HasFailed writer.old → ⊥ }
-    ensures done { OnOk result (ServesAll (R.remaining (inner_of reader.old)) (R.remaining (inner_of reader.new))
-        (W.contents (inner_of writer.old)) (W.contents (inner_of writer.new)) session.old session.new) }
-    ensures begun { IfErr result (λ fault. ServesFront fault (R.remaining (inner_of reader.old)) (R.remaining (inner_of reader.new))
-        (W.contents (inner_of writer.old)) (W.contents (inner_of writer.new)) session.old session.new) }
+    ensures done { (fails : ℕ → Way → Bool) →
+        FailsExactly (G.answers gate.now) fails →
+        IsTimeless (G.gives gate.now) (R.remaining (inner_of reader.old)) →
+        OnOk result (Serves fails
+        (R.remaining (inner_of reader.old)) (R.remaining (inner_of reader.new))
+        (W.contents (inner_of writer.old)) (W.contents (inner_of writer.new))
+        session.old session.new) }
+    ensures begun { (fails : ℕ → Way → Bool) →
+        FailsExactly (G.answers gate.now) fails →
+        IsTimeless (G.gives gate.now) (R.remaining (inner_of reader.old)) →
+        IfErr result (λ fault. ServesUpTo fault fails
+        (R.remaining (inner_of reader.old)) (R.remaining (inner_of reader.new))
+        (W.contents (inner_of writer.old)) (W.contents (inner_of writer.new))
+        session.old session.new) }
     ensures fault { IfErr result (IsServingFault (HasFailed reader.new) (HasFailed writer.new)) }
+    ensures told { HasFailed reader.new → result ≡ Err ServeFault.Read }
     ensures taken { ConsumesAtMost (R.remaining (inner_of reader.old)) (R.remaining (inner_of reader.new)) (MAX_INPUT + 1) }
 {
     serve(rt, alloc, reader, writer, session, gate, workers)

@@ -3,20 +3,21 @@ use Rattle.std.proofs.lemmas.Result.{err_from_is_err_and}
 use Rattle.rc_noted.specs.Noting.{HasFailed, inner_of}
 use Rattle.rc_serve.specs.Serving.{StopsAt}
 use Rattle.rc_serve.specs.Faults.{IsServeFault, Spoils, of_failure}
+use Rattle.rc_serve.specs.Meeting.{IsDoneBy}
 use Rattle.rc_serve.proofs.Lines.{plain_fault, spoils_failure, stops_short, stops_unread}
 use Rattle.rc_serve.proofs.sessions.next_answer.Goals as goal
 
 pub returns-in_err-line-clause-stopped : goal.returns-in_err-line-clause-stopped
 returns-in_err-line-clause-stopped g c =
-    let stops : StopsAt (of_failure c.in_err-line.field-0.0) (g.R.Read.remaining (inner_of c.args.reader.now)) (g.R.Read.remaining (inner_of c.next.new.reader)) c.args.lines.now c.next.new.self (g.W.Write.contents (inner_of c.args.writer.now)) (g.W.Write.contents (inner_of c.args.writer.now)) c.args.session.now c.args.session.now =
-    stops_unread _ c.in_err-line.field-0.0 (g.R.Read.remaining (inner_of c.args.reader.now)) (g.R.Read.remaining (inner_of c.next.new.reader)) c.args.lines.now c.next.new.self (g.W.Write.contents (inner_of c.args.writer.now)) c.args.session.now c.in_err-line.ensures.fault in
+    let stops : StopsAt (IsDoneBy c.args.workers (g.G.Gate.answers c.args.gate.now) (g.G.Gate.gives c.args.gate.now)) (of_failure c.in_err-line.field-0.0) (g.R.Read.remaining (inner_of c.args.reader.now)) (g.R.Read.remaining (inner_of c.next.new.reader)) c.args.lines.now c.next.new.self (g.W.Write.contents (inner_of c.args.writer.now)) (g.W.Write.contents (inner_of c.args.writer.now)) c.args.session.now c.args.session.now =
+    stops_unread (IsDoneBy c.args.workers (g.G.Gate.answers c.args.gate.now) (g.G.Gate.gives c.args.gate.now)) _ c.in_err-line.field-0.0 (g.R.Read.remaining (inner_of c.args.reader.now)) (g.R.Read.remaining (inner_of c.next.new.reader)) c.args.lines.now c.next.new.self (g.W.Write.contents (inner_of c.args.writer.now)) c.args.session.now c.in_err-line.ensures.fault in
     let is = err_from_is_err_and c.from_residual.result c.from_residual.ensures.1 in
     rw (is.1, is.2) stops
 
 pub returns-in_err-text-clause-stopped : goal.returns-in_err-text-clause-stopped
 returns-in_err-text-clause-stopped g c =
-    let stops : StopsAt c.in_err-text.field-0.0 (g.R.Read.remaining (inner_of c.args.reader.now)) (g.R.Read.remaining (inner_of c.next.new.reader)) c.args.lines.now c.next.new.self (g.W.Write.contents (inner_of c.args.writer.now)) (g.W.Write.contents (inner_of c.args.writer.now)) c.args.session.now c.line_answer.new.session =
-    stops_short c.in_err-text.field-0.0 c.in-Some.ends (g.R.Read.remaining (inner_of c.args.reader.now)) (g.R.Read.remaining (inner_of c.next.new.reader)) c.args.lines.now c.next.new.self (g.W.Write.contents (inner_of c.args.writer.now)) c.args.session.now c.line_answer.new.session c.in-Some.line.items
+    let stops : StopsAt (IsDoneBy c.args.workers (g.G.Gate.answers c.args.gate.now) (g.G.Gate.gives c.args.gate.now)) c.in_err-text.field-0.0 (g.R.Read.remaining (inner_of c.args.reader.now)) (g.R.Read.remaining (inner_of c.next.new.reader)) c.args.lines.now c.next.new.self (g.W.Write.contents (inner_of c.args.writer.now)) (g.W.Write.contents (inner_of c.args.writer.now)) c.args.session.now c.line_answer.new.session =
+    stops_short (IsDoneBy c.args.workers (g.G.Gate.answers c.args.gate.now) (g.G.Gate.gives c.args.gate.now)) c.in_err-text.field-0.0 c.in-Some.ends (g.R.Read.remaining (inner_of c.args.reader.now)) (g.R.Read.remaining (inner_of c.next.new.reader)) c.args.lines.now c.next.new.self (g.W.Write.contents (inner_of c.args.writer.now)) c.args.session.now c.line_answer.new.session c.in-Some.line.items
     (rw c.in-Some.is at c.in_ok-line.ensures.line) c.in_ok-line.ensures.taken (rw c.deref.ensures.value at c.in_err-text.ensures.may) (rw c.deref.ensures.value at c.in_err-text.ensures.fault) in
     let is = err_from_is_err_and c.from_residual-in_err-text.result c.from_residual-in_err-text.ensures.1 in
     rw (is.1, is.2) stops

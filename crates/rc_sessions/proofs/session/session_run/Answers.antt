@@ -3,7 +3,7 @@ use Rattle.rc_noted.specs.Noting.{inner_of}
 use Rattle.rc_serve.specs.declared.fault.ServeFault.TheVariants.{Memory}
 use Rattle.rc_queries.specs.Base.{bytes_of}
 use Rattle.rc_asked.specs.SessionAsked.{session_ask_of}
-use Rattle.rc_sessions.proofs.SessionLemmas.{failure_holds, front_asked, refusal_holds}
+use Rattle.rc_sessions.proofs.SessionLemmas.{failure_holds, front_asked, refusal_holds, told_read}
 use Rattle.rc_sessions.proofs.session.session_run.Goals as goal
 
 pub returns-in-Err-clause-wrong : goal.returns-in-Err-clause-wrong
@@ -33,3 +33,9 @@ returns-clause-failed g c told =
           (g.R.Read.remaining (inner_of c.args.reader.now)) (g.R.Read.remaining (inner_of c.run_asked.new.reader))
           (g.W.Write.contents (inner_of c.args.writer.now)) (g.W.Write.contents (inner_of c.run_asked.new.writer)) c.in-Ok.ensures.asked holds.1,
     )
+
+pub returns-clause-cause : goal.returns-clause-cause
+returns-clause-cause g c based failed =
+    told_read c.run_asked.result c.in-Err-run_asked.fault c.tell_session_fault.result _ (g.F.Write.contents c.args.faults.now) (g.F.Write.contents c.tell_session_fault.new.faults)
+    (c.run_asked.ensures.told based failed) c.in-Err-run_asked.is
+    c.tell_session_fault.ensures.statuses c.tell_session_fault.ensures.refused c.tell_session_fault.ensures.failed
