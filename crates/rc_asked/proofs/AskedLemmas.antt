@@ -6,15 +6,6 @@ use Rattle.rc_command.specs.Words.{has_fault, is_on, rows_named, words_in}
 use Rattle.rc_asked.specs.Asked.{ask_in, mode_of, plan_asked}
 use Rattle.rc_command.proofs.WordsLemmas.{rows_right, rows_wrong}
 
--- what words ask whose matches are those of `plan`, or of another command
-pub asked_right : (words : List Text) (entered : Option (Text × List Row)) (rows : Option (List Row)) → has_fault (fault_of program words) ≡ false → entered ≡ subcommand_of program words
-    → rows ≡ rows_named (codes "plan") entered → plan_asked words ≡ option_and_then ask_in rows
-asked_right words entered rows right is named = ap (option_and_then ask_in) (rows_right (codes "plan") words entered right is ∙ sym named)
-
--- a wrong line asks nothing
-pub asked_wrong : (words : List Text) → has_fault (fault_of program words) ≡ true → plan_asked words ≡ None
-asked_wrong words wrong = ap (option_and_then ask_in) (rows_wrong (codes "plan") words wrong)
-
 -- what the matches ask, by the mode that their flags give
 pub asked_in : (rows : List Row) (mode : Mode) → mode_of (is_on (codes "up") rows) (is_on (codes "down") rows) (is_on (codes "down-all") rows) ≡ Some mode
     → ask_in rows ≡ Some (record { mode = mode; prune = is_on (codes "prune") rows; all = is_on (codes "all") rows; words = words_in rows; limit = 0 })

@@ -1,0 +1,135 @@
+-- What the words ask, by the matches that `clap` makes of them.
+use Rattle.std.proofs.Common.{◌≡◌, ◌∙◌, Bool, List, Option, None, Some, absurd, false, true, if◌then◌else◌, refl, ap, sym, subst, codes}
+use Rattle.std.proofs.lemmas.Slice.Eq.{bytes_eq-Decides}
+use Rattle.std.specs.Option.{option_and_then}
+use Rattle.std.specs.Str.{bytes_eq}
+use Rattle.clap.specs.Matches.{first_value, found_of}
+use Rattle.clap.specs.Words.{Row, Text, fault_of, rows_of, subcommand_of}
+use Rattle.clap.specs.declared.ArgMatches.{ArgMatches}
+use Rattle.clap.proofs.WalkLemmas.{first_value-rows}
+use Rattle.rc_select.specs.Ask.{Ask}
+use Rattle.rc_command.specs.Commands.{program}
+use Rattle.rc_command.specs.Words.{has_fault, rows_for, rows_named}
+use Rattle.rc_command.proofs.WordsLemmas.{rows_right, rows_wrong}
+use Rattle.rc_asked.specs.Asked.{ask_in, plan_asked}
+use Rattle.rc_asked.specs.DbAsked.{AsksDb, AsksIn, AsksNothing}
+use Rattle.rc_asked.specs.Query.{DbAsk}
+use Rattle.rc_asked.specs.ReplayAsked.{AsksReplay}
+use Rattle.rc_asked.specs.SessionAsked.{AsksNoSession, AsksSession, AsksSessionIn, SessionAsk}
+use Rattle.rc_asked.specs.Task.{AsksEntered, AsksNamed, AsksNoTask, AsksTask, AsksTaskIn, OfCompile, OfDb, OfPlan, OfReplay, OfSession, TaskAsk, command_of, file_in}
+
+-- the command that was entered has its matches, and is the one that has them
+named_self : (name : Text) (rows : List Row) → rows_named name (Some (name, rows)) ≡ Some rows
+named_self name rows = ap (λ (b : Bool). if b then Some rows else None) ((bytes_eq-Decides name name).1 refl)
+
+named_by : (name given : Text) (found rows : List Row) (same : Bool) → bytes_eq given name ≡ same → (if same then Some found else None) ≡ Some rows → Some (given, found) ≡ Some (name, rows)
+named_by name given found rows true is e = let one : given ≡ name = (bytes_eq-Decides given name).0 is in cc
+named_by name given found rows false is e = cc
+
+named_back : (name : Text) (entered : Option (Text × List Row)) (rows : List Row) → rows_named name entered ≡ Some rows → entered ≡ Some (name, rows)
+named_back name None rows is = cc
+named_back name (Some e) rows is = named_by name e.0 e.1 rows (bytes_eq e.0 name) refl is
+
+-- one command is entered, and no other
+other_named : (name other : Text) (entered : Option (Text × List Row)) (rows : List Row) → bytes_eq name other ≡ false → rows_named name entered ≡ Some rows → rows_named other entered ≡ None
+other_named name other entered rows apart is =
+    ap (rows_named other) (named_back name entered rows is) ∙ ap (λ (b : Bool). if b then Some rows else None) apart
+
+other_by : (wrong : Bool) (name other : Text) (entered : Option (Text × List Row)) (rows : List Row) → bytes_eq name other ≡ false
+    → (if wrong then None else rows_named name entered) ≡ Some rows → (if wrong then None else rows_named other entered) ≡ None
+other_by true name other entered rows apart is = refl
+other_by false name other entered rows apart is = other_named name other entered rows apart is
+
+other_rows : (name other : Text) (words : List Text) (rows : List Row) → bytes_eq name other ≡ false → rows_for name words ≡ Some rows → rows_for other words ≡ None
+unfolding rows_for
+other_rows name other words rows apart is = other_by (has_fault (fault_of program words)) name other (subcommand_of program words) rows apart is
+
+pub other_asked : (name : Text) (words : List Text) (ask : TaskAsk) → AsksTask words ask → bytes_eq (command_of ask) name ≡ false → rows_for name words ≡ None
+other_asked name words ask asks apart = other_rows (command_of ask) name words asks.0 apart asks.1
+
+-- what was entered asks what the words ask, where they have no fault
+pub entered_right : (words : List Text) (entered : Option (Text × List Row)) (ask : TaskAsk) → has_fault (fault_of program words) ≡ false → entered ≡ subcommand_of program words
+    → AsksEntered entered ask → AsksTask words ask
+entered_right words entered ask right is asks =
+    (asks.0, rows_right (command_of ask) words entered right is ∙ (ap (rows_named (command_of ask)) asks.1 ∙ named_self (command_of ask) asks.0), asks.2)
+
+pub entered_back : (words : List Text) (entered : Option (Text × List Row)) (ask : TaskAsk) → has_fault (fault_of program words) ≡ false → entered ≡ subcommand_of program words
+    → AsksTask words ask → AsksEntered entered ask
+entered_back words entered ask right is asks =
+    (asks.0, named_back (command_of ask) entered asks.0 (sym (rows_right (command_of ask) words entered right is) ∙ asks.1), asks.2)
+
+-- a wrong line asks nothing
+pub wrong_asks : (words : List Text) → has_fault (fault_of program words) ≡ true → AsksNoTask words
+wrong_asks words wrong ask asks = let both : None ≡ Some asks.0 = sym (rows_wrong (command_of ask) words wrong) ∙ asks.1 in cc
+
+-- what was entered asks what the matches of its name ask
+pub named_right : (name : Text) (rows : List Row) (entered : Option (Text × List Row)) (ask : TaskAsk) → Some (name, rows) ≡ entered → AsksNamed name rows ask → AsksEntered entered ask
+named_right name rows entered ask is asks = (rows, sym is ∙ ap (λ (n : Text). Some (n, rows)) asks.0, asks.1)
+
+pub entered_named : (name : Text) (rows : List Row) (entered : Option (Text × List Row)) (ask : TaskAsk) → Some (name, rows) ≡ entered → AsksEntered entered ask → AsksNamed name rows ask
+entered_named name rows entered ask is asks =
+    let both : Some (name, rows) ≡ Some (command_of ask, asks.0) = is ∙ asks.1 in
+    let one : name ≡ command_of ask = cc in
+    let same : asks.0 ≡ rows = cc in
+    (one, subst (λ (rs : List Row). AsksTaskIn rs ask) same asks.2)
+
+-- the file of the matches, by the text that is found in them
+pub file_found : (m : ArgMatches) (file : Option Text) → file ≡ first_value (found_of m) (codes "base") → file ≡ file_in (rows_of (found_of m))
+file_found m file is = is ∙ first_value-rows (found_of m) (codes "base")
+
+-- matches that ask nothing of their command ask nothing
+pub db_none : (rows : List Row) → ((ask : DbAsk) → AsksIn rows ask → ⊥) → (ask : TaskAsk) → AsksNamed (codes "db") rows ask → ⊥
+db_none rows none (OfCompile sources) asks = let is = asks.0 in cc
+db_none rows none (OfDb ask file) asks = none ask asks.1.0
+db_none rows none (OfPlan ask file) asks = let is = asks.0 in cc
+db_none rows none (OfReplay file) asks = let is = asks.0 in cc
+db_none rows none (OfSession ask file) asks = let is = asks.0 in cc
+
+pub plan_none : (rows : List Row) → ask_in rows ≡ None → (ask : TaskAsk) → AsksNamed (codes "plan") rows ask → ⊥
+plan_none rows none (OfCompile sources) asks = let is = asks.0 in cc
+plan_none rows none (OfDb ask file) asks = let is = asks.0 in cc
+plan_none rows none (OfPlan ask file) asks = let both : None ≡ Some ask = sym none ∙ asks.1.0 in cc
+plan_none rows none (OfReplay file) asks = let is = asks.0 in cc
+plan_none rows none (OfSession ask file) asks = let is = asks.0 in cc
+
+pub session_none : (rows : List Row) → ((ask : SessionAsk) → AsksSessionIn rows ask → ⊥) → (ask : TaskAsk) → AsksNamed (codes "session") rows ask → ⊥
+session_none rows none (OfCompile sources) asks = let is = asks.0 in cc
+session_none rows none (OfDb ask file) asks = let is = asks.0 in cc
+session_none rows none (OfPlan ask file) asks = let is = asks.0 in cc
+session_none rows none (OfReplay file) asks = let is = asks.0 in cc
+session_none rows none (OfSession ask file) asks = none ask asks.1.0
+
+-- a task of a command is what the words ask of it
+pub plan_right : (words : List Text) (ask : Ask) (file : Option Text) → AsksTask words (OfPlan ask file) → plan_asked words ≡ Some ask
+plan_right words ask file asks = ap (option_and_then ask_in) asks.1 ∙ asks.2.0
+
+pub plan_other : (words : List Text) (ask : TaskAsk) → AsksTask words ask → bytes_eq (command_of ask) (codes "plan") ≡ false → plan_asked words ≡ None
+plan_other words ask asks apart = ap (option_and_then ask_in) (other_asked (codes "plan") words ask asks apart)
+
+pub replay_right : (words : List Text) (file : Option Text) → AsksTask words (OfReplay file) → AsksReplay words
+replay_right words file asks none = let both : None ≡ Some asks.0 = sym none ∙ asks.1 in cc
+
+-- words that ask nothing ask nothing of a command
+ask_none : (words : List Text) (rows : List Row) (ask : Option Ask) → ask_in rows ≡ ask → rows_for (codes "plan") words ≡ Some rows → AsksNoTask words → ask ≡ None
+ask_none words rows None at is no = refl
+ask_none words rows (Some ask) at is no = absurd (no (OfPlan ask (file_in rows)) (rows, is, at, refl))
+
+rows_none : (words : List Text) (found : Option (List Row)) → rows_for (codes "plan") words ≡ found → AsksNoTask words → option_and_then ask_in found ≡ None
+rows_none words None is no = refl
+rows_none words (Some rows) is no = ask_none words rows (ask_in rows) refl is no
+
+pub no_plan : (words : List Text) → AsksNoTask words → plan_asked words ≡ None
+no_plan words no = rows_none words (rows_for (codes "plan") words) refl no
+
+replay_none : (words : List Text) (found : Option (List Row)) → rows_for (codes "replay") words ≡ found → AsksNoTask words → found ≡ None
+replay_none words None is no = refl
+replay_none words (Some rows) is no = absurd (no (OfReplay (file_in rows)) (rows, is, refl))
+
+pub no_replay : (words : List Text) → AsksNoTask words → rows_for (codes "replay") words ≡ None
+no_replay words no = replay_none words (rows_for (codes "replay") words) refl no
+
+pub no_db : (words : List Text) → AsksNoTask words → AsksNothing words
+no_db words no ask asks = no (OfDb ask (file_in asks.0)) (asks.0, asks.1, asks.2, refl)
+
+pub no_session : (words : List Text) → AsksNoTask words → AsksNoSession words
+no_session words no ask asks = no (OfSession ask (file_in asks.0)) (asks.0, asks.1, asks.2, refl)
