@@ -1,5 +1,5 @@
 -- What the words ask, by the matches that `clap` makes of them.
-use Rattle.std.proofs.Common.{◌≡◌, ◌∙◌, Bool, List, Option, None, Some, absurd, false, true, if◌then◌else◌, refl, ap, sym, subst, codes}
+use Rattle.std.proofs.Common.{◌≡◌, ◌∙◌, Bool, List, Option, None, Some, false, true, if◌then◌else◌, refl, ap, sym, subst, unwrap_or, codes}
 use Rattle.std.proofs.lemmas.Slice.Eq.{bytes_eq-Decides}
 use Rattle.std.specs.Option.{option_and_then}
 use Rattle.std.specs.Str.{bytes_eq}
@@ -12,18 +12,21 @@ use Rattle.rc_command.specs.Commands.{program}
 use Rattle.rc_command.specs.Words.{has_fault, rows_for, rows_named}
 use Rattle.rc_command.proofs.WordsLemmas.{rows_right, rows_wrong}
 use Rattle.rc_asked.specs.Asked.{ask_in, plan_asked}
-use Rattle.rc_asked.specs.DbAsked.{AsksDb, AsksIn, AsksNothing}
+use Rattle.rc_asked.specs.DbAsked.{AsksIn, AsksNothing}
 use Rattle.rc_asked.specs.Query.{DbAsk}
-use Rattle.rc_asked.specs.ReplayAsked.{AsksReplay}
-use Rattle.rc_asked.specs.SessionAsked.{AsksNoSession, AsksSession, AsksSessionIn, SessionAsk}
-use Rattle.rc_asked.specs.Task.{AsksEntered, AsksNamed, AsksNoTask, AsksTask, AsksTaskIn, OfCompile, OfDb, OfPlan, OfReplay, OfSession, TaskAsk, command_of, file_in}
+use Rattle.rc_asked.specs.SessionAsked.{AsksNoSession, AsksSessionIn, SessionAsk}
+use Rattle.rc_asked.specs.Task.{AsksEntered, AsksNamed, AsksNoTask, AsksTask, AsksTaskIn, OfCompile, OfDb, OfPlan, OfReplay, OfSession, TaskAsk, command_of, file_in, task_ask_of}
+use Rattle.rc_asked.specs.declared.task.Task.{Task}
 
 -- the command that was entered has its matches, and is the one that has them
 named_self : (name : Text) (rows : List Row) → rows_named name (Some (name, rows)) ≡ Some rows
 named_self name rows = ap (λ (b : Bool). if b then Some rows else None) ((bytes_eq-Decides name name).1 refl)
 
-named_by : (name given : Text) (found rows : List Row) (same : Bool) → bytes_eq given name ≡ same → (if same then Some found else None) ≡ Some rows → Some (given, found) ≡ Some (name, rows)
-named_by name given found rows true is e = let one : given ≡ name = (bytes_eq-Decides given name).0 is in cc
+named_by : (name given : Text) (found rows : List Row) (same : Bool) → bytes_eq given name ≡ same → (if same then Some found else None) ≡ Some rows
+    → ◌≡◌ {A = Option (Text × List Row)} (Some (given, found)) (Some (name, rows))
+named_by name given found rows true is e =
+    let one : found ≡ rows = cc in
+    ap (λ (n : Text). Some (n, found)) ((bytes_eq-Decides given name).0 is) ∙ ap (λ (rs : List Row). Some (name, rs)) one
 named_by name given found rows false is e = cc
 
 named_back : (name : Text) (entered : Option (Text × List Row)) (rows : List Row) → rows_named name entered ≡ Some rows → entered ≡ Some (name, rows)
@@ -44,8 +47,9 @@ other_rows : (name other : Text) (words : List Text) (rows : List Row) → bytes
 unfolding rows_for
 other_rows name other words rows apart is = other_by (has_fault (fault_of program words)) name other (subcommand_of program words) rows apart is
 
-pub other_asked : (name : Text) (words : List Text) (ask : TaskAsk) → AsksTask words ask → bytes_eq (command_of ask) name ≡ false → rows_for name words ≡ None
-other_asked name words ask asks apart = other_rows (command_of ask) name words asks.0 apart asks.1
+pub other_asked : (name : Text) (words : List Text) (task other : Task) → task ≡ other → bytes_eq (command_of (task_ask_of other)) name ≡ false → AsksTask words (task_ask_of task) → rows_for name words ≡ None
+other_asked name words task other is apart asks =
+    other_rows (command_of (task_ask_of task)) name words asks.0 (ap (λ (t : Task). bytes_eq (command_of (task_ask_of t)) name) is ∙ apart) asks.1
 
 -- what was entered asks what the words ask, where they have no fault
 pub entered_right : (words : List Text) (entered : Option (Text × List Row)) (ask : TaskAsk) → has_fault (fault_of program words) ≡ false → entered ≡ subcommand_of program words
@@ -68,68 +72,65 @@ named_right name rows entered ask is asks = (rows, sym is ∙ ap (λ (n : Text).
 
 pub entered_named : (name : Text) (rows : List Row) (entered : Option (Text × List Row)) (ask : TaskAsk) → Some (name, rows) ≡ entered → AsksEntered entered ask → AsksNamed name rows ask
 entered_named name rows entered ask is asks =
-    let both : Some (name, rows) ≡ Some (command_of ask, asks.0) = is ∙ asks.1 in
-    let one : name ≡ command_of ask = cc in
-    let same : asks.0 ≡ rows = cc in
-    (one, subst (λ (rs : List Row). AsksTaskIn rs ask) same asks.2)
+    let both : ◌≡◌ {A = Option (Text × List Row)} (Some (name, rows)) (Some (command_of ask, asks.0)) = is ∙ asks.1 in
+    let same : rows ≡ asks.0 = ap (λ (o : Option (Text × List Row)). (unwrap_or o (name, rows)).1) both in
+    (ap (λ (o : Option (Text × List Row)). (unwrap_or o (name, rows)).0) both, subst (λ (rs : List Row). AsksTaskIn rs ask) (sym same) asks.2)
 
 -- the file of the matches, by the text that is found in them
 pub file_found : (m : ArgMatches) (file : Option Text) → file ≡ first_value (found_of m) (codes "base") → file ≡ file_in (rows_of (found_of m))
 file_found m file is = is ∙ first_value-rows (found_of m) (codes "base")
 
+-- two names are apart
+apart : (name other : Text) → bytes_eq name other ≡ false → name ≡ other → ⊥
+apart name other no_test is = let yes : bytes_eq name other ≡ true = (bytes_eq-Decides name other).1 is in let both : true ≡ false = sym yes ∙ no_test in cc
+
 -- matches that ask nothing of their command ask nothing
 pub db_none : (rows : List Row) → ((ask : DbAsk) → AsksIn rows ask → ⊥) → (ask : TaskAsk) → AsksNamed (codes "db") rows ask → ⊥
-db_none rows none (OfCompile sources) asks = let is = asks.0 in cc
+db_none rows none (OfCompile sources) asks = apart (codes "db") (codes "compile") refl asks.0
 db_none rows none (OfDb ask file) asks = none ask asks.1.0
-db_none rows none (OfPlan ask file) asks = let is = asks.0 in cc
-db_none rows none (OfReplay file) asks = let is = asks.0 in cc
-db_none rows none (OfSession ask file) asks = let is = asks.0 in cc
+db_none rows none (OfPlan ask file) asks = apart (codes "db") (codes "plan") refl asks.0
+db_none rows none (OfReplay file) asks = apart (codes "db") (codes "replay") refl asks.0
+db_none rows none (OfSession ask file) asks = apart (codes "db") (codes "session") refl asks.0
 
 pub plan_none : (rows : List Row) → ask_in rows ≡ None → (ask : TaskAsk) → AsksNamed (codes "plan") rows ask → ⊥
-plan_none rows none (OfCompile sources) asks = let is = asks.0 in cc
-plan_none rows none (OfDb ask file) asks = let is = asks.0 in cc
+plan_none rows none (OfCompile sources) asks = apart (codes "plan") (codes "compile") refl asks.0
+plan_none rows none (OfDb ask file) asks = apart (codes "plan") (codes "db") refl asks.0
 plan_none rows none (OfPlan ask file) asks = let both : None ≡ Some ask = sym none ∙ asks.1.0 in cc
-plan_none rows none (OfReplay file) asks = let is = asks.0 in cc
-plan_none rows none (OfSession ask file) asks = let is = asks.0 in cc
+plan_none rows none (OfReplay file) asks = apart (codes "plan") (codes "replay") refl asks.0
+plan_none rows none (OfSession ask file) asks = apart (codes "plan") (codes "session") refl asks.0
 
 pub session_none : (rows : List Row) → ((ask : SessionAsk) → AsksSessionIn rows ask → ⊥) → (ask : TaskAsk) → AsksNamed (codes "session") rows ask → ⊥
-session_none rows none (OfCompile sources) asks = let is = asks.0 in cc
-session_none rows none (OfDb ask file) asks = let is = asks.0 in cc
-session_none rows none (OfPlan ask file) asks = let is = asks.0 in cc
-session_none rows none (OfReplay file) asks = let is = asks.0 in cc
+session_none rows none (OfCompile sources) asks = apart (codes "session") (codes "compile") refl asks.0
+session_none rows none (OfDb ask file) asks = apart (codes "session") (codes "db") refl asks.0
+session_none rows none (OfPlan ask file) asks = apart (codes "session") (codes "plan") refl asks.0
+session_none rows none (OfReplay file) asks = apart (codes "session") (codes "replay") refl asks.0
 session_none rows none (OfSession ask file) asks = none ask asks.1.0
 
--- a task of a command is what the words ask of it
-pub plan_right : (words : List Text) (ask : Ask) (file : Option Text) → AsksTask words (OfPlan ask file) → plan_asked words ≡ Some ask
-plan_right words ask file asks = ap (option_and_then ask_in) asks.1 ∙ asks.2.0
-
-pub plan_other : (words : List Text) (ask : TaskAsk) → AsksTask words ask → bytes_eq (command_of ask) (codes "plan") ≡ false → plan_asked words ≡ None
-plan_other words ask asks apart = ap (option_and_then ask_in) (other_asked (codes "plan") words ask asks apart)
-
-pub replay_right : (words : List Text) (file : Option Text) → AsksTask words (OfReplay file) → AsksReplay words
-replay_right words file asks none = let both : None ≡ Some asks.0 = sym none ∙ asks.1 in cc
+-- what a task of another command says of a command
+pub plan_other : (words : List Text) (task other : Task) → task ≡ other → bytes_eq (command_of (task_ask_of other)) (codes "plan") ≡ false → AsksTask words (task_ask_of task) → plan_asked words ≡ None
+plan_other words task other is apart asks = ap (option_and_then ask_in) (other_asked (codes "plan") words task other is apart asks)
 
 -- words that ask nothing ask nothing of a command
 ask_none : (words : List Text) (rows : List Row) (ask : Option Ask) → ask_in rows ≡ ask → rows_for (codes "plan") words ≡ Some rows → AsksNoTask words → ask ≡ None
-ask_none words rows None at is no = refl
-ask_none words rows (Some ask) at is no = absurd (no (OfPlan ask (file_in rows)) (rows, is, at, refl))
+ask_none words rows None at is never = refl
+ask_none words rows (Some ask) at is never = absurd (never (OfPlan ask (file_in rows)) (rows, is, (at, refl)))
 
 rows_none : (words : List Text) (found : Option (List Row)) → rows_for (codes "plan") words ≡ found → AsksNoTask words → option_and_then ask_in found ≡ None
-rows_none words None is no = refl
-rows_none words (Some rows) is no = ask_none words rows (ask_in rows) refl is no
+rows_none words None is never = refl
+rows_none words (Some rows) is never = ask_none words rows (ask_in rows) refl is never
 
 pub no_plan : (words : List Text) → AsksNoTask words → plan_asked words ≡ None
-no_plan words no = rows_none words (rows_for (codes "plan") words) refl no
+no_plan words never = rows_none words (rows_for (codes "plan") words) refl never
 
 replay_none : (words : List Text) (found : Option (List Row)) → rows_for (codes "replay") words ≡ found → AsksNoTask words → found ≡ None
-replay_none words None is no = refl
-replay_none words (Some rows) is no = absurd (no (OfReplay (file_in rows)) (rows, is, refl))
+replay_none words None is never = refl
+replay_none words (Some rows) is never = absurd (never (OfReplay (file_in rows)) (rows, is, refl))
 
 pub no_replay : (words : List Text) → AsksNoTask words → rows_for (codes "replay") words ≡ None
-no_replay words no = replay_none words (rows_for (codes "replay") words) refl no
+no_replay words never = replay_none words (rows_for (codes "replay") words) refl never
 
 pub no_db : (words : List Text) → AsksNoTask words → AsksNothing words
-no_db words no ask asks = no (OfDb ask (file_in asks.0)) (asks.0, asks.1, asks.2, refl)
+no_db words never ask asks = never (OfDb ask (file_in asks.0)) (asks.0, asks.1, (asks.2, refl))
 
 pub no_session : (words : List Text) → AsksNoTask words → AsksNoSession words
-no_session words no ask asks = no (OfSession ask (file_in asks.0)) (asks.0, asks.1, asks.2, refl)
+no_session words never ask asks = never (OfSession ask (file_in asks.0)) (asks.0, asks.1, (asks.2, refl))

@@ -49,7 +49,10 @@ pub fn plan_asked(alloc: Global, words: &[String]) -> Result<Request, WordsFault
 {
     match task_of(alloc, words) {
         Ok(Task::Plan(request, _)) => Ok(request),
-        Ok(_) => Err(WordsFault::OtherCommand),
+        Ok(Task::Compile(_)) => Err(WordsFault::OtherCommand),
+        Ok(Task::Db(..)) => Err(WordsFault::OtherCommand),
+        Ok(Task::Replay(_)) => Err(WordsFault::OtherCommand),
+        Ok(Task::Session(..)) => Err(WordsFault::OtherCommand),
         Err(fault) => Err(fault),
     }
 }

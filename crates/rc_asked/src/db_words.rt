@@ -26,13 +26,19 @@ pub fn db_asked<'a>(alloc: Global, words: &'a [String]) -> Result<DbRequest<'a>,
 {
     match task_of(alloc, words) {
         Ok(Task::Db(request, _)) => Ok(request),
-        Ok(_) => Err(WordsFault::OtherCommand),
+        Ok(Task::Compile(_)) => Err(WordsFault::OtherCommand),
+        Ok(Task::Plan(..)) => Err(WordsFault::OtherCommand),
+        Ok(Task::Replay(_)) => Err(WordsFault::OtherCommand),
+        Ok(Task::Session(..)) => Err(WordsFault::OtherCommand),
         Err(fault) => Err(fault),
     }
 }
 
 /// What the matches of `db` ask.
-pub(crate) fn db_in<'a>(alloc: Global, matches: &ArgMatches<'a>) -> Result<DbRequest<'a>, WordsFault>
+pub(crate) fn db_in<'a>(
+    alloc: Global,
+    matches: &ArgMatches<'a>,
+) -> Result<DbRequest<'a>, WordsFault>
     ensures asked { IfOk result (λ request. AsksIn (rows_of (found_of matches.now)) (db_ask_of request)) }
     ensures wrong { IfErr result (λ fault. fault ≢ Memory → (ask : DbAsk) → AsksIn (rows_of (found_of matches.now)) ask → ⊥) }
 {

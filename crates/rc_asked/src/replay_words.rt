@@ -15,7 +15,10 @@ pub fn replay_asked(alloc: Global, words: &[String]) -> Result<(), WordsFault>
 {
     match task_of(alloc, words) {
         Ok(Task::Replay(_)) => Ok(()),
-        Ok(_) => Err(WordsFault::OtherCommand),
+        Ok(Task::Compile(_)) => Err(WordsFault::OtherCommand),
+        Ok(Task::Db(..)) => Err(WordsFault::OtherCommand),
+        Ok(Task::Plan(..)) => Err(WordsFault::OtherCommand),
+        Ok(Task::Session(..)) => Err(WordsFault::OtherCommand),
         Err(fault) => Err(fault),
     }
 }

@@ -35,13 +35,19 @@ pub fn session_asked<'a>(
 {
     match task_of(alloc, words) {
         Ok(Task::Session(request, _)) => Ok(request),
-        Ok(_) => Err(WordsFault::OtherCommand),
+        Ok(Task::Compile(_)) => Err(WordsFault::OtherCommand),
+        Ok(Task::Db(..)) => Err(WordsFault::OtherCommand),
+        Ok(Task::Plan(..)) => Err(WordsFault::OtherCommand),
+        Ok(Task::Replay(_)) => Err(WordsFault::OtherCommand),
         Err(fault) => Err(fault),
     }
 }
 
 /// What the matches of `session` ask.
-pub(crate) fn session_in<'a>(alloc: Global, matches: &ArgMatches<'a>) -> Result<SessionRequest<'a>, WordsFault>
+pub(crate) fn session_in<'a>(
+    alloc: Global,
+    matches: &ArgMatches<'a>,
+) -> Result<SessionRequest<'a>, WordsFault>
     ensures asked { IfOk result (λ request. AsksSessionIn (rows_of (found_of matches.now)) (session_ask_of request)) }
     ensures wrong { IfErr result (λ fault. fault ≢ Memory → (ask : SessionAsk) → AsksSessionIn (rows_of (found_of matches.now)) ask → ⊥) }
 {

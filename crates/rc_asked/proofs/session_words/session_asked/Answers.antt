@@ -1,0 +1,19 @@
+use Rattle.std.proofs.Common.{refl, codes}
+use Rattle.rc_asked.proofs.SessionWordsLemmas.{asked_none}
+use Rattle.rc_asked.proofs.TaskLemmas.{no_session, other_asked}
+use Rattle.rc_asked.proofs.session_words.session_asked.Goals as goal
+
+pub returns-in-Ok-Compile-clause-wrong : goal.returns-in-Ok-Compile-clause-wrong
+returns-in-Ok-Compile-clause-wrong c = λ _. asked_none _ (other_asked (codes "session") _ _ _ c.in-Ok-Compile.field-0-is refl c.in-Ok-Compile.ensures.asked)
+
+pub returns-in-Ok-Db-clause-wrong : goal.returns-in-Ok-Db-clause-wrong
+returns-in-Ok-Db-clause-wrong c = λ _. asked_none _ (other_asked (codes "session") _ _ _ c.in-Ok-Db.field-0-is refl c.in-Ok-Db.ensures.asked)
+
+pub returns-in-Ok-Plan-clause-wrong : goal.returns-in-Ok-Plan-clause-wrong
+returns-in-Ok-Plan-clause-wrong c = λ _. asked_none _ (other_asked (codes "session") _ _ _ c.in-Ok-Plan.field-0-is refl c.in-Ok-Plan.ensures.asked)
+
+pub returns-in-Ok-Replay-clause-wrong : goal.returns-in-Ok-Replay-clause-wrong
+returns-in-Ok-Replay-clause-wrong c = λ _. asked_none _ (other_asked (codes "session") _ _ _ c.in-Ok-Replay.field-0-is refl c.in-Ok-Replay.ensures.asked)
+
+pub returns-clause-wrong : goal.returns-clause-wrong
+returns-clause-wrong c = λ other. no_session _ (c.in-Err.ensures.wrong other)
