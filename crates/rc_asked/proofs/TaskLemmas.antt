@@ -1,10 +1,10 @@
 -- What the words ask, by the matches that `clap` makes of them.
-use Rattle.std.proofs.Common.{◌≡◌, ◌∙◌, Bool, List, Option, None, Some, false, true, if◌then◌else◌, refl, ap, sym, subst, unwrap_or, codes}
+use Rattle.std.proofs.Common.{◌≡◌, ◌≤◌, ◌∙◌, ℕ, arith, Bool, List, Option, None, Some, false, true, if◌then◌else◌, refl, ap, sym, subst, unwrap_or, codes}
 use Rattle.std.proofs.lemmas.Slice.Eq.{bytes_eq-Decides}
 use Rattle.std.specs.Option.{option_and_then}
 use Rattle.std.specs.Str.{bytes_eq}
 use Rattle.clap.specs.Matches.{first_value, found_of}
-use Rattle.clap.specs.Words.{Row, Text, fault_of, rows_of, subcommand_of}
+use Rattle.clap.specs.Words.{Row, Text, fault_of, first_of, rows_of, subcommand_of}
 use Rattle.clap.specs.declared.ArgMatches.{ArgMatches}
 use Rattle.clap.proofs.WalkLemmas.{first_value-rows}
 use Rattle.rc_select.specs.Ask.{Ask}
@@ -14,9 +14,10 @@ use Rattle.rc_command.proofs.WordsLemmas.{rows_right, rows_wrong}
 use Rattle.rc_asked.specs.Asked.{ask_in, plan_asked}
 use Rattle.rc_asked.specs.DbAsked.{AsksIn, AsksNothing}
 use Rattle.rc_asked.specs.Query.{DbAsk}
-use Rattle.rc_asked.specs.SessionAsked.{AsksNoSession, AsksSessionIn, SessionAsk}
-use Rattle.rc_asked.specs.Task.{AsksEntered, AsksNamed, AsksNoTask, AsksTask, AsksTaskIn, OfCompile, OfDb, OfPlan, OfReplay, OfSession, TaskAsk, command_of, file_in, task_ask_of}
+use Rattle.rc_asked.specs.SessionAsked.{AsksNoSession, AsksSessionIn, IsCrewIn, SessionAsk}
+use Rattle.rc_asked.specs.Task.{AsksEntered, AsksNamed, AsksNoTask, AsksTask, AsksTaskIn, HasWorkers, OfCompile, OfDb, OfPlan, OfReplay, OfSession, TaskAsk, command_of, file_in, task_ask_of}
 use Rattle.rc_asked.specs.declared.task.Task.{Task}
+use Rattle.rc_asked.specs.declared.task.Task.TheVariants as task
 
 -- the command that was entered has its matches, and is the one that has them
 named_self : (name : Text) (rows : List Row) → rows_named name (Some (name, rows)) ≡ Some rows
@@ -61,6 +62,18 @@ pub entered_back : (words : List Text) (entered : Option (Text × List Row)) (as
     → AsksTask words ask → AsksEntered entered ask
 entered_back words entered ask right is asks =
     (asks.0, named_back (command_of ask) entered asks.0 (sym (rows_right (command_of ask) words entered right is) ∙ asks.1), asks.2)
+
+-- a session that is asked has workers
+workers_in : (given : Option Text) (workers : ℕ) → IsCrewIn given workers → (1 ≤ workers) × (workers ≤ 64)
+workers_in None workers is = (omega arith, omega arith)
+workers_in (Some text) workers is = (is.2, is.3)
+
+pub asked_workers : (entered : Option (Text × List Row)) (t : Task) → AsksEntered entered (task_ask_of t) → HasWorkers t
+asked_workers entered (task.Compile sources) asks = tt
+asked_workers entered (task.Db request file) asks = tt
+asked_workers entered (task.Plan request file) asks = tt
+asked_workers entered (task.Replay file) asks = tt
+asked_workers entered (task.Session request file) asks = workers_in (first_of (codes "workers") asks.0) request.workers asks.2.0.0
 
 -- a wrong line asks nothing
 pub wrong_asks : (words : List Text) → has_fault (fault_of program words) ≡ true → AsksNoTask words

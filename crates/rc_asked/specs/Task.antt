@@ -1,5 +1,5 @@
 -- What the words ask, of whichever command.
-use Rattle.std.specs.Prelude.{◌≡◌, List, Option, Some, codes, map, option_map, string_bytes}
+use Rattle.std.specs.Prelude.{◌≡◌, ◌≤◌, List, Option, Some, codes, map, option_map, string_bytes}
 use Rattle.clap.specs.Words.{Row, Text, first_of}
 use Rattle.rc_select.specs.Ask.{Ask, ask_of}
 use Rattle.rc_command.specs.Words.{rows_for, words_in}
@@ -61,3 +61,8 @@ task_ask_of (task.Db request file) = OfDb (db_ask_of request) (option_map (λ f.
 task_ask_of (task.Plan request file) = OfPlan (ask_of request) (option_map (λ f. f.now) file)
 task_ask_of (task.Replay file) = OfReplay (option_map (λ f. f.now) file)
 task_ask_of (task.Session request file) = OfSession (session_ask_of request) (option_map (λ f. f.now) file)
+
+-- a session has workers, 64 at most
+abbrev pub HasWorkers : Task → Type 0
+HasWorkers (task.Session request file) = (1 ≤ request.workers) × (request.workers ≤ 64)
+HasWorkers other = Unit {0}

@@ -1,5 +1,5 @@
 -- How a session of the program ends.
-use Rattle.std.proofs.Common.{◌≡◌, ◌⊎◌, ℕ, List, Option, None, Some, inl, inr, refl, sym, subst}
+use Rattle.std.proofs.Common.{◌≡◌, ◌⊎◌, ℕ, List, Option, None, Some, arith, inl, inr, refl, sym, subst}
 use Rattle.clap.specs.Words.{Text}
 use Rattle.rc_db.specs.Database.{Database}
 use Rattle.rc_failing.specs.Finding.{IsFirstUnknown, IsGateFault}
@@ -9,7 +9,7 @@ use Rattle.rc_failing.specs.declared.gate.GateFault.TheVariants as gate
 use Rattle.rc_serve.specs.Serving.{ServesFront}
 use Rattle.rc_serve.specs.declared.fault.ServeFault.{ServeFault}
 use Rattle.rc_serve.specs.declared.fault.ServeFault.TheVariants.{Read, Write, TooLong, Memory, NoThread, Strange, Workers}
-use Rattle.rc_queries.specs.Base.{Spells}
+use Rattle.rc_base.specs.Base.{Spells}
 use Rattle.rc_sessions.specs.Session.{Reads, Runs, RunsAsked, RunsOn, Serving}
 use Rattle.rc_asked.specs.SessionAsked.{AsksSession, SessionAsk}
 use Rattle.rc_sessions.specs.SessionFaults.{EndsBy, EndsOn, IsGateFailing, IsRefusal, IsServingFault, IsSessionRefused, IsToldAs, IsUnserved}
@@ -72,3 +72,14 @@ pub front_asked : (told : ServeFault) (words : List Text) (base : Option (List �
     → AsksSession words ask → (IsUnserved told base remaining × (gained ≡ written)) ⊎ Runs (ServesFront told) base ask remaining after written gained
     → (IsUnserved told base remaining × (gained ≡ written)) ⊎ RunsAsked (ServesFront told) words base remaining after written gained
 front_asked told words base ask remaining after written gained asked front = elim front [ inl same ↦ inl same | inr run ↦ inr (ask, asked, run) ]
+
+-- what is asked is never a wrong command line
+pub status_wider : (s : ℕ) → (s ≡ 0) ⊎ (s ≡ 1) ⊎ (s ≡ 111) → (s ≡ 0) ⊎ (s ≡ 1) ⊎ (s ≡ 100) ⊎ (s ≡ 111)
+status_wider s (inl zero) = inl zero
+status_wider s (inr (inl one)) = inr (inl one)
+status_wider s (inr (inr failed)) = inr (inr (inr failed))
+
+pub never_wrong : (s : ℕ) → (s ≡ 0) ⊎ (s ≡ 1) ⊎ (s ≡ 111) → s ≡ 100 → ⊥
+never_wrong s (inl is) wrong = let bad : ⊥ = omega arith in bad
+never_wrong s (inr (inl is)) wrong = let bad : ⊥ = omega arith in bad
+never_wrong s (inr (inr is)) wrong = let bad : ⊥ = omega arith in bad

@@ -6,7 +6,7 @@ use Rattle.rc_graph.specs.declared.Way.{Way}
 use Rattle.rc_db.specs.Database.{Database}
 use Rattle.rc_session.specs.Holding.{Holding, first_line}
 use Rattle.rc_failing.specs.Finding.{AreFound}
-use Rattle.rc_queries.specs.Base.{Spells}
+use Rattle.rc_base.specs.Base.{Spells}
 use Rattle.rc_asked.specs.SessionAsked.{AsksSession, SessionAsk}
 
 -- the session that a database begins with: nothing is up

@@ -10,7 +10,7 @@ use rc_db::NoMem;
 use rc_dbtext::TextFault;
 use rc_ending::{FAILED, REFUSED};
 use rc_failing::GateFault;
-use rc_queries::text_word;
+use rc_base::text_word;
 use rc_serve::ServeFault;
 use rc_streams::tell;
 use std::alloc::{AllocError, Global};
