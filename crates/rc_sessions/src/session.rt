@@ -11,12 +11,12 @@ ghost use Rattle.rc_sessions.specs.SessionFaults.{EndsBy, EndsGated, EndsOn, IsS
 
 use crate::session_fault::{SessionFault, tell_session_fault};
 use rc_asked::{SessionRequest, session_asked, tell_words};
+use rc_base::database_of;
 use rc_board::Gate;
 use rc_db::Db;
 use rc_ending::DONE;
 use rc_failing::gate_of;
 use rc_noted::Noted;
-use rc_base::database_of;
 use rc_serve::{ServeFault, serve};
 use rc_session::Session;
 use rc_streams::{Failure, MAX_INPUT, read_all};

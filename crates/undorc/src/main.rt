@@ -1,5 +1,6 @@
 //! `undorc`: hands the process's words, files and streams to the library.
 #![tactic(auto)]
+
 ghost use Rattle.rc_board.specs.Crew.{IsCrew};
 
 mod own_name;
