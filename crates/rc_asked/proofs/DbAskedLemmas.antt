@@ -1,13 +1,11 @@
 -- What the words ask of `db`, by the matches that `clap` makes of them.
-use Rattle.std.proofs.Common.{◌≡◌, ◌∙◌, ◌<◌, Bor, List, [], ◌∷◌, Option, None, Some, IfNone, IfSome, false, ap, arith, length, map, sym, subst, codes}
+use Rattle.std.proofs.Common.{◌≡◌, ◌∙◌, ◌<◌, Bor, List, [], ◌∷◌, Option, None, Some, IfNone, IfSome, ap, arith, length, map, sym, subst, codes}
 use Rattle.std.specs.Option.{option_map_or}
-use Rattle.clap.specs.Words.{Row, Text, fault_of, first_of, subcommand_of}
-use Rattle.rc_command.specs.Commands.{program}
-use Rattle.rc_asked.specs.DbAsked.{AsksDb, AsksIn, AsksNothing, query_words}
+use Rattle.clap.specs.Words.{Row, Text, first_of}
+use Rattle.rc_asked.specs.DbAsked.{AsksIn, AsksNothing, query_words}
 use Rattle.rc_asked.specs.Query.{Check, DbAsk, ListOf, OfName, OfNames, Question, question_of, spelled}
 use Rattle.rc_asked.specs.declared.query.Query.{Query}
-use Rattle.rc_command.specs.Words.{has_fault, rows_for, rows_named, words_in}
-use Rattle.rc_command.proofs.WordsLemmas.{rows_right}
+use Rattle.rc_command.specs.Words.{rows_for, words_in}
 
 -- words without matches of `db` ask nothing
 pub asked_none : (words : List Text) → rows_for (codes "db") words ≡ None → AsksNothing words

@@ -1,11 +1,11 @@
 -- What the words ask of `session`, by the matches that `clap` makes of them.
 use Rattle.std.proofs.Common.{◌≡◌, ◌∙◌, ℕ, List, Option, None, Some, sym, subst, codes}
 use Rattle.clap.specs.Matches.{first_value, found_of}
-use Rattle.clap.specs.Words.{Row, Text, first_of, rows_of}
+use Rattle.clap.specs.Words.{Text, first_of, rows_of}
 use Rattle.clap.specs.declared.ArgMatches.{ArgMatches}
 use Rattle.clap.proofs.WalkLemmas.{first_value-rows}
 use Rattle.rc_transitions.specs.Listed.{Listed}
-use Rattle.rc_asked.specs.SessionAsked.{AsksNoSession, AsksSession, AsksSessionIn, IsCrewIn, IsListIn, SessionAsk}
+use Rattle.rc_asked.specs.SessionAsked.{AsksNoSession, IsCrewIn, IsListIn}
 use Rattle.rc_command.specs.Words.{rows_for}
 
 -- words without matches of `session` ask for none
