@@ -1,19 +1,8 @@
-use Rattle.std.proofs.Common.{◌≡◌, ◌∙◌, true, false, List, None, Option, Some, option_map, option_and_then, ap, sym, codes}
-use Rattle.clap.specs.Words.{Row, Text, fault_of, subcommand_of}
+use Rattle.std.proofs.Common.{◌≡◌, List, None, Some, option_map, ap, codes}
+use Rattle.clap.specs.Words.{Row}
 use Rattle.rc_select.specs.declared.request.Mode.{Mode}
-use Rattle.rc_command.specs.Commands.{program}
-use Rattle.rc_command.specs.Words.{has_fault, is_on, rows_named, words_in}
-use Rattle.rc_asked.specs.Asked.{ask_in, mode_of, plan_asked}
-use Rattle.rc_command.proofs.WordsLemmas.{rows_right, rows_wrong}
-
--- what words ask whose matches are those of `plan`, or of another command
-pub asked_right : (words : List Text) (entered : Option (Text × List Row)) (rows : Option (List Row)) → has_fault (fault_of program words) ≡ false → entered ≡ subcommand_of program words
-    → rows ≡ rows_named (codes "plan") entered → plan_asked words ≡ option_and_then ask_in rows
-asked_right words entered rows right is named = ap (option_and_then ask_in) (rows_right (codes "plan") words entered right is ∙ sym named)
-
--- a wrong line asks nothing
-pub asked_wrong : (words : List Text) → has_fault (fault_of program words) ≡ true → plan_asked words ≡ None
-asked_wrong words wrong = ap (option_and_then ask_in) (rows_wrong (codes "plan") words wrong)
+use Rattle.rc_command.specs.Words.{is_on, words_in}
+use Rattle.rc_asked.specs.Asked.{ask_in, mode_of}
 
 -- what the matches ask, by the mode that their flags give
 pub asked_in : (rows : List Row) (mode : Mode) → mode_of (is_on (codes "up") rows) (is_on (codes "down") rows) (is_on (codes "down-all") rows) ≡ Some mode

@@ -1,26 +1,11 @@
 -- What the words ask of `db`, by the matches that `clap` makes of them.
-use Rattle.std.proofs.Common.{◌≡◌, ◌∙◌, ◌<◌, Bor, List, [], ◌∷◌, Option, None, Some, IfNone, IfSome, false, ap, arith, length, map, sym, subst, codes}
+use Rattle.std.proofs.Common.{◌≡◌, ◌∙◌, ◌<◌, Bor, List, [], ◌∷◌, Option, None, Some, IfNone, IfSome, ap, arith, length, map, sym, subst, codes}
 use Rattle.std.specs.Option.{option_map_or}
-use Rattle.clap.specs.Words.{Row, Text, fault_of, first_of, subcommand_of}
-use Rattle.rc_command.specs.Commands.{program}
-use Rattle.rc_asked.specs.DbAsked.{AsksDb, AsksIn, AsksNothing, query_words}
+use Rattle.clap.specs.Words.{Row, Text, first_of}
+use Rattle.rc_asked.specs.DbAsked.{AsksIn, AsksNothing, query_words}
 use Rattle.rc_asked.specs.Query.{Check, DbAsk, ListOf, OfName, OfNames, Question, question_of, spelled}
 use Rattle.rc_asked.specs.declared.query.Query.{Query}
-use Rattle.rc_command.specs.Words.{has_fault, rows_for, rows_named, words_in}
-use Rattle.rc_command.proofs.WordsLemmas.{rows_right}
-
--- what the matches of `db` ask is what the words ask
-pub asked_right : (words : List Text) (entered : Option (Text × List Row)) (rows : List Row) (ask : DbAsk) → has_fault (fault_of program words) ≡ false → entered ≡ subcommand_of program words
-    → Some rows ≡ rows_named (codes "db") entered → AsksIn rows ask → AsksDb words ask
-asked_right words entered rows ask right is named asks = (rows, rows_right (codes "db") words entered right is ∙ sym named, asks)
-
--- what the words ask is what the matches of `db` ask
-pub asked_back : (words : List Text) (entered : Option (Text × List Row)) (rows : List Row) (ask : DbAsk) → has_fault (fault_of program words) ≡ false → entered ≡ subcommand_of program words
-    → Some rows ≡ rows_named (codes "db") entered → AsksDb words ask → AsksIn rows ask
-asked_back words entered rows ask right is named asks =
-    let both : Some asks.0 ≡ Some rows = sym asks.1 ∙ (rows_right (codes "db") words entered right is ∙ sym named) in
-    let same : asks.0 ≡ rows = cc in
-    subst (λ (rs : List Row). AsksIn rs ask) same asks.2
+use Rattle.rc_command.specs.Words.{rows_for, words_in}
 
 -- words without matches of `db` ask nothing
 pub asked_none : (words : List Text) → rows_for (codes "db") words ≡ None → AsksNothing words

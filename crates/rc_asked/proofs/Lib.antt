@@ -1,5 +1,4 @@
+pub mod TaskLemmas
 pub mod AskedLemmas
 pub mod DbAskedLemmas
-pub mod CompilingLemmas
 pub mod SessionWordsLemmas
-pub mod FileLemmas

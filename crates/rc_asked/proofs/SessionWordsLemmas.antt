@@ -1,19 +1,12 @@
 -- What the words ask of `session`, by the matches that `clap` makes of them.
 use Rattle.std.proofs.Common.{◌≡◌, ◌∙◌, ℕ, List, Option, None, Some, sym, subst, codes}
 use Rattle.clap.specs.Matches.{first_value, found_of}
-use Rattle.clap.specs.Words.{Row, Text, first_of, rows_of}
+use Rattle.clap.specs.Words.{Text, first_of, rows_of}
 use Rattle.clap.specs.declared.ArgMatches.{ArgMatches}
 use Rattle.clap.proofs.WalkLemmas.{first_value-rows}
 use Rattle.rc_transitions.specs.Listed.{Listed}
-use Rattle.rc_asked.specs.SessionAsked.{AsksNoSession, AsksSession, AsksSessionIn, IsCrewIn, IsListIn, SessionAsk}
+use Rattle.rc_asked.specs.SessionAsked.{AsksNoSession, IsCrewIn, IsListIn}
 use Rattle.rc_command.specs.Words.{rows_for}
-
--- what the words ask is what the matches of `session` ask
-pub asked_back : (words : List Text) (rows : List Row) (ask : SessionAsk) → rows_for (codes "session") words ≡ Some rows → AsksSession words ask → AsksSessionIn rows ask
-asked_back words rows ask is asks =
-    let both : Some asks.0 ≡ Some rows = sym asks.1 ∙ is in
-    let same : asks.0 ≡ rows = cc in
-    subst (λ (rs : List Row). AsksSessionIn rs ask) same asks.2
 
 -- words without matches of `session` ask for none
 pub asked_none : (words : List Text) → rows_for (codes "session") words ≡ None → AsksNoSession words

@@ -1,7 +1,6 @@
 pub mod Asked
 pub mod Query
 pub mod DbAsked
-pub mod Compiling
 pub mod SessionAsked
 pub mod ReplayAsked
-pub mod File
+pub mod Task

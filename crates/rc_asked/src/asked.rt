@@ -1,14 +1,15 @@
 //! What the words ask of a command.
-ghost use Rattle.std.specs.Prelude.{◌≡◌, ◌≢◌, ◌⊎◌, ◌↔◌, map, None, Some, string_bytes, IfErr, IfOk, IsTrue};
+ghost use Rattle.std.specs.Prelude.{◌≡◌, ◌≢◌, ◌⊎◌, map, None, Some, string_bytes, IfErr, IfOk};
 ghost use Rattle.clap.specs.Words.{found_of, rows_of};
 ghost use Rattle.rc_select.specs.Ask.{ask_of};
 ghost use Rattle.rc_asked.specs.Asked.{ask_in, mode_of, plan_asked};
 ghost use Rattle.rc_streams.specs.Input.{AppendsFront, failure_text, fault_line};
 ghost use Rattle.rc_asked.specs.declared.asked.WordsFault.TheVariants.{Memory};
 
+use crate::task::{Task, task_of};
 use crate::texts::words_in;
 use clap::{ArgMatches, Error};
-use rc_command::{command_named, is_memory, is_on, matches_of};
+use rc_command::is_on;
 use rc_ending::{WRONG_LINE, fail};
 use rc_select::{Mode, Request};
 use rc_streams::{Failure, tell};
@@ -46,23 +47,18 @@ pub fn plan_asked(alloc: Global, words: &[String]) -> Result<Request, WordsFault
     ensures asked { IfOk result (λ request. plan_asked (map string_bytes words.now) ≡ Some (ask_of request)) }
     ensures wrong { IfErr result (λ fault. fault ≢ Memory → plan_asked (map string_bytes words.now) ≡ None) }
 {
-    let matches = match matches_of(alloc, words) {
-        Ok(matches) => matches,
-        Err(error) => {
-            if is_memory(&error) {
-                return Err(WordsFault::Memory);
-            }
-            return Err(WordsFault::Found(error));
-        }
-    };
-    match command_named(&matches, "plan") {
-        Some(inner) => request_in(alloc, inner),
-        None => Err(WordsFault::OtherCommand),
+    match task_of(alloc, words) {
+        Ok(Task::Plan(request, _)) => Ok(request),
+        Ok(Task::Compile(_)) => Err(WordsFault::OtherCommand),
+        Ok(Task::Db(..)) => Err(WordsFault::OtherCommand),
+        Ok(Task::Replay(_)) => Err(WordsFault::OtherCommand),
+        Ok(Task::Session(..)) => Err(WordsFault::OtherCommand),
+        Err(fault) => Err(fault),
     }
 }
 
-// What the matches of `plan` ask.
-fn request_in(alloc: Global, matches: &ArgMatches<'_>) -> Result<Request, WordsFault>
+/// What the matches of `plan` ask.
+pub(crate) fn plan_in(alloc: Global, matches: &ArgMatches<'_>) -> Result<Request, WordsFault>
     ensures asked { IfOk result (λ request. ask_in (rows_of (found_of matches.now)) ≡ Some (ask_of request)) }
     ensures wrong { IfErr result (λ fault. fault ≢ Memory → ask_in (rows_of (found_of matches.now)) ≡ None) }
 {
@@ -91,13 +87,6 @@ fn mode_of(up: bool, down: bool, down_all: bool) -> Option<Mode>
         (false, false, true) => Some(Mode::DownAll),
         _ => None,
     }
-}
-
-/// Whether words are refused for want of memory alone.
-pub fn wants_memory(fault: &WordsFault) -> bool
-    ensures { IsTrue result ↔ (fault.now ≡ Memory) }
-{
-    matches!(fault, WordsFault::Memory)
 }
 
 /// Tells why the words ask nothing, and answers the status.

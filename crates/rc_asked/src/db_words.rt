@@ -11,9 +11,10 @@ ghost use Rattle.rc_db.specs.declared.which.Which.{Which as Sort};
 
 use crate::asked::WordsFault;
 use crate::query::{DbRequest, NameQuery, NamesQuery, Query};
+use crate::task::{Task, task_of};
 use crate::texts::strings_of;
 use clap::ArgMatches;
-use rc_command::{command_named, is_memory, is_on, matches_of};
+use rc_command::is_on;
 use rc_db::{NoMem, Which};
 use rc_graph::Way;
 use std::alloc::Global;
@@ -23,23 +24,21 @@ pub fn db_asked<'a>(alloc: Global, words: &'a [String]) -> Result<DbRequest<'a>,
     ensures asked { IfOk result (λ request. AsksDb (map string_bytes words.entry.now) (db_ask_of request)) }
     ensures wrong { IfErr result (λ fault. fault ≢ Memory → AsksNothing (map string_bytes words.entry.now)) }
 {
-    let matches = match matches_of(alloc, words) {
-        Ok(matches) => matches,
-        Err(error) => {
-            if is_memory(&error) {
-                return Err(WordsFault::Memory);
-            }
-            return Err(WordsFault::Found(error));
-        }
-    };
-    match command_named(&matches, "db") {
-        Some(inner) => request_in(alloc, inner),
-        None => Err(WordsFault::OtherCommand),
+    match task_of(alloc, words) {
+        Ok(Task::Db(request, _)) => Ok(request),
+        Ok(Task::Compile(_)) => Err(WordsFault::OtherCommand),
+        Ok(Task::Plan(..)) => Err(WordsFault::OtherCommand),
+        Ok(Task::Replay(_)) => Err(WordsFault::OtherCommand),
+        Ok(Task::Session(..)) => Err(WordsFault::OtherCommand),
+        Err(fault) => Err(fault),
     }
 }
 
-// What the matches of `db` ask.
-fn request_in<'a>(alloc: Global, matches: &ArgMatches<'a>) -> Result<DbRequest<'a>, WordsFault>
+/// What the matches of `db` ask.
+pub(crate) fn db_in<'a>(
+    alloc: Global,
+    matches: &ArgMatches<'a>,
+) -> Result<DbRequest<'a>, WordsFault>
     ensures asked { IfOk result (λ request. AsksIn (rows_of (found_of matches.now)) (db_ask_of request)) }
     ensures wrong { IfErr result (λ fault. fault ≢ Memory → (ask : DbAsk) → AsksIn (rows_of (found_of matches.now)) ask → ⊥) }
 {

@@ -5,7 +5,7 @@ ghost use Rattle.rc_command.specs.Words.{rows_for};
 ghost use Rattle.rc_asked.specs.declared.asked.WordsFault.TheVariants.{Memory};
 
 use crate::asked::WordsFault;
-use rc_command::{command_named, is_memory, matches_of};
+use crate::task::{Task, task_of};
 use std::alloc::Global;
 
 /// Whether the words are those of `replay`. The first word is the program's own name.
@@ -13,17 +13,12 @@ pub fn replay_asked(alloc: Global, words: &[String]) -> Result<(), WordsFault>
     ensures asked { OnOk result (AsksReplay (map string_bytes words.now)) }
     ensures wrong { IfErr result (λ fault. fault ≢ Memory → rows_for (codes "replay") (map string_bytes words.now) ≡ None) }
 {
-    let matches = match matches_of(alloc, words) {
-        Ok(matches) => matches,
-        Err(error) => {
-            if is_memory(&error) {
-                return Err(WordsFault::Memory);
-            }
-            return Err(WordsFault::Found(error));
-        }
-    };
-    match command_named(&matches, "replay") {
-        Some(_) => Ok(()),
-        None => Err(WordsFault::OtherCommand),
+    match task_of(alloc, words) {
+        Ok(Task::Replay(_)) => Ok(()),
+        Ok(Task::Compile(_)) => Err(WordsFault::OtherCommand),
+        Ok(Task::Db(..)) => Err(WordsFault::OtherCommand),
+        Ok(Task::Plan(..)) => Err(WordsFault::OtherCommand),
+        Ok(Task::Session(..)) => Err(WordsFault::OtherCommand),
+        Err(fault) => Err(fault),
     }
 }

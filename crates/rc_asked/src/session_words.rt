@@ -5,8 +5,8 @@ ghost use Rattle.rc_asked.specs.SessionAsked.{AsksNoSession, AsksSession, AsksSe
 ghost use Rattle.rc_asked.specs.declared.asked.WordsFault.TheVariants.{Memory};
 
 use crate::asked::WordsFault;
+use crate::task::{Task, task_of};
 use clap::ArgMatches;
-use rc_command::{command_named, is_memory, matches_of};
 use rc_transitions::{ListFault, Transition, transitions_of};
 use std::alloc::Global;
 
@@ -33,23 +33,21 @@ pub fn session_asked<'a>(
     ensures asked { IfOk result (λ request. AsksSession (map string_bytes words.entry.now) (session_ask_of request)) }
     ensures wrong { IfErr result (λ fault. fault ≢ Memory → AsksNoSession (map string_bytes words.entry.now)) }
 {
-    let matches = match matches_of(alloc, words) {
-        Ok(matches) => matches,
-        Err(error) => {
-            if is_memory(&error) {
-                return Err(WordsFault::Memory);
-            }
-            return Err(WordsFault::Found(error));
-        }
-    };
-    match command_named(&matches, "session") {
-        Some(inner) => request_in(alloc, inner),
-        None => Err(WordsFault::OtherCommand),
+    match task_of(alloc, words) {
+        Ok(Task::Session(request, _)) => Ok(request),
+        Ok(Task::Compile(_)) => Err(WordsFault::OtherCommand),
+        Ok(Task::Db(..)) => Err(WordsFault::OtherCommand),
+        Ok(Task::Plan(..)) => Err(WordsFault::OtherCommand),
+        Ok(Task::Replay(_)) => Err(WordsFault::OtherCommand),
+        Err(fault) => Err(fault),
     }
 }
 
-// What the matches of `session` ask.
-fn request_in<'a>(alloc: Global, matches: &ArgMatches<'a>) -> Result<SessionRequest<'a>, WordsFault>
+/// What the matches of `session` ask.
+pub(crate) fn session_in<'a>(
+    alloc: Global,
+    matches: &ArgMatches<'a>,
+) -> Result<SessionRequest<'a>, WordsFault>
     ensures asked { IfOk result (λ request. AsksSessionIn (rows_of (found_of matches.now)) (session_ask_of request)) }
     ensures wrong { IfErr result (λ fault. fault ≢ Memory → (ask : SessionAsk) → AsksSessionIn (rows_of (found_of matches.now)) ask → ⊥) }
 {

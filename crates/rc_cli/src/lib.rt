@@ -1,10 +1,11 @@
-//! The commands of `undorc`, over readers and writers that the program hands in.
+//! The commands of `undorc`, over readers and writers that the program hands in: what the words ask is read
+//! once, and then done.
 #![tactic(auto)]
 
-pub use rc_asked::{base_file, sources};
-pub use rc_command::names_command;
+pub use rc_asked::{DbRequest, SessionRequest, Task, WordsFault, task_of, tell_words};
 pub use rc_compiling::compile_run;
 pub use rc_noted::Noted;
-pub use rc_queries::{db_run, plan_run, replay_run};
-pub use rc_sessions::session_run;
+pub use rc_queries::{db_as_asked, db_run, plan_as_asked, plan_run, replay_as_asked, replay_run};
+pub use rc_select::Request;
+pub use rc_sessions::{session_as_asked, session_run};
 pub use rc_streams::MAX_INPUT;

@@ -2,8 +2,6 @@
 #![tactic(auto)]
 
 mod commands;
-mod named_command;
 mod words;
 
-pub use crate::named_command::names_command;
-pub use crate::words::{command_named, is_memory, is_on, matches_of};
+pub use crate::words::{entered, is_memory, is_on, matches_of};

@@ -2,7 +2,7 @@
 ghost use Rattle.std.specs.Prelude.{◌≡◌, ◌≢◌, ◌↔◌, map, false, option_map, string_bytes, IfErr, IfOk, IsTrue};
 ghost use Rattle.clap.specs.Words.{fault_of, found_of, kind_of, rows_of, subcommand_of, subcommand_rows_of};
 ghost use Rattle.rc_command.specs.Commands.{program};
-ghost use Rattle.rc_command.specs.Words.{has_fault, is_on, rows_named};
+ghost use Rattle.rc_command.specs.Words.{has_fault, is_on};
 
 use crate::commands::undorc_command;
 use clap::error::ErrorKind;
@@ -22,15 +22,12 @@ pub fn matches_of<'a>(alloc: Global, words: &'a [String]) -> Result<ArgMatches<'
     command.try_get_matches_from(words)
 }
 
-/// The matches of the command of this name, if that is the one that was entered.
-pub fn command_named<'m, 'a>(matches: &'m ArgMatches<'a>, name: &str) -> Option<&'m ArgMatches<'a>>
-    ensures { option_map (λ m. rows_of (found_of m.now)) result
-        ≡ rows_named name.now (subcommand_rows_of matches.entry.now) }
+/// The name of the command that was entered, and its matches.
+pub fn entered<'m, 'a>(matches: &'m ArgMatches<'a>) -> Option<(&'a str, &'m ArgMatches<'a>)>
+    ensures { option_map (λ m. (m.0.now, rows_of (found_of m.1.now))) result
+        ≡ subcommand_rows_of matches.entry.now }
 {
-    match matches.subcommand() {
-        Some((entered, inner)) => { if entered == name { Some(inner) } else { None } }
-        None => None,
-    }
+    matches.subcommand()
 }
 
 /// Whether a flag was given.

@@ -1,3 +1,4 @@
+pub mod RunLemmas
 pub mod NamedLemmas
 pub mod PlanLemmas
 pub mod DbLemmas

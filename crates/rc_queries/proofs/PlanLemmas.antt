@@ -1,5 +1,4 @@
-use Rattle.std.proofs.Common.{◌≡◌, ◌++◌, ◌∙◌, ℕ, List, Option, None, Some, IfSome, inr, ap, sym, subst, Result, Ok, Err, IfErr, length, drop}
-use lib.Seq.{drop-append_seam}
+use Rattle.std.proofs.Common.{◌≡◌, ℕ, List, Option, None, Some, IfSome, inr, sym, subst, Result, Ok, Err, IfErr}
 use Rattle.std.specs.Result.{IsErrAnd}
 use Rattle.rc_db.specs.Database.{Database}
 use Rattle.rc_select.specs.Ask.{Ask}
@@ -9,7 +8,7 @@ use Rattle.rc_select.specs.declared.request.PlanFault.TheVariants as wrong
 use Rattle.rc_queries.specs.declared.named.NamedFault.{NamedFault}
 use Rattle.rc_queries.specs.declared.named.NamedFault.TheVariants as named
 use Rattle.rc_queries.specs.declared.plan.PlanFault.{PlanFault}
-use Rattle.rc_queries.specs.Base.{Spells}
+use Rattle.rc_base.specs.Base.{Spells}
 use Rattle.rc_queries.specs.Named.{IsNamedFault, word_lines}
 use Rattle.rc_queries.specs.PlanText.{IsPlanFor, IsTextFor}
 use Rattle.rc_queries.specs.PlanFaults.{IsAskFault, IsFaultOf, IsNameFault, IsRefused, IsToldAs, IsUpFault}
@@ -25,11 +24,6 @@ pub name_refused : (ask : Ask) (base : Option (List ℕ)) (input : List ℕ) (d 
     → IsNameFault fault d ups ask → IsRefused fault ask base input
 name_refused ask base input d rest ups fault spelled are wrong =
     inr (d, rest, spelled, subst (λ (us : List (List ℕ)). IsNameFault fault d us ask) are wrong)
-
--- what is behind the front of bytes
-pub behind : (input front rest : List ℕ) (n : ℕ) → n ≡ length front → input ≡ front ++ rest → input ≡ front ++ drop n input
-behind input front rest n is e =
-    e ∙ ap (λ (r : List ℕ). front ++ r) (sym (ap (drop n) e ∙ (ap (λ k. drop k (front ++ rest)) is ∙ drop-append_seam front rest)))
 
 -- what follows of the value of an option
 pub if_some_then : {T : Type 0} (o : Option T) (P Q : T → Type 0) → ((x : T) → P x → Q x) → IfSome o P → IfSome o Q

@@ -14,7 +14,7 @@ use Rattle.rc_names.specs.Names.{ListsNames}
 use Rattle.rc_db.specs.Queries.{IsKindOf, IsNextTo, IsServiceNamed, IsShown, IsWithAll}
 use Rattle.rc_db.specs.Service.{Service, limit_of, script_of}
 use Rattle.rc_answers.specs.Lines.{line, name_lines, names_at}
-use Rattle.rc_queries.specs.Base.{Spells}
+use Rattle.rc_base.specs.Base.{Spells}
 use Rattle.rc_asked.specs.DbAsked.{AsksDb}
 use Rattle.rc_asked.specs.Query.{Check, DbAsk, ListOf, OfName, OfNames, Question}
 use Rattle.rc_asked.specs.declared.query.NameQuery.{NameQuery}

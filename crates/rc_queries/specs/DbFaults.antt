@@ -1,6 +1,5 @@
 -- When `db` refuses, and how it tells that.
 use Rattle.std.specs.Prelude.{◌≡◌, ◌≢◌, ◌⊎◌, ◌++◌, ℕ, List, [], Option, None, Some, IfSome, codes, slice_get, unwrap_or}
-use Rattle.std.specs.Fmt.{decimal}
 use Rattle.clap.specs.Words.{Text}
 use Rattle.rc_db.specs.Database.{Database}
 use Rattle.rc_db.specs.QueryFaults.{AnyName, Asked, IsNamesFault, IsQueryFault, OfBundle, OfLongrun, OfOneshot, OfService}
@@ -8,7 +7,8 @@ use Rattle.rc_db.specs.declared.fault.QueryFault.{QueryFault}
 use Rattle.rc_db.specs.declared.fault.QueryFault.TheVariants as wrong
 use Rattle.rc_dbtext.specs.declared.fault.TextFault.{TextFault}
 use Rattle.rc_dbtext.specs.declared.fault.TextFault.TheVariants as text
-use Rattle.rc_queries.specs.Base.{IsTextFault, Spells}
+use Rattle.rc_base.specs.Base.{IsTextFault, Spells}
+use Rattle.rc_base.specs.TextFaultWord.{text_word}
 use Rattle.rc_asked.specs.DbAsked.{AsksDb}
 use Rattle.rc_streams.specs.Input.{AppendsFront, fault_line}
 use Rattle.rc_asked.specs.Query.{Check, DbAsk, ListOf, OfName, OfNames, Question, names_in}
@@ -45,16 +45,6 @@ IsDbRefused (OfText fault) ask base input = (fault ≢ text.Memory) × IsTextFau
 IsDbRefused (OfQuery fault) ask base input = (fault ≢ wrong.Memory) × ((d : Database) × (rest : List ℕ) × Spells base input d rest × IsQuestionFault d ask.question fault)
 IsDbRefused Memory ask base input = Unit {0}
 
--- a fault of the text in words
-abbrev pub text_word : TextFault → List ℕ
-text_word (text.Bad offset) = codes "Bad " ++ decimal offset
-text_word text.Version = codes "Version"
-text_word text.NotSorted = codes "NotSorted"
-text_word text.Cyclic = codes "Cyclic"
-text_word text.TooMany = codes "TooMany"
-text_word text.Dangling = codes "Dangling"
-text_word text.Memory = codes "Memory"
-
 -- a fault of a question in words: of an unknown name the name, too
 abbrev pub query_word : QueryFault → Question → List ℕ
 query_word (wrong.Unknown place) question = codes "Unknown " ++ unwrap_or (slice_get (names_in question) place) []
@@ -70,10 +60,13 @@ db_fault_text (OfText fault) question = text_word fault
 db_fault_text (OfQuery fault) question = query_word fault question
 db_fault_text Memory question = codes "Memory"
 
--- a refusal holds, and a writer gains a front of the line that tells it
+-- a refusal of what is asked holds, and a writer gains a front of the line that tells it
+abbrev pub TellsAnswerFault : DbAsk → Option (List ℕ) → List ℕ → Option (List ℕ) → Option (List ℕ) → Type 0
+TellsAnswerFault ask base input old new = (fault : DbFault) × IsDbRefused fault ask base input × (fault ≢ Memory) × AppendsFront old new (fault_line (db_fault_text fault ask.question))
+
+-- the same, of the words that ask
 abbrev pub TellsDbFault : List Text → Option (List ℕ) → List ℕ → Option (List ℕ) → Option (List ℕ) → Type 0
-TellsDbFault words base input old new = (ask : DbAsk) × (fault : DbFault) × AsksDb words ask × IsDbRefused fault ask base input
-    × (fault ≢ Memory) × AppendsFront old new (fault_line (db_fault_text fault ask.question))
+TellsDbFault words base input old new = (ask : DbAsk) × AsksDb words ask × TellsAnswerFault ask base input old new
 
 -- a fault of the text as a refusal
 abbrev pub IsTextTold : TextFault → DbFault → Type 0

@@ -1,4 +1,3 @@
-pub mod Base
 pub mod Named
 pub mod PlanText
 pub mod PlanFaults

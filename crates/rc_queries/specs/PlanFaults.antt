@@ -15,7 +15,7 @@ use Rattle.rc_queries.specs.declared.named.NamedFault.TheVariants as named
 use Rattle.rc_queries.specs.declared.plan.PlanFault.{PlanFault}
 use Rattle.rc_queries.specs.declared.plan.PlanFault.TheVariants.{Bad, Version, NotSorted, Cyclic, TooMany, Dangling, Unknown, NotClosed, PruneNeedsUp, Memory}
 use Rattle.rc_asked.specs.Asked.{plan_asked}
-use Rattle.rc_queries.specs.Base.{IsTextFault, Spells}
+use Rattle.rc_base.specs.Base.{IsTextFault, Spells}
 use Rattle.rc_streams.specs.Input.{AppendsFront, fault_line}
 use Rattle.rc_queries.specs.Named.{AreNamed, IsFirstUnknown, IsNamed, word_lines}
 use Rattle.rc_queries.specs.PlanText.{AreUp}
@@ -66,10 +66,13 @@ fault_text NotClosed = codes "NotClosed"
 fault_text PruneNeedsUp = codes "PruneNeedsUp"
 fault_text Memory = codes "Memory"
 
--- a refusal holds, and a writer gains a front of the line that tells it
+-- a refusal of what is asked holds, and a writer gains a front of the line that tells it
+abbrev pub TellsPlanFault : Ask → Option (List ℕ) → List ℕ → Option (List ℕ) → Option (List ℕ) → Type 0
+TellsPlanFault ask base input old new = (fault : PlanFault) × IsRefused fault ask base input × (fault ≢ Memory) × AppendsFront old new (fault_line (fault_text fault))
+
+-- the same, of the words that ask
 abbrev pub TellsFault : List (List ℕ) → Option (List ℕ) → List ℕ → Option (List ℕ) → Option (List ℕ) → Type 0
-TellsFault words base input old new = (ask : Ask) × (fault : PlanFault) × (plan_asked words ≡ Some ask) × IsRefused fault ask base input
-    × (fault ≢ Memory) × AppendsFront old new (fault_line (fault_text fault))
+TellsFault words base input old new = (ask : Ask) × (plan_asked words ≡ Some ask) × TellsPlanFault ask base input old new
 
 -- a fault of the names that are up, as a refusal
 abbrev pub IsToldAs : NamedFault → PlanFault → Type 0

@@ -7,7 +7,7 @@ use Rattle.rc_select.specs.Ask.{Ask, IsPlanOf}
 use Rattle.rc_select.specs.PlanFaults.{CanPlan}
 use Rattle.rc_answers.specs.PlanText.{IsPlanText}
 use Rattle.rc_asked.specs.Asked.{plan_asked}
-use Rattle.rc_queries.specs.Base.{Spells}
+use Rattle.rc_base.specs.Base.{Spells}
 use Rattle.rc_queries.specs.Named.{AreNamed, IsNamed, word_lines}
 
 -- the words name services that are up, with all that they need

@@ -9,8 +9,8 @@ use Rattle.rc_script.specs.declared.script.ScriptFault.{ScriptFault}
 use Rattle.rc_script.specs.declared.script.ScriptFault.TheVariants as script
 use Rattle.rc_replay.specs.Replay.{IsReplay}
 use Rattle.rc_streams.specs.Input.{AppendsFront, fault_line}
-use Rattle.rc_queries.specs.Base.{IsTextFault, Spells}
-use Rattle.rc_queries.specs.DbFaults.{text_word}
+use Rattle.rc_base.specs.Base.{IsTextFault, Spells}
+use Rattle.rc_base.specs.TextFaultWord.{text_word}
 use Rattle.rc_queries.specs.declared.replay.ReplayFault.{ReplayFault}
 use Rattle.rc_queries.specs.declared.replay.ReplayFault.TheVariants.{OfText, BadLine, Memory}
 

@@ -1,17 +1,17 @@
 //! The command `db`: questions about a database.
 ghost use Rattle.std.specs.Prelude.{◌≡◌, ◌≢◌, ◌⊎◌, ◌<◌, ◌≤◌, ◌+◌, None, length, map, string_bytes, vec_len, IfErr, IfOk, IfSome, IsSome, OnOk};
 ghost use Rattle.std.specs.Io.KnownBytes.{IsAtEnd};
-ghost use Rattle.rc_queries.specs.Base.{bytes_of};
+ghost use Rattle.rc_base.specs.Base.{bytes_of};
 ghost use Rattle.rc_queries.specs.DbAnswer.{IsAnswerFor, IsDbAnswer};
 ghost use Rattle.rc_asked.specs.DbAsked.{AsksNothing, AsksSomething};
-ghost use Rattle.rc_queries.specs.DbFaults.{IfRead, IsDbRefused, TellsDbFault};
+ghost use Rattle.rc_queries.specs.DbFaults.{IfRead, IsDbRefused, TellsAnswerFault, TellsDbFault};
 ghost use Rattle.rc_streams.specs.Input.{ConsumesAtMost, TellsFailure, WritesAll, WritesFront};
 ghost use Rattle.rc_asked.specs.Query.{db_ask_of};
 
-use crate::base::database_of;
 use crate::db_answer::answer_to;
 use crate::db_fault::{DbFault, tell_db_fault};
 use rc_asked::{DbRequest, db_asked, tell_words};
+use rc_base::database_of;
 use rc_ending::{fail, write_answer};
 use rc_streams::{Failure, MAX_INPUT, read_all};
 use std::alloc::Global;
@@ -58,15 +58,49 @@ pub fn db_run<R: Read, W: Write, F: Write>(
     ensures end { (result ≡ 0) ⊎ (result ≡ 1) → bytes_of base.entry ≡ None → IsAtEnd (R.remaining reader.new) }
     ensures taken { ConsumesAtMost (R.remaining reader.old) (R.remaining reader.new) (MAX_INPUT + 1) }
 {
-    let request = match db_asked(alloc, words) {
-        Ok(request) => request,
-        Err(fault) => return tell_words(faults, &fault),
-    };
+    match db_asked(alloc, words) {
+        Ok(request) => db_as_asked(alloc, &request, base, reader, writer, faults),
+        Err(fault) => tell_words(faults, &fault),
+    }
+}
+
+/// Runs `undorc db` for what is asked, as `db_run` does for words, and answers the status.
+pub fn db_as_asked<R: Read, W: Write, F: Write>(
+    alloc: Global,
+    request: &DbRequest<'_>,
+    base: Option<&[u8]>,
+    reader: &mut R,
+    writer: &mut W,
+    faults: &mut F,
+) -> u8
+    ensures statuses { (result ≡ 0) ⊎ (result ≡ 1) ⊎ (result ≡ 111) }
+
+    // What was written is the answer of what is asked, and nothing was told.
+    ensures done { result ≡ 0 → IfRead (bytes_of base.entry) (R.remaining reader.old) (λ input. WritesAll
+        (IsAnswerFor (db_ask_of request.now) (bytes_of base.entry) input) (W.contents writer.old) (W.contents writer.new)) }
+    ensures untold { result ≡ 0 → F.contents faults.new ≡ F.contents faults.old }
+
+    // A refusal holds, and a front of its line was told, or all of it.
+    ensures refused { result ≡ 1 → IfRead (bytes_of base.entry) (R.remaining reader.old) (λ input. TellsAnswerFault
+        (db_ask_of request.now) (bytes_of base.entry) input (F.contents faults.old) (F.contents faults.new)) }
+
+    // A failure is told by its line, and what was written is nothing or a front of the answer.
+    ensures failed { result ≡ 111 → TellsFailure (R.remaining reader.old) (F.contents faults.old) (F.contents faults.new) }
+    ensures begun { result ≡ 111 → (W.contents writer.new ≡ W.contents writer.old) ⊎ IfRead (bytes_of base.entry) (R.remaining reader.old) (λ input. WritesFront
+        (IsAnswerFor (db_ask_of request.now) (bytes_of base.entry) input) (W.contents writer.old) (W.contents writer.new)) }
+    ensures unwritten { result ≡ 1 → W.contents writer.new ≡ W.contents writer.old }
+
+    // With a base nothing is read. Without one an input that was answered was read to its end, and whatever the status, one byte past the bound is the last that is taken.
+    ensures base { IsSome (bytes_of base.entry) → R.remaining reader.new ≡ R.remaining reader.old }
+    ensures within { (result ≡ 0) ⊎ (result ≡ 1) → IfRead (bytes_of base.entry) (R.remaining reader.old) (λ input. length input ≤ MAX_INPUT) }
+    ensures end { (result ≡ 0) ⊎ (result ≡ 1) → bytes_of base.entry ≡ None → IsAtEnd (R.remaining reader.new) }
+    ensures taken { ConsumesAtMost (R.remaining reader.old) (R.remaining reader.new) (MAX_INPUT + 1) }
+{
     let input = match input_for(alloc, base, reader) {
         Ok(input) => input,
         Err(failure) => return fail(faults, failure),
     };
-    match answer_for(alloc, &request, base, &input) {
+    match answer_for(alloc, request, base, &input) {
         Ok(text) => write_answer(writer, faults, &text),
         Err(fault) => tell_db_fault(alloc, faults, fault, &request.query),
     }

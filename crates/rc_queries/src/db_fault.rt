@@ -1,11 +1,12 @@
 //! Why `db` refuses, and how it tells that.
 ghost use Rattle.std.specs.Prelude.{◌≡◌, ◌≢◌, ◌⊎◌, slice_get, option_map, IfOk};
-ghost use Rattle.rc_queries.specs.DbFaults.{IsQueryTold, IsTextTold, db_fault_text, query_word, text_word};
+ghost use Rattle.rc_queries.specs.DbFaults.{IsQueryTold, IsTextTold, db_fault_text, query_word};
 ghost use Rattle.rc_streams.specs.Input.{AppendsFront, failure_text, fault_line};
 ghost use Rattle.rc_asked.specs.Query.{names_in, question_of};
 ghost use Rattle.rc_queries.specs.declared.db_fault.DbFault.TheVariants.{Memory};
 
 use rc_asked::Query;
+use rc_base::text_word;
 use rc_db::{NoMem, QueryFault};
 use rc_dbtext::TextFault;
 use rc_ending::{REFUSED, fail};
@@ -85,21 +86,6 @@ fn text_of(alloc: Global, fault: DbFault, query: &Query<'_>) -> Result<Vec<u8>, 
         DbFault::OfText(fault) => text_word(alloc, fault),
         DbFault::OfQuery(fault) => query_word(alloc, fault, query),
         DbFault::Memory => Vec::from_slice(alloc, b"Memory"),
-    }
-}
-
-/// A fault of the text in words.
-pub fn text_word(alloc: Global, fault: TextFault) -> Result<Vec<u8>, NoMem>
-    ensures { IfOk result (λ text. text.items ≡ text_word fault) }
-{
-    match fault {
-        TextFault::Bad(offset) => Ok(format!(in alloc; "Bad {offset}")?.into_bytes()),
-        TextFault::Version => Vec::from_slice(alloc, b"Version"),
-        TextFault::NotSorted => Vec::from_slice(alloc, b"NotSorted"),
-        TextFault::Cyclic => Vec::from_slice(alloc, b"Cyclic"),
-        TextFault::TooMany => Vec::from_slice(alloc, b"TooMany"),
-        TextFault::Dangling => Vec::from_slice(alloc, b"Dangling"),
-        TextFault::Memory => Vec::from_slice(alloc, b"Memory"),
     }
 }
 

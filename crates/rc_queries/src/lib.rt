@@ -1,7 +1,6 @@
 //! The commands that read a database and what is behind it whole, and answer: `plan`, `db`, `replay`.
 #![tactic(auto)]
 
-mod base;
 mod db;
 mod db_answer;
 mod db_fault;
@@ -9,8 +8,6 @@ mod named;
 mod plan;
 mod replay;
 
-pub use crate::base::database_of;
-pub use crate::db::db_run;
-pub use crate::db_fault::text_word;
-pub use crate::plan::plan_run;
-pub use crate::replay::replay_run;
+pub use crate::db::{db_as_asked, db_run};
+pub use crate::plan::{plan_as_asked, plan_run};
+pub use crate::replay::{replay_as_asked, replay_run};

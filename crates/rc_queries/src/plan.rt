@@ -5,16 +5,16 @@ ghost use Rattle.rc_set.specs.Set.{Has};
 ghost use Rattle.rc_graph.specs.Closure.{IsClosed};
 ghost use Rattle.rc_select.specs.Ask.{ask_of};
 ghost use Rattle.rc_asked.specs.Asked.{plan_asked};
-ghost use Rattle.rc_queries.specs.Base.{bytes_of};
+ghost use Rattle.rc_base.specs.Base.{bytes_of};
 ghost use Rattle.rc_streams.specs.Input.{AppendsFront, ConsumesAtMost, TellsFailure, WritesAll, WritesFront, fault_line};
 ghost use Rattle.rc_queries.specs.PlanText.{IsAnswer, IsPlanFor, IsPlanIn, IsTextFor, IsUpSet};
-ghost use Rattle.rc_queries.specs.PlanFaults.{IsAskFault, IsFaultOf, IsNameFault, IsRefused, IsTextRefusal, IsToldAs, IsUpFault, TellsFault, fault_text};
+ghost use Rattle.rc_queries.specs.PlanFaults.{IsAskFault, IsFaultOf, IsNameFault, IsRefused, IsTextRefusal, IsToldAs, IsUpFault, TellsFault, TellsPlanFault, fault_text};
 ghost use Rattle.rc_queries.specs.declared.plan.PlanFault.TheVariants.{Memory};
 
-use crate::base::database_of;
 use crate::named::{NamedFault, named_set, word_lines};
 use rc_answers::plan_text;
 use rc_asked::{plan_asked, tell_words};
+use rc_base::database_of;
 use rc_db::Db;
 use rc_dbtext::TextFault;
 use rc_ending::{FAILED, REFUSED, fail, write_answer};
@@ -124,15 +124,48 @@ pub fn plan_run<R: Read, W: Write, F: Write>(
     ensures end { (result ≡ 0) ⊎ (result ≡ 1) → IsAtEnd (R.remaining reader.new) }
     ensures taken { ConsumesAtMost (R.remaining reader.old) (R.remaining reader.new) (MAX_INPUT + 1) }
 {
-    let request = match plan_asked(alloc, words) {
-        Ok(request) => request,
-        Err(fault) => return tell_words(faults, &fault),
-    };
+    match plan_asked(alloc, words) {
+        Ok(request) => plan_as_asked(alloc, &request, base, reader, writer, faults),
+        Err(fault) => tell_words(faults, &fault),
+    }
+}
+
+/// Runs `undorc plan` for what is asked, as `plan_run` does for words, and answers the status.
+pub fn plan_as_asked<R: Read, W: Write, F: Write>(
+    alloc: Global,
+    request: &Request,
+    base: Option<&[u8]>,
+    reader: &mut R,
+    writer: &mut W,
+    faults: &mut F,
+) -> u8
+    ensures statuses { (result ≡ 0) ⊎ (result ≡ 1) ⊎ (result ≡ 111) }
+
+    // What was written is the plan for what is asked, and nothing was told.
+    ensures done { result ≡ 0 → IfSome (R.remaining reader.old) (λ input. WritesAll
+        (IsPlanFor (ask_of request.now) (bytes_of base.entry) input) (W.contents writer.old) (W.contents writer.new)) }
+    ensures untold { result ≡ 0 → F.contents faults.new ≡ F.contents faults.old }
+
+    // A refusal holds, and a front of its line was told, or all of it.
+    ensures refused { result ≡ 1 → IfSome (R.remaining reader.old) (λ input. TellsPlanFault
+        (ask_of request.now) (bytes_of base.entry) input (F.contents faults.old) (F.contents faults.new)) }
+
+    // A failure is told by its line, and what was written is nothing or a front of the plan.
+    ensures failed { result ≡ 111 → TellsFailure (R.remaining reader.old) (F.contents faults.old) (F.contents faults.new) }
+    ensures begun { result ≡ 111 → (W.contents writer.new ≡ W.contents writer.old) ⊎ IfSome (R.remaining reader.old) (λ input. WritesFront
+        (IsPlanFor (ask_of request.now) (bytes_of base.entry) input) (W.contents writer.old) (W.contents writer.new)) }
+    ensures unwritten { result ≡ 1 → W.contents writer.new ≡ W.contents writer.old }
+
+    // An input that was answered was read to its end, and whatever the status, one byte past the bound is the last that is taken.
+    ensures within { (result ≡ 0) ⊎ (result ≡ 1) → IfSome (R.remaining reader.old) (λ input. length input ≤ MAX_INPUT) }
+    ensures end { (result ≡ 0) ⊎ (result ≡ 1) → IsAtEnd (R.remaining reader.new) }
+    ensures taken { ConsumesAtMost (R.remaining reader.old) (R.remaining reader.new) (MAX_INPUT + 1) }
+{
     let input = match read_all(alloc, reader) {
         Ok(input) => input,
         Err(failure) => return fail(faults, failure),
     };
-    match plan_of(alloc, &request, base, &input) {
+    match plan_of(alloc, request, base, &input) {
         Ok(text) => write_answer(writer, faults, &text),
         Err(fault) => tell_fault(alloc, faults, fault),
     }

@@ -2,15 +2,14 @@
 ghost use Rattle.std.specs.Prelude.{◌≡◌, ◌≢◌, ◌⊎◌, ◌<◌, ◌≤◌, ◌+◌, codes, None, length, map, string_bytes, IfErr, IfOk, IfSome};
 ghost use Rattle.std.specs.Io.KnownBytes.{IsAtEnd};
 ghost use Rattle.rc_streams.specs.Input.{AppendsFront, ConsumesAtMost, TellsFailure, WritesAll, WritesFront, failure_text, fault_line};
-ghost use Rattle.rc_queries.specs.Base.{bytes_of};
+ghost use Rattle.rc_base.specs.Base.{bytes_of};
 ghost use Rattle.rc_asked.specs.ReplayAsked.{AsksReplay};
 ghost use Rattle.rc_queries.specs.Replay.{IsReplayFor, IsReplayRefused, IsScriptAs, IsTextAs, TellsReplayFault, replay_fault_text};
 ghost use Rattle.rc_command.specs.Words.{rows_for};
 ghost use Rattle.rc_queries.specs.declared.replay.ReplayFault.TheVariants.{Memory};
 
-use crate::base::database_of;
-use crate::db_fault::text_word;
 use rc_asked::{replay_asked, tell_words};
+use rc_base::{database_of, text_word};
 use rc_db::NoMem;
 use rc_dbtext::TextFault;
 use rc_ending::{REFUSED, fail, write_answer};
@@ -98,9 +97,42 @@ pub fn replay_run<R: Read, W: Write, F: Write>(
     ensures end { (result ≡ 0) ⊎ (result ≡ 1) → IsAtEnd (R.remaining reader.new) }
     ensures taken { ConsumesAtMost (R.remaining reader.old) (R.remaining reader.new) (MAX_INPUT + 1) }
 {
-    if let Err(fault) = replay_asked(alloc, words) {
-        return tell_words(faults, &fault);
+    match replay_asked(alloc, words) {
+        Ok(()) => replay_as_asked(alloc, base, reader, writer, faults),
+        Err(fault) => tell_words(faults, &fault),
     }
+}
+
+/// Runs `undorc replay`, as `replay_run` does for words that ask it, and answers the status.
+pub fn replay_as_asked<R: Read, W: Write, F: Write>(
+    alloc: Global,
+    base: Option<&[u8]>,
+    reader: &mut R,
+    writer: &mut W,
+    faults: &mut F,
+) -> u8
+    ensures statuses { (result ≡ 0) ⊎ (result ≡ 1) ⊎ (result ≡ 111) }
+
+    // What was written is what the script comes to, and nothing was told.
+    ensures done { result ≡ 0 → IfSome (R.remaining reader.old) (λ input. WritesAll
+        (IsReplayFor (bytes_of base.entry) input) (W.contents writer.old) (W.contents writer.new)) }
+    ensures untold { result ≡ 0 → F.contents faults.new ≡ F.contents faults.old }
+
+    // A refusal holds, and a front of its line was told, or all of it.
+    ensures refused { result ≡ 1 → IfSome (R.remaining reader.old) (λ input. TellsReplayFault
+        (bytes_of base.entry) input (F.contents faults.old) (F.contents faults.new)) }
+
+    // A failure is told by its line, and what was written is nothing or a front of what the script comes to.
+    ensures failed { result ≡ 111 → TellsFailure (R.remaining reader.old) (F.contents faults.old) (F.contents faults.new) }
+    ensures begun { result ≡ 111 → (W.contents writer.new ≡ W.contents writer.old) ⊎ IfSome (R.remaining reader.old) (λ input. WritesFront
+        (IsReplayFor (bytes_of base.entry) input) (W.contents writer.old) (W.contents writer.new)) }
+    ensures unwritten { result ≡ 1 → W.contents writer.new ≡ W.contents writer.old }
+
+    // An input that was answered was read to its end, and whatever the status, one byte past the bound is the last that is taken.
+    ensures within { (result ≡ 0) ⊎ (result ≡ 1) → IfSome (R.remaining reader.old) (λ input. length input ≤ MAX_INPUT) }
+    ensures end { (result ≡ 0) ⊎ (result ≡ 1) → IsAtEnd (R.remaining reader.new) }
+    ensures taken { ConsumesAtMost (R.remaining reader.old) (R.remaining reader.new) (MAX_INPUT + 1) }
+{
     let input = match read_all(alloc, reader) {
         Ok(input) => input,
         Err(failure) => return fail(faults, failure),

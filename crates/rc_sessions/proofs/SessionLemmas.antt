@@ -1,5 +1,5 @@
 -- How a session of the program ends.
-use Rattle.std.proofs.Common.{◌≡◌, ◌∙◌, ◌⊎◌, ◌↔◌, ℕ, Bool, true, false, if◌then◌else◌, Contains, List, [], Option, None, Some, Result, Ok, Err, IfErr, OnOk, inl, inr, ap, refl, sym, subst}
+use Rattle.std.proofs.Common.{◌≡◌, ◌∙◌, ◌⊎◌, ◌↔◌, ℕ, Bool, true, false, if◌then◌else◌, Contains, List, [], Option, None, Some, Result, Ok, Err, IfErr, OnOk, inl, inr, ap, arith, refl, sym, subst}
 use Rattle.clap.specs.Words.{Text}
 use Rattle.rc_graph.specs.declared.Way.{Way}
 use Rattle.rc_core.specs.Standing.{is_success}
@@ -18,7 +18,7 @@ use Rattle.rc_serve.specs.declared.fault.ServeFault.{ServeFault}
 use Rattle.rc_serve.specs.declared.fault.ServeFault.TheVariants.{Read, Write, TooLong, Memory, NoThread, Strange, Workers}
 use Rattle.rc_streams.specs.Input.{AppendsFront, fault_line}
 use Rattle.rc_serve.specs.SessionText.{FailsExactly, IsTimeless}
-use Rattle.rc_queries.specs.Base.{Spells}
+use Rattle.rc_base.specs.Base.{Spells}
 use Rattle.rc_sessions.specs.Session.{Reads, Runs, RunsAsked, RunsGated, RunsOn, Serves, ServesUpTo, Serving, first_session}
 use Rattle.rc_asked.specs.SessionAsked.{AsksSession, SessionAsk}
 use Rattle.rc_sessions.specs.SessionFaults.{EndsBy, EndsGated, EndsOn, IsGateFailing, IsRefusal, IsServingFault, IsSessionRefused, IsToldAs, IsUnserved, serve_word}
@@ -146,3 +146,14 @@ told_read result fault status Refused old new read is statuses refused failed = 
 
     same : fault ≡ Failed Read
     same = ap fault_in (sym is ∙ read)
+
+-- what is asked is never a wrong command line
+pub status_wider : (s : ℕ) → (s ≡ 0) ⊎ (s ≡ 1) ⊎ (s ≡ 111) → (s ≡ 0) ⊎ (s ≡ 1) ⊎ (s ≡ 100) ⊎ (s ≡ 111)
+status_wider s (inl zero) = inl zero
+status_wider s (inr (inl one)) = inr (inl one)
+status_wider s (inr (inr failed)) = inr (inr (inr failed))
+
+pub never_wrong : (s : ℕ) → (s ≡ 0) ⊎ (s ≡ 1) ⊎ (s ≡ 111) → s ≡ 100 → ⊥
+never_wrong s (inl is) wrong = let bad : ⊥ = omega arith in bad
+never_wrong s (inr (inl is)) wrong = let bad : ⊥ = omega arith in bad
+never_wrong s (inr (inr is)) wrong = let bad : ⊥ = omega arith in bad

@@ -10,7 +10,7 @@ use Rattle.rc_failing.specs.Finding.{AreFound}
 use Rattle.rc_serve.specs.declared.fault.ServeFault.{ServeFault}
 use Rattle.rc_serve.specs.Playing.{PlaysInput}
 use Rattle.rc_serve.specs.SessionText.{ServesFailing, ServesFrontFailing}
-use Rattle.rc_queries.specs.Base.{Spells}
+use Rattle.rc_base.specs.Base.{Spells}
 use Rattle.rc_asked.specs.SessionAsked.{AsksSession, SessionAsk}
 
 -- the session that a database begins with: nothing is up

@@ -14,8 +14,8 @@ use Rattle.rc_serve.specs.declared.fault.ServeFault.TheVariants.{Read, Write, To
 use Rattle.rc_streams.specs.declared.input.Failure.{Failure}
 use Rattle.rc_streams.specs.declared.input.Failure.TheVariants as failures
 use Rattle.rc_streams.specs.Input.{AppendsFront, fault_line}
-use Rattle.rc_queries.specs.Base.{IsTextFault, Spells}
-use Rattle.rc_queries.specs.DbFaults.{text_word}
+use Rattle.rc_base.specs.Base.{IsTextFault, Spells}
+use Rattle.rc_base.specs.TextFaultWord.{text_word}
 use Rattle.rc_sessions.specs.Session.{Reads, Runs, RunsAsked, RunsGated, RunsOn, ServesUpTo}
 use Rattle.rc_asked.specs.SessionAsked.{AsksSession, SessionAsk}
 use Rattle.rc_sessions.specs.declared.session_fault.SessionFault.{SessionFault}
@@ -102,6 +102,16 @@ abbrev pub IsToldAs : SessionFault → ServeFault → Type 0
 IsToldAs (OfText fault) told = told ≡ Memory
 IsToldAs (Unknown word) told = told ≡ Memory
 IsToldAs (Failed fault) told = told ≡ fault
+
+-- a refusal of what is asked holds, and a writer gains a front of the line that tells it
+abbrev pub TellsSessionRefusal : SessionAsk → Option (List ℕ) → (remaining after old new : Option (List ℕ)) → Type 0
+TellsSessionRefusal ask base remaining after old new = (fault : SessionFault)
+    × ((input : List ℕ) × Reads base remaining after input × IsSessionRefused fault ask base input) × AppendsFront old new (fault_line (session_fault_text fault))
+
+-- a fault of serving comes, and a writer gains a front of the line that tells it; nothing was served and nothing written, or what serving comes to before that fault
+abbrev pub TellsSessionFault : SessionAsk → Option (List ℕ) → (remaining after written gained : Option (List ℕ)) → (reader writer : Type 0) → (old new : Option (List ℕ)) → Type 0
+TellsSessionFault ask base remaining after written gained reader writer old new = (fault : ServeFault) × IsServingFault reader writer fault
+    × AppendsFront old new (fault_line (serve_word fault)) × ((IsUnserved fault base remaining × (gained ≡ written)) ⊎ Runs (ServesUpTo fault) base ask remaining after written gained)
 
 -- a refusal of what the words ask holds, and a writer gains a front of the line that tells it
 abbrev pub TellsRefusal : List Text → Option (List ℕ) → (remaining after old new : Option (List ℕ)) → Type 0

@@ -4,4 +4,4 @@
 mod session;
 mod session_fault;
 
-pub use crate::session::session_run;
+pub use crate::session::{session_as_asked, session_run};

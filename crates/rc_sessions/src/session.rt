@@ -5,21 +5,21 @@ ghost use Rattle.rc_board.specs.Crew.{IsCrew};
 ghost use Rattle.rc_noted.specs.Noting.{HasFailed, inner_of};
 ghost use Rattle.rc_serve.specs.SessionText.{FailsExactly, IsTimeless};
 ghost use Rattle.rc_streams.specs.Input.{AppendsFront, ConsumesAtMost, fault_line};
-ghost use Rattle.rc_queries.specs.Base.{bytes_of};
+ghost use Rattle.rc_base.specs.Base.{bytes_of};
 ghost use Rattle.rc_sessions.specs.Session.{Runs, RunsAsked, RunsGated, RunsOn, Serves, ServesUpTo};
 ghost use Rattle.rc_asked.specs.SessionAsked.{AsksNoSession, session_ask_of};
-ghost use Rattle.rc_sessions.specs.SessionFaults.{EndsBy, EndsGated, EndsOn, IsServingFault, TellsRefusal, TellsServeFault, reading_fault, serve_word};
+ghost use Rattle.rc_sessions.specs.SessionFaults.{EndsBy, EndsGated, EndsOn, IsServingFault, TellsRefusal, TellsServeFault, TellsSessionFault, TellsSessionRefusal, reading_fault, serve_word};
 ghost use Rattle.rc_sessions.specs.declared.session_fault.SessionFault.TheVariants.{Failed};
 ghost use Rattle.rc_serve.specs.declared.fault.ServeFault.TheVariants.{Read as Unread};
 
 use crate::session_fault::{SessionFault, tell_session_fault};
 use rc_asked::{SessionRequest, session_asked, tell_words};
+use rc_base::database_of;
 use rc_board::Gate;
 use rc_db::Db;
 use rc_ending::DONE;
 use rc_failing::gate_of;
 use rc_noted::Noted;
-use rc_queries::database_of;
 use rc_serve::{ServeFault, serve};
 use rc_session::Session;
 use rc_streams::{Failure, MAX_INPUT, read_all};
@@ -75,11 +75,51 @@ pub fn session_run<T: Threads + Wait + Sync, R: Read, W: Write, F: Write>(
     // Whatever the status, one byte past the bound is the last that is taken.
     ensures taken { ConsumesAtMost (R.remaining (inner_of reader.old)) (R.remaining (inner_of reader.new)) (MAX_INPUT + 1) }
 {
-    let request = match session_asked(alloc, words) {
-        Ok(request) => request,
-        Err(fault) => return tell_words(faults, &fault),
-    };
-    match run_asked(rt, alloc, &request, base, reader, writer) {
+    match session_asked(alloc, words) {
+        Ok(request) => session_as_asked(rt, alloc, &request, base, reader, writer, faults),
+        Err(fault) => tell_words(faults, &fault),
+    }
+}
+
+/// Runs `undorc session` for what is asked, as `session_run` does for words, and answers the status.
+pub fn session_as_asked<T: Threads + Wait + Sync, R: Read, W: Write, F: Write>(
+    rt: &T,
+    alloc: Global,
+    request: &SessionRequest<'_>,
+    base: Option<&[u8]>,
+    reader: &mut Noted<R>,
+    writer: &mut Noted<W>,
+    faults: &mut F,
+) -> u8
+    requires crew { IsCrew request.now.workers }
+    requires reader { HasFailed reader.old → ⊥ }
+    requires writer { HasFailed writer.old → ⊥ }
+    ensures statuses { (result ≡ 0) ⊎ (result ≡ 1) ⊎ (result ≡ 111) }
+
+    // The names that are to fail are services', and what was written is the text of the session that the database begins
+    // with, for these failing transitions and the whole input. Its commands were played. Nothing was told.
+    ensures done { result ≡ 0 → Runs Serves (bytes_of base.entry) (session_ask_of request.now)
+        (R.remaining (inner_of reader.old)) (R.remaining (inner_of reader.new)) (W.contents (inner_of writer.old)) (W.contents (inner_of writer.new)) }
+    ensures untold { result ≡ 0 → F.contents faults.new ≡ F.contents faults.old }
+
+    // A refusal holds, and a front of its line was told, or all of it. With a base nothing was read for it.
+    ensures refused { result ≡ 1 → TellsSessionRefusal (session_ask_of request.now) (bytes_of base.entry)
+        (R.remaining (inner_of reader.old)) (R.remaining (inner_of reader.new)) (F.contents faults.old) (F.contents faults.new) }
+    ensures unwritten { result ≡ 1 → W.contents (inner_of writer.new) ≡ W.contents (inner_of writer.old) }
+
+    // A failure is told by its line. The session was served up to that very fault, or not at all, and then nothing was written.
+    ensures failed { result ≡ 111 → TellsSessionFault (session_ask_of request.now) (bytes_of base.entry)
+        (R.remaining (inner_of reader.old)) (R.remaining (inner_of reader.new)) (W.contents (inner_of writer.old)) (W.contents (inner_of writer.new))
+        (HasFailed reader.new ⊎ (bytes_of base.entry ≡ None)) (HasFailed writer.new) (F.contents faults.old) (F.contents faults.new) }
+
+    // With a base, where the reader has failed that is the cause that is told.
+    ensures cause { (bytes_of base.entry ≡ None → ⊥) → HasFailed reader.new → (result ≡ 111)
+        × AppendsFront (F.contents faults.old) (F.contents faults.new) (fault_line (serve_word Unread)) }
+
+    // Whatever the status, one byte past the bound is the last that is taken.
+    ensures taken { ConsumesAtMost (R.remaining (inner_of reader.old)) (R.remaining (inner_of reader.new)) (MAX_INPUT + 1) }
+{
+    match run_asked(rt, alloc, request, base, reader, writer) {
         Ok(()) => DONE,
         Err(fault) => tell_session_fault(alloc, faults, fault),
     }

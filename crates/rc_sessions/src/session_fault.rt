@@ -6,11 +6,11 @@ ghost use Rattle.rc_sessions.specs.declared.session_fault.SessionFault.TheVarian
 ghost use Rattle.rc_serve.specs.declared.fault.ServeFault.{ServeFault as Failing};
 ghost use Rattle.rc_serve.specs.declared.fault.ServeFault.TheVariants.{Memory};
 
+use rc_base::text_word;
 use rc_db::NoMem;
 use rc_dbtext::TextFault;
 use rc_ending::{FAILED, REFUSED};
 use rc_failing::GateFault;
-use rc_queries::text_word;
 use rc_serve::ServeFault;
 use rc_streams::tell;
 use std::alloc::{AllocError, Global};

@@ -1,12 +1,14 @@
 //! `undorc`: hands the process's words, files and streams to the library.
 #![tactic(auto)]
 
+ghost use Rattle.rc_board.specs.Crew.{IsCrew};
+
 mod own_name;
 
 use crate::own_name::OwnName;
 use rc_cli::{
-    Noted, base_file, compile_run, db_run, names_command, plan_run, replay_run, session_run,
-    sources,
+    DbRequest, Noted, Request, SessionRequest, Task, compile_run, db_as_asked, plan_as_asked,
+    replay_as_asked, session_as_asked, task_of, tell_words,
 };
 use rc_names::NoMem;
 use rc_source::FolderTree;
@@ -35,13 +37,16 @@ fn words(rt: &HostRuntime) -> io::Result<Vec<String>> {
     Ok(words.collect(rt.alloc())?)
 }
 
-/// Runs the command of the words, and answers the status. `threads` is the runtime, too: what starts
-/// threads or waits takes it by this bound.
+/// Does what the words ask, and answers the status. `threads` is the runtime, too: what starts threads or
+/// waits takes it by this bound.
 fn run<T: Threads + Wait + Sync>(rt: &HostRuntime, threads: &T, words: &[String]) -> u8 {
-    match sources(rt.alloc(), words) {
-        Ok(Some(paths)) => compile(rt, &paths),
-        Ok(None) => run_on_base(rt, threads, words),
-        Err(_) => tell_failure(rt, "undorc: Memory"),
+    match task_of(rt.alloc(), words) {
+        Ok(Task::Compile(paths)) => compile(rt, &paths),
+        Ok(Task::Db(request, file)) => db(rt, &request, file),
+        Ok(Task::Plan(request, file)) => plan(rt, &request, file),
+        Ok(Task::Replay(file)) => replay(rt, file),
+        Ok(Task::Session(request, file)) => session(rt, threads, &request, file),
+        Err(fault) => tell_words(&mut rt.stderr(), &fault),
     }
 }
 
@@ -62,98 +67,75 @@ fn trees_at(rt: &HostRuntime, paths: &[String]) -> Result<Vec<FolderTree<HostRun
     Ok(trees)
 }
 
-/// Runs a command that reads a database, and answers the status.
-fn run_on_base<T: Threads + Wait + Sync>(rt: &HostRuntime, threads: &T, words: &[String]) -> u8 {
-    match base_file(rt.alloc(), words) {
-        Ok(Some(path)) => match fs::read(rt, path) {
-            Ok(bytes) => command(rt, threads, words, Some(&bytes)),
-            Err(error) => tell_file(rt, &error),
-        },
-        Ok(None) => command(rt, threads, words, None),
-        Err(_) => tell_failure(rt, "undorc: Memory"),
+/// The bytes of the file of `-b`, if one is named.
+fn base_at(rt: &HostRuntime, file: Option<&str>) -> io::Result<Option<Vec<u8>>> {
+    match file {
+        Some(path) => Ok(Some(fs::read(rt, path)?)),
+        None => Ok(None),
     }
 }
 
-/// Runs the command that is named. A wrong command line is told by whichever is run.
-fn command<T: Threads + Wait + Sync>(
-    rt: &HostRuntime,
-    threads: &T,
-    words: &[String],
-    base: Option<&[u8]>,
-) -> u8 {
-    match names_command(rt.alloc(), words, "session") {
-        Ok(true) => session(rt, threads, words, base),
-        Ok(false) => reader(rt, words, base),
-        Err(_) => tell_failure(rt, "undorc: Memory"),
+fn db(rt: &HostRuntime, request: &DbRequest<'_>, file: Option<&str>) -> u8 {
+    match base_at(rt, file) {
+        Ok(base) => db_as_asked(
+            rt.alloc(),
+            request,
+            base.as_deref(),
+            &mut rt.stdin(),
+            &mut rt.stdout(),
+            &mut rt.stderr(),
+        ),
+        Err(error) => tell_file(rt, &error),
     }
 }
 
-/// Runs the command that is named, of those that read their input whole.
-fn reader(rt: &HostRuntime, words: &[String], base: Option<&[u8]>) -> u8 {
-    match names_command(rt.alloc(), words, "db") {
-        Ok(true) => db(rt, words, base),
-        Ok(false) => mover(rt, words, base),
-        Err(_) => tell_failure(rt, "undorc: Memory"),
+fn plan(rt: &HostRuntime, request: &Request, file: Option<&str>) -> u8 {
+    match base_at(rt, file) {
+        Ok(base) => plan_as_asked(
+            rt.alloc(),
+            request,
+            base.as_deref(),
+            &mut rt.stdin(),
+            &mut rt.stdout(),
+            &mut rt.stderr(),
+        ),
+        Err(error) => tell_file(rt, &error),
     }
 }
 
-/// Runs the command that is named, of those that speak of changes.
-fn mover(rt: &HostRuntime, words: &[String], base: Option<&[u8]>) -> u8 {
-    match names_command(rt.alloc(), words, "replay") {
-        Ok(true) => replay(rt, words, base),
-        Ok(false) => plan(rt, words, base),
-        Err(_) => tell_failure(rt, "undorc: Memory"),
+fn replay(rt: &HostRuntime, file: Option<&str>) -> u8 {
+    match base_at(rt, file) {
+        Ok(base) => replay_as_asked(
+            rt.alloc(),
+            base.as_deref(),
+            &mut rt.stdin(),
+            &mut rt.stdout(),
+            &mut rt.stderr(),
+        ),
+        Err(error) => tell_file(rt, &error),
     }
 }
 
 fn session<T: Threads + Wait + Sync>(
     rt: &HostRuntime,
     threads: &T,
-    words: &[String],
-    base: Option<&[u8]>,
-) -> u8 {
-    session_run(
-        threads,
-        rt.alloc(),
-        words,
-        base,
-        &mut Noted::new(rt.stdin()),
-        &mut Noted::new(rt.stdout()),
-        &mut rt.stderr(),
-    )
-}
-
-fn replay(rt: &HostRuntime, words: &[String], base: Option<&[u8]>) -> u8 {
-    replay_run(
-        rt.alloc(),
-        words,
-        base,
-        &mut rt.stdin(),
-        &mut rt.stdout(),
-        &mut rt.stderr(),
-    )
-}
-
-fn db(rt: &HostRuntime, words: &[String], base: Option<&[u8]>) -> u8 {
-    db_run(
-        rt.alloc(),
-        words,
-        base,
-        &mut rt.stdin(),
-        &mut rt.stdout(),
-        &mut rt.stderr(),
-    )
-}
-
-fn plan(rt: &HostRuntime, words: &[String], base: Option<&[u8]>) -> u8 {
-    plan_run(
-        rt.alloc(),
-        words,
-        base,
-        &mut rt.stdin(),
-        &mut rt.stdout(),
-        &mut rt.stderr(),
-    )
+    request: &SessionRequest<'_>,
+    file: Option<&str>,
+) -> u8
+    requires { IsCrew request.now.workers }
+{
+    match base_at(rt, file) {
+        Ok(base) => session_as_asked(
+            threads,
+            rt.alloc(),
+            request,
+            base.as_deref(),
+            &mut Noted::new(rt.stdin()),
+            &mut Noted::new(rt.stdout()),
+            &mut rt.stderr(),
+        ),
+        Err(error) => tell_file(rt, &error),
+    }
 }
 
 /// Tells why a file was not read, and answers the status.

@@ -1,23 +1,18 @@
-use Rattle.std.proofs.Common.{◌≡◌, ◌∙◌, None, Some, true}
-use Rattle.std.proofs.lemmas.Result.{IfOk-weaker, IfErr-weaker}
-use Rattle.clap.specs.Words.{found_of, rows_of}
-use Rattle.rc_asked.proofs.AskedLemmas.{asked_right, asked_wrong}
+use Rattle.std.proofs.Common.{refl}
+use Rattle.rc_asked.proofs.TaskLemmas.{no_plan, plan_other}
 use Rattle.rc_asked.proofs.asked.plan_asked.Goals as goal
 
-pub returns-in-Err-clause-wrong : goal.returns-in-Err-clause-wrong
-returns-in-Err-clause-wrong c = λ _. asked_wrong _ (c.in-Err.ensures.wrong (λ memory. let yes : c.is_memory.result ≡ true = c.is_memory.ensures.1 memory in cc))
+pub returns-in-Ok-Compile-clause-wrong : goal.returns-in-Ok-Compile-clause-wrong
+returns-in-Ok-Compile-clause-wrong c = λ _. plan_other _ _ _ c.in-Ok-Compile.field-0-is refl c.in-Ok-Compile.ensures.asked
 
-pub returns-in-Some-clause-asked : goal.returns-in-Some-clause-asked
-returns-in-Some-clause-asked c =
-    IfOk-weaker c.request_in.result _ _
-    (λ request h. asked_right _ _ (Some (rows_of (found_of c.in-Some.inner.now))) c.in-Ok.ensures.right c.in-Ok.ensures.rows c.in-Some.ensures ∙ h)
-    c.request_in.ensures.asked
+pub returns-in-Ok-Db-clause-wrong : goal.returns-in-Ok-Db-clause-wrong
+returns-in-Ok-Db-clause-wrong c = λ _. plan_other _ _ _ c.in-Ok-Db.field-0-is refl c.in-Ok-Db.ensures.asked
 
-pub returns-in-Some-clause-wrong : goal.returns-in-Some-clause-wrong
-returns-in-Some-clause-wrong c =
-    IfErr-weaker c.request_in.result _ _
-    (λ fault h other. asked_right _ _ (Some (rows_of (found_of c.in-Some.inner.now))) c.in-Ok.ensures.right c.in-Ok.ensures.rows c.in-Some.ensures ∙ h other)
-    c.request_in.ensures.wrong
+pub returns-in-Ok-Replay-clause-wrong : goal.returns-in-Ok-Replay-clause-wrong
+returns-in-Ok-Replay-clause-wrong c = λ _. plan_other _ _ _ c.in-Ok-Replay.field-0-is refl c.in-Ok-Replay.ensures.asked
+
+pub returns-in-Ok-Session-clause-wrong : goal.returns-in-Ok-Session-clause-wrong
+returns-in-Ok-Session-clause-wrong c = λ _. plan_other _ _ _ c.in-Ok-Session.field-0-is refl c.in-Ok-Session.ensures.asked
 
 pub returns-clause-wrong : goal.returns-clause-wrong
-returns-clause-wrong c = λ _. asked_right _ _ None c.in-Ok.ensures.right c.in-Ok.ensures.rows c.in-None.ensures
+returns-clause-wrong c = λ other. no_plan _ (c.in-Err.ensures.wrong other)

@@ -1,25 +1,19 @@
-use Rattle.std.proofs.Common.{◌≡◌, ◌∙◌, codes, sym, true}
-use Rattle.std.proofs.lemmas.Result.{IfOk-weaker, IfErr-weaker}
-use Rattle.clap.specs.Words.{found_of, rows_of}
-use Rattle.rc_asked.specs.Query.{db_ask_of}
-use Rattle.rc_command.proofs.WordsLemmas.{rows_right, rows_wrong}
-use Rattle.rc_asked.proofs.DbAskedLemmas.{asked_back, asked_none, asked_right}
+use Rattle.std.proofs.Common.{refl, codes}
+use Rattle.rc_asked.proofs.DbAskedLemmas.{asked_none}
+use Rattle.rc_asked.proofs.TaskLemmas.{no_db, other_asked}
 use Rattle.rc_asked.proofs.db_words.db_asked.Goals as goal
 
-pub returns-in-Err-clause-wrong : goal.returns-in-Err-clause-wrong
-returns-in-Err-clause-wrong c = λ _. asked_none _ (rows_wrong (codes "db") _ (c.in-Err.ensures.wrong (λ memory. let yes : c.is_memory.result ≡ true = c.is_memory.ensures.1 memory in cc)))
+pub returns-in-Ok-Compile-clause-wrong : goal.returns-in-Ok-Compile-clause-wrong
+returns-in-Ok-Compile-clause-wrong c = λ _. asked_none _ (other_asked (codes "db") _ _ _ c.in-Ok-Compile.field-0-is refl c.in-Ok-Compile.ensures.asked)
 
-pub returns-in-Some-clause-asked : goal.returns-in-Some-clause-asked
-returns-in-Some-clause-asked c =
-    IfOk-weaker c.request_in.result _ _
-    (λ request asks. asked_right _ _ (rows_of (found_of c.in-Some.inner.now)) (db_ask_of request) c.in-Ok.ensures.right c.in-Ok.ensures.rows c.in-Some.ensures asks)
-    c.request_in.ensures.asked
+pub returns-in-Ok-Plan-clause-wrong : goal.returns-in-Ok-Plan-clause-wrong
+returns-in-Ok-Plan-clause-wrong c = λ _. asked_none _ (other_asked (codes "db") _ _ _ c.in-Ok-Plan.field-0-is refl c.in-Ok-Plan.ensures.asked)
 
-pub returns-in-Some-clause-wrong : goal.returns-in-Some-clause-wrong
-returns-in-Some-clause-wrong c =
-    IfErr-weaker c.request_in.result _ _
-    (λ fault never other ask asks. never other ask (asked_back _ _ (rows_of (found_of c.in-Some.inner.now)) ask c.in-Ok.ensures.right c.in-Ok.ensures.rows c.in-Some.ensures asks))
-    c.request_in.ensures.wrong
+pub returns-in-Ok-Replay-clause-wrong : goal.returns-in-Ok-Replay-clause-wrong
+returns-in-Ok-Replay-clause-wrong c = λ _. asked_none _ (other_asked (codes "db") _ _ _ c.in-Ok-Replay.field-0-is refl c.in-Ok-Replay.ensures.asked)
+
+pub returns-in-Ok-Session-clause-wrong : goal.returns-in-Ok-Session-clause-wrong
+returns-in-Ok-Session-clause-wrong c = λ _. asked_none _ (other_asked (codes "db") _ _ _ c.in-Ok-Session.field-0-is refl c.in-Ok-Session.ensures.asked)
 
 pub returns-clause-wrong : goal.returns-clause-wrong
-returns-clause-wrong c = λ _. asked_none _ (rows_right (codes "db") _ _ c.in-Ok.ensures.right c.in-Ok.ensures.rows ∙ sym c.in-None.ensures)
+returns-clause-wrong c = λ other. no_db _ (c.in-Err.ensures.wrong other)

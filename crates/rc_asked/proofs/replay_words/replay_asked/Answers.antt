@@ -1,14 +1,18 @@
-use Rattle.std.proofs.Common.{◌≡◌, ◌∙◌, true, codes, sym}
-use Rattle.rc_command.proofs.WordsLemmas.{rows_right, rows_wrong}
+use Rattle.std.proofs.Common.{refl, codes}
+use Rattle.rc_asked.proofs.TaskLemmas.{no_replay, other_asked}
 use Rattle.rc_asked.proofs.replay_words.replay_asked.Goals as goal
 
-pub returns-in-Err-clause-wrong : goal.returns-in-Err-clause-wrong
-returns-in-Err-clause-wrong c = λ _. rows_wrong (codes "replay") _ (c.in-Err.ensures.wrong (λ memory. let yes : c.is_memory.result ≡ true = c.is_memory.ensures.1 memory in cc))
+pub returns-in-Ok-Compile-clause-wrong : goal.returns-in-Ok-Compile-clause-wrong
+returns-in-Ok-Compile-clause-wrong c = λ _. other_asked (codes "replay") _ _ _ c.in-Ok-Compile.field-0-is refl c.in-Ok-Compile.ensures.asked
 
-pub returns-in-Some-clause-asked : goal.returns-in-Some-clause-asked
-returns-in-Some-clause-asked c = λ none.
-    let some = rows_right (codes "replay") _ _ c.in-Ok.ensures.right c.in-Ok.ensures.rows ∙ sym c.in-Some.ensures in
-    cc
+pub returns-in-Ok-Db-clause-wrong : goal.returns-in-Ok-Db-clause-wrong
+returns-in-Ok-Db-clause-wrong c = λ _. other_asked (codes "replay") _ _ _ c.in-Ok-Db.field-0-is refl c.in-Ok-Db.ensures.asked
+
+pub returns-in-Ok-Plan-clause-wrong : goal.returns-in-Ok-Plan-clause-wrong
+returns-in-Ok-Plan-clause-wrong c = λ _. other_asked (codes "replay") _ _ _ c.in-Ok-Plan.field-0-is refl c.in-Ok-Plan.ensures.asked
+
+pub returns-in-Ok-Session-clause-wrong : goal.returns-in-Ok-Session-clause-wrong
+returns-in-Ok-Session-clause-wrong c = λ _. other_asked (codes "replay") _ _ _ c.in-Ok-Session.field-0-is refl c.in-Ok-Session.ensures.asked
 
 pub returns-clause-wrong : goal.returns-clause-wrong
-returns-clause-wrong c = λ _. rows_right (codes "replay") _ _ c.in-Ok.ensures.right c.in-Ok.ensures.rows ∙ sym c.in-None.ensures
+returns-clause-wrong c = λ other. no_replay _ (c.in-Err.ensures.wrong other)

@@ -1,25 +1,19 @@
-use Rattle.std.proofs.Common.{◌≡◌, ◌∙◌, codes, sym, true}
-use Rattle.std.proofs.lemmas.Result.{IfOk-weaker, IfErr-weaker}
-use Rattle.clap.specs.Words.{found_of, rows_of}
-use Rattle.rc_asked.proofs.SessionWordsLemmas.{asked_back, asked_none}
-use Rattle.rc_command.proofs.WordsLemmas.{rows_right, rows_wrong}
+use Rattle.std.proofs.Common.{refl, codes}
+use Rattle.rc_asked.proofs.SessionWordsLemmas.{asked_none}
+use Rattle.rc_asked.proofs.TaskLemmas.{no_session, other_asked}
 use Rattle.rc_asked.proofs.session_words.session_asked.Goals as goal
 
-pub returns-in-Err-clause-wrong : goal.returns-in-Err-clause-wrong
-returns-in-Err-clause-wrong c = λ _. asked_none _ (rows_wrong (codes "session") _ (c.in-Err.ensures.wrong (λ memory. let yes : c.is_memory.result ≡ true = c.is_memory.ensures.1 memory in cc)))
+pub returns-in-Ok-Compile-clause-wrong : goal.returns-in-Ok-Compile-clause-wrong
+returns-in-Ok-Compile-clause-wrong c = λ _. asked_none _ (other_asked (codes "session") _ _ _ c.in-Ok-Compile.field-0-is refl c.in-Ok-Compile.ensures.asked)
 
-pub returns-in-Some-clause-asked : goal.returns-in-Some-clause-asked
-returns-in-Some-clause-asked c =
-    IfOk-weaker c.request_in.result _ _
-    (λ request asks. (rows_of (found_of c.in-Some.inner.now), rows_right (codes "session") _ _ c.in-Ok.ensures.right c.in-Ok.ensures.rows ∙ sym c.in-Some.ensures, asks))
-    c.request_in.ensures.asked
+pub returns-in-Ok-Db-clause-wrong : goal.returns-in-Ok-Db-clause-wrong
+returns-in-Ok-Db-clause-wrong c = λ _. asked_none _ (other_asked (codes "session") _ _ _ c.in-Ok-Db.field-0-is refl c.in-Ok-Db.ensures.asked)
 
-pub returns-in-Some-clause-wrong : goal.returns-in-Some-clause-wrong
-returns-in-Some-clause-wrong c =
-    IfErr-weaker c.request_in.result _ _
-    (λ fault never other ask asks. never other ask
-    (asked_back _ (rows_of (found_of c.in-Some.inner.now)) ask (rows_right (codes "session") _ _ c.in-Ok.ensures.right c.in-Ok.ensures.rows ∙ sym c.in-Some.ensures) asks))
-    c.request_in.ensures.wrong
+pub returns-in-Ok-Plan-clause-wrong : goal.returns-in-Ok-Plan-clause-wrong
+returns-in-Ok-Plan-clause-wrong c = λ _. asked_none _ (other_asked (codes "session") _ _ _ c.in-Ok-Plan.field-0-is refl c.in-Ok-Plan.ensures.asked)
+
+pub returns-in-Ok-Replay-clause-wrong : goal.returns-in-Ok-Replay-clause-wrong
+returns-in-Ok-Replay-clause-wrong c = λ _. asked_none _ (other_asked (codes "session") _ _ _ c.in-Ok-Replay.field-0-is refl c.in-Ok-Replay.ensures.asked)
 
 pub returns-clause-wrong : goal.returns-clause-wrong
-returns-clause-wrong c = λ _. asked_none _ (rows_right (codes "session") _ _ c.in-Ok.ensures.right c.in-Ok.ensures.rows ∙ sym c.in-None.ensures)
+returns-clause-wrong c = λ other. no_session _ (c.in-Err.ensures.wrong other)

@@ -1,23 +1,34 @@
-use Rattle.std.proofs.Common.{◌≡◌, ◌∙◌, ℕ, List, map, string_bytes, subst}
-use Rattle.rc_queries.specs.Base.{bytes_of}
-use Rattle.rc_queries.specs.DbFaults.{IsDbRefused, TellsDbFault}
+use Rattle.std.proofs.Common.{inl, inr, map, string_bytes}
 use Rattle.rc_asked.specs.Query.{db_ask_of}
+use Rattle.rc_base.specs.Base.{bytes_of}
 use Rattle.rc_queries.proofs.DbLemmas.{if_read_then}
+use Rattle.rc_queries.proofs.RunLemmas.{answer_begun, answer_written, never_wrong, status_wider}
 use Rattle.rc_queries.proofs.db.db_run.Goals as goal
+
+pub returns-in-Ok : goal.returns-in-Ok
+returns-in-Ok g c =
+    let run = c.db_as_asked.ensures in
+    let ask = db_ask_of c.in-Ok.request in
+    let asked = c.in-Ok.ensures.asked in
+    let words = map string_bytes c.args.words.now in
+    let base = bytes_of c.args.base in
+    let remaining = g.R.Read.remaining c.args.reader.now in
+    record {
+      statuses = status_wider _ run.statuses;
+      done = λ zero. if_read_then base remaining _ _ (λ input h. answer_written words ask base input _ _ asked h) (run.done zero);
+      untold = run.untold;
+      refused = λ one. if_read_then base remaining _ _ (λ input told. (ask, asked, told)) (run.refused one);
+      wrong = λ wrong. absurd (never_wrong _ run.statuses wrong);
+      right = λ other more. (ask, asked);
+      unread = λ wrong. absurd (never_wrong _ run.statuses wrong);
+      failed = run.failed;
+      begun = λ failed. elim (run.begun failed) [ inl same ↦ inl same | inr front ↦ inr (if_read_then base remaining _ _ (λ input h. answer_begun words ask base input _ _ asked h) front) ];
+      unwritten = λ cases. elim cases [ inl one ↦ run.unwritten one | inr wrong ↦ absurd (never_wrong _ run.statuses wrong) ];
+      base = run.base;
+      within = run.within;
+      end = run.end;
+      taken = run.taken;
+    }
 
 pub returns-in-Err-clause-wrong : goal.returns-in-Err-clause-wrong
 returns-in-Err-clause-wrong g c told = c.in-Err.ensures.wrong (c.tell_words.ensures.wrong told)
-
-pub returns-clause-refused : goal.returns-clause-refused
-returns-clause-refused g c told =
-    let line = c.tell_db_fault.ensures.refused told in
-    if_read_then (bytes_of c.args.base) (g.R.Read.remaining c.args.reader.now) (λ input. c.in-Ok-input_for.input.items ≡ input)
-    (λ input. TellsDbFault (map string_bytes c.args.words.now) (bytes_of c.args.base) input (g.F.Write.contents c.args.faults.now) (g.F.Write.contents c.tell_db_fault.new.faults))
-    (λ input is. (
-      db_ask_of c.in-Ok.request,
-      c.in-Err-answer_for.fault,
-      c.in-Ok.ensures.asked,
-      subst (λ (bytes : List ℕ). IsDbRefused c.in-Err-answer_for.fault (db_ask_of c.in-Ok.request) (bytes_of c.args.base) bytes) (c.deref.ensures.value ∙ is) c.in-Err-answer_for.ensures.fault,
-      line.0,
-      line.1,
-    )) c.in-Ok-input_for.ensures.whole

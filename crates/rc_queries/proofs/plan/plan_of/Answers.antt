@@ -2,7 +2,7 @@ use Rattle.std.proofs.Common.{◌∙◌, inl, inr, map, ap, sym, subst}
 use Rattle.std.proofs.lemmas.Result.{IfOk-weaker, IfErr-weaker}
 use Rattle.rc_select.specs.Ask.{ask_of}
 use Rattle.rc_queries.specs.declared.plan.PlanFault.{PlanFault}
-use Rattle.rc_queries.specs.Base.{bytes_of}
+use Rattle.rc_base.specs.Base.{bytes_of}
 use Rattle.rc_queries.specs.PlanFaults.{IsRefused}
 use Rattle.rc_queries.proofs.PlanLemmas.{err_then, name_refused, plan_from_text}
 use Rattle.rc_queries.proofs.plan.plan_of.Goals as goal

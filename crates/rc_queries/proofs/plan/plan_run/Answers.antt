@@ -1,24 +1,30 @@
-use Rattle.std.proofs.Common.{◌∙◌, ℕ, List, map, string_bytes, subst}
+use Rattle.std.proofs.Common.{inl, inr, map, string_bytes}
 use Rattle.rc_select.specs.Ask.{ask_of}
-use Rattle.rc_streams.specs.declared.input.Failure.TheVariants as failure
-use Rattle.rc_queries.specs.Base.{bytes_of}
-use Rattle.rc_queries.specs.PlanFaults.{IsRefused, TellsFault}
+use Rattle.rc_base.specs.Base.{bytes_of}
 use Rattle.rc_queries.proofs.PlanLemmas.{if_some_then}
+use Rattle.rc_queries.proofs.RunLemmas.{never_wrong, plan_begun, plan_written, some_asked, status_wider}
 use Rattle.rc_queries.proofs.plan.plan_run.Goals as goal
 
-pub returns-clause-refused : goal.returns-clause-refused
-returns-clause-refused g c told =
-    let line = c.tell_fault.ensures.refused told in
-    if_some_then (g.R.Read.remaining c.args.reader.now) _
-    (λ input. TellsFault (map string_bytes c.args.words.now) (bytes_of c.args.base) input (g.F.Write.contents c.args.faults.now) (g.F.Write.contents c.tell_fault.new.faults))
-    (λ input is. (
-      ask_of c.in-Ok.request,
-      c.in-Err-plan_of.fault,
-      c.in-Ok.ensures.asked,
-      subst (λ (bytes : List ℕ). IsRefused c.in-Err-plan_of.fault (ask_of c.in-Ok.request) (bytes_of c.args.base) bytes) (c.deref.ensures.value ∙ is) c.in-Err-plan_of.ensures.fault,
-      line.0,
-      line.1,
-    )) c.in-Ok-read_all.ensures.whole
-
-pub returns-clause-failed : goal.returns-clause-failed
-returns-clause-failed g c told = (failure.Memory, c.tell_fault.ensures.failed told, λ e. let no : ⊥ = cc in absurd no)
+pub returns-in-Ok : goal.returns-in-Ok
+returns-in-Ok g c =
+    let run = c.plan_as_asked.ensures in
+    let ask = ask_of c.in-Ok.request in
+    let asked = c.in-Ok.ensures.asked in
+    let words = map string_bytes c.args.words.now in
+    let base = bytes_of c.args.base in
+    let remaining = g.R.Read.remaining c.args.reader.now in
+    record {
+      statuses = status_wider _ run.statuses;
+      done = λ zero. if_some_then remaining _ _ (λ input h. plan_written words ask base input _ _ asked h) (run.done zero);
+      untold = run.untold;
+      refused = λ one. if_some_then remaining _ _ (λ input told. (ask, asked, told)) (run.refused one);
+      wrong = λ wrong. absurd (never_wrong _ run.statuses wrong);
+      right = λ other more none. some_asked _ ask asked none;
+      unread = λ wrong. absurd (never_wrong _ run.statuses wrong);
+      failed = run.failed;
+      begun = λ failed. elim (run.begun failed) [ inl same ↦ inl same | inr front ↦ inr (if_some_then remaining _ _ (λ input h. plan_begun words ask base input _ _ asked h) front) ];
+      unwritten = λ cases. elim cases [ inl one ↦ run.unwritten one | inr wrong ↦ absurd (never_wrong _ run.statuses wrong) ];
+      within = run.within;
+      end = run.end;
+      taken = run.taken;
+    }

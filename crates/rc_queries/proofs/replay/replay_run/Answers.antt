@@ -1,21 +1,22 @@
-use Rattle.std.proofs.Common.{◌∙◌, ℕ, List, subst}
-use Rattle.rc_streams.specs.declared.input.Failure.TheVariants as failure
-use Rattle.rc_queries.specs.Base.{bytes_of}
-use Rattle.rc_queries.specs.Replay.{IsReplayRefused, TellsReplayFault}
-use Rattle.rc_queries.proofs.PlanLemmas.{if_some_then}
+use Rattle.std.proofs.Common.{inl, inr}
+use Rattle.rc_queries.proofs.RunLemmas.{never_wrong, status_wider}
 use Rattle.rc_queries.proofs.replay.replay_run.Goals as goal
 
-pub returns-clause-refused : goal.returns-clause-refused
-returns-clause-refused g c told =
-    let line = c.tell_replay_fault.ensures.refused told in
-    if_some_then (g.R.Read.remaining c.args.reader.now) _
-    (λ input. TellsReplayFault (bytes_of c.args.base) input (g.F.Write.contents c.args.faults.now) (g.F.Write.contents c.tell_replay_fault.new.faults))
-    (λ input is. (
-      c.in-Err-replay_of.fault,
-      subst (λ (bytes : List ℕ). IsReplayRefused c.in-Err-replay_of.fault (bytes_of c.args.base) bytes) (c.deref.ensures.value ∙ is) c.in-Err-replay_of.ensures.fault,
-      line.0,
-      line.1,
-    )) c.in-Ok.ensures.whole
-
-pub returns-clause-failed : goal.returns-clause-failed
-returns-clause-failed g c told = (failure.Memory, c.tell_replay_fault.ensures.failed told, λ e. let no : ⊥ = cc in absurd no)
+pub returns-in-Ok : goal.returns-in-Ok
+returns-in-Ok g c =
+    let run = c.replay_as_asked.ensures in
+    record {
+      statuses = status_wider _ run.statuses;
+      done = run.done;
+      untold = run.untold;
+      refused = run.refused;
+      wrong = λ wrong. absurd (never_wrong _ run.statuses wrong);
+      right = λ other more. c.in-Ok.ensures.asked;
+      unread = λ wrong. absurd (never_wrong _ run.statuses wrong);
+      failed = run.failed;
+      begun = run.begun;
+      unwritten = λ cases. elim cases [ inl one ↦ run.unwritten one | inr wrong ↦ absurd (never_wrong _ run.statuses wrong) ];
+      within = run.within;
+      end = run.end;
+      taken = run.taken;
+    }

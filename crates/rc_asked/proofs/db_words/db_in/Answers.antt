@@ -6,7 +6,7 @@ use Rattle.rc_asked.specs.Query.{Question, question_of, spelled}
 use Rattle.rc_command.specs.Words.{words_in}
 use Rattle.rc_asked.specs.declared.query.Query.{Query}
 use Rattle.rc_asked.proofs.DbAskedLemmas.{no_query, query_by}
-use Rattle.rc_asked.proofs.db_words.request_in.Goals as goal
+use Rattle.rc_asked.proofs.db_words.db_in.Goals as goal
 
 pub returns-in_default-clause-wrong : goal.returns-in_default-clause-wrong
 returns-in_default-clause-wrong c = λ _ ask asks.

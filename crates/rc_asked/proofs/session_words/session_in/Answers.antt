@@ -2,7 +2,7 @@ use Rattle.std.proofs.Common.{ℕ, List, None, Some, map, refl, subst, sym}
 use Rattle.rc_transitions.specs.Listed.{SpellsList}
 use Rattle.rc_transitions.specs.Reading.{listed_of}
 use Rattle.rc_asked.proofs.SessionWordsLemmas.{crew_back, crew_found, list_back, list_found}
-use Rattle.rc_asked.proofs.session_words.request_in.Goals as goal
+use Rattle.rc_asked.proofs.session_words.session_in.Goals as goal
 
 pub returns-in_default-clause-wrong : goal.returns-in_default-clause-wrong
 returns-in_default-clause-wrong c = λ _ ask asks. c.in_default.ensures.none ask.workers (crew_back c.args.matches.now _ ask.workers c.get_str.ensures asks.0)

@@ -1,6 +1,6 @@
 //! The database of a command: a text of its own, or the front of the input.
 ghost use Rattle.std.specs.Prelude.{IfErr, IfOk};
-ghost use Rattle.rc_queries.specs.Base.{IsTextFault, Spells, bytes_of};
+ghost use Rattle.rc_base.specs.Base.{IsTextFault, Spells, bytes_of};
 
 use rc_db::Db;
 use rc_dbtext::{TextFault, read_db, read_db_front};

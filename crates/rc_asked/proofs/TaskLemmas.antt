@@ -1,0 +1,149 @@
+-- What the words ask, by the matches that `clap` makes of them.
+use Rattle.std.proofs.Common.{◌≡◌, ◌≤◌, ◌∙◌, ℕ, arith, Bool, List, Option, None, Some, false, true, if◌then◌else◌, refl, ap, sym, subst, unwrap_or, codes}
+use Rattle.std.proofs.lemmas.Slice.Eq.{bytes_eq-Decides}
+use Rattle.std.specs.Option.{option_and_then}
+use Rattle.std.specs.Str.{bytes_eq}
+use Rattle.clap.specs.Matches.{first_value, found_of}
+use Rattle.clap.specs.Words.{Row, Text, fault_of, first_of, rows_of, subcommand_of}
+use Rattle.clap.specs.declared.ArgMatches.{ArgMatches}
+use Rattle.clap.proofs.WalkLemmas.{first_value-rows}
+use Rattle.rc_select.specs.Ask.{Ask}
+use Rattle.rc_command.specs.Commands.{program}
+use Rattle.rc_command.specs.Words.{has_fault, rows_for, rows_named}
+use Rattle.rc_command.proofs.WordsLemmas.{rows_right, rows_wrong}
+use Rattle.rc_asked.specs.Asked.{ask_in, plan_asked}
+use Rattle.rc_asked.specs.DbAsked.{AsksIn, AsksNothing}
+use Rattle.rc_asked.specs.Query.{DbAsk}
+use Rattle.rc_asked.specs.SessionAsked.{AsksNoSession, AsksSessionIn, IsCrewIn, SessionAsk}
+use Rattle.rc_asked.specs.Task.{AsksEntered, AsksNamed, AsksNoTask, AsksTask, AsksTaskIn, HasWorkers, OfCompile, OfDb, OfPlan, OfReplay, OfSession, TaskAsk, command_of, file_in, task_ask_of}
+use Rattle.rc_asked.specs.declared.task.Task.{Task}
+use Rattle.rc_asked.specs.declared.task.Task.TheVariants as task
+
+-- the command that was entered has its matches, and is the one that has them
+named_self : (name : Text) (rows : List Row) → rows_named name (Some (name, rows)) ≡ Some rows
+named_self name rows = ap (λ (b : Bool). if b then Some rows else None) ((bytes_eq-Decides name name).1 refl)
+
+named_by : (name given : Text) (found rows : List Row) (same : Bool) → bytes_eq given name ≡ same → (if same then Some found else None) ≡ Some rows
+    → ◌≡◌ {A = Option (Text × List Row)} (Some (given, found)) (Some (name, rows))
+named_by name given found rows true is e =
+    let one : found ≡ rows = cc in
+    ap (λ (n : Text). Some (n, found)) ((bytes_eq-Decides given name).0 is) ∙ ap (λ (rs : List Row). Some (name, rs)) one
+named_by name given found rows false is e = cc
+
+named_back : (name : Text) (entered : Option (Text × List Row)) (rows : List Row) → rows_named name entered ≡ Some rows → entered ≡ Some (name, rows)
+named_back name None rows is = cc
+named_back name (Some e) rows is = named_by name e.0 e.1 rows (bytes_eq e.0 name) refl is
+
+-- one command is entered, and no other
+other_named : (name other : Text) (entered : Option (Text × List Row)) (rows : List Row) → bytes_eq name other ≡ false → rows_named name entered ≡ Some rows → rows_named other entered ≡ None
+other_named name other entered rows apart is =
+    ap (rows_named other) (named_back name entered rows is) ∙ ap (λ (b : Bool). if b then Some rows else None) apart
+
+other_by : (wrong : Bool) (name other : Text) (entered : Option (Text × List Row)) (rows : List Row) → bytes_eq name other ≡ false
+    → (if wrong then None else rows_named name entered) ≡ Some rows → (if wrong then None else rows_named other entered) ≡ None
+other_by true name other entered rows apart is = refl
+other_by false name other entered rows apart is = other_named name other entered rows apart is
+
+other_rows : (name other : Text) (words : List Text) (rows : List Row) → bytes_eq name other ≡ false → rows_for name words ≡ Some rows → rows_for other words ≡ None
+unfolding rows_for
+other_rows name other words rows apart is = other_by (has_fault (fault_of program words)) name other (subcommand_of program words) rows apart is
+
+pub other_asked : (name : Text) (words : List Text) (task other : Task) → task ≡ other → bytes_eq (command_of (task_ask_of other)) name ≡ false → AsksTask words (task_ask_of task) → rows_for name words ≡ None
+other_asked name words task other is apart asks =
+    other_rows (command_of (task_ask_of task)) name words asks.0 (ap (λ (t : Task). bytes_eq (command_of (task_ask_of t)) name) is ∙ apart) asks.1
+
+-- what was entered asks what the words ask, where they have no fault
+pub entered_right : (words : List Text) (entered : Option (Text × List Row)) (ask : TaskAsk) → has_fault (fault_of program words) ≡ false → entered ≡ subcommand_of program words
+    → AsksEntered entered ask → AsksTask words ask
+entered_right words entered ask right is asks =
+    (asks.0, rows_right (command_of ask) words entered right is ∙ (ap (rows_named (command_of ask)) asks.1 ∙ named_self (command_of ask) asks.0), asks.2)
+
+pub entered_back : (words : List Text) (entered : Option (Text × List Row)) (ask : TaskAsk) → has_fault (fault_of program words) ≡ false → entered ≡ subcommand_of program words
+    → AsksTask words ask → AsksEntered entered ask
+entered_back words entered ask right is asks =
+    (asks.0, named_back (command_of ask) entered asks.0 (sym (rows_right (command_of ask) words entered right is) ∙ asks.1), asks.2)
+
+-- a session that is asked has workers
+workers_in : (given : Option Text) (workers : ℕ) → IsCrewIn given workers → (1 ≤ workers) × (workers ≤ 64)
+workers_in None workers is = (omega arith, omega arith)
+workers_in (Some text) workers is = (is.2, is.3)
+
+pub asked_workers : (entered : Option (Text × List Row)) (t : Task) → AsksEntered entered (task_ask_of t) → HasWorkers t
+asked_workers entered (task.Compile sources) asks = tt
+asked_workers entered (task.Db request file) asks = tt
+asked_workers entered (task.Plan request file) asks = tt
+asked_workers entered (task.Replay file) asks = tt
+asked_workers entered (task.Session request file) asks = workers_in (first_of (codes "workers") asks.0) request.workers asks.2.0.0
+
+-- a wrong line asks nothing
+pub wrong_asks : (words : List Text) → has_fault (fault_of program words) ≡ true → AsksNoTask words
+wrong_asks words wrong ask asks = let both : None ≡ Some asks.0 = sym (rows_wrong (command_of ask) words wrong) ∙ asks.1 in cc
+
+-- what was entered asks what the matches of its name ask
+pub named_right : (name : Text) (rows : List Row) (entered : Option (Text × List Row)) (ask : TaskAsk) → Some (name, rows) ≡ entered → AsksNamed name rows ask → AsksEntered entered ask
+named_right name rows entered ask is asks = (rows, sym is ∙ ap (λ (n : Text). Some (n, rows)) asks.0, asks.1)
+
+pub entered_named : (name : Text) (rows : List Row) (entered : Option (Text × List Row)) (ask : TaskAsk) → Some (name, rows) ≡ entered → AsksEntered entered ask → AsksNamed name rows ask
+entered_named name rows entered ask is asks =
+    let both : ◌≡◌ {A = Option (Text × List Row)} (Some (name, rows)) (Some (command_of ask, asks.0)) = is ∙ asks.1 in
+    let same : rows ≡ asks.0 = ap (λ (o : Option (Text × List Row)). (unwrap_or o (name, rows)).1) both in
+    (ap (λ (o : Option (Text × List Row)). (unwrap_or o (name, rows)).0) both, subst (λ (rs : List Row). AsksTaskIn rs ask) (sym same) asks.2)
+
+-- the file of the matches, by the text that is found in them
+pub file_found : (m : ArgMatches) (file : Option Text) → file ≡ first_value (found_of m) (codes "base") → file ≡ file_in (rows_of (found_of m))
+file_found m file is = is ∙ first_value-rows (found_of m) (codes "base")
+
+-- two names are apart
+apart : (name other : Text) → bytes_eq name other ≡ false → name ≡ other → ⊥
+apart name other no_test is = let yes : bytes_eq name other ≡ true = (bytes_eq-Decides name other).1 is in let both : true ≡ false = sym yes ∙ no_test in cc
+
+-- matches that ask nothing of their command ask nothing
+pub db_none : (rows : List Row) → ((ask : DbAsk) → AsksIn rows ask → ⊥) → (ask : TaskAsk) → AsksNamed (codes "db") rows ask → ⊥
+db_none rows none (OfCompile sources) asks = apart (codes "db") (codes "compile") refl asks.0
+db_none rows none (OfDb ask file) asks = none ask asks.1.0
+db_none rows none (OfPlan ask file) asks = apart (codes "db") (codes "plan") refl asks.0
+db_none rows none (OfReplay file) asks = apart (codes "db") (codes "replay") refl asks.0
+db_none rows none (OfSession ask file) asks = apart (codes "db") (codes "session") refl asks.0
+
+pub plan_none : (rows : List Row) → ask_in rows ≡ None → (ask : TaskAsk) → AsksNamed (codes "plan") rows ask → ⊥
+plan_none rows none (OfCompile sources) asks = apart (codes "plan") (codes "compile") refl asks.0
+plan_none rows none (OfDb ask file) asks = apart (codes "plan") (codes "db") refl asks.0
+plan_none rows none (OfPlan ask file) asks = let both : None ≡ Some ask = sym none ∙ asks.1.0 in cc
+plan_none rows none (OfReplay file) asks = apart (codes "plan") (codes "replay") refl asks.0
+plan_none rows none (OfSession ask file) asks = apart (codes "plan") (codes "session") refl asks.0
+
+pub session_none : (rows : List Row) → ((ask : SessionAsk) → AsksSessionIn rows ask → ⊥) → (ask : TaskAsk) → AsksNamed (codes "session") rows ask → ⊥
+session_none rows none (OfCompile sources) asks = apart (codes "session") (codes "compile") refl asks.0
+session_none rows none (OfDb ask file) asks = apart (codes "session") (codes "db") refl asks.0
+session_none rows none (OfPlan ask file) asks = apart (codes "session") (codes "plan") refl asks.0
+session_none rows none (OfReplay file) asks = apart (codes "session") (codes "replay") refl asks.0
+session_none rows none (OfSession ask file) asks = none ask asks.1.0
+
+-- what a task of another command says of a command
+pub plan_other : (words : List Text) (task other : Task) → task ≡ other → bytes_eq (command_of (task_ask_of other)) (codes "plan") ≡ false → AsksTask words (task_ask_of task) → plan_asked words ≡ None
+plan_other words task other is apart asks = ap (option_and_then ask_in) (other_asked (codes "plan") words task other is apart asks)
+
+-- words that ask nothing ask nothing of a command
+ask_none : (words : List Text) (rows : List Row) (ask : Option Ask) → ask_in rows ≡ ask → rows_for (codes "plan") words ≡ Some rows → AsksNoTask words → ask ≡ None
+ask_none words rows None at is never = refl
+ask_none words rows (Some ask) at is never = absurd (never (OfPlan ask (file_in rows)) (rows, is, (at, refl)))
+
+rows_none : (words : List Text) (found : Option (List Row)) → rows_for (codes "plan") words ≡ found → AsksNoTask words → option_and_then ask_in found ≡ None
+rows_none words None is never = refl
+rows_none words (Some rows) is never = ask_none words rows (ask_in rows) refl is never
+
+pub no_plan : (words : List Text) → AsksNoTask words → plan_asked words ≡ None
+no_plan words never = rows_none words (rows_for (codes "plan") words) refl never
+
+replay_none : (words : List Text) (found : Option (List Row)) → rows_for (codes "replay") words ≡ found → AsksNoTask words → found ≡ None
+replay_none words None is never = refl
+replay_none words (Some rows) is never = absurd (never (OfReplay (file_in rows)) (rows, is, refl))
+
+pub no_replay : (words : List Text) → AsksNoTask words → rows_for (codes "replay") words ≡ None
+no_replay words never = replay_none words (rows_for (codes "replay") words) refl never
+
+pub no_db : (words : List Text) → AsksNoTask words → AsksNothing words
+no_db words never ask asks = never (OfDb ask (file_in asks.0)) (asks.0, asks.1, (asks.2, refl))
+
+pub no_session : (words : List Text) → AsksNoTask words → AsksNoSession words
+no_session words never ask asks = never (OfSession ask (file_in asks.0)) (asks.0, asks.1, (asks.2, refl))

@@ -1,0 +1,122 @@
+//! The words of the command line, read once.
+ghost use Rattle.std.specs.Prelude.{◌≡◌, ◌≢◌, codes, map, string_bytes, IfErr, IfOk};
+ghost use Rattle.clap.specs.Words.{found_of, rows_of, subcommand_rows_of};
+ghost use Rattle.rc_asked.specs.Task.{AsksEntered, AsksNamed, AsksNoTask, AsksTask, HasWorkers, TaskAsk, task_ask_of};
+ghost use Rattle.rc_asked.specs.declared.asked.WordsFault.TheVariants.{Memory};
+
+use crate::asked::{WordsFault, plan_in};
+use crate::db_words::db_in;
+use crate::query::DbRequest;
+use crate::session_words::{SessionRequest, session_in};
+use crate::texts::words_in;
+use clap::ArgMatches;
+use rc_command::{entered, is_memory, matches_of};
+use rc_select::Request;
+use std::alloc::Global;
+
+/// What the words ask of a command, and the file of `-b`, where they name one.
+#[derive(Drop)]
+pub enum Task<'a> {
+    /// The database that these source directories define.
+    Compile(Vec<String>),
+    /// The answer of a question about a database.
+    Db(DbRequest<'a>, Option<&'a str>),
+    /// The plan of a change.
+    Plan(Request, Option<&'a str>),
+    /// What a script comes to.
+    Replay(Option<&'a str>),
+    /// A session.
+    Session(SessionRequest<'a>, Option<&'a str>),
+}
+
+/// What the words ask. The first word is the program's own name.
+pub fn task_of<'a>(alloc: Global, words: &'a [String]) -> Result<Task<'a>, WordsFault>
+    ensures asked { IfOk result (λ task. AsksTask (map string_bytes words.entry.now) (task_ask_of task)) }
+    ensures workers { IfOk result HasWorkers }
+    ensures wrong { IfErr result (λ fault. fault ≢ Memory → AsksNoTask (map string_bytes words.entry.now)) }
+{
+    match matches_of(alloc, words) {
+        Ok(matches) => {
+            let task = task_in(alloc, &matches);
+            drop(matches);
+            task
+        }
+        Err(error) => {
+            if is_memory(&error) {
+                return Err(WordsFault::Memory);
+            }
+            Err(WordsFault::Found(error))
+        }
+    }
+}
+
+// What the matches ask.
+fn task_in<'a>(alloc: Global, matches: &ArgMatches<'a>) -> Result<Task<'a>, WordsFault>
+    ensures asked { IfOk result (λ task. AsksEntered (subcommand_rows_of matches.now) (task_ask_of task)) }
+    ensures wrong { IfErr result (λ fault. fault ≢ Memory → (ask : TaskAsk) → AsksEntered (subcommand_rows_of matches.now) ask → ⊥) }
+{
+    match entered(matches) {
+        Some((name, inner)) => task_named(alloc, name, inner),
+        None => Err(WordsFault::OtherCommand),
+    }
+}
+
+// What the matches of the command of this name ask.
+fn task_named<'a>(
+    alloc: Global,
+    name: &str,
+    matches: &ArgMatches<'a>,
+) -> Result<Task<'a>, WordsFault>
+    ensures asked { IfOk result (λ task. AsksNamed name.now (rows_of (found_of matches.now)) (task_ask_of task)) }
+    ensures wrong { IfErr result (λ fault. fault ≢ Memory → (ask : TaskAsk) → AsksNamed name.now (rows_of (found_of matches.now)) ask → ⊥) }
+{
+    match name {
+        "compile" => compile_task(alloc, matches),
+        "db" => db_task(alloc, matches),
+        "plan" => plan_task(alloc, matches),
+        "replay" => Ok(Task::Replay(matches.get_str("base"))),
+        "session" => session_task(alloc, matches),
+        _ => Err(WordsFault::OtherCommand),
+    }
+}
+
+// What the matches of `compile` ask.
+fn compile_task<'a>(alloc: Global, matches: &ArgMatches<'a>) -> Result<Task<'a>, WordsFault>
+    ensures asked { IfOk result (λ task. AsksNamed (codes "compile") (rows_of (found_of matches.now)) (task_ask_of task)) }
+    ensures wrong { IfErr result (λ fault. fault ≡ Memory) }
+{
+    Ok(Task::Compile(words_in(alloc, matches)?))
+}
+
+// What the matches of `db` ask.
+fn db_task<'a>(alloc: Global, matches: &ArgMatches<'a>) -> Result<Task<'a>, WordsFault>
+    ensures asked { IfOk result (λ task. AsksNamed (codes "db") (rows_of (found_of matches.now)) (task_ask_of task)) }
+    ensures wrong { IfErr result (λ fault. fault ≢ Memory → (ask : TaskAsk) → AsksNamed (codes "db") (rows_of (found_of matches.now)) ask → ⊥) }
+{
+    match db_in(alloc, matches) {
+        Ok(request) => Ok(Task::Db(request, matches.get_str("base"))),
+        Err(fault) => Err(fault),
+    }
+}
+
+// What the matches of `plan` ask.
+fn plan_task<'a>(alloc: Global, matches: &ArgMatches<'a>) -> Result<Task<'a>, WordsFault>
+    ensures asked { IfOk result (λ task. AsksNamed (codes "plan") (rows_of (found_of matches.now)) (task_ask_of task)) }
+    ensures wrong { IfErr result (λ fault. fault ≢ Memory → (ask : TaskAsk) → AsksNamed (codes "plan") (rows_of (found_of matches.now)) ask → ⊥) }
+{
+    match plan_in(alloc, matches) {
+        Ok(request) => Ok(Task::Plan(request, matches.get_str("base"))),
+        Err(fault) => Err(fault),
+    }
+}
+
+// What the matches of `session` ask.
+fn session_task<'a>(alloc: Global, matches: &ArgMatches<'a>) -> Result<Task<'a>, WordsFault>
+    ensures asked { IfOk result (λ task. AsksNamed (codes "session") (rows_of (found_of matches.now)) (task_ask_of task)) }
+    ensures wrong { IfErr result (λ fault. fault ≢ Memory → (ask : TaskAsk) → AsksNamed (codes "session") (rows_of (found_of matches.now)) ask → ⊥) }
+{
+    match session_in(alloc, matches) {
+        Ok(request) => Ok(Task::Session(request, matches.get_str("base"))),
+        Err(fault) => Err(fault),
+    }
+}
