@@ -1,10 +1,12 @@
 #!/bin/sh
-# measure-changes.sh [PROGRAM [OLD [RUNS]]]: how much processor time `undorc session` takes on 4,096 services for a change
-# of all, its undo and its redo, beside a plain loop over services and pairs (tests/plain.c, which writes the same answers);
-# for reading their database, beside that loop's reading and `wc`; for both together beside `ninja`, which starts `true` for
-# each service where a session starts nothing; and the most memory that they take, with that of OLD, the program of an
-# older commit, where it is given. Each time is the least of RUNS (5 without RUNS), since other work disturbs them.
-# tests/graph.sh has the graphs. Runs have a queue since the first commit of crates/rc_core/src/ready.rt.
+# measure-changes.sh [PROGRAM [OLD [RUNS]]]: how much processor time `undorc session` takes on 4,096
+# services for a change of all, its undo and its redo, beside a plain loop over services and pairs
+# (tests/plain.c, which writes the same answers); for reading their database, beside that loop's
+# reading and `wc`; for both together beside `ninja`, which starts `true` for each service where a
+# session starts nothing; and the most memory that they take, with that of OLD, the program of an
+# older commit, where it is given. Each time is the least of RUNS (5 without RUNS), since other work
+# disturbs them. tests/graph.sh has the graphs. Runs have a queue since the first commit of
+# crates/rc_core/src/ready.rt.
 set -eu
 cd "$(dirname "$0")/.."
 program=${1:-crates/undorc/out/undorc}
@@ -15,8 +17,8 @@ room=$(mktemp -d)
 trap 'rm -rf "$room"' EXIT
 cc -O2 -o "$room/plain" tests/plain.c
 
-# least RUNS TIMES INPUT COMMAND..: the least processor time of one of so many runs, one behind another, in seconds, and
-# the peak memory in kilobytes. What the last one wrote is left in `out`.
+# least RUNS TIMES INPUT COMMAND..: the least processor time of one of so many runs, one behind
+# another, in seconds, and the peak memory in kilobytes. What the last one wrote is left in `out`.
 least() {
     batches=$1
     times=$2
@@ -67,8 +69,9 @@ table() {
     echo
 }
 
-# Of what was measured, time and memory each: a session that reads alone, with a change of all, with its undos and redos,
-# with one of each; the loop that changes once, with its undos and redos; wc, ninja -n, ninja; and OLD with one of each.
+# Of what was measured, time and memory each: a session that reads alone, with a change of all, with
+# its undos and redos, with one of each; the loop that changes once, with its undos and redos; wc,
+# ninja -n, ninja; and OLD with one of each.
 table '| Graph of 4,096 | An undo or redo of all, as a multiple of the loop | and of reading the database |' \
     '{ printf "| %s | %.2f | %.2f |\n", $1, ($6 - $4) / ($12 - $10), ($6 - $4) / moves / $2 }'
 table '| Graph of 4,096 | Reading the database, as a multiple of the reading of the loop | of `wc` |' \

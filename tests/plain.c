@@ -1,6 +1,6 @@
-// plain DATABASE PAIRS: what a session answers to a change of all services and to so many pairs of its
-// undo and redo, by a plain loop over services and pairs: no plan, no state, no events, nothing kept.
-// tests/measure-changes.sh compares its time, and what it writes, with a session's.
+// plain DATABASE PAIRS: what a session answers to a change of all services and to so many pairs of
+// its undo and redo, by a plain loop over services and pairs: no plan, no state, no events, nothing
+// kept. tests/measure-changes.sh compares its time, and what it writes, with a session's.
 #define _GNU_SOURCE
 #include <stdio.h>
 #include <stdlib.h>
