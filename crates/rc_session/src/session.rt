@@ -9,7 +9,7 @@ ghost use Rattle.rc_session.specs.Holding.{first_line};
 use rc_db::{Db, Table};
 use rc_line::Line;
 use rc_set::{NoMem, Set};
-use std::alloc::Global;
+use std::alloc::{AllocError, Global};
 use std::marker::Model;
 
 /// A database with its line, on which commands are carried out.
@@ -39,8 +39,14 @@ impl Session {
     pub fn new(alloc: Global, db: Db) -> Result<Session, NoMem>
         ensures { IfOk result (λ session. session ≡ record { database = db; line = first_line db; begun = false; spoiled = false }) }
     {
-        let live = Set::empty(alloc, db.graph().len())?;
-        let table = db.table().copy(alloc)?;
+        let Ok(live) = Set::empty(alloc, db.graph().len()) else {
+            drop(db);
+            return Err(AllocError);
+        };
+        let Ok(table) = db.table().copy(alloc) else {
+            drop((db, live));
+            return Err(AllocError);
+        };
         Ok(Session {
             db,
             journal: Line::new(alloc, live, table),

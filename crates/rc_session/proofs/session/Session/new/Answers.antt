@@ -5,11 +5,11 @@ use Rattle.rc_session.proofs.Beginning.{first_held, first_is_line}
 use Rattle.rc_session.proofs.session.Session.new.Goals as goal
 
 pub returns : goal.returns
-returns c = first_held c.args.db c.new.result c.in_ok-live.live c.in_ok-table.table c.graph.ensures.database
-    (c.in_ok-live.ensures.bound ∙ c.len.ensures.count ∙ ap length c.graph.ensures.graph) c.in_ok-live.ensures.members (c.in_ok-table.ensures ∙ c.table.ensures.table) c.new.ensures
+returns c = first_held c.args.db c.new.result c.in-Ok.live c.in-Ok-copy.table c.graph.ensures.database
+    (c.in-Ok.ensures.bound ∙ c.len.ensures.count ∙ ap length c.graph.ensures.graph) c.in-Ok.ensures.members (c.in-Ok-copy.ensures ∙ c.table.ensures.table) c.new.ensures
 
 pub invariant_of-result : goal.invariant_of-result
 invariant_of-result c =
-    let held = first_held c.args.db c.new.result c.in_ok-live.live c.in_ok-table.table c.graph.ensures.database
-    (c.in_ok-live.ensures.bound ∙ c.len.ensures.count ∙ ap length c.graph.ensures.graph) c.in_ok-live.ensures.members (c.in_ok-table.ensures ∙ c.table.ensures.table) c.new.ensures in
+    let held = first_held c.args.db c.new.result c.in-Ok.live c.in-Ok-copy.table c.graph.ensures.database
+    (c.in-Ok.ensures.bound ∙ c.len.ensures.count ∙ ap length c.graph.ensures.graph) c.in-Ok.ensures.members (c.in-Ok-copy.ensures ∙ c.table.ensures.table) c.new.ensures in
     (c.graph.ensures.database, subst (IsLineOf c.args.db) (sym (ap (λ (h : Holding). h.line) held)) (first_is_line c.args.db c.graph.ensures.database))
