@@ -38,6 +38,9 @@ impl<T> Noted<T> {
 
     /// Whether a call has failed: by an error, by a write that was interrupted or took nothing, or by a read
     /// that was the 1,001st in a row to be interrupted.
+    ///
+    /// It goes by what the calls of this wrapper answer: no clause says that such an answer is the wrapped
+    /// device's own.
     pub fn failed(&self) -> bool
         ensures { result ≡ self.now.failed }
     {
