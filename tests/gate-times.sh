@@ -61,20 +61,27 @@ awk -v ticks="$(getconf CLK_TCK)" '
 ' "$room/looks" > "$room/sums"
 
 echo
-echo '| Crate | Code | Specs | Proofs | Proof, s | Building, s | Edits | Edits, s |'
-echo '|---|---|---|---|---|---|---|---|'
+echo '| Crate | Code | Specs | Proofs | Proof, s | Building, s | Edits |'
+echo '|---|---|---|---|---|---|---|'
 sed -n 's/^\([a-z][a-z0-9_]*\)[^:#]*:.*/\1/p' crates.txt | while read -r crate; do
     edits=$(find "crates/$crate/edits" -name '*.edit' 2> /dev/null | wc -l)
     echo "$crate $(lines "$crate" src '*.rt') $(lines "$crate" specs '*.antt') $(lines "$crate" proofs '*.antt') $edits"
 done | awk '
-    FNR == NR { seconds[$1, $2] = $3; next }
-    {
-        printf "| `%s` | %d | %d | %d | %.0f | %.0f | %d | %.0f |\n", $1, $2, $3, $4,
-            seconds[$1, "proof"], seconds[$1, "built"], $5, seconds[$1, "edits"]
-        code += $2; specs += $3; proofs += $4; edits += $5
-        proof += seconds[$1, "proof"]; built += seconds[$1, "built"]; tried += seconds[$1, "edits"]
+    FNR == NR {
+        seconds[$1, $2] = $3
+        if ($2 == "edits") tried += $3
+        next
     }
-    END { printf "| all | %d | %d | %d | %.0f | %.0f | %d | %.0f |\n", code, specs, proofs, proof, built, edits, tried }
+    {
+        printf "| `%s` | %d | %d | %d | %.0f | %.0f | %d |\n", $1, $2, $3, $4,
+            seconds[$1, "proof"], seconds[$1, "built"], $5
+        code += $2; specs += $3; proofs += $4; edits += $5
+        proof += seconds[$1, "proof"]; built += seconds[$1, "built"]
+    }
+    END {
+        printf "| all | %d | %d | %d | %.0f | %.0f | %d |\n", code, specs, proofs, proof, built, edits
+        printf "\nThe edits, of which crates that do not stand on each other are tried together: %.0f s.\n", tried
+    }
 ' "$room/sums" -
 awk '{ printf "\nThe whole: %.0f processor minutes, %.0f minutes by the clock.\n", ($1 + $2) / 60, $3 / 60 }' \
     "$room/time"
