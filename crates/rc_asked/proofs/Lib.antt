@@ -2,3 +2,5 @@ pub mod TaskLemmas
 pub mod AskedLemmas
 pub mod DbAskedLemmas
 pub mod SessionWordsLemmas
+pub mod Mapped
+pub mod Spelling

@@ -4,7 +4,7 @@ use Rattle.clap.specs.Matches.{first_value, found_of}
 use Rattle.clap.specs.Words.{Text, first_of, rows_of}
 use Rattle.clap.specs.declared.ArgMatches.{ArgMatches}
 use Rattle.clap.proofs.WalkLemmas.{first_value-rows}
-use Rattle.rc_transitions.specs.Listed.{Listed}
+use Rattle.rc_asked.specs.Listed.{Listed}
 use Rattle.rc_asked.specs.SessionAsked.{AsksNoSession, IsCrewIn, IsListIn}
 use Rattle.rc_command.specs.Words.{rows_for}
 

@@ -4,3 +4,5 @@ pub mod DbAsked
 pub mod SessionAsked
 pub mod ReplayAsked
 pub mod Task
+pub mod Listed
+pub mod Reading

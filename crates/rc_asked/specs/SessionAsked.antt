@@ -2,8 +2,8 @@
 use Rattle.std.specs.Prelude.{◌≡◌, ◌≤◌, ℕ, List, Option, None, Some, codes, map}
 use Rattle.std.specs.Str.Parse.{IsNumeral, digits_value, without_leading_plus}
 use Rattle.clap.specs.Words.{Row, Text, first_of}
-use Rattle.rc_transitions.specs.Listed.{Listed, SpellsList}
-use Rattle.rc_transitions.specs.Reading.{listed_of}
+use Rattle.rc_asked.specs.Listed.{Listed, SpellsList}
+use Rattle.rc_asked.specs.Reading.{listed_of}
 use Rattle.rc_command.specs.Words.{rows_for}
 use Rattle.rc_asked.specs.declared.session_words.SessionRequest.{SessionRequest}
 

@@ -8,6 +8,7 @@ mod replay_words;
 mod session_words;
 mod task;
 mod texts;
+mod transitions;
 
 pub use crate::asked::{WordsFault, plan_asked, tell_words};
 pub use crate::db_words::db_asked;
@@ -15,3 +16,4 @@ pub use crate::query::{DbRequest, NameQuery, NamesQuery, Query};
 pub use crate::replay_words::replay_asked;
 pub use crate::session_words::{SessionRequest, session_asked};
 pub use crate::task::{Task, task_of};
+pub use crate::transitions::{ListFault, Transition, transitions_of};

@@ -6,8 +6,8 @@ ghost use Rattle.rc_asked.specs.declared.asked.WordsFault.TheVariants.{Memory};
 
 use crate::asked::WordsFault;
 use crate::task::{Task, task_of};
+use crate::transitions::{ListFault, Transition, transitions_of};
 use clap::ArgMatches;
-use rc_transitions::{ListFault, Transition, transitions_of};
 use std::alloc::Global;
 
 /// The workers of a session, where no number is given.

@@ -13,8 +13,8 @@ use crate::compile_faults::{TreesFault, tell_trees};
 use rc_compile::compile;
 use rc_db::Db;
 use rc_dbtext::write_db;
-use rc_ending::write_answer;
 use rc_source::{Definition, Tree, read_all};
+use rc_streams::ending::write_answer;
 use std::alloc::Global;
 use std::io::Write;
 

@@ -4,9 +4,9 @@ ghost use Rattle.rc_compiling.specs.CompileRefusals.{IsDeviceFault, IsRefusal, T
 ghost use Rattle.rc_streams.specs.Input.{AppendsFront, failure_text, fault_line};
 
 use rc_compile::CompileFault;
-use rc_ending::{FAILED, REFUSED, fail};
 use rc_names::{Name, NoMem};
 use rc_source::{Flaw, SourceFault};
+use rc_streams::ending::{FAILED, REFUSED, fail};
 use rc_streams::{Failure, tell};
 use std::alloc::{AllocError, Global};
 use std::io::Write;

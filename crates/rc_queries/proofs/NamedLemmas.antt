@@ -5,7 +5,7 @@ use Rattle.std.proofs.lemmas.Option.{slice_get_within, get_or_from_slice_get}
 use Rattle.rc_set.specs.Set.{Has, Holds}
 use Rattle.rc_names.proofs.ByteOrder.{one_place}
 use Rattle.rc_names.specs.Names.{IsInByteOrder}
-use Rattle.rc_transitions.proofs.Mapped.{cut_at}
+use Rattle.rc_asked.proofs.Mapped.{cut_at}
 use Rattle.rc_queries.specs.Named.{AreNamed, IsFirstUnknown, IsNamed}
 
 -- one more word that names a service

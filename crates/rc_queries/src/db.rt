@@ -12,7 +12,7 @@ use crate::db_answer::answer_to;
 use crate::db_fault::{DbFault, tell_db_fault};
 use rc_asked::{DbRequest, db_asked, tell_words};
 use rc_base::database_of;
-use rc_ending::{fail, write_answer};
+use rc_streams::ending::{fail, write_answer};
 use rc_streams::{Failure, MAX_INPUT, read_all};
 use std::alloc::Global;
 use std::io::{Read, Write};

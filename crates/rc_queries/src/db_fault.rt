@@ -9,7 +9,7 @@ use rc_asked::Query;
 use rc_base::text_word;
 use rc_db::{NoMem, QueryFault};
 use rc_dbtext::TextFault;
-use rc_ending::{REFUSED, fail};
+use rc_streams::ending::{REFUSED, fail};
 use rc_streams::{Failure, tell};
 use std::alloc::{AllocError, Global};
 use std::io::Write;

@@ -5,7 +5,7 @@ use Rattle.std.proofs.Math.ListN.{drop_of_length-le}
 use Rattle.rc_session.specs.declared.refusal.Refusal.{Refusal}
 use Rattle.rc_session.specs.Commands.{Command}
 use Rattle.rc_session.specs.Report.{Told}
-use Rattle.rc_told.specs.AnswerText.{answer_text, answers_text}
+use Rattle.rc_answers.specs.AnswerText.{answer_text, answers_text}
 
 module _ {S A : Type 0} (f : S → Command) (g : A → Result Told Refusal) (names : List (List ℕ)) where
   abbrev from : List S → List A → ℕ → List ℕ

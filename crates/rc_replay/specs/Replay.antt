@@ -6,9 +6,9 @@ use Rattle.rc_session.specs.Commands.{Command}
 use Rattle.rc_session.specs.Report.{Told}
 use Rattle.rc_session.specs.Holding.{Holding, ObeysAll, first_line}
 use Rattle.rc_script.specs.Script.{IsScript}
-use Rattle.rc_told.specs.Names.{live_text}
-use Rattle.rc_told.specs.AnswerText.{answers_text}
-use Rattle.rc_told.specs.JournalText.{IsJournalText}
+use Rattle.rc_answers.specs.Names.{live_text}
+use Rattle.rc_answers.specs.AnswerText.{answers_text}
+use Rattle.rc_answers.specs.JournalText.{IsJournalText}
 
 -- a session on a database, in which nothing is live yet
 abbrev pub fresh : Database → Holding

@@ -3,14 +3,14 @@ ghost use Rattle.std.specs.Prelude.{◌≡◌, false, map, IfOk, IfErr};
 ghost use Rattle.rc_session.specs.Commands.{command_of};
 ghost use Rattle.rc_session.specs.Report.{answer_of};
 ghost use Rattle.rc_script.specs.Script.{IsScriptFault};
-ghost use Rattle.rc_told.specs.AnswerText.{answers_text};
+ghost use Rattle.rc_answers.specs.AnswerText.{answers_text};
 ghost use Rattle.rc_replay.specs.Replay.{IsTold, IsPlayed, IsReplay};
 
+use rc_answers::{answer_text, journal_text, live_text};
 use rc_db::Db;
 use rc_names::Names;
 use rc_script::{NoMem, ScriptFault, read_script};
 use rc_session::{Refusal, Report, Session, Step};
-use rc_told::{answer_text, journal_text, live_text};
 use std::alloc::Global;
 
 /// The answers to the commands of a script, carried out on a database from nothing, then what is live, then the journal.

@@ -26,7 +26,7 @@ use Rattle.rc_session.proofs.Keeping.{answer_keeps, task_opening}
 use Rattle.rc_session.proofs.Lists.{one_list}
 use Rattle.rc_session.proofs.Telling.{lists_none}
 use Rattle.rc_board.specs.Made.{IsSaid, AreMade, way_from}
-use Rattle.rc_told.specs.ReportText.{report_text}
+use Rattle.rc_answers.specs.ReportText.{report_text}
 use Rattle.rc_lines.specs.Says.{Saying, SaysNothing, SaysWrong, SaysStep, SaysDry, SaysLive, SaysBundles, SaysJournal}
 use Rattle.rc_serve.specs.declared.fault.ServeFault.{ServeFault}
 use Rattle.rc_serve.specs.Meeting.{IsDoneBy, Meets}

@@ -15,8 +15,8 @@ use Rattle.rc_core.specs.declared.event.Outcome.{Outcome}
 use Rattle.rc_session.specs.declared.report.Report.{Report}
 use Rattle.rc_session.specs.Report.{told_of}
 use Rattle.rc_board.specs.Crew.{IsCrew}
-use Rattle.rc_told.specs.ReportText.{report_text}
-use Rattle.rc_told.specs.AnswerText.{words_of}
+use Rattle.rc_answers.specs.ReportText.{report_text}
+use Rattle.rc_answers.specs.AnswerText.{words_of}
 use Rattle.rc_serve.specs.declared.fault.ServeFault.{ServeFault}
 use Rattle.rc_serve.specs.declared.fault.ServeFault.TheVariants as serve
 use Rattle.rc_serve.specs.Faults.{EndsSession, IsInner, IsSpoiledBy, IsStrange}

@@ -11,7 +11,7 @@ use Rattle.rc_session.specs.Holding.{Holding}
 use Rattle.rc_answers.specs.Lines.{line}
 use Rattle.rc_answers.proofs.LineLemmas.{one_more}
 use Rattle.rc_streams.specs.Input.{AppendsFront, ConsumesAtMost}
-use Rattle.rc_noted.specs.Taking.{Held, BeginsTooLong, HandsLine, HandsOut, IsLine, LacksLine, Takes, fresh}
+use Rattle.rc_streams.specs.Taking.{Held, BeginsTooLong, HandsLine, HandsOut, IsLine, LacksLine, Takes, fresh}
 use Rattle.rc_streams.specs.declared.input.Failure.{Failure}
 use Rattle.rc_streams.specs.declared.input.Failure.TheVariants as failures
 use Rattle.rc_serve.specs.declared.fault.ServeFault.{ServeFault}

@@ -23,12 +23,12 @@ use Rattle.rc_session.proofs.Excluding.{can_not_own, done_not_refused, one_set, 
 use Rattle.rc_session.proofs.Lists.{one_list}
 use Rattle.rc_answers.specs.Lines.{line, names_at, names_line, IsLineOf}
 use Rattle.rc_answers.specs.PlanText.{IsPlanText}
-use Rattle.rc_told.specs.Names.{ok_line}
-use Rattle.rc_told.specs.AnswerText.{answer_text}
-use Rattle.rc_told.specs.ReportText.{report_text}
-use Rattle.rc_told.specs.JournalText.{AreEntryLines, IsEntryLine, alteration_text, place_line, signs}
+use Rattle.rc_answers.specs.Names.{ok_line}
+use Rattle.rc_answers.specs.AnswerText.{answer_text}
+use Rattle.rc_answers.specs.ReportText.{report_text}
+use Rattle.rc_answers.specs.JournalText.{AreEntryLines, IsEntryLine, alteration_text, place_line, signs}
 use Rattle.rc_lines.specs.Says.{Saying, SaysNothing, SaysWrong, SaysStep, SaysDry, SaysLive, SaysBundles, SaysJournal, Says}
-use Rattle.rc_noted.specs.Taking.{IsLine, IsOneLine}
+use Rattle.rc_streams.specs.Taking.{IsLine, IsOneLine}
 use Rattle.rc_serve.proofs.Moved.{one_move}
 use Rattle.rc_serve.specs.Meeting.{IsEdited, IsJournal, IsPlanned, IsRefused, Meets, MeetsCommand, MeetsDry}
 use Rattle.rc_serve.specs.Serving.{AreLines, MeetsBytes, Serves}

@@ -6,7 +6,7 @@ use Rattle.rc_board.specs.declared.fault.Fault.{Fault}
 use Rattle.rc_board.specs.declared.fault.Fault.TheVariants as faults
 use Rattle.rc_session.specs.declared.refusal.Refusal.TheVariants as refusals
 use Rattle.rc_session.specs.Holding.{Holding}
-use Rattle.rc_noted.specs.Taking.{BeginsTooLong, IsLine}
+use Rattle.rc_streams.specs.Taking.{BeginsTooLong, IsLine}
 use Rattle.rc_serve.specs.declared.fault.ServeFault.{ServeFault}
 use Rattle.rc_serve.specs.declared.fault.ServeFault.TheVariants.{Read, Write, TooLong, Memory, NoThread, Strange, Workers}
 

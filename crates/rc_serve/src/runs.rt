@@ -9,11 +9,11 @@ ghost use Rattle.rc_serve.specs.Meeting.{IsDoneBy, IsToldAs, MayMeet, MeetsComma
 ghost use Rattle.rc_serve.specs.Serving.{Stays};
 
 use crate::fault::{ServeFault, answered};
+use rc_answers::{refusal_text, report_text};
 use rc_board::{Fault, Gate, NoWatch, change, redo, undo};
 use rc_names::Names;
 use rc_select::Request;
 use rc_session::{Report, Session};
-use rc_told::{refusal_text, report_text};
 use std::alloc::Global;
 use std::sync::Wait;
 use std::thread::Threads;

@@ -1,7 +1,7 @@
 //! A session over a reader and a writer.
 ghost use Rattle.std.specs.Prelude.{◌≡◌, ◌⊎◌, ◌≤◌, ◌↔◌, ℕ, Bool, true, false, Err, IfOk, OnOk, IfErr, MatchResult};
 ghost use Rattle.rc_streams.specs.Input.{ConsumesAtMost};
-ghost use Rattle.rc_noted.specs.Noting.{HasFailed, IsFlushed, inner_of};
+ghost use Rattle.rc_streams.specs.Noting.{HasFailed, IsFlushed, inner_of};
 ghost use Rattle.rc_graph.specs.declared.Way.{Way};
 ghost use Rattle.rc_board.specs.Crew.{IsCrew};
 ghost use Rattle.rc_serve.specs.Faults.{IsOfAnswer, IsServeFault, IsSpoiledBy};
@@ -13,8 +13,9 @@ ghost use Rattle.rc_serve.specs.SessionText.{FailsExactly, IsTimeless, ServesFai
 use crate::answers::line_answer;
 use crate::fault::ServeFault;
 use rc_board::Gate;
-use rc_noted::{Lines, Noted, write_answer};
 use rc_session::Session;
+use rc_streams::writing::write_answer;
+use rc_streams::{Lines, Noted};
 use std::alloc::Global;
 use std::io::{Read, Write};
 use std::sync::Wait;

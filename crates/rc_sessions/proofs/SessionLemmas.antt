@@ -10,10 +10,10 @@ use Rattle.rc_line.proofs.Members.{none_contained}
 use Rattle.rc_session.specs.Holding.{Holding}
 use Rattle.rc_runner.specs.Failing.{fails_in, outcome_in}
 use Rattle.rc_runner.specs.Moments.{IsMomentOf}
-use Rattle.rc_failing.specs.Finding.{AreFound, IsFirstUnknown, IsGateFault}
-use Rattle.rc_transitions.specs.Listed.{Listed}
-use Rattle.rc_failing.specs.declared.gate.GateFault.{GateFault}
-use Rattle.rc_failing.specs.declared.gate.GateFault.TheVariants as gate
+use Rattle.rc_sessions.specs.Finding.{AreFound, IsFirstUnknown, IsGateFault}
+use Rattle.rc_asked.specs.Listed.{Listed}
+use Rattle.rc_sessions.specs.declared.failing.GateFault.{GateFault}
+use Rattle.rc_sessions.specs.declared.failing.GateFault.TheVariants as gate
 use Rattle.rc_serve.specs.declared.fault.ServeFault.{ServeFault}
 use Rattle.rc_serve.specs.declared.fault.ServeFault.TheVariants.{Read, Write, TooLong, Memory, NoThread, Strange, Workers}
 use Rattle.rc_streams.specs.Input.{AppendsFront, fault_line}

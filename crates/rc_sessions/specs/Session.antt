@@ -6,7 +6,7 @@ use Rattle.rc_graph.specs.declared.Way.{Way}
 use Rattle.rc_db.specs.Database.{Database}
 use Rattle.rc_session.specs.Holding.{Holding, first_line}
 use Rattle.rc_runner.specs.Failing.{fails_in}
-use Rattle.rc_failing.specs.Finding.{AreFound}
+use Rattle.rc_sessions.specs.Finding.{AreFound}
 use Rattle.rc_serve.specs.declared.fault.ServeFault.{ServeFault}
 use Rattle.rc_serve.specs.Playing.{PlaysInput}
 use Rattle.rc_serve.specs.SessionText.{ServesFailing, ServesFrontFailing}

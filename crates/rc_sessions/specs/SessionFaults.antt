@@ -5,9 +5,9 @@ use Rattle.rc_graph.specs.declared.Way.{Way}
 use Rattle.rc_db.specs.Database.{Database}
 use Rattle.rc_dbtext.specs.declared.fault.TextFault.{TextFault}
 use Rattle.rc_dbtext.specs.declared.fault.TextFault.TheVariants as text
-use Rattle.rc_failing.specs.Finding.{IsFirstUnknown}
-use Rattle.rc_failing.specs.declared.gate.GateFault.{GateFault}
-use Rattle.rc_failing.specs.declared.gate.GateFault.TheVariants as gate
+use Rattle.rc_sessions.specs.Finding.{IsFirstUnknown}
+use Rattle.rc_sessions.specs.declared.failing.GateFault.{GateFault}
+use Rattle.rc_sessions.specs.declared.failing.GateFault.TheVariants as gate
 use Rattle.rc_serve.specs.Faults.{IsServeFault}
 use Rattle.rc_serve.specs.declared.fault.ServeFault.{ServeFault}
 use Rattle.rc_serve.specs.declared.fault.ServeFault.TheVariants.{Read, Write, TooLong, Memory, NoThread, Strange, Workers}

@@ -2,7 +2,7 @@
 ghost use Rattle.std.specs.Prelude.{◌≡◌, ◌⊎◌, ◌+◌, ℕ, Bool, false, [], None, Some, Err, map, string_bytes, IfErr, OnOk};
 ghost use Rattle.rc_graph.specs.declared.Way.{Way};
 ghost use Rattle.rc_board.specs.Crew.{IsCrew};
-ghost use Rattle.rc_noted.specs.Noting.{HasFailed, inner_of};
+ghost use Rattle.rc_streams.specs.Noting.{HasFailed, inner_of};
 ghost use Rattle.rc_serve.specs.SessionText.{FailsExactly, IsTimeless};
 ghost use Rattle.rc_streams.specs.Input.{AppendsFront, ConsumesAtMost, fault_line};
 ghost use Rattle.rc_base.specs.Base.{bytes_of};
@@ -12,17 +12,16 @@ ghost use Rattle.rc_sessions.specs.SessionFaults.{EndsBy, EndsGated, EndsOn, IsS
 ghost use Rattle.rc_sessions.specs.declared.session_fault.SessionFault.TheVariants.{Failed};
 ghost use Rattle.rc_serve.specs.declared.fault.ServeFault.TheVariants.{Read as Unread};
 
+use crate::failing::gate_of;
 use crate::session_fault::{SessionFault, tell_session_fault};
 use rc_asked::{SessionRequest, session_asked, tell_words};
 use rc_base::database_of;
 use rc_board::Gate;
 use rc_db::Db;
-use rc_ending::DONE;
-use rc_failing::gate_of;
-use rc_noted::Noted;
 use rc_serve::{ServeFault, serve};
 use rc_session::Session;
-use rc_streams::{Failure, MAX_INPUT, read_all};
+use rc_streams::ending::DONE;
+use rc_streams::{Failure, MAX_INPUT, Noted, read_all};
 use std::alloc::Global;
 use std::io::{Read, Write};
 use std::sync::Wait;

@@ -6,12 +6,12 @@ ghost use Rattle.rc_sessions.specs.declared.session_fault.SessionFault.TheVarian
 ghost use Rattle.rc_serve.specs.declared.fault.ServeFault.{ServeFault as Failing};
 ghost use Rattle.rc_serve.specs.declared.fault.ServeFault.TheVariants.{Memory};
 
+use crate::failing::GateFault;
 use rc_base::text_word;
 use rc_db::NoMem;
 use rc_dbtext::TextFault;
-use rc_ending::{FAILED, REFUSED};
-use rc_failing::GateFault;
 use rc_serve::ServeFault;
+use rc_streams::ending::{FAILED, REFUSED};
 use rc_streams::tell;
 use std::alloc::{AllocError, Global};
 use std::io::Write;

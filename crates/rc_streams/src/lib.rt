@@ -1,6 +1,13 @@
-//! A whole input under a bound, an answer written whole, and the line that tells a fault.
+//! A whole input under a bound, and lines of one; an answer written whole; readers and writers whose failures
+//! are noted; and how a command ends.
 #![tactic(auto)]
 
+pub mod ending;
 mod input;
+mod lines;
+mod noted;
+pub mod writing;
 
 pub use crate::input::{Failure, MAX_INPUT, failure_word, read_all, read_some, tell, write_whole};
+pub use crate::lines::{Lines, MAX_LINE};
+pub use crate::noted::Noted;

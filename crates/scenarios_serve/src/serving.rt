@@ -1,6 +1,6 @@
 //! One session over devices. What `serve` promises of bytes and states stands on its contract, so none of it is asked here.
 ghost use Rattle.std.specs.Prelude.{◌≡◌, false};
-ghost use Rattle.rc_noted.specs.Noting.{HasFailed};
+ghost use Rattle.rc_streams.specs.Noting.{HasFailed};
 
 use crate::devices::Sink;
 use rc_db::Db;

@@ -1,6 +1,6 @@
 use Rattle.std.proofs.Common.{ℕ, List, None, Some, map, refl, subst, sym}
-use Rattle.rc_transitions.specs.Listed.{SpellsList}
-use Rattle.rc_transitions.specs.Reading.{listed_of}
+use Rattle.rc_asked.specs.Listed.{SpellsList}
+use Rattle.rc_asked.specs.Reading.{listed_of}
 use Rattle.rc_asked.proofs.SessionWordsLemmas.{crew_back, crew_found, list_back, list_found}
 use Rattle.rc_asked.proofs.session_words.session_in.Goals as goal
 

@@ -1,6 +1,6 @@
 use Rattle.std.proofs.Common.{◌≡◌, true}
 use Rattle.std.proofs.lemmas.Result.{err_from_is_err_and}
-use Rattle.rc_noted.specs.Noting.{HasFailed, inner_of}
+use Rattle.rc_streams.specs.Noting.{HasFailed, inner_of}
 use Rattle.rc_serve.specs.Serving.{StopsAt}
 use Rattle.rc_serve.specs.Faults.{IsServeFault, Spoils, of_failure}
 use Rattle.rc_serve.specs.Meeting.{IsDoneBy}

@@ -1,6 +1,6 @@
 use Rattle.std.proofs.Common.{◌≡◌, ◌∙◌, rules, sym, subst, true, false}
-use Rattle.rc_noted.specs.Noting.{HasFailed, inner_of}
-use Rattle.rc_noted.specs.Taking.{Held}
+use Rattle.rc_streams.specs.Noting.{HasFailed, inner_of}
+use Rattle.rc_streams.specs.Taking.{Held}
 use Rattle.rc_serve.specs.Faults.{IsServeFault, Spoils}
 use Rattle.rc_serve.specs.Serving.{IsServing, ServesFront}
 use Rattle.rc_serve.specs.Meeting.{IsDoneBy}

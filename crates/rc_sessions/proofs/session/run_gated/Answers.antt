@@ -1,4 +1,4 @@
-use Rattle.rc_noted.specs.Noting.{inner_of}
+use Rattle.rc_streams.specs.Noting.{inner_of}
 use Rattle.rc_sessions.proofs.SessionLemmas.{gated_all, gated_front}
 use Rattle.rc_sessions.proofs.session.run_gated.Goals as goal
 

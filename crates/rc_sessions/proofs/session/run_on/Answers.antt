@@ -1,7 +1,7 @@
 use Rattle.std.proofs.Common.{ap, map}
-use Rattle.rc_noted.specs.Noting.{inner_of}
+use Rattle.rc_streams.specs.Noting.{inner_of}
 use Rattle.rc_runner.specs.Failing.{fails_in}
-use Rattle.rc_transitions.specs.Reading.{listed_of}
+use Rattle.rc_asked.specs.Reading.{listed_of}
 use Rattle.rc_asked.specs.SessionAsked.{session_ask_of}
 use Rattle.rc_sessions.specs.Session.{Serves}
 use Rattle.rc_sessions.proofs.SessionLemmas.{clock_timeless, ends_found, found_asked, gate_ends, runs_found, table_exact}

@@ -1,6 +1,6 @@
 use Rattle.std.proofs.Common.{◌≤◌, ℕ, List, Bor, None, Some, arith, length, subst, sym}
 use Rattle.std.proofs.lemmas.Result.{IfErr-weaker}
-use Rattle.rc_noted.specs.Noting.{HasFailed, inner_of}
+use Rattle.rc_streams.specs.Noting.{HasFailed, inner_of}
 use Rattle.rc_base.specs.Base.{Spells}
 use Rattle.rc_asked.specs.SessionAsked.{session_ask_of}
 use Rattle.rc_sessions.proofs.SessionLemmas.{ends_on_input}

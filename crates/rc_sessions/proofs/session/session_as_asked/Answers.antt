@@ -1,4 +1,4 @@
-use Rattle.rc_noted.specs.Noting.{inner_of}
+use Rattle.rc_streams.specs.Noting.{inner_of}
 use Rattle.rc_base.specs.Base.{bytes_of}
 use Rattle.rc_asked.specs.SessionAsked.{session_ask_of}
 use Rattle.rc_sessions.proofs.SessionLemmas.{failure_holds, refusal_holds, told_read}

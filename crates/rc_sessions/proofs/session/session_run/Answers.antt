@@ -1,5 +1,5 @@
 use Rattle.std.proofs.Common.{inl, inr, map, refl, string_bytes}
-use Rattle.rc_noted.specs.Noting.{inner_of}
+use Rattle.rc_streams.specs.Noting.{inner_of}
 use Rattle.rc_serve.specs.declared.fault.ServeFault.TheVariants.{Memory}
 use Rattle.rc_base.specs.Base.{bytes_of}
 use Rattle.rc_asked.specs.SessionAsked.{session_ask_of}

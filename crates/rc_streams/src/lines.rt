@@ -1,0 +1,171 @@
+//! Lines of an input under bounds.
+ghost use Rattle.std.specs.Prelude.{◌≡◌, ◌⊎◌, ◌+◌, ◌<◌, ◌≤◌, ◌++◌, [], false, length, Err, IfOk, OnOk, OnErr, IfErr, MatchOption};
+ghost use Rattle.std.specs.Io.{ReadsAtMost};
+ghost use Rattle.std.specs.Io.KnownBytes.{ReadConsumes};
+ghost use Rattle.rc_streams.specs.Noting.{HasFailed, inner_of};
+ghost use Rattle.rc_streams.specs.Taking.{HandsLine, HandsNothing, BeginsTooLong, IsOneLine, IsPartFault, IsRefillFault, LacksLine, MovesPart, Refills, Takes, fresh};
+
+use crate::input::{Failure, MAX_INPUT};
+use crate::noted::Noted;
+use std::alloc::Global;
+use std::io::Read;
+use std::marker::Model;
+
+/// The bytes that a line may have at most, without its newline.
+pub const MAX_LINE: usize = 65_536;
+
+/// The bytes that one read asks for at most.
+const MAX_PIECE: usize = 8_192;
+
+/// The lines of an input, as they come. A read is made only where no whole line is held.
+///
+/// Time: it grows with the bytes of the input.
+#[derive(Drop)]
+pub struct Lines {
+    /// The last piece that was read.
+    piece: Vec<u8>,
+    /// How much of it was handed out.
+    used: usize,
+    /// How many bytes were read in all.
+    taken: usize,
+}
+
+impl Model for Lines {
+    ghost use Rattle.std.specs.Prelude.{◌≤◌, drop, vec_len};
+    ghost use Rattle.rc_streams.specs.Taking.{Held};
+
+    ghost Value = { Held };
+
+    ghost view = { λ l. record { pending = drop l.used l.piece.items; taken = l.taken } };
+
+    ghost invariant = { λ l. (l.used ≤ vec_len l.piece) × (l.taken ≤ 16777217) };
+}
+
+impl Lines {
+    /// The lines of an input of which nothing was read yet.
+    pub fn new(alloc: Global) -> Lines
+        ensures { result ≡ fresh }
+    {
+        Lines {
+            piece: Vec::new(alloc),
+            used: 0,
+            taken: 0,
+        }
+    }
+
+    /// The next line, without its newline, and whether it ends in one. A line that does not is the last. None: there is no more.
+    pub fn next<R: Read>(
+        &mut self,
+        alloc: Global,
+        reader: &mut Noted<R>,
+    ) -> Result<Option<(Vec<u8>, bool)>, Failure>
+        requires { HasFailed reader.old → ⊥ }
+        ensures line { IfOk result (λ next. MatchOption next
+            (HandsNothing (R.remaining (inner_of reader.old)) (R.remaining (inner_of reader.new)) self.old self.new)
+            (λ found. HandsLine found.1 (R.remaining (inner_of reader.old)) (R.remaining (inner_of reader.new)) self.old self.new found.0.items)) }
+
+        // No read is made while a whole line is held.
+        ensures waits { IsOneLine self.old.pending ⊎ (reader.new ≡ reader.old) }
+        ensures fault { IfErr result (LacksLine (HasFailed reader.new) (R.remaining (inner_of reader.old)) (R.remaining (inner_of reader.new)) self.old self.new) }
+        ensures taken { Takes (R.remaining (inner_of reader.old)) (R.remaining (inner_of reader.new)) self.old.taken self.new.taken }
+        ensures within { self.new.taken ≤ 16777217 }
+        ensures sound { OnOk result (HasFailed reader.new → ⊥) }
+
+        // A read that has failed is told as that, so none is made before a whole line that was read is handed out.
+        ensures told { HasFailed reader.new → result ≡ Err Failure.Read }
+    {
+        let mut line = Vec::new(alloc);
+        loop {
+            if self.take_line(&mut line)? {
+                return Ok(Some((line, true)));
+            }
+            if self.refill(reader)? == 0 {
+                return Ok(if line.is_empty() {
+                    None
+                } else {
+                    Some((line, false))
+                });
+            }
+        }
+    }
+
+    /// Moves what is held to the end of a line, up to the newline. True: the line is whole.
+    fn take_line(&mut self, line: &mut Vec<u8>) -> Result<bool, Failure>
+        requires { IsOneLine line.old.items }
+        ensures moved { IfOk result (λ whole. MovesPart whole self.old self.new line.old.items line.new.items) }
+        ensures short { OnOk result (length line.new.items ≤ MAX_LINE) }
+        ensures fault { IfErr result (IsPartFault (BeginsTooLong (line.old.items ++ self.old.pending))) }
+        ensures same { OnErr result (self.new ≡ self.old) }
+        ensures within { self.new.taken ≤ 16777217 }
+    {
+        let held = &self.piece[self.used..];
+        match held.iter().position(|byte| *byte == b'\n') {
+            Some(end) => {
+                add_part(line, &held[..end])?;
+                self.used += end + 1;
+                Ok(true)
+            }
+            None => {
+                add_part(line, held)?;
+                self.used = self.piece.len();
+                Ok(false)
+            }
+        }
+    }
+
+    /// Reads the next piece, and tells its length: 0 at the end of the input.
+    fn refill<R: Read>(&mut self, reader: &mut Noted<R>) -> Result<usize, Failure>
+        requires { HasFailed reader.old → ⊥ }
+        ensures read { IfOk result (Refills (R.remaining (inner_of reader.old)) (R.remaining (inner_of reader.new)) self.old self.new) }
+        ensures taken { Takes (R.remaining (inner_of reader.old)) (R.remaining (inner_of reader.new)) self.old.taken self.new.taken }
+        ensures within { self.new.taken ≤ 16777217 }
+        ensures sound { OnOk result (HasFailed reader.new → ⊥) }
+        ensures told { HasFailed reader.new → result ≡ Err Failure.Read }
+        ensures fault { IfErr result (IsRefillFault (HasFailed reader.new) (R.remaining (inner_of reader.old)) (R.remaining (inner_of reader.new)) self.old.taken self.new.taken) }
+    {
+        if self.taken > MAX_INPUT {
+            return Err(Failure::TooLong);
+        }
+        let mut buffer = [0; MAX_PIECE];
+        let room = (MAX_INPUT + 1 - self.taken).min(MAX_PIECE);
+        let count = read_some(reader, &mut buffer[..room])?;
+        self.taken += count;
+        self.used = 0;
+        self.piece.clear();
+        self.piece.extend_from_slice(&buffer[..count])?;
+        Ok(count)
+    }
+}
+
+/// Puts a part behind a line, where the line stays within its bound.
+fn add_part(line: &mut Vec<u8>, part: &[u8]) -> Result<(), Failure>
+    ensures added { OnOk result (line.new.items ≡ line.old.items ++ part.now) }
+    ensures short { OnOk result (length line.new.items ≤ MAX_LINE) }
+    ensures fault { IfErr result (IsPartFault (65536 < length line.old.items + length part.now)) }
+{
+    if line.len() > MAX_LINE || part.len() > MAX_LINE - line.len() {
+        return Err(Failure::TooLong);
+    }
+    line.extend_from_slice(part)?;
+    Ok(())
+}
+
+/// One read, tried again where it was interrupted.
+fn read_some<R: Read>(reader: &mut Noted<R>, buffer: &mut [u8]) -> Result<usize, Failure>
+    requires { HasFailed reader.old → ⊥ }
+    ensures bound { ReadsAtMost result buffer.new }
+    ensures bytes { ReadConsumes (R.remaining (inner_of reader.old)) (R.remaining (inner_of reader.new)) result buffer.new }
+    ensures sound { OnOk result (HasFailed reader.new → ⊥) }
+    ensures fault { OnErr result ((result ≡ Err Failure.Read) × HasFailed reader.new) }
+{
+    'again: loop {
+        match reader.read(buffer) {
+            Ok(count) => return Ok(count),
+            Err(_) => {
+                if reader.failed() {
+                    return Err(Failure::Read);
+                }
+            }
+        }
+    }
+}

@@ -1,5 +1,0 @@
-pub mod Names
-pub mod ReportText
-pub mod RefusalText
-pub mod JournalText
-pub mod AnswerText

@@ -1,6 +1,0 @@
-use Rattle.rc_transitions.specs.declared.list.Transition.{Transition}
-use Rattle.rc_transitions.specs.Listed.{Listed}
-
--- the transition that was read
-abbrev pub listed_of : Transition → Listed
-listed_of one = record { way = one.way; name = one.name.now }
