@@ -4,10 +4,10 @@ ghost use Rattle.std.specs.Prelude.{◌≡◌, ◌++◌, ◌∷◌, [], map, sli
 ghost use Rattle.rc_asked.specs.Reading.{listed_of};
 ghost use Rattle.rc_sessions.specs.Finding.{AreFound, IsGateFault};
 
+use rc_asked::Transition;
 use rc_graph::Way;
 use rc_names::Names;
 use rc_runner::{StepClock, TableGate};
-use rc_asked::Transition;
 use std::alloc::{AllocError, Global};
 use std::str;
 
