@@ -1,4 +1,4 @@
-pub mod Lasting
-pub mod Sights
-pub mod Making
 pub mod Carrying
+pub mod Counting
+pub mod Joining
+pub mod Lasting

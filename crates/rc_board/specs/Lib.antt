@@ -1,5 +1,8 @@
+pub mod Asking
 pub mod Crew
+pub mod Halting
+pub mod Interleaving
 pub mod Made
+pub mod Pads
 pub mod Sight
-pub mod Turns
 pub mod Working

@@ -56,9 +56,3 @@ IsFault workers h command other = IsCrew workers × CanBegin h command × HasWor
 abbrev pub LeavesSession : Holding → Fault → Holding → Type 0
 LeavesSession old Strange new = new ≡ record { database = old.database; line = old.line; begun = false; spoiled = true }
 LeavesSession old other new = new ≡ old
-
--- what comes of a command where the one worker is the caller: no thread is wanting, and no board is lost
-abbrev pub IsPlain : Fault → Type 0
-IsPlain NoThread = ⊥
-IsPlain Strange = ⊥
-IsPlain other = Unit {0}

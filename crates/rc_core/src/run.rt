@@ -1,9 +1,9 @@
-ghost use Rattle.std.specs.Prelude.{◌≡◌, ◌<◌, ◌≤◌, ◌↔◌, ℕ, Bool, [], length, take, vec_len, vec_capacity, IsTrue, IfOk, OnOk, OnErr};
+ghost use Rattle.std.specs.Prelude.{◌≡◌, ◌<◌, ◌≤◌, ◌↔◌, ℕ, Bool, [], length, slice_index_or, take, vec_len, vec_capacity, IsTrue, IfOk, OnOk, OnErr};
 ghost use Rattle.rc_set.specs.Set.{Has};
 ghost use Rattle.rc_graph.specs.Closure.{IsClosed};
 ghost use Rattle.rc_graph.specs.declared.Way.{Way};
 ghost use Rattle.rc_core.specs.declared.event.Event.{Event};
-ghost use Rattle.rc_core.specs.Course.{course_of, TargetOf, IsCourse};
+ghost use Rattle.rc_core.specs.Course.{course_of, planned_count, TargetOf, IsCourse};
 ghost use Rattle.rc_core.specs.Standing.{standing_of};
 ghost use Rattle.rc_core.specs.End.{EndOf};
 ghost use Rattle.rc_core.specs.Failing.{WouldFail, EndsAs};
@@ -189,6 +189,22 @@ impl Run {
         ensures { result ≡ standing_of self.now.course self.now.events service }
     {
         self.tables.standings[service as usize]
+    }
+
+    /// Where the services stand now, each at the place of its number.
+    pub fn standings(&self) -> &[Standing]
+        ensures bound { length result.now ≡ length self.now.course.needs }
+        ensures stands { (s : ℕ) → slice_index_or result.now s Standing.Down
+            ≡ standing_of self.now.course self.now.events s }
+    {
+        &self.tables.standings
+    }
+
+    /// How many services are to move.
+    pub fn planned(&self) -> usize
+        ensures { result ≡ planned_count self.now.course }
+    {
+        self.lower.len() as usize + self.raise.len() as usize
     }
 
     /// Whether nothing is held, and nothing may be taken any more.

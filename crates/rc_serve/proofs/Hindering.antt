@@ -8,7 +8,7 @@ use Rattle.rc_session.specs.Commands.{Command, Change, Undo, Redo, Add, Delete, 
 use Rattle.rc_session.specs.Holding.{Holding, IsHindrance}
 use Rattle.rc_board.specs.declared.fault.Fault.{Fault}
 use Rattle.rc_board.specs.declared.fault.Fault.TheVariants as faults
-use Rattle.rc_board.specs.Working.{HasWork, IsCarriedOut, IsFault, IsPlain, LeavesSession}
+use Rattle.rc_board.specs.Working.{HasWork, IsCarriedOut, IsFault, LeavesSession}
 use Rattle.rc_session.specs.Refusals.{IsOwnFault}
 use Rattle.rc_graph.specs.declared.Way.{Way}
 use Rattle.rc_core.specs.declared.event.Outcome.{Outcome}
@@ -166,13 +166,6 @@ tells_work workers h command (Err faults.NoThread) fault = fault.2
 tells_work workers h command (Err faults.Strange) fault = fault.2
 tells_work workers h command (Err (faults.Refused refusal)) fault = tt
 
-tells_none : (outcome : Result Report Fault) → IfErr outcome IsPlain → IfErr outcome (TellsWork ⊥)
-tells_none (Ok report) plain = tt
-tells_none (Err faults.Workers) plain = tt
-tells_none (Err faults.NoThread) plain = plain
-tells_none (Err faults.Strange) plain = plain
-tells_none (Err (faults.Refused refusal)) plain = tt
-
 -- what came of a command is strange: for work that there is, or in a session that was spoiled before
 strange_run : (work : Type 0) (workers : ℕ) (old new : Holding) (command : Command) (outcome : Result Report Fault) → IfErr outcome (IsFault workers old command) → IfErr outcome (λ fault. LeavesSession old fault new)
     → IfErr outcome (TellsWork work) → IsStrange outcome → ((old.spoiled ≡ true) ⊎ work) × (new.line ≡ old.line)
@@ -201,11 +194,6 @@ pub ends_at_work : {A : Type 0} (workers : ℕ) (old new : Holding) (command : C
     → IfErr result (IsInner (IsStrange outcome) (outcome ≡ Err faults.NoThread)) → IfErr result (EndsSession (HasWork old.database old.line command) old new)
 ends_at_work workers old new command outcome result fault left told =
     ends_run (HasWork old.database old.line command) workers old new command outcome result fault left (tells_work workers old command outcome fault) told
-
--- and not even there, where the one worker is the caller
-pub ends_plainly : {A : Type 0} (workers : ℕ) (old new : Holding) (command : Command) (outcome : Result Report Fault) (result : Result A ServeFault) → IfErr outcome (IsFault workers old command) → IfErr outcome (λ fault. LeavesSession old fault new)
-    → IfErr outcome IsPlain → IfErr result (IsInner (IsStrange outcome) (outcome ≡ Err faults.NoThread)) → IfErr result (EndsSession ⊥ old new)
-ends_plainly workers old new command outcome result fault left plain told = ends_run ⊥ workers old new command outcome result fault left (tells_none outcome plain) told
 
 -- a session is spoiled by what is strange alone
 pub spoils_run : {A : Type 0} (workers : ℕ) (Says : ℕ → Way → Outcome → Type 0) (Gives : ℕ → Type 0) (old new : Holding) (command : Command) (outcome : Result Report Fault) (result : Result A ServeFault)

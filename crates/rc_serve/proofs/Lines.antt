@@ -248,25 +248,16 @@ spoils_on NoThread old now new same spoils = spoils ∙ same
 spoils_on Strange old now new same spoils = spoils
 spoils_on Workers old now new same spoils = spoils ∙ same
 
--- where no thread is wanting, a fault of a command comes as one of serving
-pub plain_fault : (reader writer : Type 0) (fault : ServeFault) (old new : Holding) → EndsSession ⊥ old new fault → IsServeFault reader writer (old.spoiled ≡ true) fault
-plain_fault reader writer Read old new end = absurd end
-plain_fault reader writer Write old new end = absurd end
-plain_fault reader writer TooLong old new end = absurd end
-plain_fault reader writer Memory old new end = tt
-plain_fault reader writer NoThread old new end = end.0
-plain_fault reader writer Strange old new end = elim end.0 [ inl was ↦ was | inr none ↦ absurd none ]
-plain_fault reader writer Workers old new end = absurd end
-
--- and likewise of a session that was spoiled alike before
-pub fault_on : (reader writer : Type 0) (fault : ServeFault) (old now : Holding) → now.spoiled ≡ old.spoiled → IsServeFault reader writer (now.spoiled ≡ true) fault → IsServeFault reader writer (old.spoiled ≡ true) fault
-fault_on reader writer Read old now same wrong = wrong
-fault_on reader writer Write old now same wrong = wrong
-fault_on reader writer TooLong old now same wrong = wrong
-fault_on reader writer Memory old now same wrong = wrong
-fault_on reader writer NoThread old now same wrong = wrong
-fault_on reader writer Strange old now same wrong = sym same ∙ wrong
-fault_on reader writer Workers old now same wrong = wrong
+-- a fault that ends a session at a line is none of the devices, and none of the workers' number
+pub inner_fault : (reader writer work : Type 0) (fault : ServeFault) (old new : Holding)
+    → EndsSession work old new fault → IsServeFault reader writer fault
+inner_fault reader writer work Read old new end = absurd end
+inner_fault reader writer work Write old new end = absurd end
+inner_fault reader writer work TooLong old new end = absurd end
+inner_fault reader writer work Memory old new end = tt
+inner_fault reader writer work NoThread old new end = tt
+inner_fault reader writer work Strange old new end = tt
+inner_fault reader writer work Workers old new end = absurd end
 
 -- nothing was read yet
 pub serving_none : (Done : Doing) (input written : Option (List ℕ)) (old : Holding) → old.begun ≡ false → IsServing Done input input fresh written written old old

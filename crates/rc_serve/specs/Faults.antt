@@ -60,12 +60,13 @@ StandsAt NoThread spoiled work taken rest = work
 StandsAt Strange spoiled work taken rest = spoiled ⊎ work
 StandsAt other spoiled work taken rest = Unit {0}
 
--- when each fault comes: of the reader and the writer only where that one has failed, that of the workers' number not once anything was read. For now the one worker is the caller, so no thread is wanting, and strange is only a session that was spoiled before
-abbrev pub IsServeFault : (reader writer spoiled : Type 0) → ServeFault → Type 0
-IsServeFault reader writer spoiled Read = reader
-IsServeFault reader writer spoiled Write = writer
-IsServeFault reader writer spoiled TooLong = Unit {0}
-IsServeFault reader writer spoiled Memory = Unit {0}
-IsServeFault reader writer spoiled NoThread = ⊥
-IsServeFault reader writer spoiled Strange = spoiled
-IsServeFault reader writer spoiled Workers = ⊥
+-- when each fault comes: of the reader and the writer only where that one has failed, that of the
+-- workers' number not once anything was read. When workers fail, `StandsAt` says
+abbrev pub IsServeFault : (reader writer : Type 0) → ServeFault → Type 0
+IsServeFault reader writer Read = reader
+IsServeFault reader writer Write = writer
+IsServeFault reader writer TooLong = Unit {0}
+IsServeFault reader writer Memory = Unit {0}
+IsServeFault reader writer NoThread = Unit {0}
+IsServeFault reader writer Strange = Unit {0}
+IsServeFault reader writer Workers = ⊥

@@ -39,7 +39,6 @@ pub(crate) fn line_answer<T: Threads + Wait + Sync, G: Gate>(
     ensures stays { Stays session.old session.new }
     ensures fault { IfErr result (EndsSession (BytesWantWork session.old.database session.old.line line.now) session.old session.new) }
     ensures whole { IsSpoiledBy result session.old session.new }
-    ensures plain { IfErr result (EndsSession ⊥ session.old session.new) }
 {
     lines_give_no_events();
     match read_line(alloc, line) {
@@ -68,7 +67,6 @@ fn said_answer<T: Threads + Wait + Sync, G: Gate>(
     ensures stays { Stays session.old session.new }
     ensures fault { IfErr result (EndsSession (WantsWork session.old.database session.old.line (saying_of said.now)) session.old session.new) }
     ensures whole { IsSpoiledBy result session.old session.new }
-    ensures plain { IfErr result (EndsSession ⊥ session.old session.new) }
 {
     match said {
         SessionLine::Step(step) => step_answer(rt, alloc, session, gate, workers, step),
@@ -113,7 +111,6 @@ fn step_answer<T: Threads + Wait + Sync, G: Gate>(
     ensures stays { Stays session.old session.new }
     ensures fault { IfErr result (EndsSession (HasWork session.old.database session.old.line (with_events (command_of step.now) [])) session.old session.new) }
     ensures whole { IsSpoiledBy result session.old session.new }
-    ensures plain { IfErr result (EndsSession ⊥ session.old session.new) }
 {
     match step {
         Step::Change(request, _) => change_answer(rt, alloc, session, gate, workers, request),

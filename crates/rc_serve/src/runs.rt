@@ -36,7 +36,6 @@ pub(crate) fn change_answer<T: Threads + Wait + Sync, G: Gate>(
     ensures stays { Stays session.old session.new }
     ensures fault { IfErr result (EndsSession (HasWork session.old.database session.old.line (Change (ask_of request.now) [])) session.old session.new) }
     ensures whole { IsSpoiledBy result session.old session.new }
-    ensures plain { IfErr result (EndsSession ⊥ session.old session.new) }
 {
     let outcome = change(rt, alloc, session, request, gate, workers, &NoWatch);
     told(alloc, session.db().names(), &request.names, outcome)
@@ -60,7 +59,6 @@ pub(crate) fn undo_answer<T: Threads + Wait + Sync, G: Gate>(
     ensures stays { Stays session.old session.new }
     ensures fault { IfErr result (EndsSession (HasWork session.old.database session.old.line (Undo limit [])) session.old session.new) }
     ensures whole { IsSpoiledBy result session.old session.new }
-    ensures plain { IfErr result (EndsSession ⊥ session.old session.new) }
 {
     let outcome = undo(rt, alloc, session, limit, gate, workers, &NoWatch);
     told(alloc, session.db().names(), &[], outcome)
@@ -84,7 +82,6 @@ pub(crate) fn redo_answer<T: Threads + Wait + Sync, G: Gate>(
     ensures stays { Stays session.old session.new }
     ensures fault { IfErr result (EndsSession (HasWork session.old.database session.old.line (Redo limit [])) session.old session.new) }
     ensures whole { IsSpoiledBy result session.old session.new }
-    ensures plain { IfErr result (EndsSession ⊥ session.old session.new) }
 {
     let outcome = redo(rt, alloc, session, limit, gate, workers, &NoWatch);
     told(alloc, session.db().names(), &[], outcome)

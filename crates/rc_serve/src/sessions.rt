@@ -101,9 +101,6 @@ pub fn serve<T: Threads + Wait + Sync, R: Read, W: Write, G: Gate>(
     // A session is spoiled by a strange fault, and by nothing else.
     ensures whole { IsSpoiledBy result session.old session.new }
 
-    // For now the one worker is the caller: no thread is wanting, and strange is only a session that was spoiled before.
-    ensures plain { (result ≡ Err ServeFault.NoThread → ⊥) × (result ≡ Err ServeFault.Strange → session.old.spoiled ≡ true) }
-
     // Whatever the result, the database stays, nothing is begun, and one byte past the bound is the last that is taken.
     ensures stays { Stays session.old session.new }
     ensures taken { ConsumesAtMost (R.remaining (inner_of reader.old)) (R.remaining (inner_of reader.new)) 16777217 }
@@ -141,7 +138,7 @@ fn serve_lines<T: Threads + Wait + Sync, R: Read, W: Write, G: Gate>(
     ensures sound { OnOk result ((HasFailed reader.new → ⊥) × (HasFailed writer.new → ⊥)) }
     ensures told { HasFailed reader.new → result ≡ Err ServeFault.Read }
     ensures stays { Stays session.old session.new }
-    ensures fault { IfErr result (IsServeFault (HasFailed reader.new) (HasFailed writer.new) (session.old.spoiled ≡ true)) }
+    ensures fault { IfErr result (IsServeFault (HasFailed reader.new) (HasFailed writer.new)) }
     ensures whole { IsSpoiledBy result session.old session.new }
     ensures taken { ConsumesAtMost (R.remaining (inner_of reader.old)) (R.remaining (inner_of reader.new)) 16777217 }
 {
@@ -178,7 +175,7 @@ fn next_answer<T: Threads + Wait + Sync, R: Read, W: Write, G: Gate>(
     ensures reader { OnOk result (HasFailed reader.new → ⊥) }
     ensures writer { OnOk result (HasFailed writer.new → ⊥) }
     ensures told { HasFailed reader.new → result ≡ Err ServeFault.Read }
-    ensures fault { IfErr result (IsServeFault (HasFailed reader.new) (HasFailed writer.new) (session.old.spoiled ≡ true)) }
+    ensures fault { IfErr result (IsServeFault (HasFailed reader.new) (HasFailed writer.new)) }
     ensures whole { IsSpoiledBy result session.old session.new }
     ensures within { lines.new.taken ≤ 16777217 }
 {

@@ -50,9 +50,9 @@ IsUnserved NoThread base remaining = ⊥
 IsUnserved Strange base remaining = ⊥
 IsUnserved Workers base remaining = ⊥
 
--- when each fault of serving comes in a session of the program, which is not spoiled at first
+-- when each fault of serving comes in a session of the program
 abbrev pub IsServingFault : (reader writer : Type 0) → ServeFault → Type 0
-IsServingFault reader writer = IsServeFault reader writer ⊥
+IsServingFault reader writer = IsServeFault reader writer
 
 -- how a session on a database ends before its input: refused with nothing read and nothing written, or by a fault of serving with a front of its input served, or for want of memory with nothing written
 abbrev pub EndsOn : SessionFault → Database → SessionAsk → (input left written gained : Option (List ℕ)) → (reader writer : Type 0) → Type 0

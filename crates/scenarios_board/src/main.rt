@@ -3,18 +3,23 @@
 
 mod count;
 mod desk;
+mod meeting;
 mod rows;
 
 use crate::count::{Counting, Looks};
 use crate::desk::Desk;
+use crate::meeting::{Meeting, ON_ALL, ON_THE_SAMPLE};
 use crate::rows::{BOUNDS, FAILURES, Row, Step};
 use rc_board::{Fault, NoWatch};
 use rc_core::Event;
+use rc_db::Db;
 use rc_graph::Way;
+use rc_names::Kind;
 use rc_runner::{StepClock, TableGate};
 use rc_select::{Mode, Request};
 use rc_session::Report;
 use rc_set::NoMem;
+use samples_db::{db_of, sample};
 use std::alloc::{AllocGlobal, Global};
 use std::io;
 use std::io::Print;
@@ -28,7 +33,8 @@ const NAMES: [&str; 5] = ["db", "log", "net", "root", "web"];
 fn main(rt: HostRuntime) -> Result<(), Fail> {
     show_rows(&rt, &BOUNDS)?;
     show_counts(&rt)?;
-    show_rows(&rt, &FAILURES)
+    show_rows(&rt, &FAILURES)?;
+    show_meetings(&rt, &rt)
 }
 
 fn show_rows<R: Print + AllocGlobal + Threads + Wait + Sync>(
@@ -55,7 +61,7 @@ fn show_with<R: Print + AllocGlobal + Threads + Wait + Sync>(
     gate: &TableGate,
     steps: &[(&str, Step)],
 ) -> Result<(), Fail> {
-    let mut desk = Desk::new(rt.alloc())?;
+    let mut desk = Desk::new(rt.alloc(), sample(rt.alloc())?)?;
     let shown = show_steps(rt, &mut desk, gate, steps);
     drop(desk);
     Ok(shown?)
@@ -96,7 +102,7 @@ fn answer_to<R: AllocGlobal + Threads + Wait + Sync>(
 ) -> Result<Result<Report, Fault>, NoMem> {
     match step {
         Step::Change(workers, limit) => {
-            let request = up_site(rt.alloc(), limit)?;
+            let request = up_to(rt.alloc(), "site", false, limit)?;
             let answer = desk.change(rt, &request, gate, workers, &NoWatch);
             drop(request);
             Ok(answer)
@@ -106,10 +112,20 @@ fn answer_to<R: AllocGlobal + Threads + Wait + Sync>(
     }
 }
 
-/// The gate is asked once for each take, and each event is followed by one look, the last at all of them.
+/// The gate is asked once for each take, each event is followed by one look, and a look sees them all.
 fn show_counts<R: Print + AllocGlobal + Threads + Wait + Sync>(rt: &R) -> Result<(), Fail> {
-    let mut desk = Desk::new(rt.alloc())?;
-    let shown = show_on(rt, &mut desk);
+    for workers in [1, 2, 64] {
+        show_counts_by(rt, workers)?;
+    }
+    Ok(())
+}
+
+fn show_counts_by<R: Print + AllocGlobal + Threads + Wait + Sync>(
+    rt: &R,
+    workers: u8,
+) -> Result<(), Fail> {
+    let mut desk = Desk::new(rt.alloc(), sample(rt.alloc())?)?;
+    let shown = show_on(rt, &mut desk, workers);
     drop(desk);
     Ok(shown?)
 }
@@ -117,9 +133,10 @@ fn show_counts<R: Print + AllocGlobal + Threads + Wait + Sync>(rt: &R) -> Result
 fn show_on<R: Print + AllocGlobal + Threads + Wait + Sync>(
     rt: &R,
     desk: &mut Desk,
+    workers: u8,
 ) -> io::Result<()> {
     let gate = Counting::new(gate_of(rt.alloc(), &[], &[])?);
-    let shown = show_counted(rt, desk, &gate);
+    let shown = show_counted(rt, desk, &gate, workers);
     drop(gate);
     shown
 }
@@ -128,30 +145,105 @@ fn show_counted<R: Print + AllocGlobal + Threads + Wait + Sync>(
     rt: &R,
     desk: &mut Desk,
     gate: &Counting<TableGate>,
+    workers: u8,
 ) -> io::Result<()> {
     let watch = Looks::new();
-    let answer = watched(rt, desk, gate, &watch)?;
+    let request = up_to(rt.alloc(), "site", false, 0)?;
+    let answer = desk.change(rt, &request, gate, workers, &watch);
+    drop(request);
     let shown = show_answer(rt, &answer);
     drop(answer);
     shown?;
     show_looks(rt, gate.calls(), &watch)
 }
 
-fn watched<R: AllocGlobal + Threads + Wait + Sync>(
-    rt: &R,
-    desk: &mut Desk,
-    gate: &Counting<TableGate>,
-    watch: &Looks,
-) -> Result<Result<Report, Fault>, NoMem> {
-    let request = up_site(rt.alloc(), 0)?;
-    let answer = desk.change(rt, &request, gate, 2, watch);
-    drop(request);
-    Ok(answer)
-}
-
 fn show_looks(rt: &impl Print, calls: u64, watch: &Looks) -> io::Result<()> {
     let (looks, events, up) = (watch.looks(), watch.events(), watch.up());
-    println!(rt; "asked {calls}, looks {looks}, the last saw {events} events and {up} up")
+    println!(rt; "asked {calls}, looks {looks}, one saw {events} events and {up} up")
+}
+
+/// Runs in which transitions wait for each other.
+fn show_meetings<R: Print + AllocGlobal + Threads + Wait + Sync>(
+    rt: &R,
+    clock: &HostRuntime,
+) -> Result<(), Fail> {
+    for row in &ON_THE_SAMPLE {
+        show_meeting(rt, clock, sample(rt.alloc())?, row)?;
+    }
+    show_meeting(rt, clock, oneshots(rt.alloc())?, &ON_ALL)
+}
+
+fn show_meeting<R: Print + AllocGlobal + Threads + Wait + Sync>(
+    rt: &R,
+    clock: &HostRuntime,
+    db: Db,
+    row: &meeting::Row,
+) -> Result<(), Fail> {
+    let mut desk = Desk::new(rt.alloc(), db)?;
+    let shown = show_met(rt, clock, &mut desk, row);
+    drop(desk);
+    Ok(shown?)
+}
+
+fn show_met<R: Print + AllocGlobal + Threads + Wait + Sync>(
+    rt: &R,
+    clock: &HostRuntime,
+    desk: &mut Desk,
+    row: &meeting::Row,
+) -> io::Result<()> {
+    let (what, first, last, services, workers, turns) = row;
+    if let Some(name) = first {
+        bring_up(rt, desk, name)?;
+    }
+    let gate = Meeting::new(clock, *services, *turns);
+    let request = up_to(rt.alloc(), last, true, 0)?;
+    let answer = desk.change(rt, &request, &gate, *workers, &NoWatch);
+    drop(request);
+    let shown = show_tally(rt, what, &answer);
+    drop(answer);
+    shown
+}
+
+/// Brings a service up by a gate at which none waits for another.
+fn bring_up<R: AllocGlobal + Threads + Wait + Sync>(
+    rt: &R,
+    desk: &mut Desk,
+    name: &str,
+) -> Result<(), NoMem> {
+    let gate = gate_of(rt.alloc(), &[], &[])?;
+    let request = up_to(rt.alloc(), name, false, 0)?;
+    let answer = desk.change(rt, &request, &gate, 1, &NoWatch);
+    drop((gate, request, answer));
+    Ok(())
+}
+
+/// How many services failed; which ones is free. Where none did, how many went down and came up.
+fn show_tally(rt: &impl Print, what: &str, answer: &Result<Report, Fault>) -> io::Result<()> {
+    match answer {
+        Ok(report) if report.failed.is_empty() => {
+            let (lowered, raised) = (report.lowered.len(), report.raised.len());
+            println!(rt; "{what}: {lowered} lowered, {raised} raised")
+        }
+        Ok(report) => println!(rt; "{what}: {} failed", report.failed.len()),
+        Err(fault) => println!(rt; "{what}: refused: {fault}"),
+    }
+}
+
+/// A database of 64 services, of which none needs another, and a bundle of them all.
+fn oneshots(alloc: Global) -> Result<Db, Fail> {
+    let mut names = Vec::new(alloc);
+    for service in 10..74 {
+        names.push(format!(in alloc; "s{service}")?)?;
+    }
+    let mut rows: Vec<samples_db::Row> = Vec::new(alloc);
+    for name in &names {
+        rows.push((name.as_str(), Kind::Oneshot, false, None))?;
+    }
+    let mut ids = Vec::new(alloc);
+    for service in 0..64 {
+        ids.push(service)?;
+    }
+    db_of(alloc, &rows, &[], &[("all", &ids)])
 }
 
 /// Where the line stands, and how many services are live.
@@ -185,15 +277,15 @@ fn show_report(rt: &impl Print, report: &Report) -> io::Result<()> {
 fn show_trace(rt: &impl Print, trace: &[Event]) -> io::Result<()> {
     let takes = trace
         .iter()
-        .filter(|event| matches!(event, Event::Take(1, _)))
+        .filter(|event| matches!(event, Event::Take(_, _)))
         .count();
     let ends = trace
         .iter()
-        .filter(|event| matches!(event, Event::Done(1, _, _)))
+        .filter(|event| matches!(event, Event::Done(_, _, _)))
         .count();
     let stops = trace
         .iter()
-        .filter(|event| matches!(event, Event::Stop(1, 5)))
+        .filter(|event| matches!(event, Event::Stop(_, 5)))
         .count();
     println!(rt; "  {takes} takes, {ends} ends, {stops} stops")
 }
@@ -211,13 +303,13 @@ fn show_list(rt: &impl Print, what: &str, services: &[u16]) -> io::Result<()> {
     println!(rt; "")
 }
 
-/// The change that brings the bundle `site` up.
-fn up_site(alloc: Global, limit: u32) -> Result<Request, NoMem> {
+/// The change that brings this up, and may bring the rest down.
+fn up_to(alloc: Global, name: &str, prune: bool, limit: u32) -> Result<Request, NoMem> {
     let mut names = Vec::new(alloc);
-    names.push(String::from_str(alloc, "site")?)?;
+    names.push(String::from_str(alloc, name)?)?;
     Ok(Request {
         mode: Mode::Up,
-        prune: false,
+        prune,
         all: false,
         names,
         limit,

@@ -31,9 +31,6 @@ returns-in-Ok-clause-fault g c = ends_as (WantsWork c.args.session.now.database 
 pub returns-in-Ok-clause-whole : goal.returns-in-Ok-clause-whole
 returns-in-Ok-clause-whole g c = c.said_answer.ensures.whole
 
-pub returns-in-Ok-clause-plain : goal.returns-in-Ok-clause-plain
-returns-in-Ok-clause-plain g c = c.said_answer.ensures.plain
-
 pub returns-in-Err-clause-may : goal.returns-in-Err-clause-may
 returns-in-Err-clause-may g c = inl refl
 

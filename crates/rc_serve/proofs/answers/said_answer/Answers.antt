@@ -33,9 +33,6 @@ returns-in-Step-clause-fault g c = ends_as (HasWork c.args.session.now.database 
 pub returns-in-Step-clause-whole : goal.returns-in-Step-clause-whole
 returns-in-Step-clause-whole g c = c.step_answer.ensures.whole
 
-pub returns-in-Step-clause-plain : goal.returns-in-Step-clause-plain
-returns-in-Step-clause-plain g c = c.step_answer.ensures.plain
-
 pub returns-in_default : goal.returns-in_default
 returns-in_default g c = record {
   met = said_met_on IsEdited (IsDoneBy c.args.workers (g.G.Gate.answers c.args.gate.now) (g.G.Gate.gives c.args.gate.now)) c.args.session.now.database c.args.session.now.line (saying_of c.args.said.now) c.shown.result c.args.session.now.line (λ command text done. edited_by c.args.workers (g.G.Gate.answers c.args.gate.now) (g.G.Gate.gives c.args.gate.now) c.args.session.now.database c.args.session.now.line command text c.args.session.now.line done) c.shown.ensures.met;
@@ -43,5 +40,4 @@ returns-in_default g c = record {
   stays = (refl, c.requires.closed);
   fault = ends_as ⊥ (WantsWork c.args.session.now.database c.args.session.now.line (saying_of c.args.said.now)) c.args.session.now c.args.session.now c.shown.result (λ none. absurd none) c.shown.ensures.fault;
   whole = shown_spoils c.args.session.now c.shown.result c.shown.ensures.fault;
-  plain = c.shown.ensures.fault;
 }

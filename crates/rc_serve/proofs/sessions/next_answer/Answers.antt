@@ -4,7 +4,7 @@ use Rattle.rc_streams.specs.Noting.{HasFailed, inner_of}
 use Rattle.rc_serve.specs.Serving.{StopsAt}
 use Rattle.rc_serve.specs.Faults.{IsServeFault, Spoils, of_failure}
 use Rattle.rc_serve.specs.Meeting.{IsDoneBy}
-use Rattle.rc_serve.proofs.Lines.{plain_fault, spoils_failure, stops_short, stops_unread}
+use Rattle.rc_serve.proofs.Lines.{inner_fault, spoils_failure, stops_short, stops_unread}
 use Rattle.rc_serve.proofs.sessions.next_answer.Goals as goal
 
 pub returns-in_err-line-clause-stopped : goal.returns-in_err-line-clause-stopped
@@ -30,6 +30,6 @@ returns-in_err-line-clause-whole g c =
 
 pub returns-in_err-text-clause-fault : goal.returns-in_err-text-clause-fault
 returns-in_err-text-clause-fault g c =
-    let wrong : IsServeFault (HasFailed c.next.new.reader) (HasFailed c.args.writer.now) (c.args.session.now.spoiled ≡ true) c.in_err-text.field-0.0 = plain_fault _ _ c.in_err-text.field-0.0 c.args.session.now c.line_answer.new.session c.in_err-text.ensures.plain in
+    let wrong : IsServeFault (HasFailed c.next.new.reader) (HasFailed c.args.writer.now) c.in_err-text.field-0.0 = inner_fault _ _ _ c.in_err-text.field-0.0 c.args.session.now c.line_answer.new.session c.in_err-text.ensures.fault in
     let is = err_from_is_err_and c.from_residual-in_err-text.result c.from_residual-in_err-text.ensures.1 in
     rw (is.1, is.2) wrong

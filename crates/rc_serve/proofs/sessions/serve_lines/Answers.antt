@@ -1,10 +1,10 @@
 use Rattle.std.proofs.Common.{◌≡◌, ◌∙◌, rules, sym, subst, true, false}
 use Rattle.rc_streams.specs.Noting.{HasFailed, inner_of}
 use Rattle.rc_streams.specs.Taking.{Held}
-use Rattle.rc_serve.specs.Faults.{IsServeFault, Spoils}
+use Rattle.rc_serve.specs.Faults.{Spoils}
 use Rattle.rc_serve.specs.Serving.{IsServing, ServesFront}
 use Rattle.rc_serve.specs.Meeting.{IsDoneBy}
-use Rattle.rc_serve.proofs.Lines.{fault_on, left_less, serves_all, serves_front, serving_none, serving_on, spoils_on, takes_all, takes_next, takes_stop, where_more}
+use Rattle.rc_serve.proofs.Lines.{left_less, serves_all, serves_front, serving_none, serving_on, spoils_on, takes_all, takes_next, takes_stop, where_more}
 use Rattle.rc_serve.proofs.sessions.serve_lines.Goals as goal
 
 pub loop-lines-init : goal.loop-lines-init
@@ -49,12 +49,6 @@ returns-in_err-next_answer-clause-taken g c = takes_all (IsDoneBy c.args.workers
 
 pub returns-clause-whole : goal.returns-clause-whole
 returns-clause-whole g c = c.in_ok-next_answer.ensures.whole ∙ c.loop-lines.invariant.serving.whole
-
-pub returns-in_err-next_answer-clause-fault : goal.returns-in_err-next_answer-clause-fault
-returns-in_err-next_answer-clause-fault g c =
-    let wrong : IsServeFault (HasFailed c.next_answer.new.reader) (HasFailed c.next_answer.new.writer) (c.args.session.now.spoiled ≡ true) c.in_err-next_answer.field-0.0 =
-    fault_on _ _ c.in_err-next_answer.field-0.0 c.args.session.now c.loop-lines.session c.loop-lines.invariant.serving.whole c.in_err-next_answer.ensures.fault in
-    search rules
 
 pub returns-in_err-next_answer-clause-whole : goal.returns-in_err-next_answer-clause-whole
 returns-in_err-next_answer-clause-whole g c =

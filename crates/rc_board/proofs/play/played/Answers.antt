@@ -1,0 +1,32 @@
+use Rattle.std.proofs.Common.{◌≡◌, ◌∙◌, ◌<◌, ℕ, [], ap, sym, subst, rules}
+use Rattle.rc_core.specs.Course.{Course, IsPlanned, course_of, planned_count}
+use Rattle.rc_core.specs.Settled.{RunSoFar, IsSettled}
+use Rattle.rc_board.proofs.Counting.{idle_settled, none_planned, one_planned, ok_always}
+use Rattle.rc_board.proofs.play.played.Goals as goal
+
+pub finish-requires : goal.finish-requires
+finish-requires g c =
+    let course = course_of c.args.graph.now c.args.plan.now c.args.deadline in
+    let zero : c.planned.result ≡ 0 = search rules in
+    let none : planned_count course ≡ 0 =
+    sym (ap (λ (r : RunSoFar). planned_count r.course) c.in_ok-run.ensures)
+    ∙ sym c.planned.ensures ∙ zero in
+    subst (λ (r : RunSoFar). IsSettled r.course r.events) (sym c.in_ok-run.ensures)
+    (idle_settled course (none_planned course none))
+
+pub worked-requires-clause-work : goal.worked-requires-clause-work
+worked-requires-clause-work g c κs within =
+    let course = course_of c.args.graph.now c.args.plan.now c.args.deadline in
+    let some : 0 < c.planned.result = search rules in
+    one_planned course c.planned.result
+    (c.planned.ensures ∙ ap (λ (r : RunSoFar). planned_count r.course) c.in_ok-run.ensures) some
+
+pub returns-clause-idle : goal.returns-clause-idle
+returns-clause-idle g c =
+    let course = course_of c.args.graph.now c.args.plan.now c.args.deadline in
+    let some : 0 < c.planned.result = search rules in
+    let one = one_planned course c.planned.result
+    (c.planned.ensures ∙ ap (λ (r : RunSoFar). planned_count r.course) c.in_ok-run.ensures) some in
+    ok_always c.worked.result
+    (λ ended. ((s : ℕ) → IsPlanned course s → ⊥) → ended.events ≡ [])
+    (λ ended none. absurd (none one.0 one.1))

@@ -1,0 +1,8 @@
+use Rattle.rc_board.specs.Pads.{AreSaid}
+use Rattle.rc_board.proofs.worker.work.Given as goal
+
+-- all on the pad is what the gate may say
+abbrev pub invariant-loop : goal.invariant-loop
+invariant-loop g l =
+    (goal.iterator-loop g).can_next l.iterator' × (goal.iterator-loop g).is_finite l.iterator'
+    × AreSaid (g.G.Gate.answers l.gate) (g.G.Gate.gives l.gate) l.pad.notes

@@ -1,0 +1,64 @@
+//! What lies under the lock.
+
+ghost use Rattle.std.specs.Prelude.{◌≡◌};
+
+use rc_core::Run;
+use std::marker::Model;
+
+/// Whether the workers may begin.
+#[derive(Clone, Copy, PartialEq, Eq, Debug)]
+pub enum Start {
+    /// Not all of them are there yet.
+    Closed,
+    Opened,
+    /// Not all of them could be started.
+    GivenUp,
+}
+
+/// What the workers share under one lock: the run, and whether they may begin. Contracts see the
+/// run.
+#[derive(Debug, Drop)]
+pub struct Board {
+    pub(crate) run: Run,
+    start: Start,
+}
+
+impl Model for Board {
+    ghost use Rattle.rc_core.specs.Settled.{RunSoFar};
+
+    ghost Value = { RunSoFar };
+
+    ghost view = { λ b. b.run };
+}
+
+impl Board {
+    /// A board before its start.
+    pub fn new(run: Run) -> Board
+        ensures { result ≡ run }
+    {
+        Board {
+            run,
+            start: Start::Closed,
+        }
+    }
+
+    /// Whether the workers may begin.
+    pub fn start(&self) -> Start {
+        self.start
+    }
+
+    /// Opens the start, or gives it up.
+    pub fn set_start(&mut self, start: Start)
+        ensures { self.new ≡ self.old }
+    {
+        self.start = start;
+    }
+
+    /// The run that it leaves.
+    pub(crate) fn into_run(self) -> Run
+        ensures { result ≡ self }
+    {
+        let Board { run, start: _ } = self;
+        run
+    }
+}

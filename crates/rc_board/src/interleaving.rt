@@ -1,0 +1,97 @@
+//! Whether the events of a run are an interleaving of what its workers wrote down.
+
+ghost use Rattle.std.specs.Prelude.{◌≡◌, ◌<◌, ◌≤◌, ◌+◌, ◌↔◌, ℕ, All, length, slice_index_or, IsTrue};
+ghost use Rattle.rc_board.specs.Interleaving.{IsOfCrew, AreInterleaved};
+ghost use Rattle.rc_board.specs.Pads.{Written, noted, own, way_of};
+
+use crate::made::{way_of, worker_of};
+use crate::note::Note;
+use crate::pad::Pad;
+use rc_core::Event;
+use rc_graph::Way;
+use rc_set::Set;
+
+/// Whether the events are an interleaving of the pads, where this is up at first. It looks at each
+/// event once for each pad.
+pub(crate) fn are_interleaved(up: &Set, pads: &[Pad], events: &[Event]) -> bool
+    requires { length pads.now ≤ 64 }
+    ensures { IsTrue result ↔ AreInterleaved up.now pads.now events.now }
+{
+    are_of_crew(events, pads.len()) && are_own(events, pads) && are_all_planned(up, pads)
+}
+
+/// Whether workers up to this number made all events.
+fn are_of_crew(events: &[Event], workers: usize) -> bool
+    ensures { IsTrue result ↔ All (IsOfCrew workers) events.now }
+{
+    events.iter().all(|event| 1 <= worker_of(*event) && worker_of(*event) as usize <= workers)
+}
+
+/// Whether the events of each worker are those on its pad.
+fn are_own(events: &[Event], pads: &[Pad]) -> bool
+    requires { length pads.now ≤ 64 }
+    ensures { IsTrue result ↔ ((k : ℕ) (d : Written) → k < length pads.now
+        → own (k + 1) events.now ≡ noted (slice_index_or pads.now k d).notes) }
+{
+    for (k, pad) in pads.iter().enumerate() {
+        if !is_own(events, pad.notes(), (k + 1) as u8) {
+            return false;
+        }
+    }
+    true
+}
+
+/// Whether the events of this worker are those that it noted.
+pub(crate) fn is_own(events: &[Event], notes: &[Note], worker: u8) -> bool
+    ensures { IsTrue result ↔ (own worker events.now ≡ noted notes.now) }
+{
+    let mut events = events;
+    let mut notes = notes;
+    while let Some((event, later)) = events.split_first() {
+        events = later;
+        if worker_of(*event) == worker {
+            let Some((note, rest)) = notes.split_first() else {
+                return false;
+            };
+            if note.event != *event {
+                return false;
+            }
+            notes = rest;
+        }
+    }
+    notes.is_empty()
+}
+
+/// Whether each way on the pads is that of its service.
+fn are_all_planned(up: &Set, pads: &[Pad]) -> bool
+    ensures { IsTrue result ↔ All (λ (pad : Written).
+        All (λ (note : _). note.way ≡ way_of up.now note.event) pad.notes) pads.now }
+{
+    pads.iter().all(|pad| are_planned(up, pad.notes()))
+}
+
+/// Whether each way on a pad is that of its service.
+fn are_planned(up: &Set, notes: &[Note]) -> bool
+    ensures { IsTrue result ↔ All (λ (note : _). note.way ≡ way_of up.now note.event) notes.now }
+{
+    notes.iter().all(|note| is_planned(up, *note))
+}
+
+/// Whether a way is that of its service.
+fn is_planned(up: &Set, note: Note) -> bool
+    ensures { IsTrue result ↔ (note.way ≡ way_of up.now note.event) }
+{
+    is_same_way(note.way, way_of(up, note.event))
+}
+
+/// Whether two ways, or none, are one.
+fn is_same_way(one: Option<Way>, other: Option<Way>) -> bool
+    ensures { IsTrue result ↔ (one ≡ other) }
+{
+    match (one, other) {
+        (Some(Way::Raise), Some(Way::Raise)) => true,
+        (Some(Way::Lower), Some(Way::Lower)) => true,
+        (None, None) => true,
+        _ => false,
+    }
+}

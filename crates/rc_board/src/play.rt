@@ -1,0 +1,121 @@
+//! A run that was begun, made by workers.
+
+ghost use Rattle.std.specs.Prelude.{◌≡◌, ◌≤◌, ℕ, [], All, IfOk, IfErr, vec_len, vec_capacity};
+ghost use Rattle.rc_core.specs.Course.{IsCourse, IsPlanned, course_of};
+ghost use Rattle.rc_core.specs.Settled.{IsSettled};
+ghost use Rattle.rc_board.specs.Crew.{IsCrew};
+ghost use Rattle.rc_board.specs.Halting.{MayHalt};
+ghost use Rattle.rc_board.specs.Made.{AreMade};
+
+use crate::board::Board;
+use crate::crew::{Shared, Tools, run_crew, tools_of};
+use crate::gate::Gate;
+use crate::laws::gather;
+use crate::pad::Pad;
+use crate::watch::Watch;
+use rc_core::{Ended, Run};
+use rc_graph::Graph;
+use rc_select::Plan;
+use std::alloc::{AllocError, Global};
+use std::sync::{Condvar, Mutex, Wait};
+use std::thread::Threads;
+
+/// Why there is no settled run.
+#[derive(Clone, Copy, Debug)]
+pub(crate) enum Halt {
+    Memory,
+    /// Not all workers could be started, and nothing was taken.
+    NoThread,
+    /// The workers left another board than theirs.
+    Strange,
+}
+
+impl From<AllocError> for Halt {
+    ghost use Rattle.std.specs.Prelude.{◌≡◌};
+    ghost use Rattle.rc_board.specs.declared.play.Halt.TheVariants.{Memory};
+
+    ghost from_gives = { λ _ halt. halt ≡ Memory };
+
+    fn from(_: AllocError) -> Halt {
+        Halt::Memory
+    }
+}
+
+/// Has workers make the run of a plan. Where nothing is to move, none is started. All room that
+/// they will need is made before.
+pub(crate) fn played<R: Threads + Wait + Sync, G: Gate, W: Watch>(
+    rt: &R,
+    alloc: Global,
+    graph: &Graph,
+    plan: &Plan,
+    deadline: Option<u64>,
+    gate: &G,
+    workers: u8,
+    watch: &W,
+) -> Result<Ended, Halt>
+    requires crew { IsCrew workers }
+    requires course { IsCourse (course_of graph.now plan.now deadline) }
+    ensures course { IfOk result (λ ended. ended.course ≡ course_of graph.now plan.now deadline) }
+    ensures settled { IfOk result
+        (λ ended. IsSettled (course_of graph.now plan.now deadline) ended.events) }
+    ensures made { IfOk result (λ ended.
+        AreMade workers (G.answers gate.now) (G.gives gate.now) plan.now.opening ended.events) }
+    ensures idle { IfOk result (λ ended.
+        ((s : ℕ) → IsPlanned (course_of graph.now plan.now deadline) s → ⊥) → ended.events ≡ []) }
+    ensures halt { IfErr result (MayHalt (course_of graph.now plan.now deadline)) }
+{
+    let run = Run::open(alloc, graph, plan, deadline)?;
+    if run.planned() == 0 {
+        return Ok(run.finish());
+    }
+    let tools = tools_of(alloc, &run, workers, watch.wants_looks())?;
+    let pads = Vec::with_capacity(alloc, workers as usize)?;
+    worked(
+        rt, graph, plan, deadline, gate, workers, watch, run, tools, pads,
+    )
+}
+
+/// Has workers make a run in which something is to move. Takes no memory but that of their threads.
+fn worked<R: Threads + Wait + Sync, G: Gate, W: Watch>(
+    rt: &R,
+    graph: &Graph,
+    plan: &Plan,
+    deadline: Option<u64>,
+    gate: &G,
+    workers: u8,
+    watch: &W,
+    run: Run,
+    tools: Vec<Tools>,
+    pads: Vec<Pad>,
+) -> Result<Ended, Halt>
+    requires crew { IsCrew workers }
+    requires work { (s : ℕ) × IsPlanned (course_of graph.now plan.now deadline) s }
+    requires tools { All (λ (tools : _). tools.pad.notes ≡ []) tools.items }
+    requires pads { (pads.items ≡ []) × (vec_len pads ≡ 0) × (workers ≤ vec_capacity pads) }
+    ensures course { IfOk result (λ ended. ended.course ≡ course_of graph.now plan.now deadline) }
+    ensures settled { IfOk result
+        (λ ended. IsSettled (course_of graph.now plan.now deadline) ended.events) }
+    ensures made { IfOk result (λ ended.
+        AreMade workers (G.answers gate.now) (G.gives gate.now) plan.now.opening ended.events) }
+    ensures halt { IfErr result (MayHalt (course_of graph.now plan.now deadline)) }
+{
+    let shared = Shared {
+        board: Mutex::new(Board::new(run)),
+        changed: Condvar::new(),
+        deadline,
+    };
+    let pads = run_crew(rt, gate, watch, &shared, workers, tools, pads);
+    let Shared {
+        board,
+        changed: _,
+        deadline: _,
+    } = shared;
+    let board = board.into_inner();
+    let Some(pads) = pads else {
+        return Err(Halt::NoThread);
+    };
+    match gather(graph, plan, deadline, board, &pads) {
+        Some(ended) => Ok(ended),
+        None => Err(Halt::Strange),
+    }
+}

@@ -1,0 +1,179 @@
+//! Programs that are started, waited for, and ended where they take too long.
+
+ghost use Rattle.std.specs.Prelude.{◌≡◌, ◌≢◌, ◌++◌, ◌∷◌, [], map, string_bytes, pos, IfOk, IfSome, OnOk, Ok, None};
+ghost use Rattle.std.specs.Process.{command_program, command_args};
+ghost use Rattle.rc_runner.specs.Shell.{Runs, MayEnd};
+
+use rc_core::Outcome;
+use std::alloc::{AllocError, Global};
+use std::process::{Child, Command, ExitStatus, OpenProcess, Processes, Stdio};
+use std::time::{Clock, Duration, Instant};
+use std::{io, thread};
+
+/// How long a program that was asked to end may take to do so, in milliseconds.
+const GRACE: u64 = 5000;
+
+/// What is known of a program when a time is over.
+enum Waited {
+    Ended(ExitStatus),
+    Running,
+    /// It can't be waited for.
+    Lost,
+}
+
+/// The command of these words. None: there is no word.
+pub(crate) fn command_of(alloc: Global, words: &[String]) -> Result<Option<Command>, AllocError>
+    ensures some { IfOk result (λ made. IfSome made (Runs (map string_bytes words.now) [])) }
+    ensures none { result ≡ Ok None → words.now ≡ [] }
+{
+    let Some((program, rest)) = words.split_first() else {
+        return Ok(None);
+    };
+    let mut command = Command::new(alloc, program.as_str())?;
+    add_words(&mut command, rest)?;
+    Ok(Some(command))
+}
+
+/// Puts words behind those of a command.
+fn add_words(command: &mut Command, words: &[String]) -> Result<(), AllocError>
+    ensures args { OnOk result
+        (command_args command.new ≡ command_args command.old ++ map string_bytes words.now) }
+    ensures program { OnOk result (command_program command.new ≡ command_program command.old) }
+{
+    for word in words {
+        command.arg(word.as_str())?;
+    }
+    Ok(())
+}
+
+/// Puts two words behind those of a command.
+pub(crate) fn add_two(command: &mut Command, one: &str, two: &str) -> Result<(), AllocError>
+    ensures args { OnOk result
+        (command_args command.new ≡ command_args command.old ++ one.now ∷ two.now ∷ []) }
+    ensures program { OnOk result (command_program command.new ≡ command_program command.old) }
+{
+    command.arg(one)?;
+    command.arg(two)?;
+    Ok(())
+}
+
+/// Starts a program under a limit in seconds, 0 for none, and waits for it. All its streams lead
+/// nowhere, but that of its errors may be this program's own: with a pipe a child that it leaves
+/// behind would have to be waited for.
+pub(crate) fn run<R: Processes + Clock>(
+    rt: &R,
+    alloc: Global,
+    mut command: Command,
+    shows_errors: bool,
+    seconds: u64,
+) -> Outcome
+    ensures { MayEnd seconds result }
+{
+    command.stdin(Stdio::null()).stdout(Stdio::null());
+    command.stderr(if shows_errors {
+        Stdio::inherit()
+    } else {
+        Stdio::null()
+    });
+    let Ok(mut child) = command.spawn(rt) else {
+        return Outcome::NotStarted;
+    };
+    if seconds == 0 {
+        return match child.wait() {
+            Ok(status) => told(status, 0),
+            Err(_) => Outcome::NotStarted,
+        };
+    }
+    match wait_for(rt, &mut child, seconds.saturating_mul(1000)) {
+        Waited::Ended(status) => told(status, seconds),
+        Waited::Lost => Outcome::NotStarted,
+        Waited::Running => {
+            end(rt, alloc, &mut child);
+            Outcome::TimedOut
+        }
+    }
+}
+
+/// How a status counts.
+fn told(status: ExitStatus, seconds: u64) -> Outcome
+    ensures { MayEnd seconds result }
+{
+    match status.code() {
+        Some(0) => Outcome::Ok,
+        Some(code) => failed(code, seconds),
+        None => Outcome::Failed(255),
+    }
+}
+
+/// How a status other than 0 counts.
+fn failed(code: i32, seconds: u64) -> Outcome
+    requires { code ≢ pos 0 }
+    ensures { MayEnd seconds result }
+{
+    match code {
+        124 if seconds > 0 => Outcome::TimedOut,
+        126 | 127 if seconds > 0 => Outcome::NotStarted,
+        1..=254 => Outcome::Failed(code as u8),
+        _ => Outcome::Failed(255),
+    }
+}
+
+/// Waits for a program, at most so many milliseconds. Where the clock can't be read the pauses are
+/// counted.
+fn wait_for<R: Clock, P: OpenProcess + Drop>(rt: &R, child: &mut Child<P>, limit: u64) -> Waited {
+    let start = Instant::now(rt).ok();
+    let mut paused: u64 = 0;
+    for round in 0..u64::MAX {
+        match child.try_wait() {
+            Ok(Some(status)) => return Waited::Ended(status),
+            Ok(None) => {}
+            Err(_) => return Waited::Lost,
+        }
+        if limit <= millis_since(rt, start).unwrap_or(paused) {
+            break;
+        }
+        let pause = pause_of(round);
+        thread::sleep(rt, Duration::from_millis(pause));
+        paused = paused.saturating_add(pause);
+    }
+    Waited::Running
+}
+
+/// How long the pause of a round is, in milliseconds. So a program that ends soon is found soon.
+fn pause_of(round: u64) -> u64 {
+    if round < 50 { 1 } else { 10 }
+}
+
+/// The milliseconds since a moment. None: the clock can't be read, or could not.
+pub(crate) fn millis_since<R: Clock>(rt: &R, start: Option<Instant>) -> Option<u64> {
+    let past = start?.elapsed(rt).ok()?;
+    Some(u64::try_from(past.as_millis()).unwrap_or(u64::MAX))
+}
+
+/// Ends a program: it is asked to, and made to where it does not in time or can't be asked.
+fn end<R: Processes + Clock, P: OpenProcess + Drop>(rt: &R, alloc: Global, child: &mut Child<P>) {
+    if ask_to_end(rt, alloc, child.id()).is_ok() {
+        match wait_for(rt, child, GRACE) {
+            Waited::Ended(_) | Waited::Lost => return,
+            Waited::Running => {}
+        }
+    }
+    if child.kill().is_ok() {
+        let _ = child.wait();
+    }
+}
+
+/// Sends TERM to a program that was started and not yet waited for, so that its number is no
+/// other's.
+fn ask_to_end<R: Processes>(rt: &R, alloc: Global, id: u32) -> io::Result<ExitStatus> {
+    let number = format!(in alloc; "{id}")?;
+    let mut command = Command::new(alloc, "/bin/sh")?;
+    command.arg("-c")?;
+    command.arg("kill -TERM \"$0\"")?;
+    command.arg(number.as_str())?;
+    command
+        .stdin(Stdio::null())
+        .stdout(Stdio::null())
+        .stderr(Stdio::null());
+    command.status(rt)
+}
