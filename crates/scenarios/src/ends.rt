@@ -3,8 +3,7 @@
 use rc_core::{Event, Finish, NotLegal, Outcome, Run, Took};
 use rc_graph::Graph;
 use rc_set::NoMem;
-use samples::{DB, LOG, NET, ROOT, WEB, has_ids, show_row};
-use samples_drawn::run_between;
+use samples::{DB, LOG, NET, ROOT, WEB, has_ids, run_between, show_row};
 use std::alloc::Global;
 use std::io;
 

@@ -17,7 +17,7 @@ use crate::taking::show_asked;
 use crate::wide::show_wide;
 use rc_core::NotLegal;
 use rc_graph::Graph;
-use samples::{SAMPLE, graph_of};
+use samples::{NEEDS, graph_of};
 use std::io;
 use std::test::Fail;
 
@@ -29,7 +29,7 @@ fn main(rt: HostRuntime) -> Result<(), Fail> {
 }
 
 fn show_runs(rt: &(impl Print + AllocGlobal)) -> Result<(), Fail> {
-    let graph = graph_of(rt.alloc(), 5, &SAMPLE)?;
+    let graph = graph_of(rt.alloc(), 5, &NEEDS)?;
     let shown = show_sample(rt, &graph);
     drop(graph);
     Ok(shown?)

@@ -1,0 +1,119 @@
+//! Several workers who carry a change out, in a drawn order.
+
+ghost use Rattle.std.specs.Prelude.{◌≡◌, length};
+ghost use Rattle.rc_set.specs.Set.{Has};
+ghost use Rattle.rc_graph.specs.Closure.{IsClosed};
+
+use crate::draw::{Change, Draw};
+use crate::graphs::set_of;
+use rc_core::{Finish, NotLegal, Outcome, Run, Took};
+use rc_graph::Graph;
+use rc_select::between;
+use rc_set::{NoMem, Set};
+use std::alloc::Global;
+
+/// Turns, in each of which one worker takes a service or ends one: far more than any change here asks for.
+const TURNS: u32 = 10_000;
+
+/// What a change comes to by so many workers, from 1 to 64, or nothing where a call was refused that may not be.
+pub fn carry_out(
+    alloc: Global,
+    draw: &mut Draw,
+    change: &Change,
+    workers: u16,
+) -> Result<Option<Finish>, NoMem> {
+    let begun = run_between(
+        alloc,
+        &change.graph,
+        &change.up,
+        &change.to,
+        change.deadline,
+    )?;
+    let Some(mut run) = begun else {
+        return Ok(None);
+    };
+    let worked = work(alloc, draw, &mut run, change, workers)?;
+    if worked.is_err() || !run.settled() {
+        return Ok(None);
+    }
+    Ok(Some(run.finish().take_apart()))
+}
+
+/// A run from some services to others, or nothing where some of these lack what they need.
+pub fn run_between(
+    alloc: Global,
+    graph: &Graph,
+    from: &[u16],
+    to: &[u16],
+    deadline: Option<u64>,
+) -> Result<Option<Run>, NoMem> {
+    let from = set_of(alloc, graph.len(), from)?;
+    let to = set_of(alloc, graph.len(), to)?;
+    if !graph.closed(&from) || !graph.closed(&to) {
+        return Ok(None);
+    }
+    Ok(Some(open_between(alloc, graph, &from, &to, deadline)?))
+}
+
+fn open_between(
+    alloc: Global,
+    graph: &Graph,
+    from: &Set,
+    to: &Set,
+    deadline: Option<u64>,
+) -> Result<Run, NoMem>
+    requires from_bound { length from.now ≡ length graph.now }
+    requires to_bound { length to.now ≡ length graph.now }
+    requires from_closed { IsClosed graph.now (Has from.now) }
+    requires to_closed { IsClosed graph.now (Has to.now) }
+{
+    let plan = between(alloc, graph, from, to)?;
+    Run::open(alloc, graph, &plan, deadline)
+}
+
+/// In each turn a drawn worker ends what it holds, or stops the run, or asks for a job.
+fn work(
+    alloc: Global,
+    draw: &mut Draw,
+    run: &mut Run,
+    change: &Change,
+    workers: u16,
+) -> Result<Result<(), NotLegal>, NoMem> {
+    let mut held: Vec<(u8, u16)> = Vec::new(alloc);
+    let mut deadline = change.deadline;
+    for _ in 0..TURNS {
+        let worker = (1 + draw.below(workers).min(63)) as u8;
+        if let Some(place) = held.iter().position(|(w, _)| *w == worker) {
+            let (_, service) = held.swap_remove(place);
+            if run
+                .done(worker, service, outcome_of(&change.fails, service))
+                .is_err()
+            {
+                return Ok(Err(NotLegal));
+            }
+        } else if let Some(moment) = deadline
+            && draw.below(8) == 0
+        {
+            deadline = None;
+            if run.stop(worker, moment).is_err() {
+                return Ok(Err(NotLegal));
+            }
+        } else {
+            match run.take(worker) {
+                Ok(Took::Job(job)) => held.push((worker, job.service()))?,
+                Ok(Took::Wait) => {}
+                Ok(Took::Settled) => break,
+                Err(NotLegal) => return Ok(Err(NotLegal)),
+            }
+        }
+    }
+    Ok(Ok(()))
+}
+
+fn outcome_of(fails: &[u16], service: u16) -> Outcome {
+    if fails.contains(&service) {
+        Outcome::Failed(1)
+    } else {
+        Outcome::Ok
+    }
+}
