@@ -2,8 +2,8 @@
 
 ghost use Rattle.std.specs.Prelude.{◌≤◌};
 
-use crate::ends::make;
 use crate::plain::{Plain, is_legal};
+use crate::steps::make;
 use rc_core::{Event, Outcome, Run};
 use rc_graph::Graph;
 use rc_set::NoMem;

@@ -1,16 +1,14 @@
-//! Whole runs on small graphs: how they end, what is refused, what a worker that asks is answered, and whether lists of
-//! events are taken exactly where a plain program says that they are legal. Prints a line a table: how many rows it has,
-//! and which of them are wrong. And drawn changes, each carried out in many orders.
+//! Whole runs: what a worker that asks is answered, whether lists of events are taken exactly where a plain program says
+//! that they are legal, a graph of as many services as there may be, and drawn changes, each carried out in many orders.
 #![tactic(auto)]
 
-mod ends;
 mod legality;
 mod plain;
 mod schedules;
+mod steps;
 mod taking;
 mod wide;
 
-use crate::ends::{show_ends, show_refusals};
 use crate::legality::show_legality;
 use crate::schedules::show_schedules;
 use crate::taking::show_asked;
@@ -37,8 +35,6 @@ fn show_runs(rt: &(impl Print + AllocGlobal)) -> Result<(), Fail> {
 
 /// Runs on the sample.
 fn show_sample(rt: &(impl Print + AllocGlobal), graph: &Graph) -> io::Result<()> {
-    show_ends(rt, graph)?;
-    show_refusals(rt, graph)?;
     show_asked(rt, graph)?;
     println!(rt; "a refusal says: {NotLegal}")
 }

@@ -1,6 +1,6 @@
 //! What a worker that asks for a job is answered, on the sample.
 
-use crate::ends::{ALL, make};
+use crate::steps::{ALL, make};
 use rc_core::{Event, NotLegal, Outcome, Run, Took};
 use rc_graph::Graph;
 use rc_set::NoMem;

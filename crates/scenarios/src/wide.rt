@@ -1,6 +1,6 @@
 //! A graph of as many services as there may be, of which each but the first needs the first.
 
-use crate::ends::{make, refuses};
+use crate::steps::{make, refuses};
 use rc_core::{Event, Outcome};
 use rc_graph::Graph;
 use rc_set::NoMem;
