@@ -233,31 +233,37 @@ for workers in 1 2 3 64; do
     done
 done
 
-# failing STATUS.. WORDS..: one after another each call fails by which files are read, and none before or behind it. Nothing
-# is written, until the run is whole; what is told then is in `told`.
+# failing WORDS..: one after another each call fails by which files are read, and none before or behind it. Then nothing is
+# written, and what is told is in `told`; or the run is the whole one, as where a listing fails that only spares calls.
 failing() {
-    made=-1 ended=1
+    made=-1 well=0
     unlike=0
     : > told
-    while [ "$ended" -ne 0 ] && [ "$made" -lt 500 ]; do
+    while [ "$well" -lt 4 ] && [ "$made" -lt 500 ]; do
         made=$((made + 1))
         echo 0 > status
         env "LD_PRELOAD=$room/devices.so" "FILES=once $made" "$program" "$@" < in > out 2> err || echo $? > status
         read -r ended < status
-        [ "$ended" -ne 0 ] || break
-        if [ "$ended" -ne 111 ] || [ -s out ]; then unlike=$((unlike + 1)); fi
-        cat err >> told
+        if [ "$ended" -eq 0 ]; then
+            well=$((well + 1))
+            same 0 '' whole
+        else
+            well=0
+            if [ "$ended" -ne 111 ] || [ -s out ]; then unlike=$((unlike + 1)); fi
+            cat err >> told
+        fi
     done
-    cat told out > said
-    uniq said > out
+    [ "$made" -lt 500 ] || unlike=$((unlike + 1))
+    uniq told > out
+    : > err
     echo "$unlike" > status
     judge "undorc $*, where one call fails by which files are read" 0
 }
 : > in
+printf '%b' "$sample" > whole
 wants 'undorc: Io\nundorc: Io db\nundorc: Io log\nundorc: Io net\nundorc: Io root\nundorc: Io site\nundorc: Io web\n' ''
-printf '%b' "$sample" > base
-cat base >> out.wanted
 failing compile "$samples/source"
 echo root > in
-wants "undorc: Io\n$plan" ''
+printf '%b' "$plan" > whole
+wants 'undorc: Io\n' ''
 failing plan -b base web

@@ -1,8 +1,8 @@
 use Rattle.std.proofs.Common.{◌≡◌, ℕ, List, All, length, refl, sym, subst}
 use Rattle.rc_line.specs.State.{State}
 use Rattle.rc_line.specs.Keeping.{state}
-use Rattle.scenarios_line.proofs.Two.{both_are}
-use Rattle.scenarios_line.proofs.resumed.line_of.Goals as goal
+use Rattle.scenarios_begun.proofs.Two.{both_are}
+use Rattle.scenarios_begun.proofs.resumed.line_of.Goals as goal
 
 -- the sets of these states have one bound
 abbrev HaveOneBound : List State → Type 0

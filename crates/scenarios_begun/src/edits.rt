@@ -2,7 +2,7 @@
 
 ghost use Rattle.std.specs.Prelude.{◌≡◌, false};
 
-use crate::place::{show_place, show_table};
+use crate::show::{show_place, show_table};
 use crate::runs::{back, change_of, show_step};
 use crate::session_of_sample;
 use rc_names::Name;

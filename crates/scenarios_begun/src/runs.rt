@@ -8,7 +8,7 @@ ghost use Rattle.rc_core.specs.Course.{course_of, TargetOf};
 ghost use Rattle.rc_session.specs.Commands.{HasRun, command_of};
 
 use crate::session_of_sample;
-use crate::place::{show_answer, show_line, show_place, show_table, show_totals};
+use crate::show::{show_answer, show_line, show_place, show_table, show_totals};
 use rc_core::{Ended, Outcome, Run, Took};
 use rc_graph::Graph;
 use rc_select::{Mode, Plan, Request};

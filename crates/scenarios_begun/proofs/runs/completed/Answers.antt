@@ -2,8 +2,8 @@ use Rattle.std.proofs.Common.{◌≡◌, ◌∙◌, List, ℕ, ap}
 use Rattle.rc_db.specs.Database.{Database}
 use Rattle.rc_session.specs.Holding.{Holding}
 use Rattle.rc_core.specs.Course.{course_of, IsCourse}
-use Rattle.scenarios_line.proofs.Shown.{shown}
-use Rattle.scenarios_line.proofs.runs.completed.Goals as goal
+use Rattle.scenarios_begun.proofs.Shown.{shown}
+use Rattle.scenarios_begun.proofs.runs.completed.Goals as goal
 
 pub ended-requires-clause-opening : goal.ended-requires-clause-opening
 ended-requires-clause-opening c =

@@ -7,7 +7,7 @@ ghost use Rattle.rc_line.specs.Keeping.{state};
 ghost use Rattle.rc_session.specs.Doing.{IsStateOf};
 
 use crate::runs::{back, show_step};
-use crate::place::show_place;
+use crate::show::show_place;
 use rc_db::{Db, Table};
 use rc_line::Line;
 use rc_session::Session;
