@@ -353,27 +353,39 @@ cp -r "$samples/source" piped
 printf weblog > piped/log/pipeline-name
 compiles "$(with 'bundles 1' 'bundles 2' | sed 's/bundle site web/bundle site web\\nbundle weblog log web/')" piped
 
-# A chain of 4,096 services, and one more.
+# So many services, none needing another, in chains both ways, and one more. What is compiled is read by both readers.
 tree chain
 (cd chain && seq -f 's%04.0f' 1 4096 | xargs mkdir)
+# chained STEP: each service needs the one so many places on.
 chained() {
-    before=
-    for name in "$@"; do
-        printf oneshot > "chain/$name/type"
-        : > "chain/$name/up"
-        if [ -n "$before" ]; then echo "$before" > "chain/$name/dependencies"; fi
-        before=$name
-    done
+    seq -f '%g' 1 4096 | awk -v step="$1" '{
+        path = sprintf("chain/s%04d/", $1)
+        printf "oneshot" > (path "type")
+        printf "" > (path "up")
+        needed = $1 + step
+        if (step && needed >= 1 && needed <= 4096) printf "s%04d\n", needed > (path "dependencies")
+        else printf "" > (path "dependencies")
+        close(path "type"); close(path "up"); close(path "dependencies")
+    }'
+    text=$(awk -v step="$1" 'BEGIN {
+        for (i = 1; i <= 4096; i++) {
+            needed = step && i + step >= 1 && i + step <= 4096 ? sprintf(" s%04d", i + step) : ""
+            printf "service s%04d oneshot plain 0 0\\nneeds%s\\nup 0\\n\\ndown -\\n", i, needed
+        }
+    }')
+    text="${first}services 4096\\n$text$last"
+    compiles "$text" chain
+    reads "$text"
 }
-# shellcheck disable=SC2046
-chained $(seq -f 's%04.0f' 1 4096)
-text=$(awk 'BEGIN {
-    for (i = 1; i <= 4096; i++) {
-        needed = i > 1 ? sprintf(" s%04d", i - 1) : ""
-        printf "service s%04d oneshot plain 0 0\\nneeds%s\\nup 0\\n\\ndown -\\n", i, needed
-    }
-}')
-compiles "${first}services 4096\\n$text$last" chain
+# reads TEXT: a text is a database, to the reader of a whole text and to that of a front.
+reads() {
+    printf '%b' "$1" > base
+    expect 0 '' '' '' db -b base check
+    expect 0 '' '' "$1" db check
+}
+chained 0
+chained 1
+chained -1
 oneshot chain/s4097
 fails 1 TooMany chain
 
@@ -383,6 +395,7 @@ tree many
 for entry in many/b*; do printf bundle > "$entry/type"; done
 text=$(seq -f 'bundle b%g' 1000 5095 | sed 's/$/\\n/' | tr -d '\n')
 compiles "${first}services 0\\nbundles 4096\\n${text}end\\n" many
+reads "${first}services 0\\nbundles 4096\\n${text}end\\n"
 bundle many/b5096 ''
 fails 1 TooMany many
 rm -r many/b5096

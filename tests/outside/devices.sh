@@ -1,4 +1,5 @@
-# Outputs that are full or closed, inputs that are closed or can't be read. tests/program.sh reads this file.
+# Outputs that are full or closed, inputs that are closed or can't be read, and devices that give and take pieces, are
+# interrupted or fail at a certain call. tests/program.sh reads this file.
 
 # fault WHAT FAULT STATUS: the run before wrote nothing.
 fault() {
@@ -81,3 +82,188 @@ fault 'a failure that cannot be told' '' 111
 echo 0 > status
 "$program" session -x up:nosuch < in > /dev/full 2> err || echo $? > status
 fault 'a refusal where the output is full' 'undorc: Unknown nosuch\n' 1
+
+# Devices made for it: tests/devices.c says what their words mean.
+if ! "${CC:-cc}" -shared -fPIC -o devices.so "$here/devices.c" -ldl > made 2>&1; then
+    failed=$((failed + 1))
+    echo 'FAILED: the devices were not made:'
+    cat made
+fi
+
+# over READS WRITES TELLS WORDS..: a run on the file `in`, whose streams are such devices.
+over() {
+    reads=$1 writes=$2 tells=$3
+    shift 3
+    echo 0 > status
+    env "LD_PRELOAD=$room/devices.so" "READS=$reads" "WRITES=$writes" "TELLS=$tells" \
+        timeout 60 "$program" "$@" < in > out 2> err || echo $? > status
+}
+
+# plans STATUS OUTPUT FAULT READS WRITES TELLS: a plan over such devices.
+plans() {
+    wants "$2" "$3"
+    over "$4" "$5" "$6" plan web
+    judge "undorc plan web, READS='$4' WRITES='$5' TELLS='$6'" "$1"
+}
+printf '%b' "${sample}root\n" > in
+plan='raise db log net web\n'
+for bytes in 1 7 100; do
+    plans 0 "$plan" '' "piece $bytes" '' ''
+    plans 0 "$plan" '' '' "piece $bytes" ''
+done
+
+# An interrupted read is tried again 1,000 times in a row, and no more.
+plans 0 "$plan" '' 'interrupts 1' '' ''
+plans 0 "$plan" '' 'piece 100 interrupts 1000' '' ''
+plans 111 '' 'undorc: Read\n' 'interrupts 1001' '' ''
+plans 111 '' 'undorc: Read\n' 'cut 1' '' ''
+for good in 0 1; do
+    plans 111 '' 'undorc: Read\n' "good $good" '' ''
+done
+plans 111 '' 'undorc: Read\n' 'piece 1 good 2' '' ''
+
+# A write that fails, is interrupted or takes nothing ends the answer.
+plans 111 '' 'undorc: Write\n' '' 'piece 0' ''
+for word in good cut; do
+    plans 111 '' 'undorc: Write\n' '' "$word 0" ''
+    plans 111 rais 'undorc: Write\n' '' "piece 2 $word 2" ''
+done
+
+# What can't be told, or only in part, alters no status.
+plans 111 '' '' 'good 0' '' 'good 0'
+plans 111 '' '' 'good 0' '' 'piece 0'
+plans 111 '' '' 'good 0' '' 'cut 0'
+plans 111 '' 'und' 'good 0' '' 'piece 1 good 3'
+plans 111 '' 'undorc: Read\n' 'good 0' '' 'piece 1'
+
+# Sessions on worked lines, and what each front of these is answered.
+sed -n 's/^< //p' "$here/rows/sessions.rows" | head -n 60 > some
+lines=$(wc -l < some)
+unlike=0
+for many in $(seq 0 "$lines"); do
+    head -n "$many" some | "$program" session -b base -x down:log > "answers.$many" 2>&1 || unlike=$((unlike + 1))
+done
+cp "answers.$lines" whole
+for many in $(seq 0 "$lines"); do
+    cmp -s -n "$(wc -c < "answers.$many")" "answers.$many" whole || unlike=$((unlike + 1))
+done
+served() {
+    over "$1" "$2" '' session -b base -x down:log -w 3
+}
+
+# same STATUS FAULT OUTPUT: counts the run before where it is not so.
+same() {
+    printf '%b' "$2" > err.wanted
+    if [ "$ended" -ne "$1" ] || ! cmp -s err err.wanted || ! cmp -s out "$3"; then unlike=$((unlike + 1)); fi
+}
+
+# Where a read fails or is always interrupted, each line that was whole by then is answered, and nothing else.
+cp some in
+size=$(wc -c < some)
+for word in good cut; do
+    made=-1 ended=1
+    while [ "$ended" -ne 0 ] && [ "$made" -le "$size" ]; do
+        made=$((made + 1))
+        served "piece 7 $word $made" ''
+        read -r ended < status
+        [ "$ended" -ne 0 ] || break
+        same 111 'undorc: Read\n' "answers.$(head -c $((7 * made)) some | wc -l)"
+    done
+    same 0 '' whole
+    [ "$made" -eq $(((size + 6) / 7 + 1)) ] || unlike=$((unlike + 1))
+done
+
+# Where a write fails or is interrupted, a front of the answers is written, a call longer each time.
+for word in good cut; do
+    made=-1 ended=1 before=-1
+    while [ "$ended" -ne 0 ] && [ "$made" -le "$(wc -c < whole)" ]; do
+        made=$((made + 1))
+        served '' "piece 16 $word $made"
+        read -r ended < status
+        [ "$ended" -ne 0 ] || break
+        written=$(wc -c < out)
+        head -c "$written" whole > front
+        same 111 'undorc: Write\n' front
+        if [ "$written" -le "$before" ] || [ "$written" -gt $((16 * made)) ]; then unlike=$((unlike + 1)); fi
+        before=$written
+    done
+    same 0 '' whole
+done
+
+# With the database in front of the lines nothing is done where a read fails.
+cat base some > in
+: > nothing
+made=-1 ended=1
+while [ "$ended" -ne 0 ] && [ "$made" -le "$size" ]; do
+    made=$((made + 1))
+    over "piece 64 good $made" '' '' session -x down:log
+    read -r ended < status
+    [ "$ended" -ne 0 ] || break
+    same 111 'undorc: Read\n' nothing
+done
+same 0 '' whole
+: > out
+: > err
+wants '' ''
+echo "$unlike" > status
+judge 'sessions over devices that fail (the status is the number of those that end otherwise)' 0
+
+# sessions STATUS OUTPUT FAULT READS WRITES: a session on these lines over such devices.
+sessions() {
+    cp "$2" out.wanted
+    printf '%b' "$3" > err.wanted
+    served "$4" "$5"
+    judge "a session, READS='$4' WRITES='$5'" "$1"
+}
+cp some in
+sessions 0 whole '' 'interrupts 1' ''
+sessions 0 whole '' 'piece 100 interrupts 1000' ''
+sessions 111 nothing 'undorc: Read\n' 'interrupts 1001' ''
+sessions 111 nothing 'undorc: Write\n' '' 'piece 0'
+
+# One input of all worked lines is answered alike by any number of workers, in pieces of any size.
+for topic in sessions bundles serving lines; do sed -n 's/^< //p' "$here/rows/$topic.rows"; done |
+    while IFS= read -r line; do printf '%b\n' "$line"; done > in
+"$program" session -b base -x up:net,down:log < in > out.wanted 2> err.wanted || echo 'status 1' >> out.wanted
+[ "$(grep -c -e '^ok$' -e '^refused ' out.wanted)" -gt 400 ] || echo 'more than 400 answers' >> out.wanted
+for workers in 1 2 3 64; do
+    for bytes in 1 7 4096; do
+        over "piece $bytes" "piece $bytes" '' session -b base -x up:net,down:log -w "$workers"
+        judge "all worked lines, $workers workers, in pieces of $bytes bytes" 0
+    done
+done
+
+# failing WORDS..: one after another each call fails by which files are read, and none before or behind it. Then nothing is
+# written, and what is told is in `told`; or the run is the whole one, as where a listing fails that only spares calls.
+failing() {
+    made=-1 well=0
+    unlike=0
+    : > told
+    while [ "$well" -lt 4 ] && [ "$made" -lt 500 ]; do
+        made=$((made + 1))
+        echo 0 > status
+        env "LD_PRELOAD=$room/devices.so" "FILES=once $made" "$program" "$@" < in > out 2> err || echo $? > status
+        read -r ended < status
+        if [ "$ended" -eq 0 ]; then
+            well=$((well + 1))
+            same 0 '' whole
+        else
+            well=0
+            if [ "$ended" -ne 111 ] || [ -s out ]; then unlike=$((unlike + 1)); fi
+            cat err >> told
+        fi
+    done
+    [ "$made" -lt 500 ] || unlike=$((unlike + 1))
+    uniq told > out
+    : > err
+    echo "$unlike" > status
+    judge "undorc $*, where one call fails by which files are read" 0
+}
+: > in
+printf '%b' "$sample" > whole
+wants 'undorc: Io\nundorc: Io db\nundorc: Io log\nundorc: Io net\nundorc: Io root\nundorc: Io site\nundorc: Io web\n' ''
+failing compile "$samples/source"
+echo root > in
+printf '%b' "$plan" > whole
+wants 'undorc: Io\n' ''
+failing plan -b base web

@@ -1,5 +1,5 @@
-# Sessions whose lines come otherwise than one by one, and one on what was compiled just before. tests/program.sh reads this
-# file.
+# Sessions whose lines come otherwise than one by one, long ones, and one on what was compiled just before.
+# tests/program.sh reads this file.
 printf '%b' "$sample" > base
 
 # A session on what is compiled, whose bundle is empty.
@@ -71,3 +71,66 @@ tell live
 exec 4< /dev/null
 wants 'live\nok\n' 'undorc: Write\n'
 ends 'answers that nobody reads any more' 111
+
+# Many lines on 200 services, each of which adds a state.
+awk 'BEGIN {
+    printf "undorc-db 1\nservices 200\n"
+    for (i = 0; i < 200; i++) printf "service s%03d oneshot plain 0 0\nneeds\nup 0\n\ndown -\n", i
+    printf "bundles 0\nend\n"
+}' > many
+awk 'BEGIN {
+    for (i = 0; i < 10000; i++) printf "-%s change s%03d\n", i % 2 ? "d" : "u", int(i / 2) % 200
+    print "journal"
+}' > in
+awk 'BEGIN {
+    for (i = 0; i < 10000; i++) printf "%s s%03d\nok\n", i % 2 ? "lowered" : "raised", int(i / 2) % 200
+    print "at 10000 of 10001"
+    for (i = 0; i < 10000; i++) printf "%d %ss%03d\n", i, i % 2 ? "-" : "+", int(i / 2) % 200
+    print "ok"
+}' > out.wanted
+: > err.wanted
+runs session -b many -x none
+judge '10,000 lines, and the journal of 10,001 states' 0
+
+# A line of 1,000 states, in which the bits of a state's number are live, undone to the first and redone to the last.
+awk 'BEGIN {
+    printf "undorc-db 1\nservices 10\n"
+    for (i = 0; i < 10; i++) printf "service b%d longrun plain 0 0\nneeds\nproducer -\n", i
+    printf "bundles 0\nend\n"
+}' > many
+awk 'function bit(number, i) { return int(number / 2 ^ i) % 2 }
+    function names(word, from, to,  i, text) {
+        for (i = 0; i < 10; i++) if (bit(to, i) && !bit(from, i)) text = text " b" i
+        if (text != "") print word text > "out.wanted"
+    }
+    function moves(line, from, to) {
+        print line > "in"
+        names("lowered", to, from)
+        names("raised", from, to)
+        print "ok" > "out.wanted"
+    }
+    function shows(number,  i, text) {
+        for (i = 0; i < 10; i++) if (bit(number, i)) text = text " b" i
+        print "live" > "in"
+        print "live" text "\nok" > "out.wanted"
+    }
+    BEGIN {
+        for (number = 1; number < 1000; number++) {
+            text = ""
+            for (i = 0; i < 10; i++) if (bit(number, i)) text = text " b" i
+            moves("-up change" text, number - 1, number)
+        }
+        shows(999)
+        for (number = 999; number > 0; number--) {
+            moves("undo", number, number - 1)
+            if (number == 501) shows(500)
+        }
+        shows(0)
+        for (number = 1; number < 1000; number++) {
+            moves("redo", number - 1, number)
+            if (number == 500) shows(500)
+        }
+        shows(999)
+    }' < /dev/null
+runs session -b many -x none
+judge 'a line of 1,000 states, undone and redone' 0

@@ -1,86 +1,21 @@
-//! Small sets and graphs that tests share, and how a table of rows is told.
+//! What tests share: small sets, graphs and databases, changes that are drawn with what they come to by plain rules and
+//! workers that carry them out in drawn orders, and how a table of rows is told.
 #![tactic(auto)]
 
-ghost use Rattle.std.specs.Prelude.{◌≡◌, ◌≤◌, length, IfOk};
+mod databases;
+mod draw;
+mod graphs;
+mod plain;
+mod same;
+mod work;
 
-use rc_graph::{Draft, Graph};
-use rc_set::{NoMem, Set};
-use std::alloc::Global;
-use std::io;
-use std::test::Fail;
-
-/// The services of the sample, in the order of their names.
-pub const DB: u16 = 0;
-
-pub const LOG: u16 = 1;
-
-pub const NET: u16 = 2;
-
-pub const ROOT: u16 = 3;
-
-pub const WEB: u16 = 4;
-
-/// Which service of the sample needs which.
-pub const SAMPLE: [(u16, u16); 4] = [(NET, ROOT), (DB, NET), (WEB, DB), (WEB, LOG)];
-
-/// The set of these ids, without those that are not below the bound.
-pub fn set_of(alloc: Global, bound: u16, ids: &[u16]) -> Result<Set, NoMem>
-    requires { bound ≤ 4096 }
-    ensures { IfOk result (λ set. length set ≡ bound) }
-{
-    let mut set = Set::empty(alloc, bound)?;
-    for id in ids {
-        if *id < set.bound() {
-            set.insert(*id);
-        }
-    }
-    Ok(set)
-}
-
-/// Whether these are the ids of a set, ascending.
-pub fn has_ids(alloc: Global, set: &Set, ids: &[u16]) -> Result<bool, NoMem> {
-    let found = set.ids(alloc)?;
-    Ok(found.as_slice() == ids)
-}
-
-/// The draft of these pairs, without those that name what is no service.
-pub fn draft_of(alloc: Global, services: u16, pairs: &[(u16, u16)]) -> Result<Draft, NoMem>
-    requires { services ≤ 4096 }
-    ensures { IfOk result (λ draft. length draft ≡ services) }
-{
-    let mut draft = Draft::new(alloc, services)?;
-    for (service, needed) in pairs {
-        if *service < draft.len() && *needed < draft.len() {
-            draft.need(*service, *needed)?;
-        }
-    }
-    Ok(draft)
-}
-
-/// The graph of these pairs, without those that name what is no service.
-pub fn graph_of(alloc: Global, services: u16, pairs: &[(u16, u16)]) -> Result<Graph, Fail>
-    requires { services ≤ 4096 }
-    ensures { IfOk result (λ graph. length graph ≡ services) }
-{
-    let draft = draft_of(alloc, services, pairs)?;
-    Ok(draft.finish()?)
-}
-
-/// As many services as there may be, of which each but the first needs the first.
-pub fn widest_fan(alloc: Global) -> Result<Graph, Fail>
-    ensures { IfOk result (λ graph. length graph ≡ 4096) }
-{
-    let mut pairs = Vec::new(alloc);
-    for service in 1..4096 {
-        pairs.push((service, 0))?;
-    }
-    graph_of(alloc, 4096, &pairs)
-}
-
-/// Tells the number of a row that is wrong, and nothing of one that is right.
-pub fn show_row(rt: &impl Print, number: usize, is_right: bool) -> io::Result<()> {
-    if is_right {
-        return Ok(());
-    }
-    print!(rt; ", row {number} is wrong")
-}
+pub use crate::databases::{
+    BUNDLES, Bundle, Row, SERVICES, db_of, parts_of, sample, table_of, words_of,
+};
+pub use crate::draw::{Change, Draw, drawn_needs};
+pub use crate::graphs::{
+    DB, LOG, NEEDS, NET, ROOT, WEB, draft_of, graph_of, has_ids, set_of, show_row, widest_fan,
+};
+pub use crate::plain::{End, end_of};
+pub use crate::same::is_same;
+pub use crate::work::{carry_out, run_between};

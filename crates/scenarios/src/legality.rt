@@ -2,13 +2,12 @@
 
 ghost use Rattle.std.specs.Prelude.{◌≤◌};
 
-use crate::ends::make;
 use crate::plain::{Plain, is_legal};
+use crate::steps::make;
 use rc_core::{Event, Outcome, Run};
 use rc_graph::Graph;
 use rc_set::NoMem;
-use samples::graph_of;
-use samples_drawn::run_between;
+use samples::{graph_of, run_between};
 use std::alloc::Global;
 use std::io;
 use std::test::Fail;

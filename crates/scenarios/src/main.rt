@@ -1,23 +1,21 @@
-//! Whole runs on small graphs: how they end, what is refused, what a worker that asks is answered, and whether lists of
-//! events are taken exactly where a plain program says that they are legal. Prints a line a table: how many rows it has,
-//! and which of them are wrong. And drawn changes, each carried out in many orders.
+//! Whole runs: what a worker that asks is answered, whether lists of events are taken exactly where a plain program says
+//! that they are legal, a graph of as many services as there may be, and drawn changes, each carried out in many orders.
 #![tactic(auto)]
 
-mod ends;
 mod legality;
 mod plain;
 mod schedules;
+mod steps;
 mod taking;
 mod wide;
 
-use crate::ends::{show_ends, show_refusals};
 use crate::legality::show_legality;
 use crate::schedules::show_schedules;
 use crate::taking::show_asked;
 use crate::wide::show_wide;
 use rc_core::NotLegal;
 use rc_graph::Graph;
-use samples::{SAMPLE, graph_of};
+use samples::{NEEDS, graph_of};
 use std::io;
 use std::test::Fail;
 
@@ -29,7 +27,7 @@ fn main(rt: HostRuntime) -> Result<(), Fail> {
 }
 
 fn show_runs(rt: &(impl Print + AllocGlobal)) -> Result<(), Fail> {
-    let graph = graph_of(rt.alloc(), 5, &SAMPLE)?;
+    let graph = graph_of(rt.alloc(), 5, &NEEDS)?;
     let shown = show_sample(rt, &graph);
     drop(graph);
     Ok(shown?)
@@ -37,8 +35,6 @@ fn show_runs(rt: &(impl Print + AllocGlobal)) -> Result<(), Fail> {
 
 /// Runs on the sample.
 fn show_sample(rt: &(impl Print + AllocGlobal), graph: &Graph) -> io::Result<()> {
-    show_ends(rt, graph)?;
-    show_refusals(rt, graph)?;
     show_asked(rt, graph)?;
     println!(rt; "a refusal says: {NotLegal}")
 }

@@ -3,7 +3,7 @@
 
 use rc_core::Finish;
 use rc_set::NoMem;
-use samples_drawn::{Change, Draw, End, carry_out, end_of};
+use samples::{Change, Draw, End, carry_out, end_of};
 use std::alloc::Global;
 use std::io;
 use std::test::Fail;

@@ -1,11 +1,10 @@
 //! What a worker that asks for a job is answered, on the sample.
 
-use crate::ends::{ALL, make};
+use crate::steps::{ALL, make};
 use rc_core::{Event, NotLegal, Outcome, Run, Took};
 use rc_graph::Graph;
 use rc_set::NoMem;
-use samples::{DB, LOG, NET, ROOT, WEB, show_row};
-use samples_drawn::run_between;
+use samples::{DB, LOG, NET, ROOT, WEB, run_between, show_row};
 use std::alloc::Global;
 use std::io;
 

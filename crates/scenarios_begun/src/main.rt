@@ -1,25 +1,25 @@
-//! Begins runs on sessions over the sample, and abandons, completes or spoils them; plays the same change
-//! as one of a list of commands; and goes on with a line that was made of its states.
+//! Sessions as values: runs that are begun on one over the sample, and abandoned, completed or spoiled; edits of bundles,
+//! undone and redone as edits; and a session that goes on with a line that was made of states.
 #![tactic(auto)]
 
-mod playing;
+mod edits;
 mod resumed;
 mod runs;
 mod show;
 
 ghost use Rattle.std.specs.Prelude.{◌≡◌, false, IfOk};
 
-use crate::playing::show_played;
+use crate::edits::show_edits;
 use crate::resumed::show_resumed;
 use crate::runs::show_runs;
 use rc_session::Session;
-use samples_db::sample;
+use samples::sample;
 use std::alloc::Global;
 use std::test::Fail;
 
 fn main(rt: HostRuntime) -> Result<(), Fail> {
-    let events = show_runs(&rt)?;
-    show_played(&rt, &events)?;
+    show_runs(&rt)?;
+    show_edits(&rt)?;
     show_resumed(&rt)
 }
 

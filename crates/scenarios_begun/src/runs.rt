@@ -9,7 +9,7 @@ ghost use Rattle.rc_session.specs.Commands.{HasRun, command_of};
 
 use crate::session_of_sample;
 use crate::show::{show_answer, show_line, show_place, show_table, show_totals};
-use rc_core::{Ended, Event, Outcome, Run, Took};
+use rc_core::{Ended, Outcome, Run, Took};
 use rc_graph::Graph;
 use rc_select::{Mode, Plan, Request};
 use rc_session::{Refusal, Report, Session, Step};
@@ -21,18 +21,18 @@ use std::test::Fail;
 /// More turns than the change asks for.
 const TURNS: u16 = 20;
 
-/// All runs on a new session. The events of the change are handed on.
-pub(crate) fn show_runs(rt: &(impl Print + AllocGlobal)) -> Result<Vec<Event>, Fail> {
+/// All runs on a new session.
+pub(crate) fn show_runs(rt: &(impl Print + AllocGlobal)) -> Result<(), Fail> {
     let mut session = session_of_sample(rt.alloc())?;
     let shown = show_on(rt, &mut session);
     drop(session);
     Ok(shown?)
 }
 
-fn show_on(rt: &(impl Print + AllocGlobal), session: &mut Session) -> io::Result<Vec<Event>>
+fn show_on(rt: &(impl Print + AllocGlobal), session: &mut Session) -> io::Result<()>
     requires { session.old.begun ≡ false }
 {
-    let change = change_of(rt.alloc(), Vec::new(rt.alloc()))?;
+    let change = change_of(rt.alloc())?;
     let shown = show_each(rt, session, &change);
     drop(change);
     shown
@@ -42,17 +42,16 @@ fn show_each(
     rt: &(impl Print + AllocGlobal),
     session: &mut Session,
     change: &Step,
-) -> io::Result<Vec<Event>>
+) -> io::Result<()>
     requires closed { session.old.begun ≡ false }
     requires run { HasRun (command_of change.now) }
 {
     show_abandoned(rt, session, change)?;
-    let events = show_completed(rt, session, change)?;
+    show_completed(rt, session, change)?;
     show_step(rt, session, back(rt.alloc()))?;
     show_step(rt, session, on(rt.alloc()))?;
     show_spoiled(rt, session, change)?;
-    show_refused(rt, session)?;
-    Ok(events)
+    show_refused(rt, session)
 }
 
 fn show_abandoned(
@@ -71,21 +70,19 @@ fn show_abandoned(
     show_place(rt, session)
 }
 
-/// The events of the run are handed on.
 fn show_completed(
     rt: &(impl Print + AllocGlobal),
     session: &mut Session,
     change: &Step,
-) -> io::Result<Vec<Event>>
+) -> io::Result<()>
     requires closed { session.old.begun ≡ false }
     requires run { HasRun (command_of change.now) }
     ensures { session.new.begun ≡ false }
 {
     let answer = completed(rt.alloc(), session, change);
     let shown = show_raised(rt, session, &answer);
-    let events = trace_of(rt.alloc(), answer);
-    shown?;
-    Ok(events)
+    drop(answer);
+    shown
 }
 
 /// Where the line stands, and what a run has raised.
@@ -103,14 +100,7 @@ fn show_raised(
     }
 }
 
-fn trace_of(alloc: Global, answer: Result<Report, Refusal>) -> Vec<Event> {
-    match answer {
-        Ok(report) => report.trace,
-        Err(_) => Vec::new(alloc),
-    }
-}
-
-/// An undo or a redo that is begun and completed.
+/// A command that is begun and completed.
 pub(crate) fn show_step(
     rt: &(impl Print + AllocGlobal),
     session: &mut Session,
@@ -169,11 +159,11 @@ fn up_site(alloc: Global) -> Result<Request, NoMem> {
     })
 }
 
-/// The change as a command, with these events.
-pub(crate) fn change_of(alloc: Global, events: Vec<Event>) -> Result<Step, NoMem>
+/// The change as a command.
+pub(crate) fn change_of(alloc: Global) -> Result<Step, NoMem>
     ensures { IfOk result (λ step. HasRun (command_of step)) }
 {
-    Ok(Step::Change(up_site(alloc)?, events))
+    Ok(Step::Change(up_site(alloc)?, Vec::new(alloc)))
 }
 
 /// The undo, and the redo, without a limit.

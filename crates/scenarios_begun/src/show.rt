@@ -76,10 +76,3 @@ pub(crate) fn show_answer(rt: &impl Print, answer: &Result<Report, Refusal>) -> 
         Err(refusal) => println!(rt; "a change is refused {refusal:?}"),
     }
 }
-
-/// What a command that was played has moved.
-pub(crate) fn show_report(rt: &impl Print, report: &Report) -> io::Result<()> {
-    let (before, raised) = (report.opening.len(), report.raised.len());
-    let (lowered, events) = (report.lowered.len(), report.trace.len());
-    println!(rt; "played: {before} live, raised {raised}, lowered {lowered}, events {events}")
-}

@@ -19,7 +19,7 @@ use rc_runner::{StepClock, TableGate};
 use rc_select::{Mode, Request};
 use rc_session::Report;
 use rc_set::NoMem;
-use samples_db::{db_of, sample};
+use samples::{db_of, sample};
 use std::alloc::{AllocGlobal, Global};
 use std::io;
 use std::io::Print;
@@ -235,7 +235,7 @@ fn oneshots(alloc: Global) -> Result<Db, Fail> {
     for service in 10..74 {
         names.push(format!(in alloc; "s{service}")?)?;
     }
-    let mut rows: Vec<samples_db::Row> = Vec::new(alloc);
+    let mut rows: Vec<samples::Row> = Vec::new(alloc);
     for name in &names {
         rows.push((name.as_str(), Kind::Oneshot, false, None))?;
     }

@@ -4,7 +4,7 @@ ghost use Rattle.std.specs.Prelude.{◌≡◌, ◌<◌, ◌≤◌, length};
 
 use rc_graph::{Graph, GraphFault};
 use rc_set::{NoMem, Set};
-use samples::{DB, LOG, NET, ROOT, SAMPLE, WEB, draft_of, graph_of, has_ids, set_of};
+use samples::{DB, LOG, NEEDS, NET, ROOT, WEB, draft_of, graph_of, has_ids, set_of};
 use std::alloc::{AllocError, Global};
 use std::test::Fail;
 
@@ -21,7 +21,7 @@ const ROWS: [Row; 5] = [
 
 /// Whether the sample's graph says of each service what it must.
 pub fn first(alloc: Global) -> Result<Vec<bool>, Fail> {
-    let graph = graph_of(alloc, 5, &SAMPLE)?;
+    let graph = graph_of(alloc, 5, &NEEDS)?;
     let right = rows_of(alloc, &graph);
     drop(graph);
     Ok(right?)
@@ -29,7 +29,7 @@ pub fn first(alloc: Global) -> Result<Vec<bool>, Fail> {
 
 /// Whether another handle to it says the same when the first is gone. The last row is its order and its length.
 pub fn shared(alloc: Global) -> Result<Vec<bool>, Fail> {
-    let graph = graph_of(alloc, 5, &SAMPLE)?;
+    let graph = graph_of(alloc, 5, &NEEDS)?;
     let order = Vec::from_slice(alloc, graph.order());
     let shared = graph.share();
     drop(graph);

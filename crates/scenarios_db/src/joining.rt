@@ -1,8 +1,7 @@
 //! Parts that fit together, and parts that do not.
 
 use rc_db::{Db, Unfit};
-use samples::{LOG, SAMPLE, WEB};
-use samples_db::{BUNDLES, Bundle, SERVICES, parts_of};
+use samples::{BUNDLES, Bundle, LOG, NEEDS, SERVICES, WEB, parts_of};
 use std::alloc::Global;
 use std::io;
 use std::test::Fail;
@@ -11,11 +10,11 @@ use std::test::Fail;
 type Row<'a> = (&'a str, usize, &'a [(u16, u16)], &'a [Bundle<'a>]);
 
 static ROWS: [Row; 4] = [
-    ("the sample", 5, &SAMPLE, &BUNDLES),
+    ("the sample", 5, &NEEDS, &BUNDLES),
     (
         "a service list shorter than the names",
         4,
-        &SAMPLE,
+        &NEEDS,
         &BUNDLES,
     ),
     (
@@ -27,7 +26,7 @@ static ROWS: [Row; 4] = [
     (
         "a bundle of a service's name",
         5,
-        &SAMPLE,
+        &NEEDS,
         &[("web", &[LOG])],
     ),
 ];

@@ -35,16 +35,10 @@ pub(crate) fn show_graphs(rt: &(impl Print + AllocGlobal)) -> Result<(), Fail> {
 }
 
 pub(crate) fn show_plans(rt: &(impl Print + AllocGlobal)) -> Result<(), Fail> {
-    let alloc = rt.alloc();
-    tell(
-        rt,
-        "bringing up raises what is needed",
-        &plans::brought_up(alloc)?,
-    )?;
     Ok(tell(
         rt,
-        "plans between two sets have their differences",
-        &plans::led(alloc)?,
+        "bringing up raises what is needed",
+        &plans::brought_up(rt.alloc())?,
     )?)
 }
 

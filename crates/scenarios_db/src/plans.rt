@@ -1,34 +1,34 @@
-//! Plans on the sample.
+//! Plans on the sample, of needs alone.
 
 ghost use Rattle.std.specs.Prelude.{◌≡◌, length};
 
 use rc_graph::Graph;
-use rc_select::{Plan, between, plan_up};
+use rc_select::{Plan, plan_up};
 use rc_set::{NoMem, Set};
-use samples::{DB, LOG, NET, ROOT, SAMPLE, WEB, graph_of, has_ids, set_of};
+use samples::{DB, LOG, NEEDS, NET, ROOT, WEB, graph_of, has_ids, set_of};
 use std::alloc::Global;
 use std::test::Fail;
 
-/// What is up, what is wanted or to be up, and what goes down and comes up for it.
-type Row<'a> = (&'a [u16], &'a [u16], &'a [u16], &'a [u16]);
+/// What is up, what is wanted, and what comes up for it; nothing goes down.
+type Row<'a> = (&'a [u16], &'a [u16], &'a [u16]);
 
 fn is_so(alloc: Global, plan: &Plan, want: &Row) -> Result<bool, NoMem> {
     let opening = has_ids(alloc, plan.opening(), want.0)?;
-    let lower = has_ids(alloc, plan.lower(), want.2)?;
-    let raise = has_ids(alloc, plan.raise(), want.3)?;
+    let lower = has_ids(alloc, plan.lower(), &[])?;
+    let raise = has_ids(alloc, plan.raise(), want.2)?;
     Ok(opening & lower & raise & plan.kept().is_empty())
 }
 
 const WANTED: [Row; 4] = [
-    (&[], &[], &[], &[]),
-    (&[ROOT], &[WEB], &[], &[DB, LOG, NET, WEB]),
-    (&[ROOT], &[DB], &[], &[DB, NET]),
-    (&[LOG, NET, ROOT], &[NET], &[], &[]),
+    (&[], &[], &[]),
+    (&[ROOT], &[WEB], &[DB, LOG, NET, WEB]),
+    (&[ROOT], &[DB], &[DB, NET]),
+    (&[LOG, NET, ROOT], &[NET], &[]),
 ];
 
 /// Whether bringing up raises what is needed.
 pub fn brought_up(alloc: Global) -> Result<Vec<bool>, Fail> {
-    let graph = graph_of(alloc, 5, &SAMPLE)?;
+    let graph = graph_of(alloc, 5, &NEEDS)?;
     let right = are_brought_up(alloc, &graph);
     drop(graph);
     Ok(right?)
@@ -70,60 +70,5 @@ fn is_planned(alloc: Global, plan: Option<Plan>, row: &Row) -> Result<bool, NoMe
             right
         }
         None => Ok(false),
-    }
-}
-
-const BETWEEN: [Row; 3] = [
-    (&[], &[], &[], &[]),
-    (&[NET, ROOT], &[LOG, ROOT], &[NET], &[LOG]),
-    (
-        &[DB, LOG, NET, ROOT, WEB],
-        &[],
-        &[DB, LOG, NET, ROOT, WEB],
-        &[],
-    ),
-];
-
-/// Whether a plan between two sets has their differences.
-pub fn led(alloc: Global) -> Result<Vec<bool>, Fail> {
-    let graph = graph_of(alloc, 5, &SAMPLE)?;
-    let right = are_led(alloc, &graph);
-    drop(graph);
-    Ok(right?)
-}
-
-fn are_led(alloc: Global, graph: &Graph) -> Result<Vec<bool>, NoMem> {
-    let mut right = Vec::new(alloc);
-    for row in &BETWEEN {
-        right.push(is_led(alloc, graph, row)?)?;
-    }
-    Ok(right)
-}
-
-fn is_led(alloc: Global, graph: &Graph, row: &Row) -> Result<bool, NoMem> {
-    let from = set_of(alloc, graph.len(), row.0)?;
-    let plan = plan_from(alloc, graph, &from, row.1);
-    drop(from);
-    is_planned(alloc, plan?, row)
-}
-
-/// The plan from some services to others. None: some of these lack what they need.
-fn plan_from(alloc: Global, graph: &Graph, from: &Set, to: &[u16]) -> Result<Option<Plan>, NoMem>
-    requires { length from.now ≡ length graph.now }
-{
-    let to = set_of(alloc, graph.len(), to)?;
-    let plan = plan_between(alloc, graph, from, &to);
-    drop(to);
-    plan
-}
-
-fn plan_between(alloc: Global, graph: &Graph, from: &Set, to: &Set) -> Result<Option<Plan>, NoMem>
-    requires from_bound { length from.now ≡ length graph.now }
-    requires to_bound { length to.now ≡ length graph.now }
-{
-    if graph.closed(from) && graph.closed(to) {
-        Ok(Some(between(alloc, graph, from, to)?))
-    } else {
-        Ok(None)
     }
 }

@@ -4,8 +4,7 @@ ghost use Rattle.std.specs.Prelude.{◌<◌, ◌≤◌, length};
 
 use rc_db::{MAX_BUNDLES, Table};
 use rc_names::{Name, NameFault};
-use samples::set_of;
-use samples_db::table_of;
+use samples::{set_of, table_of};
 use std::alloc::Global;
 use std::io;
 use std::test::Fail;

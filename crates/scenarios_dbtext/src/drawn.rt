@@ -6,8 +6,7 @@ use rc_db::{Db, MAX_BUNDLES, NoMem, Parts, Service, Table};
 use rc_graph::Graph;
 use rc_names::{Kind, MAX_NAMES, Name, NameFault, Names};
 use rc_set::Set;
-use samples::{graph_of, set_of};
-use samples_drawn::{Draw, drawn_needs};
+use samples::{Draw, drawn_needs, graph_of, set_of};
 use std::alloc::Global;
 use std::test::Fail;
 

@@ -6,7 +6,7 @@ use crate::drawn::drawn_db;
 use crate::edits::edited;
 use rc_db::{Db, NoMem};
 use rc_dbtext::{read_db, write_db};
-use samples_drawn::Draw;
+use samples::Draw;
 use std::alloc::Global;
 use std::io;
 use std::test::Fail;

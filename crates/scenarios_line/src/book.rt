@@ -2,10 +2,8 @@
 
 ghost use Rattle.std.specs.Prelude.{◌≡◌, false, length};
 
-use rc_bundle::Edit;
 use rc_db::Table;
 use rc_line::{Line, LineFault};
-use rc_select::Plan;
 use rc_set::{NoMem, Set};
 use std::alloc::Global;
 
@@ -51,26 +49,6 @@ impl Book {
         &self.line
     }
 
-    /// A change by a plan, with what is live in the end.
-    pub(crate) fn change(&mut self, alloc: Global, plan: &Plan, live: &Set) -> Result<(), LineFault>
-        requires plan { length plan.now.opening ≡ length self.old.line.line.current.live }
-        requires bound { length live.now ≡ length self.old.line.line.current.live }
-    {
-        let opening = self.line.open_new(alloc, plan)?;
-        self.line.close(opening, live);
-        Ok(())
-    }
-
-    /// An edit that leads to these bundles.
-    pub(crate) fn edit(&mut self, alloc: Global, table: &Table) -> Result<(), LineFault> {
-        // A table tells by its length that it is one.
-        let _ = table.len();
-        let edit = Edit::between(alloc, self.line.table(), table)?;
-        let opening = self.line.open_edit(alloc, &edit)?;
-        self.line.close_edit(opening, edit);
-        Ok(())
-    }
-
     /// The way back, with what is live in the end.
     pub(crate) fn undo(&mut self, alloc: Global, live: &Set) -> Result<(), LineFault>
         requires { length live.now ≡ length self.old.line.line.current.live }
@@ -86,13 +64,6 @@ impl Book {
     {
         let opening = self.line.open_redo(alloc)?;
         self.line.close(opening, live);
-        Ok(())
-    }
-
-    /// Opens the way back, and gives it up.
-    pub(crate) fn give_up(&mut self, alloc: Global) -> Result<(), LineFault> {
-        let opening = self.line.open_undo(alloc)?;
-        self.line.give_up(opening);
         Ok(())
     }
 }

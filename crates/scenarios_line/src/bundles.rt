@@ -4,7 +4,7 @@ use crate::show::show_edit;
 use rc_bundle::{BundleFault, Edit, add, delete};
 use rc_db::{Db, NoMem};
 use rc_names::Name;
-use samples_db::{sample, words_of};
+use samples::{sample, words_of};
 use std::alloc::{AllocError, Global};
 use std::io;
 use std::test::Fail;

@@ -5,7 +5,7 @@ use rc_bundle::Edit;
 use rc_db::Table;
 use rc_line::{Entry, LineFault};
 use rc_set::Set;
-use samples_db::SERVICES;
+use samples::SERVICES;
 use std::io;
 
 /// A part of a move, and its services by their names.

@@ -5,11 +5,11 @@ ghost use Rattle.rc_set.specs.Set.{Has};
 ghost use Rattle.rc_graph.specs.Closure.{IsClosed};
 
 use crate::draw::{Change, Draw};
+use crate::graphs::set_of;
 use rc_core::{Finish, NotLegal, Outcome, Run, Took};
 use rc_graph::Graph;
 use rc_select::between;
 use rc_set::{NoMem, Set};
-use samples::set_of;
 use std::alloc::Global;
 
 /// Turns, in each of which one worker takes a service or ends one: far more than any change here asks for.

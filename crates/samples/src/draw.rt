@@ -2,9 +2,9 @@
 
 ghost use Rattle.std.specs.Prelude.{◌≤◌};
 
+use crate::graphs::{graph_of, set_of};
 use rc_graph::Graph;
 use rc_set::NoMem;
-use samples::{graph_of, set_of};
 use std::alloc::Global;
 use std::test::Fail;
 

@@ -1,14 +1,10 @@
-//! Small databases that tests share, and whether two databases are the same.
-#![tactic(auto)]
+//! Small databases.
 
 ghost use Rattle.std.specs.Prelude.{◌<◌, ◌≤◌, length};
 
-mod same;
-
-pub use crate::same::is_same;
+use crate::graphs::{LOG, NEEDS, WEB, graph_of, set_of};
 use rc_db::{Db, MAX_BUNDLES, NoMem, Parts, Service, Table};
 use rc_names::{Kind, MAX_NAMES, Name, NameFault, Names};
-use samples::{LOG, SAMPLE, WEB, graph_of, set_of};
 use std::alloc::Global;
 use std::test::Fail;
 
@@ -32,7 +28,7 @@ pub const BUNDLES: [Bundle; 1] = [("site", &[WEB])];
 
 /// The sample database.
 pub fn sample(alloc: Global) -> Result<Db, Fail> {
-    db_of(alloc, &SERVICES, &SAMPLE, &BUNDLES)
+    db_of(alloc, &SERVICES, &NEEDS, &BUNDLES)
 }
 
 /// The database of these services, in the order of their names, of these needs and these bundles. Each oneshot

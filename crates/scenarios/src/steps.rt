@@ -1,0 +1,25 @@
+//! Events that are made on a run, and events that it refuses.
+
+use rc_core::{Event, NotLegal, Run};
+use samples::{DB, LOG, NET, ROOT, WEB};
+
+/// The services of the sample.
+pub(crate) const ALL: [u16; 5] = [DB, LOG, NET, ROOT, WEB];
+
+pub(crate) fn make(run: &mut Run, events: &[Event]) -> Result<(), NotLegal> {
+    for event in events {
+        run.step(*event)?;
+    }
+    Ok(())
+}
+
+/// Whether each of these events is refused, and leaves the trace as it is.
+pub(crate) fn refuses(run: &mut Run, events: &[Event]) -> bool {
+    let before = run.trace().len();
+    for event in events {
+        if run.step(*event).is_ok() || run.trace().len() != before {
+            return false;
+        }
+    }
+    true
+}
