@@ -2,9 +2,9 @@
 
 ghost use Rattle.std.specs.Prelude.{◌≡◌, false};
 
-use crate::show::{show_place, show_table};
 use crate::runs::{back, change_of, show_step};
 use crate::session_of_sample;
+use crate::show::{show_place, show_table};
 use rc_names::Name;
 use rc_session::{Refusal, Session};
 use rc_set::NoMem;

@@ -11,12 +11,7 @@ type Row<'a> = (&'a str, usize, &'a [(u16, u16)], &'a [Bundle<'a>]);
 
 static ROWS: [Row; 4] = [
     ("the sample", 5, &NEEDS, &BUNDLES),
-    (
-        "a service list shorter than the names",
-        4,
-        &NEEDS,
-        &BUNDLES,
-    ),
+    ("a service list shorter than the names", 4, &NEEDS, &BUNDLES),
     (
         "a producer target that is not needed",
         5,
