@@ -353,7 +353,8 @@ cp -r "$samples/source" piped
 printf weblog > piped/log/pipeline-name
 compiles "$(with 'bundles 1' 'bundles 2' | sed 's/bundle site web/bundle site web\\nbundle weblog log web/')" piped
 
-# So many services, none needing another, in chains both ways, and one more. What is compiled is read by both readers.
+# 4,096 services, none needing another, in chains both ways, and one more. What is compiled is read
+# by both readers.
 tree chain
 (cd chain && seq -f 's%04.0f' 1 4096 | xargs mkdir)
 # chained STEP: each service needs the one so many places on.

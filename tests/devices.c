@@ -1,10 +1,13 @@
-/* Devices that give and take pieces, are interrupted, or fail. Preloaded into a program, this stands between it and the
- * calls of the C library by which it reads and writes. What each stream does is said by a variable of the environment:
- * READS of standard input, WRITES of standard output, TELLS of standard error, FILES of what the program opens itself.
- * Its words, each followed by a number: `piece` is the most bytes that a call gives or takes, `interrupts` how often each
- * call is interrupted before it is made, `good` how many calls are made before all that follow fail, `once` the same, but
- * that one alone fails, `cut` as `good`, but they are interrupted. Of FILES each listing, opening and look at a file
- * counts as a call. */
+/* Devices that give and take pieces, are interrupted, or fail. Preloaded into a program, this is
+ * between it and the calls of the C library by which it reads and writes. What each stream does is
+ * said by a variable of the environment: READS of standard input, WRITES of standard output, TELLS
+ * of standard error, FILES of what the program opens itself. Its words, each followed by a number:
+ *   piece       the most bytes that a call gives or takes
+ *   interrupts  how often each call is interrupted before it is made
+ *   good        how many calls are made before all that follow fail
+ *   once        the same, but that one alone fails
+ *   cut         the same as good, but they are interrupted
+ * Of FILES each opening, each listing and each look at a file counts as a call, too. */
 #define _GNU_SOURCE
 #include <dirent.h>
 #include <dlfcn.h>
@@ -80,7 +83,10 @@ static size_t piece(const struct device *device, size_t bytes)
 }
 
 /* The call of the C library of this name. */
-#define NEXT(name) static __typeof__(&name) next; if (!next) next = (__typeof__(&name))dlsym(RTLD_NEXT, #name)
+#define NEXT(name)                    \
+    static __typeof__(&name) next;    \
+    if (!next)                        \
+        next = (__typeof__(&name))dlsym(RTLD_NEXT, #name)
 
 ssize_t read(int fd, void *to, size_t bytes)
 {

@@ -1,7 +1,8 @@
-# Draws sessions, the same for the same seed, and says by plain rules what `undorc replay` makes of them: sets are texts of
-# 0 and 1, a digit for each service, and the line is a list of whole states. Of each session N it writes the database
-# (N.base), its first K commands with the events of their runs (N.K), for each K, and what these come to, one K behind the
-# other (N.wanted). It prints in how many sessions an undo or a redo failed in part.
+# Draws sessions, the same for the same seed, and says by plain rules what `undorc replay` makes of
+# them: sets are texts of 0 and 1, a digit for each service, and the line is a list of whole states.
+# Of each session N it writes the database (N.base), its first K commands with the events of their
+# runs (N.K), for each K, and what these come to, one K behind the other (N.wanted). It prints in
+# how many sessions an undo or a redo failed in part.
 #   awk -v seed=NUMBER -v sessions=NUMBER -v commands=NUMBER -f tests/drawn.awk
 
 function below(bound) {
@@ -49,7 +50,8 @@ function names(set, sign,  s, text) {
 function told(word, set) { return set == nothing ? "" : word names(set, " ") "\n" }
 function value(set) { return set == "" ? "none" : "[" substr(names(set, ","), 2) "]" }
 
-# The states of the line: what is live, and the set of each bundle, which is empty text where there is none.
+# The states of the line: what is live, and the set of each bundle, which is empty text where there
+# is none.
 function copy(from, to,  b) {
     live[to] = live[from]
     for (b = 1; b <= 3; b++) bundles[to, b] = bundles[from, b]
@@ -84,7 +86,8 @@ function journal(  text, i, s, b) {
     for (i = 1; i < count; i++) {
         text = text (i - 1)
         for (s = 1; s <= services; s++)
-            if (has(live[i], s) != has(live[i + 1], s)) text = text (has(live[i], s) ? " -" : " +") name(s)
+            if (has(live[i], s) != has(live[i + 1], s))
+                text = text (has(live[i], s) ? " -" : " +") name(s)
         for (b = 1; b <= 3; b++)
             if (bundles[i, b] != bundles[i + 1, b])
                 text = text " " bundle(b) ":" value(bundles[i, b]) ">" value(bundles[i + 1, b])
@@ -93,7 +96,8 @@ function journal(  text, i, s, b) {
     return text
 }
 
-# Runs: drawn workers bring about a target while drawn services fail, until nothing may be taken and nothing is held.
+# Runs: drawn workers bring about a target while drawn services fail, until nothing may be taken and
+# nothing is held.
 function may_move(s,  t) {
     if (has(taken, s) || has(from, s) == has(to, s)) return 0
     for (t = 1; t <= services; t++) {
@@ -142,7 +146,8 @@ function carry_out(target, limit,  workers, w, s, holding, held) {
         } else if (!holding) return
     }
 }
-# The refusal of the events, which are spoiled sometimes: the last is gone, or one is put in that is never legal.
+# The refusal of the events, which are spoiled sometimes: the last is gone, or one is put in that is
+# never legal.
 function spoiled(limit,  drawn, place, i) {
     drawn = below(10)
     if (drawn == 0 && !limit && events) {
@@ -165,11 +170,12 @@ function script_of(command,  i) {
 }
 function report(kept,  left) {
     left = less(either(less(from, to), less(to, from)), taken)
-    return told("lowered", less(from, after)) told("raised", less(after, from)) told("failed", failed) \
-        told(stopped ? "untried" : "blocked", left) told("kept", kept) "ok\n"
+    return told("lowered", less(from, after)) told("raised", less(after, from)) \
+        told("failed", failed) told(stopped ? "untried" : "blocked", left) told("kept", kept) "ok\n"
 }
 
-# Words of a command: some services, some bundles, seldom one that there is not. They stand for `wanted`.
+# Words of a command: some services, some bundles, seldom one that there is not. They stand for
+# `wanted`.
 function drawn_words(  set, b, words) {
     wanted = some(6)
     unknown = ""
@@ -205,7 +211,8 @@ function change(  words, mode, prune, all, limit, now, keep, target, kept, refus
     refusal = spoiled(limit)
     if (prune && mode != "u") refusal = "PruneNeedsUp"
     else if (unknown != "") refusal = "Unknown " unknown
-    script = script_of((limit ? "-t 5 " : "") "-" mode (prune ? "p" : "") (all ? "a" : "") " change" words)
+    mode = "-" mode (prune ? "p" : "") (all ? "a" : "")
+    script = script_of((limit ? "-t 5 " : "") mode " change" words)
     if (refusal != "") return "refused " refusal "\n"
     copy(cursor, 0)
     live[0] = after
@@ -258,8 +265,9 @@ function remove(  b, words, force, missing, is_service) {
     return "ok\n"
 }
 
-# A database of two to nine services, some of them essential, whose needs make no cycle, and no bundles.
-function database(  turned, s, t, text) {
+# A database of two to nine services, some of them essential, whose needs make no cycle, and no
+# bundles.
+function database(  turned, s, t, flag, text) {
     services = 2 + below(8)
     nothing = substr("000000000", 1, services)
     essential = some(5)
@@ -268,7 +276,8 @@ function database(  turned, s, t, text) {
         for (t = 1; t <= services; t++) needs[s, t] = (turned ? t > s : t < s) && below(3) == 0
     text = "undorc-db 1\nservices " services "\n"
     for (s = 1; s <= services; s++) {
-        text = text "service " name(s) " longrun " (has(essential, s) ? "essential" : "plain") " 0 0\nneeds"
+        flag = has(essential, s) ? "essential" : "plain"
+        text = text "service " name(s) " longrun " flag " 0 0\nneeds"
         for (t = 1; t <= services; t++) if (needs[s, t]) text = text " " name(t)
         text = text "\nproducer -\n"
     }
@@ -297,7 +306,8 @@ BEGIN {
             scripts = scripts script
             printf "%s", scripts > (session "." k)
             close(session "." k)
-            printf "%slive%s\n%s", answers, names(live[cursor], " "), journal() > (session ".wanted")
+            printf "%slive%s\n", answers, names(live[cursor], " ") > (session ".wanted")
+            printf "%s", journal() > (session ".wanted")
         }
         close(session ".wanted")
         splits += split_one

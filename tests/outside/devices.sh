@@ -1,5 +1,5 @@
-# Outputs that are full or closed, inputs that are closed or can't be read, and devices that give and take pieces, are
-# interrupted or fail at a certain call. tests/program.sh reads this file.
+# Outputs that are full or closed, inputs that are closed or can't be read, and devices that give
+# and take pieces, are interrupted or fail at a certain call. tests/program.sh reads this file.
 
 # fault WHAT FAULT STATUS: the run before wrote nothing.
 fault() {
@@ -141,7 +141,8 @@ sed -n 's/^< //p' "$here/rows/sessions.rows" | head -n 60 > some
 lines=$(wc -l < some)
 unlike=0
 for many in $(seq 0 "$lines"); do
-    head -n "$many" some | "$program" session -b base -x down:log > "answers.$many" 2>&1 || unlike=$((unlike + 1))
+    head -n "$many" some > in
+    "$program" session -b base -x down:log < in > "answers.$many" 2>&1 || unlike=$((unlike + 1))
 done
 cp "answers.$lines" whole
 for many in $(seq 0 "$lines"); do
@@ -154,10 +155,13 @@ served() {
 # same STATUS FAULT OUTPUT: counts the run before where it is not so.
 same() {
     printf '%b' "$2" > err.wanted
-    if [ "$ended" -ne "$1" ] || ! cmp -s err err.wanted || ! cmp -s out "$3"; then unlike=$((unlike + 1)); fi
+    if [ "$ended" -ne "$1" ] || ! cmp -s err err.wanted || ! cmp -s out "$3"; then
+        unlike=$((unlike + 1))
+    fi
 }
 
-# Where a read fails or is always interrupted, each line that was whole by then is answered, and nothing else.
+# Where a read fails or is always interrupted, each line that was whole by then is answered, and
+# nothing else.
 cp some in
 size=$(wc -c < some)
 for word in good cut; do
@@ -184,7 +188,9 @@ for word in good cut; do
         written=$(wc -c < out)
         head -c "$written" whole > front
         same 111 'undorc: Write\n' front
-        if [ "$written" -le "$before" ] || [ "$written" -gt $((16 * made)) ]; then unlike=$((unlike + 1)); fi
+        if [ "$written" -le "$before" ] || [ "$written" -gt $((16 * made)) ]; then
+            unlike=$((unlike + 1))
+        fi
         before=$written
     done
     same 0 '' whole
@@ -224,8 +230,10 @@ sessions 111 nothing 'undorc: Write\n' '' 'piece 0'
 # One input of all worked lines is answered alike by any number of workers, in pieces of any size.
 for topic in sessions bundles serving lines; do sed -n 's/^< //p' "$here/rows/$topic.rows"; done |
     while IFS= read -r line; do printf '%b\n' "$line"; done > in
-"$program" session -b base -x up:net,down:log < in > out.wanted 2> err.wanted || echo 'status 1' >> out.wanted
-[ "$(grep -c -e '^ok$' -e '^refused ' out.wanted)" -gt 400 ] || echo 'more than 400 answers' >> out.wanted
+"$program" session -b base -x up:net,down:log < in > out.wanted 2> err.wanted ||
+    echo 'status 1' >> out.wanted
+[ "$(grep -c -e '^ok$' -e '^refused ' out.wanted)" -gt 400 ] ||
+    echo 'more than 400 answers' >> out.wanted
 for workers in 1 2 3 64; do
     for bytes in 1 7 4096; do
         over "piece $bytes" "piece $bytes" '' session -b base -x up:net,down:log -w "$workers"
@@ -233,8 +241,9 @@ for workers in 1 2 3 64; do
     done
 done
 
-# failing WORDS..: one after another each call fails by which files are read, and none before or behind it. Then nothing is
-# written, and what is told is in `told`; or the run is the whole one, as where a listing fails that only spares calls.
+# failing WORDS..: one after another each call fails by which files are read, and none before or
+# behind it. Then nothing is written, and what is told is in `told`; or the run is the whole one, as
+# where a listing fails that only spares calls.
 failing() {
     made=-1 well=0
     unlike=0
@@ -242,7 +251,8 @@ failing() {
     while [ "$well" -lt 4 ] && [ "$made" -lt 500 ]; do
         made=$((made + 1))
         echo 0 > status
-        env "LD_PRELOAD=$room/devices.so" "FILES=once $made" "$program" "$@" < in > out 2> err || echo $? > status
+        env "LD_PRELOAD=$room/devices.so" "FILES=once $made" \
+            "$program" "$@" < in > out 2> err || echo $? > status
         read -r ended < status
         if [ "$ended" -eq 0 ]; then
             well=$((well + 1))
@@ -261,7 +271,7 @@ failing() {
 }
 : > in
 printf '%b' "$sample" > whole
-wants 'undorc: Io\nundorc: Io db\nundorc: Io log\nundorc: Io net\nundorc: Io root\nundorc: Io site\nundorc: Io web\n' ''
+wants "undorc: Io\\n$(printf 'undorc: Io %s\\n' db log net root site web)" ''
 failing compile "$samples/source"
 echo root > in
 printf '%b' "$plan" > whole

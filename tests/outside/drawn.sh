@@ -1,7 +1,8 @@
-# Sessions that are drawn, and what a plain program says that they come to. tests/program.sh reads this file.
+# Sessions that are drawn, and what a plain program says that they come to. tests/program.sh reads
+# this file.
 
-# Each session is replayed up to each of its commands, with the failures, stops and spoiled events of their runs: the
-# answers, what is live then and the whole journal are as wanted.
+# Each session is replayed up to each of its commands, with the failures, stops and spoiled events
+# of their runs: the answers, what is live then and the whole journal are as wanted.
 mkdir drawn
 cd drawn
 splits=$(awk -v seed=20261123 -v sessions=150 -v commands=30 -f "$here/drawn.awk")

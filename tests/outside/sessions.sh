@@ -1,5 +1,5 @@
-# Sessions whose lines come otherwise than one by one, long ones, and one on what was compiled just before.
-# tests/program.sh reads this file.
+# Sessions whose lines come otherwise than one by one, long ones, and one on what was compiled just
+# before. tests/program.sh reads this file.
 printf '%b' "$sample" > base
 
 # A session on what is compiled, whose bundle is empty.
@@ -83,7 +83,8 @@ awk 'BEGIN {
     print "journal"
 }' > in
 awk 'BEGIN {
-    for (i = 0; i < 10000; i++) printf "%s s%03d\nok\n", i % 2 ? "lowered" : "raised", int(i / 2) % 200
+    for (i = 0; i < 10000; i++)
+        printf "%s s%03d\nok\n", i % 2 ? "lowered" : "raised", int(i / 2) % 200
     print "at 10000 of 10001"
     for (i = 0; i < 10000; i++) printf "%d %ss%03d\n", i, i % 2 ? "-" : "+", int(i / 2) % 200
     print "ok"
@@ -92,7 +93,8 @@ awk 'BEGIN {
 runs session -b many -x none
 judge '10,000 lines, and the journal of 10,001 states' 0
 
-# A line of 1,000 states, in which the bits of a state's number are live, undone to the first and redone to the last.
+# A line of 1,000 states, in which the bits of a state's number are live, undone to the first and
+# redone to the last.
 awk 'BEGIN {
     printf "undorc-db 1\nservices 10\n"
     for (i = 0; i < 10; i++) printf "service b%d longrun plain 0 0\nneeds\nproducer -\n", i

@@ -85,11 +85,17 @@ static ASKED: [Asked; 7] = [
 ];
 
 fn is_answer(took: &Result<Took, NotLegal>, want: &Answer) -> bool {
-    match (took, want) {
-        (Ok(Took::Job(job)), Answer::Job(services)) => services.contains(&job.service()),
-        (Ok(Took::Wait), Answer::Wait) => true,
-        (Ok(Took::Settled), Answer::Settled) => true,
-        (Err(NotLegal), Answer::NotLegal) => true,
+    match took {
+        Ok(Took::Job(job)) => is_given(job.service(), want),
+        Ok(Took::Wait) => matches!(want, Answer::Wait),
+        Ok(Took::Settled) => matches!(want, Answer::Settled),
+        Err(NotLegal) => matches!(want, Answer::NotLegal),
+    }
+}
+
+fn is_given(service: u16, want: &Answer) -> bool {
+    match want {
+        Answer::Job(services) => services.contains(&service),
         _ => false,
     }
 }

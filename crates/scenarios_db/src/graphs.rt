@@ -1,11 +1,11 @@
-//! Graphs: who needs whom, what follows from it, and cycles.
+//! Graphs: who needs whom, and what follows from it.
 
-ghost use Rattle.std.specs.Prelude.{◌≡◌, ◌<◌, ◌≤◌, length};
+ghost use Rattle.std.specs.Prelude.{◌≡◌, ◌<◌, length};
 
-use rc_graph::{Graph, GraphFault};
+use rc_graph::Graph;
 use rc_set::{NoMem, Set};
-use samples::{DB, LOG, NEEDS, NET, ROOT, WEB, draft_of, graph_of, has_ids, set_of};
-use std::alloc::{AllocError, Global};
+use samples::{DB, LOG, NEEDS, NET, ROOT, WEB, graph_of, has_ids, set_of};
+use std::alloc::Global;
 use std::test::Fail;
 
 /// A service, what it needs, what needs it, what it reaches and itself, and what reaches it and itself.
@@ -78,40 +78,4 @@ fn is_set(alloc: Global, set: Set, ids: &[u16]) -> Result<bool, NoMem> {
     let right = has_ids(alloc, &set, ids);
     drop(set);
     right
-}
-
-/// How many services, the pairs, and the cycle that is shown, which is empty where the pairs make a graph.
-type Sketch<'a> = (u16, &'a [(u16, u16)], &'a [u16]);
-
-const DRAFTS: [Sketch; 8] = [
-    (0, &[], &[]),
-    (5, &[(2, 3), (0, 2), (4, 0), (4, 1), (0, 2)], &[]),
-    (5, &[(2, 3), (0, 2), (4, 0), (4, 1), (3, 4)], &[0, 2, 3, 4]),
-    (1, &[(0, 0)], &[0]),
-    (3, &[(0, 1), (1, 2), (2, 0)], &[0, 1, 2]),
-    (3, &[(0, 2), (2, 1), (1, 0)], &[0, 2, 1]),
-    (6, &[(0, 1), (1, 2), (5, 3), (3, 4), (4, 5)], &[3, 4, 5]),
-    (4, &[(0, 3), (3, 1), (1, 3)], &[1, 3]),
-];
-
-// The ids of the cycle that is shown, or none where the draft becomes a graph.
-fn cycle_of(alloc: Global, services: u16, pairs: &[(u16, u16)]) -> Result<Vec<u16>, NoMem>
-    requires { services ≤ 4096 }
-{
-    match draft_of(alloc, services, pairs)?.finish() {
-        Ok(_) => Ok(Vec::new(alloc)),
-        Err(GraphFault::Cycle(cycle)) => Vec::from_slice(alloc, cycle.ids()),
-        Err(GraphFault::Memory) => Err(AllocError),
-    }
-}
-
-/// Whether each draft becomes a graph, or shows its cycle.
-pub fn cycles(alloc: Global) -> Result<Vec<bool>, NoMem> {
-    let mut right = Vec::new(alloc);
-    for (services, pairs, want) in &DRAFTS {
-        if *services <= 4096 {
-            right.push(cycle_of(alloc, *services, pairs)?.as_slice() == *want)?;
-        }
-    }
-    Ok(right)
 }

@@ -1,4 +1,4 @@
-//! Databases and what they are made of: names, sets, graphs, cycles and plans, parts that fit together or do not, and
+//! Databases and what they are made of: names, sets, graphs and plans, parts that fit together or do not, and
 //! tables of bundles.
 #![tactic(auto)]
 

@@ -1,4 +1,4 @@
-//! Names, sets, graphs, cycles and plans: tables of what goes in and what must come out. A line for each
+//! Names, sets, graphs and plans: tables of what goes in and what must come out. A line for each
 //! table says how many rows it has, behind a line for each row that is wrong.
 
 use crate::{graphs, names, plans, sets};
@@ -22,15 +22,10 @@ pub(crate) fn show_graphs(rt: &(impl Print + AllocGlobal)) -> Result<(), Fail> {
     tell(rt, "sets that join and part", &sets::rows(alloc)?)?;
     tell(rt, "sets of all ids below a bound", &sets::whole(alloc)?)?;
     tell(rt, "a graph", &graphs::first(alloc)?)?;
-    tell(
+    Ok(tell(
         rt,
         "the graph of another handle, when the first is gone",
         &graphs::shared(alloc)?,
-    )?;
-    Ok(tell(
-        rt,
-        "cycles from their least service on, or none",
-        &graphs::cycles(alloc)?,
     )?)
 }
 

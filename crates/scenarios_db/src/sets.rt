@@ -16,24 +16,30 @@ const ROWS: [Row; 4] = [
     (&[65, 64, 1, 0], &[0, 1, 64], &[0, 1, 64, 65], &[65]),
 ];
 
-fn is_joined(alloc: Global, row: &Row) -> Result<bool, NoMem> {
-    let mut set = set_of(alloc, 70, row.0)?.copy(alloc)?;
-    set.join(&set_of(alloc, 70, row.1)?);
-    has_ids(alloc, &set, row.2)
+/// Whether two sets are together, and apart, what they must be.
+fn is_right(alloc: Global, row: &Row) -> Result<bool, NoMem> {
+    let mut set = set_of(alloc, 70, row.0)?;
+    let right = joins_and_parts(alloc, &mut set, row);
+    drop(set);
+    right
 }
 
-fn is_parted(alloc: Global, row: &Row) -> Result<bool, NoMem> {
-    let mut set = set_of(alloc, 70, row.0)?;
-    set.without(&set_of(alloc, 70, row.1)?);
-    has_ids(alloc, &set, row.3)
+fn joins_and_parts(alloc: Global, set: &mut Set, row: &Row) -> Result<bool, NoMem>
+    requires { length set.old ≡ 70 }
+{
+    let other = set_of(alloc, 70, row.1)?;
+    set.join(&other);
+    let together = has_ids(alloc, set, row.2);
+    set.without(&other);
+    drop(other);
+    Ok(together? & has_ids(alloc, set, row.3)?)
 }
 
 /// Whether each two sets join and part as they must.
 pub fn rows(alloc: Global) -> Result<Vec<bool>, NoMem> {
     let mut right = Vec::new(alloc);
     for row in &ROWS {
-        let is_joined = is_joined(alloc, row)?;
-        right.push(is_joined & is_parted(alloc, row)?)?;
+        right.push(is_right(alloc, row)?)?;
     }
     Ok(right)
 }
