@@ -1,11 +1,25 @@
-use Rattle.std.specs.Prelude.{◌≡◌, ℕ, Some}
-use Rattle.rc_core.specs.declared.event.Event.TheVariants.{Take}
+use Rattle.std.specs.Prelude.{◌≡◌, ◌⊎◌, ℕ, Option, Some, None}
+use Rattle.rc_graph.specs.declared.Way.{Way}
+use Rattle.rc_core.specs.declared.event.Outcome.{Outcome}
+use Rattle.rc_core.specs.declared.event.Event.TheVariants.{Take, Done, Stop}
 use Rattle.rc_board.specs.declared.worker.Asked.{Asked}
-use Rattle.rc_board.specs.declared.worker.Asked.TheVariants.{Job, Again, Over}
+use Rattle.rc_board.specs.declared.worker.Asked.TheVariants.{Job, Again, Stopped, Over}
+use Rattle.rc_board.specs.declared.worker.Made.{Made}
 use Rattle.rc_board.specs.Pads.{Written, with_note}
 
--- what a worker has written down after it asked for a job: its take, where it was given one
-abbrev pub NotesAsked : Written → ℕ → Asked → Written → Type 0
-NotesAsked old w (Job job) new = new ≡ with_note old (Take w job.service) (Some job.way)
-NotesAsked old w Again new = new ≡ old
-NotesAsked old w Over new = new ≡ old
+-- a gate may answer so for a transition that was made
+abbrev pub IsAnswered : (ℕ → Way → Outcome → Type 0) → Made → Type 0
+IsAnswered Answers made = Answers made.service made.way made.outcome
+
+-- what a worker has written down after it told how a transition ended: that, or nothing where the board refuses it
+abbrev pub NotesEnd : Written → ℕ → Made → Written → Type 0
+NotesEnd old w made new =
+    (new ≡ with_note old (Done w made.service made.outcome) (Some made.way)) ⊎ (new ≡ old)
+
+-- what a worker has written down after it asked for a job, late or not: its take, where it was given one, or its stop at the moment that was late
+abbrev pub NotesAsked : Written → ℕ → Option ℕ → Asked → Written → Type 0
+NotesAsked old w late (Job job) new = new ≡ with_note old (Take w job.service) (Some job.way)
+NotesAsked old w late Again new = new ≡ old
+NotesAsked old w (Some moment) Stopped new = new ≡ with_note old (Stop w moment) None
+NotesAsked old w None Stopped new = ⊥
+NotesAsked old w late Over new = new ≡ old

@@ -1,15 +1,15 @@
 //! What one worker does, from its start to the end of the run.
 //!
-//! Of those that wait one is woken at each take and each end, and all when a worker leaves. So where
-//! a service may be taken some worker is awake and will ask for it: one that takes wakes the next,
-//! and one that ends asks again. A worker leaves when nothing will be taken any more.
+//! A worker tells how its transition ended and asks for the next one in one hold of the board. Of
+//! those that wait one is woken at each take, and all when a worker leaves. So where a service may
+//! be taken some worker is awake and will ask for it: one that takes wakes the next, and one that
+//! ends asks again. A worker leaves when nothing will be taken any more.
 
-ghost use Rattle.std.specs.Prelude.{◌≡◌, ◌<◌, ◌⊎◌, [], Some, None, Option};
-ghost use Rattle.rc_core.specs.declared.event.Event.{Event};
-ghost use Rattle.rc_board.specs.Asking.{NotesAsked};
-ghost use Rattle.rc_board.specs.Pads.{AreSaid, with_note};
+ghost use Rattle.std.specs.Prelude.{◌≡◌, [], IfSome};
+ghost use Rattle.rc_board.specs.Asking.{NotesAsked, NotesEnd, IsAnswered};
+ghost use Rattle.rc_board.specs.Pads.{AreSaid};
 
-use crate::board::Start;
+use crate::board::{Board, Start};
 use crate::crew::{Shared, Tools};
 use crate::gate::Gate;
 use crate::glance::Glance;
@@ -20,11 +20,21 @@ use rc_core::{Job, Outcome, Took};
 use rc_graph::Way;
 use std::sync::Wait;
 
+/// A transition that a worker has made.
+#[derive(Clone, Copy, Debug)]
+pub(crate) struct Made {
+    service: u16,
+    way: Way,
+    outcome: Outcome,
+}
+
 /// What came of asking for a job.
 pub(crate) enum Asked {
     Job(Job),
     /// There was none. Something has happened since, or may have.
     Again,
+    /// There will be none, since the run was stopped by this worker.
+    Stopped,
     /// There will be none.
     Over,
 }
@@ -47,8 +57,18 @@ pub(crate) fn work<G: Gate, W: Watch, R: Wait>(
     if !await_start(rt, shared) {
         return pad;
     }
+    let mut held = None;
     for _ in rt.forever() {
-        if !turn(rt, gate, watch, shared, worker, &mut pad, &mut glance) {
+        if !turn(
+            rt,
+            gate,
+            watch,
+            shared,
+            worker,
+            &mut pad,
+            &mut glance,
+            &mut held,
+        ) {
             break;
         }
     }
@@ -66,8 +86,8 @@ fn await_start<R: Wait>(rt: &R, shared: &Shared) -> bool {
     guard.start() == Start::Opened
 }
 
-/// Stops the run if it is time, else makes one transition, or waits until there may be one to make.
-/// False: there is nothing more to do for this worker.
+/// Makes the transition that it holds, if it does, and asks for the next one, or waits until there
+/// may be one. False: there is nothing more to do for this worker.
 fn turn<G: Gate, W: Watch, R: Wait>(
     rt: &R,
     gate: &G,
@@ -76,95 +96,148 @@ fn turn<G: Gate, W: Watch, R: Wait>(
     worker: u8,
     pad: &mut Pad,
     glance: &mut Option<Glance>,
+    held: &mut Option<Job>,
 ) -> bool
     requires { AreSaid (G.answers gate.now) (G.gives gate.now) pad.old.notes }
     ensures { AreSaid (G.answers gate.now) (G.gives gate.now) pad.new.notes }
 {
-    if pad.room() < 2 {
-        return false;
-    }
-    if let Some(deadline) = shared.deadline {
-        let moment = gate.now();
-        if deadline <= moment {
-            if stop(rt, shared, worker, pad, moment) {
-                show(rt, shared, worker, pad, glance, watch);
-            }
-            return false;
-        }
-    }
-    match ask(rt, shared, worker, pad) {
+    let made = make(gate, held.take());
+    let untold = tell_seen(rt, gate, watch, shared, worker, pad, glance, made);
+    match ask(rt, gate, shared, worker, pad, untold) {
         Asked::Job(job) => {
-            show(rt, shared, worker, pad, glance, watch);
-            make(rt, shared, worker, pad, gate, job);
+            *held = Some(job);
             show(rt, shared, worker, pad, glance, watch);
             true
         }
         Asked::Again => true,
+        Asked::Stopped => {
+            show(rt, shared, worker, pad, glance, watch);
+            false
+        }
         Asked::Over => false,
     }
 }
 
-/// Asks for a job. Where there is none yet, it waits for a change.
-fn ask<R: Wait>(rt: &R, shared: &Shared, worker: u8, pad: &mut Pad) -> Asked
-    requires { 1 < pad.old.room }
-    ensures { NotesAsked pad.old worker result pad.new }
+/// Has the gate make the transition of a job, with nothing locked.
+fn make<G: Gate>(gate: &G, job: Option<Job>) -> Option<Made>
+    ensures { IfSome result (IsAnswered (G.answers gate.now)) }
 {
+    let job = job?;
+    let service = job.service();
+    let way = job.way();
+    let outcome = gate.run(job);
+    Some(Made {
+        service,
+        way,
+        outcome,
+    })
+}
+
+/// Where looks are wanted, tells how a transition ended by a hold of its own, since each event is
+/// followed by a look. What it did not tell it hands back.
+fn tell_seen<G: Gate, W: Watch, R: Wait>(
+    rt: &R,
+    gate: &G,
+    watch: &W,
+    shared: &Shared,
+    worker: u8,
+    pad: &mut Pad,
+    glance: &mut Option<Glance>,
+    made: Option<Made>,
+) -> Option<Made>
+    requires made { IfSome made (IsAnswered (G.answers gate.now)) }
+    requires said { AreSaid (G.answers gate.now) (G.gives gate.now) pad.old.notes }
+    ensures untold { IfSome result (IsAnswered (G.answers gate.now)) }
+    ensures said { AreSaid (G.answers gate.now) (G.gives gate.now) pad.new.notes }
+{
+    if glance.is_none() {
+        return made;
+    }
+    if let Some(made) = made {
+        let mut guard = shared.board.lock(rt);
+        tell(&mut guard, pad, worker, made);
+        drop(guard);
+        shared.changed.notify_one();
+        show(rt, shared, worker, pad, glance, watch);
+    }
+    None
+}
+
+/// Tells what is untold, and stops the run if it is time, else asks for a job. Where there is none
+/// yet, it waits for a change.
+fn ask<G: Gate, R: Wait>(
+    rt: &R,
+    gate: &G,
+    shared: &Shared,
+    worker: u8,
+    pad: &mut Pad,
+    untold: Option<Made>,
+) -> Asked
+    requires made { IfSome untold (IsAnswered (G.answers gate.now)) }
+    requires said { AreSaid (G.answers gate.now) (G.gives gate.now) pad.old.notes }
+    ensures said { AreSaid (G.answers gate.now) (G.gives gate.now) pad.new.notes }
+{
+    let late = late_moment(gate, shared.deadline);
     let mut guard = shared.board.lock(rt);
-    match hold_take(&mut guard, pad, worker) {
-        Ok(Took::Job(job)) => {
+    if let Some(made) = untold {
+        tell(&mut guard, pad, worker, made);
+    }
+    match next_on(&mut guard, pad, worker, late) {
+        Asked::Job(job) => {
             drop(guard);
             shared.changed.notify_one();
             Asked::Job(job)
         }
-        Ok(Took::Wait) => {
+        Asked::Again => {
             let _ = shared.changed.wait(rt, guard);
             Asked::Again
         }
-        Ok(Took::Settled) | Err(_) => Asked::Over,
+        Asked::Stopped => Asked::Stopped,
+        Asked::Over => Asked::Over,
     }
 }
 
-/// Has the gate make the transition of a job, with nothing locked, and tells the board how it
-/// ended.
-fn make<G: Gate, R: Wait>(rt: &R, shared: &Shared, worker: u8, pad: &mut Pad, gate: &G, job: Job)
-    requires room { 0 < pad.old.room }
-    requires said { AreSaid (G.answers gate.now) (G.gives gate.now) pad.old.notes }
-    ensures said { AreSaid (G.answers gate.now) (G.gives gate.now) pad.new.notes }
+/// The moment that it is, where it has reached the deadline.
+fn late_moment<G: Gate>(gate: &G, deadline: Option<u64>) -> Option<u64>
+    ensures { IfSome result (G.gives gate.now) }
 {
-    let service = job.service();
-    let way = job.way();
-    let outcome = gate.run(job);
-    end(rt, shared, worker, pad, service, way, outcome);
+    let deadline = deadline?;
+    let moment = gate.now();
+    if deadline <= moment {
+        Some(moment)
+    } else {
+        None
+    }
 }
 
 /// Tells the board how a transition ended.
-fn end<R: Wait>(
-    rt: &R,
-    shared: &Shared,
-    worker: u8,
-    pad: &mut Pad,
-    service: u16,
-    way: Way,
-    outcome: Outcome,
-)
-    requires { 0 < pad.old.room }
-    ensures { (pad.new ≡ with_note pad.old (Event.Done worker service outcome) (Some way))
-        ⊎ (pad.new ≡ pad.old) }
+fn tell(board: &mut Board, pad: &mut Pad, worker: u8, made: Made)
+    ensures { NotesEnd pad.old worker made pad.new }
 {
-    let mut guard = shared.board.lock(rt);
-    let _ = hold_done(&mut guard, pad, worker, service, way, outcome);
-    drop(guard);
-    shared.changed.notify_one();
+    if pad.room() == 0 {
+        return;
+    }
+    let _ = hold_done(board, pad, worker, made.service, made.way, made.outcome);
 }
 
-/// Stops the run at a moment. False: it was stopped before.
-fn stop<R: Wait>(rt: &R, shared: &Shared, worker: u8, pad: &mut Pad, moment: u64) -> bool
-    requires { 0 < pad.old.room }
-    ensures { (pad.new ≡ with_note pad.old (Event.Stop worker moment) None)
-        ⊎ (pad.new ≡ pad.old) }
+/// Stops the run at a moment, or asks for a job where there is none.
+fn next_on(board: &mut Board, pad: &mut Pad, worker: u8, late: Option<u64>) -> Asked
+    ensures { NotesAsked pad.old worker late result pad.new }
 {
-    let mut guard = shared.board.lock(rt);
-    hold_stop(&mut guard, pad, worker, moment).is_ok()
+    if pad.room() < 2 {
+        return Asked::Over;
+    }
+    if let Some(moment) = late {
+        return match hold_stop(board, pad, worker, moment) {
+            Ok(()) => Asked::Stopped,
+            Err(_) => Asked::Over,
+        };
+    }
+    match hold_take(board, pad, worker) {
+        Ok(Took::Job(job)) => Asked::Job(job),
+        Ok(Took::Wait) => Asked::Again,
+        Ok(Took::Settled) | Err(_) => Asked::Over,
+    }
 }
 
 /// Looks at the board, where looks are wanted, and shows it to the watch with nothing locked.
