@@ -1,7 +1,10 @@
-// plain DATABASE PAIRS: what a session answers to a change of all services and to so many pairs of
-// its undo and redo, by a plain loop over services and pairs: no plan, no state, no events, nothing
-// kept. tests/measure-changes.sh compares its time, and what it writes, with a session's.
+// plain DATABASE PAIRS [kept]: what a session answers to a change of all services and to so many
+// pairs of its undo and redo, by a plain loop over services and pairs: no plan, no state, no events,
+// nothing kept. With `kept` each move is made by a thread of its own, which takes each service and
+// ends it under a lock, and keeps where each service stands and what happened, as a session does.
+// tests/measure-changes.sh compares the time of both, and what they write, with a session's.
 #define _GNU_SOURCE
+#include <pthread.h>
 #include <stdio.h>
 #include <stdlib.h>
 #include <string.h>
@@ -56,34 +59,104 @@ static void read_graph(const char *path) {
         for (int p = first_need[s]; p < first_need[s + 1]; p++) user[--first_user[need[p]]] = s;
 }
 
+enum standing { STILL, UNDER_WAY, MOVED };
+
+struct event {
+    enum standing standing;
+    int service;
+};
+
+// A move that is under way: what waits for how many, what may go, what moved, and what happened.
+struct run {
+    const int *after, *next;
+    int waits[MANY], queue[MANY], length, happened, keeps;
+    enum standing standings[MANY];
+    struct event *events;
+    pthread_mutex_t lock;
+};
+
+static void note(struct run *run, int service, enum standing standing) {
+    run->standings[service] = standing;
+    if (run->keeps) run->events[run->happened++] = (struct event){standing, service};
+}
+
+// The next service that may go, or -1 where all have moved.
+static int take(struct run *run) {
+    if (!run->length) return -1;
+    int service = run->queue[--run->length];
+    if (run->keeps) note(run, service, UNDER_WAY);
+    return service;
+}
+
+static void end(struct run *run, int service) {
+    note(run, service, MOVED);
+    for (int p = run->after[service]; p < run->after[service + 1]; p++)
+        if (!--run->waits[run->next[p]]) run->queue[run->length++] = run->next[p];
+}
+
+static void *work(void *given) {
+    struct run *run = given;
+    for (;;) {
+        pthread_mutex_lock(&run->lock);
+        int service = take(run);
+        pthread_mutex_unlock(&run->lock);
+        if (service < 0) return NULL;
+        pthread_mutex_lock(&run->lock);
+        end(run, service);
+        pthread_mutex_unlock(&run->lock);
+    }
+}
+
+// What was kept is to be so: each service taken once, and ended once behind that.
+static void check_kept(const struct run *run) {
+    static enum standing seen[MANY];
+    memset(seen, 0, sizeof seen);
+    if (run->happened != 2 * count) exit(1);
+    for (int at = 0; at < run->happened; at++) {
+        struct event event = run->events[at];
+        if (event.standing != seen[event.service] + 1) exit(1);
+        seen[event.service] = event.standing;
+    }
+}
+
+static void move_kept(struct run *run) {
+    pthread_t thread;
+    run->events = malloc(2 * MANY * sizeof *run->events);
+    if (!run->events || pthread_create(&thread, NULL, work, run)) exit(1);
+    pthread_join(thread, NULL);
+    check_kept(run);
+    free(run->events);
+}
+
 // Moves each service after those that it waits for, and tells all that were moved.
-static void move(const char *word, const int *before, const int *after, const int *next) {
-    static int waits[MANY], queue[MANY], moved[MANY];
-    int length = 0;
+static void move(const char *word, int keeps, const int *before, const int *after, const int *next) {
+    static struct run run = {.lock = PTHREAD_MUTEX_INITIALIZER};
+    run.after = after;
+    run.next = next;
+    run.keeps = keeps;
+    run.length = run.happened = 0;
     for (int s = count; s-- > 0;) {
-        moved[s] = 0;
-        waits[s] = before[s + 1] - before[s];
-        if (!waits[s]) queue[length++] = s;
+        run.standings[s] = STILL;
+        run.waits[s] = before[s + 1] - before[s];
+        if (!run.waits[s]) run.queue[run.length++] = s;
     }
-    while (length) {
-        int s = queue[--length];
-        moved[s] = 1;
-        for (int p = after[s]; p < after[s + 1]; p++)
-            if (!--waits[next[p]]) queue[length++] = next[p];
-    }
+    if (keeps) move_kept(&run);
+    else
+        for (int s; (s = take(&run)) >= 0;) end(&run, s);
     fputs(word, stdout);
     for (int s = 0; s < count; s++)
-        if (moved[s]) putchar(' '), fputs(names[s], stdout);
+        if (run.standings[s] == MOVED) putchar(' '), fputs(names[s], stdout);
     puts("\nok");
 }
 
 int main(int words, char **word) {
-    if (words != 3) return 2;
+    int keeps = words == 4 && !strcmp(word[3], "kept");
+    if (words != 3 + keeps) return 2;
     read_graph(word[1]);
-    move("raised", first_need, first_user, user);
+    move("raised", keeps, first_need, first_user, user);
     for (int pairs = atoi(word[2]); pairs > 0; pairs--) {
-        move("lowered", first_user, first_need, need);
-        move("raised", first_need, first_user, user);
+        move("lowered", keeps, first_user, first_need, need);
+        move("raised", keeps, first_need, first_user, user);
     }
     return 0;
 }
