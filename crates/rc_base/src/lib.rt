@@ -3,7 +3,9 @@
 #![tactic(auto)]
 
 mod base;
+mod opening;
 mod text_fault;
 
 pub use crate::base::database_of;
+pub use crate::opening::{OpenFault, Opened, open};
 pub use crate::text_fault::text_word;

@@ -2,3 +2,4 @@ pub mod RunLemmas
 pub mod NamedLemmas
 pub mod PlanLemmas
 pub mod DbLemmas
+pub mod OpenedLemmas

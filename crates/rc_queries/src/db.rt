@@ -53,7 +53,7 @@ pub fn db_run<R: Read, W: Write, F: Write>(
     ensures unwritten { (result ≡ 1) ⊎ (result ≡ 100) → W.contents writer.new ≡ W.contents writer.old }
 
     // With a base nothing is read. Without one an input that was answered was read to its end, and whatever the status, one byte past the bound is the last that is taken.
-    ensures base { IsSome (bytes_of base.entry) → R.remaining reader.new ≡ R.remaining reader.old }
+    ensures base { IsSome (bytes_of base.entry) → reader.new ≡ reader.old }
     ensures within { (result ≡ 0) ⊎ (result ≡ 1) → IfRead (bytes_of base.entry) (R.remaining reader.old) (λ input. length input ≤ MAX_INPUT) }
     ensures end { (result ≡ 0) ⊎ (result ≡ 1) → bytes_of base.entry ≡ None → IsAtEnd (R.remaining reader.new) }
     ensures taken { ConsumesAtMost (R.remaining reader.old) (R.remaining reader.new) (MAX_INPUT + 1) }
@@ -91,7 +91,7 @@ pub fn db_as_asked<R: Read, W: Write, F: Write>(
     ensures unwritten { result ≡ 1 → W.contents writer.new ≡ W.contents writer.old }
 
     // With a base nothing is read. Without one an input that was answered was read to its end, and whatever the status, one byte past the bound is the last that is taken.
-    ensures base { IsSome (bytes_of base.entry) → R.remaining reader.new ≡ R.remaining reader.old }
+    ensures base { IsSome (bytes_of base.entry) → reader.new ≡ reader.old }
     ensures within { (result ≡ 0) ⊎ (result ≡ 1) → IfRead (bytes_of base.entry) (R.remaining reader.old) (λ input. length input ≤ MAX_INPUT) }
     ensures end { (result ≡ 0) ⊎ (result ≡ 1) → bytes_of base.entry ≡ None → IsAtEnd (R.remaining reader.new) }
     ensures taken { ConsumesAtMost (R.remaining reader.old) (R.remaining reader.new) (MAX_INPUT + 1) }
@@ -113,7 +113,7 @@ fn input_for<R: Read>(
     reader: &mut R,
 ) -> Result<Vec<u8>, Failure>
     ensures whole { IfOk result (λ bytes. IfRead (bytes_of base.entry) (R.remaining reader.old) (λ input. bytes.items ≡ input)) }
-    ensures base { IsSome (bytes_of base.entry) → R.remaining reader.new ≡ R.remaining reader.old }
+    ensures base { IsSome (bytes_of base.entry) → reader.new ≡ reader.old }
     ensures end { OnOk result (bytes_of base.entry ≡ None → IsAtEnd (R.remaining reader.new)) }
     ensures within { IfOk result (λ bytes. vec_len bytes ≤ MAX_INPUT) }
     ensures too_long { result ≡ Err Failure.TooLong → IfSome (R.remaining reader.old) (λ input. MAX_INPUT < length input) }

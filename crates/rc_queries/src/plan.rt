@@ -1,12 +1,14 @@
 //! The command `plan`: what a change would lower, raise and keep.
-ghost use Rattle.std.specs.Prelude.{◌≡◌, ◌≢◌, ◌⊎◌, ◌<◌, ◌≤◌, ◌+◌, ℕ, None, length, map, string_bytes, IfOk, IfErr, IfSome};
+ghost use Rattle.std.specs.Prelude.{◌≡◌, ◌≢◌, ◌⊎◌, ◌<◌, ◌≤◌, ◌+◌, ℕ, [], None, length, map, string_bytes, IfOk, IfErr, IfSome};
 ghost use Rattle.std.specs.Io.KnownBytes.{IsAtEnd};
 ghost use Rattle.rc_set.specs.Set.{Has};
 ghost use Rattle.rc_graph.specs.Closure.{IsClosed};
 ghost use Rattle.rc_select.specs.Ask.{ask_of};
 ghost use Rattle.rc_asked.specs.Asked.{plan_asked};
 ghost use Rattle.rc_base.specs.Base.{bytes_of};
+ghost use Rattle.rc_base.specs.Opening.{IsWrongBase};
 ghost use Rattle.rc_streams.specs.Input.{AppendsFront, ConsumesAtMost, TellsFailure, WritesAll, WritesFront, fault_line};
+ghost use Rattle.rc_queries.specs.Named.{word_lines};
 ghost use Rattle.rc_queries.specs.PlanText.{IsAnswer, IsPlanFor, IsPlanIn, IsTextFor, IsUpSet};
 ghost use Rattle.rc_queries.specs.PlanFaults.{IsAskFault, IsFaultOf, IsNameFault, IsRefused, IsTextRefusal, IsToldAs, IsUpFault, TellsFault, TellsPlanFault, fault_text};
 ghost use Rattle.rc_queries.specs.declared.plan.PlanFault.TheVariants.{Memory};
@@ -14,7 +16,7 @@ ghost use Rattle.rc_queries.specs.declared.plan.PlanFault.TheVariants.{Memory};
 use crate::named::{NamedFault, named_set, word_lines};
 use rc_answers::plan_text;
 use rc_asked::{plan_asked, tell_words};
-use rc_base::database_of;
+use rc_base::{OpenFault, open};
 use rc_db::Db;
 use rc_dbtext::TextFault;
 use rc_graph::Graph;
@@ -22,7 +24,7 @@ use rc_names::Names;
 use rc_select::{NoMem, Plan, PlanFault as WantFault, Request, plan};
 use rc_set::Set;
 use rc_streams::ending::{FAILED, REFUSED, fail, write_answer};
-use rc_streams::{Failure, MAX_INPUT, read_all, tell};
+use rc_streams::{Failure, MAX_INPUT, tell};
 use std::alloc::{AllocError, Global};
 use std::io::{Read, Write};
 
@@ -87,8 +89,8 @@ impl<'a> From<NamedFault<'a>> for PlanFault<'a> {
 
 /// Runs `undorc plan` on its words, and answers the status.
 ///
-/// The database is `base`, where there is one, and else the front of the input. Behind it the input has
-/// the names that are up, one a line. The plan is written to `writer`, and why there is none to `faults`.
+/// The database is `base`, where there is one, which is looked at before anything is read, and else the front of
+/// the input. Behind it the input has the names that are up, one a line. The plan is written to `writer`, and why there is none to `faults`.
 pub fn plan_run<R: Read, W: Write, F: Write>(
     alloc: Global,
     words: &[String],
@@ -119,9 +121,14 @@ pub fn plan_run<R: Read, W: Write, F: Write>(
         (IsAnswer (map string_bytes words.now) (bytes_of base.entry) input) (W.contents writer.old) (W.contents writer.new)) }
     ensures unwritten { (result ≡ 1) ⊎ (result ≡ 100) → W.contents writer.new ≡ W.contents writer.old }
 
-    // An input that was answered was read to its end, and whatever the status, one byte past the bound is the last that is taken.
-    ensures within { (result ≡ 0) ⊎ (result ≡ 1) → IfSome (R.remaining reader.old) (λ input. length input ≤ MAX_INPUT) }
-    ensures end { (result ≡ 0) ⊎ (result ≡ 1) → IsAtEnd (R.remaining reader.new) }
+    // A base comes first: where it is wrong the reader is as it was, there is no plan, and why is told whatever the reader has.
+    ensures first { IsWrongBase (bytes_of base.entry) → reader.new ≡ reader.old }
+    ensures based { result ≡ 0 → IsWrongBase (bytes_of base.entry) → ⊥ }
+    ensures untrue { result ≡ 1 → IsWrongBase (bytes_of base.entry) → TellsFault (map string_bytes words.now) (bytes_of base.entry) [] (F.contents faults.old) (F.contents faults.new) }
+
+    // Any other input that was answered was read to its end, and whatever the status, one byte past the bound is the last that is taken.
+    ensures within { (result ≡ 0) ⊎ (result ≡ 1) → IsWrongBase (bytes_of base.entry) ⊎ IfSome (R.remaining reader.old) (λ input. length input ≤ MAX_INPUT) }
+    ensures end { (result ≡ 0) ⊎ (result ≡ 1) → IsWrongBase (bytes_of base.entry) ⊎ IsAtEnd (R.remaining reader.new) }
     ensures taken { ConsumesAtMost (R.remaining reader.old) (R.remaining reader.new) (MAX_INPUT + 1) }
 {
     match plan_asked(alloc, words) {
@@ -156,34 +163,38 @@ pub fn plan_as_asked<R: Read, W: Write, F: Write>(
         (IsPlanFor (ask_of request.now) (bytes_of base.entry) input) (W.contents writer.old) (W.contents writer.new)) }
     ensures unwritten { result ≡ 1 → W.contents writer.new ≡ W.contents writer.old }
 
-    // An input that was answered was read to its end, and whatever the status, one byte past the bound is the last that is taken.
-    ensures within { (result ≡ 0) ⊎ (result ≡ 1) → IfSome (R.remaining reader.old) (λ input. length input ≤ MAX_INPUT) }
-    ensures end { (result ≡ 0) ⊎ (result ≡ 1) → IsAtEnd (R.remaining reader.new) }
+    // A base comes first: where it is wrong the reader is as it was, there is no plan, and why is told whatever the reader has.
+    ensures first { IsWrongBase (bytes_of base.entry) → reader.new ≡ reader.old }
+    ensures based { result ≡ 0 → IsWrongBase (bytes_of base.entry) → ⊥ }
+    ensures untrue { result ≡ 1 → IsWrongBase (bytes_of base.entry) → TellsPlanFault (ask_of request.now) (bytes_of base.entry) [] (F.contents faults.old) (F.contents faults.new) }
+
+    // Any other input that was answered was read to its end, and whatever the status, one byte past the bound is the last that is taken.
+    ensures within { (result ≡ 0) ⊎ (result ≡ 1) → IsWrongBase (bytes_of base.entry) ⊎ IfSome (R.remaining reader.old) (λ input. length input ≤ MAX_INPUT) }
+    ensures end { (result ≡ 0) ⊎ (result ≡ 1) → IsWrongBase (bytes_of base.entry) ⊎ IsAtEnd (R.remaining reader.new) }
     ensures taken { ConsumesAtMost (R.remaining reader.old) (R.remaining reader.new) (MAX_INPUT + 1) }
 {
-    let input = match read_all(alloc, reader) {
-        Ok(input) => input,
-        Err(failure) => return fail(faults, failure),
-    };
-    match plan_of(alloc, request, base, &input) {
-        Ok(text) => write_answer(writer, faults, &text),
-        Err(fault) => tell_fault(alloc, faults, fault),
+    match open(alloc, base, reader) {
+        Ok(opened) => match plan_of(alloc, request, &opened.db, &opened.input[opened.start..]) {
+            Ok(text) => write_answer(writer, faults, &text),
+            Err(fault) => tell_fault(alloc, faults, fault),
+        },
+        Err(OpenFault::OfText(wrong)) => tell_fault(alloc, faults, PlanFault::from(wrong)),
+        Err(OpenFault::Failed(failure)) => fail(faults, failure),
     }
 }
 
-/// The lines of the plan for what is asked.
+/// The lines of the plan for what is asked in a database, where the lines of a text name what is up.
 fn plan_of<'a>(
     alloc: Global,
     request: &'a Request,
-    base: Option<&[u8]>,
-    input: &'a [u8],
+    db: &Db,
+    rest: &'a [u8],
 ) -> Result<Vec<u8>, PlanFault<'a>>
-    ensures plan { IfOk result (λ text. IsPlanFor (ask_of request.entry.now) (bytes_of base.entry) input.entry.now text.items) }
-    ensures fault { IfErr result (λ fault. IsRefused fault (ask_of request.entry.now) (bytes_of base.entry) input.entry.now) }
+    ensures plan { IfOk result (λ text. IsTextFor db.now (word_lines rest.entry.now) (ask_of request.entry.now) text.items) }
+    ensures fault { IfErr result (λ fault. IsNameFault fault db.now (word_lines rest.entry.now) (ask_of request.entry.now)) }
 {
-    let (db, rest) = database_of(alloc, base, input)?;
     let ups = word_lines(alloc, rest)?;
-    text_for(alloc, &db, &ups, request)
+    text_for(alloc, db, &ups, request)
 }
 
 /// The lines of the plan for what is asked, where these are up.

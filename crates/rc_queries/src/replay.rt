@@ -1,20 +1,21 @@
 //! The command `replay`: commands with the events of their runs, and what they come to.
-ghost use Rattle.std.specs.Prelude.{◌≡◌, ◌≢◌, ◌⊎◌, ◌<◌, ◌≤◌, ◌+◌, codes, None, length, map, string_bytes, IfErr, IfOk, IfSome};
+ghost use Rattle.std.specs.Prelude.{◌≡◌, ◌≢◌, ◌⊎◌, ◌<◌, ◌≤◌, ◌+◌, [], codes, None, length, map, string_bytes, IfErr, IfOk, IfSome};
 ghost use Rattle.std.specs.Io.KnownBytes.{IsAtEnd};
 ghost use Rattle.rc_streams.specs.Input.{AppendsFront, ConsumesAtMost, TellsFailure, WritesAll, WritesFront, failure_text, fault_line};
 ghost use Rattle.rc_base.specs.Base.{bytes_of};
+ghost use Rattle.rc_base.specs.Opening.{IsWrongBase};
 ghost use Rattle.rc_asked.specs.ReplayAsked.{AsksReplay};
-ghost use Rattle.rc_queries.specs.Replay.{IsReplayFor, IsReplayRefused, IsScriptAs, IsTextAs, TellsReplayFault, replay_fault_text};
+ghost use Rattle.rc_queries.specs.Replay.{IsReplayFor, IsScriptAs, IsTextAs, TellsReplayFault, replay_fault_text};
 ghost use Rattle.rc_command.specs.Words.{rows_for};
 ghost use Rattle.rc_queries.specs.declared.replay.ReplayFault.TheVariants.{Memory};
 
 use rc_asked::{replay_asked, tell_words};
-use rc_base::{database_of, text_word};
+use rc_base::{OpenFault, Opened, open, text_word};
 use rc_db::NoMem;
 use rc_dbtext::TextFault;
 use rc_replay::{ScriptFault, replay_text};
 use rc_streams::ending::{REFUSED, fail, write_answer};
-use rc_streams::{Failure, MAX_INPUT, read_all, tell};
+use rc_streams::{Failure, MAX_INPUT, tell};
 use std::alloc::{AllocError, Global};
 use std::io::{Read, Write};
 
@@ -60,8 +61,8 @@ impl From<ScriptFault> for ReplayFault {
 
 /// Runs `undorc replay` on its words, and answers the status.
 ///
-/// The database is `base`, where there is one, and else the front of the input. Behind it the input has
-/// the script. What it comes to is written to `writer`, and why there is nothing to write to `faults`.
+/// The database is `base`, where there is one, which is looked at before anything is read, and else the front of
+/// the input. Behind it the input has the script. What it comes to is written to `writer`, and why there is nothing to write to `faults`.
 pub fn replay_run<R: Read, W: Write, F: Write>(
     alloc: Global,
     words: &[String],
@@ -92,9 +93,14 @@ pub fn replay_run<R: Read, W: Write, F: Write>(
         (IsReplayFor (bytes_of base.entry) input) (W.contents writer.old) (W.contents writer.new)) }
     ensures unwritten { (result ≡ 1) ⊎ (result ≡ 100) → W.contents writer.new ≡ W.contents writer.old }
 
-    // An input that was answered was read to its end, and whatever the status, one byte past the bound is the last that is taken.
-    ensures within { (result ≡ 0) ⊎ (result ≡ 1) → IfSome (R.remaining reader.old) (λ input. length input ≤ MAX_INPUT) }
-    ensures end { (result ≡ 0) ⊎ (result ≡ 1) → IsAtEnd (R.remaining reader.new) }
+    // A base comes first: where it is wrong the reader is as it was, nothing is written, and why is told whatever the reader has.
+    ensures first { IsWrongBase (bytes_of base.entry) → reader.new ≡ reader.old }
+    ensures based { result ≡ 0 → IsWrongBase (bytes_of base.entry) → ⊥ }
+    ensures untrue { result ≡ 1 → IsWrongBase (bytes_of base.entry) → TellsReplayFault (bytes_of base.entry) [] (F.contents faults.old) (F.contents faults.new) }
+
+    // Any other input that was answered was read to its end, and whatever the status, one byte past the bound is the last that is taken.
+    ensures within { (result ≡ 0) ⊎ (result ≡ 1) → IsWrongBase (bytes_of base.entry) ⊎ IfSome (R.remaining reader.old) (λ input. length input ≤ MAX_INPUT) }
+    ensures end { (result ≡ 0) ⊎ (result ≡ 1) → IsWrongBase (bytes_of base.entry) ⊎ IsAtEnd (R.remaining reader.new) }
     ensures taken { ConsumesAtMost (R.remaining reader.old) (R.remaining reader.new) (MAX_INPUT + 1) }
 {
     match replay_asked(alloc, words) {
@@ -128,29 +134,24 @@ pub fn replay_as_asked<R: Read, W: Write, F: Write>(
         (IsReplayFor (bytes_of base.entry) input) (W.contents writer.old) (W.contents writer.new)) }
     ensures unwritten { result ≡ 1 → W.contents writer.new ≡ W.contents writer.old }
 
-    // An input that was answered was read to its end, and whatever the status, one byte past the bound is the last that is taken.
-    ensures within { (result ≡ 0) ⊎ (result ≡ 1) → IfSome (R.remaining reader.old) (λ input. length input ≤ MAX_INPUT) }
-    ensures end { (result ≡ 0) ⊎ (result ≡ 1) → IsAtEnd (R.remaining reader.new) }
+    // A base comes first: where it is wrong the reader is as it was, nothing is written, and why is told whatever the reader has.
+    ensures first { IsWrongBase (bytes_of base.entry) → reader.new ≡ reader.old }
+    ensures based { result ≡ 0 → IsWrongBase (bytes_of base.entry) → ⊥ }
+    ensures untrue { result ≡ 1 → IsWrongBase (bytes_of base.entry) → TellsReplayFault (bytes_of base.entry) [] (F.contents faults.old) (F.contents faults.new) }
+
+    // Any other input that was answered was read to its end, and whatever the status, one byte past the bound is the last that is taken.
+    ensures within { (result ≡ 0) ⊎ (result ≡ 1) → IsWrongBase (bytes_of base.entry) ⊎ IfSome (R.remaining reader.old) (λ input. length input ≤ MAX_INPUT) }
+    ensures end { (result ≡ 0) ⊎ (result ≡ 1) → IsWrongBase (bytes_of base.entry) ⊎ IsAtEnd (R.remaining reader.new) }
     ensures taken { ConsumesAtMost (R.remaining reader.old) (R.remaining reader.new) (MAX_INPUT + 1) }
 {
-    let input = match read_all(alloc, reader) {
-        Ok(input) => input,
-        Err(failure) => return fail(faults, failure),
-    };
-    match replay_of(alloc, base, &input) {
-        Ok(text) => write_answer(writer, faults, &text),
-        Err(fault) => tell_replay_fault(alloc, faults, fault),
+    match open(alloc, base, reader) {
+        Ok(Opened { db, input, start }) => match replay_text(alloc, db, &input[start..]) {
+            Ok(text) => write_answer(writer, faults, &text),
+            Err(fault) => tell_replay_fault(alloc, faults, ReplayFault::from(fault)),
+        },
+        Err(OpenFault::OfText(wrong)) => tell_replay_fault(alloc, faults, ReplayFault::from(wrong)),
+        Err(OpenFault::Failed(failure)) => fail(faults, failure),
     }
-}
-
-/// What the script behind the database comes to.
-fn replay_of(alloc: Global, base: Option<&[u8]>, input: &[u8]) -> Result<Vec<u8>, ReplayFault>
-    ensures text { IfOk result (λ text. IsReplayFor (bytes_of base.entry) input.now text.items) }
-    ensures fault { IfErr result (λ fault. IsReplayRefused fault (bytes_of base.entry) input.now) }
-{
-    let (db, script) = database_of(alloc, base, input)?;
-    let text = replay_text(alloc, db, script)?;
-    Ok(text)
 }
 
 /// Tells why there is nothing to print, and answers the status.

@@ -1,0 +1,53 @@
+-- What is so of a database with its input, and where there is none.
+use Rattle.std.proofs.Common.{◌≡◌, ◌≢◌, ℕ, List, [], Option, None, Some, IfSome, ◌-◌, drop, length, take, sym, subst}
+use Rattle.std.proofs.lemmas.List.{take_rest}
+use Rattle.rc_db.specs.Database.{Database}
+use Rattle.rc_dbtext.specs.declared.fault.TextFault.{TextFault}
+use Rattle.rc_dbtext.specs.declared.fault.TextFault.TheVariants as text
+use Rattle.rc_script.specs.Script.{IsScriptFault}
+use Rattle.rc_script.specs.declared.script.ScriptFault.{ScriptFault}
+use Rattle.rc_script.specs.declared.script.ScriptFault.TheVariants as script
+use Rattle.rc_base.specs.Base.{IsTextFault, Spells}
+use Rattle.rc_base.specs.Opening.{IsOpenFault, IsWrongBase, Opens}
+use Rattle.rc_base.specs.declared.opening.OpenFault.{OpenFault}
+use Rattle.rc_base.specs.declared.opening.OpenFault.TheVariants as unopened
+use Rattle.rc_base.proofs.OpeningLemmas.{refused_in}
+use Rattle.rc_queries.specs.Replay.{IsReplayRefused, IsScriptAs, IsTextAs}
+use Rattle.rc_queries.specs.declared.replay.ReplayFault.{ReplayFault}
+use Rattle.rc_queries.specs.declared.replay.ReplayFault.TheVariants.{OfText, BadLine, Memory}
+
+-- the database is spelled in the input that a reader has, if that is known
+pub spelled_in : (base remaining after : Option (List ℕ)) (d : Database) (held bytes : List ℕ) (start : ℕ) → bytes ≡ held → Opens base remaining after d held start
+    → IfSome remaining (λ all. Spells base all d (take (length bytes - start) (drop start bytes)))
+spelled_in base None after d held bytes start same opens = tt
+spelled_in base (Some all) after d held bytes start same opens =
+    subst (λ (x : List ℕ). Spells base x d (take (length bytes - start) (drop start bytes))) opens.reads.0
+    (subst (λ (x : List ℕ). Spells base held d x) (sym (take_rest bytes start))
+    (subst (λ (x : List ℕ). Spells base held d (drop start x)) (sym same) opens.spelled))
+
+-- what refuses the text refuses it in the input that a reader has, if that is known
+pub refused_text : (base remaining after : Option (List ℕ)) (fault : OpenFault) (wrong : TextFault) → fault ≡ unopened.OfText wrong → IsOpenFault base remaining after fault
+    → IfSome remaining (λ all. IsTextFault base all wrong)
+refused_text base remaining after fault wrong is h =
+    let (input, reads, refused, other) = subst (IsOpenFault base remaining after) is h in
+    refused_in base remaining after wrong input reads refused
+
+-- the base of a database is not wrong
+pub base_right : (base remaining after : Option (List ℕ)) (d : Database) (held : List ℕ) (start : ℕ) → Opens base remaining after d held start → IsWrongBase base → ⊥
+base_right None remaining after d held start opens wrong = wrong
+base_right (Some bytes) remaining after d held start opens wrong = wrong d opens.spelled.0 opens.spelled.1 opens.spelled.2
+
+-- a refused text refuses the replay
+pub text_refused : (wrong : TextFault) (fault : ReplayFault) (base : Option (List ℕ)) (all : List ℕ) → IsTextAs wrong fault → fault ≢ Memory → IsTextFault base all wrong → IsReplayRefused fault base all
+text_refused text.Memory fault base all is other wrong = absurd (other is)
+text_refused (text.Bad offset) fault base all is other wrong = subst (λ (f : ReplayFault). IsReplayRefused f base all) (sym is) (λ e. (let no : ⊥ = cc in no), wrong)
+text_refused text.Version fault base all is other wrong = subst (λ (f : ReplayFault). IsReplayRefused f base all) (sym is) (λ e. (let no : ⊥ = cc in no), wrong)
+text_refused text.NotSorted fault base all is other wrong = subst (λ (f : ReplayFault). IsReplayRefused f base all) (sym is) (λ e. (let no : ⊥ = cc in no), wrong)
+text_refused text.Cyclic fault base all is other wrong = subst (λ (f : ReplayFault). IsReplayRefused f base all) (sym is) (λ e. (let no : ⊥ = cc in no), wrong)
+text_refused text.TooMany fault base all is other wrong = subst (λ (f : ReplayFault). IsReplayRefused f base all) (sym is) (λ e. (let no : ⊥ = cc in no), wrong)
+text_refused text.Dangling fault base all is other wrong = subst (λ (f : ReplayFault). IsReplayRefused f base all) (sym is) (λ e. (let no : ⊥ = cc in no), wrong)
+
+-- a wrong line of a script refuses the replay
+pub script_refused : (wrong : ScriptFault) (fault : ReplayFault) (base : Option (List ℕ)) (all rest : List ℕ) (d : Database) → IsScriptAs wrong fault → Spells base all d rest → IsScriptFault d.names rest wrong → IsReplayRefused fault base all
+script_refused (script.BadLine number) fault base all rest d is spelled wrong = subst (λ (f : ReplayFault). IsReplayRefused f base all) (sym is) (d, rest, spelled, wrong)
+script_refused script.Memory fault base all rest d is spelled wrong = subst (λ (f : ReplayFault). IsReplayRefused f base all) (sym is) tt
