@@ -13,7 +13,7 @@ use crate::unknown::unknown_in;
 use rc_names::Name;
 use rc_set::NoMem;
 use rc_source::Definition;
-use std::alloc::{AllocError, Global};
+use std::alloc::Global;
 
 // A flaw that is told of the least entry that has it.
 #[derive(Clone, Copy, PartialEq, Eq, Debug)]
@@ -108,7 +108,7 @@ fn has_unknown(alloc: Global, book: &Book, definition: &Definition) -> Result<bo
     Ok(!unknown.is_empty())
 }
 
-// The least name in an entry that stands for nothing.
+// The least name that stands for nothing in an entry that has one.
 pub(crate) fn least_unknown(
     alloc: Global,
     definitions: &[Definition],
@@ -117,6 +117,7 @@ pub(crate) fn least_unknown(
 ) -> Result<Name, NoMem>
     requires book { IsBook (map meaning_of definitions.now) book.now }
     requires meanings { AreMeanings (map meaning_of definitions.now) }
+    requires told { HasTold (map meaning_of definitions.now) Told.Unknown entry.now }
     ensures { IfOk result (IsLeast (HasUnknown (map meaning_of definitions.now) entry.now)) }
 {
     for definition in definitions {
@@ -127,5 +128,5 @@ pub(crate) fn least_unknown(
             }
         }
     }
-    Err(AllocError)
+    unreachable!()
 }

@@ -1,12 +1,23 @@
-use Rattle.std.proofs.Common.{◌≡◌, ◌∙◌, ◌↔◌, ℕ, List, Option, map, Contains, IfSome, sym, subst, arith}
+use Rattle.std.proofs.Common.{◌≡◌, ◌∙◌, ◌<◌, ◌↔◌, ⊎_elim, ℕ, List, [], Option, None, map, length, Contains, IfNone, IfSome, sym, subst, true, true≢false, arith}
+use Rattle.std.proofs.lemmas.List.{length-map}
 use Rattle.std.proofs.lemmas.Slice.Eq.{bytes_eq-Decides}
 use Rattle.rc_db.proofs.Places.{contains_at}
 use Rattle.rc_db.proofs.Words.{mapped_at}
+use Rattle.rc_source.specs.Meaning.{Meaning}
 use Rattle.rc_source.specs.Said.{meaning_of}
+use Rattle.rc_source.proofs.Members.{Contains-nil}
 use Rattle.rc_holds.specs.Along.{IsLeast}
 use Rattle.rc_compile.specs.CompileFaults.{HasUnknown}
-use Rattle.rc_compile.proofs.Shown.{same_least, unknown_same}
+use Rattle.rc_compile.specs.Told.{Shows}
+use Rattle.rc_compile.specs.declared.scan.Told.TheVariants.{Unknown}
+use Rattle.rc_compile.proofs.Givens.{all_below, below_next}
+use Rattle.rc_compile.proofs.Shown.{flawed_same, same_least, unknown_same}
 use Rattle.rc_compile.proofs.scan.least_unknown.Goals as goal
+use Rattle.rc_compile.proofs.scan.least_unknown.Goals.{then-eq+in_ok-unknown+in_ok-name+in_default, else-eq}
+
+-- what is said where there is none
+without : {X A : Type 0} (o : Option X) → o ≡ None → IfNone o A → A
+without {X} {A} o is none = subst (λ (x : Option X). IfNone x A) is none
 
 pub returns-in-Some : goal.returns-in-Some
 returns-in-Some c =
@@ -25,3 +36,33 @@ returns-in-Some c =
     let listed : (n : List ℕ) → Contains found n ↔ HasUnknown ms m.name n = subst (λ (l : List (List ℕ)). (n : List ℕ) → Contains l n ↔ HasUnknown ms m.name n) (sym c.deref.ensures.value) unknown in
     let At : List ℕ → Type 0 = λ s. IsLeast (HasUnknown ms s) c.in-Some.name in
     subst At named (same_least (Contains found) (HasUnknown ms m.name) listed c.in-Some.name least)
+
+pub loop-definition-preserved : goal.loop-definition-preserved
+loop-definition-preserved c below =
+    let ms = map meaning_of c.args.definitions.now in
+    let m = meaning_of c.definition-item.result in
+    let i = c.loop-definition.definition-index in
+    let Flawed : Meaning → Type 0 = λ (x : Meaning). (x.name ≡ c.args.entry.now) × Shows c.args.book.now Unknown x in
+    let here = mapped_at meaning_of c.args.definitions.now i c.definition-item.result (omega arith) c.definition-item.is in
+    ⊎_elim c.loop-definition.invariant
+    (λ (named, shows). elim c.if-eq.branch [
+      | then-eq+in_ok-unknown+in_ok-name+in_default w ↦
+          let (name, mentions, not) = shows in
+          let empty : w.deref.result.now ≡ [] = without w.in_ok-name.field-0 w.in_default.is w.in_ok-name.ensures.none in
+          let gone : w.in_ok-unknown.unknown.items ≡ [] = sym w.deref.ensures.value ∙ empty in
+          Contains-nil name (subst (λ (l : List (List ℕ)). Contains l name) gone ((w.in_ok-unknown.ensures name).1 (mentions, not)))
+      | else-eq w ↦
+          let same : c.text.result.now ≡ c.text-in-loop-definition.result.now = c.text.ensures.bytes ∙ named ∙ sym c.text-in-loop-definition.ensures.bytes in
+          let yes : c.eq.result ≡ true = c.eq.ensures ∙ (bytes_eq-Decides c.text.result.now c.text-in-loop-definition.result.now).1 same in
+          true≢false (sym yes ∙ w.if-eq.false)
+    ])
+    (below_next Flawed ms i m here below)
+
+pub unreachable-requires : goal.unreachable-requires
+unreachable-requires c =
+    let ms = map meaning_of c.args.definitions.now in
+    let Flawed : Meaning → Type 0 = λ (x : Meaning). (x.name ≡ c.args.entry.now) × Shows c.args.book.now Unknown x in
+    let (m, there, both) = (flawed_same ms c.args.book.now c.requires.meanings c.requires.book Unknown c.args.entry.now).1 c.requires.told in
+    let (k, x, low, at, holds) = all_below Flawed ms m there both in
+    let least : k < length ms = low in
+    c.loop-definition.invariant (k, x, omega (arith, length-map c.args.definitions.now meaning_of), at, holds)
