@@ -38,31 +38,44 @@ echo 0 > status
 wants 'web\n' ''
 judge 'undorc db contents site -b base, without an input' 0
 
-# leaves STATUS FAULT WORDS..: a session that is refused before its lines, with the database in a file, leaves the input as
-# it is: the shell reads it behind.
+# leaves STATUS FAULT WORDS..: a command that is refused before its own input, with the database in a file, leaves the input
+# as it is: the shell reads it behind. It ends at once where the input is open and nothing comes of it.
 printf 'undorc-db 1\nservices' > short
 printf '%b' "$(with 'needs net' 'needs nat')" > dangling
 printf '%b' "$sample# note\n" > longer
+mkfifo still
 leaves() {
     wants 'live\nleft' "undorc: $2\n"
     wanted=$1
     shift 2
     echo 0 > status
-    printf 'live\nleft' | { "$program" session "$@" 2> err || echo $? > status; cat; } > out
-    judge "undorc session $*, and the input behind it" "$wanted"
+    printf 'live\nleft' | { "$program" "$@" 2> err || echo $? > status; cat; } > out
+    judge "undorc $*, and the input behind it" "$wanted"
+    : > out.wanted
+    echo 0 > status
+    timeout 20 "$program" "$@" <> still > out 2> err || echo $? > status
+    judge "undorc $*, on an open input of which nothing comes" "$wanted"
 }
-leaves 1 'Unknown nosuch' -b base -x up:nosuch
-leaves 1 'Unknown nosuch' -x up:net,down:nosuch -b base
-leaves 1 'Bad 12' -b short -x none
-leaves 1 'Bad 12' -b short -x up:nosuch
-leaves 1 Dangling -b dangling -x none
-leaves 1 Dangling -b dangling -x up:nosuch
-leaves 1 'Bad 330' -b longer -x up:nosuch
-leaves 1 'Bad 0' -b /dev/null -x none
-leaves 111 Io -b nowhere -x none
-leaves 111 Io -b nowhere -x up:nosuch
-leaves 111 Io -b . -x none
-leaves 111 Io -b '' -x none
+leaves 1 'Unknown nosuch' session -b base -x up:nosuch
+leaves 1 'Unknown nosuch' session -x up:net,down:nosuch -b base
+leaves 1 'Bad 12' session -b short -x up:nosuch
+leaves 1 Dangling session -b dangling -x up:nosuch
+leaves 1 'Bad 330' session -b longer -x up:nosuch
+leaves 111 Io session -b nowhere -x up:nosuch
+leaves 111 Io session -b nowhere
+leaves 1 Dangling session -b dangling -v -c true
+for words in 'session -x none' 'plan' 'plan -u web' 'plan -Dp nosuch' 'replay' 'db check' 'db type nosuch'; do
+    # shellcheck disable=SC2086
+    {
+        leaves 1 'Bad 12' $words -b short
+        leaves 1 Dangling $words -b dangling
+        leaves 1 'Bad 330' $words -b longer
+        leaves 1 'Bad 0' $words -b /dev/null
+        leaves 111 Io $words -b nowhere
+        leaves 111 Io $words -b .
+        leaves 111 Io $words -b ''
+    }
+done
 
 # many NUMBER BYTE
 many() {

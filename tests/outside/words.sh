@@ -83,9 +83,6 @@ wrong replay -b base -b base
 wrong replay --events
 
 # Sessions.
-wrong session
-wrong session -b base
-wrong session -w 4
 wrong session -x
 for list in '' up down up: down: :net net up,net UP:net Up:net up=net up-net none: None ' none' 'none ' ' up:net' \
     ',' 'none,' ',none' none,none none,up:net up:net,none 'up:net,' ',up:net' up:net,,up:db up:net,up up:net,up: up:net,db; do
@@ -103,12 +100,13 @@ wrong session -x none -b base -b base
 wrong session -x none live
 wrong session live -x none
 wrong session -x none -- live
-wrong session -x none -r /bin/sh
-wrong session -r /bin/sh
-wrong session -x none -c control
-wrong session -c control
-wrong session -x none -v
-wrong session -v
+wrong session -r
+wrong session -c
+wrong session -r true -r true
+wrong session -c true -c true
+wrong session -v -v
+wrong session -v none
+wrong session -x up -r true -c true -v
 wrong session -x none -l live
 wrong session -l live
 wrong session -x none -u
@@ -118,7 +116,6 @@ wrong session --failing none
 wrong session -x none --workers 4
 wrong session -b nowhere -x up
 wrong session -b nowhere -x none -w 0
-wrong session -b nowhere
 wrong -x none session
 wrong Session -x none
 wrong session -h
@@ -128,6 +125,9 @@ wrong session --help
 says '^Usage: undorc session '
 says '^  -b <FILE>  '
 says '^  -w <N>  '
+says '^  -r <TEXT>  '
+says '^  -c <TEXT>  '
+says '^  -v  '
 says '^  -x <LIST>  '
 wrong session -x "$strange"
 says '^undorc: a word of the command line is not UTF-8$'

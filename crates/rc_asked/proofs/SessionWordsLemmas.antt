@@ -4,23 +4,38 @@ use Rattle.clap.specs.Matches.{first_value, found_of}
 use Rattle.clap.specs.Words.{Text, first_of, rows_of}
 use Rattle.clap.specs.declared.ArgMatches.{ArgMatches}
 use Rattle.clap.proofs.WalkLemmas.{first_value-rows}
-use Rattle.rc_asked.specs.Listed.{Listed}
-use Rattle.rc_asked.specs.SessionAsked.{AsksNoSession, IsCrewIn, IsListIn}
+use Rattle.rc_asked.specs.Listed.{Listed, SpellsList}
+use Rattle.rc_asked.specs.Programs.{ByPrograms, ByTable, MakesBy, MakesIn, MakingAsk}
+use Rattle.rc_asked.specs.SessionAsked.{AsksNoSession, IsCrewIn}
 use Rattle.rc_command.specs.Words.{rows_for}
 
 -- words without matches of `session` ask for none
 pub asked_none : (words : List Text) → rows_for (codes "session") words ≡ None → AsksNoSession words
 asked_none words none ask asks = let both : Some asks.0 ≡ None = sym asks.1 ∙ none in cc
 
--- the number and the list of the matches, by the texts that are found in them
+-- the number of the matches, by the text that is found in them
 pub crew_found : (m : ArgMatches) (given : Option Text) (workers : ℕ) → given ≡ first_value (found_of m) (codes "workers") → IsCrewIn given workers → IsCrewIn (first_of (codes "workers") (rows_of (found_of m))) workers
 crew_found m given workers is = subst (λ (o : Option Text). IsCrewIn o workers) (is ∙ first_value-rows (found_of m) (codes "workers"))
 
 pub crew_back : (m : ArgMatches) (given : Option Text) (workers : ℕ) → given ≡ first_value (found_of m) (codes "workers") → IsCrewIn (first_of (codes "workers") (rows_of (found_of m))) workers → IsCrewIn given workers
 crew_back m given workers is = subst (λ (o : Option Text). IsCrewIn o workers) (sym (is ∙ first_value-rows (found_of m) (codes "workers")))
 
-pub list_found : (m : ArgMatches) (given : Option Text) (failing : List Listed) → given ≡ first_value (found_of m) (codes "failing") → IsListIn given failing → IsListIn (first_of (codes "failing") (rows_of (found_of m))) failing
-list_found m given failing is = subst (λ (o : Option Text). IsListIn o failing) (is ∙ first_value-rows (found_of m) (codes "failing"))
+-- how the transitions are made, by the texts that are found in the matches
+pub made_right : (m : ArgMatches) (list runner controller : Option Text) (making : MakingAsk) → list ≡ first_value (found_of m) (codes "failing") → runner ≡ first_value (found_of m) (codes "runner")
+    → controller ≡ first_value (found_of m) (codes "controller") → MakesBy list runner controller making → MakesIn (rows_of (found_of m)) making
+made_right m list runner controller making first second third makes =
+    subst (λ (o : Option Text). MakesBy (first_of (codes "failing") (rows_of (found_of m))) (first_of (codes "runner") (rows_of (found_of m))) o making) (third ∙ first_value-rows (found_of m) (codes "controller"))
+    (subst (λ (o : Option Text). MakesBy (first_of (codes "failing") (rows_of (found_of m))) o controller making) (second ∙ first_value-rows (found_of m) (codes "runner"))
+    (subst (λ (o : Option Text). MakesBy o runner controller making) (first ∙ first_value-rows (found_of m) (codes "failing")) makes))
 
-pub list_back : (m : ArgMatches) (given : Option Text) (failing : List Listed) → given ≡ first_value (found_of m) (codes "failing") → IsListIn (first_of (codes "failing") (rows_of (found_of m))) failing → IsListIn given failing
-list_back m given failing is = subst (λ (o : Option Text). IsListIn o failing) (sym (is ∙ first_value-rows (found_of m) (codes "failing")))
+pub made_back : (m : ArgMatches) (list runner controller : Option Text) (making : MakingAsk) → list ≡ first_value (found_of m) (codes "failing") → runner ≡ first_value (found_of m) (codes "runner")
+    → controller ≡ first_value (found_of m) (codes "controller") → MakesIn (rows_of (found_of m)) making → MakesBy list runner controller making
+made_back m list runner controller making first second third makes =
+    subst (λ (o : Option Text). MakesBy o runner controller making) (sym (first ∙ first_value-rows (found_of m) (codes "failing")))
+    (subst (λ (o : Option Text). MakesBy (first_of (codes "failing") (rows_of (found_of m))) o controller making) (sym (second ∙ first_value-rows (found_of m) (codes "runner")))
+    (subst (λ (o : Option Text). MakesBy (first_of (codes "failing") (rows_of (found_of m))) (first_of (codes "runner") (rows_of (found_of m))) o making) (sym (third ∙ first_value-rows (found_of m) (codes "controller"))) makes))
+
+-- with a list, what is asked is its table
+pub listed_none : (text : Text) (runner controller : Option Text) → ((all : List Listed) → SpellsList text all → ⊥) → (making : MakingAsk) → MakesBy (Some text) runner controller making → ⊥
+listed_none text runner controller none (ByTable failing) makes = none failing makes
+listed_none text runner controller none (ByPrograms first second) makes = makes

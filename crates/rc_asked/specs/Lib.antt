@@ -6,3 +6,5 @@ pub mod ReplayAsked
 pub mod Task
 pub mod Listed
 pub mod Reading
+pub mod Programs
+pub mod Making

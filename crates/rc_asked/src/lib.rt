@@ -3,6 +3,7 @@
 
 mod asked;
 mod db_words;
+mod program_words;
 mod query;
 mod replay_words;
 mod session_words;
@@ -12,6 +13,7 @@ mod transitions;
 
 pub use crate::asked::{WordsFault, plan_asked, tell_words};
 pub use crate::db_words::db_asked;
+pub use crate::program_words::{Making, Programs};
 pub use crate::query::{DbRequest, NameQuery, NamesQuery, Query};
 pub use crate::replay_words::replay_asked;
 pub use crate::session_words::{SessionRequest, session_asked};

@@ -5,9 +5,10 @@ ghost use Rattle.rc_asked.specs.SessionAsked.{AsksNoSession, AsksSession, AsksSe
 ghost use Rattle.rc_asked.specs.declared.asked.WordsFault.TheVariants.{Memory};
 
 use crate::asked::WordsFault;
+use crate::program_words::{Making, making_in};
 use crate::task::{Task, task_of};
-use crate::transitions::{ListFault, Transition, transitions_of};
 use clap::ArgMatches;
+use rc_command::is_on;
 use std::alloc::Global;
 
 /// The workers of a session, where no number is given.
@@ -21,8 +22,10 @@ const MAX_WORKERS: u8 = 64;
 pub struct SessionRequest<'a> {
     /// How many transitions are made at once.
     pub workers: u8,
-    /// Those that fail.
-    pub failing: Vec<Transition<'a>>,
+    /// How they are made.
+    pub making: Making<'a>,
+    /// Whether each outcome other than success is told.
+    pub tells: bool,
 }
 
 /// What the words ask of `session`. The first word is the program's own name.
@@ -54,13 +57,14 @@ pub(crate) fn session_in<'a>(
     let Some(workers) = workers_of(matches.get_str("workers")) else {
         return Err(WordsFault::Workers);
     };
-    let Some(list) = matches.get_str("failing") else {
-        return Err(WordsFault::List);
-    };
-    match transitions_of(alloc, list.as_bytes()) {
-        Ok(failing) => Ok(SessionRequest { workers, failing }),
-        Err(ListFault::Form) => Err(WordsFault::List),
-        Err(ListFault::Memory) => Err(WordsFault::Memory),
+    let tells = is_on(matches, "verbose");
+    match making_in(alloc, matches) {
+        Ok(making) => Ok(SessionRequest {
+            workers,
+            making,
+            tells,
+        }),
+        Err(fault) => Err(fault),
     }
 }
 

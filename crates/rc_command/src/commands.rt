@@ -3,7 +3,7 @@ ghost use Rattle.std.specs.Prelude.{◌≡◌};
 ghost use Rattle.clap.specs.Words.{App};
 ghost use Rattle.rc_command.specs.Commands.{IsOwn, Reads, rule_in, bare, bare_program, with_arg, with_command};
 ghost use Rattle.rc_command.specs.Commands.{compile_command, db_command, plan_command, program, replay_command, session_command};
-ghost use Rattle.rc_command.specs.Commands.{base_option, failing_option, flag, option, query_word, source_list, with_names, with_ways, word_list};
+ghost use Rattle.rc_command.specs.Commands.{base_option, flag, option, query_word, source_list, with_names, with_programs, with_ways, word_list};
 
 use clap::{Arg, ArgAction, Command};
 use std::alloc::{AllocError, Global};
@@ -148,7 +148,55 @@ fn session_command<'a>(alloc: Global) -> Result<Command<'a>, AllocError>
             "Make so many transitions at once, 1 to 64; 4 without it",
         ),
     );
-    with_arg(command, failing_argument(alloc))
+    let command = with_arg(
+        command,
+        option(
+            alloc,
+            "failing",
+            'x',
+            "LIST",
+            "Start nothing, and let these transitions fail: `none`, or `up:NAME` and `down:NAME` joined by commas",
+        ),
+    );
+    with_programs(alloc, command)
+}
+
+// The command with the options of the programs that are started.
+fn with_programs<'a>(
+    alloc: Global,
+    command: Result<Command<'a>, AllocError>,
+) -> Result<Command<'a>, AllocError>
+    ensures { (app : App) → Reads command.entry app → Reads result (with_programs app) }
+{
+    let command = with_arg(
+        command,
+        option(
+            alloc,
+            "runner",
+            'r',
+            "TEXT",
+            "Start this program, with these words, for a oneshot, whose text is its last word; `/bin/sh -c` without it",
+        ),
+    );
+    let command = with_arg(
+        command,
+        option(
+            alloc,
+            "controller",
+            'c',
+            "TEXT",
+            "Start this program, with these words, for a longrun; `up` or `down` and the name are its last words",
+        ),
+    );
+    with_arg(
+        command,
+        flag(
+            alloc,
+            "verbose",
+            'v',
+            "Tell each outcome other than success on standard error",
+        ),
+    )
 }
 
 // The command with the flags of the three ways.
@@ -256,21 +304,6 @@ fn words_argument<'a>(alloc: Global, name: &'a str, help: &'a str) -> Arg<'a>
         .action(ArgAction::Append)
         .num_args(0..)
         .help(help)
-}
-
-#[tactic(auto, unfolding(crate::specs::Commands::rule_in, crate::specs::Commands::IsOwn, crate::specs::Commands::failing_option))]
-fn failing_argument<'a>(alloc: Global) -> Arg<'a>
-    ensures rule { rule_in result ≡ failing_option }
-    ensures local { IsOwn result }
-{
-    Arg::new(alloc, "failing")
-        .short('x')
-        .value_name("LIST")
-        .action(ArgAction::Set)
-        .required(true)
-        .help(
-            "The transitions that fail, none of which is started: `none`, or `up:NAME` and `down:NAME` joined by commas",
-        )
 }
 
 #[tactic(auto, unfolding(crate::specs::Commands::rule_in, crate::specs::Commands::IsOwn, crate::specs::Commands::query_word))]

@@ -220,7 +220,7 @@ fn text_towards(service: &Service, way: Way) -> &Option<String>
 }
 
 /// The word that tells a controller which way a service is to go.
-fn word_towards(way: Way) -> &'static str
+pub(crate) fn word_towards(way: Way) -> &'static str
     ensures { result.now ≡ word_of way }
 {
     match way {

@@ -8,8 +8,9 @@ use Rattle.rc_core.specs.declared.event.Outcome.TheVariants as outcome
 use Rattle.rc_db.specs.Database.{Database}
 use Rattle.rc_line.proofs.Members.{none_contained}
 use Rattle.rc_session.specs.Holding.{Holding}
-use Rattle.rc_runner.specs.Failing.{fails_in, outcome_in}
+use Rattle.rc_runner.specs.Failing.{Table, fails_in, outcome_in}
 use Rattle.rc_runner.specs.Moments.{IsMomentOf}
+use Rattle.rc_runner.specs.Shell.{MayAnswer, Scripts, scripts_of}
 use Rattle.rc_sessions.specs.Finding.{AreFound, IsFirstUnknown, IsGateFault}
 use Rattle.rc_asked.specs.Listed.{Listed}
 use Rattle.rc_sessions.specs.declared.failing.GateFault.{GateFault}
@@ -17,9 +18,13 @@ use Rattle.rc_sessions.specs.declared.failing.GateFault.TheVariants as gate
 use Rattle.rc_serve.specs.declared.fault.ServeFault.{ServeFault}
 use Rattle.rc_serve.specs.declared.fault.ServeFault.TheVariants.{Read, Write, TooLong, Memory, NoThread, Strange, Workers}
 use Rattle.rc_streams.specs.Input.{AppendsFront, fault_line}
-use Rattle.rc_serve.specs.SessionText.{FailsExactly, IsTimeless}
+use Rattle.rc_serve.specs.Meeting.{Doing, IsDoneBy}
+use Rattle.rc_serve.specs.SessionText.{FailsExactly, IsDoneFailing, IsTimeless}
 use Rattle.rc_base.specs.Base.{Spells}
-use Rattle.rc_sessions.specs.Session.{Reads, Runs, RunsAsked, RunsGated, RunsOn, Serves, ServesUpTo, Serving, first_session}
+use Rattle.rc_sessions.specs.Serving.{RunsFor, RunsGated, RunsOn, Serves, ServesUpTo, Serving, first_session}
+use Rattle.rc_base.specs.Opening.{Reads}
+use Rattle.rc_sessions.specs.Session.{Runs, RunsAsked}
+use Rattle.rc_asked.specs.Programs.{ByPrograms, ByTable}
 use Rattle.rc_asked.specs.SessionAsked.{AsksSession, SessionAsk}
 use Rattle.rc_sessions.specs.SessionFaults.{EndsBy, EndsGated, EndsOn, IsGateFailing, IsRefusal, IsServingFault, IsSessionRefused, IsToldAs, IsUnserved, serve_word}
 use Rattle.rc_sessions.specs.declared.session_fault.SessionFault.{SessionFault}
@@ -36,22 +41,21 @@ fault_wider Strange reader writer more others f g h = h
 fault_wider Workers reader writer more others f g h = h
 
 -- the first name that is no service's ends the session on a database
-pub gate_ends : (fault : GateFault) (told : SessionFault) (d : Database) (ask : SessionAsk) (names : List (List ℕ)) (listed : List Listed) (input written : Option (List ℕ)) (reader writer : Type 0)
-    → IsGateFailing fault told → names ≡ d.names → listed ≡ ask.failing → IsGateFault names listed fault → EndsOn told d ask input input written written reader writer
-gate_ends (gate.Unknown word) told d ask names listed input written reader writer is same all wrong =
-    let first : IsFirstUnknown d.names ask.failing word.now =
-    subst (λ (ns : List (List ℕ)). IsFirstUnknown ns ask.failing word.now) same (subst (λ (ls : List Listed). IsFirstUnknown names ls word.now) all wrong) in
-    subst (λ (f : SessionFault). EndsOn f d ask input input written written reader writer) (sym is) (first, refl, refl)
-gate_ends gate.Memory told d ask names listed input written reader writer is same all wrong = subst (λ (f : SessionFault). EndsOn f d ask input input written written reader writer) (sym is) (tt, inl (refl, refl))
+pub gate_ends : (fault : GateFault) (told : SessionFault) (d : Database) (workers : ℕ) (names : List (List ℕ)) (listed : List Listed) (input written : Option (List ℕ)) (reader writer : Type 0)
+    → IsGateFailing fault told → names ≡ d.names → IsGateFault names listed fault → EndsOn told d workers (ByTable listed) input input written written reader writer
+gate_ends (gate.Unknown word) told d workers names listed input written reader writer is same wrong =
+    let first : IsFirstUnknown d.names listed word.now = subst (λ (ns : List (List ℕ)). IsFirstUnknown ns listed word.now) same wrong in
+    subst (λ (f : SessionFault). EndsOn f d workers (ByTable listed) input input written written reader writer) (sym is) (first, refl, refl)
+gate_ends gate.Memory told d workers names listed input written reader writer is same wrong = subst (λ (f : SessionFault). EndsOn f d workers (ByTable listed) input input written written reader writer) (sym is) (tt, inl (refl, refl))
 
 -- a session on the database at the front of the input, over what is behind it, is one of the input
 pub runs_on_input : (Served : Serving) (all rest : List ℕ) (d : Database) (ask : SessionAsk) (remaining after left written gained : Option (List ℕ))
-    → Reads None remaining after all → Spells None all d rest → RunsOn Served d ask (Some rest) left written gained → Runs Served None ask remaining after written gained
+    → Reads None remaining after all → Spells None all d rest → RunsFor Served d ask.workers ask.making (Some rest) left written gained → Runs Served None ask remaining after written gained
 runs_on_input Served all rest d ask remaining after left written gained reads spelled run =
     record { database = d; input = Some rest; left = left; opened = (all, rest, reads, spelled, refl); run = run }
 
 pub ends_on_input : (fault : SessionFault) (all rest : List ℕ) (d : Database) (ask : SessionAsk) (remaining after left written gained : Option (List ℕ)) (reader writer : Type 0)
-    → Reads None remaining after all → Spells None all d rest → EndsOn fault d ask (Some rest) left written gained reader writer → EndsBy fault None ask remaining after written gained (Unit {0}) writer
+    → Reads None remaining after all → Spells None all d rest → EndsOn fault d ask.workers ask.making (Some rest) left written gained reader writer → EndsBy fault None ask remaining after written gained (Unit {0}) writer
 ends_on_input (OfText fault) all rest d ask remaining after left written gained reader writer reads spelled end = absurd end
 ends_on_input (Unknown word) all rest d ask remaining after left written gained reader writer reads spelled end = ((all, reads, (d, rest, spelled, end.0)), end.2)
 ends_on_input (Failed fault) all rest d ask remaining after left written gained reader writer reads spelled end = (
@@ -104,31 +108,46 @@ front_served (Ok done) P Q p q = tt
 front_served (Err fault) P Q p q = (p, q)
 
 -- the session that was served is the one that the database begins with
-pub gated_all : {A : Type 0} (result : Result A ServeFault) (fails : ℕ → Way → Bool) (d : Database) (input left written gained : Option (List ℕ)) (old new : Holding) → old ≡ first_session d
-    → OnOk result (Serves fails input left written gained old new) → OnOk result (RunsGated Serves fails d input left written gained)
-gated_all (Ok done) fails d input left written gained old new begins served = record { new = new; served = subst (λ (h : Holding). Serves fails input left written gained h new) begins served }
-gated_all (Err fault) fails d input left written gained old new begins served = tt
+pub gated_all : {A : Type 0} (result : Result A ServeFault) (Done : Doing) (d : Database) (input left written gained : Option (List ℕ)) (old new : Holding) → old ≡ first_session d
+    → OnOk result (Serves Done input left written gained old new) → OnOk result (RunsGated Serves Done d input left written gained)
+gated_all (Ok done) Done d input left written gained old new begins served = record { new = new; served = subst (λ (h : Holding). Serves Done input left written gained h new) begins served }
+gated_all (Err fault) Done d input left written gained old new begins served = tt
 
-pub gated_front : {A : Type 0} (result : Result A ServeFault) (fails : ℕ → Way → Bool) (d : Database) (input left written gained : Option (List ℕ)) (old new : Holding) (reader writer : Type 0) → old ≡ first_session d
-    → IfErr result (IsServingFault reader writer) → IfErr result (λ fault. ServesUpTo fault fails input left written gained old new)
-    → IfErr result (λ fault. EndsGated fault fails d input left written gained reader writer)
-gated_front (Ok done) fails d input left written gained old new reader writer begins wrong served = tt
-gated_front (Err fault) fails d input left written gained old new reader writer begins wrong served =
-    (wrong, inr (record { new = new; served = subst (λ (h : Holding). ServesUpTo fault fails input left written gained h new) begins served }))
+pub gated_front : {A : Type 0} (result : Result A ServeFault) (Done : Doing) (d : Database) (input left written gained : Option (List ℕ)) (old new : Holding) (reader writer : Type 0) → old ≡ first_session d
+    → IfErr result (IsServingFault reader writer) → IfErr result (λ fault. ServesUpTo fault Done input left written gained old new)
+    → IfErr result (λ fault. EndsGated fault Done d input left written gained reader writer)
+gated_front (Ok done) Done d input left written gained old new reader writer begins wrong served = tt
+gated_front (Err fault) Done d input left written gained old new reader writer begins wrong served =
+    (wrong, inr (record { new = new; served = subst (λ (h : Holding). ServesUpTo fault Done input left written gained h new) begins served }))
 
--- the gate is the one of the names that are to fail
-pub found_asked : (d : Database) (ask : SessionAsk) (names : List (List ℕ)) (listed : List Listed) (table : List (ℕ × Way)) → names ≡ d.names → listed ≡ ask.failing → AreFound names listed table → AreFound d.names ask.failing table
-found_asked d ask names listed table same all found =
-    subst (λ (ns : List (List ℕ)). AreFound ns ask.failing table) same (subst (λ (ls : List Listed). AreFound names ls table) all found)
+-- the gate is the one of the names that are to fail, also where it is wrapped
+pub found_at : (d : Database) (names : List (List ℕ)) (listed : List Listed) (inner outer : Table) → names ≡ d.names → outer ≡ inner → AreFound names listed inner.failing → AreFound d.names listed outer.failing
+found_at d names listed inner outer same is found =
+    subst (λ (t : Table). AreFound d.names listed t.failing) (sym is) (subst (λ (ns : List (List ℕ)). AreFound ns listed inner.failing) same found)
 
-pub runs_found : (Served : Serving) (d : Database) (ask : SessionAsk) (table : List (ℕ × Way)) (input left written gained : Option (List ℕ)) → AreFound d.names ask.failing table
-    → RunsGated Served (fails_in table) d input left written gained → RunsOn Served d ask input left written gained
-runs_found Served d ask table input left written gained found run = record { table = table; new = run.new; found = found; served = run.served }
+-- and then its clock has no moments either
+pub clock_at : (inner outer : Table) (input : Option (List ℕ)) → outer ≡ inner → inner.moments ≡ [] → IsTimeless (IsMomentOf outer.moments) input
+clock_at inner outer input is none = clock_timeless outer.moments input (ap (λ (t : Table). t.moments) is ∙ none)
 
-pub ends_found : (fault : ServeFault) (d : Database) (ask : SessionAsk) (table : List (ℕ × Way)) (input left written gained : Option (List ℕ)) (reader writer : Type 0) → AreFound d.names ask.failing table
-    → EndsGated fault (fails_in table) d input left written gained reader writer → EndsOn (Failed fault) d ask input left written gained reader writer
-ends_found fault d ask table input left written gained reader writer found end =
-    (end.0, elim end.1 [ inl same ↦ inl same | inr run ↦ inr (runs_found (ServesUpTo fault) d ask table input left written gained found run) ])
+pub runs_found : (Served : Serving) (d : Database) (listed : List Listed) (table : List (ℕ × Way)) (input left written gained : Option (List ℕ)) → AreFound d.names listed table
+    → RunsGated Served (IsDoneFailing (fails_in table)) d input left written gained → RunsOn Served d listed input left written gained
+runs_found Served d listed table input left written gained found run = record { table = table; new = run.new; found = found; served = run.served }
+
+pub ends_found : (fault : ServeFault) (d : Database) (workers : ℕ) (listed : List Listed) (table : List (ℕ × Way)) (input left written gained : Option (List ℕ)) (reader writer : Type 0) → AreFound d.names listed table
+    → EndsGated fault (IsDoneFailing (fails_in table)) d input left written gained reader writer → EndsOn (Failed fault) d workers (ByTable listed) input left written gained reader writer
+ends_found fault d workers listed table input left written gained reader writer found end =
+    (end.0, elim end.1 [ inl same ↦ inl same | inr run ↦ inr (runs_found (ServesUpTo fault) d listed table input left written gained found run) ])
+
+-- the gate is the one of the programs
+pub runs_scripts : (Served : Serving) (d : Database) (workers : ℕ) (runner controller : List Text) (gate : Scripts) (input left written gained : Option (List ℕ)) → gate ≡ scripts_of d runner controller
+    → RunsGated Served (IsDoneBy workers (MayAnswer gate) (λ m. Unit {0})) d input left written gained → RunsFor Served d workers (ByPrograms runner controller) input left written gained
+runs_scripts Served d workers runner controller gate input left written gained is run =
+    subst (λ (g : Scripts). RunsGated Served (IsDoneBy workers (MayAnswer g) (λ m. Unit {0})) d input left written gained) is run
+
+pub ends_scripts : (fault : ServeFault) (d : Database) (workers : ℕ) (runner controller : List Text) (gate : Scripts) (input left written gained : Option (List ℕ)) (reader writer : Type 0) → gate ≡ scripts_of d runner controller
+    → EndsGated fault (IsDoneBy workers (MayAnswer gate) (λ m. Unit {0})) d input left written gained reader writer → EndsOn (Failed fault) d workers (ByPrograms runner controller) input left written gained reader writer
+ends_scripts fault d workers runner controller gate input left written gained reader writer is end =
+    (end.0, elim end.1 [ inl same ↦ inl same | inr run ↦ inr (runs_scripts (ServesUpTo fault) d workers runner controller gate input left written gained is run) ])
 
 -- a failed read is told as that
 pub told_read : {A : Type 0} (result : Result A SessionFault) (fault : SessionFault) (status : ℕ) (Refused : Type 0) (old new : Option (List ℕ)) → result ≡ Err (Failed Read) → result ≡ Err fault → (status ≡ 1) ⊎ (status ≡ 111) → (status ≡ 1 → IsRefusal fault × Refused)

@@ -1,7 +1,6 @@
 -- When `session` refuses or fails, and how it tells that.
-use Rattle.std.specs.Prelude.{◌≡◌, ◌≢◌, ◌⊎◌, ◌++◌, ℕ, Bool, List, Option, codes, ◌<◌, None, IfSome, length}
+use Rattle.std.specs.Prelude.{◌≡◌, ◌≢◌, ◌⊎◌, ◌++◌, ℕ, List, Option, codes, ◌<◌, None, IfSome, length}
 use Rattle.clap.specs.Words.{Text}
-use Rattle.rc_graph.specs.declared.Way.{Way}
 use Rattle.rc_db.specs.Database.{Database}
 use Rattle.rc_dbtext.specs.declared.fault.TextFault.{TextFault}
 use Rattle.rc_dbtext.specs.declared.fault.TextFault.TheVariants as text
@@ -15,8 +14,12 @@ use Rattle.rc_streams.specs.declared.input.Failure.{Failure}
 use Rattle.rc_streams.specs.declared.input.Failure.TheVariants as failures
 use Rattle.rc_streams.specs.Input.{AppendsFront, fault_line}
 use Rattle.rc_base.specs.Base.{IsTextFault, Spells}
+use Rattle.rc_base.specs.Opening.{Reads}
 use Rattle.rc_base.specs.TextFaultWord.{text_word}
-use Rattle.rc_sessions.specs.Session.{Reads, Runs, RunsAsked, RunsGated, RunsOn, ServesUpTo}
+use Rattle.rc_sessions.specs.Serving.{RunsFor, RunsGated, ServesUpTo}
+use Rattle.rc_sessions.specs.Session.{Runs, RunsAsked}
+use Rattle.rc_serve.specs.Meeting.{Doing}
+use Rattle.rc_asked.specs.Programs.{MakingAsk, listed_in}
 use Rattle.rc_asked.specs.SessionAsked.{AsksSession, SessionAsk}
 use Rattle.rc_sessions.specs.declared.session_fault.SessionFault.{SessionFault}
 use Rattle.rc_sessions.specs.declared.session_fault.SessionFault.TheVariants.{OfText, Unknown, Failed}
@@ -30,7 +33,7 @@ IsRefusal (Failed fault) = ⊥
 -- when each refusal comes: those of the database text, and then the first name that is to fail and is no service's
 abbrev pub IsSessionRefused : SessionFault → SessionAsk → Option (List ℕ) → List ℕ → Type 0
 IsSessionRefused (OfText fault) ask base input = (fault ≢ text.Memory) × IsTextFault base input fault
-IsSessionRefused (Unknown word) ask base input = (d : Database) × (rest : List ℕ) × Spells base input d rest × IsFirstUnknown d.names ask.failing word.now
+IsSessionRefused (Unknown word) ask base input = (d : Database) × (rest : List ℕ) × Spells base input d rest × IsFirstUnknown d.names (listed_in ask.making) word.now
 IsSessionRefused (Failed fault) ask base input = ⊥
 
 -- a failure to read the whole input, as a fault of serving
@@ -55,15 +58,16 @@ abbrev pub IsServingFault : (reader writer : Type 0) → ServeFault → Type 0
 IsServingFault reader writer = IsServeFault reader writer
 
 -- how a session on a database ends before its input: refused with nothing read and nothing written, or by a fault of serving with a front of its input served, or for want of memory with nothing written
-abbrev pub EndsOn : SessionFault → Database → SessionAsk → (input left written gained : Option (List ℕ)) → (reader writer : Type 0) → Type 0
-EndsOn (OfText fault) d ask input left written gained reader writer = ⊥
-EndsOn (Unknown word) d ask input left written gained reader writer = IsFirstUnknown d.names ask.failing word.now × (left ≡ input) × (gained ≡ written)
-EndsOn (Failed fault) d ask input left written gained reader writer = IsServingFault reader writer fault × (((fault ≡ Memory) × (gained ≡ written)) ⊎ RunsOn (ServesUpTo fault) d ask input left written gained)
+abbrev pub EndsOn : SessionFault → Database → (workers : ℕ) → MakingAsk → (input left written gained : Option (List ℕ)) → (reader writer : Type 0) → Type 0
+EndsOn (OfText fault) d workers making input left written gained reader writer = ⊥
+EndsOn (Unknown word) d workers making input left written gained reader writer = IsFirstUnknown d.names (listed_in making) word.now × (left ≡ input) × (gained ≡ written)
+EndsOn (Failed fault) d workers making input left written gained reader writer = IsServingFault reader writer fault
+    × (((fault ≡ Memory) × (gained ≡ written)) ⊎ RunsFor (ServesUpTo fault) d workers making input left written gained)
 
--- how a session ends whose gate lets certain transitions fail
-abbrev pub EndsGated : ServeFault → (fails : ℕ → Way → Bool) → Database → (input left written gained : Option (List ℕ)) → (reader writer : Type 0) → Type 0
-EndsGated fault fails d input left written gained reader writer = IsServingFault reader writer fault
-    × (((fault ≡ Memory) × (gained ≡ written)) ⊎ RunsGated (ServesUpTo fault) fails d input left written gained)
+-- how a session ends at whose gate commands are done so
+abbrev pub EndsGated : ServeFault → Doing → Database → (input left written gained : Option (List ℕ)) → (reader writer : Type 0) → Type 0
+EndsGated fault Done d input left written gained reader writer = IsServingFault reader writer fault
+    × (((fault ≡ Memory) × (gained ≡ written)) ⊎ RunsGated (ServesUpTo fault) Done d input left written gained)
 
 -- the same of a session whose database is looked for first
 abbrev pub EndsBy : SessionFault → Option (List ℕ) → SessionAsk → (remaining after written gained : Option (List ℕ)) → (reader writer : Type 0) → Type 0

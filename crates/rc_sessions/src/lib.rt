@@ -2,6 +2,7 @@
 #![tactic(auto)]
 
 mod failing;
+mod serving;
 mod session;
 mod session_fault;
 

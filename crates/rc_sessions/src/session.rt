@@ -1,25 +1,21 @@
 //! The command `session`: lines in, what each says done, and its answer out.
-ghost use Rattle.std.specs.Prelude.{◌≡◌, ◌⊎◌, ◌+◌, ℕ, Bool, false, [], None, Some, Err, map, string_bytes, IfErr, OnOk};
-ghost use Rattle.rc_graph.specs.declared.Way.{Way};
+ghost use Rattle.std.specs.Prelude.{◌≡◌, ◌⊎◌, ◌+◌, [], None, Some, Err, map, string_bytes, IfErr, OnOk};
 ghost use Rattle.rc_board.specs.Crew.{IsCrew};
 ghost use Rattle.rc_streams.specs.Noting.{HasFailed, inner_of};
-ghost use Rattle.rc_serve.specs.SessionText.{FailsExactly, IsTimeless};
 ghost use Rattle.rc_streams.specs.Input.{AppendsFront, ConsumesAtMost, fault_line};
 ghost use Rattle.rc_base.specs.Base.{bytes_of};
-ghost use Rattle.rc_sessions.specs.Session.{Runs, RunsAsked, RunsGated, RunsOn, Serves, ServesUpTo};
+ghost use Rattle.rc_sessions.specs.Serving.{Serves};
+ghost use Rattle.rc_sessions.specs.Session.{Runs, RunsAsked};
 ghost use Rattle.rc_asked.specs.SessionAsked.{AsksNoSession, session_ask_of};
-ghost use Rattle.rc_sessions.specs.SessionFaults.{EndsBy, EndsGated, EndsOn, IsServingFault, TellsRefusal, TellsServeFault, TellsSessionFault, TellsSessionRefusal, reading_fault, serve_word};
+ghost use Rattle.rc_sessions.specs.SessionFaults.{EndsBy, TellsRefusal, TellsServeFault, TellsSessionFault, TellsSessionRefusal, reading_fault, serve_word};
 ghost use Rattle.rc_sessions.specs.declared.session_fault.SessionFault.TheVariants.{Failed};
 ghost use Rattle.rc_serve.specs.declared.fault.ServeFault.TheVariants.{Read as Unread};
 
-use crate::failing::gate_of;
+use crate::serving::run_on;
 use crate::session_fault::{SessionFault, tell_session_fault};
 use rc_asked::{SessionRequest, session_asked, tell_words};
 use rc_base::database_of;
-use rc_board::Gate;
-use rc_db::Db;
-use rc_serve::{ServeFault, serve};
-use rc_session::Session;
+use rc_serve::ServeFault;
 use rc_streams::ending::DONE;
 use rc_streams::{Failure, MAX_INPUT, Noted, read_all};
 use std::alloc::Global;
@@ -35,6 +31,7 @@ use std::thread::Threads;
 /// before its input to `faults`. The two devices must not have failed before.
 pub fn session_run<T: Threads + Wait + Sync, R: Read, W: Write, F: Write>(
     rt: &T,
+    host: &HostRuntime,
     alloc: Global,
     words: &[String],
     base: Option<&[u8]>,
@@ -75,7 +72,7 @@ pub fn session_run<T: Threads + Wait + Sync, R: Read, W: Write, F: Write>(
     ensures taken { ConsumesAtMost (R.remaining (inner_of reader.old)) (R.remaining (inner_of reader.new)) (MAX_INPUT + 1) }
 {
     match session_asked(alloc, words) {
-        Ok(request) => session_as_asked(rt, alloc, &request, base, reader, writer, faults),
+        Ok(request) => session_as_asked(rt, host, alloc, &request, base, reader, writer, faults),
         Err(fault) => tell_words(faults, &fault),
     }
 }
@@ -83,6 +80,7 @@ pub fn session_run<T: Threads + Wait + Sync, R: Read, W: Write, F: Write>(
 /// Runs `undorc session` for what is asked, as `session_run` does for words, and answers the status.
 pub fn session_as_asked<T: Threads + Wait + Sync, R: Read, W: Write, F: Write>(
     rt: &T,
+    host: &HostRuntime,
     alloc: Global,
     request: &SessionRequest<'_>,
     base: Option<&[u8]>,
@@ -118,7 +116,7 @@ pub fn session_as_asked<T: Threads + Wait + Sync, R: Read, W: Write, F: Write>(
     // Whatever the status, one byte past the bound is the last that is taken.
     ensures taken { ConsumesAtMost (R.remaining (inner_of reader.old)) (R.remaining (inner_of reader.new)) (MAX_INPUT + 1) }
 {
-    match run_asked(rt, alloc, request, base, reader, writer) {
+    match run_asked(rt, host, alloc, request, base, reader, writer) {
         Ok(()) => DONE,
         Err(fault) => tell_session_fault(alloc, faults, fault),
     }
@@ -127,6 +125,7 @@ pub fn session_as_asked<T: Threads + Wait + Sync, R: Read, W: Write, F: Write>(
 // Runs what is asked.
 fn run_asked<'a, T: Threads + Wait + Sync, R: Read, W: Write>(
     rt: &T,
+    host: &HostRuntime,
     alloc: Global,
     request: &SessionRequest<'a>,
     base: Option<&[u8]>,
@@ -144,14 +143,15 @@ fn run_asked<'a, T: Threads + Wait + Sync, R: Read, W: Write>(
     ensures taken { ConsumesAtMost (R.remaining (inner_of reader.old)) (R.remaining (inner_of reader.new)) (MAX_INPUT + 1) }
 {
     match base {
-        Some(bytes) => run_on_base(rt, alloc, request, bytes, reader, writer),
-        None => run_on_input(rt, alloc, request, reader, writer),
+        Some(bytes) => run_on_base(rt, host, alloc, request, bytes, reader, writer),
+        None => run_on_input(rt, host, alloc, request, reader, writer),
     }
 }
 
 // Runs a session on the database of a text of its own.
 fn run_on_base<'a, T: Threads + Wait + Sync, R: Read, W: Write>(
     rt: &T,
+    host: &HostRuntime,
     alloc: Global,
     request: &SessionRequest<'a>,
     base: &[u8],
@@ -169,12 +169,13 @@ fn run_on_base<'a, T: Threads + Wait + Sync, R: Read, W: Write>(
     ensures taken { ConsumesAtMost (R.remaining (inner_of reader.old)) (R.remaining (inner_of reader.new)) (MAX_INPUT + 1) }
 {
     let (db, _none) = database_of(alloc, Some(base), &[])?;
-    run_on(rt, alloc, db, request, reader, writer)
+    run_on(rt, host, alloc, db, request, reader, writer)
 }
 
 // Runs a session on the database at the front of the input, and on the lines behind it.
 fn run_on_input<'a, T: Threads + Wait + Sync, R: Read, W: Write>(
     rt: &T,
+    host: &HostRuntime,
     alloc: Global,
     request: &SessionRequest<'a>,
     reader: &mut Noted<R>,
@@ -194,7 +195,7 @@ fn run_on_input<'a, T: Threads + Wait + Sync, R: Read, W: Write>(
         Err(failure) => return Err(SessionFault::Failed(reading_fault(failure))),
     };
     let (db, lines) = database_of(alloc, None, &input)?;
-    run_on(rt, alloc, db, request, &mut Noted::new(lines), writer)
+    run_on(rt, host, alloc, db, request, &mut Noted::new(lines), writer)
 }
 
 // Why the input was not read whole, as a fault of serving. A read fails as none but a read does.
@@ -206,109 +207,4 @@ fn reading_fault(failure: Failure) -> ServeFault
         Failure::Memory => ServeFault::Memory,
         Failure::Read | Failure::Write => ServeFault::Read,
     }
-}
-
-// Runs a session on a database, over its own input.
-fn run_on<'a, T: Threads + Wait + Sync, R: Read, W: Write>(
-    rt: &T,
-    alloc: Global,
-    db: Db,
-    request: &SessionRequest<'a>,
-    reader: &mut Noted<R>,
-    writer: &mut Noted<W>,
-) -> Result<(), SessionFault<'a>>
-    requires crew { IsCrew request.now.workers }
-    requires reader { HasFailed reader.old → ⊥ }
-    requires writer { HasFailed writer.old → ⊥ }
-    ensures done { OnOk result (RunsOn Serves db (session_ask_of request.now) (R.remaining (inner_of reader.old)) (R.remaining (inner_of reader.new))
-        (W.contents (inner_of writer.old)) (W.contents (inner_of writer.new))) }
-    ensures ended { IfErr result (λ fault. EndsOn fault db (session_ask_of request.now) (R.remaining (inner_of reader.old)) (R.remaining (inner_of reader.new))
-        (W.contents (inner_of writer.old)) (W.contents (inner_of writer.new)) (HasFailed reader.new) (HasFailed writer.new)) }
-    ensures told { HasFailed reader.new → result ≡ Err (Failed Unread) }
-    ensures taken { ConsumesAtMost (R.remaining (inner_of reader.old)) (R.remaining (inner_of reader.new)) (MAX_INPUT + 1) }
-{
-    let gate = match gate_of(alloc, db.names(), &request.failing) {
-        Ok(gate) => gate,
-        Err(fault) => {
-            drop(db);
-            return Err(SessionFault::from(fault));
-        }
-    };
-    let ended = run_gated(rt, alloc, db, &gate, request.workers, reader, writer);
-    drop(gate);
-    match ended {
-        Ok(()) => Ok(()),
-        Err(fault) => Err(SessionFault::Failed(fault)),
-    }
-}
-
-// Runs a session on a database, past a gate.
-fn run_gated<T: Threads + Wait + Sync, R: Read, W: Write, G: Gate>(
-    rt: &T,
-    alloc: Global,
-    db: Db,
-    gate: &G,
-    workers: u8,
-    reader: &mut Noted<R>,
-    writer: &mut Noted<W>,
-) -> Result<(), ServeFault>
-    requires crew { IsCrew workers }
-    requires reader { HasFailed reader.old → ⊥ }
-    requires writer { HasFailed writer.old → ⊥ }
-    ensures done { (fails : ℕ → Way → Bool) →
-        FailsExactly (G.answers gate.now) fails →
-        IsTimeless (G.gives gate.now) (R.remaining (inner_of reader.old)) →
-        OnOk result (RunsGated Serves fails db
-        (R.remaining (inner_of reader.old)) (R.remaining (inner_of reader.new))
-        (W.contents (inner_of writer.old)) (W.contents (inner_of writer.new))) }
-    ensures ended { (fails : ℕ → Way → Bool) →
-        FailsExactly (G.answers gate.now) fails →
-        IsTimeless (G.gives gate.now) (R.remaining (inner_of reader.old)) →
-        IfErr result (λ fault. EndsGated fault fails db
-        (R.remaining (inner_of reader.old)) (R.remaining (inner_of reader.new))
-        (W.contents (inner_of writer.old)) (W.contents (inner_of writer.new))
-        (HasFailed reader.new) (HasFailed writer.new)) }
-    ensures told { HasFailed reader.new → result ≡ Err ServeFault.Read }
-    ensures taken { ConsumesAtMost (R.remaining (inner_of reader.old)) (R.remaining (inner_of reader.new)) (MAX_INPUT + 1) }
-{
-    let mut session = Session::new(alloc, db)?;
-    let ended = serve_narrow(rt, alloc, &mut session, gate, workers, reader, writer);
-    drop(session);
-    ended
-}
-
-// Serves a session, which must be whole.
-fn serve_narrow<T: Threads + Wait + Sync, R: Read, W: Write, G: Gate>(
-    rt: &T,
-    alloc: Global,
-    session: &mut Session,
-    gate: &G,
-    workers: u8,
-    reader: &mut Noted<R>,
-    writer: &mut Noted<W>,
-) -> Result<(), ServeFault>
-    requires crew { IsCrew workers }
-    requires closed { session.old.begun ≡ false }
-    requires whole { session.old.spoiled ≡ false }
-    requires reader { HasFailed reader.old → ⊥ }
-    requires writer { HasFailed writer.old → ⊥ }
-    ensures done { (fails : ℕ → Way → Bool) →
-        FailsExactly (G.answers gate.now) fails →
-        IsTimeless (G.gives gate.now) (R.remaining (inner_of reader.old)) →
-        OnOk result (Serves fails
-        (R.remaining (inner_of reader.old)) (R.remaining (inner_of reader.new))
-        (W.contents (inner_of writer.old)) (W.contents (inner_of writer.new))
-        session.old session.new) }
-    ensures begun { (fails : ℕ → Way → Bool) →
-        FailsExactly (G.answers gate.now) fails →
-        IsTimeless (G.gives gate.now) (R.remaining (inner_of reader.old)) →
-        IfErr result (λ fault. ServesUpTo fault fails
-        (R.remaining (inner_of reader.old)) (R.remaining (inner_of reader.new))
-        (W.contents (inner_of writer.old)) (W.contents (inner_of writer.new))
-        session.old session.new) }
-    ensures fault { IfErr result (IsServingFault (HasFailed reader.new) (HasFailed writer.new)) }
-    ensures told { HasFailed reader.new → result ≡ Err ServeFault.Read }
-    ensures taken { ConsumesAtMost (R.remaining (inner_of reader.old)) (R.remaining (inner_of reader.new)) (MAX_INPUT + 1) }
-{
-    serve(rt, alloc, reader, writer, session, gate, workers)
 }

@@ -127,6 +127,7 @@ fn session<T: Threads + Wait + Sync>(
     match base_at(rt, file) {
         Ok(base) => session_as_asked(
             threads,
+            rt,
             rt.alloc(),
             request,
             base.as_deref(),

@@ -1,0 +1,34 @@
+-- How the transitions of a session are made, by its options.
+use Rattle.std.specs.Prelude.{◌≡◌, List, Option, None, Some, [], codes, unwrap_or}
+use Rattle.clap.specs.Words.{Row, Text, first_of}
+use Rattle.rc_lines.specs.Words.{words_in as spaced}
+use Rattle.rc_asked.specs.Listed.{Listed, SpellsList}
+
+-- by a table of those that fail, with nothing started, or by programs: the words of a runner for oneshots, and those of a controller for longruns
+pub data MakingAsk : Type 0 where
+  ByTable : List Listed → MakingAsk
+  ByPrograms : List Text → List Text → MakingAsk
+
+-- the transitions that are listed as failing
+abbrev pub listed_in : MakingAsk → List Listed
+listed_in (ByTable failing) = failing
+listed_in (ByPrograms first second) = []
+
+-- the words of the runner: those of the text that is given, and `/bin/sh -c` where none is
+abbrev pub runner_in : Option Text → List Text
+runner_in given = spaced (unwrap_or given (codes "/bin/sh -c"))
+
+-- the words of the controller: those of the text that is given, and none where none is
+abbrev pub controller_in : Option Text → List Text
+controller_in given = spaced (unwrap_or given [])
+
+-- where a list of transitions is given they are those that fail, whatever the programs; else there are programs
+abbrev pub MakesBy : (list runner controller : Option Text) → MakingAsk → Type 0
+MakesBy (Some text) runner controller (ByTable failing) = SpellsList text failing
+MakesBy (Some text) runner controller (ByPrograms first second) = ⊥
+MakesBy None runner controller (ByTable failing) = ⊥
+MakesBy None runner controller (ByPrograms first second) = (first ≡ runner_in runner) × (second ≡ controller_in controller)
+
+-- the matches of `session` ask that transitions are made so
+abbrev pub MakesIn : List Row → MakingAsk → Type 0
+MakesIn rows making = MakesBy (first_of (codes "failing") rows) (first_of (codes "runner") rows) (first_of (codes "controller") rows) making

@@ -1,0 +1,326 @@
+# Sessions that start real scripts. tests/program.sh reads this file.
+
+# begin_tree: no definitions yet. oneshot NAME TEXT [NEED..], longrun NAME [NEED..]: one more. down NAME
+# TEXT, limit NAME MILLISECONDS: more of one.
+begin_tree() {
+    rm -rf tree
+    mkdir tree
+}
+definition() {
+    mkdir "tree/$2"
+    echo "$1" > "tree/$2/type"
+    file=tree/$2/dependencies
+    shift 2
+    for need; do echo "$need"; done > "$file"
+}
+oneshot() {
+    name=$1 text=$2
+    shift 2
+    definition oneshot "$name" "$@"
+    printf '%s\n' "$text" > "tree/$name/up"
+}
+longrun() {
+    definition longrun "$@"
+    : > "tree/$1/run"
+}
+down() {
+    printf '%s\n' "$2" > "tree/$1/down"
+}
+limit() {
+    echo "$2" > "tree/$1/timeout-up"
+    echo "$2" > "tree/$1/timeout-down"
+}
+
+# session ANSWERS TOLD LINES WORDS..: a session on these definitions
+session() {
+    writes=$1 tells=$2 reads=$3
+    shift 3
+    "$program" compile tree > made
+    expect 0 "$writes" "$tells" "$reads" session -b made "$@"
+}
+
+# same WHAT: what a script left, in the files `left` and `left.wanted`
+same() {
+    passed=$((passed + 1))
+    if ! cmp -s left left.wanted; then
+        passed=$((passed - 1))
+        failed=$((failed + 1))
+        echo "FAILED: $1:"
+        diff -a -u left.wanted left | sed -e 1,2d -e 40q || true
+    fi
+}
+# holds WHAT TEST..: a test of the shell
+holds() {
+    what=$1
+    shift
+    passed=$((passed + 1))
+    if ! "$@"; then
+        passed=$((passed - 1))
+        failed=$((failed + 1))
+        echo "FAILED: $what"
+    fi
+}
+
+# How a script ends, and what -v tells of it. Each is a change of its own.
+begin_tree
+oneshot good 'exit 0'
+oneshot empty ''
+oneshot three 'exit 3'
+oneshot most 'exit 255'
+oneshot killed 'kill -9 $$'
+oneshot late 'exit 124'
+oneshot shut 'exit 126'
+oneshot missing 'exit 127'
+answers='raised empty good\nfailed killed late missing most shut three\nok\n'
+told='[WARN  undorc] up killed: failed 255\n[WARN  undorc] up late: failed 124\n[WARN  undorc] up missing: failed 127\n'
+told="$told"'[WARN  undorc] up most: failed 255\n[WARN  undorc] up shut: failed 126\n[WARN  undorc] up three: failed 3\n'
+all='change empty good killed late missing most shut three\n'
+for workers in 1 2 64; do
+    session "$answers" '' "$all" -w "$workers"
+    "$program" session -b made -v -w "$workers" < in 2>&1 > out | sort > left
+    printf '%b' "$told" > left.wanted
+    same "what is told of scripts that fail, by $workers"
+done
+
+# Under a limit some statuses tell that a script took too long, or could not be started.
+for name in good empty three most killed late shut missing; do limit $name 5000; done
+told='[WARN  undorc] up killed: failed 255\n[WARN  undorc] up late: timeout\n[WARN  undorc] up missing: nostart\n'
+told="$told"'[WARN  undorc] up most: failed 255\n[WARN  undorc] up shut: nostart\n[WARN  undorc] up three: failed 3\n'
+for workers in 1 2 64; do
+    session "$answers" '' "$all" -w "$workers"
+    "$program" session -b made -v -w "$workers" < in 2>&1 > out | sort > left
+    printf '%b' "$told" > left.wanted
+    same "what is told of scripts that fail under a limit, by $workers"
+done
+
+# Limits, rounded up to seconds. At one a script is asked to end, and some seconds later it is ended.
+begin_tree
+oneshot loop 'while :; do :; done'
+oneshot sleeper 'sleep 60; true'
+oneshot tidy "trap 'echo undone > tidied; exit 0' TERM; while :; do sleep 0.1; done"
+oneshot deaf "echo \$\$ > deaf; trap '' TERM; while :; do sleep 0.1; done"
+for name in loop sleeper tidy; do limit $name 1; done
+limit deaf 1000
+for workers in 1 64; do
+    rm -f tidied deaf
+    session 'failed deaf loop sleeper tidy\nok\n' '' 'change deaf loop sleeper tidy\n' -w "$workers"
+    holds "a script that is asked to end may tidy up, by $workers" test -s tidied
+    holds "a script that ignores it is ended, by $workers" sh -c '! kill -0 "$(cat deaf)" 2> /dev/null'
+done
+begin_tree
+oneshot loop 'while :; do :; done'
+limit loop 1
+session 'failed loop\nok\nrefused NothingToUndo\n' '[WARN  undorc] up loop: timeout\n' 'change loop\nundo\n' -v
+
+# A child that a script leaves behind is not waited for, though it holds the script's output.
+begin_tree
+oneshot leaves 'sleep 50 & echo $! > child; exit 0'
+down leaves 'sleep 50 & echo $! >> child; exit 0'
+for limit in 0 3000; do
+    limit leaves $limit
+    for workers in 1 2 64; do
+        session 'raised leaves\nok\nlowered leaves\nok\n' '' 'change leaves\nundo\n' -w "$workers"
+        while read -r child; do
+            holds "a child that is left lives on, by $workers under limit $limit" kill -0 "$child"
+            kill "$child"
+        done < child
+    done
+done
+
+# What a script writes goes nowhere, and what it reads is nothing: lines of the session stay its own. Under -v what it writes
+# as errors goes where this program's go.
+begin_tree
+oneshot writes 'head -c 100000000 /dev/zero; head -c 100000000 /dev/zero >&2'
+oneshot reads 'wc -c > count'
+oneshot pipes 'yes | head -n 1'
+oneshot says 'echo out; echo err >&2'
+for workers in 1 64; do
+    session 'raised pipes reads writes\nok\nlive pipes reads writes\nok\n' '' 'change pipes reads writes\nlive\n' -w "$workers"
+    echo 0 > left.wanted
+    tr -d ' ' < count > left
+    same "what a script reads, by $workers"
+done
+session 'raised says\nok\n' '' 'change says\n'
+session 'raised says\nok\n' 'err\n' 'change says\n' -v
+
+# Where it runs, in which environment, and that no other file is open there.
+begin_tree
+oneshot tells 'echo "$PWD $WORD $0 $#" > told; ! (true <&7) 2> /dev/null'
+"$program" compile tree > made
+wants 'raised tells\nok\n' ''
+echo 'change tells' > in
+(WORD=x && export WORD && runs session -b made) 7< made
+judge 'a session that starts a script' 0
+echo "$PWD x /bin/sh 0" > left.wanted
+cp told left
+same 'directory, environment and words of a script'
+
+# The runner's words, behind which the text is one more; without one, or where it can't be started, nothing is.
+begin_tree
+oneshot one 'first  line
+second'
+cat > note <<'END'
+#!/bin/sh
+for word; do printf '<%s>' "$word"; done >> noted
+END
+chmod +x note
+printf '<a><b><first  line\nsecond\n>' > left.wanted
+for words in './note a b' ' ./note  a	b ' '/bin/sh ./note a b'; do
+    rm -f noted
+    session 'raised one\nok\n' '' 'change one\n' -r "$words"
+    cp noted left
+    same "the words of the runner '$words'"
+done
+for limit in 0 1000; do
+    limit one $limit
+    for words in /nonexistent '' ' ' "$PWD/made" "$PWD"; do
+        session 'failed one\nok\n' '[WARN  undorc] up one: nostart\n' 'change one\n' -v -r "$words"
+    done
+done
+
+# What is missing is done without a start.
+begin_tree
+oneshot one 'echo up >> log'
+rm -f log
+session 'raised one\nok\nlowered one\nok\n' '' 'change one\nundo\n'
+session 'failed one\nok\nok\n' '[WARN  undorc] up one: nostart\n' 'change one\n-d change one\n' -v -r /nonexistent
+down one 'exit 5'
+session 'raised one\nok\nfailed one\nok\n' '[WARN  undorc] down one: failed 5\n' 'change one\nundo\n' -v
+
+# The shell goes on behind a line that fails, but for its last one; with -e it does not.
+begin_tree
+oneshot one 'false
+true'
+session 'raised one\nok\n' '' 'change one\n'
+session 'raised one\nok\n' '' 'change one\n' -r '/bin/sh -c'
+session 'failed one\nok\n' '[WARN  undorc] up one: failed 1\n' 'change one\n' -v -r '/bin/sh -ec'
+
+# The controller moves longruns; none by itself.
+begin_tree
+longrun db
+longrun web db
+for words in './note x' '/bin/sh ./note x'; do
+    rm -f noted
+    session 'raised db web\nok\nlowered db web\nok\n' '' 'change web\nundo\n' -c "$words"
+    printf '<x><up><db><x><up><web><x><down><web><x><down><db>' > left.wanted
+    cp noted left
+    same "the words of the controller '$words'"
+done
+session 'failed db\nblocked web\nok\n' '[WARN  undorc] up db: nostart\n' 'change web\n' -v
+session 'failed db\nblocked web\nok\n' '[WARN  undorc] up db: nostart\n' 'change web\n' -v -c ' '
+session 'failed db\nblocked web\nok\n' '[WARN  undorc] up db: failed 1\n' 'change web\n' -v -c false -r true
+cat > control <<'END'
+#!/bin/sh
+case $1 in
+    up) sleep 50 & echo $! > "$2.pid" ;;
+    down) kill "$(cat "$2.pid")" && rm "$2.pid" ;;
+esac
+END
+session 'raised db web\nok\nlive db web\nok\nlowered db web\nok\n' '' 'change web\nlive\nundo\n' -c 'sh ./control'
+holds 'a controller that ends what it started' sh -c '! ls ./*.pid 2> /dev/null'
+
+# With no words at all.
+expect 0 'live\nok\n' '' "${sample}live\n" session
+expect 0 'raised net root\nok\n' '' "${sample}change net\n" session -w 4
+expect 0 'raised net root\nfailed db log\nblocked web\nok\n' '' "${sample}change site\n" session
+
+# With -x nothing is started, whatever -r and -c hold; what fails by its list is told under -v, too.
+begin_tree
+oneshot one 'touch started'
+longrun two one
+session 'raised one two\nok\nfailed two\nblocked one\nok\n' '[WARN  undorc] down two: failed 1\n' 'change two\nundo\n' -v -x down:two
+session 'raised one two\nok\n' '' 'change two\n' -x none -r ./note -c ./note -v
+holds 'with -x nothing is started' test ! -e started
+
+# Two that wait for each other: the number of -w is the one that serves.
+begin_tree
+meets() {
+    echo "touch come.$1; n=0; while [ ! -e come.$2 ]; do n=\$((n + 1)); [ \$n -le $3 ] || exit 9; sleep 0.05; done"
+}
+oneshot a "$(meets a b 40)"
+oneshot b "$(meets b a 40)"
+for workers in 2 3 64; do
+    rm -f come.*
+    session 'raised a b\nok\n' '' 'change a b\n' -w "$workers"
+done
+rm -f come.*
+session 'raised b\nfailed a\nok\n' '[WARN  undorc] up a: failed 9\n' 'change a b\n' -v -w 1
+begin_tree
+for i in 1 2 3 4 5; do
+    oneshot "s$i" "touch come.$i; n=0
+        while [ \$(ls come.* | wc -l) -lt 5 ]; do n=\$((n + 1)); [ \$n -le 40 ] || exit 9; sleep 0.05; done"
+done
+rm -f come.*
+session 'raised s1 s2 s3 s4 s5\nok\n' '' 'change s1 s2 s3 s4 s5\n' -w 5
+
+# 300 oneshots with drawn needs: each begins after all that it needs have ended, and on the way down before.
+awk 'BEGIN {
+    srand(7)
+    print "undorc-db 1\nservices 300"
+    for (i = 0; i < 300; i++) {
+        printf "service s%03d oneshot plain %d %d\nneeds", i, 30000 * (rand() < 0.5), 30000 * (rand() < 0.5)
+        for (j = 0; j < i; j++) if (rand() * i < 1.5) { printf " s%03d", j; printf "s%03d s%03d\n", i, j > "needs" }
+        begin = "echo begin s" sprintf("%03d", i) " >> log"
+        end = "echo end s" sprintf("%03d", i) " >> log"
+        text = begin "; sleep 0.0" int(rand() * 3) "; " end
+        printf "\nup %d\n%s\ndown %d\n%s\n", length(text), text, length(text), text
+        names = names sprintf(" s%03d", i)
+    }
+    print "bundles 0\nend"
+    print "raised" names "\nok\nlowered" names "\nok" > "out.wanted"
+    print "change" names "\nundo" > "in"
+}' > made
+: > err.wanted
+for workers in 1 3 64; do
+    rm -f log
+    runs session -b made -w "$workers"
+    judge "300 scripts with drawn needs, by $workers" 0
+    awk 'FNR == NR { first[NR] = $1; second[NR] = $2; count = NR; next }
+        { at[$1, $2, ++seen[$1, $2]] = FNR; lines = FNR }
+        END {
+            print lines
+            for (i = 1; i <= count; i++) {
+                if (at["begin", first[i], 1] < at["end", second[i], 1]) print first[i], "began too soon"
+                if (at["begin", second[i], 2] < at["end", first[i], 2]) print second[i], "went too soon"
+            }
+        }' needs log > left
+    echo 1200 > left.wanted
+    same "the order of 300 scripts, by $workers"
+done
+
+# A reader that goes away, and a standard error that is closed or full.
+begin_tree
+oneshot one 'exit 3'
+"$program" compile tree > made
+printf 'change one\n' > in
+for closed in '2>&-' '2> /dev/full'; do
+    wants 'failed one\nok\n' ''
+    : > err
+    echo 0 > status
+    eval "\"\$program\" session -v -b made < in > out $closed" || echo $? > status
+    judge "a session that has no standard error ($closed)" 0
+done
+begins -b made
+tell 'change one'
+hear
+exec 4<&-
+tell 'change one'
+exec 4< /dev/null
+wants 'failed one\nok\n' 'undorc: Write\n'
+ends 'a session that starts scripts, whose answers nobody reads' 111
+
+# Where a worker can't be started no script is run: an address space has room for some of 64 stacks.
+begin_tree
+for i in 1 2 3 4 5 6 7 8; do oneshot "s$i" 'touch started'; done
+"$program" compile tree > made
+printf 'change s1 s2 s3 s4 s5 s6 s7 s8\nlive\n' > in
+rm -f started
+wants '' 'undorc: NoThread\n'
+echo 0 > status
+(ulimit -v 200000 && exec "$program" session -b made -w 64 < in > out 2> err) || echo $? > status
+judge 'a session that lacks room for 64 workers' 111
+holds 'without its workers it starts nothing' test ! -e started
+wants 'raised s1 s2 s3 s4 s5 s6 s7 s8\nok\nlive s1 s2 s3 s4 s5 s6 s7 s8\nok\n' ''
+echo 0 > status
+(ulimit -v 200000 && exec "$program" session -b made -w 1 < in > out 2> err) || echo $? > status
+judge 'and has room for one' 0
