@@ -5,6 +5,7 @@ ghost use Rattle.std.specs.Prelude.{◌<◌, ◌≤◌, length};
 use crate::graphs::{LOG, NEEDS, WEB, graph_of, set_of};
 use rc_db::{Db, MAX_BUNDLES, NoMem, Parts, Service, Table};
 use rc_names::{Kind, MAX_NAMES, Name, NameFault, Names};
+use rc_set::Set;
 use std::alloc::Global;
 use std::test::Fail;
 
@@ -125,10 +126,22 @@ pub fn table_of(alloc: Global, bound: u16, bundles: &[Bundle]) -> Result<Table, 
     let mut table = Table::new(alloc);
     for (name, services) in bundles {
         if table.len() < MAX_BUNDLES {
-            table.set(&Name::read(alloc, name)?, set_of(alloc, bound, services)?)?;
+            put(alloc, &mut table, name, set_of(alloc, bound, services)?)?;
         }
     }
     Ok(table)
+}
+
+fn put(alloc: Global, table: &mut Table, text: &str, set: Set) -> Result<(), NameFault>
+    requires { length table.old < 4096 }
+{
+    let name = Name::read(alloc, text)?;
+    let put = table.set(&name, set);
+    drop(name);
+    match put {
+        Ok(_) => Ok(()),
+        Err(_) => Err(NameFault::Memory),
+    }
 }
 
 /// These words as owned text.

@@ -61,11 +61,17 @@ fn moved_of(alloc: Global, change: &Change) -> Result<Vec<u16>, NoMem> {
 fn is_free(change: &Change, moved: &[u16], service: u16) -> bool
     requires { service < length change.now.graph }
 {
-    let graph = &change.graph;
-    let is_up = |other: &u16| change.up.contains(other) != moved.contains(other);
-    if change.up.contains(&service) {
-        !graph.needed_by(service).iter().any(is_up)
+    let goes_down = change.up.contains(&service);
+    let others = if goes_down {
+        change.graph.needed_by(service)
     } else {
-        graph.needs(service).iter().all(is_up)
+        change.graph.needs(service)
+    };
+    for other in others {
+        let is_up = change.up.contains(other) != moved.contains(other);
+        if is_up == goes_down {
+            return false;
+        }
     }
+    true
 }

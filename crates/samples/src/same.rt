@@ -1,20 +1,10 @@
 //! Databases side by side.
 
 use rc_db::{Db, Service};
-use rc_names::Names;
 
 /// Whether two databases have the same names, services, needs and bundles.
 pub fn is_same(one: &Db, other: &Db) -> bool {
-    have_same_names(one.names(), other.names())
-        && have_same_services(one, other)
-        && one.table().same(other.table())
-}
-
-fn have_same_names(one: &Names, other: &Names) -> bool {
-    if one.len() != other.len() {
-        return false;
-    }
-    (0..one.len()).all(|id| one.name_of(id).text() == other.name_of(id).text())
+    have_same_services(one, other) && one.table().same(other.table())
 }
 
 fn have_same_services(one: &Db, other: &Db) -> bool {
@@ -22,7 +12,8 @@ fn have_same_services(one: &Db, other: &Db) -> bool {
         return false;
     }
     for id in 0..one.names().len() {
-        if one.graph().needs(id) != other.graph().needs(id)
+        if one.names().name_of(id).text() != other.names().name_of(id).text()
+            || one.graph().needs(id) != other.graph().needs(id)
             || !are_same(one.service(id), other.service(id))
         {
             return false;

@@ -29,14 +29,19 @@ pub fn carry_out(
         &change.to,
         change.deadline,
     )?;
-    let Some(mut run) = begun else {
-        return Ok(None);
-    };
-    let worked = work(alloc, draw, &mut run, change, workers)?;
-    if worked.is_err() || !run.settled() {
-        return Ok(None);
+    match begun {
+        Some(run) => Ok(finish_of(draw, run, change, workers)),
+        None => Ok(None),
     }
-    Ok(Some(run.finish().take_apart()))
+}
+
+fn finish_of(draw: &mut Draw, mut run: Run, change: &Change, workers: u16) -> Option<Finish> {
+    if work(draw, &mut run, change, workers) && run.settled() {
+        Some(run.finish().take_apart())
+    } else {
+        drop(run);
+        None
+    }
 }
 
 /// A run from some services to others, or nothing where some of these lack what they need.
@@ -71,43 +76,38 @@ fn open_between(
     Run::open(alloc, graph, &plan, deadline)
 }
 
-/// In each turn a drawn worker ends what it holds, or stops the run, or asks for a job.
-fn work(
-    alloc: Global,
-    draw: &mut Draw,
-    run: &mut Run,
-    change: &Change,
-    workers: u16,
-) -> Result<Result<(), NotLegal>, NoMem> {
-    let mut held: Vec<(u8, u16)> = Vec::new(alloc);
+/// In each turn a drawn worker ends what it holds, or stops the run, or asks for a job. False: a call was refused.
+fn work(draw: &mut Draw, run: &mut Run, change: &Change, workers: u16) -> bool {
+    let mut held: [Option<u16>; 64] = [None; 64];
     let mut deadline = change.deadline;
     for _ in 0..TURNS {
-        let worker = (1 + draw.below(workers).min(63)) as u8;
-        if let Some(place) = held.iter().position(|(w, _)| *w == worker) {
-            let (_, service) = held.swap_remove(place);
+        let place = draw.below(workers).min(63);
+        let worker = (1 + place) as u8;
+        if let Some(service) = held[place as usize] {
+            held[place as usize] = None;
             if run
                 .done(worker, service, outcome_of(&change.fails, service))
                 .is_err()
             {
-                return Ok(Err(NotLegal));
+                return false;
             }
         } else if let Some(moment) = deadline
             && draw.below(8) == 0
         {
             deadline = None;
             if run.stop(worker, moment).is_err() {
-                return Ok(Err(NotLegal));
+                return false;
             }
         } else {
             match run.take(worker) {
-                Ok(Took::Job(job)) => held.push((worker, job.service()))?,
+                Ok(Took::Job(job)) => held[place as usize] = Some(job.service()),
                 Ok(Took::Wait) => {}
-                Ok(Took::Settled) => break,
-                Err(NotLegal) => return Ok(Err(NotLegal)),
+                Ok(Took::Settled) => return true,
+                Err(NotLegal) => return false,
             }
         }
     }
-    Ok(Ok(()))
+    true
 }
 
 fn outcome_of(fails: &[u16], service: u16) -> Outcome {

@@ -23,7 +23,7 @@ pub(crate) fn is_legal(p: &Plain, events: &[Event], event: Event) -> bool {
         }
         Event::Done(worker, service, _) => is_worker(worker) && holds(events, worker, service),
         Event::Stop(worker, moment) => {
-            is_worker(worker) && !is_stopped(events) && p.deadline.is_some_and(|d| d <= moment)
+            is_worker(worker) && !is_stopped(events) && matches!(p.deadline, Some(d) if d <= moment)
         }
     }
 }
@@ -33,13 +33,21 @@ fn is_worker(worker: u8) -> bool {
 }
 
 fn is_stopped(events: &[Event]) -> bool {
-    events.iter().any(|e| matches!(e, Event::Stop(_, _)))
+    for event in events {
+        if matches!(event, Event::Stop(_, _)) {
+            return true;
+        }
+    }
+    false
 }
 
 fn was_taken(events: &[Event], service: u16) -> bool {
-    events
-        .iter()
-        .any(|e| matches!(e, Event::Take(_, s) if *s == service))
+    for event in events {
+        if matches!(event, Event::Take(_, s) if *s == service) {
+            return true;
+        }
+    }
+    false
 }
 
 fn holds(events: &[Event], worker: u8, service: u16) -> bool {
@@ -55,7 +63,12 @@ fn holds(events: &[Event], worker: u8, service: u16) -> bool {
 }
 
 fn is_busy(p: &Plain, events: &[Event], worker: u8) -> bool {
-    (0..p.services).any(|s| holds(events, worker, s))
+    for service in 0..p.services {
+        if holds(events, worker, service) {
+            return true;
+        }
+    }
+    false
 }
 
 fn standing(p: &Plain, events: &[Event], service: u16) -> Standing {
@@ -83,12 +96,32 @@ fn can_sink(p: &Plain, events: &[Event], service: u16) -> bool {
     p.up.contains(&service)
         && !p.target.contains(&service)
         && !was_taken(events, service)
-        && p.needs.iter().all(|(s, t)| *t != service || standing(p, events, *s) == Standing::Down)
+        && is_needed_by_none(p, events, service)
 }
 
 fn can_rise(p: &Plain, events: &[Event], service: u16) -> bool {
     p.target.contains(&service)
         && !p.up.contains(&service)
         && !was_taken(events, service)
-        && p.needs.iter().all(|(s, t)| *s != service || standing(p, events, *t) == Standing::Up)
+        && has_its_needs(p, events, service)
+}
+
+/// Whether all that need a service are down.
+fn is_needed_by_none(p: &Plain, events: &[Event], service: u16) -> bool {
+    for (s, t) in p.needs {
+        if *t == service && standing(p, events, *s) != Standing::Down {
+            return false;
+        }
+    }
+    true
+}
+
+/// Whether all that a service needs is up.
+fn has_its_needs(p: &Plain, events: &[Event], service: u16) -> bool {
+    for (s, t) in p.needs {
+        if *s == service && standing(p, events, *t) != Standing::Up {
+            return false;
+        }
+    }
+    true
 }

@@ -77,8 +77,18 @@ fn show_tally(rt: &impl Print, tally: &Tally) -> io::Result<()> {
 fn note_kinds(tally: &mut Tally, change: &Change, end: &End) {
     tally.failed |= !end.failed.is_empty();
     tally.blocked |= !end.left.is_empty();
-    tally.lowered |= change.up.iter().any(|s| !end.live.contains(s));
-    tally.raised |= end.live.iter().any(|s| !change.up.contains(s));
+    tally.lowered |= has_another(&change.up, &end.live);
+    tally.raised |= has_another(&end.live, &change.up);
+}
+
+/// Whether one of these ids is none of the others.
+fn has_another(ids: &[u16], others: &[u16]) -> bool {
+    for id in ids {
+        if !others.contains(id) {
+            return true;
+        }
+    }
+    false
 }
 
 /// Carries a change out in several orders, each by another number of workers.

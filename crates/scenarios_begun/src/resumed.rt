@@ -1,44 +1,40 @@
 //! A session that goes on with a line.
 
-ghost use Rattle.std.specs.Prelude.{◌≡◌, ◌≢◌, ◌≤◌, ◌∷◌, [], false, true, length, All, IfOk, IfSome};
+ghost use Rattle.std.specs.Prelude.{◌≡◌, ◌≢◌, ◌∷◌, [], false, true, length, All, IfOk, IfSome};
 ghost use Rattle.rc_line.specs.State.{states_of};
 ghost use Rattle.rc_line.specs.Line.{states};
 ghost use Rattle.rc_line.specs.Keeping.{state};
 ghost use Rattle.rc_session.specs.Doing.{IsStateOf};
 
-use crate::runs::{back, show_step};
-use crate::show::show_place;
+use crate::actions::{Action, show_session};
+use crate::runs::{End, Way};
 use rc_db::{Db, Table};
 use rc_line::Line;
 use rc_session::Session;
 use rc_set::{NoMem, Set};
-use samples::{ROOT, sample};
+use samples::{ROOT, sample, set_of};
 use std::alloc::Global;
 use std::io;
 use std::test::Fail;
 
+/// The undo of the step from one state to the other.
+static UNDO: [Action; 3] = [
+    Action::Place,
+    Action::Command(Way::Undo, End::Complete),
+    Action::Place,
+];
+
 /// An undo on a session that goes on with a line.
 pub(crate) fn show_resumed(rt: &(impl Print + AllocGlobal)) -> Result<(), Fail> {
     let db = sample(rt.alloc())?;
+    Ok(show_on(rt, db)?)
+}
+
+fn show_on(rt: &(impl Print + AllocGlobal), db: Db) -> io::Result<()> {
     match resumed(rt.alloc(), db)? {
-        Some(session) => Ok(show_undo(rt, session)?),
-        None => Ok(println!(rt; "no states of the database")?),
+        Some(session) => show_session(rt, session, &UNDO),
+        None => println!(rt; "no states of the database"),
     }
-}
-
-fn show_undo(rt: &(impl Print + AllocGlobal), mut session: Session) -> io::Result<()>
-    requires { session.begun ≡ false }
-{
-    let shown = show_undone(rt, &mut session);
-    drop(session);
-    shown
-}
-
-fn show_undone(rt: &(impl Print + AllocGlobal), session: &mut Session) -> io::Result<()>
-    requires { session.old.begun ≡ false }
-{
-    show_place(rt, session)?;
-    show_step(rt, session, back(rt.alloc()))
 }
 
 /// A session that stands on the second of two states: in the first nothing is live, in the second `root`. None,
@@ -64,26 +60,12 @@ fn two_states(alloc: Global, db: &Db) -> Result<Option<Line>, NoMem>
     ensures closed { IfOk result (λ made. IfSome made (λ line. line.is_open ≡ false)) }
     ensures states { IfOk result (λ made. IfSome made (λ line. All (IsStateOf db.now) (states line.line))) }
 {
-    let first = one_live(alloc, db.graph().len(), None)?;
-    let second = one_live(alloc, db.graph().len(), Some(ROOT))?;
+    let first = set_of(alloc, db.graph().len(), &[])?;
+    let second = set_of(alloc, db.graph().len(), &[ROOT])?;
     if !may_follow(db, &first, &second) {
         return Ok(None);
     }
     Ok(Some(line_of(alloc, db.table(), first, second)?))
-}
-
-/// The set of a service, or of none.
-fn one_live(alloc: Global, bound: u16, service: Option<u16>) -> Result<Set, NoMem>
-    requires { bound ≤ 4096 }
-    ensures { IfOk result (λ set. length set ≡ bound) }
-{
-    let mut live = Set::empty(alloc, bound)?;
-    if let Some(service) = service {
-        if service < bound {
-            live.insert(service);
-        }
-    }
-    Ok(live)
 }
 
 /// Whether these sets are live in two states of a database, with its bundles, that may follow one another.

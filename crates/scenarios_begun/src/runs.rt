@@ -1,5 +1,4 @@
-//! Runs on one session: a change that is abandoned, one that is completed, its undo and redo, one that is spoiled, and
-//! what the session refuses then.
+//! Commands that are begun on a session, and abandoned, completed or spoiled, and a change by no events.
 
 ghost use Rattle.std.specs.Prelude.{◌≡◌, false, length, IfOk};
 ghost use Rattle.rc_set.specs.Set.{Has};
@@ -7,146 +6,74 @@ ghost use Rattle.rc_graph.specs.Closure.{IsClosed};
 ghost use Rattle.rc_core.specs.Course.{course_of, TargetOf};
 ghost use Rattle.rc_session.specs.Commands.{HasRun, command_of};
 
-use crate::session_of_sample;
-use crate::show::{show_answer, show_line, show_place, show_table, show_totals};
 use rc_core::{Ended, Outcome, Run, Took};
 use rc_graph::Graph;
 use rc_select::{Mode, Plan, Request};
-use rc_session::{Refusal, Report, Session, Step};
+use rc_session::{Refusal, Session, Step};
 use rc_set::NoMem;
 use std::alloc::{AllocError, Global};
-use std::io;
-use std::test::Fail;
 
 /// More turns than the change asks for.
 const TURNS: u16 = 20;
 
-/// All runs on a new session.
-pub(crate) fn show_runs(rt: &(impl Print + AllocGlobal)) -> Result<(), Fail> {
-    let mut session = session_of_sample(rt.alloc())?;
-    let shown = show_on(rt, &mut session);
-    drop(session);
-    Ok(shown?)
+/// The change that brings the bundle `site` up, and the undo and redo without a limit.
+#[derive(Clone, Copy)]
+pub(crate) enum Way {
+    Change,
+    Undo,
+    Redo,
 }
 
-fn show_on(rt: &(impl Print + AllocGlobal), session: &mut Session) -> io::Result<()>
+#[derive(Clone, Copy)]
+pub(crate) enum End {
+    Abandon,
+    /// By a run in which all goes well.
+    Complete,
+    /// A plan is asked for then.
+    Spoil,
+}
+
+/// What a command that is begun comes to.
+#[derive(Clone, Copy)]
+pub(crate) enum Made {
+    /// Abandoned: how many services it would have raised.
+    Raises(u16),
+    /// Completed: how many services it has lowered and raised.
+    Moved(usize, usize),
+    /// Spoiled: how a plan is answered then.
+    Spoiled(Result<(), Refusal>),
+}
+
+/// Begins a command and ends it so.
+pub(crate) fn commanded(
+    alloc: Global,
+    session: &mut Session,
+    way: Way,
+    end: End,
+) -> Result<Made, Refusal>
     requires { session.old.begun ≡ false }
-{
-    let change = change_of(rt.alloc())?;
-    let shown = show_each(rt, session, &change);
-    drop(change);
-    shown
-}
-
-fn show_each(
-    rt: &(impl Print + AllocGlobal),
-    session: &mut Session,
-    change: &Step,
-) -> io::Result<()>
-    requires closed { session.old.begun ≡ false }
-    requires run { HasRun (command_of change.now) }
-{
-    show_abandoned(rt, session, change)?;
-    show_completed(rt, session, change)?;
-    show_step(rt, session, back(rt.alloc()))?;
-    show_step(rt, session, on(rt.alloc()))?;
-    show_spoiled(rt, session, change)?;
-    show_refused(rt, session)
-}
-
-fn show_abandoned(
-    rt: &(impl Print + AllocGlobal),
-    session: &mut Session,
-    change: &Step,
-) -> io::Result<()>
-    requires closed { session.old.begun ≡ false }
-    requires run { HasRun (command_of change.now) }
     ensures { session.new.begun ≡ false }
 {
-    match abandoned(rt.alloc(), session, change) {
-        Ok(services) => println!(rt; "begun, to raise {services}, and abandoned")?,
-        Err(refusal) => println!(rt; "refused {refusal:?}")?,
-    }
-    show_place(rt, session)
-}
-
-fn show_completed(
-    rt: &(impl Print + AllocGlobal),
-    session: &mut Session,
-    change: &Step,
-) -> io::Result<()>
-    requires closed { session.old.begun ≡ false }
-    requires run { HasRun (command_of change.now) }
-    ensures { session.new.begun ≡ false }
-{
-    let answer = completed(rt.alloc(), session, change);
-    let shown = show_raised(rt, session, &answer);
-    drop(answer);
-    shown
-}
-
-/// Where the line stands, and what a run has raised.
-fn show_raised(
-    rt: &(impl Print + AllocGlobal),
-    session: &Session,
-    answer: &Result<Report, Refusal>,
-) -> io::Result<()>
-    requires { session.now.begun ≡ false }
-{
-    show_line(rt, session)?;
-    match answer {
-        Ok(report) => println!(rt; "completed, raised {}", report.raised.len()),
-        Err(refusal) => println!(rt; "refused {refusal:?}"),
-    }
-}
-
-/// A command that is begun and completed.
-pub(crate) fn show_step(
-    rt: &(impl Print + AllocGlobal),
-    session: &mut Session,
-    step: Step,
-) -> io::Result<()>
-    requires closed { session.old.begun ≡ false }
-    requires run { HasRun (command_of step) }
-    ensures { session.new.begun ≡ false }
-{
-    let answer = completed(rt.alloc(), session, &step);
+    let step = step_of(alloc, way)?;
+    let made = match end {
+        End::Abandon => abandoned(alloc, session, &step),
+        End::Complete => completed(alloc, session, &step),
+        End::Spoil => spoiled(alloc, session, &step),
+    };
     drop(step);
-    let shown = show_totals(rt, &answer);
-    drop(answer);
-    shown?;
-    show_place(rt, session)
+    made
 }
 
-fn show_spoiled(
-    rt: &(impl Print + AllocGlobal),
-    session: &mut Session,
-    change: &Step,
-) -> io::Result<()>
-    requires closed { session.old.begun ≡ false }
-    requires run { HasRun (command_of change.now) }
-    ensures { session.new.begun ≡ false }
+fn step_of(alloc: Global, way: Way) -> Result<Step, NoMem>
+    ensures { IfOk result (λ step. HasRun (command_of step)) }
 {
-    match spoiled(rt.alloc(), session, change) {
-        Ok(()) => println!(rt; "spoiled, and not refused")?,
-        Err(refusal) => println!(rt; "spoiled, and then refused {refusal:?}")?,
+    match way {
+        Way::Change => Ok(Step::Change(up_site(alloc)?, Vec::new(alloc))),
+        Way::Undo => Ok(Step::Undo(0, Vec::new(alloc))),
+        Way::Redo => Ok(Step::Redo(0, Vec::new(alloc))),
     }
-    show_place(rt, session)
 }
 
-/// A change on a spoiled session, and what it has then.
-fn show_refused(rt: &(impl Print + AllocGlobal), session: &mut Session) -> io::Result<()>
-    requires { session.old.begun ≡ false }
-{
-    let answer = changed(rt.alloc(), session);
-    let shown = show_answer(rt, &answer);
-    drop(answer);
-    shown?;
-    show_place(rt, session)?;
-    show_table(rt, session.table())
-}
-
-/// The change that brings the bundle `site` up.
 fn up_site(alloc: Global) -> Result<Request, NoMem> {
     let mut names = Vec::new(alloc);
     names.push(String::from_str(alloc, "site")?)?;
@@ -159,47 +86,30 @@ fn up_site(alloc: Global) -> Result<Request, NoMem> {
     })
 }
 
-/// The change as a command.
-pub(crate) fn change_of(alloc: Global) -> Result<Step, NoMem>
-    ensures { IfOk result (λ step. HasRun (command_of step)) }
-{
-    Ok(Step::Change(up_site(alloc)?, Vec::new(alloc)))
-}
-
-/// The undo, and the redo, without a limit.
-pub(crate) fn back(alloc: Global) -> Step
-    ensures { HasRun (command_of result) }
-{
-    Step::Undo(0, Vec::new(alloc))
-}
-
-fn on(alloc: Global) -> Step
-    ensures { HasRun (command_of result) }
-{
-    Step::Redo(0, Vec::new(alloc))
-}
-
-/// Begins the change and abandons it: how many services it would have raised.
-fn abandoned(alloc: Global, session: &mut Session, change: &Step) -> Result<u16, Refusal>
+fn abandoned(alloc: Global, session: &mut Session, step: &Step) -> Result<Made, Refusal>
     requires closed { session.old.begun ≡ false }
-    requires run { HasRun (command_of change.now) }
+    requires run { HasRun (command_of step.now) }
     ensures { session.new.begun ≡ false }
 {
-    let begun = session.begin(alloc, change, 7)?;
+    let begun = session.begin(alloc, step, 7)?;
     let services = begun.plan().raise().len();
     session.abandon(begun);
-    Ok(services)
+    Ok(Made::Raises(services))
 }
 
-/// Begins a step, and completes it by a run in which all goes well.
-fn completed(alloc: Global, session: &mut Session, step: &Step) -> Result<Report, Refusal>
+fn completed(alloc: Global, session: &mut Session, step: &Step) -> Result<Made, Refusal>
     requires closed { session.old.begun ≡ false }
     requires run { HasRun (command_of step.now) }
     ensures { session.new.begun ≡ false }
 {
     let begun = session.begin(alloc, step, 0)?;
     match ended(alloc, session.db().graph(), begun.plan(), begun.deadline()) {
-        Ok(run) => Ok(session.complete(begun, run)),
+        Ok(run) => {
+            let report = session.complete(begun, run);
+            let made = Made::Moved(report.lowered.len(), report.raised.len());
+            drop(report);
+            Ok(made)
+        }
         Err(_) => {
             session.abandon(begun);
             Err(Refusal::Memory)
@@ -207,15 +117,14 @@ fn completed(alloc: Global, session: &mut Session, step: &Step) -> Result<Report
     }
 }
 
-/// Begins the change and spoils it, and asks for a plan.
-fn spoiled(alloc: Global, session: &mut Session, change: &Step) -> Result<(), Refusal>
+fn spoiled(alloc: Global, session: &mut Session, step: &Step) -> Result<Made, Refusal>
     requires closed { session.old.begun ≡ false }
-    requires run { HasRun (command_of change.now) }
+    requires run { HasRun (command_of step.now) }
     ensures { session.new.begun ≡ false }
 {
-    let begun = session.begin(alloc, change, 0)?;
+    let begun = session.begin(alloc, step, 0)?;
     session.spoil(begun);
-    planned(alloc, session)
+    Ok(Made::Spoiled(planned(alloc, session)))
 }
 
 /// Asks for a plan.
@@ -230,13 +139,17 @@ fn planned(alloc: Global, session: &Session) -> Result<(), Refusal> {
 }
 
 /// Makes the change by no events.
-fn changed(alloc: Global, session: &mut Session) -> Result<Report, Refusal>
+pub(crate) fn changed(alloc: Global, session: &mut Session) -> Result<(), Refusal>
     requires { session.old.begun ≡ false }
+    ensures { session.new.begun ≡ false }
 {
     let request = up_site(alloc)?;
     let answer = session.change_by(alloc, &request, &[]);
     drop(request);
-    answer
+    match answer {
+        Ok(_) => Ok(()),
+        Err(refusal) => Err(refusal),
+    }
 }
 
 /// The end of a run of a plan by one worker.

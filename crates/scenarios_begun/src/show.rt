@@ -3,12 +3,44 @@
 ghost use Rattle.std.specs.Prelude.{◌≡◌, ◌<◌, false, length};
 ghost use Rattle.rc_line.specs.Line.{states};
 
+use crate::runs::Made;
 use rc_db::Table;
 use rc_line::Line;
-use rc_session::{Refusal, Report, Session};
-use rc_set::NoMem;
-use std::alloc::Global;
+use rc_session::{Refusal, Session};
 use std::io;
+
+/// What a command comes to.
+pub(crate) fn show_made(rt: &impl Print, made: Result<Made, Refusal>) -> io::Result<()> {
+    match made {
+        Ok(Made::Raises(services)) => println!(rt; "begun, to raise {services}, and abandoned"),
+        Ok(Made::Moved(down, up)) => println!(rt; "completed, lowered {down}, raised {up}"),
+        Ok(Made::Spoiled(planned)) => show_done(rt, "spoiled, and then", planned),
+        Err(refusal) => println!(rt; "refused {refusal:?}"),
+    }
+}
+
+/// Whether something is done.
+pub(crate) fn show_done(rt: &impl Print, what: &str, done: Result<(), Refusal>) -> io::Result<()> {
+    match done {
+        Ok(()) => println!(rt; "{what} done"),
+        Err(refusal) => println!(rt; "{what} refused {refusal:?}"),
+    }
+}
+
+/// Where the line stands, how many services are live in each state of a copy of it, and what a command has raised.
+pub(crate) fn show_raised(
+    rt: &(impl Print + AllocGlobal),
+    session: &Session,
+    made: Result<Made, Refusal>,
+) -> io::Result<()>
+    requires { session.now.begun ≡ false }
+{
+    show_line(rt, session)?;
+    match made {
+        Ok(Made::Moved(_, raised)) => println!(rt; "completed, raised {raised}"),
+        _ => show_made(rt, made),
+    }
+}
 
 /// Where the line stands, and how many services are live.
 pub(crate) fn show_place(rt: &impl Print, session: &Session) -> io::Result<()> {
@@ -17,8 +49,7 @@ pub(crate) fn show_place(rt: &impl Print, session: &Session) -> io::Result<()> {
     println!(rt; "at {cursor} of {states}, {} live", session.live().len())
 }
 
-/// Where the line stands, and a copy of it: how many services are live in each of its states.
-pub(crate) fn show_line(rt: &(impl Print + AllocGlobal), session: &Session) -> io::Result<()>
+fn show_line(rt: &(impl Print + AllocGlobal), session: &Session) -> io::Result<()>
     requires { session.now.begun ≡ false }
 {
     show_place(rt, session)?;
@@ -33,19 +64,21 @@ fn show_copy(rt: &(impl Print + AllocGlobal), copy: &Line) -> io::Result<()>
 {
     print!(rt; "a copy: at {} of {}, live", copy.cursor(), copy.states())?;
     for place in 0..copy.states() {
-        print!(rt; " {}", live_at(rt.alloc(), copy, place)?)?;
+        show_live_at(rt, copy, place)?;
     }
     println!(rt; "")
 }
 
 /// How many services are live in the state at a place.
-fn live_at(alloc: Global, line: &Line, place: usize) -> Result<u16, NoMem>
+fn show_live_at(rt: &(impl Print + AllocGlobal), line: &Line, place: usize) -> io::Result<()>
     requires closed { line.now.is_open ≡ false }
     requires place { place < length (states line.now.line) }
 {
-    let (live, table) = line.state(alloc, place)?;
+    let (live, table) = line.state(rt.alloc(), place)?;
+    let services = live.len();
+    drop(live);
     drop(table);
-    Ok(live.len())
+    print!(rt; " {services}")
 }
 
 /// The bundles, each with the number of its services.
@@ -56,23 +89,4 @@ pub(crate) fn show_table(rt: &impl Print, table: &Table) -> io::Result<()> {
         print!(rt; " {} of {}", name.text(), set.len())?;
     }
     println!(rt; "")
-}
-
-/// What a run has lowered and raised.
-pub(crate) fn show_totals(rt: &impl Print, answer: &Result<Report, Refusal>) -> io::Result<()> {
-    match answer {
-        Ok(report) => {
-            let (lowered, raised) = (report.lowered.len(), report.raised.len());
-            println!(rt; "completed, lowered {lowered}, raised {raised}")
-        }
-        Err(refusal) => println!(rt; "refused {refusal:?}"),
-    }
-}
-
-/// Whether a change is made.
-pub(crate) fn show_answer(rt: &impl Print, answer: &Result<Report, Refusal>) -> io::Result<()> {
-    match answer {
-        Ok(_) => println!(rt; "changed"),
-        Err(refusal) => println!(rt; "a change is refused {refusal:?}"),
-    }
 }

@@ -4,28 +4,30 @@
 mod count;
 mod desk;
 mod meeting;
+mod oneshots;
 mod rows;
 
 use crate::count::{Counting, Looks};
 use crate::desk::Desk;
 use crate::meeting::{Meeting, ON_ALL, ON_THE_SAMPLE};
+use crate::oneshots::oneshots;
 use crate::rows::{BOUNDS, FAILURES, Row, Step};
 use rc_board::{Fault, NoWatch};
 use rc_core::Event;
 use rc_db::Db;
 use rc_graph::Way;
-use rc_names::Kind;
 use rc_runner::{StepClock, TableGate};
 use rc_select::{Mode, Request};
 use rc_session::Report;
 use rc_set::NoMem;
-use samples::{db_of, sample};
+use samples::sample;
 use std::alloc::{AllocGlobal, Global};
 use std::io;
 use std::io::Print;
 use std::sync::Wait;
 use std::test::Fail;
 use std::thread::Threads;
+use std::time::Clock;
 
 /// The sample's services, by their numbers.
 const NAMES: [&str; 5] = ["db", "log", "net", "root", "web"];
@@ -34,7 +36,7 @@ fn main(rt: HostRuntime) -> Result<(), Fail> {
     show_rows(&rt, &BOUNDS)?;
     show_counts(&rt)?;
     show_rows(&rt, &FAILURES)?;
-    show_meetings(&rt, &rt)
+    show_meetings(&rt)
 }
 
 fn show_rows<R: Print + AllocGlobal + Threads + Wait + Sync>(
@@ -157,37 +159,39 @@ fn show_counted<R: Print + AllocGlobal + Threads + Wait + Sync>(
     show_looks(rt, gate.calls(), &watch)
 }
 
-fn show_looks(rt: &impl Print, calls: u64, watch: &Looks) -> io::Result<()> {
-    let (looks, events, up) = (watch.looks(), watch.events(), watch.up());
-    println!(rt; "asked {calls}, looks {looks}, one saw {events} events and {up} up")
+fn show_looks(rt: &impl Print, calls: usize, watch: &Looks) -> io::Result<()> {
+    let counts = [
+        ("asked ", calls),
+        (", looks ", watch.looks()),
+        (", one saw ", watch.events()),
+        (" events and ", watch.up()),
+    ];
+    show_line(rt, &counts, " up")
 }
 
 /// Runs in which transitions wait for each other.
-fn show_meetings<R: Print + AllocGlobal + Threads + Wait + Sync>(
+fn show_meetings<R: Print + AllocGlobal + Threads + Wait + Sync + Clock>(
     rt: &R,
-    clock: &HostRuntime,
 ) -> Result<(), Fail> {
     for row in &ON_THE_SAMPLE {
-        show_meeting(rt, clock, sample(rt.alloc())?, row)?;
+        show_meeting(rt, sample(rt.alloc())?, row)?;
     }
-    show_meeting(rt, clock, oneshots(rt.alloc())?, &ON_ALL)
+    show_meeting(rt, oneshots(rt.alloc())?, &ON_ALL)
 }
 
-fn show_meeting<R: Print + AllocGlobal + Threads + Wait + Sync>(
+fn show_meeting<R: Print + AllocGlobal + Threads + Wait + Sync + Clock>(
     rt: &R,
-    clock: &HostRuntime,
     db: Db,
     row: &meeting::Row,
 ) -> Result<(), Fail> {
     let mut desk = Desk::new(rt.alloc(), db)?;
-    let shown = show_met(rt, clock, &mut desk, row);
+    let shown = show_met(rt, &mut desk, row);
     drop(desk);
     Ok(shown?)
 }
 
-fn show_met<R: Print + AllocGlobal + Threads + Wait + Sync>(
+fn show_met<R: Print + AllocGlobal + Threads + Wait + Sync + Clock>(
     rt: &R,
-    clock: &HostRuntime,
     desk: &mut Desk,
     row: &meeting::Row,
 ) -> io::Result<()> {
@@ -195,7 +199,7 @@ fn show_met<R: Print + AllocGlobal + Threads + Wait + Sync>(
     if let Some(name) = first {
         bring_up(rt, desk, name)?;
     }
-    let gate = Meeting::new(clock, *services, *turns);
+    let gate = Meeting::new(rt, *services, *turns);
     let request = up_to(rt.alloc(), last, true, 0)?;
     let answer = desk.change(rt, &request, &gate, *workers, &NoWatch);
     drop(request);
@@ -219,51 +223,57 @@ fn bring_up<R: AllocGlobal + Threads + Wait + Sync>(
 
 /// How many services failed; which ones is free. Where none did, how many went down and came up.
 fn show_tally(rt: &impl Print, what: &str, answer: &Result<Report, Fault>) -> io::Result<()> {
+    print!(rt; "{what}: ")?;
     match answer {
-        Ok(report) if report.failed.is_empty() => {
-            let (lowered, raised) = (report.lowered.len(), report.raised.len());
-            println!(rt; "{what}: {lowered} lowered, {raised} raised")
-        }
-        Ok(report) => println!(rt; "{what}: {} failed", report.failed.len()),
-        Err(fault) => println!(rt; "{what}: refused: {fault}"),
+        Ok(report) => show_moves(rt, report),
+        Err(fault) => show_fault(rt, fault),
     }
 }
 
-/// A database of 64 services, of which none needs another, and a bundle of them all.
-fn oneshots(alloc: Global) -> Result<Db, Fail> {
-    let mut names = Vec::new(alloc);
-    for service in 10..74 {
-        names.push(format!(in alloc; "s{service}")?)?;
+fn show_moves(rt: &impl Print, report: &Report) -> io::Result<()> {
+    if report.failed.is_empty() {
+        let counts = [
+            ("", report.lowered.len()),
+            (" lowered, ", report.raised.len()),
+        ];
+        return show_line(rt, &counts, " raised");
     }
-    let mut rows: Vec<samples::Row> = Vec::new(alloc);
-    for name in &names {
-        rows.push((name.as_str(), Kind::Oneshot, false, None))?;
-    }
-    let mut ids = Vec::new(alloc);
-    for service in 0..64 {
-        ids.push(service)?;
-    }
-    db_of(alloc, &rows, &[], &[("all", &ids)])
+    show_line(rt, &[("", report.failed.len())], " failed")
 }
 
 /// Where the line stands, and how many services are live.
 fn show_place(rt: &impl Print, desk: &Desk) -> io::Result<()> {
     let (cursor, states, live) = desk.place();
-    println!(rt; "  at {cursor} of {states}, {live} live")
+    show_line(
+        rt,
+        &[("  at ", cursor), (" of ", states), (", ", live)],
+        " live",
+    )
 }
 
 fn show_answer(rt: &impl Print, answer: &Result<Report, Fault>) -> io::Result<()> {
     match answer {
         Ok(report) => show_report(rt, report),
-        Err(fault) => println!(rt; "  refused: {fault}"),
+        Err(fault) => {
+            print!(rt; "  ")?;
+            show_fault(rt, fault)
+        }
     }
+}
+
+fn show_fault(rt: &impl Print, fault: &Fault) -> io::Result<()> {
+    println!(rt; "refused: {fault}")
 }
 
 /// A run that was stopped tells no names, since who was taken first is free.
 fn show_report(rt: &impl Print, report: &Report) -> io::Result<()> {
     if report.stopped {
         let (raised, untried) = (report.raised.len(), report.untried.len());
-        println!(rt; "  stopped, {raised} raised, {untried} untried")?;
+        show_line(
+            rt,
+            &[("  stopped, ", raised), (" raised, ", untried)],
+            " untried",
+        )?;
         return show_trace(rt, &report.trace);
     }
     show_list(rt, "lowered", &report.lowered)?;
@@ -275,19 +285,31 @@ fn show_report(rt: &impl Print, report: &Report) -> io::Result<()> {
 
 /// How many events of each kind there are. Who was taken first is free.
 fn show_trace(rt: &impl Print, trace: &[Event]) -> io::Result<()> {
-    let takes = trace
-        .iter()
-        .filter(|event| matches!(event, Event::Take(_, _)))
-        .count();
-    let ends = trace
-        .iter()
-        .filter(|event| matches!(event, Event::Done(_, _, _)))
-        .count();
-    let stops = trace
-        .iter()
-        .filter(|event| matches!(event, Event::Stop(_, 5)))
-        .count();
-    println!(rt; "  {takes} takes, {ends} ends, {stops} stops")
+    let (takes, ends, stops) = events_of(trace);
+    let counts = [("  ", takes), (" takes, ", ends), (" ends, ", stops)];
+    show_line(rt, &counts, " stops")
+}
+
+/// How many takes, ends, and stops at moment 5 there are.
+fn events_of(trace: &[Event]) -> (usize, usize, usize) {
+    let (mut takes, mut ends, mut stops) = (0usize, 0usize, 0usize);
+    for event in trace {
+        match event {
+            Event::Take(_, _) => takes = takes.saturating_add(1),
+            Event::Done(_, _, _) => ends = ends.saturating_add(1),
+            Event::Stop(_, 5) => stops = stops.saturating_add(1),
+            Event::Stop(_, _) => {}
+        }
+    }
+    (takes, ends, stops)
+}
+
+/// A line of numbers, each behind its text, and what it ends in.
+fn show_line(rt: &impl Print, counts: &[(&str, usize)], end: &str) -> io::Result<()> {
+    for (before, count) in counts {
+        print!(rt; "{before}{count}")?;
+    }
+    println!(rt; "{end}")
 }
 
 /// A list of services, if there are any.
@@ -297,10 +319,14 @@ fn show_list(rt: &impl Print, what: &str, services: &[u16]) -> io::Result<()> {
     }
     print!(rt; "  {what}")?;
     for service in services {
-        let name = NAMES.get(*service as usize).unwrap_or(&"?");
-        print!(rt; " {name}")?;
+        show_name(rt, *service)?;
     }
     println!(rt; "")
+}
+
+fn show_name(rt: &impl Print, service: u16) -> io::Result<()> {
+    let name = NAMES.get(service as usize).copied().unwrap_or("?");
+    print!(rt; " {name}")
 }
 
 /// The change that brings this up, and may bring the rest down.

@@ -5,7 +5,7 @@ use rc_core::{Job, Outcome};
 use samples::{LOG, NET, ROOT};
 use std::sync::atomic::{AtomicU64, Ordering};
 use std::thread;
-use std::time::Duration;
+use std::time::{Clock, Duration};
 
 /// A run in which the transitions of some services wait for each other: what it shows; what is up at
 /// first; what is wanted then; the services that wait, as the bits of a number; how many workers there
@@ -42,30 +42,25 @@ const SHORT: u32 = 3;
 
 /// A gate at which the transitions of some services wait until all of them have come.
 #[derive(Drop)]
-pub struct Meeting<'a> {
-    rt: &'a HostRuntime,
+pub struct Meeting<'a, C> {
+    clock: &'a C,
     services: u64,
     turns: u32,
     come: AtomicU64,
 }
 
-impl<'a> Meeting<'a> {
-    pub fn new(rt: &'a HostRuntime, services: u64, turns: u32) -> Meeting<'a> {
+impl<'a, C> Meeting<'a, C> {
+    pub fn new(clock: &'a C, services: u64, turns: u32) -> Meeting<'a, C> {
         Meeting {
-            rt,
+            clock,
             services,
             turns,
             come: AtomicU64::new(0),
         }
     }
-
-    /// Whether all have come.
-    fn is_full(&self) -> bool {
-        self.come.load(Ordering::SeqCst) >= self.services.count_ones() as u64
-    }
 }
 
-impl<'a> Gate for Meeting<'a> {
+impl<'a, C: Clock + Sync> Gate for Meeting<'a, C> {
     ghost answers = { λ gate service way outcome. Unit {0} };
 
     ghost gives = { λ gate moment. Unit {0} };
@@ -77,10 +72,10 @@ impl<'a> Gate for Meeting<'a> {
         }
         self.come.fetch_add(1, Ordering::SeqCst);
         for _ in 0..self.turns {
-            if self.is_full() {
+            if is_full(&self.come, self.services) {
                 return Outcome::Ok;
             }
-            thread::sleep(self.rt, Duration::from_millis(10));
+            thread::sleep(self.clock, Duration::from_millis(10));
         }
         Outcome::Failed(1)
     }
@@ -88,4 +83,9 @@ impl<'a> Gate for Meeting<'a> {
     fn now(&self) -> u64 {
         0
     }
+}
+
+/// Whether all of these services have come.
+fn is_full(come: &AtomicU64, services: u64) -> bool {
+    come.load(Ordering::SeqCst) >= u64::from(services.count_ones())
 }

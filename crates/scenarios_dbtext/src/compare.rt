@@ -13,7 +13,11 @@ pub(crate) fn is_right(alloc: Global, db: &Db, text: &[u8], bytes: &[u8]) -> Res
 
 fn is_right_whole(alloc: Global, db: &Db, text: &[u8], bytes: &[u8]) -> Result<bool, NoMem> {
     match read_db(alloc, bytes) {
-        Ok(other) => is_right_read(alloc, db, other, text, bytes),
+        Ok(other) => {
+            let is_right = is_right_read(alloc, db, &other, text, bytes);
+            drop(other);
+            is_right
+        }
         Err(fault) => Ok(fault != TextFault::Memory && bytes != text),
     }
 }
@@ -21,31 +25,36 @@ fn is_right_whole(alloc: Global, db: &Db, text: &[u8], bytes: &[u8]) -> Result<b
 fn is_right_read(
     alloc: Global,
     db: &Db,
-    other: Db,
+    other: &Db,
     text: &[u8],
     bytes: &[u8],
 ) -> Result<bool, NoMem> {
-    let is_alike = is_same(db, &other) == (bytes == text);
-    let is_text = is_text_of(alloc, &other, bytes);
-    drop(other);
-    Ok(is_text? && is_alike)
+    let is_alike = is_same(db, other) == (bytes == text);
+    Ok(is_text_of(alloc, other, bytes)? && is_alike)
 }
 
 fn is_right_front(alloc: Global, bytes: &[u8]) -> Result<bool, NoMem> {
     match read_db_front(alloc, bytes) {
-        Ok((other, long)) => is_front_of(alloc, other, long, bytes),
+        Ok((other, long)) => {
+            let is_front = is_front_of(alloc, &other, long, bytes);
+            drop(other);
+            is_front
+        }
         Err(fault) => Ok(fault != TextFault::Memory),
     }
 }
 
 /// Whether so many bytes at the front are the text of a database.
-pub(crate) fn is_front_of(alloc: Global, db: Db, long: usize, bytes: &[u8]) -> Result<bool, NoMem> {
-    let is_text = match bytes.get(..long) {
-        Some(front) => is_text_of(alloc, &db, front),
+pub(crate) fn is_front_of(
+    alloc: Global,
+    db: &Db,
+    long: usize,
+    bytes: &[u8],
+) -> Result<bool, NoMem> {
+    match bytes.get(..long) {
+        Some(front) => is_text_of(alloc, db, front),
         None => Ok(false),
-    };
-    drop(db);
-    is_text
+    }
 }
 
 /// Whether bytes are the text of a database.

@@ -3,7 +3,7 @@
 
 use crate::compare::{is_front_of, is_text_of};
 use rc_db::{Db, NoMem};
-use rc_dbtext::{read_db, read_db_front};
+use rc_dbtext::{TextFault, read_db, read_db_front};
 use std::alloc::Global;
 use std::io;
 
@@ -39,7 +39,11 @@ fn filled(alloc: Global, star: &str, text: &str) -> Result<String, NoMem> {
     let (times, piece) = star.split_once(' ').unwrap_or(("0", ""));
     let piece = piece.replacen(alloc, "\\n", "\n", 1)?;
     let times = times.parse::<usize>().unwrap_or(0);
-    let pieces = piece.as_str().repeat(alloc, times)?;
+    with_pieces(alloc, text, piece.as_str(), times)
+}
+
+fn with_pieces(alloc: Global, text: &str, piece: &str, times: usize) -> Result<String, NoMem> {
+    let pieces = piece.repeat(alloc, times)?;
     text.replacen(alloc, "*", pieces.as_str(), 1)
 }
 
@@ -50,25 +54,40 @@ pub(crate) fn show_text(
     what: &str,
     text: &[u8],
 ) -> io::Result<()> {
+    print!(rt; "{what}: ")?;
     match read_db(rt.alloc(), text) {
-        Ok(db) => show_read(rt, what, db, text),
-        Err(fault) => println!(rt; "{what}: {fault:?}"),
+        Ok(db) => {
+            let shown = show_read(rt, &db, text);
+            drop(db);
+            shown
+        }
+        Err(fault) => show_fault(rt, &fault),
     }
 }
 
-fn show_read(rt: &(impl Print + AllocGlobal), what: &str, db: Db, text: &[u8]) -> io::Result<()> {
-    let services = db.names().len();
-    let bundles = db.table().len();
-    let is_text = is_text_of(rt.alloc(), &db, text);
-    drop(db);
-    let is_same = is_text? && is_whole_front(rt.alloc(), text)?;
-    println!(rt; "{what}: {services} services, {bundles} bundles, written back the same: {is_same}")
+fn show_fault(rt: &impl Print, fault: &TextFault) -> io::Result<()> {
+    println!(rt; "{fault:?}")
+}
+
+fn show_read(rt: &(impl Print + AllocGlobal), db: &Db, text: &[u8]) -> io::Result<()> {
+    show_sizes(rt, db.names().len(), db.table().len())?;
+    let is_same = is_text_of(rt.alloc(), db, text)? && is_whole_front(rt.alloc(), text)?;
+    println!(rt; ", written back the same: {is_same}")
+}
+
+fn show_sizes(rt: &impl Print, services: u16, bundles: u16) -> io::Result<()> {
+    print!(rt; "{services} services")?;
+    print!(rt; ", {bundles} bundles")
 }
 
 /// Whether the front reader takes all of a text.
 fn is_whole_front(alloc: Global, text: &[u8]) -> Result<bool, NoMem> {
     match read_db_front(alloc, text) {
-        Ok((db, long)) => Ok(is_front_of(alloc, db, long, text)? && long == text.len()),
+        Ok((db, long)) => {
+            let is_front = is_front_of(alloc, &db, long, text);
+            drop(db);
+            Ok(is_front? && long == text.len())
+        }
         Err(_) => Ok(false),
     }
 }

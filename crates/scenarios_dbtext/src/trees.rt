@@ -43,14 +43,30 @@ static FLUSHES: [Option<ErrorKind>; 3] = [
 /// The sample in two trees over writers whose flush does well or not, no files, and an empty directory.
 pub(crate) fn show_trees(rt: &(impl Print + AllocGlobal)) -> io::Result<()> {
     for failing in FLUSHES {
-        let mut trees = [
-            tree_of(rt.alloc(), &SERVICES)?,
-            tree_of(rt.alloc(), &BUNDLE)?,
-        ];
-        show(rt, "the sample", &mut trees, failing)?;
+        show_sample(rt, failing)?;
     }
     show(rt, "no files", &mut [MemoryTree::new(rt.alloc())], None)?;
     show(rt, "an empty directory", &mut [empty(rt.alloc())?], None)
+}
+
+fn show_sample(rt: &(impl Print + AllocGlobal), failing: Option<ErrorKind>) -> io::Result<()> {
+    let mut trees = [MemoryTree::new(rt.alloc()), MemoryTree::new(rt.alloc())];
+    let shown = show_filled(rt, &mut trees, failing);
+    drop(trees);
+    shown
+}
+
+/// Puts the sample into two trees, and shows what comes of it.
+fn show_filled(
+    rt: &(impl Print + AllocGlobal),
+    trees: &mut [MemoryTree],
+    failing: Option<ErrorKind>,
+) -> io::Result<()> {
+    if let [services, bundle] = trees {
+        put_all(services, &SERVICES)?;
+        put_all(bundle, &BUNDLE)?;
+    }
+    show(rt, "the sample", trees, failing)
 }
 
 /// What the command makes of trees, in a line: its status, what it writes, and what it tells.
@@ -63,24 +79,35 @@ fn show(
     let mut writer = Sink::new(rt.alloc(), failing);
     let mut faults = Sink::new(rt.alloc(), None);
     let status = compiled(rt.alloc(), trees, &mut writer, &mut faults);
-    println!(rt; "{what}: {status} {:?} {:?}", writer.text(), faults.text())
+    let shown = show_line(rt, what, status, writer.text(), faults.text());
+    drop((writer, faults));
+    shown
 }
-
 /// The status. What the command promises stands on its contract, so none of it is asked here.
 fn compiled(alloc: Global, trees: &mut [MemoryTree], writer: &mut Sink, faults: &mut Sink) -> u8 {
     compile_run(alloc, trees, writer, faults)
 }
 
-fn tree_of(alloc: Global, files: &[File<'_>]) -> Result<MemoryTree, AllocError> {
-    let mut tree = MemoryTree::new(alloc);
+fn show_line(rt: &impl Print, what: &str, status: u8, written: &str, told: &str) -> io::Result<()> {
+    print!(rt; "{what}: {status}")?;
+    print!(rt; " {written:?}")?;
+    println!(rt; " {told:?}")
+}
+
+fn put_all(tree: &mut MemoryTree, files: &[File<'_>]) -> Result<(), AllocError> {
     for (service, path, bytes) in files {
         tree.put(service, path, bytes)?;
     }
-    Ok(tree)
+    Ok(())
 }
 
 fn empty(alloc: Global) -> Result<MemoryTree, AllocError> {
     let mut tree = MemoryTree::new(alloc);
-    tree.folder("a")?;
-    Ok(tree)
+    match tree.folder("a") {
+        Ok(()) => Ok(tree),
+        Err(fault) => {
+            drop(tree);
+            Err(fault)
+        }
+    }
 }
