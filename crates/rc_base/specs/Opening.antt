@@ -35,7 +35,7 @@ pub record Opens (base remaining after : Option (List ℕ)) (d : Database) (inpu
 abbrev pub IsInputFailure : Option (List ℕ) → Failure → Type 0
 IsInputFailure remaining failure = (failure ≢ failures.Write) × (failure ≡ failures.TooLong → IfSome remaining (λ all. 16777216 < length all))
 
--- why there is no database of a base: its text is refused, and then, want of memory aside, it is the text of none
+-- why there is no database of a base: its text is refused, and then, out of memory aside, it is the text of none
 abbrev pub IsBaseFault : List ℕ → OpenFault → Type 0
 IsBaseFault base (OfText wrong) = IsWholeFault base wrong × (wrong ≢ text.Memory → IsWrongBase (Some base))
 IsBaseFault base (Failed failure) = ⊥
