@@ -31,7 +31,8 @@ pub struct Opened {
     pub start: usize,
 }
 
-/// Reads the database, and the whole input. With a base nothing is read before its text is found right.
+/// Reads the database, and the whole input. With a base nothing is read before its text is found
+/// right.
 pub fn open<R: Read>(
     alloc: Global,
     base: Option<&[u8]>,

@@ -89,8 +89,9 @@ impl<'a> From<NamedFault<'a>> for PlanFault<'a> {
 
 /// Runs `undorc plan` on its words, and answers the status.
 ///
-/// The database is `base`, where there is one, which is looked at before anything is read, and else the front of
-/// the input. Behind it the input has the names that are up, one a line. The plan is written to `writer`, and why there is none to `faults`.
+/// The database is `base`, where there is one, which is looked at before anything is read, and else
+/// the front of the input. Behind it the input has the names that are up, one a line. The plan is
+/// written to `writer`, and why there is none to `faults`.
 pub fn plan_run<R: Read, W: Write, F: Write>(
     alloc: Global,
     words: &[String],
@@ -121,12 +122,14 @@ pub fn plan_run<R: Read, W: Write, F: Write>(
         (IsAnswer (map string_bytes words.now) (bytes_of base.entry) input) (W.contents writer.old) (W.contents writer.new)) }
     ensures unwritten { (result ≡ 1) ⊎ (result ≡ 100) → W.contents writer.new ≡ W.contents writer.old }
 
-    // A base comes first: where it is wrong the reader is as it was, there is no plan, and why is told whatever the reader has.
+    // A base comes first: where it is wrong the reader is as it was, there is no plan, and why is
+    // told whatever the reader has.
     ensures first { IsWrongBase (bytes_of base.entry) → reader.new ≡ reader.old }
     ensures based { result ≡ 0 → IsWrongBase (bytes_of base.entry) → ⊥ }
     ensures untrue { result ≡ 1 → IsWrongBase (bytes_of base.entry) → TellsFault (map string_bytes words.now) (bytes_of base.entry) [] (F.contents faults.old) (F.contents faults.new) }
 
-    // Any other input that was answered was read to its end, and whatever the status, one byte past the bound is the last that is taken.
+    // Any other input that was answered was read to its end, and whatever the status, one byte past
+    // the bound is the last that is taken.
     ensures within { (result ≡ 0) ⊎ (result ≡ 1) → IsWrongBase (bytes_of base.entry) ⊎ IfSome (R.remaining reader.old) (λ input. length input ≤ MAX_INPUT) }
     ensures end { (result ≡ 0) ⊎ (result ≡ 1) → IsWrongBase (bytes_of base.entry) ⊎ IsAtEnd (R.remaining reader.new) }
     ensures taken { ConsumesAtMost (R.remaining reader.old) (R.remaining reader.new) (MAX_INPUT + 1) }
@@ -163,12 +166,14 @@ pub fn plan_as_asked<R: Read, W: Write, F: Write>(
         (IsPlanFor (ask_of request.now) (bytes_of base.entry) input) (W.contents writer.old) (W.contents writer.new)) }
     ensures unwritten { result ≡ 1 → W.contents writer.new ≡ W.contents writer.old }
 
-    // A base comes first: where it is wrong the reader is as it was, there is no plan, and why is told whatever the reader has.
+    // A base comes first: where it is wrong the reader is as it was, there is no plan, and why is
+    // told whatever the reader has.
     ensures first { IsWrongBase (bytes_of base.entry) → reader.new ≡ reader.old }
     ensures based { result ≡ 0 → IsWrongBase (bytes_of base.entry) → ⊥ }
     ensures untrue { result ≡ 1 → IsWrongBase (bytes_of base.entry) → TellsPlanFault (ask_of request.now) (bytes_of base.entry) [] (F.contents faults.old) (F.contents faults.new) }
 
-    // Any other input that was answered was read to its end, and whatever the status, one byte past the bound is the last that is taken.
+    // Any other input that was answered was read to its end, and whatever the status, one byte past
+    // the bound is the last that is taken.
     ensures within { (result ≡ 0) ⊎ (result ≡ 1) → IsWrongBase (bytes_of base.entry) ⊎ IfSome (R.remaining reader.old) (λ input. length input ≤ MAX_INPUT) }
     ensures end { (result ≡ 0) ⊎ (result ≡ 1) → IsWrongBase (bytes_of base.entry) ⊎ IsAtEnd (R.remaining reader.new) }
     ensures taken { ConsumesAtMost (R.remaining reader.old) (R.remaining reader.new) (MAX_INPUT + 1) }
@@ -183,7 +188,8 @@ pub fn plan_as_asked<R: Read, W: Write, F: Write>(
     }
 }
 
-/// The lines of the plan for what is asked in a database, where the lines of a text name what is up.
+/// The lines of the plan for what is asked in a database, where the lines of a text name what is
+/// up.
 fn plan_of<'a>(
     alloc: Global,
     request: &'a Request,

@@ -61,8 +61,9 @@ impl From<ScriptFault> for ReplayFault {
 
 /// Runs `undorc replay` on its words, and answers the status.
 ///
-/// The database is `base`, where there is one, which is looked at before anything is read, and else the front of
-/// the input. Behind it the input has the script. What it comes to is written to `writer`, and why there is nothing to write to `faults`.
+/// The database is `base`, where there is one, which is looked at before anything is read, and else
+/// the front of the input. Behind it the input has the script. What it comes to is written to
+/// `writer`, and why there is nothing to write to `faults`.
 pub fn replay_run<R: Read, W: Write, F: Write>(
     alloc: Global,
     words: &[String],
@@ -93,12 +94,14 @@ pub fn replay_run<R: Read, W: Write, F: Write>(
         (IsReplayFor (bytes_of base.entry) input) (W.contents writer.old) (W.contents writer.new)) }
     ensures unwritten { (result ≡ 1) ⊎ (result ≡ 100) → W.contents writer.new ≡ W.contents writer.old }
 
-    // A base comes first: where it is wrong the reader is as it was, nothing is written, and why is told whatever the reader has.
+    // A base comes first: where it is wrong the reader is as it was, nothing is written, and why is
+    // told whatever the reader has.
     ensures first { IsWrongBase (bytes_of base.entry) → reader.new ≡ reader.old }
     ensures based { result ≡ 0 → IsWrongBase (bytes_of base.entry) → ⊥ }
     ensures untrue { result ≡ 1 → IsWrongBase (bytes_of base.entry) → TellsReplayFault (bytes_of base.entry) [] (F.contents faults.old) (F.contents faults.new) }
 
-    // Any other input that was answered was read to its end, and whatever the status, one byte past the bound is the last that is taken.
+    // Any other input that was answered was read to its end, and whatever the status, one byte past
+    // the bound is the last that is taken.
     ensures within { (result ≡ 0) ⊎ (result ≡ 1) → IsWrongBase (bytes_of base.entry) ⊎ IfSome (R.remaining reader.old) (λ input. length input ≤ MAX_INPUT) }
     ensures end { (result ≡ 0) ⊎ (result ≡ 1) → IsWrongBase (bytes_of base.entry) ⊎ IsAtEnd (R.remaining reader.new) }
     ensures taken { ConsumesAtMost (R.remaining reader.old) (R.remaining reader.new) (MAX_INPUT + 1) }
@@ -134,12 +137,14 @@ pub fn replay_as_asked<R: Read, W: Write, F: Write>(
         (IsReplayFor (bytes_of base.entry) input) (W.contents writer.old) (W.contents writer.new)) }
     ensures unwritten { result ≡ 1 → W.contents writer.new ≡ W.contents writer.old }
 
-    // A base comes first: where it is wrong the reader is as it was, nothing is written, and why is told whatever the reader has.
+    // A base comes first: where it is wrong the reader is as it was, nothing is written, and why is
+    // told whatever the reader has.
     ensures first { IsWrongBase (bytes_of base.entry) → reader.new ≡ reader.old }
     ensures based { result ≡ 0 → IsWrongBase (bytes_of base.entry) → ⊥ }
     ensures untrue { result ≡ 1 → IsWrongBase (bytes_of base.entry) → TellsReplayFault (bytes_of base.entry) [] (F.contents faults.old) (F.contents faults.new) }
 
-    // Any other input that was answered was read to its end, and whatever the status, one byte past the bound is the last that is taken.
+    // Any other input that was answered was read to its end, and whatever the status, one byte past
+    // the bound is the last that is taken.
     ensures within { (result ≡ 0) ⊎ (result ≡ 1) → IsWrongBase (bytes_of base.entry) ⊎ IfSome (R.remaining reader.old) (λ input. length input ≤ MAX_INPUT) }
     ensures end { (result ≡ 0) ⊎ (result ≡ 1) → IsWrongBase (bytes_of base.entry) ⊎ IsAtEnd (R.remaining reader.new) }
     ensures taken { ConsumesAtMost (R.remaining reader.old) (R.remaining reader.new) (MAX_INPUT + 1) }

@@ -13,8 +13,8 @@ use std::alloc::Global;
 use std::marker::Model;
 
 /// A gate that answers as another does, and tells each outcome other than success by a line of the
-/// log: the way, the name of the service, and how the transition ended. A line that can't be written
-/// is dropped.
+/// log: the way, the name of the service, and how the transition ended. A line that can't be
+/// written is dropped.
 #[derive(Drop)]
 pub struct Telling<'a, R, G> {
     rt: &'a R,

@@ -76,7 +76,8 @@ fn open_between(
     Run::open(alloc, graph, &plan, deadline)
 }
 
-/// In each turn a drawn worker ends what it holds, or stops the run, or asks for a job. False: a call was refused.
+/// In each turn a drawn worker ends what it holds, or stops the run, or asks for a job. False: a
+/// call was refused.
 fn work(draw: &mut Draw, run: &mut Run, change: &Change, workers: u16) -> bool {
     let mut held: [Option<u16>; 64] = [None; 64];
     let mut deadline = change.deadline;

@@ -35,8 +35,8 @@ pub(crate) enum Edit {
     Redo,
 }
 
-/// A change that is abandoned, one that is completed, its undo and redo, one that is spoiled, and what the session refuses
-/// then.
+/// A change that is abandoned, one that is completed, its undo and redo, one that is spoiled, and
+/// what the session refuses then.
 pub(crate) static RUNS: [Action; 12] = [
     Action::Command(Way::Change, End::Abandon),
     Action::Place,
@@ -52,7 +52,8 @@ pub(crate) static RUNS: [Action; 12] = [
     Action::Table,
 ];
 
-/// Edits of bundles, and their undo and redo as edits, which are refused where the way leads through a change.
+/// Edits of bundles, and their undo and redo as edits, which are refused where the way leads
+/// through a change.
 pub(crate) static EDITS: [Action; 14] = [
     Action::Edit(Edit::Undo),
     Action::Edit(Edit::Redo),

@@ -1,4 +1,5 @@
-//! Commands that are begun on a session, and abandoned, completed or spoiled, and a change by no events.
+//! Commands that are begun on a session, and abandoned, completed or spoiled, and a change by no
+//! events.
 
 ghost use Rattle.std.specs.Prelude.{◌≡◌, false, length, IfOk};
 ghost use Rattle.rc_set.specs.Set.{Has};

@@ -27,7 +27,8 @@ pub(crate) fn show_done(rt: &impl Print, what: &str, done: Result<(), Refusal>) 
     }
 }
 
-/// Where the line stands, how many services are live in each state of a copy of it, and what a command has raised.
+/// Where the line stands, how many services are live in each state of a copy of it, and what a
+/// command has raised.
 pub(crate) fn show_raised(
     rt: &(impl Print + AllocGlobal),
     session: &Session,
