@@ -1,12 +1,11 @@
 -- A base and an input: the base comes first.
-use Rattle.std.specs.Prelude.{◌≡◌, ◌≢◌, ◌⊎◌, ◌≤◌, ◌<◌, ℕ, List, [], Option, None, Some, IfSome, drop, length}
+use Rattle.std.specs.Prelude.{◌≡◌, ◌≢◌, ◌⊎◌, ◌≤◌, ℕ, List, [], Option, None, Some, IfSome, drop, length}
 use Rattle.std.specs.Io.KnownBytes.{IsAtEnd}
 use Rattle.rc_db.specs.Database.{Database, IsDatabase, IsWritable}
 use Rattle.rc_dbtext.specs.Spelling.{spelling}
 use Rattle.rc_dbtext.specs.TextFaults.{IsWholeFault}
 use Rattle.rc_dbtext.specs.declared.fault.TextFault.TheVariants as text
-use Rattle.rc_streams.specs.declared.input.Failure.{Failure}
-use Rattle.rc_streams.specs.declared.input.Failure.TheVariants as failures
+use Rattle.rc_streams.specs.Input.{IsCause}
 use Rattle.rc_base.specs.Base.{IsTextFault, Spells}
 use Rattle.rc_base.specs.declared.opening.OpenFault.{OpenFault}
 use Rattle.rc_base.specs.declared.opening.OpenFault.TheVariants.{OfText, Failed}
@@ -31,21 +30,17 @@ pub record Opens (base remaining after : Option (List ℕ)) (d : Database) (inpu
   pub reads : ReadsAll remaining after input
   pub spelled : Spells base input d (drop start input)
 
--- a failure to read the whole input: of no write, and as too long only where it has more bytes than the bound
-abbrev pub IsInputFailure : Option (List ℕ) → Failure → Type 0
-IsInputFailure remaining failure = (failure ≢ failures.Write) × (failure ≡ failures.TooLong → IfSome remaining (λ all. 16777216 < length all))
-
 -- why there is no database of a base: its text is refused, and then, out of memory aside, it is the text of none
 abbrev pub IsBaseFault : List ℕ → OpenFault → Type 0
 IsBaseFault base (OfText wrong) = IsWholeFault base wrong × (wrong ≢ text.Memory → IsWrongBase (Some base))
 IsBaseFault base (Failed failure) = ⊥
 
--- why the input was not read whole
-abbrev pub IsInputFault : Option (List ℕ) → OpenFault → Type 0
-IsInputFault remaining (OfText wrong) = ⊥
-IsInputFault remaining (Failed failure) = IsInputFailure remaining failure
+-- why the input was not read whole: it is too long, the reader has failed, or memory ran out
+abbrev pub IsInputFault : Option (List ℕ) → (failed : Type 0) → OpenFault → Type 0
+IsInputFault remaining failed (OfText wrong) = ⊥
+IsInputFault remaining failed (Failed failure) = IsCause remaining failed ⊥ failure
 
 -- why there is no database with its input: the text is refused, that of a base before anything is read; or the input was not read whole, and then no base is wrong
-abbrev pub IsOpenFault : Option (List ℕ) → (remaining after : Option (List ℕ)) → OpenFault → Type 0
-IsOpenFault base remaining after (OfText wrong) = (input : List ℕ) × Reads base remaining after input × IsTextFault base input wrong × (wrong ≢ text.Memory → (base ≡ None) ⊎ IsWrongBase base)
-IsOpenFault base remaining after (Failed failure) = (IsWrongBase base → ⊥) × IsInputFailure remaining failure
+abbrev pub IsOpenFault : Option (List ℕ) → (remaining after : Option (List ℕ)) → (failed : Type 0) → OpenFault → Type 0
+IsOpenFault base remaining after failed (OfText wrong) = (input : List ℕ) × Reads base remaining after input × IsTextFault base input wrong × (wrong ≢ text.Memory → (base ≡ None) ⊎ IsWrongBase base)
+IsOpenFault base remaining after failed (Failed failure) = (IsWrongBase base → ⊥) × IsInputFault remaining failed (Failed failure)

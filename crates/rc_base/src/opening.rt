@@ -1,15 +1,16 @@
 //! A database and an input: a base comes first, and without one the database stands at the front.
-ghost use Rattle.std.specs.Prelude.{◌≡◌, ◌+◌, None, Some, IfErr, IfOk};
+ghost use Rattle.std.specs.Prelude.{◌≡◌, ◌⊎◌, ◌+◌, Err, None, Some, IfErr, IfOk};
 ghost use Rattle.rc_base.specs.Base.{bytes_of};
 ghost use Rattle.rc_base.specs.Opening.{IsBaseFault, IsInputFault, IsOpenFault, IsWrongBase, Opens, ReadsAll};
 ghost use Rattle.rc_db.specs.Database.{IsDatabase, IsWritable};
 ghost use Rattle.rc_dbtext.specs.Spelling.{spelling};
 ghost use Rattle.rc_streams.specs.Input.{ConsumesAtMost};
+ghost use Rattle.rc_streams.specs.Noting.{HasFailed, inner_of};
 
 use rc_db::Db;
 use rc_dbtext::laws::spelling_is_not_refused;
 use rc_dbtext::{TextFault, read_db, read_db_front};
-use rc_streams::{Failure, MAX_INPUT, read_all};
+use rc_streams::{Failure, MAX_INPUT, Noted, read_all};
 use std::alloc::Global;
 use std::io::Read;
 
@@ -36,15 +37,18 @@ pub struct Opened {
 pub fn open<R: Read>(
     alloc: Global,
     base: Option<&[u8]>,
-    reader: &mut R,
+    reader: &mut Noted<R>,
 ) -> Result<Opened, OpenFault>
-    ensures opened { IfOk result (λ opened. Opens (bytes_of base.entry) (R.remaining reader.old) (R.remaining reader.new)
+    ensures opened { IfOk result (λ opened. Opens (bytes_of base.entry) (R.remaining (inner_of reader.old)) (R.remaining (inner_of reader.new))
         opened.db opened.input.items opened.start) }
-    ensures fault { IfErr result (IsOpenFault (bytes_of base.entry) (R.remaining reader.old) (R.remaining reader.new)) }
+    ensures fault { IfErr result (IsOpenFault (bytes_of base.entry) (R.remaining (inner_of reader.old)) (R.remaining (inner_of reader.new)) (HasFailed reader.new)) }
+
+    // A read that has failed is told as that.
+    ensures told { HasFailed reader.new → HasFailed reader.old ⊎ (result ≡ Err (OpenFault.Failed Failure.Read)) }
 
     // Where the base is wrong the reader is as it was.
     ensures first { IsWrongBase (bytes_of base.entry) → reader.new ≡ reader.old }
-    ensures taken { ConsumesAtMost (R.remaining reader.old) (R.remaining reader.new) (MAX_INPUT + 1) }
+    ensures taken { ConsumesAtMost (R.remaining (inner_of reader.old)) (R.remaining (inner_of reader.new)) (MAX_INPUT + 1) }
 {
     match base {
         Some(bytes) => open_base(alloc, bytes, reader),
@@ -53,12 +57,13 @@ pub fn open<R: Read>(
 }
 
 // Reads the database of a base, and then the whole input.
-fn open_base<R: Read>(alloc: Global, base: &[u8], reader: &mut R) -> Result<Opened, OpenFault>
-    ensures opened { IfOk result (λ opened. Opens (Some base.now) (R.remaining reader.old) (R.remaining reader.new)
+fn open_base<R: Read>(alloc: Global, base: &[u8], reader: &mut Noted<R>) -> Result<Opened, OpenFault>
+    ensures opened { IfOk result (λ opened. Opens (Some base.now) (R.remaining (inner_of reader.old)) (R.remaining (inner_of reader.new))
         opened.db opened.input.items opened.start) }
-    ensures fault { IfErr result (IsOpenFault (Some base.now) (R.remaining reader.old) (R.remaining reader.new)) }
+    ensures fault { IfErr result (IsOpenFault (Some base.now) (R.remaining (inner_of reader.old)) (R.remaining (inner_of reader.new)) (HasFailed reader.new)) }
     ensures first { IsWrongBase (Some base.now) → reader.new ≡ reader.old }
-    ensures taken { ConsumesAtMost (R.remaining reader.old) (R.remaining reader.new) (MAX_INPUT + 1) }
+    ensures told { HasFailed reader.new → HasFailed reader.old ⊎ (result ≡ Err (OpenFault.Failed Failure.Read)) }
+    ensures taken { ConsumesAtMost (R.remaining (inner_of reader.old)) (R.remaining (inner_of reader.new)) (MAX_INPUT + 1) }
 {
     let db = base_db(alloc, base)?;
     let input = whole_input(alloc, reader)?;
@@ -70,11 +75,12 @@ fn open_base<R: Read>(alloc: Global, base: &[u8], reader: &mut R) -> Result<Open
 }
 
 // Reads the whole input, at whose front the database stands.
-fn open_front<R: Read>(alloc: Global, reader: &mut R) -> Result<Opened, OpenFault>
-    ensures opened { IfOk result (λ opened. Opens None (R.remaining reader.old) (R.remaining reader.new)
+fn open_front<R: Read>(alloc: Global, reader: &mut Noted<R>) -> Result<Opened, OpenFault>
+    ensures opened { IfOk result (λ opened. Opens None (R.remaining (inner_of reader.old)) (R.remaining (inner_of reader.new))
         opened.db opened.input.items opened.start) }
-    ensures fault { IfErr result (IsOpenFault None (R.remaining reader.old) (R.remaining reader.new)) }
-    ensures taken { ConsumesAtMost (R.remaining reader.old) (R.remaining reader.new) (MAX_INPUT + 1) }
+    ensures fault { IfErr result (IsOpenFault None (R.remaining (inner_of reader.old)) (R.remaining (inner_of reader.new)) (HasFailed reader.new)) }
+    ensures told { HasFailed reader.new → HasFailed reader.old ⊎ (result ≡ Err (OpenFault.Failed Failure.Read)) }
+    ensures taken { ConsumesAtMost (R.remaining (inner_of reader.old)) (R.remaining (inner_of reader.new)) (MAX_INPUT + 1) }
 {
     let all = whole_input(alloc, reader)?;
     match read_db_front(alloc, &all) {
@@ -106,10 +112,11 @@ fn base_db(alloc: Global, base: &[u8]) -> Result<Db, OpenFault>
 }
 
 // The whole input.
-fn whole_input<R: Read>(alloc: Global, reader: &mut R) -> Result<Vec<u8>, OpenFault>
-    ensures whole { IfOk result (λ all. ReadsAll (R.remaining reader.old) (R.remaining reader.new) all.items) }
-    ensures fault { IfErr result (IsInputFault (R.remaining reader.old)) }
-    ensures taken { ConsumesAtMost (R.remaining reader.old) (R.remaining reader.new) (MAX_INPUT + 1) }
+fn whole_input<R: Read>(alloc: Global, reader: &mut Noted<R>) -> Result<Vec<u8>, OpenFault>
+    ensures whole { IfOk result (λ all. ReadsAll (R.remaining (inner_of reader.old)) (R.remaining (inner_of reader.new)) all.items) }
+    ensures fault { IfErr result (IsInputFault (R.remaining (inner_of reader.old)) (HasFailed reader.new)) }
+    ensures told { HasFailed reader.new → HasFailed reader.old ⊎ (result ≡ Err (OpenFault.Failed Failure.Read)) }
+    ensures taken { ConsumesAtMost (R.remaining (inner_of reader.old)) (R.remaining (inner_of reader.new)) (MAX_INPUT + 1) }
 {
     match read_all(alloc, reader) {
         Ok(all) => Ok(all),

@@ -7,7 +7,8 @@ ghost use Rattle.rc_dbtext.specs.Spelling.{spelling};
 ghost use Rattle.rc_compiling.specs.declared.compile_faults.TreesFault.TheVariants.{Memory};
 ghost use Rattle.rc_compiling.specs.Compiled.{IsCompiled, IsTextOf};
 ghost use Rattle.rc_compiling.specs.CompileRefusals.{IsDefinitionsFault, IsDeviceFault, IsTreesFault, TellsDevice, TellsRefusal, TellsWant};
-ghost use Rattle.rc_streams.specs.Input.{WritesAll, WritesFront};
+ghost use Rattle.rc_streams.specs.Input.{FailsWith, WritesAll, WritesFront};
+ghost use Rattle.rc_streams.specs.Noting.{HasFailed, inner_of};
 
 use crate::compile_faults::{TreesFault, tell_trees};
 use rc_compile::compile;
@@ -15,6 +16,7 @@ use rc_db::Db;
 use rc_dbtext::write_db;
 use rc_source::{Definition, Tree, read_all};
 use rc_streams::ending::write_answer;
+use rc_streams::{Failure, Noted};
 use std::alloc::Global;
 use std::io::Write;
 
@@ -24,24 +26,27 @@ use std::io::Write;
 pub fn compile_run<T: Tree, W: Write, F: Write>(
     alloc: Global,
     trees: &mut [T],
-    writer: &mut W,
+    writer: &mut Noted<W>,
     faults: &mut F,
 ) -> u8
     ensures statuses { (result ≡ 0) ⊎ (result ≡ 1) ⊎ (result ≡ 111) }
 
     // What was written is the text of the database of what the trees' files say, and nothing was told.
-    ensures done { result ≡ 0 → WritesAll (IsCompiled (map T.held trees.old)) (W.contents writer.old) (W.contents writer.new) }
+    ensures done { result ≡ 0 → WritesAll (IsCompiled (map T.held trees.old)) (W.contents (inner_of writer.old)) (W.contents (inner_of writer.new)) }
     ensures untold { result ≡ 0 → F.contents faults.new ≡ F.contents faults.old }
 
     // A refusal holds, and a front of its line was told, or all of it. Nothing was written.
     ensures refused { result ≡ 1 → TellsRefusal (map T.held trees.old) (F.contents faults.old) (F.contents faults.new) }
-    ensures unwritten { result ≡ 1 → W.contents writer.new ≡ W.contents writer.old }
+    ensures unwritten { result ≡ 1 → W.contents (inner_of writer.new) ≡ W.contents (inner_of writer.old) }
 
-    // A device that failed is told with its entry, and else a write that failed or want of memory; what was written is nothing or a front of the text.
+    // A device that failed is told with its entry, a writer that failed as that, and else want of memory; what was written
+    // is nothing or a front of the text.
     ensures failed { result ≡ 111 → TellsDevice (map T.held trees.old) (map T.failed trees.old) (map T.failed trees.new) (F.contents faults.old) (F.contents faults.new)
-        ⊎ TellsWant (F.contents faults.old) (F.contents faults.new) }
-    ensures begun { result ≡ 111 → (W.contents writer.new ≡ W.contents writer.old)
-        ⊎ WritesFront (IsCompiled (map T.held trees.old)) (W.contents writer.old) (W.contents writer.new) }
+        ⊎ TellsWant (HasFailed writer.new) (F.contents faults.old) (F.contents faults.new) }
+    ensures written { HasFailed writer.new → HasFailed writer.old
+        ⊎ FailsWith Failure.Write result (F.contents faults.old) (F.contents faults.new) }
+    ensures begun { result ≡ 111 → (W.contents (inner_of writer.new) ≡ W.contents (inner_of writer.old))
+        ⊎ WritesFront (IsCompiled (map T.held trees.old)) (W.contents (inner_of writer.old)) (W.contents (inner_of writer.new)) }
 
     ensures same { map T.held trees.new ≡ map T.held trees.old }
 {

@@ -1,6 +1,6 @@
 //! Why `compile` writes nothing, and how that is told.
 ghost use Rattle.std.specs.Prelude.{◌≡◌, ◌⊎◌, ◌∷◌, [], ◌++◌, IfOk, OnOk};
-ghost use Rattle.rc_compiling.specs.CompileRefusals.{IsDeviceFault, IsRefusal, TellsWant, compile_text, flaw_text, flaw_word, told, trees_text};
+ghost use Rattle.rc_compiling.specs.CompileRefusals.{IsDeviceFault, IsRefusal, compile_text, flaw_text, flaw_word, told, trees_text};
 ghost use Rattle.rc_streams.specs.Input.{AppendsFront, failure_text, fault_line};
 
 use rc_compile::CompileFault;
@@ -36,7 +36,7 @@ pub(crate) fn tell_trees<F: Write>(alloc: Global, faults: &mut F, fault: &TreesF
     ensures statuses { (result ≡ 1) ⊎ (result ≡ 111) }
     ensures refused { result ≡ 1 → IsRefusal fault.now × AppendsFront (F.contents faults.old) (F.contents faults.new) (fault_line (trees_text fault.now)) }
     ensures failed { result ≡ 111 → (IsDeviceFault fault.now × AppendsFront (F.contents faults.old) (F.contents faults.new) (fault_line (trees_text fault.now)))
-        ⊎ TellsWant (F.contents faults.old) (F.contents faults.new) }
+        ⊎ AppendsFront (F.contents faults.old) (F.contents faults.new) (fault_line (failure_text Failure.Memory)) }
 {
     let status = status_of(fault);
     match trees_text(alloc, fault) {

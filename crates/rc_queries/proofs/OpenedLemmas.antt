@@ -26,10 +26,10 @@ spelled_in base (Some all) after d held bytes start same opens =
     (subst (λ (x : List ℕ). Spells base held d (drop start x)) (sym same) opens.spelled))
 
 -- what refuses the text refuses it in the input that a reader has, if that is known
-pub refused_text : (base remaining after : Option (List ℕ)) (fault : OpenFault) (wrong : TextFault) → fault ≡ unopened.OfText wrong → IsOpenFault base remaining after fault
+pub refused_text : (base remaining after : Option (List ℕ)) (failed : Type 0) (fault : OpenFault) (wrong : TextFault) → fault ≡ unopened.OfText wrong → IsOpenFault base remaining after failed fault
     → IfSome remaining (λ all. IsTextFault base all wrong)
-refused_text base remaining after fault wrong is h =
-    let (input, reads, refused, other) = subst (IsOpenFault base remaining after) is h in
+refused_text base remaining after failed fault wrong is h =
+    let (input, reads, refused, other) = subst (IsOpenFault base remaining after failed) is h in
     refused_in base remaining after wrong input reads refused
 
 -- the base of a database is not wrong

@@ -7,7 +7,8 @@ ghost use Rattle.rc_select.specs.Ask.{ask_of};
 ghost use Rattle.rc_asked.specs.Asked.{plan_asked};
 ghost use Rattle.rc_base.specs.Base.{bytes_of};
 ghost use Rattle.rc_base.specs.Opening.{IsWrongBase};
-ghost use Rattle.rc_streams.specs.Input.{AppendsFront, ConsumesAtMost, TellsFailure, WritesAll, WritesFront, fault_line};
+ghost use Rattle.rc_streams.specs.Input.{AppendsFront, ConsumesAtMost, FailsWith, TellsFailure, WritesAll, WritesFront, fault_line};
+ghost use Rattle.rc_streams.specs.Noting.{HasFailed, inner_of};
 ghost use Rattle.rc_queries.specs.Named.{word_lines};
 ghost use Rattle.rc_queries.specs.PlanText.{IsAnswer, IsPlanFor, IsPlanIn, IsTextFor, IsUpSet};
 ghost use Rattle.rc_queries.specs.PlanFaults.{IsAskFault, IsFaultOf, IsNameFault, IsRefused, IsTextRefusal, IsToldAs, IsUpFault, TellsFault, TellsPlanFault, fault_text};
@@ -24,7 +25,7 @@ use rc_names::Names;
 use rc_select::{NoMem, Plan, PlanFault as WantFault, Request, plan};
 use rc_set::Set;
 use rc_streams::ending::{FAILED, REFUSED, fail, write_answer};
-use rc_streams::{Failure, MAX_INPUT, tell};
+use rc_streams::{Failure, MAX_INPUT, Noted, tell};
 use std::alloc::{AllocError, Global};
 use std::io::{Read, Write};
 
@@ -96,31 +97,36 @@ pub fn plan_run<R: Read, W: Write, F: Write>(
     alloc: Global,
     words: &[String],
     base: Option<&[u8]>,
-    reader: &mut R,
-    writer: &mut W,
+    reader: &mut Noted<R>,
+    writer: &mut Noted<W>,
     faults: &mut F,
 ) -> u8
     ensures statuses { (result ≡ 0) ⊎ (result ≡ 1) ⊎ (result ≡ 100) ⊎ (result ≡ 111) }
 
     // What was written is the plan for what the words ask, and nothing was told.
-    ensures done { result ≡ 0 → IfSome (R.remaining reader.old) (λ input. WritesAll
-        (IsAnswer (map string_bytes words.now) (bytes_of base.entry) input) (W.contents writer.old) (W.contents writer.new)) }
+    ensures done { result ≡ 0 → IfSome (R.remaining (inner_of reader.old)) (λ input. WritesAll
+        (IsAnswer (map string_bytes words.now) (bytes_of base.entry) input) (W.contents (inner_of writer.old)) (W.contents (inner_of writer.new))) }
     ensures untold { result ≡ 0 → F.contents faults.new ≡ F.contents faults.old }
 
     // A refusal holds, and a front of its line was told, or all of it.
-    ensures refused { result ≡ 1 → IfSome (R.remaining reader.old) (λ input. TellsFault
+    ensures refused { result ≡ 1 → IfSome (R.remaining (inner_of reader.old)) (λ input. TellsFault
         (map string_bytes words.now) (bytes_of base.entry) input (F.contents faults.old) (F.contents faults.new)) }
 
     // A wrong command line is found before anything is read.
     ensures wrong { result ≡ 100 → plan_asked (map string_bytes words.now) ≡ None }
     ensures right { result ≢ 100 → result ≢ 111 → plan_asked (map string_bytes words.now) ≢ None }
-    ensures unread { result ≡ 100 → R.remaining reader.new ≡ R.remaining reader.old }
+    ensures unread { result ≡ 100 → R.remaining (inner_of reader.new) ≡ R.remaining (inner_of reader.old) }
 
-    // A failure is told by its line, and what was written is nothing or a front of the plan.
-    ensures failed { result ≡ 111 → TellsFailure (R.remaining reader.old) (F.contents faults.old) (F.contents faults.new) }
-    ensures begun { result ≡ 111 → (W.contents writer.new ≡ W.contents writer.old) ⊎ IfSome (R.remaining reader.old) (λ input. WritesFront
-        (IsAnswer (map string_bytes words.now) (bytes_of base.entry) input) (W.contents writer.old) (W.contents writer.new)) }
-    ensures unwritten { (result ≡ 1) ⊎ (result ≡ 100) → W.contents writer.new ≡ W.contents writer.old }
+    // A failure is told by the line of its cause, and what was written is nothing or a front of the plan.
+    ensures failed { result ≡ 111 → TellsFailure (R.remaining (inner_of reader.old)) (HasFailed reader.new) (HasFailed writer.new)
+        (F.contents faults.old) (F.contents faults.new) }
+    ensures read { HasFailed reader.new → HasFailed reader.old
+        ⊎ FailsWith Failure.Read result (F.contents faults.old) (F.contents faults.new) }
+    ensures written { HasFailed writer.new → HasFailed writer.old
+        ⊎ FailsWith Failure.Write result (F.contents faults.old) (F.contents faults.new) }
+    ensures begun { result ≡ 111 → (W.contents (inner_of writer.new) ≡ W.contents (inner_of writer.old)) ⊎ IfSome (R.remaining (inner_of reader.old)) (λ input. WritesFront
+        (IsAnswer (map string_bytes words.now) (bytes_of base.entry) input) (W.contents (inner_of writer.old)) (W.contents (inner_of writer.new))) }
+    ensures unwritten { (result ≡ 1) ⊎ (result ≡ 100) → W.contents (inner_of writer.new) ≡ W.contents (inner_of writer.old) }
 
     // A base comes first: where it is wrong the reader is as it was, there is no plan, and why is
     // told whatever the reader has.
@@ -130,9 +136,9 @@ pub fn plan_run<R: Read, W: Write, F: Write>(
 
     // Any other input that was answered was read to its end, and whatever the status, one byte past
     // the bound is the last that is taken.
-    ensures within { (result ≡ 0) ⊎ (result ≡ 1) → IsWrongBase (bytes_of base.entry) ⊎ IfSome (R.remaining reader.old) (λ input. length input ≤ MAX_INPUT) }
-    ensures end { (result ≡ 0) ⊎ (result ≡ 1) → IsWrongBase (bytes_of base.entry) ⊎ IsAtEnd (R.remaining reader.new) }
-    ensures taken { ConsumesAtMost (R.remaining reader.old) (R.remaining reader.new) (MAX_INPUT + 1) }
+    ensures within { (result ≡ 0) ⊎ (result ≡ 1) → IsWrongBase (bytes_of base.entry) ⊎ IfSome (R.remaining (inner_of reader.old)) (λ input. length input ≤ MAX_INPUT) }
+    ensures end { (result ≡ 0) ⊎ (result ≡ 1) → IsWrongBase (bytes_of base.entry) ⊎ IsAtEnd (R.remaining (inner_of reader.new)) }
+    ensures taken { ConsumesAtMost (R.remaining (inner_of reader.old)) (R.remaining (inner_of reader.new)) (MAX_INPUT + 1) }
 {
     match plan_asked(alloc, words) {
         Ok(request) => plan_as_asked(alloc, &request, base, reader, writer, faults),
@@ -145,26 +151,31 @@ pub fn plan_as_asked<R: Read, W: Write, F: Write>(
     alloc: Global,
     request: &Request,
     base: Option<&[u8]>,
-    reader: &mut R,
-    writer: &mut W,
+    reader: &mut Noted<R>,
+    writer: &mut Noted<W>,
     faults: &mut F,
 ) -> u8
     ensures statuses { (result ≡ 0) ⊎ (result ≡ 1) ⊎ (result ≡ 111) }
 
     // What was written is the plan for what is asked, and nothing was told.
-    ensures done { result ≡ 0 → IfSome (R.remaining reader.old) (λ input. WritesAll
-        (IsPlanFor (ask_of request.now) (bytes_of base.entry) input) (W.contents writer.old) (W.contents writer.new)) }
+    ensures done { result ≡ 0 → IfSome (R.remaining (inner_of reader.old)) (λ input. WritesAll
+        (IsPlanFor (ask_of request.now) (bytes_of base.entry) input) (W.contents (inner_of writer.old)) (W.contents (inner_of writer.new))) }
     ensures untold { result ≡ 0 → F.contents faults.new ≡ F.contents faults.old }
 
     // A refusal holds, and a front of its line was told, or all of it.
-    ensures refused { result ≡ 1 → IfSome (R.remaining reader.old) (λ input. TellsPlanFault
+    ensures refused { result ≡ 1 → IfSome (R.remaining (inner_of reader.old)) (λ input. TellsPlanFault
         (ask_of request.now) (bytes_of base.entry) input (F.contents faults.old) (F.contents faults.new)) }
 
-    // A failure is told by its line, and what was written is nothing or a front of the plan.
-    ensures failed { result ≡ 111 → TellsFailure (R.remaining reader.old) (F.contents faults.old) (F.contents faults.new) }
-    ensures begun { result ≡ 111 → (W.contents writer.new ≡ W.contents writer.old) ⊎ IfSome (R.remaining reader.old) (λ input. WritesFront
-        (IsPlanFor (ask_of request.now) (bytes_of base.entry) input) (W.contents writer.old) (W.contents writer.new)) }
-    ensures unwritten { result ≡ 1 → W.contents writer.new ≡ W.contents writer.old }
+    // A failure is told by the line of its cause, and what was written is nothing or a front of the plan.
+    ensures failed { result ≡ 111 → TellsFailure (R.remaining (inner_of reader.old)) (HasFailed reader.new) (HasFailed writer.new)
+        (F.contents faults.old) (F.contents faults.new) }
+    ensures read { HasFailed reader.new → HasFailed reader.old
+        ⊎ FailsWith Failure.Read result (F.contents faults.old) (F.contents faults.new) }
+    ensures written { HasFailed writer.new → HasFailed writer.old
+        ⊎ FailsWith Failure.Write result (F.contents faults.old) (F.contents faults.new) }
+    ensures begun { result ≡ 111 → (W.contents (inner_of writer.new) ≡ W.contents (inner_of writer.old)) ⊎ IfSome (R.remaining (inner_of reader.old)) (λ input. WritesFront
+        (IsPlanFor (ask_of request.now) (bytes_of base.entry) input) (W.contents (inner_of writer.old)) (W.contents (inner_of writer.new))) }
+    ensures unwritten { result ≡ 1 → W.contents (inner_of writer.new) ≡ W.contents (inner_of writer.old) }
 
     // A base comes first: where it is wrong the reader is as it was, there is no plan, and why is
     // told whatever the reader has.
@@ -174,9 +185,9 @@ pub fn plan_as_asked<R: Read, W: Write, F: Write>(
 
     // Any other input that was answered was read to its end, and whatever the status, one byte past
     // the bound is the last that is taken.
-    ensures within { (result ≡ 0) ⊎ (result ≡ 1) → IsWrongBase (bytes_of base.entry) ⊎ IfSome (R.remaining reader.old) (λ input. length input ≤ MAX_INPUT) }
-    ensures end { (result ≡ 0) ⊎ (result ≡ 1) → IsWrongBase (bytes_of base.entry) ⊎ IsAtEnd (R.remaining reader.new) }
-    ensures taken { ConsumesAtMost (R.remaining reader.old) (R.remaining reader.new) (MAX_INPUT + 1) }
+    ensures within { (result ≡ 0) ⊎ (result ≡ 1) → IsWrongBase (bytes_of base.entry) ⊎ IfSome (R.remaining (inner_of reader.old)) (λ input. length input ≤ MAX_INPUT) }
+    ensures end { (result ≡ 0) ⊎ (result ≡ 1) → IsWrongBase (bytes_of base.entry) ⊎ IsAtEnd (R.remaining (inner_of reader.new)) }
+    ensures taken { ConsumesAtMost (R.remaining (inner_of reader.old)) (R.remaining (inner_of reader.new)) (MAX_INPUT + 1) }
 {
     match open(alloc, base, reader) {
         Ok(opened) => match plan_of(alloc, request, &opened.db, &opened.input[opened.start..]) {

@@ -1,7 +1,8 @@
 //! The command `replay`: commands with the events of their runs, and what they come to.
 ghost use Rattle.std.specs.Prelude.{◌≡◌, ◌≢◌, ◌⊎◌, ◌<◌, ◌≤◌, ◌+◌, [], codes, None, length, map, string_bytes, IfErr, IfOk, IfSome};
 ghost use Rattle.std.specs.Io.KnownBytes.{IsAtEnd};
-ghost use Rattle.rc_streams.specs.Input.{AppendsFront, ConsumesAtMost, TellsFailure, WritesAll, WritesFront, failure_text, fault_line};
+ghost use Rattle.rc_streams.specs.Input.{AppendsFront, ConsumesAtMost, FailsWith, TellsFailure, WritesAll, WritesFront, failure_text, fault_line};
+ghost use Rattle.rc_streams.specs.Noting.{HasFailed, inner_of};
 ghost use Rattle.rc_base.specs.Base.{bytes_of};
 ghost use Rattle.rc_base.specs.Opening.{IsWrongBase};
 ghost use Rattle.rc_asked.specs.ReplayAsked.{AsksReplay};
@@ -15,7 +16,7 @@ use rc_db::NoMem;
 use rc_dbtext::TextFault;
 use rc_replay::{ScriptFault, replay_text};
 use rc_streams::ending::{REFUSED, fail, write_answer};
-use rc_streams::{Failure, MAX_INPUT, tell};
+use rc_streams::{Failure, MAX_INPUT, Noted, tell};
 use std::alloc::{AllocError, Global};
 use std::io::{Read, Write};
 
@@ -68,31 +69,36 @@ pub fn replay_run<R: Read, W: Write, F: Write>(
     alloc: Global,
     words: &[String],
     base: Option<&[u8]>,
-    reader: &mut R,
-    writer: &mut W,
+    reader: &mut Noted<R>,
+    writer: &mut Noted<W>,
     faults: &mut F,
 ) -> u8
     ensures statuses { (result ≡ 0) ⊎ (result ≡ 1) ⊎ (result ≡ 100) ⊎ (result ≡ 111) }
 
     // What was written is what the script comes to, and nothing was told.
-    ensures done { result ≡ 0 → IfSome (R.remaining reader.old) (λ input. WritesAll
-        (IsReplayFor (bytes_of base.entry) input) (W.contents writer.old) (W.contents writer.new)) }
+    ensures done { result ≡ 0 → IfSome (R.remaining (inner_of reader.old)) (λ input. WritesAll
+        (IsReplayFor (bytes_of base.entry) input) (W.contents (inner_of writer.old)) (W.contents (inner_of writer.new))) }
     ensures untold { result ≡ 0 → F.contents faults.new ≡ F.contents faults.old }
 
     // A refusal holds, and a front of its line was told, or all of it.
-    ensures refused { result ≡ 1 → IfSome (R.remaining reader.old) (λ input. TellsReplayFault
+    ensures refused { result ≡ 1 → IfSome (R.remaining (inner_of reader.old)) (λ input. TellsReplayFault
         (bytes_of base.entry) input (F.contents faults.old) (F.contents faults.new)) }
 
     // A wrong command line is found before anything is read.
     ensures wrong { result ≡ 100 → rows_for (codes "replay") (map string_bytes words.now) ≡ None }
     ensures right { result ≢ 100 → result ≢ 111 → AsksReplay (map string_bytes words.now) }
-    ensures unread { result ≡ 100 → R.remaining reader.new ≡ R.remaining reader.old }
+    ensures unread { result ≡ 100 → R.remaining (inner_of reader.new) ≡ R.remaining (inner_of reader.old) }
 
-    // A failure is told by its line, and what was written is nothing or a front of what the script comes to.
-    ensures failed { result ≡ 111 → TellsFailure (R.remaining reader.old) (F.contents faults.old) (F.contents faults.new) }
-    ensures begun { result ≡ 111 → (W.contents writer.new ≡ W.contents writer.old) ⊎ IfSome (R.remaining reader.old) (λ input. WritesFront
-        (IsReplayFor (bytes_of base.entry) input) (W.contents writer.old) (W.contents writer.new)) }
-    ensures unwritten { (result ≡ 1) ⊎ (result ≡ 100) → W.contents writer.new ≡ W.contents writer.old }
+    // A failure is told by the line of its cause, and what was written is nothing or a front of what the script comes to.
+    ensures failed { result ≡ 111 → TellsFailure (R.remaining (inner_of reader.old)) (HasFailed reader.new) (HasFailed writer.new)
+        (F.contents faults.old) (F.contents faults.new) }
+    ensures read { HasFailed reader.new → HasFailed reader.old
+        ⊎ FailsWith Failure.Read result (F.contents faults.old) (F.contents faults.new) }
+    ensures written { HasFailed writer.new → HasFailed writer.old
+        ⊎ FailsWith Failure.Write result (F.contents faults.old) (F.contents faults.new) }
+    ensures begun { result ≡ 111 → (W.contents (inner_of writer.new) ≡ W.contents (inner_of writer.old)) ⊎ IfSome (R.remaining (inner_of reader.old)) (λ input. WritesFront
+        (IsReplayFor (bytes_of base.entry) input) (W.contents (inner_of writer.old)) (W.contents (inner_of writer.new))) }
+    ensures unwritten { (result ≡ 1) ⊎ (result ≡ 100) → W.contents (inner_of writer.new) ≡ W.contents (inner_of writer.old) }
 
     // A base comes first: where it is wrong the reader is as it was, nothing is written, and why is
     // told whatever the reader has.
@@ -102,9 +108,9 @@ pub fn replay_run<R: Read, W: Write, F: Write>(
 
     // Any other input that was answered was read to its end, and whatever the status, one byte past
     // the bound is the last that is taken.
-    ensures within { (result ≡ 0) ⊎ (result ≡ 1) → IsWrongBase (bytes_of base.entry) ⊎ IfSome (R.remaining reader.old) (λ input. length input ≤ MAX_INPUT) }
-    ensures end { (result ≡ 0) ⊎ (result ≡ 1) → IsWrongBase (bytes_of base.entry) ⊎ IsAtEnd (R.remaining reader.new) }
-    ensures taken { ConsumesAtMost (R.remaining reader.old) (R.remaining reader.new) (MAX_INPUT + 1) }
+    ensures within { (result ≡ 0) ⊎ (result ≡ 1) → IsWrongBase (bytes_of base.entry) ⊎ IfSome (R.remaining (inner_of reader.old)) (λ input. length input ≤ MAX_INPUT) }
+    ensures end { (result ≡ 0) ⊎ (result ≡ 1) → IsWrongBase (bytes_of base.entry) ⊎ IsAtEnd (R.remaining (inner_of reader.new)) }
+    ensures taken { ConsumesAtMost (R.remaining (inner_of reader.old)) (R.remaining (inner_of reader.new)) (MAX_INPUT + 1) }
 {
     match replay_asked(alloc, words) {
         Ok(()) => replay_as_asked(alloc, base, reader, writer, faults),
@@ -116,26 +122,31 @@ pub fn replay_run<R: Read, W: Write, F: Write>(
 pub fn replay_as_asked<R: Read, W: Write, F: Write>(
     alloc: Global,
     base: Option<&[u8]>,
-    reader: &mut R,
-    writer: &mut W,
+    reader: &mut Noted<R>,
+    writer: &mut Noted<W>,
     faults: &mut F,
 ) -> u8
     ensures statuses { (result ≡ 0) ⊎ (result ≡ 1) ⊎ (result ≡ 111) }
 
     // What was written is what the script comes to, and nothing was told.
-    ensures done { result ≡ 0 → IfSome (R.remaining reader.old) (λ input. WritesAll
-        (IsReplayFor (bytes_of base.entry) input) (W.contents writer.old) (W.contents writer.new)) }
+    ensures done { result ≡ 0 → IfSome (R.remaining (inner_of reader.old)) (λ input. WritesAll
+        (IsReplayFor (bytes_of base.entry) input) (W.contents (inner_of writer.old)) (W.contents (inner_of writer.new))) }
     ensures untold { result ≡ 0 → F.contents faults.new ≡ F.contents faults.old }
 
     // A refusal holds, and a front of its line was told, or all of it.
-    ensures refused { result ≡ 1 → IfSome (R.remaining reader.old) (λ input. TellsReplayFault
+    ensures refused { result ≡ 1 → IfSome (R.remaining (inner_of reader.old)) (λ input. TellsReplayFault
         (bytes_of base.entry) input (F.contents faults.old) (F.contents faults.new)) }
 
-    // A failure is told by its line, and what was written is nothing or a front of what the script comes to.
-    ensures failed { result ≡ 111 → TellsFailure (R.remaining reader.old) (F.contents faults.old) (F.contents faults.new) }
-    ensures begun { result ≡ 111 → (W.contents writer.new ≡ W.contents writer.old) ⊎ IfSome (R.remaining reader.old) (λ input. WritesFront
-        (IsReplayFor (bytes_of base.entry) input) (W.contents writer.old) (W.contents writer.new)) }
-    ensures unwritten { result ≡ 1 → W.contents writer.new ≡ W.contents writer.old }
+    // A failure is told by the line of its cause, and what was written is nothing or a front of what the script comes to.
+    ensures failed { result ≡ 111 → TellsFailure (R.remaining (inner_of reader.old)) (HasFailed reader.new) (HasFailed writer.new)
+        (F.contents faults.old) (F.contents faults.new) }
+    ensures read { HasFailed reader.new → HasFailed reader.old
+        ⊎ FailsWith Failure.Read result (F.contents faults.old) (F.contents faults.new) }
+    ensures written { HasFailed writer.new → HasFailed writer.old
+        ⊎ FailsWith Failure.Write result (F.contents faults.old) (F.contents faults.new) }
+    ensures begun { result ≡ 111 → (W.contents (inner_of writer.new) ≡ W.contents (inner_of writer.old)) ⊎ IfSome (R.remaining (inner_of reader.old)) (λ input. WritesFront
+        (IsReplayFor (bytes_of base.entry) input) (W.contents (inner_of writer.old)) (W.contents (inner_of writer.new))) }
+    ensures unwritten { result ≡ 1 → W.contents (inner_of writer.new) ≡ W.contents (inner_of writer.old) }
 
     // A base comes first: where it is wrong the reader is as it was, nothing is written, and why is
     // told whatever the reader has.
@@ -145,9 +156,9 @@ pub fn replay_as_asked<R: Read, W: Write, F: Write>(
 
     // Any other input that was answered was read to its end, and whatever the status, one byte past
     // the bound is the last that is taken.
-    ensures within { (result ≡ 0) ⊎ (result ≡ 1) → IsWrongBase (bytes_of base.entry) ⊎ IfSome (R.remaining reader.old) (λ input. length input ≤ MAX_INPUT) }
-    ensures end { (result ≡ 0) ⊎ (result ≡ 1) → IsWrongBase (bytes_of base.entry) ⊎ IsAtEnd (R.remaining reader.new) }
-    ensures taken { ConsumesAtMost (R.remaining reader.old) (R.remaining reader.new) (MAX_INPUT + 1) }
+    ensures within { (result ≡ 0) ⊎ (result ≡ 1) → IsWrongBase (bytes_of base.entry) ⊎ IfSome (R.remaining (inner_of reader.old)) (λ input. length input ≤ MAX_INPUT) }
+    ensures end { (result ≡ 0) ⊎ (result ≡ 1) → IsWrongBase (bytes_of base.entry) ⊎ IsAtEnd (R.remaining (inner_of reader.new)) }
+    ensures taken { ConsumesAtMost (R.remaining (inner_of reader.old)) (R.remaining (inner_of reader.new)) (MAX_INPUT + 1) }
 {
     match open(alloc, base, reader) {
         Ok(Opened { db, input, start }) => match replay_text(alloc, db, &input[start..]) {

@@ -64,8 +64,8 @@ pub fn session_run<T: Threads + Wait + Sync, R: Read, W: Write, F: Write>(
         (R.remaining (inner_of reader.old)) (R.remaining (inner_of reader.new)) (W.contents (inner_of writer.old)) (W.contents (inner_of writer.new))
         (HasFailed reader.new ⊎ (bytes_of base.entry ≡ None)) (HasFailed writer.new) (F.contents faults.old) (F.contents faults.new) }
 
-    // With a base, where the reader has failed that is the cause that is told.
-    ensures cause { (bytes_of base.entry ≡ None → ⊥) → HasFailed reader.new → (result ≡ 111)
+    // Where the reader has failed, that is the cause that is told.
+    ensures cause { HasFailed reader.new → (result ≡ 111)
         × AppendsFront (F.contents faults.old) (F.contents faults.new) (fault_line (serve_word Unread)) }
 
     // Whatever the status, one byte past the bound is the last that is taken.
@@ -109,8 +109,8 @@ pub fn session_as_asked<T: Threads + Wait + Sync, R: Read, W: Write, F: Write>(
         (R.remaining (inner_of reader.old)) (R.remaining (inner_of reader.new)) (W.contents (inner_of writer.old)) (W.contents (inner_of writer.new))
         (HasFailed reader.new ⊎ (bytes_of base.entry ≡ None)) (HasFailed writer.new) (F.contents faults.old) (F.contents faults.new) }
 
-    // With a base, where the reader has failed that is the cause that is told.
-    ensures cause { (bytes_of base.entry ≡ None → ⊥) → HasFailed reader.new → (result ≡ 111)
+    // Where the reader has failed, that is the cause that is told.
+    ensures cause { HasFailed reader.new → (result ≡ 111)
         × AppendsFront (F.contents faults.old) (F.contents faults.new) (fault_line (serve_word Unread)) }
 
     // Whatever the status, one byte past the bound is the last that is taken.
@@ -139,7 +139,7 @@ fn run_asked<'a, T: Threads + Wait + Sync, R: Read, W: Write>(
         (W.contents (inner_of writer.old)) (W.contents (inner_of writer.new))) }
     ensures ended { IfErr result (λ fault. EndsBy fault (bytes_of base.entry) (session_ask_of request.now) (R.remaining (inner_of reader.old)) (R.remaining (inner_of reader.new))
         (W.contents (inner_of writer.old)) (W.contents (inner_of writer.new)) (HasFailed reader.new ⊎ (bytes_of base.entry ≡ None)) (HasFailed writer.new)) }
-    ensures told { (bytes_of base.entry ≡ None → ⊥) → HasFailed reader.new → result ≡ Err (Failed Unread) }
+    ensures told { HasFailed reader.new → result ≡ Err (Failed Unread) }
     ensures taken { ConsumesAtMost (R.remaining (inner_of reader.old)) (R.remaining (inner_of reader.new)) (MAX_INPUT + 1) }
 {
     match base {
@@ -188,6 +188,7 @@ fn run_on_input<'a, T: Threads + Wait + Sync, R: Read, W: Write>(
         (W.contents (inner_of writer.old)) (W.contents (inner_of writer.new))) }
     ensures ended { IfErr result (λ fault. EndsBy fault None (session_ask_of request.now) (R.remaining (inner_of reader.old)) (R.remaining (inner_of reader.new))
         (W.contents (inner_of writer.old)) (W.contents (inner_of writer.new)) (Unit {0}) (HasFailed writer.new)) }
+    ensures told { HasFailed reader.new → result ≡ Err (Failed Unread) }
     ensures taken { ConsumesAtMost (R.remaining (inner_of reader.old)) (R.remaining (inner_of reader.new)) (MAX_INPUT + 1) }
 {
     let input = match read_all(alloc, reader) {

@@ -28,9 +28,20 @@ failure_text Read = codes "Read"
 failure_text Write = codes "Write"
 failure_text Memory = codes "Memory"
 
--- a failure is told by a front of its line, and an input is too long only where it has more bytes than the bound
-abbrev pub TellsFailure : Option (List ℕ) → Option (List ℕ) → Option (List ℕ) → Type 0
-TellsFailure input old new = (failure : Failure) × AppendsFront old new (fault_line (failure_text failure)) × (failure ≡ TooLong → IfSome input (λ bytes. 16777216 < length bytes))
+-- why a command may fail: an input is too long only where it has more bytes than the bound, and a device is the cause only where it has failed
+abbrev pub IsCause : (input : Option (List ℕ)) → (reader writer : Type 0) → Failure → Type 0
+IsCause input reader writer TooLong = IfSome input (λ bytes. 16777216 < length bytes)
+IsCause input reader writer Read = reader
+IsCause input reader writer Write = writer
+IsCause input reader writer Memory = Unit {0}
+
+-- a command has failed so, and a front of its line was told
+abbrev pub FailsWith : Failure → (status : ℕ) → (old new : Option (List ℕ)) → Type 0
+FailsWith failure status old new = (status ≡ 111) × AppendsFront old new (fault_line (failure_text failure))
+
+-- a failure that has its cause is told by a front of its line
+abbrev pub TellsFailure : (input : Option (List ℕ)) → (reader writer : Type 0) → (old new : Option (List ℕ)) → Type 0
+TellsFailure input reader writer old new = (failure : Failure) × AppendsFront old new (fault_line (failure_text failure)) × IsCause input reader writer failure
 
 -- a writer gains all of an answer
 abbrev pub WritesAll : (List ℕ → Type 0) → Option (List ℕ) → Option (List ℕ) → Type 0

@@ -1,9 +1,12 @@
 //! How a command ends: its answer written, or why there is none told.
 ghost use Rattle.std.specs.Prelude.{◌≡◌, ◌⊎◌};
 ghost use Rattle.std.specs.Io.KnownBytes.{Appends};
-ghost use Rattle.rc_streams.specs.Input.{AppendsFront, failure_text, fault_line};
+ghost use Rattle.rc_streams.specs.Input.{AppendsFront, FailsWith, failure_text, fault_line};
+ghost use Rattle.rc_streams.specs.Noting.{HasFailed, inner_of};
 
-use crate::input::{Failure, failure_word, tell, write_whole};
+use crate::input::{Failure, failure_word, tell};
+use crate::noted::Noted;
+use crate::writing;
 use std::io::Write;
 
 /// Done.
@@ -25,15 +28,20 @@ pub fn fail<F: Write>(faults: &mut F, failure: Failure) -> u8
 }
 
 /// Writes the answer whole, or tells that it could not, and answers the status.
-pub fn write_answer<W: Write, F: Write>(writer: &mut W, faults: &mut F, text: &[u8]) -> u8
+pub fn write_answer<W: Write, F: Write>(
+    writer: &mut Noted<W>,
+    faults: &mut F,
+    text: &[u8],
+) -> u8
     ensures statuses { (result ≡ 0) ⊎ (result ≡ 111) }
-    ensures done { result ≡ 0 → Appends (W.contents writer.old) (W.contents writer.new) text.now }
+    ensures done { result ≡ 0 → Appends (W.contents (inner_of writer.old)) (W.contents (inner_of writer.new)) text.now }
     ensures untold { result ≡ 0 → F.contents faults.new ≡ F.contents faults.old }
-    ensures begun { AppendsFront (W.contents writer.old) (W.contents writer.new) text.now }
-    ensures failed { result ≡ 111 → AppendsFront (F.contents faults.old) (F.contents faults.new) (fault_line (failure_text Failure.Write)) }
+    ensures begun { AppendsFront (W.contents (inner_of writer.old)) (W.contents (inner_of writer.new)) text.now }
+    ensures failed { result ≡ 111 → HasFailed writer.new × FailsWith Failure.Write result (F.contents faults.old) (F.contents faults.new) }
+    ensures sound { result ≡ 0 → HasFailed writer.new → HasFailed writer.old }
 {
-    match write_whole(writer, text) {
+    match writing::write_answer(writer, text) {
         Ok(()) => DONE,
-        Err(_) => fail(faults, Failure::Write),
+        Err(failure) => fail(faults, failure),
     }
 }

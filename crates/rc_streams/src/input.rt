@@ -1,11 +1,11 @@
 //! A whole input under a bound, and an answer written whole.
-ghost use Rattle.std.specs.Prelude.{◌≡◌, ◌≢◌, ◌+◌, ◌<◌, ◌≤◌, ◌↔◌, length, IsTrue, IfOk, IfErr, IfSome, OnOk, vec_len};
-ghost use Rattle.std.specs.IoError.{error_kind};
-ghost use Rattle.std.specs.Io.{ReadsAtMost};
-ghost use Rattle.std.specs.Io.KnownBytes.{Appends, IsAtEnd, ReadConsumes};
+ghost use Rattle.std.specs.Prelude.{◌≡◌, ◌⊎◌, ◌+◌, ◌<◌, ◌≤◌, Err, IfOk, IfErr, IfSome, OnOk, vec_len};
+ghost use Rattle.std.specs.Io.KnownBytes.{Appends, IsAtEnd};
 ghost use Rattle.rc_streams.specs.declared.input.Failure.TheVariants.{Memory};
-ghost use Rattle.rc_streams.specs.Input.{AppendsFront, ConsumesAtMost, MovesPiece, fault_line, failure_text};
+ghost use Rattle.rc_streams.specs.Input.{AppendsFront, ConsumesAtMost, IsCause, MovesPiece, fault_line, failure_text};
+ghost use Rattle.rc_streams.specs.Noting.{HasFailed, inner_of};
 
+use crate::noted::{Noted, read_some};
 use std::alloc::{AllocError, Global};
 use std::io;
 use std::io::{ErrorKind, Read, Write};
@@ -15,9 +15,6 @@ pub const MAX_INPUT: usize = 16_777_216;
 
 /// The bytes that one read asks for at most.
 const MAX_PIECE: usize = 8_192;
-
-/// The interrupted reads in a row that are each tried again.
-const MAX_INTERRUPTS: usize = 1_000;
 
 /// Why a command ends without an answer although nothing is refused.
 #[derive(Clone, Copy)]
@@ -53,18 +50,20 @@ pub fn failure_word(fault: Failure) -> &'static [u8]
 }
 
 /// Reads all there is, up to the read that gives no byte.
-pub fn read_all<R: Read>(alloc: Global, reader: &mut R) -> Result<Vec<u8>, Failure>
+pub fn read_all<R: Read>(alloc: Global, reader: &mut Noted<R>) -> Result<Vec<u8>, Failure>
     ensures whole { IfOk result (λ bytes.
-        IfSome (R.remaining reader.old) (λ input. bytes.items ≡ input)) }
-    ensures end { OnOk result (IsAtEnd (R.remaining reader.new)) }
+        IfSome (R.remaining (inner_of reader.old)) (λ input. bytes.items ≡ input)) }
+    ensures end { OnOk result (IsAtEnd (R.remaining (inner_of reader.new))) }
     ensures within { IfOk result (λ bytes. vec_len bytes ≤ MAX_INPUT) }
-    ensures too_long { result ≡ Err Failure.TooLong
-        → IfSome (R.remaining reader.old) (λ input. MAX_INPUT < length input) }
-    ensures fault { IfErr result (λ e. e ≢ Failure.Write) }
+    ensures fault { IfErr result (IsCause (R.remaining (inner_of reader.old))
+        (HasFailed reader.new) ⊥) }
+
+    // A read that has failed is told as that.
+    ensures told { HasFailed reader.new → HasFailed reader.old ⊎ (result ≡ Err Failure.Read) }
 
     // Whatever the result, one byte past the bound is the last that is taken.
-    ensures taken { ConsumesAtMost (R.remaining reader.old) (R.remaining reader.new)
-        (MAX_INPUT + 1) }
+    ensures taken { ConsumesAtMost (R.remaining (inner_of reader.old))
+        (R.remaining (inner_of reader.new)) (MAX_INPUT + 1) }
 {
     let mut bytes = Vec::new(alloc);
     while bytes.len() <= MAX_INPUT {
@@ -78,49 +77,29 @@ pub fn read_all<R: Read>(alloc: Global, reader: &mut R) -> Result<Vec<u8>, Failu
 
 /// Moves the reader's next piece to the end of `bytes`, and returns its length: at most `room`, and
 /// 0 at the reader's end.
-fn take_piece<R: Read>(reader: &mut R, room: usize, bytes: &mut Vec<u8>) -> Result<usize, Failure>
+fn take_piece<R: Read>(
+    reader: &mut Noted<R>,
+    room: usize,
+    bytes: &mut Vec<u8>,
+) -> Result<usize, Failure>
     requires { 0 < room }
-    ensures moved { IfOk result (MovesPiece (R.remaining reader.old) (R.remaining reader.new)
-        bytes.old.items bytes.new.items) }
+    ensures moved { IfOk result (MovesPiece (R.remaining (inner_of reader.old))
+        (R.remaining (inner_of reader.new)) bytes.old.items bytes.new.items) }
     ensures fits { IfOk result (λ count. count ≤ room) }
-    ensures end { IfOk result (λ count. count ≡ 0 → IsAtEnd (R.remaining reader.new)) }
-    ensures fault { IfErr result (λ e. (e ≢ Failure.TooLong) × (e ≢ Failure.Write)) }
-    ensures taken { ConsumesAtMost (R.remaining reader.old) (R.remaining reader.new) room }
+    ensures end { IfOk result (λ count.
+        count ≡ 0 → IsAtEnd (R.remaining (inner_of reader.new))) }
+    ensures sound { OnOk result (HasFailed reader.new → HasFailed reader.old) }
+    ensures fault { IfErr result (λ failure.
+        (failure ≡ Memory) ⊎ ((failure ≡ Failure.Read) × HasFailed reader.new)) }
+    ensures told { HasFailed reader.new → HasFailed reader.old ⊎ (result ≡ Err Failure.Read) }
+    ensures taken { ConsumesAtMost (R.remaining (inner_of reader.old))
+        (R.remaining (inner_of reader.new)) room }
 {
     let mut buffer = [0; MAX_PIECE];
     let most = room.min(MAX_PIECE);
-    let Ok(count) = read_some(reader, &mut buffer[..most]) else {
-        return Err(Failure::Read);
-    };
+    let count = read_some(reader, &mut buffer[..most])?;
     bytes.extend_from_slice(&buffer[..count])?;
     Ok(count)
-}
-
-/// One read, tried again where a signal interrupts it.
-pub fn read_some<R: Read>(reader: &mut R, buffer: &mut [u8]) -> io::Result<usize>
-    ensures bound { ReadsAtMost result buffer.new }
-    ensures bytes { ReadConsumes (R.remaining reader.old) (R.remaining reader.new) result
-        buffer.new }
-{
-    for _ in 0..MAX_INTERRUPTS {
-        match reader.read(buffer) {
-            Err(e) if is_interrupted(&e) => {}
-            outcome => return outcome,
-        }
-    }
-    reader.read(buffer)
-}
-
-/// Writes all of `bytes`, and flushes.
-pub fn write_whole<W: Write>(writer: &mut W, bytes: &[u8]) -> io::Result<()>
-    ensures whole { OnOk result (Appends (W.contents writer.old) (W.contents writer.new)
-        bytes.now) }
-
-    // Whatever the result, a front of the bytes is all that is written.
-    ensures front { AppendsFront (W.contents writer.old) (W.contents writer.new) bytes.now }
-{
-    write_every(writer, bytes)?;
-    writer.flush()
 }
 
 /// Writes the line `undorc: WHAT`. A line that cannot be written is let go.
@@ -139,7 +118,8 @@ fn write_fault<F: Write>(faults: &mut F, what: &[u8]) -> io::Result<()>
 {
     write_every(faults, b"undorc: ")?;
     write_every(faults, what)?;
-    write_whole(faults, b"\n")
+    write_every(faults, b"\n")?;
+    faults.flush()
 }
 
 /// Writes all of `bytes`. A write that fails or takes nothing is not tried again, nor is one that a
@@ -157,10 +137,4 @@ fn write_every<W: Write>(writer: &mut W, bytes: &[u8]) -> io::Result<()>
         }
     }
     Ok(())
-}
-
-fn is_interrupted(error: &io::Error) -> bool
-    ensures { IsTrue result ↔ (error_kind error.now ≡ ErrorKind.Interrupted) }
-{
-    error.kind() == ErrorKind::Interrupted
 }

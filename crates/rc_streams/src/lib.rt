@@ -8,6 +8,6 @@ mod lines;
 mod noted;
 pub mod writing;
 
-pub use crate::input::{Failure, MAX_INPUT, failure_word, read_all, read_some, tell, write_whole};
+pub use crate::input::{Failure, MAX_INPUT, failure_word, read_all, tell};
 pub use crate::lines::{Lines, MAX_LINE};
 pub use crate::noted::Noted;

@@ -1,12 +1,10 @@
 //! Lines of an input under bounds.
 ghost use Rattle.std.specs.Prelude.{◌≡◌, ◌⊎◌, ◌+◌, ◌<◌, ◌≤◌, ◌++◌, [], false, length, Err, IfOk, OnOk, OnErr, IfErr, MatchOption};
-ghost use Rattle.std.specs.Io.{ReadsAtMost};
-ghost use Rattle.std.specs.Io.KnownBytes.{ReadConsumes};
 ghost use Rattle.rc_streams.specs.Noting.{HasFailed, inner_of};
 ghost use Rattle.rc_streams.specs.Taking.{HandsLine, HandsNothing, BeginsTooLong, IsOneLine, IsPartFault, IsRefillFault, LacksLine, MovesPart, Refills, Takes, fresh};
 
 use crate::input::{Failure, MAX_INPUT};
-use crate::noted::Noted;
+use crate::noted::{Noted, read_some};
 use std::alloc::Global;
 use std::io::Read;
 use std::marker::Model;
@@ -148,24 +146,4 @@ fn add_part(line: &mut Vec<u8>, part: &[u8]) -> Result<(), Failure>
     }
     line.extend_from_slice(part)?;
     Ok(())
-}
-
-/// One read, tried again where it was interrupted.
-fn read_some<R: Read>(reader: &mut Noted<R>, buffer: &mut [u8]) -> Result<usize, Failure>
-    requires { HasFailed reader.old → ⊥ }
-    ensures bound { ReadsAtMost result buffer.new }
-    ensures bytes { ReadConsumes (R.remaining (inner_of reader.old)) (R.remaining (inner_of reader.new)) result buffer.new }
-    ensures sound { OnOk result (HasFailed reader.new → ⊥) }
-    ensures fault { OnErr result ((result ≡ Err Failure.Read) × HasFailed reader.new) }
-{
-    'again: loop {
-        match reader.read(buffer) {
-            Ok(count) => return Ok(count),
-            Err(_) => {
-                if reader.failed() {
-                    return Err(Failure::Read);
-                }
-            }
-        }
-    }
 }

@@ -1,10 +1,11 @@
 //! Readers and writers whose failures are noted.
-ghost use Rattle.std.specs.Prelude.{◌≡◌, ◌⊎◌, ◌↔◌, false, length, IsErr, IsOk, IsTrue};
+ghost use Rattle.std.specs.Prelude.{◌≡◌, ◌⊎◌, ◌↔◌, false, length, Err, IsErr, IsOk, IsTrue, OnErr, OnOk};
 ghost use Rattle.std.specs.IoError.{error_kind};
 ghost use Rattle.std.specs.Io.{ReadsAtMost, WritesAtMost};
 ghost use Rattle.std.specs.Io.KnownBytes.{Keeps, ReadConsumes, WriteAppends};
 ghost use Rattle.rc_streams.specs.Noting.{CountsRow, HasFailed, IsFlushed, IsReadFault, IsWriteFault, inner_of, interrupts_of};
 
+use crate::input::Failure;
 use std::io;
 use std::io::{ErrorKind, Read, Write};
 
@@ -106,6 +107,25 @@ impl<W: Write> Write for Noted<W> {
             self.failed = true;
         }
         outcome
+    }
+}
+
+/// One read, tried again where it was interrupted. A reader that had failed is tried no more.
+pub(crate) fn read_some<R: Read>(reader: &mut Noted<R>, buffer: &mut [u8]) -> Result<usize, Failure>
+    ensures bound { ReadsAtMost result buffer.new }
+    ensures bytes { ReadConsumes (R.remaining (inner_of reader.old)) (R.remaining (inner_of reader.new)) result buffer.new }
+    ensures sound { OnOk result (HasFailed reader.new → HasFailed reader.old) }
+    ensures fault { OnErr result ((result ≡ Err Failure.Read) × HasFailed reader.new) }
+{
+    'again: loop {
+        match reader.read(buffer) {
+            Ok(count) => return Ok(count),
+            Err(_) => {
+                if reader.failed() {
+                    return Err(Failure::Read);
+                }
+            }
+        }
     }
 }
 

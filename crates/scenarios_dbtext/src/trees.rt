@@ -2,6 +2,7 @@
 use crate::device::Sink;
 use rc_compiling::compile_run;
 use rc_source::MemoryTree;
+use rc_streams::Noted;
 use std::alloc::{AllocError, Global};
 use std::io;
 use std::io::ErrorKind;
@@ -83,9 +84,10 @@ fn show(
     drop((writer, faults));
     shown
 }
+
 /// The status. What the command promises stands on its contract, so none of it is asked here.
 fn compiled(alloc: Global, trees: &mut [MemoryTree], writer: &mut Sink, faults: &mut Sink) -> u8 {
-    compile_run(alloc, trees, writer, faults)
+    compile_run(alloc, trees, &mut Noted::new(writer), faults)
 }
 
 fn show_line(rt: &impl Print, what: &str, status: u8, written: &str, told: &str) -> io::Result<()> {

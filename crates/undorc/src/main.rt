@@ -52,7 +52,12 @@ fn run<T: Threads + Wait + Sync>(rt: &HostRuntime, threads: &T, words: &[String]
 
 fn compile(rt: &HostRuntime, paths: &[String]) -> u8 {
     match trees_at(rt, paths) {
-        Ok(mut trees) => compile_run(rt.alloc(), &mut trees, &mut rt.stdout(), &mut rt.stderr()),
+        Ok(mut trees) => compile_run(
+            rt.alloc(),
+            &mut trees,
+            &mut Noted::new(rt.stdout()),
+            &mut rt.stderr(),
+        ),
         Err(_) => tell_failure(rt, "undorc: Memory"),
     }
 }
@@ -81,8 +86,8 @@ fn db(rt: &HostRuntime, request: &DbRequest<'_>, file: Option<&str>) -> u8 {
             rt.alloc(),
             request,
             base.as_deref(),
-            &mut rt.stdin(),
-            &mut rt.stdout(),
+            &mut Noted::new(rt.stdin()),
+            &mut Noted::new(rt.stdout()),
             &mut rt.stderr(),
         ),
         Err(error) => tell_file(rt, &error),
@@ -95,8 +100,8 @@ fn plan(rt: &HostRuntime, request: &Request, file: Option<&str>) -> u8 {
             rt.alloc(),
             request,
             base.as_deref(),
-            &mut rt.stdin(),
-            &mut rt.stdout(),
+            &mut Noted::new(rt.stdin()),
+            &mut Noted::new(rt.stdout()),
             &mut rt.stderr(),
         ),
         Err(error) => tell_file(rt, &error),
@@ -108,8 +113,8 @@ fn replay(rt: &HostRuntime, file: Option<&str>) -> u8 {
         Ok(base) => replay_as_asked(
             rt.alloc(),
             base.as_deref(),
-            &mut rt.stdin(),
-            &mut rt.stdout(),
+            &mut Noted::new(rt.stdin()),
+            &mut Noted::new(rt.stdout()),
             &mut rt.stderr(),
         ),
         Err(error) => tell_file(rt, &error),

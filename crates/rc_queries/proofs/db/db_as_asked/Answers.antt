@@ -1,5 +1,6 @@
 use Rattle.std.proofs.Common.{◌≡◌, ◌∙◌, ℕ, List, subst}
 use Rattle.rc_base.specs.Base.{bytes_of}
+use Rattle.rc_streams.specs.Noting.{inner_of}
 use Rattle.rc_queries.specs.DbFaults.{IsDbRefused, TellsAnswerFault}
 use Rattle.rc_asked.specs.Query.{db_ask_of}
 use Rattle.rc_queries.proofs.DbLemmas.{if_read_then}
@@ -8,7 +9,7 @@ use Rattle.rc_queries.proofs.db.db_as_asked.Goals as goal
 pub returns-clause-refused : goal.returns-clause-refused
 returns-clause-refused g c told =
     let line = c.tell_db_fault.ensures.refused told in
-    if_read_then (bytes_of c.args.base) (g.R.Read.remaining c.args.reader.now) (λ input. c.in-Ok.input.items ≡ input)
+    if_read_then (bytes_of c.args.base) (g.R.Read.remaining (inner_of c.args.reader.now)) (λ input. c.in-Ok.input.items ≡ input)
     (λ input. TellsAnswerFault (db_ask_of c.args.request.now) (bytes_of c.args.base) input (g.F.Write.contents c.args.faults.now) (g.F.Write.contents c.tell_db_fault.new.faults))
     (λ input is. (
       c.in-Err-answer_for.fault,

@@ -1,6 +1,7 @@
 use Rattle.std.proofs.Common.{inl, inr, map, string_bytes}
 use Rattle.rc_asked.specs.Query.{db_ask_of}
 use Rattle.rc_base.specs.Base.{bytes_of}
+use Rattle.rc_streams.specs.Noting.{inner_of}
 use Rattle.rc_queries.proofs.DbLemmas.{if_read_then}
 use Rattle.rc_queries.proofs.RunLemmas.{answer_begun, answer_written, never_wrong, status_wider}
 use Rattle.rc_queries.proofs.db.db_run.Goals as goal
@@ -12,7 +13,7 @@ returns-in-Ok g c =
     let asked = c.in-Ok.ensures.asked in
     let words = map string_bytes c.args.words.now in
     let base = bytes_of c.args.base in
-    let remaining = g.R.Read.remaining c.args.reader.now in
+    let remaining = g.R.Read.remaining (inner_of c.args.reader.now) in
     record {
       statuses = status_wider _ run.statuses;
       done = λ zero. if_read_then base remaining _ _ (λ input h. answer_written words ask base input _ _ asked h) (run.done zero);
@@ -22,6 +23,8 @@ returns-in-Ok g c =
       right = λ other more. (ask, asked);
       unread = λ wrong. absurd (never_wrong _ run.statuses wrong);
       failed = run.failed;
+      read = run.read;
+      written = run.written;
       begun = λ failed. elim (run.begun failed) [ inl same ↦ inl same | inr front ↦ inr (if_read_then base remaining _ _ (λ input h. answer_begun words ask base input _ _ asked h) front) ];
       unwritten = λ cases. elim cases [ inl one ↦ run.unwritten one | inr wrong ↦ absurd (never_wrong _ run.statuses wrong) ];
       base = run.base;

@@ -25,7 +25,7 @@ returns-in-Err-clause-failed g c told =
     )
 
 pub returns-in-Err-clause-cause : goal.returns-in-Err-clause-cause
-returns-in-Err-clause-cause g c based failed =
+returns-in-Err-clause-cause g c failed =
     told_read c.run_asked.result c.in-Err.fault c.tell_session_fault.result _ (g.F.Write.contents c.args.faults.now) (g.F.Write.contents c.tell_session_fault.new.faults)
-    (c.run_asked.ensures.told based failed) c.in-Err.is
+    (c.run_asked.ensures.told failed) c.in-Err.is
     c.tell_session_fault.ensures.statuses c.tell_session_fault.ensures.refused c.tell_session_fault.ensures.failed

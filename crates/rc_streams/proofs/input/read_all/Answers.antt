@@ -5,6 +5,7 @@ use Rattle.rc_streams.proofs.input.read_all.Goals as goal
 
 pub loop-bytes-preserved : goal.loop-bytes-preserved
 loop-bytes-preserved g c = record {
+  sound = λ failed. c.loop-bytes.invariant.sound (c.in_ok-take_piece.ensures.sound failed);
   within = omega (arith, MovesPiece-length _ _ _ _ _ c.in_ok-take_piece.ensures.moved, c.in_ok-take_piece.ensures.fits, c.take_piece.new.bytes.ok.0, c.loop-bytes.bytes.ok.0);
   held = Consumes-piece _ _ _ _ _ _ c.loop-bytes.invariant.held c.in_ok-take_piece.ensures.moved;
 }
@@ -26,8 +27,8 @@ returns-in_err-take_piece-clause-taken g c =
     ConsumesAtMost-more _ _ _ _ _ _ c.loop-bytes.invariant.held c.in_err-take_piece.ensures.taken
     (omega (arith, c.loop-bytes.bytes.ok.0))
 
-pub returns-clause-too_long : goal.returns-clause-too_long
-returns-clause-too_long g c = λ _. Consumes-longer _ _ _ _ c.loop-bytes.invariant.held (omega (arith, c.loop-bytes.bytes.ok.0))
+pub returns-clause-fault : goal.returns-clause-fault
+returns-clause-fault g c = Consumes-longer _ _ _ _ c.loop-bytes.invariant.held (omega (arith, c.loop-bytes.bytes.ok.0))
 
 pub returns-clause-taken : goal.returns-clause-taken
 returns-clause-taken g c = (_, omega (arith, c.loop-bytes.bytes.ok.0), c.loop-bytes.invariant.held)
