@@ -1,11 +1,12 @@
 #!/bin/sh
 # measure-changes.sh [PROGRAM [OLD [RUNS]]]: how much processor time `undorc session` takes on 4,096
-# services for a change of all, its undo and its redo, by one worker, beside a plain loop over services
-# and pairs, and the same loop in a thread that takes and ends each service under a lock (tests/plain.c,
-# which writes the same answers); the same by 4 and by 64 workers, beside one; for reading their
-# database, beside that loop's reading and `wc`; for both together beside `ninja`, which starts `true` for each service where a
-# session starts nothing; and the most memory that they take, with that of OLD, the program of an
-# older commit, where it is given. Each time is the least of RUNS (5 without RUNS), since other work
+# services for a change of all, its undo and its redo, by one worker, beside a plain loop over
+# services and pairs, and the same loop in a thread that takes and ends each service under a lock
+# (tests/plain.c, which writes the same answers); the same by 4 and by 64 workers, beside one; for
+# reading their database, beside that loop's reading and `wc`; for both together, the whole program
+# beside the whole loop, and beside `ninja`, which starts `true` for each service where a session
+# starts nothing; and the most memory that they take, with that of OLD, the program of an older
+# commit, where it is given. Each time is the least of RUNS (5 without RUNS), since other work
 # disturbs them. tests/graph.sh has the graphs. Runs have a queue since the first commit of
 # crates/rc_core/src/ready.rt.
 set -eu
@@ -54,7 +55,7 @@ for kind in none next before fan layers random; do
     "$room/plain" "$room/text" $pairs | cmp - "$room/answers" >&2
     "$room/plain" "$room/text" $pairs kept | cmp - "$room/answers" >&2
     echo "$kind $(session "$program" nothing "$runs" 50) $(session "$program" change "$runs" 50)" \
-        "$(session "$program" lines "$runs" 1) $(session "$program" few 1 1)" \
+        "$(session "$program" lines "$runs" 1) $(session "$program" few "$runs" 50)" \
         "$(least "$runs" 50 /dev/null "$room/plain" "$room/text" 0)" \
         "$(least "$runs" 1 /dev/null "$room/plain" "$room/text" $pairs)" \
         "$(least "$runs" 1 /dev/null "$room/plain" "$room/text" $pairs kept)" \
@@ -62,6 +63,7 @@ for kind in none next before fan layers random; do
         "$(least "$runs" 50 "$room/text" wc)" \
         "$(least "$runs" 10 /dev/null ninja -C "$room" -n --quiet)" \
         "$(least 1 1 /dev/null ninja -C "$room" --quiet)" \
+        "$(least "$runs" 50 /dev/null "$room/plain" "$room/text" 1)" \
         "${old:+$(session "$old" few 1 1)}"
 done > "$room/figures"
 
@@ -76,7 +78,9 @@ table() {
 # Of what was measured, time and memory each: a session that reads alone (2), with a change of all (4),
 # with its undos and redos (6), with one of each (8); the loop that changes once (10), with its undos
 # and redos (12), and in a thread that keeps (14); the undos and redos by 4 workers (16) and by 64 (18);
-# wc (20), ninja -n (22), ninja (24); and OLD with one of each (26).
+# wc (20), ninja -n (22), ninja (24); the loop with one of each (26); and OLD with one of each (28).
+table '| Graph of 4,096 | A session with a change of all, its undo and its redo, as a multiple of the loop that reads and does the same |' \
+    '{ printf "| %s | %.2f |\n", $1, $8 / $26 }'
 table '| Graph of 4,096 | An undo or redo of all, as a multiple of the loop | of the loop in a thread that keeps | of reading the database |' \
     '{ printf "| %s | %.2f | %.2f | %.2f |\n", $1, ($6 - $4) / ($12 - $10), ($6 - $4) / ($14 - $10), ($6 - $4) / moves / $2 }'
 table '| Graph of 4,096 | An undo or redo of all by 4 workers, as a multiple of that by one | by 64 |' \
@@ -86,4 +90,4 @@ table '| Graph of 4,096 | Reading the database, as a multiple of the reading of 
 table '| Graph of 4,096 | A session with a change of all, as a multiple of `ninja -n` | of `ninja`, which starts `true` for each |' \
     '{ printf "| %s | %.2f | %.4f |\n", $1, $4 / $22, $4 / $24 }'
 table '| Graph of 4,096 | Peak of a session with a change of all, its undo and redo | Peak of OLD |' \
-    '{ old = "-"; if (NF > 25) old = sprintf("%.1f MB", $27 / 1024); printf "| %s | %.1f MB | %s |\n", $1, $9 / 1024, old }'
+    '{ old = "-"; if (NF > 27) old = sprintf("%.1f MB", $29 / 1024); printf "| %s | %.1f MB | %s |\n", $1, $9 / 1024, old }'
