@@ -4,3 +4,4 @@ pub mod DbAskedLemmas
 pub mod SessionWordsLemmas
 pub mod Mapped
 pub mod Spelling
+mod TextWords

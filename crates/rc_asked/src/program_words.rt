@@ -97,7 +97,6 @@ fn spaced(alloc: Global, text: &str) -> Result<Vec<String>, WordsFault>
     let words = words_of(alloc, text.as_bytes())?;
     match texts_of(alloc, &words)? {
         Some(texts) => Ok(strings_of(alloc, &texts)?),
-        // What stands between the spaces of a text is one, so this does not come.
-        None => Err(WordsFault::Memory),
+        None => unreachable!(),
     }
 }
