@@ -57,7 +57,11 @@ pub fn open<R: Read>(
 }
 
 // Reads the database of a base, and then the whole input.
-fn open_base<R: Read>(alloc: Global, base: &[u8], reader: &mut Noted<R>) -> Result<Opened, OpenFault>
+fn open_base<R: Read>(
+    alloc: Global,
+    base: &[u8],
+    reader: &mut Noted<R>,
+) -> Result<Opened, OpenFault>
     ensures opened { IfOk result (λ opened. Opens (Some base.now) (R.remaining (inner_of reader.old)) (R.remaining (inner_of reader.new))
         opened.db opened.input.items opened.start) }
     ensures fault { IfErr result (IsOpenFault (Some base.now) (R.remaining (inner_of reader.old)) (R.remaining (inner_of reader.new)) (HasFailed reader.new)) }

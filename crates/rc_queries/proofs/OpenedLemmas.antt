@@ -1,5 +1,5 @@
 -- What is so of a database with its input, and where there is none.
-use Rattle.std.proofs.Common.{◌≡◌, ◌≢◌, ℕ, List, [], Option, None, Some, IfSome, ◌-◌, drop, length, take, sym, subst}
+use Rattle.std.proofs.Common.{◌≡◌, ◌≢◌, ℕ, List, Option, None, Some, IfSome, ◌-◌, drop, length, take, sym, subst}
 use Rattle.std.proofs.lemmas.List.{take_rest}
 use Rattle.rc_db.specs.Database.{Database}
 use Rattle.rc_dbtext.specs.declared.fault.TextFault.{TextFault}
@@ -14,7 +14,7 @@ use Rattle.rc_base.specs.declared.opening.OpenFault.TheVariants as unopened
 use Rattle.rc_base.proofs.OpeningLemmas.{refused_in}
 use Rattle.rc_queries.specs.Replay.{IsReplayRefused, IsScriptAs, IsTextAs}
 use Rattle.rc_queries.specs.declared.replay.ReplayFault.{ReplayFault}
-use Rattle.rc_queries.specs.declared.replay.ReplayFault.TheVariants.{OfText, BadLine, Memory}
+use Rattle.rc_queries.specs.declared.replay.ReplayFault.TheVariants.{Memory}
 
 -- the database is spelled in the input that a reader has, if that is known
 pub spelled_in : (base remaining after : Option (List ℕ)) (d : Database) (held bytes : List ℕ) (start : ℕ) → bytes ≡ held → Opens base remaining after d held start

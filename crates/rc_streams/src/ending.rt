@@ -28,11 +28,7 @@ pub fn fail<F: Write>(faults: &mut F, failure: Failure) -> u8
 }
 
 /// Writes the answer whole, or tells that it could not, and answers the status.
-pub fn write_answer<W: Write, F: Write>(
-    writer: &mut Noted<W>,
-    faults: &mut F,
-    text: &[u8],
-) -> u8
+pub fn write_answer<W: Write, F: Write>(writer: &mut Noted<W>, faults: &mut F, text: &[u8]) -> u8
     ensures statuses { (result ≡ 0) ⊎ (result ≡ 111) }
     ensures done { result ≡ 0 → Appends (W.contents (inner_of writer.old)) (W.contents (inner_of writer.new)) text.now }
     ensures untold { result ≡ 0 → F.contents faults.new ≡ F.contents faults.old }

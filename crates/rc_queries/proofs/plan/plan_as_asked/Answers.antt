@@ -1,4 +1,4 @@
-use Rattle.std.proofs.Common.{ℕ, List, inl, inr, subst}
+use Rattle.std.proofs.Common.{inl, inr, subst}
 use Rattle.std.specs.Io.KnownBytes.{Appends}
 use Rattle.rc_select.specs.Ask.{ask_of}
 use Rattle.rc_streams.specs.Input.{AppendsFront, WritesAll, WritesFront}

@@ -1,4 +1,4 @@
-use Rattle.std.proofs.Common.{ℕ, List, inl, inr, subst}
+use Rattle.std.proofs.Common.{inr, subst}
 use Rattle.std.specs.Io.KnownBytes.{Appends}
 use Rattle.rc_streams.specs.Input.{AppendsFront, WritesAll, WritesFront}
 use Rattle.rc_streams.specs.declared.input.Failure.TheVariants as failure
