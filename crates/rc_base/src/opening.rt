@@ -39,16 +39,21 @@ pub fn open<R: Read>(
     base: Option<&[u8]>,
     reader: &mut Noted<R>,
 ) -> Result<Opened, OpenFault>
-    ensures opened { IfOk result (λ opened. Opens (bytes_of base.entry) (R.remaining (inner_of reader.old)) (R.remaining (inner_of reader.new))
+    ensures opened { IfOk result (λ opened. Opens (bytes_of base.entry)
+        (R.remaining (inner_of reader.old)) (R.remaining (inner_of reader.new))
         opened.db opened.input.items opened.start) }
-    ensures fault { IfErr result (IsOpenFault (bytes_of base.entry) (R.remaining (inner_of reader.old)) (R.remaining (inner_of reader.new)) (HasFailed reader.new)) }
+    ensures fault { IfErr result (IsOpenFault (bytes_of base.entry)
+        (R.remaining (inner_of reader.old)) (R.remaining (inner_of reader.new))
+        (HasFailed reader.new)) }
 
     // A read that has failed is told as that.
-    ensures told { HasFailed reader.new → HasFailed reader.old ⊎ (result ≡ Err (OpenFault.Failed Failure.Read)) }
+    ensures told { HasFailed reader.new → HasFailed reader.old
+        ⊎ (result ≡ Err (OpenFault.Failed Failure.Read)) }
 
     // Where the base is wrong the reader is as it was.
     ensures first { IsWrongBase (bytes_of base.entry) → reader.new ≡ reader.old }
-    ensures taken { ConsumesAtMost (R.remaining (inner_of reader.old)) (R.remaining (inner_of reader.new)) (MAX_INPUT + 1) }
+    ensures taken { ConsumesAtMost (R.remaining (inner_of reader.old))
+        (R.remaining (inner_of reader.new)) (MAX_INPUT + 1) }
 {
     match base {
         Some(bytes) => open_base(alloc, bytes, reader),
@@ -62,12 +67,16 @@ fn open_base<R: Read>(
     base: &[u8],
     reader: &mut Noted<R>,
 ) -> Result<Opened, OpenFault>
-    ensures opened { IfOk result (λ opened. Opens (Some base.now) (R.remaining (inner_of reader.old)) (R.remaining (inner_of reader.new))
+    ensures opened { IfOk result (λ opened. Opens (Some base.now)
+        (R.remaining (inner_of reader.old)) (R.remaining (inner_of reader.new))
         opened.db opened.input.items opened.start) }
-    ensures fault { IfErr result (IsOpenFault (Some base.now) (R.remaining (inner_of reader.old)) (R.remaining (inner_of reader.new)) (HasFailed reader.new)) }
+    ensures fault { IfErr result (IsOpenFault (Some base.now) (R.remaining (inner_of reader.old))
+        (R.remaining (inner_of reader.new)) (HasFailed reader.new)) }
     ensures first { IsWrongBase (Some base.now) → reader.new ≡ reader.old }
-    ensures told { HasFailed reader.new → HasFailed reader.old ⊎ (result ≡ Err (OpenFault.Failed Failure.Read)) }
-    ensures taken { ConsumesAtMost (R.remaining (inner_of reader.old)) (R.remaining (inner_of reader.new)) (MAX_INPUT + 1) }
+    ensures told { HasFailed reader.new → HasFailed reader.old
+        ⊎ (result ≡ Err (OpenFault.Failed Failure.Read)) }
+    ensures taken { ConsumesAtMost (R.remaining (inner_of reader.old))
+        (R.remaining (inner_of reader.new)) (MAX_INPUT + 1) }
 {
     let db = base_db(alloc, base)?;
     let input = whole_input(alloc, reader)?;
@@ -80,11 +89,15 @@ fn open_base<R: Read>(
 
 // Reads the whole input, at whose front the database stands.
 fn open_front<R: Read>(alloc: Global, reader: &mut Noted<R>) -> Result<Opened, OpenFault>
-    ensures opened { IfOk result (λ opened. Opens None (R.remaining (inner_of reader.old)) (R.remaining (inner_of reader.new))
+    ensures opened { IfOk result (λ opened. Opens None (R.remaining (inner_of reader.old))
+        (R.remaining (inner_of reader.new))
         opened.db opened.input.items opened.start) }
-    ensures fault { IfErr result (IsOpenFault None (R.remaining (inner_of reader.old)) (R.remaining (inner_of reader.new)) (HasFailed reader.new)) }
-    ensures told { HasFailed reader.new → HasFailed reader.old ⊎ (result ≡ Err (OpenFault.Failed Failure.Read)) }
-    ensures taken { ConsumesAtMost (R.remaining (inner_of reader.old)) (R.remaining (inner_of reader.new)) (MAX_INPUT + 1) }
+    ensures fault { IfErr result (IsOpenFault None (R.remaining (inner_of reader.old))
+        (R.remaining (inner_of reader.new)) (HasFailed reader.new)) }
+    ensures told { HasFailed reader.new → HasFailed reader.old
+        ⊎ (result ≡ Err (OpenFault.Failed Failure.Read)) }
+    ensures taken { ConsumesAtMost (R.remaining (inner_of reader.old))
+        (R.remaining (inner_of reader.new)) (MAX_INPUT + 1) }
 {
     let all = whole_input(alloc, reader)?;
     match read_db_front(alloc, &all) {
@@ -117,10 +130,14 @@ fn base_db(alloc: Global, base: &[u8]) -> Result<Db, OpenFault>
 
 // The whole input.
 fn whole_input<R: Read>(alloc: Global, reader: &mut Noted<R>) -> Result<Vec<u8>, OpenFault>
-    ensures whole { IfOk result (λ all. ReadsAll (R.remaining (inner_of reader.old)) (R.remaining (inner_of reader.new)) all.items) }
-    ensures fault { IfErr result (IsInputFault (R.remaining (inner_of reader.old)) (HasFailed reader.new)) }
-    ensures told { HasFailed reader.new → HasFailed reader.old ⊎ (result ≡ Err (OpenFault.Failed Failure.Read)) }
-    ensures taken { ConsumesAtMost (R.remaining (inner_of reader.old)) (R.remaining (inner_of reader.new)) (MAX_INPUT + 1) }
+    ensures whole { IfOk result (λ all. ReadsAll (R.remaining (inner_of reader.old))
+        (R.remaining (inner_of reader.new)) all.items) }
+    ensures fault { IfErr result (IsInputFault (R.remaining (inner_of reader.old))
+        (HasFailed reader.new)) }
+    ensures told { HasFailed reader.new → HasFailed reader.old
+        ⊎ (result ≡ Err (OpenFault.Failed Failure.Read)) }
+    ensures taken { ConsumesAtMost (R.remaining (inner_of reader.old))
+        (R.remaining (inner_of reader.new)) (MAX_INPUT + 1) }
 {
     match read_all(alloc, reader) {
         Ok(all) => Ok(all),

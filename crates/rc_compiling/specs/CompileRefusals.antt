@@ -95,6 +95,6 @@ TellsRefusal held old new = (fault : TreesFault) × IsTreesFault held fault × I
 abbrev pub TellsDevice : List (Option Source) → List ℕ → List ℕ → Option (List ℕ) → Option (List ℕ) → Type 0
 TellsDevice held before after old new = (entry : List ℕ) × StopsReading held flaw.Io entry × SomeFailed before after × AppendsFront old new (fault_line (flaw_text flaw.Io entry))
 
--- a writer gains a front of the line of a writer that has failed, or of want of memory
+-- a writer gains a front of the line that a writer has failed, or that memory ran out
 abbrev pub TellsWant : (failed : Type 0) → (old new : Option (List ℕ)) → Type 0
 TellsWant failed old new = (failed × AppendsFront old new (fault_line (failure_text failure.Write))) ⊎ AppendsFront old new (fault_line (failure_text failure.Memory))

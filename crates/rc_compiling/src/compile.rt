@@ -31,22 +31,29 @@ pub fn compile_run<T: Tree, W: Write, F: Write>(
 ) -> u8
     ensures statuses { (result ≡ 0) ⊎ (result ≡ 1) ⊎ (result ≡ 111) }
 
-    // What was written is the text of the database of what the trees' files say, and nothing was told.
-    ensures done { result ≡ 0 → WritesAll (IsCompiled (map T.held trees.old)) (W.contents (inner_of writer.old)) (W.contents (inner_of writer.new)) }
+    // What was written is the text of the database of what the trees' files say, and nothing was
+    // told.
+    ensures done { result ≡ 0 → WritesAll (IsCompiled (map T.held trees.old))
+        (W.contents (inner_of writer.old)) (W.contents (inner_of writer.new)) }
     ensures untold { result ≡ 0 → F.contents faults.new ≡ F.contents faults.old }
 
     // A refusal holds, and a front of its line was told, or all of it. Nothing was written.
-    ensures refused { result ≡ 1 → TellsRefusal (map T.held trees.old) (F.contents faults.old) (F.contents faults.new) }
-    ensures unwritten { result ≡ 1 → W.contents (inner_of writer.new) ≡ W.contents (inner_of writer.old) }
+    ensures refused { result ≡ 1 → TellsRefusal (map T.held trees.old) (F.contents faults.old)
+        (F.contents faults.new) }
+    ensures unwritten { result ≡ 1 → W.contents (inner_of writer.new)
+        ≡ W.contents (inner_of writer.old) }
 
-    // A device that failed is told with its entry, a writer that failed as that, and else want of memory; what was written
-    // is nothing or a front of the text.
-    ensures failed { result ≡ 111 → TellsDevice (map T.held trees.old) (map T.failed trees.old) (map T.failed trees.new) (F.contents faults.old) (F.contents faults.new)
+    // A device that failed is told with its entry, a writer that failed as that, and else that
+    // memory ran out; what was written is nothing or a front of the text.
+    ensures failed { result ≡ 111 → TellsDevice (map T.held trees.old) (map T.failed trees.old)
+        (map T.failed trees.new) (F.contents faults.old) (F.contents faults.new)
         ⊎ TellsWant (HasFailed writer.new) (F.contents faults.old) (F.contents faults.new) }
     ensures written { HasFailed writer.new → HasFailed writer.old
         ⊎ FailsWith Failure.Write result (F.contents faults.old) (F.contents faults.new) }
-    ensures begun { result ≡ 111 → (W.contents (inner_of writer.new) ≡ W.contents (inner_of writer.old))
-        ⊎ WritesFront (IsCompiled (map T.held trees.old)) (W.contents (inner_of writer.old)) (W.contents (inner_of writer.new)) }
+    ensures begun { result ≡ 111 → (W.contents (inner_of writer.new)
+        ≡ W.contents (inner_of writer.old))
+        ⊎ WritesFront (IsCompiled (map T.held trees.old)) (W.contents (inner_of writer.old))
+        (W.contents (inner_of writer.new)) }
 
     ensures same { map T.held trees.new ≡ map T.held trees.old }
 {
@@ -60,7 +67,8 @@ pub fn compile_run<T: Tree, W: Write, F: Write>(
 fn text_of<T: Tree>(alloc: Global, trees: &mut [T]) -> Result<Vec<u8>, TreesFault>
     ensures text { IfOk result (λ text. IsCompiled (map T.held trees.old) text.items) }
     ensures fault { IfErr result (IsTreesFault (map T.held trees.old)) }
-    ensures io { IfErr result (λ fault. IsDeviceFault fault → SomeFailed (map T.failed trees.old) (map T.failed trees.new)) }
+    ensures io { IfErr result (λ fault. IsDeviceFault fault
+        → SomeFailed (map T.failed trees.old) (map T.failed trees.new)) }
     ensures same { map T.held trees.new ≡ map T.held trees.old }
 {
     let definitions = match read_all(alloc, trees) {

@@ -105,40 +105,54 @@ pub fn plan_run<R: Read, W: Write, F: Write>(
 
     // What was written is the plan for what the words ask, and nothing was told.
     ensures done { result ≡ 0 → IfSome (R.remaining (inner_of reader.old)) (λ input. WritesAll
-        (IsAnswer (map string_bytes words.now) (bytes_of base.entry) input) (W.contents (inner_of writer.old)) (W.contents (inner_of writer.new))) }
+        (IsAnswer (map string_bytes words.now) (bytes_of base.entry) input)
+        (W.contents (inner_of writer.old)) (W.contents (inner_of writer.new))) }
     ensures untold { result ≡ 0 → F.contents faults.new ≡ F.contents faults.old }
 
     // A refusal holds, and a front of its line was told, or all of it.
     ensures refused { result ≡ 1 → IfSome (R.remaining (inner_of reader.old)) (λ input. TellsFault
-        (map string_bytes words.now) (bytes_of base.entry) input (F.contents faults.old) (F.contents faults.new)) }
+        (map string_bytes words.now) (bytes_of base.entry) input (F.contents faults.old)
+        (F.contents faults.new)) }
 
     // A wrong command line is found before anything is read.
     ensures wrong { result ≡ 100 → plan_asked (map string_bytes words.now) ≡ None }
     ensures right { result ≢ 100 → result ≢ 111 → plan_asked (map string_bytes words.now) ≢ None }
-    ensures unread { result ≡ 100 → R.remaining (inner_of reader.new) ≡ R.remaining (inner_of reader.old) }
+    ensures unread { result ≡ 100 → R.remaining (inner_of reader.new)
+        ≡ R.remaining (inner_of reader.old) }
 
-    // A failure is told by the line of its cause, and what was written is nothing or a front of the plan.
-    ensures failed { result ≡ 111 → TellsFailure (R.remaining (inner_of reader.old)) (HasFailed reader.new) (HasFailed writer.new)
+    // A failure is told by the line of its cause, and what was written is nothing or a front of the
+    // plan.
+    ensures failed { result ≡ 111 → TellsFailure (R.remaining (inner_of reader.old))
+        (HasFailed reader.new) (HasFailed writer.new)
         (F.contents faults.old) (F.contents faults.new) }
     ensures read { HasFailed reader.new → HasFailed reader.old
         ⊎ FailsWith Failure.Read result (F.contents faults.old) (F.contents faults.new) }
     ensures written { HasFailed writer.new → HasFailed writer.old
         ⊎ FailsWith Failure.Write result (F.contents faults.old) (F.contents faults.new) }
-    ensures begun { result ≡ 111 → (W.contents (inner_of writer.new) ≡ W.contents (inner_of writer.old)) ⊎ IfSome (R.remaining (inner_of reader.old)) (λ input. WritesFront
-        (IsAnswer (map string_bytes words.now) (bytes_of base.entry) input) (W.contents (inner_of writer.old)) (W.contents (inner_of writer.new))) }
-    ensures unwritten { (result ≡ 1) ⊎ (result ≡ 100) → W.contents (inner_of writer.new) ≡ W.contents (inner_of writer.old) }
+    ensures begun { result ≡ 111 → (W.contents (inner_of writer.new)
+        ≡ W.contents (inner_of writer.old))
+        ⊎ IfSome (R.remaining (inner_of reader.old)) (λ input. WritesFront
+        (IsAnswer (map string_bytes words.now) (bytes_of base.entry) input)
+        (W.contents (inner_of writer.old)) (W.contents (inner_of writer.new))) }
+    ensures unwritten { (result ≡ 1) ⊎ (result ≡ 100) → W.contents (inner_of writer.new)
+        ≡ W.contents (inner_of writer.old) }
 
     // A base comes first: where it is wrong the reader is as it was, there is no plan, and why is
     // told whatever the reader has.
     ensures first { IsWrongBase (bytes_of base.entry) → reader.new ≡ reader.old }
     ensures based { result ≡ 0 → IsWrongBase (bytes_of base.entry) → ⊥ }
-    ensures untrue { result ≡ 1 → IsWrongBase (bytes_of base.entry) → TellsFault (map string_bytes words.now) (bytes_of base.entry) [] (F.contents faults.old) (F.contents faults.new) }
+    ensures untrue { result ≡ 1 → IsWrongBase (bytes_of base.entry)
+        → TellsFault (map string_bytes words.now) (bytes_of base.entry) [] (F.contents faults.old)
+        (F.contents faults.new) }
 
     // Any other input that was answered was read to its end, and whatever the status, one byte past
     // the bound is the last that is taken.
-    ensures within { (result ≡ 0) ⊎ (result ≡ 1) → IsWrongBase (bytes_of base.entry) ⊎ IfSome (R.remaining (inner_of reader.old)) (λ input. length input ≤ MAX_INPUT) }
-    ensures end { (result ≡ 0) ⊎ (result ≡ 1) → IsWrongBase (bytes_of base.entry) ⊎ IsAtEnd (R.remaining (inner_of reader.new)) }
-    ensures taken { ConsumesAtMost (R.remaining (inner_of reader.old)) (R.remaining (inner_of reader.new)) (MAX_INPUT + 1) }
+    ensures within { (result ≡ 0) ⊎ (result ≡ 1) → IsWrongBase (bytes_of base.entry)
+        ⊎ IfSome (R.remaining (inner_of reader.old)) (λ input. length input ≤ MAX_INPUT) }
+    ensures end { (result ≡ 0) ⊎ (result ≡ 1) → IsWrongBase (bytes_of base.entry)
+        ⊎ IsAtEnd (R.remaining (inner_of reader.new)) }
+    ensures taken { ConsumesAtMost (R.remaining (inner_of reader.old))
+        (R.remaining (inner_of reader.new)) (MAX_INPUT + 1) }
 {
     match plan_asked(alloc, words) {
         Ok(request) => plan_as_asked(alloc, &request, base, reader, writer, faults),
@@ -159,35 +173,49 @@ pub fn plan_as_asked<R: Read, W: Write, F: Write>(
 
     // What was written is the plan for what is asked, and nothing was told.
     ensures done { result ≡ 0 → IfSome (R.remaining (inner_of reader.old)) (λ input. WritesAll
-        (IsPlanFor (ask_of request.now) (bytes_of base.entry) input) (W.contents (inner_of writer.old)) (W.contents (inner_of writer.new))) }
+        (IsPlanFor (ask_of request.now) (bytes_of base.entry) input)
+        (W.contents (inner_of writer.old)) (W.contents (inner_of writer.new))) }
     ensures untold { result ≡ 0 → F.contents faults.new ≡ F.contents faults.old }
 
     // A refusal holds, and a front of its line was told, or all of it.
-    ensures refused { result ≡ 1 → IfSome (R.remaining (inner_of reader.old)) (λ input. TellsPlanFault
-        (ask_of request.now) (bytes_of base.entry) input (F.contents faults.old) (F.contents faults.new)) }
+    ensures refused { result ≡ 1 → IfSome (R.remaining (inner_of reader.old))
+        (λ input. TellsPlanFault
+        (ask_of request.now) (bytes_of base.entry) input (F.contents faults.old)
+        (F.contents faults.new)) }
 
-    // A failure is told by the line of its cause, and what was written is nothing or a front of the plan.
-    ensures failed { result ≡ 111 → TellsFailure (R.remaining (inner_of reader.old)) (HasFailed reader.new) (HasFailed writer.new)
+    // A failure is told by the line of its cause, and what was written is nothing or a front of the
+    // plan.
+    ensures failed { result ≡ 111 → TellsFailure (R.remaining (inner_of reader.old))
+        (HasFailed reader.new) (HasFailed writer.new)
         (F.contents faults.old) (F.contents faults.new) }
     ensures read { HasFailed reader.new → HasFailed reader.old
         ⊎ FailsWith Failure.Read result (F.contents faults.old) (F.contents faults.new) }
     ensures written { HasFailed writer.new → HasFailed writer.old
         ⊎ FailsWith Failure.Write result (F.contents faults.old) (F.contents faults.new) }
-    ensures begun { result ≡ 111 → (W.contents (inner_of writer.new) ≡ W.contents (inner_of writer.old)) ⊎ IfSome (R.remaining (inner_of reader.old)) (λ input. WritesFront
-        (IsPlanFor (ask_of request.now) (bytes_of base.entry) input) (W.contents (inner_of writer.old)) (W.contents (inner_of writer.new))) }
-    ensures unwritten { result ≡ 1 → W.contents (inner_of writer.new) ≡ W.contents (inner_of writer.old) }
+    ensures begun { result ≡ 111 → (W.contents (inner_of writer.new)
+        ≡ W.contents (inner_of writer.old))
+        ⊎ IfSome (R.remaining (inner_of reader.old)) (λ input. WritesFront
+        (IsPlanFor (ask_of request.now) (bytes_of base.entry) input)
+        (W.contents (inner_of writer.old)) (W.contents (inner_of writer.new))) }
+    ensures unwritten { result ≡ 1 → W.contents (inner_of writer.new)
+        ≡ W.contents (inner_of writer.old) }
 
     // A base comes first: where it is wrong the reader is as it was, there is no plan, and why is
     // told whatever the reader has.
     ensures first { IsWrongBase (bytes_of base.entry) → reader.new ≡ reader.old }
     ensures based { result ≡ 0 → IsWrongBase (bytes_of base.entry) → ⊥ }
-    ensures untrue { result ≡ 1 → IsWrongBase (bytes_of base.entry) → TellsPlanFault (ask_of request.now) (bytes_of base.entry) [] (F.contents faults.old) (F.contents faults.new) }
+    ensures untrue { result ≡ 1 → IsWrongBase (bytes_of base.entry)
+        → TellsPlanFault (ask_of request.now) (bytes_of base.entry) [] (F.contents faults.old)
+        (F.contents faults.new) }
 
     // Any other input that was answered was read to its end, and whatever the status, one byte past
     // the bound is the last that is taken.
-    ensures within { (result ≡ 0) ⊎ (result ≡ 1) → IsWrongBase (bytes_of base.entry) ⊎ IfSome (R.remaining (inner_of reader.old)) (λ input. length input ≤ MAX_INPUT) }
-    ensures end { (result ≡ 0) ⊎ (result ≡ 1) → IsWrongBase (bytes_of base.entry) ⊎ IsAtEnd (R.remaining (inner_of reader.new)) }
-    ensures taken { ConsumesAtMost (R.remaining (inner_of reader.old)) (R.remaining (inner_of reader.new)) (MAX_INPUT + 1) }
+    ensures within { (result ≡ 0) ⊎ (result ≡ 1) → IsWrongBase (bytes_of base.entry)
+        ⊎ IfSome (R.remaining (inner_of reader.old)) (λ input. length input ≤ MAX_INPUT) }
+    ensures end { (result ≡ 0) ⊎ (result ≡ 1) → IsWrongBase (bytes_of base.entry)
+        ⊎ IsAtEnd (R.remaining (inner_of reader.new)) }
+    ensures taken { ConsumesAtMost (R.remaining (inner_of reader.old))
+        (R.remaining (inner_of reader.new)) (MAX_INPUT + 1) }
 {
     match open(alloc, base, reader) {
         Ok(opened) => match plan_of(alloc, request, &opened.db, &opened.input[opened.start..]) {
@@ -207,8 +235,10 @@ fn plan_of<'a>(
     db: &Db,
     rest: &'a [u8],
 ) -> Result<Vec<u8>, PlanFault<'a>>
-    ensures plan { IfOk result (λ text. IsTextFor db.now (word_lines rest.entry.now) (ask_of request.entry.now) text.items) }
-    ensures fault { IfErr result (λ fault. IsNameFault fault db.now (word_lines rest.entry.now) (ask_of request.entry.now)) }
+    ensures plan { IfOk result (λ text. IsTextFor db.now (word_lines rest.entry.now)
+        (ask_of request.entry.now) text.items) }
+    ensures fault { IfErr result (λ fault. IsNameFault fault db.now (word_lines rest.entry.now)
+        (ask_of request.entry.now)) }
 {
     let ups = word_lines(alloc, rest)?;
     text_for(alloc, db, &ups, request)
@@ -221,8 +251,10 @@ fn text_for<'a>(
     ups: &[&'a [u8]],
     request: &'a Request,
 ) -> Result<Vec<u8>, PlanFault<'a>>
-    ensures plan { IfOk result (λ text. IsTextFor db.now (map (λ w. w.now) ups.entry.now) (ask_of request.entry.now) text.items) }
-    ensures fault { IfErr result (λ fault. IsNameFault fault db.now (map (λ w. w.now) ups.entry.now) (ask_of request.entry.now)) }
+    ensures plan { IfOk result (λ text. IsTextFor db.now (map (λ w. w.now) ups.entry.now)
+        (ask_of request.entry.now) text.items) }
+    ensures fault { IfErr result (λ fault. IsNameFault fault db.now (map (λ w. w.now) ups.entry.now)
+        (ask_of request.entry.now)) }
 {
     let up = up_set(alloc, db.names(), db.graph(), ups)?;
     let plan = planned(alloc, db, &up, request);
@@ -242,7 +274,8 @@ fn up_set<'a>(
 ) -> Result<Set, PlanFault<'a>>
     requires { length names.now ≡ length graph.now }
     ensures up { IfOk result (IsUpSet names.now graph.now (map (λ w. w.now) ups.entry.now)) }
-    ensures fault { IfErr result (λ fault. IsUpFault fault names.now graph.now (map (λ w. w.now) ups.entry.now)) }
+    ensures fault { IfErr result (λ fault. IsUpFault fault names.now graph.now
+        (map (λ w. w.now) ups.entry.now)) }
 {
     let up = named_set(alloc, names, ups)?;
     if graph.closed(&up) {
@@ -272,7 +305,8 @@ fn planned<'a>(
 
 /// A refusal of the plan, with the word that it tells.
 fn fault_of<'a>(fault: WantFault, request: &'a Request) -> PlanFault<'a>
-    requires { (place : ℕ) → fault ≡ WantFault.Unknown place → place < length request.now.names.items }
+    requires { (place : ℕ) → fault ≡ WantFault.Unknown place
+        → place < length request.now.names.items }
     ensures { IsFaultOf fault (ask_of request.entry.now) result }
 {
     match fault {
@@ -286,8 +320,10 @@ fn fault_of<'a>(fault: WantFault, request: &'a Request) -> PlanFault<'a>
 fn tell_fault<F: Write>(alloc: Global, faults: &mut F, fault: PlanFault<'_>) -> u8
     ensures statuses { (result ≡ 1) ⊎ (result ≡ 111) }
     ensures refused { result ≡ 1 → (fault.entry ≢ PlanFault.Memory)
-        × AppendsFront (F.contents faults.old) (F.contents faults.new) (fault_line (fault_text fault.entry)) }
-    ensures failed { result ≡ 111 → AppendsFront (F.contents faults.old) (F.contents faults.new) (fault_line (fault_text PlanFault.Memory)) }
+        × AppendsFront (F.contents faults.old) (F.contents faults.new)
+        (fault_line (fault_text fault.entry)) }
+    ensures failed { result ≡ 111 → AppendsFront (F.contents faults.old) (F.contents faults.new)
+        (fault_line (fault_text PlanFault.Memory)) }
 {
     if let PlanFault::Memory = fault {
         return fail(faults, Failure::Memory);

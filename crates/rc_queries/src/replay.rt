@@ -77,40 +77,54 @@ pub fn replay_run<R: Read, W: Write, F: Write>(
 
     // What was written is what the script comes to, and nothing was told.
     ensures done { result ≡ 0 → IfSome (R.remaining (inner_of reader.old)) (λ input. WritesAll
-        (IsReplayFor (bytes_of base.entry) input) (W.contents (inner_of writer.old)) (W.contents (inner_of writer.new))) }
+        (IsReplayFor (bytes_of base.entry) input) (W.contents (inner_of writer.old))
+        (W.contents (inner_of writer.new))) }
     ensures untold { result ≡ 0 → F.contents faults.new ≡ F.contents faults.old }
 
     // A refusal holds, and a front of its line was told, or all of it.
-    ensures refused { result ≡ 1 → IfSome (R.remaining (inner_of reader.old)) (λ input. TellsReplayFault
+    ensures refused { result ≡ 1 → IfSome (R.remaining (inner_of reader.old))
+        (λ input. TellsReplayFault
         (bytes_of base.entry) input (F.contents faults.old) (F.contents faults.new)) }
 
     // A wrong command line is found before anything is read.
     ensures wrong { result ≡ 100 → rows_for (codes "replay") (map string_bytes words.now) ≡ None }
     ensures right { result ≢ 100 → result ≢ 111 → AsksReplay (map string_bytes words.now) }
-    ensures unread { result ≡ 100 → R.remaining (inner_of reader.new) ≡ R.remaining (inner_of reader.old) }
+    ensures unread { result ≡ 100 → R.remaining (inner_of reader.new)
+        ≡ R.remaining (inner_of reader.old) }
 
-    // A failure is told by the line of its cause, and what was written is nothing or a front of what the script comes to.
-    ensures failed { result ≡ 111 → TellsFailure (R.remaining (inner_of reader.old)) (HasFailed reader.new) (HasFailed writer.new)
+    // A failure is told by the line of its cause, and what was written is nothing or a front of
+    // what the script comes to.
+    ensures failed { result ≡ 111 → TellsFailure (R.remaining (inner_of reader.old))
+        (HasFailed reader.new) (HasFailed writer.new)
         (F.contents faults.old) (F.contents faults.new) }
     ensures read { HasFailed reader.new → HasFailed reader.old
         ⊎ FailsWith Failure.Read result (F.contents faults.old) (F.contents faults.new) }
     ensures written { HasFailed writer.new → HasFailed writer.old
         ⊎ FailsWith Failure.Write result (F.contents faults.old) (F.contents faults.new) }
-    ensures begun { result ≡ 111 → (W.contents (inner_of writer.new) ≡ W.contents (inner_of writer.old)) ⊎ IfSome (R.remaining (inner_of reader.old)) (λ input. WritesFront
-        (IsReplayFor (bytes_of base.entry) input) (W.contents (inner_of writer.old)) (W.contents (inner_of writer.new))) }
-    ensures unwritten { (result ≡ 1) ⊎ (result ≡ 100) → W.contents (inner_of writer.new) ≡ W.contents (inner_of writer.old) }
+    ensures begun { result ≡ 111 → (W.contents (inner_of writer.new)
+        ≡ W.contents (inner_of writer.old))
+        ⊎ IfSome (R.remaining (inner_of reader.old)) (λ input. WritesFront
+        (IsReplayFor (bytes_of base.entry) input) (W.contents (inner_of writer.old))
+        (W.contents (inner_of writer.new))) }
+    ensures unwritten { (result ≡ 1) ⊎ (result ≡ 100) → W.contents (inner_of writer.new)
+        ≡ W.contents (inner_of writer.old) }
 
     // A base comes first: where it is wrong the reader is as it was, nothing is written, and why is
     // told whatever the reader has.
     ensures first { IsWrongBase (bytes_of base.entry) → reader.new ≡ reader.old }
     ensures based { result ≡ 0 → IsWrongBase (bytes_of base.entry) → ⊥ }
-    ensures untrue { result ≡ 1 → IsWrongBase (bytes_of base.entry) → TellsReplayFault (bytes_of base.entry) [] (F.contents faults.old) (F.contents faults.new) }
+    ensures untrue { result ≡ 1 → IsWrongBase (bytes_of base.entry)
+        → TellsReplayFault (bytes_of base.entry) [] (F.contents faults.old)
+        (F.contents faults.new) }
 
     // Any other input that was answered was read to its end, and whatever the status, one byte past
     // the bound is the last that is taken.
-    ensures within { (result ≡ 0) ⊎ (result ≡ 1) → IsWrongBase (bytes_of base.entry) ⊎ IfSome (R.remaining (inner_of reader.old)) (λ input. length input ≤ MAX_INPUT) }
-    ensures end { (result ≡ 0) ⊎ (result ≡ 1) → IsWrongBase (bytes_of base.entry) ⊎ IsAtEnd (R.remaining (inner_of reader.new)) }
-    ensures taken { ConsumesAtMost (R.remaining (inner_of reader.old)) (R.remaining (inner_of reader.new)) (MAX_INPUT + 1) }
+    ensures within { (result ≡ 0) ⊎ (result ≡ 1) → IsWrongBase (bytes_of base.entry)
+        ⊎ IfSome (R.remaining (inner_of reader.old)) (λ input. length input ≤ MAX_INPUT) }
+    ensures end { (result ≡ 0) ⊎ (result ≡ 1) → IsWrongBase (bytes_of base.entry)
+        ⊎ IsAtEnd (R.remaining (inner_of reader.new)) }
+    ensures taken { ConsumesAtMost (R.remaining (inner_of reader.old))
+        (R.remaining (inner_of reader.new)) (MAX_INPUT + 1) }
 {
     match replay_asked(alloc, words) {
         Ok(()) => replay_as_asked(alloc, base, reader, writer, faults),
@@ -130,35 +144,48 @@ pub fn replay_as_asked<R: Read, W: Write, F: Write>(
 
     // What was written is what the script comes to, and nothing was told.
     ensures done { result ≡ 0 → IfSome (R.remaining (inner_of reader.old)) (λ input. WritesAll
-        (IsReplayFor (bytes_of base.entry) input) (W.contents (inner_of writer.old)) (W.contents (inner_of writer.new))) }
+        (IsReplayFor (bytes_of base.entry) input) (W.contents (inner_of writer.old))
+        (W.contents (inner_of writer.new))) }
     ensures untold { result ≡ 0 → F.contents faults.new ≡ F.contents faults.old }
 
     // A refusal holds, and a front of its line was told, or all of it.
-    ensures refused { result ≡ 1 → IfSome (R.remaining (inner_of reader.old)) (λ input. TellsReplayFault
+    ensures refused { result ≡ 1 → IfSome (R.remaining (inner_of reader.old))
+        (λ input. TellsReplayFault
         (bytes_of base.entry) input (F.contents faults.old) (F.contents faults.new)) }
 
-    // A failure is told by the line of its cause, and what was written is nothing or a front of what the script comes to.
-    ensures failed { result ≡ 111 → TellsFailure (R.remaining (inner_of reader.old)) (HasFailed reader.new) (HasFailed writer.new)
+    // A failure is told by the line of its cause, and what was written is nothing or a front of
+    // what the script comes to.
+    ensures failed { result ≡ 111 → TellsFailure (R.remaining (inner_of reader.old))
+        (HasFailed reader.new) (HasFailed writer.new)
         (F.contents faults.old) (F.contents faults.new) }
     ensures read { HasFailed reader.new → HasFailed reader.old
         ⊎ FailsWith Failure.Read result (F.contents faults.old) (F.contents faults.new) }
     ensures written { HasFailed writer.new → HasFailed writer.old
         ⊎ FailsWith Failure.Write result (F.contents faults.old) (F.contents faults.new) }
-    ensures begun { result ≡ 111 → (W.contents (inner_of writer.new) ≡ W.contents (inner_of writer.old)) ⊎ IfSome (R.remaining (inner_of reader.old)) (λ input. WritesFront
-        (IsReplayFor (bytes_of base.entry) input) (W.contents (inner_of writer.old)) (W.contents (inner_of writer.new))) }
-    ensures unwritten { result ≡ 1 → W.contents (inner_of writer.new) ≡ W.contents (inner_of writer.old) }
+    ensures begun { result ≡ 111 → (W.contents (inner_of writer.new)
+        ≡ W.contents (inner_of writer.old))
+        ⊎ IfSome (R.remaining (inner_of reader.old)) (λ input. WritesFront
+        (IsReplayFor (bytes_of base.entry) input) (W.contents (inner_of writer.old))
+        (W.contents (inner_of writer.new))) }
+    ensures unwritten { result ≡ 1 → W.contents (inner_of writer.new)
+        ≡ W.contents (inner_of writer.old) }
 
     // A base comes first: where it is wrong the reader is as it was, nothing is written, and why is
     // told whatever the reader has.
     ensures first { IsWrongBase (bytes_of base.entry) → reader.new ≡ reader.old }
     ensures based { result ≡ 0 → IsWrongBase (bytes_of base.entry) → ⊥ }
-    ensures untrue { result ≡ 1 → IsWrongBase (bytes_of base.entry) → TellsReplayFault (bytes_of base.entry) [] (F.contents faults.old) (F.contents faults.new) }
+    ensures untrue { result ≡ 1 → IsWrongBase (bytes_of base.entry)
+        → TellsReplayFault (bytes_of base.entry) [] (F.contents faults.old)
+        (F.contents faults.new) }
 
     // Any other input that was answered was read to its end, and whatever the status, one byte past
     // the bound is the last that is taken.
-    ensures within { (result ≡ 0) ⊎ (result ≡ 1) → IsWrongBase (bytes_of base.entry) ⊎ IfSome (R.remaining (inner_of reader.old)) (λ input. length input ≤ MAX_INPUT) }
-    ensures end { (result ≡ 0) ⊎ (result ≡ 1) → IsWrongBase (bytes_of base.entry) ⊎ IsAtEnd (R.remaining (inner_of reader.new)) }
-    ensures taken { ConsumesAtMost (R.remaining (inner_of reader.old)) (R.remaining (inner_of reader.new)) (MAX_INPUT + 1) }
+    ensures within { (result ≡ 0) ⊎ (result ≡ 1) → IsWrongBase (bytes_of base.entry)
+        ⊎ IfSome (R.remaining (inner_of reader.old)) (λ input. length input ≤ MAX_INPUT) }
+    ensures end { (result ≡ 0) ⊎ (result ≡ 1) → IsWrongBase (bytes_of base.entry)
+        ⊎ IsAtEnd (R.remaining (inner_of reader.new)) }
+    ensures taken { ConsumesAtMost (R.remaining (inner_of reader.old))
+        (R.remaining (inner_of reader.new)) (MAX_INPUT + 1) }
 {
     match open(alloc, base, reader) {
         Ok(Opened { db, input, start }) => match replay_text(alloc, db, &input[start..]) {
@@ -174,8 +201,10 @@ pub fn replay_as_asked<R: Read, W: Write, F: Write>(
 fn tell_replay_fault<F: Write>(alloc: Global, faults: &mut F, fault: ReplayFault) -> u8
     ensures statuses { (result ≡ 1) ⊎ (result ≡ 111) }
     ensures refused { result ≡ 1 → (fault ≢ Memory)
-        × AppendsFront (F.contents faults.old) (F.contents faults.new) (fault_line (replay_fault_text fault)) }
-    ensures failed { result ≡ 111 → AppendsFront (F.contents faults.old) (F.contents faults.new) (fault_line (failure_text Failure.Memory)) }
+        × AppendsFront (F.contents faults.old) (F.contents faults.new)
+        (fault_line (replay_fault_text fault)) }
+    ensures failed { result ≡ 111 → AppendsFront (F.contents faults.old) (F.contents faults.new)
+        (fault_line (failure_text Failure.Memory)) }
 {
     if let ReplayFault::Memory = fault {
         return fail(faults, Failure::Memory);

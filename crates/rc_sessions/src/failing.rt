@@ -36,7 +36,8 @@ pub fn gate_of<'a>(
     names: &Names,
     listed: &[Transition<'a>],
 ) -> Result<TableGate, GateFault<'a>>
-    ensures found { IfOk result (λ gate. AreFound names.now (map listed_of listed.now) gate.failing) }
+    ensures found { IfOk result (λ gate. AreFound names.now
+        (map listed_of listed.now) gate.failing) }
     ensures clock { IfOk result (λ gate. gate.moments ≡ []) }
     ensures fault { IfErr result (IsGateFault names.now (map listed_of listed.now)) }
 {

@@ -25,10 +25,10 @@ use std::thread::Threads;
 
 /// Runs `undorc session` on its words, and answers the status.
 ///
-/// The database is `base`, where there is one, and then each line of the input is answered before the
-/// next one is waited for. Without one the database stands at the front of the input, which is read
-/// whole first, and the lines behind it. The answers are written to `writer`, and why the session ended
-/// before its input to `faults`. The two devices must not have failed before.
+/// The database is `base`, where there is one, and then each line of the input is answered before
+/// the next one is waited for. Without one the database stands at the front of the input, which is
+/// read whole first, and the lines behind it. The answers are written to `writer`, and why the
+/// session ended before its input to `faults`. The two devices must not have failed before.
 pub fn session_run<T: Threads + Wait + Sync, R: Read, W: Write, F: Write>(
     rt: &T,
     host: &HostRuntime,
@@ -43,33 +43,45 @@ pub fn session_run<T: Threads + Wait + Sync, R: Read, W: Write, F: Write>(
     requires writer { HasFailed writer.old → ⊥ }
     ensures statuses { (result ≡ 0) ⊎ (result ≡ 1) ⊎ (result ≡ 100) ⊎ (result ≡ 111) }
 
-    // The names that are to fail are services', and what was written is the text of the session that the database begins
-    // with, for these failing transitions and the whole input: no workers, no gate, no limit and no events are left in it.
-    // The commands among its lines were played, so all that the headline promises holds of them. Nothing was told.
+    // The names that are to fail are services', and what was written is the text of the session
+    // that the database begins with, for these failing transitions and the whole input: no workers,
+    // no gate, no limit and no events are left in it. The commands among its lines were played, so
+    // all that the headline promises holds of them. Nothing was told.
     ensures done { result ≡ 0 → RunsAsked Serves (map string_bytes words.now) (bytes_of base.entry)
-        (R.remaining (inner_of reader.old)) (R.remaining (inner_of reader.new)) (W.contents (inner_of writer.old)) (W.contents (inner_of writer.new)) }
+        (R.remaining (inner_of reader.old)) (R.remaining (inner_of reader.new))
+        (W.contents (inner_of writer.old)) (W.contents (inner_of writer.new)) }
     ensures untold { result ≡ 0 → F.contents faults.new ≡ F.contents faults.old }
 
-    // A refusal holds, and a front of its line was told, or all of it. With a base nothing was read for it.
+    // A refusal holds, and a front of its line was told, or all of it. With a base nothing was read
+    // for it.
     ensures refused { result ≡ 1 → TellsRefusal (map string_bytes words.now) (bytes_of base.entry)
-        (R.remaining (inner_of reader.old)) (R.remaining (inner_of reader.new)) (F.contents faults.old) (F.contents faults.new) }
+        (R.remaining (inner_of reader.old)) (R.remaining (inner_of reader.new))
+        (F.contents faults.old) (F.contents faults.new) }
 
     // A wrong command line is found before anything is read.
     ensures wrong { result ≡ 100 → AsksNoSession (map string_bytes words.now) }
-    ensures unread { result ≡ 100 → R.remaining (inner_of reader.new) ≡ R.remaining (inner_of reader.old) }
-    ensures unwritten { (result ≡ 1) ⊎ (result ≡ 100) → W.contents (inner_of writer.new) ≡ W.contents (inner_of writer.old) }
+    ensures unread { result ≡ 100 → R.remaining (inner_of reader.new)
+        ≡ R.remaining (inner_of reader.old) }
+    ensures unwritten { (result ≡ 1) ⊎ (result ≡ 100) → W.contents (inner_of writer.new)
+        ≡ W.contents (inner_of writer.old) }
 
-    // A failure is told by its line. The session was served up to that very fault, or not at all, and then nothing was written.
-    ensures failed { result ≡ 111 → TellsServeFault (map string_bytes words.now) (bytes_of base.entry)
-        (R.remaining (inner_of reader.old)) (R.remaining (inner_of reader.new)) (W.contents (inner_of writer.old)) (W.contents (inner_of writer.new))
-        (HasFailed reader.new ⊎ (bytes_of base.entry ≡ None)) (HasFailed writer.new) (F.contents faults.old) (F.contents faults.new) }
+    // A failure is told by its line. The session was served up to that very fault, or not at all,
+    // and then nothing was written.
+    ensures failed { result ≡ 111 → TellsServeFault (map string_bytes words.now)
+        (bytes_of base.entry)
+        (R.remaining (inner_of reader.old)) (R.remaining (inner_of reader.new))
+        (W.contents (inner_of writer.old)) (W.contents (inner_of writer.new))
+        (HasFailed reader.new ⊎ (bytes_of base.entry ≡ None)) (HasFailed writer.new)
+        (F.contents faults.old) (F.contents faults.new) }
 
     // Where the reader has failed, that is the cause that is told.
     ensures cause { HasFailed reader.new → (result ≡ 111)
-        × AppendsFront (F.contents faults.old) (F.contents faults.new) (fault_line (serve_word Unread)) }
+        × AppendsFront (F.contents faults.old) (F.contents faults.new)
+        (fault_line (serve_word Unread)) }
 
     // Whatever the status, one byte past the bound is the last that is taken.
-    ensures taken { ConsumesAtMost (R.remaining (inner_of reader.old)) (R.remaining (inner_of reader.new)) (MAX_INPUT + 1) }
+    ensures taken { ConsumesAtMost (R.remaining (inner_of reader.old))
+        (R.remaining (inner_of reader.new)) (MAX_INPUT + 1) }
 {
     match session_asked(alloc, words) {
         Ok(request) => session_as_asked(rt, host, alloc, &request, base, reader, writer, faults),
@@ -77,7 +89,8 @@ pub fn session_run<T: Threads + Wait + Sync, R: Read, W: Write, F: Write>(
     }
 }
 
-/// Runs `undorc session` for what is asked, as `session_run` does for words, and answers the status.
+/// Runs `undorc session` for what is asked, as `session_run` does for words, and answers the
+/// status.
 pub fn session_as_asked<T: Threads + Wait + Sync, R: Read, W: Write, F: Write>(
     rt: &T,
     host: &HostRuntime,
@@ -93,28 +106,40 @@ pub fn session_as_asked<T: Threads + Wait + Sync, R: Read, W: Write, F: Write>(
     requires writer { HasFailed writer.old → ⊥ }
     ensures statuses { (result ≡ 0) ⊎ (result ≡ 1) ⊎ (result ≡ 111) }
 
-    // The names that are to fail are services', and what was written is the text of the session that the database begins
-    // with, for these failing transitions and the whole input. Its commands were played. Nothing was told.
+    // The names that are to fail are services', and what was written is the text of the session
+    // that the database begins with, for these failing transitions and the whole input. Its
+    // commands were played. Nothing was told.
     ensures done { result ≡ 0 → Runs Serves (bytes_of base.entry) (session_ask_of request.now)
-        (R.remaining (inner_of reader.old)) (R.remaining (inner_of reader.new)) (W.contents (inner_of writer.old)) (W.contents (inner_of writer.new)) }
+        (R.remaining (inner_of reader.old)) (R.remaining (inner_of reader.new))
+        (W.contents (inner_of writer.old)) (W.contents (inner_of writer.new)) }
     ensures untold { result ≡ 0 → F.contents faults.new ≡ F.contents faults.old }
 
-    // A refusal holds, and a front of its line was told, or all of it. With a base nothing was read for it.
-    ensures refused { result ≡ 1 → TellsSessionRefusal (session_ask_of request.now) (bytes_of base.entry)
-        (R.remaining (inner_of reader.old)) (R.remaining (inner_of reader.new)) (F.contents faults.old) (F.contents faults.new) }
-    ensures unwritten { result ≡ 1 → W.contents (inner_of writer.new) ≡ W.contents (inner_of writer.old) }
+    // A refusal holds, and a front of its line was told, or all of it. With a base nothing was read
+    // for it.
+    ensures refused { result ≡ 1 → TellsSessionRefusal (session_ask_of request.now)
+        (bytes_of base.entry)
+        (R.remaining (inner_of reader.old)) (R.remaining (inner_of reader.new))
+        (F.contents faults.old) (F.contents faults.new) }
+    ensures unwritten { result ≡ 1 → W.contents (inner_of writer.new)
+        ≡ W.contents (inner_of writer.old) }
 
-    // A failure is told by its line. The session was served up to that very fault, or not at all, and then nothing was written.
-    ensures failed { result ≡ 111 → TellsSessionFault (session_ask_of request.now) (bytes_of base.entry)
-        (R.remaining (inner_of reader.old)) (R.remaining (inner_of reader.new)) (W.contents (inner_of writer.old)) (W.contents (inner_of writer.new))
-        (HasFailed reader.new ⊎ (bytes_of base.entry ≡ None)) (HasFailed writer.new) (F.contents faults.old) (F.contents faults.new) }
+    // A failure is told by its line. The session was served up to that very fault, or not at all,
+    // and then nothing was written.
+    ensures failed { result ≡ 111 → TellsSessionFault (session_ask_of request.now)
+        (bytes_of base.entry)
+        (R.remaining (inner_of reader.old)) (R.remaining (inner_of reader.new))
+        (W.contents (inner_of writer.old)) (W.contents (inner_of writer.new))
+        (HasFailed reader.new ⊎ (bytes_of base.entry ≡ None)) (HasFailed writer.new)
+        (F.contents faults.old) (F.contents faults.new) }
 
     // Where the reader has failed, that is the cause that is told.
     ensures cause { HasFailed reader.new → (result ≡ 111)
-        × AppendsFront (F.contents faults.old) (F.contents faults.new) (fault_line (serve_word Unread)) }
+        × AppendsFront (F.contents faults.old) (F.contents faults.new)
+        (fault_line (serve_word Unread)) }
 
     // Whatever the status, one byte past the bound is the last that is taken.
-    ensures taken { ConsumesAtMost (R.remaining (inner_of reader.old)) (R.remaining (inner_of reader.new)) (MAX_INPUT + 1) }
+    ensures taken { ConsumesAtMost (R.remaining (inner_of reader.old))
+        (R.remaining (inner_of reader.new)) (MAX_INPUT + 1) }
 {
     match run_asked(rt, host, alloc, request, base, reader, writer) {
         Ok(()) => DONE,
@@ -135,12 +160,17 @@ fn run_asked<'a, T: Threads + Wait + Sync, R: Read, W: Write>(
     requires crew { IsCrew request.now.workers }
     requires reader { HasFailed reader.old → ⊥ }
     requires writer { HasFailed writer.old → ⊥ }
-    ensures done { OnOk result (Runs Serves (bytes_of base.entry) (session_ask_of request.now) (R.remaining (inner_of reader.old)) (R.remaining (inner_of reader.new))
+    ensures done { OnOk result (Runs Serves (bytes_of base.entry) (session_ask_of request.now)
+        (R.remaining (inner_of reader.old)) (R.remaining (inner_of reader.new))
         (W.contents (inner_of writer.old)) (W.contents (inner_of writer.new))) }
-    ensures ended { IfErr result (λ fault. EndsBy fault (bytes_of base.entry) (session_ask_of request.now) (R.remaining (inner_of reader.old)) (R.remaining (inner_of reader.new))
-        (W.contents (inner_of writer.old)) (W.contents (inner_of writer.new)) (HasFailed reader.new ⊎ (bytes_of base.entry ≡ None)) (HasFailed writer.new)) }
+    ensures ended { IfErr result (λ fault. EndsBy fault (bytes_of base.entry)
+        (session_ask_of request.now) (R.remaining (inner_of reader.old))
+        (R.remaining (inner_of reader.new))
+        (W.contents (inner_of writer.old)) (W.contents (inner_of writer.new))
+        (HasFailed reader.new ⊎ (bytes_of base.entry ≡ None)) (HasFailed writer.new)) }
     ensures told { HasFailed reader.new → result ≡ Err (Failed Unread) }
-    ensures taken { ConsumesAtMost (R.remaining (inner_of reader.old)) (R.remaining (inner_of reader.new)) (MAX_INPUT + 1) }
+    ensures taken { ConsumesAtMost (R.remaining (inner_of reader.old))
+        (R.remaining (inner_of reader.new)) (MAX_INPUT + 1) }
 {
     match base {
         Some(bytes) => run_on_base(rt, host, alloc, request, bytes, reader, writer),
@@ -161,12 +191,16 @@ fn run_on_base<'a, T: Threads + Wait + Sync, R: Read, W: Write>(
     requires crew { IsCrew request.now.workers }
     requires reader { HasFailed reader.old → ⊥ }
     requires writer { HasFailed writer.old → ⊥ }
-    ensures done { OnOk result (Runs Serves (Some base.now) (session_ask_of request.now) (R.remaining (inner_of reader.old)) (R.remaining (inner_of reader.new))
+    ensures done { OnOk result (Runs Serves (Some base.now) (session_ask_of request.now)
+        (R.remaining (inner_of reader.old)) (R.remaining (inner_of reader.new))
         (W.contents (inner_of writer.old)) (W.contents (inner_of writer.new))) }
-    ensures ended { IfErr result (λ fault. EndsBy fault (Some base.now) (session_ask_of request.now) (R.remaining (inner_of reader.old)) (R.remaining (inner_of reader.new))
-        (W.contents (inner_of writer.old)) (W.contents (inner_of writer.new)) (HasFailed reader.new) (HasFailed writer.new)) }
+    ensures ended { IfErr result (λ fault. EndsBy fault (Some base.now) (session_ask_of request.now)
+        (R.remaining (inner_of reader.old)) (R.remaining (inner_of reader.new))
+        (W.contents (inner_of writer.old)) (W.contents (inner_of writer.new)) (HasFailed reader.new)
+        (HasFailed writer.new)) }
     ensures told { HasFailed reader.new → result ≡ Err (Failed Unread) }
-    ensures taken { ConsumesAtMost (R.remaining (inner_of reader.old)) (R.remaining (inner_of reader.new)) (MAX_INPUT + 1) }
+    ensures taken { ConsumesAtMost (R.remaining (inner_of reader.old))
+        (R.remaining (inner_of reader.new)) (MAX_INPUT + 1) }
 {
     let (db, _none) = database_of(alloc, Some(base), &[])?;
     run_on(rt, host, alloc, db, request, reader, writer)
@@ -184,12 +218,16 @@ fn run_on_input<'a, T: Threads + Wait + Sync, R: Read, W: Write>(
     requires crew { IsCrew request.now.workers }
     requires reader { HasFailed reader.old → ⊥ }
     requires writer { HasFailed writer.old → ⊥ }
-    ensures done { OnOk result (Runs Serves None (session_ask_of request.now) (R.remaining (inner_of reader.old)) (R.remaining (inner_of reader.new))
+    ensures done { OnOk result (Runs Serves None (session_ask_of request.now)
+        (R.remaining (inner_of reader.old)) (R.remaining (inner_of reader.new))
         (W.contents (inner_of writer.old)) (W.contents (inner_of writer.new))) }
-    ensures ended { IfErr result (λ fault. EndsBy fault None (session_ask_of request.now) (R.remaining (inner_of reader.old)) (R.remaining (inner_of reader.new))
-        (W.contents (inner_of writer.old)) (W.contents (inner_of writer.new)) (Unit {0}) (HasFailed writer.new)) }
+    ensures ended { IfErr result (λ fault. EndsBy fault None (session_ask_of request.now)
+        (R.remaining (inner_of reader.old)) (R.remaining (inner_of reader.new))
+        (W.contents (inner_of writer.old)) (W.contents (inner_of writer.new)) (Unit {0})
+        (HasFailed writer.new)) }
     ensures told { HasFailed reader.new → result ≡ Err (Failed Unread) }
-    ensures taken { ConsumesAtMost (R.remaining (inner_of reader.old)) (R.remaining (inner_of reader.new)) (MAX_INPUT + 1) }
+    ensures taken { ConsumesAtMost (R.remaining (inner_of reader.old))
+        (R.remaining (inner_of reader.new)) (MAX_INPUT + 1) }
 {
     let input = match read_all(alloc, reader) {
         Ok(input) => input,

@@ -73,9 +73,11 @@ pub(crate) fn tell_session_fault<F: Write>(
 ) -> u8
     ensures statuses { (result ≡ 1) ⊎ (result ≡ 111) }
     ensures refused { result ≡ 1 → IsRefusal fault.entry
-        × AppendsFront (F.contents faults.old) (F.contents faults.new) (fault_line (session_fault_text fault.entry)) }
+        × AppendsFront (F.contents faults.old) (F.contents faults.new)
+        (fault_line (session_fault_text fault.entry)) }
     ensures failed { result ≡ 111 → (told : Failing) × IsToldAs fault.entry told
-        × AppendsFront (F.contents faults.old) (F.contents faults.new) (fault_line (serve_word told)) }
+        × AppendsFront (F.contents faults.old) (F.contents faults.new)
+        (fault_line (serve_word told)) }
 {
     match fault {
         SessionFault::Failed(failing) => fail_serving(faults, failing),
@@ -87,8 +89,10 @@ pub(crate) fn tell_session_fault<F: Write>(
 // Tells a refusal, or that there was no memory to tell it, and answers the status.
 fn tell_refusal<F: Write>(alloc: Global, faults: &mut F, fault: SessionFault<'_>) -> u8
     ensures statuses { (result ≡ 1) ⊎ (result ≡ 111) }
-    ensures refused { result ≡ 1 → AppendsFront (F.contents faults.old) (F.contents faults.new) (fault_line (session_fault_text fault.entry)) }
-    ensures failed { result ≡ 111 → AppendsFront (F.contents faults.old) (F.contents faults.new) (fault_line (serve_word Memory)) }
+    ensures refused { result ≡ 1 → AppendsFront (F.contents faults.old) (F.contents faults.new)
+        (fault_line (session_fault_text fault.entry)) }
+    ensures failed { result ≡ 111 → AppendsFront (F.contents faults.old) (F.contents faults.new)
+        (fault_line (serve_word Memory)) }
 {
     match text_of(alloc, fault) {
         Ok(text) => {
@@ -102,7 +106,8 @@ fn tell_refusal<F: Write>(alloc: Global, faults: &mut F, fault: SessionFault<'_>
 // Tells a fault of serving, and answers the status.
 fn fail_serving<F: Write>(faults: &mut F, fault: ServeFault) -> u8
     ensures status { result ≡ 111 }
-    ensures told { AppendsFront (F.contents faults.old) (F.contents faults.new) (fault_line (serve_word fault)) }
+    ensures told { AppendsFront (F.contents faults.old) (F.contents faults.new)
+        (fault_line (serve_word fault)) }
 {
     tell(faults, serve_word(fault));
     FAILED

@@ -21,7 +21,8 @@ pub const FAILED: u8 = 111;
 /// Tells a failure, and answers the status.
 pub fn fail<F: Write>(faults: &mut F, failure: Failure) -> u8
     ensures status { result ≡ 111 }
-    ensures told { AppendsFront (F.contents faults.old) (F.contents faults.new) (fault_line (failure_text failure)) }
+    ensures told { AppendsFront (F.contents faults.old) (F.contents faults.new)
+        (fault_line (failure_text failure)) }
 {
     tell(faults, failure_word(failure));
     FAILED
@@ -30,10 +31,13 @@ pub fn fail<F: Write>(faults: &mut F, failure: Failure) -> u8
 /// Writes the answer whole, or tells that it could not, and answers the status.
 pub fn write_answer<W: Write, F: Write>(writer: &mut Noted<W>, faults: &mut F, text: &[u8]) -> u8
     ensures statuses { (result ≡ 0) ⊎ (result ≡ 111) }
-    ensures done { result ≡ 0 → Appends (W.contents (inner_of writer.old)) (W.contents (inner_of writer.new)) text.now }
+    ensures done { result ≡ 0 → Appends (W.contents (inner_of writer.old))
+        (W.contents (inner_of writer.new)) text.now }
     ensures untold { result ≡ 0 → F.contents faults.new ≡ F.contents faults.old }
-    ensures begun { AppendsFront (W.contents (inner_of writer.old)) (W.contents (inner_of writer.new)) text.now }
-    ensures failed { result ≡ 111 → HasFailed writer.new × FailsWith Failure.Write result (F.contents faults.old) (F.contents faults.new) }
+    ensures begun { AppendsFront (W.contents (inner_of writer.old))
+        (W.contents (inner_of writer.new)) text.now }
+    ensures failed { result ≡ 111 → HasFailed writer.new
+        × FailsWith Failure.Write result (F.contents faults.old) (F.contents faults.new) }
     ensures sound { result ≡ 0 → HasFailed writer.new → HasFailed writer.old }
 {
     match writing::write_answer(writer, text) {

@@ -12,7 +12,8 @@ use std::io::{ErrorKind, Read, Write};
 /// The interrupted reads in a row that are no failure.
 const MAX_INTERRUPTS: usize = 1_000;
 
-/// A reader or a writer that notes whether a call of it has failed, and whether all that it took was flushed.
+/// A reader or a writer that notes whether a call of it has failed, and whether all that it took
+/// was flushed.
 #[derive(Drop)]
 pub struct Noted<T> {
     inner: T,
@@ -37,10 +38,12 @@ impl<T> Noted<T> {
         }
     }
 
-    /// Whether a call has failed: by an error, by a write that was interrupted or took nothing, or by a read
+    /// Whether a call has failed: by an error, by a write that was interrupted or took nothing, or
+    /// by a read
     /// that was the 1,001st in a row to be interrupted.
     ///
-    /// It goes by what the calls of this wrapper answer: no clause says that such an answer is the wrapped
+    /// It goes by what the calls of this wrapper answer: no clause says that such an answer is the
+    /// wrapped
     /// device's own.
     pub fn failed(&self) -> bool
         ensures { result ≡ self.now.failed }
@@ -61,8 +64,10 @@ impl<R: Read> Read for Noted<R> {
 
     fn read(&mut self, buf: &mut [u8]) -> io::Result<usize>
         ensures bound { ReadsAtMost result buf.new }
-        ensures bytes { ReadConsumes (R.remaining (inner_of self.old)) (R.remaining (inner_of self.new)) result buf.new }
-        ensures failed { HasFailed self.new ↔ (HasFailed self.old ⊎ IsReadFault (interrupts_of self.old) result) }
+        ensures bytes { ReadConsumes (R.remaining (inner_of self.old))
+            (R.remaining (inner_of self.new)) result buf.new }
+        ensures failed { HasFailed self.new ↔
+            (HasFailed self.old ⊎ IsReadFault (interrupts_of self.old) result) }
         ensures flushed { IsFlushed self.new ↔ IsFlushed self.old }
         ensures row { CountsRow (interrupts_of self.old) result (interrupts_of self.new) }
     {
@@ -83,8 +88,10 @@ impl<W: Write> Write for Noted<W> {
 
     fn write(&mut self, buf: &[u8]) -> io::Result<usize>
         ensures bound { WritesAtMost result buf.now }
-        ensures bytes { WriteAppends (W.contents (inner_of self.old)) (W.contents (inner_of self.new)) result buf.now }
-        ensures failed { HasFailed self.new ↔ (HasFailed self.old ⊎ IsWriteFault (length buf.now) result) }
+        ensures bytes { WriteAppends (W.contents (inner_of self.old))
+            (W.contents (inner_of self.new)) result buf.now }
+        ensures failed { HasFailed self.new ↔
+            (HasFailed self.old ⊎ IsWriteFault (length buf.now) result) }
         ensures unflushed { IsFlushed self.new → ⊥ }
     {
         self.flushed = false;
@@ -113,7 +120,8 @@ impl<W: Write> Write for Noted<W> {
 /// One read, tried again where it was interrupted. A reader that had failed is tried no more.
 pub(crate) fn read_some<R: Read>(reader: &mut Noted<R>, buffer: &mut [u8]) -> Result<usize, Failure>
     ensures bound { ReadsAtMost result buffer.new }
-    ensures bytes { ReadConsumes (R.remaining (inner_of reader.old)) (R.remaining (inner_of reader.new)) result buffer.new }
+    ensures bytes { ReadConsumes (R.remaining (inner_of reader.old))
+        (R.remaining (inner_of reader.new)) result buffer.new }
     ensures sound { OnOk result (HasFailed reader.new → HasFailed reader.old) }
     ensures fault { OnErr result ((result ≡ Err Failure.Read) × HasFailed reader.new) }
 {
