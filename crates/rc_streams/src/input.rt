@@ -1,4 +1,4 @@
-//! A whole input under a bound, and an answer written whole.
+//! A whole input under a bound, and how a failure is told.
 ghost use Rattle.std.specs.Prelude.{◌≡◌, ◌⊎◌, ◌+◌, ◌<◌, ◌≤◌, Err, IfOk, IfErr, IfSome, OnOk, vec_len};
 ghost use Rattle.std.specs.Io.KnownBytes.{Appends, IsAtEnd};
 ghost use Rattle.rc_streams.specs.declared.input.Failure.TheVariants.{Memory};
