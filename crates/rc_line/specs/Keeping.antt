@@ -1,4 +1,4 @@
-use Rattle.std.specs.Prelude.{◌≡◌, ◌≢◌, ◌+◌, ◌≤◌, ℕ, suc, Contains, slice_get, drop, List, [], ◌∷◌, reverse, Bool, true, false, Option, Some, None, length, slice_set, vec_len, vec_capacity}
+use Rattle.std.specs.Prelude.{◌≡◌, ◌≢◌, ◌⊎◌, ◌+◌, ◌≤◌, ◌<◌, ℕ, suc, Contains, slice_get, drop, List, [], ◌∷◌, reverse, Bool, true, false, Option, Some, None, length, slice_set, vec_len, vec_capacity}
 use Rattle.std.specs.Global.{Vec}
 use Rattle.std.specs.Ordering.{nat_cmp}
 use Rattle.std.specs.Cmp.Lexicographic.{slice_cmp}
@@ -10,7 +10,7 @@ use Rattle.rc_db.specs.Bundles.{Bundles, IsTable, value_of}
 use Rattle.rc_bundle.specs.Edit.{Alteration}
 use Rattle.rc_set.specs.Set.{Lists}
 use Rattle.rc_line.specs.State.{State, Entry, IsGained, IsEntry}
-use Rattle.rc_line.specs.Line.{Line, states}
+use Rattle.rc_line.specs.Line.{Line, IsBound, states}
 
 -- How a line is kept, for its view alone: the current state, and two stacks of entries. No public contract speaks of it.
 
@@ -74,8 +74,13 @@ Ahead [] s = Unit {0}
 Ahead (e ∷ es) s = IsStep s (forth e s) e × Ahead es (forth e s)
 
 -- the line of a state between the entries that lead to it and those that lead on, the nearest last in both stacks
-abbrev pub line_of : List Entry → List Entry → State → Line
-line_of done undone s = record { before = reverse (walk back (reverse done) s); current = s; after = walk forth (reverse undone) s }
+abbrev pub line_of : ℕ → List Entry → List Entry → State → Line
+line_of most done undone s = record {
+  before = reverse (walk back (reverse done) s);
+  current = s;
+  after = walk forth (reverse undone) s;
+  bound = most;
+}
 
 -- the entries fit the state between them
 pub record Fits (done undone : List Entry) (s : State) : Type 0 where
@@ -83,15 +88,27 @@ pub record Fits (done undone : List Entry) (s : State) : Type 0 where
   pub ahead : Ahead (reverse undone) s
   pub table : IsTable s.table
 
--- there is room for one more
-abbrev pub HasSpare : Vec Entry → Type 0
-HasSpare v = vec_len v + 1 ≤ vec_capacity v
+-- of this room, so many leave room for one more
+abbrev pub HasSpare : ℕ → ℕ → Type 0
+HasSpare room count = count + 1 ≤ room
 
--- the stacks fit the current state, and an open line has room for one more in both
-pub record IsKept (done undone : Vec Entry) (s : State) (is_open : Bool) : Type 0 where
-  pub fits : Fits done.items undone.items s
-  pub done_room : is_open ≡ true → HasSpare done
-  pub undone_room : is_open ≡ true → HasSpare undone
+-- the stacks fit the current state and the bound, and an open line has room for one more in both
+pub record IsKept (most : ℕ) (done undone : List Entry) (s : State) (is_open : Bool)
+    (done_most undone_most : ℕ) : Type 0 where
+  pub fits : Fits done undone s
+  pub bound : IsBound most
+  pub few : length done + length undone + 1 ≤ most
+  pub done_room : is_open ≡ true → HasSpare done_most (length done)
+  pub undone_room : is_open ≡ true → HasSpare undone_most (length undone)
+
+-- of stacks with one entry too many the farthest that leads here goes or, if it is alone, that ahead
+abbrev pub IsFit : ℕ → List Entry → List Entry → List Entry → List Entry → Type 0
+IsFit most done undone new_done new_undone =
+    ((length done + length undone < most) × (new_done ≡ done) × (new_undone ≡ undone))
+    ⊎ ((most ≤ length done + length undone) × (2 ≤ length done) × (new_undone ≡ undone)
+    × ((gone : Entry) × (done ≡ gone ∷ new_done)))
+    ⊎ ((most ≤ length done + length undone) × (length done < 2) × (new_done ≡ done)
+    × ((gone : Entry) × (undone ≡ gone ∷ new_undone)))
 
 -- an empty list with room for this many
 pub record HasRoom (bound : ℕ) (ids : Vec ℕ) : Type 0 where

@@ -1,12 +1,13 @@
-use Rattle.std.specs.Prelude.{◌≡◌, ◌≢◌, ℕ, suc, List, [], ◌∷◌, ◌++◌, length, All, Some, slice_get}
+use Rattle.std.specs.Prelude.{◌≡◌, ◌≢◌, ◌≤◌, ◌<◌, ◌^◌, ℕ, suc, List, [], ◌∷◌, ◌++◌, length, All, Some, slice_get}
 use Rattle.rc_db.specs.Bundles.{IsTable}
 use Rattle.rc_line.specs.State.{State, Entry, IsEntry}
 
--- the states before the current one, the current one, and those after it, the oldest first
+-- the states before the current one, it, and those after, oldest first, and how many there may be
 pub record Line : Type 0 where
   pub before : List State
   pub current : State
   pub after : List State
+  pub bound : ℕ
 
 -- all states of a line, from the oldest to the newest
 abbrev pub states : Line → List State
@@ -28,14 +29,21 @@ pub record AreStates (bound : ℕ) (held : List State) : Type 0 where
   pub bounds : All (λ state. length state.live ≡ bound) held
   pub tables : All (λ state. IsTable state.table) held
 
--- a line: its states are such, with the bound of the current one
-abbrev pub IsLine : Line → Type 0
-IsLine line = AreStates (length line.current.live) (states line)
+-- how many there may be: at least three, so that what goes never stands beside the current state
+abbrev pub IsBound : ℕ → Type 0
+IsBound bound = (3 ≤ bound) × (bound < 2 ^ 32)
+
+-- a line: its states are such, with the bound of the current one, and no more than there may be
+pub record IsLine (line : Line) : Type 0 where
+  pub held : AreStates (length line.current.live) (states line)
+  pub bound : IsBound line.bound
+  pub few : length (states line) ≤ line.bound
 
 -- the second line is the first with the cursor one state on
 pub record IsNext (line next : Line) : Type 0 where
   pub left : next.before ≡ line.before ++ line.current ∷ []
   pub reached : line.after ≡ next.current ∷ next.after
+  pub bound : next.bound ≡ line.bound
 
 -- the entry from a state of the line to the one after it
 abbrev pub IsEntryAt : Line → ℕ → Entry → Type 0

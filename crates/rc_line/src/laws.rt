@@ -1,9 +1,11 @@
 //! Laws of the definitions, for the crates above. The functions do nothing when they run.
 
-ghost use Rattle.std.specs.Prelude.{◌≡◌, ◌⊎◌, ℕ, suc, length, List, Bool, ◌++◌, ◌∷◌, take, drop, Some, slice_get};
+ghost use Rattle.std.specs.Prelude.{◌≡◌, ◌⊎◌, ◌≤◌, ◌<◌, ℕ, [], suc, length, List, Bool, ◌++◌, ◌∷◌};
+ghost use Rattle.std.specs.Prelude.{take, drop, Some, slice_get};
 ghost use Rattle.rc_db.specs.Bundles.{IsTable};
 ghost use Rattle.rc_line.specs.State.{State, Entry, IsEntry, entry_back};
 ghost use Rattle.rc_line.specs.Line.{Line, IsLine, IsNext, states, cursor};
+ghost use Rattle.rc_line.specs.Bound.{fitted};
 ghost use Rattle.rc_line.specs.Moves.{EndsIn, Undoes, Redoes};
 
 /// The inverse of an entry is the entry back.
@@ -22,20 +24,58 @@ pub fn next_has_the_same_states()
     ensures cursor { (line next : Line) → IsNext line next → cursor next ≡ suc (cursor line) }
 {}
 
-/// An undo goes one state back, or changes nothing, or puts its end in front of where the cursor was, the cursor on it.
+/// A line within its bound stays as it is.
+pub fn fitting_leaves_short_lines()
+    ensures { (line : Line) → length (states line) ≤ line.bound → fitted line ≡ line }
+{}
+
+/// From a line that has one state too many exactly one goes, the oldest or the last, and the
+/// current one stays.
+pub fn fitting_takes_one()
+    ensures gone { (line : Line) → 3 ≤ line.bound → line.bound < length (states line) →
+        ((gone : State) × (states line ≡ gone ∷ states (fitted line))
+        × (cursor line ≡ suc (cursor (fitted line))) × (2 ≤ cursor line))
+        ⊎ ((gone : State) × (states line ≡ states (fitted line) ++ gone ∷ [])
+        × (cursor (fitted line) ≡ cursor line) × (cursor line < 2)) }
+    ensures current { (line : Line) → (fitted line).current ≡ line.current }
+    ensures bound { (line : Line) → (fitted line).bound ≡ line.bound }
+{}
+
+/// The state before the current one and the one after it never go.
+pub fn fitting_keeps_neighbours()
+    ensures before { (line back : Line) → 3 ≤ line.bound → IsNext back line →
+        (other : Line) × IsNext other (fitted line) × (other.current ≡ back.current) }
+    ensures after { (line on : Line) → 3 ≤ line.bound → IsNext line on →
+        (other : Line) × IsNext (fitted line) other × (other.current ≡ on.current) }
+    ensures first { (line : Line) → 3 ≤ line.bound → line.before ≡ [] →
+        (fitted line).before ≡ [] }
+    ensures last { (line : Line) → 3 ≤ line.bound → line.after ≡ [] →
+        (fitted line).after ≡ [] }
+{}
+
+/// An undo goes one state back, or changes nothing, or puts its end in front of where the cursor
+/// was, the cursor on it; and what then is one too many goes.
 pub fn undo_goes_back_or_stays_or_splits()
     ensures { (line new : Line) (live : List Bool) → Undoes line live new →
         ((states new ≡ states line) × (cursor line ≡ suc (cursor new)))
         ⊎ (new ≡ line)
-        ⊎ ((states new ≡ take (cursor line) (states line) ++ new.current ∷ drop (cursor line) (states line)) × (cursor new ≡ cursor line)) }
+        ⊎ ((full : Line)
+        × (states full ≡ take (cursor line) (states line)
+        ++ new.current ∷ drop (cursor line) (states line))
+        × (cursor full ≡ cursor line) × (full.bound ≡ line.bound) × (new ≡ fitted full)) }
 {}
 
-/// A redo goes one state on, or changes nothing, or puts its end behind where the cursor was, the cursor on it.
+/// A redo goes one state on, or changes nothing, or puts its end behind where the cursor was, the
+/// cursor on it; and what then is one too many goes.
 pub fn redo_goes_on_or_stays_or_splits()
     ensures { (line new : Line) (live : List Bool) → Redoes line live new →
         ((states new ≡ states line) × (cursor new ≡ suc (cursor line)))
         ⊎ (new ≡ line)
-        ⊎ ((states new ≡ take (suc (cursor line)) (states line) ++ new.current ∷ drop (suc (cursor line)) (states line)) × (cursor new ≡ suc (cursor line))) }
+        ⊎ ((full : Line)
+        × (states full ≡ take (suc (cursor line)) (states line)
+        ++ new.current ∷ drop (suc (cursor line)) (states line))
+        × (cursor full ≡ suc (cursor line)) × (full.bound ≡ line.bound)
+        × (new ≡ fitted full)) }
 {}
 
 /// Each move leads from a line to a line.
@@ -45,9 +85,10 @@ pub fn moves_keep_lines()
     ensures redo { (line new : Line) (live : List Bool) → IsLine line → length live ≡ length line.current.live → Redoes line live new → IsLine new }
 {}
 
-/// A line is its states and the place of its cursor.
+/// A line is its states, the place of its cursor, and its bound.
 pub fn line_is_states_and_cursor()
-    ensures { (a b : Line) → states a ≡ states b → cursor a ≡ cursor b → a ≡ b }
+    ensures { (a b : Line) → states a ≡ states b → cursor a ≡ cursor b → a.bound ≡ b.bound →
+        a ≡ b }
 {}
 
 /// An entry leads from a state to one state: what is redone, and by its inverse what is undone, is exact.

@@ -6,23 +6,28 @@ ghost use Rattle.rc_bundle.specs.Edit.{IsEdit};
 ghost use Rattle.rc_line.specs.Line.{states, cursor, IsLine, IsNext, IsEntryAt};
 ghost use Rattle.rc_line.specs.Moves.{Changes, Edits, Undoes, Redoes};
 ghost use Rattle.rc_line.specs.Opening.{table_or, target_of, IsOpened, Closes, IsEditFrom, AimsAt};
-ghost use Rattle.rc_line.specs.Keeping.{state, HasSpare, AreRooms, IsStepAt};
+ghost use Rattle.rc_line.specs.Keeping.{state, AreRooms, IsStepAt};
 
 use crate::aim::Aim;
-use crate::entry::{Entry, spend_all};
+use crate::entry::Entry;
 use crate::fault::LineFault;
 use crate::opening::Open;
 use crate::room::Room;
 use crate::sets::overwrite;
+use crate::stack::{fit, make_room, nearest, spend_all, take_last};
 use crate::tables::{led, replace};
 use rc_bundle::Edit;
 use rc_db::Table;
 use rc_select::Plan;
 use rc_set::{NoMem, Set};
 use std::alloc::{AllocError, Global};
+use std::collections::VecDeque;
 use std::marker::Model;
 
-/// A line of states with a cursor on the current one.
+/// How many states a line may have, where nothing else is said.
+pub const USUAL_BOUND: u32 = 1024;
+
+/// A line of states with a cursor on the current one, and a bound on how many there may be.
 ///
 /// Time: an opening and a closing grow with the entry beside the cursor, with the services and, where bundles alter,
 /// with the table; none grows with the number of states. `state` walks from the cursor, and `copy` and `from_states`
@@ -31,22 +36,29 @@ pub struct Line {
     live: Set,
     table: Table,
     /// What leads to the current state, the nearest last.
-    done: Vec<Entry>,
+    done: VecDeque<Entry>,
     /// What leads on from it, the nearest last.
-    undone: Vec<Entry>,
+    undone: VecDeque<Entry>,
     /// Whether a move is under way.
     is_open: bool,
+    /// How many states there may be.
+    bound: u32,
 }
 
 impl Model for Line {
     ghost use Rattle.rc_line.specs.Opening.{Journal};
     ghost use Rattle.rc_line.specs.Keeping.{state, line_of, IsKept};
+    ghost use Rattle.std.specs.VecDeque.{deque_capacity};
 
     ghost Value = { Journal };
 
-    ghost view = { λ l. record { line = line_of l.done.items l.undone.items (state l.live l.table); is_open = l.is_open } };
+    ghost view = { λ l. record {
+      line = line_of l.bound l.done.items l.undone.items (state l.live l.table);
+      is_open = l.is_open;
+    } };
 
-    ghost invariant = { λ l. IsKept l.done l.undone (state l.live l.table) l.is_open };
+    ghost invariant = { λ l. IsKept l.bound l.done.items l.undone.items (state l.live l.table)
+        l.is_open (deque_capacity l.done) (deque_capacity l.undone) };
 }
 
 impl Drop for Line {
@@ -57,6 +69,7 @@ impl Drop for Line {
             mut done,
             mut undone,
             is_open: _,
+            bound: _,
         } = self;
         spend_all(&mut done);
         done.destroy_empty();
@@ -66,18 +79,43 @@ impl Drop for Line {
 }
 
 impl Line {
-    /// The line of one state.
+    /// The line of one state, of which there may be 1,024.
     pub fn new(alloc: Global, live: Set, table: Table) -> Line
-        ensures { result ≡ record { line = record { before = []; current = record { live = live; table = table }; after = [] }; is_open = false } }
+        ensures { result ≡ record {
+          line = record {
+            before = [];
+            current = record { live = live; table = table };
+            after = [];
+            bound = 1024;
+          };
+          is_open = false;
+        } }
+    {
+        Line::with_bound(alloc, live, table, USUAL_BOUND)
+    }
+
+    /// The line of one state, of which there may be so many.
+    pub fn with_bound(alloc: Global, live: Set, table: Table, bound: u32) -> Line
+        requires { 3 ≤ bound }
+        ensures { result ≡ record {
+          line = record {
+            before = [];
+            current = record { live = live; table = table };
+            after = [];
+            bound = bound;
+          };
+          is_open = false;
+        } }
     {
         // A table tells by its length that it is one.
         let _ = table.len();
         Line {
             live,
             table,
-            done: Vec::new(alloc),
-            undone: Vec::new(alloc),
+            done: VecDeque::new(alloc),
+            undone: VecDeque::new(alloc),
             is_open: false,
+            bound,
         }
     }
 
@@ -101,6 +139,13 @@ impl Line {
         ensures line { IsLine self.now.line }
     {
         self.done.len() + self.undone.len() + 1
+    }
+
+    /// How many states there may be.
+    pub fn bound(&self) -> u32
+        ensures { result ≡ self.now.line.bound }
+    {
+        self.bound
     }
 
     /// The place of the current state.
@@ -186,7 +231,7 @@ impl Line {
         ensures faults { OnErr result ((result ≡ Err LineFault.NothingToUndo) ⊎ (result ≡ Err LineFault.Memory)) }
         ensures err { OnErr result (self.new ≡ self.old) }
     {
-        let Some(entry) = self.done.last() else {
+        let Some(entry) = nearest(&self.done) else {
             return Err(LineFault::NothingToUndo);
         };
         let (live, table) = entry.before(alloc, &self.live, &self.table)?;
@@ -204,7 +249,7 @@ impl Line {
         ensures faults { OnErr result ((result ≡ Err LineFault.NothingToRedo) ⊎ (result ≡ Err LineFault.Memory)) }
         ensures err { OnErr result (self.new ≡ self.old) }
     {
-        let Some(entry) = self.undone.last() else {
+        let Some(entry) = nearest(&self.undone) else {
             return Err(LineFault::NothingToRedo);
         };
         let (live, table) = entry.after(alloc, &self.live, &self.table)?;
@@ -258,11 +303,12 @@ impl Line {
         }
         let Room { raised, lowered } = near;
         spend_all(&mut self.undone);
-        self.done.push_reserved(Entry {
+        self.done.push_back_reserved(Entry {
             raised,
             lowered,
             edit,
         });
+        fit(&mut self.done, &mut self.undone, self.bound);
         replace(&mut self.table, table);
     }
 
@@ -313,7 +359,8 @@ impl Line {
         }
         let entry = room.entry(&self.live, live, edit);
         spend_all(&mut self.undone);
-        self.done.push_reserved(entry);
+        self.done.push_back_reserved(entry);
+        fit(&mut self.done, &mut self.undone, self.bound);
         overwrite(&mut self.live, live);
     }
 
@@ -336,16 +383,16 @@ impl Line {
         ensures closed { self.new.is_open ≡ false }
     {
         self.is_open = false;
-        let entry = self.done.take_last();
+        let entry = take_last(&mut self.done);
         if target.same(live) {
-            self.undone.push_reserved(entry);
+            self.undone.push_back_reserved(entry);
             self.live = target;
             replace(&mut self.table, table);
             drop((near, far, no_edit));
             return;
         }
         if self.live.same(live) {
-            self.done.push_reserved(entry);
+            self.done.push_back_reserved(entry);
             drop((near, far, no_edit));
             drop((target, table));
             return;
@@ -355,9 +402,11 @@ impl Line {
             lowered: _,
             edit,
         } = entry;
-        self.done.push_reserved(near.entry(&target, live, edit));
+        self.done
+            .push_back_reserved(near.entry(&target, live, edit));
         self.undone
-            .push_reserved(far.entry(live, &self.live, no_edit));
+            .push_back_reserved(far.entry(live, &self.live, no_edit));
+        fit(&mut self.done, &mut self.undone, self.bound);
         overwrite(&mut self.live, live);
         drop((target, table));
     }
@@ -381,16 +430,16 @@ impl Line {
         ensures closed { self.new.is_open ≡ false }
     {
         self.is_open = false;
-        let entry = self.undone.take_last();
+        let entry = take_last(&mut self.undone);
         if target.same(live) {
-            self.done.push_reserved(entry);
+            self.done.push_back_reserved(entry);
             self.live = target;
             replace(&mut self.table, table);
             drop((near, far, no_edit));
             return;
         }
         if self.live.same(live) {
-            self.undone.push_reserved(entry);
+            self.undone.push_back_reserved(entry);
             drop((near, far, no_edit));
             drop((target, table));
             return;
@@ -401,8 +450,10 @@ impl Line {
             edit,
         } = entry;
         self.done
-            .push_reserved(near.entry(&self.live, live, no_edit));
-        self.undone.push_reserved(far.entry(live, &target, edit));
+            .push_back_reserved(near.entry(&self.live, live, no_edit));
+        self.undone
+            .push_back_reserved(far.entry(live, &target, edit));
+        fit(&mut self.done, &mut self.undone, self.bound);
         overwrite(&mut self.live, live);
         drop((target, table));
     }
@@ -413,7 +464,13 @@ impl Line {
         requires first { self.old.line.before ≡ [] }
         requires bound { length live ≡ length self.old.line.current.live }
         requires differ { state live table ≢ self.old.line.current }
-        ensures line { OnOk result (self.new.line ≡ record { before = []; current = state live table; after = self.old.line.current ∷ self.old.line.after }) }
+        requires few { length (states self.old.line) < self.old.line.bound }
+        ensures line { OnOk result (self.new.line ≡ record {
+          before = [];
+          current = state live table;
+          after = self.old.line.current ∷ self.old.line.after;
+          bound = self.old.line.bound;
+        }) }
         ensures closed { self.new.is_open ≡ false }
     {
         // A table tells by its length that it is one.
@@ -426,7 +483,7 @@ impl Line {
             drop((live, table));
             return Err(AllocError);
         };
-        self.undone.push_reserved(entry);
+        self.undone.push_back_reserved(entry);
         self.live = live;
         self.table = table;
         Ok(())
@@ -445,8 +502,8 @@ impl Line {
             drop((live, table));
             return Err(AllocError);
         };
-        let entry = self.undone.take_last();
-        self.done.push_reserved(entry);
+        let entry = take_last(&mut self.undone);
+        self.done.push_back_reserved(entry);
         self.live = live;
         replace(&mut self.table, table);
         Ok(())
@@ -463,6 +520,24 @@ impl Line {
         } else {
             &self.undone[self.undone.len() - 1 - (place - done)]
         }
+    }
+
+    /// Turns the state at a place into the one after it. On want of memory what is left is neither.
+    pub fn step_on(
+        &self,
+        alloc: Global,
+        place: usize,
+        live: &mut Set,
+        table: &mut Table,
+    ) -> Result<(), NoMem>
+        requires place { place + 1 < length (states self.now.line) }
+        requires here { slice_get (states self.now.line) place
+            ≡ Some (record { live = live.old; table = table.old }) }
+        ensures { OnOk result (slice_get (states self.now.line) (place + 1)
+            ≡ Some (record { live = live.new; table = table.new })) }
+    {
+        self.step_at(place).turn_on(alloc, live, table)?;
+        Ok(())
     }
 
     /// The state at a place up to the cursor, from the current one.
@@ -505,16 +580,4 @@ impl Line {
         }
         Ok((live, table))
     }
-}
-
-/// Makes room for one more entry in both stacks.
-fn make_room(done: &mut Vec<Entry>, undone: &mut Vec<Entry>) -> Result<(), NoMem>
-    ensures done { done.new.items ≡ done.old.items }
-    ensures undone { undone.new.items ≡ undone.old.items }
-    ensures done_room { OnOk result (HasSpare done.new) }
-    ensures undone_room { OnOk result (HasSpare undone.new) }
-{
-    done.reserve(1)?;
-    undone.reserve(1)?;
-    Ok(())
 }

@@ -17,16 +17,21 @@ impl Line {
         alloc: Global,
         mut held: Vec<(Set, Table)>,
         place: usize,
+        bound: u32,
     ) -> Result<Line, NoMem>
+        requires three { 3 ≤ bound }
+        requires few { length held.items ≤ bound }
         requires cursor { place < length held.items }
         requires differ { DifferInTurn (states_of held.items) }
-        requires bound { (bound : ℕ) × All (λ state. length state.live ≡ bound) (states_of held.items) }
+        requires sets { (bound : ℕ)
+            × All (λ state. length state.live ≡ bound) (states_of held.items) }
         ensures states { IfOk result (λ line. states line.line ≡ states_of held.items) }
         ensures cursor { IfOk result (λ line. cursor line.line ≡ place) }
+        ensures bound { IfOk result (λ line. line.line.bound ≡ bound) }
         ensures closed { IfOk result (λ line. line.is_open ≡ false) }
     {
         let (live, table) = held.take_last();
-        let mut line = Line::new(alloc, live, table);
+        let mut line = Line::with_bound(alloc, live, table, bound);
         while let Some((live, table)) = held.pop() {
             line.prepend(alloc, live, table)?;
         }
@@ -42,7 +47,7 @@ impl Line {
         let live = self.live().copy(alloc)?;
         let table = self.table().copy(alloc)?;
         let (live, table) = self.walk_on(alloc, at, live, table)?;
-        let mut line = Line::new(alloc, live, table);
+        let mut line = Line::with_bound(alloc, live, table, self.bound());
         while at > 0 {
             at -= 1;
             let (live, table) = self.step_at(at).before(alloc, line.live(), line.table())?;
@@ -61,6 +66,7 @@ fn go_to(alloc: Global, line: &mut Line, place: usize) -> Result<(), NoMem>
     requires place { place < length (states line.old.line) }
     ensures states { OnOk result (states line.new.line ≡ states line.old.line) }
     ensures cursor { OnOk result (cursor line.new.line ≡ place) }
+    ensures bound { OnOk result (line.new.line.bound ≡ line.old.line.bound) }
     ensures closed { line.new.is_open ≡ false }
 {
     while line.cursor() < place {

@@ -12,7 +12,7 @@ use Rattle.rc_answers.specs.JournalText.{IsJournalText}
 
 -- a session on a database, in which nothing is live yet
 abbrev pub fresh : Database → Holding
-fresh d = record { database = d; line = first_line d; begun = false; spoiled = false }
+fresh d = record { database = d; line = first_line d 1024; begun = false; spoiled = false }
 
 -- the answers to commands, then what is live after them, then the journal
 pub record IsTold (d : Database) (commands : List Command) (answers : List (Result Told Refusal)) (left : Holding) (text : List ℕ) : Type 0 where

@@ -1,5 +1,5 @@
 -- Each command is refused, or some events carry it out with nothing failing.
-use Rattle.std.proofs.Common.{◌≡◌, ◌≢◌, ◌⊎◌, ℕ, suc, inl, inr, Bool, true, false, List, [], ◌∷◌, ◌++◌, length, slice_index_or, All, Contains, refl, ap, arith}
+use Rattle.std.proofs.Common.{◌≡◌, ◌≢◌, ◌⊎◌, ℕ, suc, inl, inr, Bool, true, false, List, [], ◌∷◌, length, slice_index_or, All, Contains, refl, ap, arith}
 use Rattle.std.proofs.lemmas.Bool.{cases_lt}
 use Rattle.rc_names.specs.Name.{IsName}
 use Rattle.rc_names.proofs.ByteOrder.{same_or_other}
@@ -15,7 +15,8 @@ use Rattle.rc_core.specs.declared.event.Event.{Event}
 use Rattle.rc_core.specs.Course.{course_of}
 use Rattle.rc_line.specs.State.{State}
 use Rattle.rc_line.specs.Line.{Line}
-use Rattle.rc_line.specs.Moves.{EndsIn, with_live, with_table}
+use Rattle.rc_line.specs.Bound.{fitted}
+use Rattle.rc_line.specs.Moves.{EndsIn, put_last, with_live, with_table}
 use Rattle.rc_line.proofs.Walking.{current_table}
 use Rattle.rc_session.specs.declared.refusal.Refusal.{Refusal}
 use Rattle.rc_session.specs.declared.refusal.Refusal.TheVariants.{PruneNeedsUp, Unknown, IsAtomic, Exists, Missing, Full, NothingToUndo, NothingToRedo}
@@ -58,7 +59,7 @@ state_decided a b = elim (both (a.live ≡ b.live) (a.table ≡ b.table) (list_d
 ends_somewhere : (line : Line) (end : State) → (new : Line) × EndsIn line end new
 ends_somewhere line end = elim (state_decided end line.current) [
   | inl same ↦ (line, inl (same, refl))
-  | inr other ↦ (record { before = line.before ++ line.current ∷ []; current = end; after = [] }, inr (other, refl))
+  | inr other ↦ (fitted (put_last line end), inr (other, refl))
 ]
 
 -- what an answer to a command is

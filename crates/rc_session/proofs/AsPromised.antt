@@ -21,29 +21,29 @@ use Rattle.rc_session.proofs.Undos.{undo_well, redo_well}
 
 module _ (d : Database) (line : Line) (is_db : IsDatabase d) (of : IsLineOf d line) where
   ends_there : (command : Command) (told : Told) (new : Line) → Does d line command told new → EndsAsPromised line command told new
-  ends_there (Change ask events) told new does = change_entered d line ask events told new does
+  ends_there (Change ask events) told new does = change_entered d line of ask events told new does
   ends_there (Undo limit events) told new does = λ back h. (
     λ well. one_back new back line (undo_well d is_db line new (Undo limit events) (Ok told) of tt well does) h,
-    undo_leaves d line back new limit events told h does,
+    undo_leaves d line of back new limit events told h does,
   )
   ends_there (Redo limit events) told new does = λ on h. (
     λ well. one_on line new on (redo_well d is_db line new (Redo limit events) (Ok told) of tt well does) h,
-    redo_leaves d line on new limit events told h does,
+    redo_leaves d line of on new limit events told h does,
   )
   ends_there (Add name contents force) told new does = elim does [
     | inl run ↦ absurd run.task
-    | inr makes ↦ edit_entered d line (Add name contents force) told new makes
+    | inr makes ↦ edit_entered d line of (Add name contents force) told new makes
   ]
   ends_there (Delete words force) told new does = elim does [
     | inl run ↦ absurd run.task
-    | inr makes ↦ edit_entered d line (Delete words force) told new makes
+    | inr makes ↦ edit_entered d line of (Delete words force) told new makes
   ]
 
   pub as_promised : (command : Command) (told : Told) (new : Line) → Does d line command told new → IsDoneAsPromised d line command told new
   as_promised command told new does = record {
     orderly = λ has. runs_orderly d line is_db of command told new has does;
     ends = ends_there command told new does;
-    history = history_kept d line command told new does;
+    history = history_kept d line of command told new does;
   }
 
 -- so is what a session answers, where its database and its line are known

@@ -1,10 +1,12 @@
-use Rattle.std.proofs.Common.{◌≡◌, ◌∙◌, [], ◌∷◌, inl, inr, ap, sym, subst}
+use Rattle.std.proofs.Common.{◌≡◌, ◌∙◌, ◌≤◌, refl, [], ◌∷◌, inl, inr, ap, sym, subst}
 use Rattle.rc_set.specs.Set.{Lists}
 use Rattle.rc_db.specs.Database.{Database}
 use Rattle.rc_bundle.specs.Edit.{IsEdit}
 use Rattle.rc_line.specs.State.{State, Entry, IsEntry, IsGained}
 use Rattle.rc_line.specs.Line.{Line, IsNext}
-use Rattle.rc_line.specs.Moves.{EndsIn, with_live, with_table}
+use Rattle.rc_line.specs.Moves.{EndsIn, put_last, with_live, with_table}
+use Rattle.rc_line.proofs.Fitting.{fitted_back, fitted_current, fitted_last}
+use Rattle.rc_session.specs.Doing.{IsLineOf}
 use Rattle.rc_line.proofs.Rewriting.{no_edit}
 use Rattle.rc_line.proofs.Steps.{none_gained}
 use Rattle.rc_session.specs.Promise.{IsEntered, ChangesAreEntered, EditsAreEntered}
@@ -14,29 +16,32 @@ use Rattle.rc_session.proofs.Entries.{entry_before}
 pub ends_in : (line new : Line) (end : State) → EndsIn line end new → new.current ≡ end
 ends_in line new end ends = elim ends [
   | inl stays ↦ ap (λ l. l.current) stays.1 ∙ sym stays.0
-  | inr adds ↦ ap (λ l. l.current) adds.1
+  | inr adds ↦ ap (λ l. l.current) adds.1 ∙ fitted_current (put_last line end)
 ]
 
 -- what the line ends in is entered
-enters : (line new : Line) (end : State) (entry : Entry) → EndsIn line end new → IsEntry line.current end entry → IsEntered line new entry
-enters line new end entry ends is =
+enters : (line new : Line) (end : State) (entry : Entry) → 3 ≤ line.bound → EndsIn line end new → IsEntry line.current end entry → IsEntered line new entry
+enters line new end entry three ends is =
     let here : IsEntry line.current new.current entry = subst (λ s. IsEntry line.current s entry) (sym (ends_in line new end ends)) is in
     record {
       exact = here;
       entered = elim ends [
         | inl stays ↦ inl stays.1
         | inr adds ↦
-            let back : Line = record { before = line.before; current = line.current; after = new.current ∷ [] } in
-            let next : IsNext back new = record { left = ap (λ l. l.before) adds.1; reached = ap (λ after. new.current ∷ after) (sym (ap (λ l. l.after) adds.1)) } in
-            inr ((λ same. adds.0 (sym (ap (λ l. l.current) adds.1) ∙ same)), ap (λ l. l.after) adds.1, (entry_before back new next entry).1 here)
+            let full : Line = put_last line end in
+            let back : Line = record { before = line.before; current = line.current; after = end ∷ []; bound = line.bound } in
+            let left = fitted_back full back three (record { left = refl; reached = refl; bound = refl }) in
+            let next : IsNext left.0 new = subst (IsNext left.0) (sym adds.1) left.1 in
+            let before : IsEntry left.0.current new.current entry = subst (λ s. IsEntry s new.current entry) (sym left.2) here in
+            inr ((λ same. adds.0 (sym (ap (λ l. l.current) adds.1 ∙ fitted_current full) ∙ same)), ap (λ l. l.after) adds.1 ∙ fitted_last full three refl, (entry_before left.0 new next entry).1 before)
       ];
     }
 
-pub change_entered : (d : Database) (line : Line) → ChangesAreEntered d line
-change_entered d line ask events told new does = elim does [
+pub change_entered : (d : Database) (line : Line) → IsLineOf d line → ChangesAreEntered d line
+change_entered d line of ask events told new does = elim does [
   | inl run ↦
       let opening : run.plan.opening ≡ line.current.live = run.task.1.opening in
-      enters line new (with_live line run.live) (record { raised = told.raised; lowered = told.lowered; edit = [] }) run.moved (record {
+      enters line new (with_live line run.live) (record { raised = told.raised; lowered = told.lowered; edit = [] }) of.is_line.bound.0 run.moved (record {
         raised = subst (λ up. Lists (IsGained up run.live) told.raised) opening run.is_told.raised;
         lowered = subst (λ up. Lists (IsGained run.live up) told.lowered) opening run.is_told.lowered;
         edit = no_edit line.current.table;
@@ -44,8 +49,8 @@ change_entered d line ask events told new does = elim does [
   | inr edit ↦ absurd edit.altered
 ]
 
-pub edit_entered : (d : Database) (line : Line) → EditsAreEntered d line
-edit_entered d line command told new makes edit is = enters line new (with_table line makes.table) (record { raised = []; lowered = []; edit = edit }) makes.moved (record {
+pub edit_entered : (d : Database) (line : Line) → IsLineOf d line → EditsAreEntered d line
+edit_entered d line of command told new makes edit is = enters line new (with_table line makes.table) (record { raised = []; lowered = []; edit = edit }) of.is_line.bound.0 makes.moved (record {
   raised = none_gained line.current.live;
   lowered = none_gained line.current.live;
   edit = subst (λ table. IsEdit line.current.table table edit) (ap (λ s. s.table) (ends_in line new (with_table line makes.table) makes.moved)) is;

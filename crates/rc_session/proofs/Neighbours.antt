@@ -15,10 +15,10 @@ push_front (a ∷ xs) (b ∷ ys) x y same = ap (λ h. h ∷ xs) (cons_head a b (
 pub one_back : (a b line : Line) → IsNext a line → IsNext b line → a ≡ b
 one_back a b line ha hb =
     let same : a.before ++ a.current ∷ [] ≡ b.before ++ b.current ∷ [] = sym ha.left ∙ hb.left in
-    same_line a b (push_front a.before b.before a.current b.current same) (last_same a.before b.before a.current b.current same) (ha.reached ∙ sym hb.reached)
+    same_line a b (push_front a.before b.before a.current b.current same) (last_same a.before b.before a.current b.current same) (ha.reached ∙ sym hb.reached) (sym ha.bound ∙ hb.bound)
 
 -- and so is the line after
 pub one_on : (line a b : Line) → IsNext line a → IsNext line b → a ≡ b
 one_on line a b ha hb =
     let same : a.current ∷ a.after ≡ b.current ∷ b.after = sym ha.reached ∙ hb.reached in
-    same_line a b (ha.left ∙ sym hb.left) (cons_head a.current b.current a.after b.after same) (cons_tail a.current b.current a.after b.after same)
+    same_line a b (ha.left ∙ sym hb.left) (cons_head a.current b.current a.after b.after same) (cons_tail a.current b.current a.after b.after same) (ha.bound ∙ sym hb.bound)

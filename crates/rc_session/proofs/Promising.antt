@@ -5,7 +5,8 @@ use Rattle.rc_core.specs.Settled.{IsStrictlyClosed}
 use Rattle.rc_core.proofs.StrictLemmas.{prefix_strict}
 use Rattle.rc_db.specs.Database.{Database, IsDatabase}
 use Rattle.rc_line.specs.Line.{Line}
-use Rattle.rc_line.specs.Moves.{with_live}
+use Rattle.rc_line.specs.Moves.{with_live, put_between}
+use Rattle.rc_line.proofs.Fitting.{fitted_current}
 use Rattle.rc_session.specs.declared.refusal.Refusal.{Refusal}
 use Rattle.rc_session.specs.Commands.{Command, Change, Undo, Redo, Add, Delete, HasRun, events_of}
 use Rattle.rc_session.specs.Report.{Told}
@@ -30,14 +31,14 @@ moved_live line (Undo limit events) live new u = elim u.2 [
   | inl there ↦ ap (λ l. l.current.live) there.1 ∙ sym there.0
   | inr other ↦ elim other [
     | inl here ↦ ap (λ l. l.current.live) here.2 ∙ sym here.1
-    | inr between ↦ ap (λ l. l.current.live) between.2
+    | inr between ↦ ap (λ l. l.current.live) between.2 ∙ ap (λ s. s.live) (fitted_current (put_between u.0 (with_live line live) line))
   ]
 ]
 moved_live line (Redo limit events) live new r = elim r.2 [
   | inl there ↦ ap (λ l. l.current.live) there.1 ∙ sym there.0
   | inr other ↦ elim other [
     | inl here ↦ ap (λ l. l.current.live) here.2 ∙ sym here.1
-    | inr between ↦ ap (λ l. l.current.live) between.2
+    | inr between ↦ ap (λ l. l.current.live) between.2 ∙ ap (λ s. s.live) (fitted_current (put_between line (with_live line live) r.0))
   ]
 ]
 moved_live line (Add name contents force) live new moved = absurd moved
@@ -77,13 +78,13 @@ runs_orderly d line is_db of command told new has does = elim does [
 pub promised : (d : Database) (line : Line) → IsDatabase d → IsLineOf d line → IsPromised d line
 promised d line is_db of = record {
   orderly = runs_orderly d line is_db of;
-  changes = change_entered d line;
-  edits = edit_entered d line;
-  history = history_kept d line;
+  changes = change_entered d line of;
+  edits = edit_entered d line of;
+  history = history_kept d line of;
   undos = undos_restore d is_db line of;
   redos = redos_restore d is_db line of;
-  remains = undo_leaves d line;
-  remains_ahead = redo_leaves d line;
+  remains = undo_leaves d line of;
+  remains_ahead = redo_leaves d line of;
   undos_go_on = undos_go_on d is_db line of;
   redos_go_on = redos_go_on d is_db line of;
 }

@@ -49,8 +49,8 @@ module _ (d : Database) (line : Line) (is_db : IsDatabase d) (of : IsLineOf d li
   pub ways_back : WaysBack d line
   ways_back limit some =
       let split = last_of line.before some in
-      let back : Line = record { before = split.0; current = split.1; after = line.current ∷ line.after } in
-      let next : IsNext back line = record { left = split.2; reached = refl } in
+      let back : Line = record { before = split.0; current = split.1; after = line.current ∷ line.after; bound = line.bound } in
+      let next : IsNext back line = record { left = split.2; reached = refl; bound = refl } in
       let now = current_state d line of in
       let was = current_state d back (line_of_back d back line next of) in
       let way = way_between line.current.live back.current.live limit (was.bound ∙ sym now.bound) in
@@ -78,8 +78,8 @@ module _ (d : Database) (line : Line) (is_db : IsDatabase d) (of : IsLineOf d li
   pub ways_on : WaysOn d line
   ways_on limit some =
       let split = first_of line.after some in
-      let on : Line = record { before = line.before ++ line.current ∷ []; current = split.0; after = split.1 } in
-      let next : IsNext line on = record { left = refl; reached = split.2 } in
+      let on : Line = record { before = line.before ++ line.current ∷ []; current = split.0; after = split.1; bound = line.bound } in
+      let next : IsNext line on = record { left = refl; reached = split.2; bound = refl } in
       let now = current_state d line of in
       let will = current_state d on (line_of_next d line on next of) in
       let way = way_between line.current.live on.current.live limit (will.bound ∙ sym now.bound) in

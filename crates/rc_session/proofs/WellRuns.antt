@@ -1,5 +1,5 @@
 -- Each course has a settled run in which nothing fails: what may be taken is taken and ends well, one after the other, until nothing may.
-use Rattle.std.proofs.Common.{◌≡◌, ◌≢◌, ◌∙◌, ◌↔◌, ◌⊎◌, ◌<◌, ◌≤◌, ℕ, zero, suc, inl, inr, Bool, true, false, List, [], ◌∷◌, ◌++◌, length, count_by, slice_index_or, Contains, refl, sym, subst, arith}
+use Rattle.std.proofs.Common.{◌≡◌, ◌∙◌, ◌↔◌, ◌⊎◌, ◌<◌, ◌≤◌, ℕ, zero, suc, inl, inr, Bool, true, false, List, [], ◌∷◌, ◌++◌, length, count_by, slice_index_or, Contains, refl, sym, subst, arith}
 use Rattle.std.proofs.lemmas.List.Elements.{Contains-push}
 use Rattle.rc_set.specs.Set.{Has, Holds}
 use Rattle.rc_set.proofs.Members.{has_or_lacks, has_within}

@@ -21,9 +21,14 @@ pub record Holding : Type 0 where
   pub begun : Bool
   pub spoiled : Bool
 
--- the line that a database begins with: nothing is live, and the bundles are its own
-abbrev pub first_line : Database → Line
-first_line d = record { before = []; current = record { live = replicate (length d.names) false; table = d.table }; after = [] }
+-- the line that a database begins with, of this bound: nothing is live, and the bundles are its own
+abbrev pub first_line : Database → ℕ → Line
+first_line d bound = record {
+  before = [];
+  current = record { live = replicate (length d.names) false; table = d.table };
+  after = [];
+  bound = bound;
+}
 
 -- a run that was begun: its plan and its deadline, and what the line was opened for
 pub record Task : Type 0 where

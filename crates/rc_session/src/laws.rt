@@ -23,11 +23,13 @@ ghost use Rattle.rc_session.specs.Alike.{IsEndOfFailing};
 ghost use Rattle.rc_session.specs.Existence.{WaysBack, WaysOn, EachIsAnswered};
 ghost use Rattle.rc_session.specs.Promise.{RunsAreOrderly, ChangesAreEntered, EditsAreEntered, UndosRestore, RedosRestore, UndosLeaveWhatRemains, RedosLeaveWhatRemains, HistoryIsKept, UndosGoOn, RedosGoOn, HoldsAllAlong};
 
-/// The headline. For every database, every line of it and every list of commands, with whatever events: each change runs in
-/// dependency order and keeps what is live strictly closed; its entry names exactly what it altered; no history is lost; undos that
-/// all go well restore, one after the other, each state that the line keeps, live set and bundles, and redos the same forwards; a
-/// failed undo leaves exactly the inverse of what remains, a failed redo what remains; and the next one that goes well ends where
-/// the failed one was to end.
+/// The headline. For every database, every line of it and every list of commands, with whatever
+/// events: each change runs in dependency order and keeps what is live strictly closed; its entry
+/// names exactly what it altered; no history is lost, but for the state that a full line drops;
+/// undos that all go well restore, one after the other, each state that the line keeps, live set
+/// and bundles, and redos the same forwards; a failed undo leaves exactly the inverse of what
+/// remains, a failed redo what remains; and the next one that goes well ends where the failed one
+/// was to end.
 pub fn headline()
     ensures { (d : Database) (line new : Line) (commands : List Command) (answers : List (Result Told Refusal)) →
         IsDatabase d → IsLineOf d line → Plays d line commands answers new → HoldsAllAlong d line commands answers new }
@@ -40,12 +42,12 @@ pub fn told_runs_are_settled()
 
 /// The entry of a change names exactly what it is told to have altered, and not what was planned.
 pub fn change_enters_what_it_altered()
-    ensures { (d : Database) (line : Line) → ChangesAreEntered d line }
+    ensures { (d : Database) (line : Line) → IsLineOf d line → ChangesAreEntered d line }
 {}
 
 /// The entry of an edit names exactly the bundles that it altered.
 pub fn edit_enters_what_it_altered()
-    ensures { (d : Database) (line : Line) → EditsAreEntered d line }
+    ensures { (d : Database) (line : Line) → IsLineOf d line → EditsAreEntered d line }
 {}
 
 /// Undos that all go well restore, one after the other, the states that the line keeps, and leave the line's states alone.
@@ -60,17 +62,18 @@ pub fn redos_restore()
 
 /// An undo that does not come to the state before leaves, before the cursor, exactly the inverse of what remains to be undone.
 pub fn failed_undo_leaves_what_remains()
-    ensures { (d : Database) (line : Line) → UndosLeaveWhatRemains d line }
+    ensures { (d : Database) (line : Line) → IsLineOf d line → UndosLeaveWhatRemains d line }
 {}
 
-/// Whatever is done keeps history: a change or an edit each state up to the cursor, an undo or a redo, failed or not, each state.
+/// Whatever is done keeps history: a change or an edit each state up to the cursor, an undo or a
+/// redo, failed or not, each state; but where that is one more than there may be, one goes.
 pub fn history_is_kept()
-    ensures { (d : Database) (line : Line) → HistoryIsKept d line }
+    ensures { (d : Database) (line : Line) → IsLineOf d line → HistoryIsKept d line }
 {}
 
 /// A redo that does not come to the state after leaves, after the cursor, exactly what remains to be redone.
 pub fn failed_redo_leaves_what_remains()
-    ensures { (d : Database) (line : Line) → RedosLeaveWhatRemains d line }
+    ensures { (d : Database) (line : Line) → IsLineOf d line → RedosLeaveWhatRemains d line }
 {}
 
 /// Where an undo or a redo failed, the next one that goes well ends where it was to end.

@@ -1,13 +1,13 @@
 //! Sessions, and what they tell.
 
-ghost use Rattle.std.specs.Prelude.{◌≡◌, false, Ok, IfOk, All};
+ghost use Rattle.std.specs.Prelude.{◌≡◌, ◌≤◌, false, Ok, IfOk, All};
 ghost use Rattle.rc_db.specs.Database.{IsDatabase};
 ghost use Rattle.rc_line.specs.Line.{states};
 ghost use Rattle.rc_session.specs.Doing.{IsStateOf, IsLineOf};
 ghost use Rattle.rc_session.specs.Holding.{first_line};
 
 use rc_db::{Db, Table};
-use rc_line::Line;
+use rc_line::{Line, USUAL_BOUND};
 use rc_set::{NoMem, Set};
 use std::alloc::{AllocError, Global};
 use std::marker::Model;
@@ -35,9 +35,27 @@ impl Model for Session {
 }
 
 impl Session {
-    /// A session in which nothing is live yet.
+    /// A session in which nothing is live yet, with a journal of at most 1,024 states.
     pub fn new(alloc: Global, db: Db) -> Result<Session, NoMem>
-        ensures { IfOk result (λ session. session ≡ record { database = db; line = first_line db; begun = false; spoiled = false }) }
+        ensures { IfOk result (λ session. session ≡ record {
+          database = db;
+          line = first_line db 1024;
+          begun = false;
+          spoiled = false;
+        }) }
+    {
+        Session::with_bound(alloc, db, USUAL_BOUND)
+    }
+
+    /// A session in which nothing is live yet, with a journal of at most so many states.
+    pub fn with_bound(alloc: Global, db: Db, bound: u32) -> Result<Session, NoMem>
+        requires { 3 ≤ bound }
+        ensures { IfOk result (λ session. session ≡ record {
+          database = db;
+          line = first_line db bound;
+          begun = false;
+          spoiled = false;
+        }) }
     {
         let Ok(live) = Set::empty(alloc, db.graph().len()) else {
             drop(db);
@@ -49,7 +67,7 @@ impl Session {
         };
         Ok(Session {
             db,
-            journal: Line::new(alloc, live, table),
+            journal: Line::with_bound(alloc, live, table, bound),
             spoiled: false,
         })
     }

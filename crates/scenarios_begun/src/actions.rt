@@ -31,6 +31,8 @@ pub(crate) enum Action {
 pub(crate) enum Edit {
     /// Defines the bundle `pair`.
     Add,
+    /// Removes it.
+    Delete,
     Undo,
     Redo,
 }
@@ -70,6 +72,32 @@ pub(crate) static EDITS: [Action; 14] = [
     Action::Edit(Edit::Undo),
     Action::Place,
 ];
+
+/// On a journal of at most three states, a change that two edits push out, which can't be undone
+/// any more.
+static FULL: [Action; 8] = [
+    Action::Command(Way::Change, End::Complete),
+    Action::Edit(Edit::Add),
+    Action::Edit(Edit::Delete),
+    Action::Place,
+    Action::Edit(Edit::Undo),
+    Action::Edit(Edit::Undo),
+    Action::Command(Way::Undo, End::Complete),
+    Action::Place,
+];
+
+/// Actions on a session over the sample that keeps at most three states.
+pub(crate) fn show_full(rt: &(impl Print + AllocGlobal)) -> Result<(), Fail> {
+    let session = short_session(rt.alloc())?;
+    Ok(show_session(rt, session, &FULL)?)
+}
+
+fn short_session(alloc: Global) -> Result<Session, Fail>
+    ensures { IfOk result (λ session. session.begun ≡ false) }
+{
+    let db = sample(alloc)?;
+    Ok(Session::with_bound(alloc, db, 3)?)
+}
 
 /// All actions on a session over the sample, in which nothing is live yet.
 pub(crate) fn show_new(rt: &(impl Print + AllocGlobal), actions: &[Action]) -> Result<(), Fail> {
@@ -134,6 +162,7 @@ fn show_action(
 fn name_of(edit: Edit) -> &'static str {
     match edit {
         Edit::Add => "an edit:",
+        Edit::Delete => "its removal:",
         Edit::Undo => "the undo of an edit:",
         Edit::Redo => "the redo of an edit:",
     }
@@ -145,6 +174,7 @@ fn edited(alloc: Global, session: &mut Session, edit: Edit) -> Result<(), Refusa
 {
     match edit {
         Edit::Add => added(alloc, session),
+        Edit::Delete => deleted(alloc, session),
         Edit::Undo => session.undo_edit(alloc),
         Edit::Redo => session.redo_edit(alloc),
     }
@@ -157,6 +187,14 @@ fn added(alloc: Global, session: &mut Session) -> Result<(), Refusal>
     let name = pair(alloc)?;
     let contents = words_of(alloc, &["db", "log"])?;
     session.bundle_add(alloc, &name, &contents, false)
+}
+
+fn deleted(alloc: Global, session: &mut Session) -> Result<(), Refusal>
+    requires { session.old.begun ≡ false }
+    ensures { session.new.begun ≡ false }
+{
+    let names = words_of(alloc, &["pair"])?;
+    session.bundle_delete(alloc, &names, false)
 }
 
 fn pair(alloc: Global) -> Result<Name, NoMem> {

@@ -1,5 +1,6 @@
-//! Sessions as values: runs that are begun on one over the sample, and abandoned, completed or spoiled; edits of bundles,
-//! undone and redone as edits; and a session that goes on with a line that was made of states.
+//! Sessions as values: runs that are begun on one over the sample, and abandoned, completed or
+//! spoiled; edits of bundles, undone and redone as edits; a session whose journal is full; and one
+//! that goes on with a line that was made of states.
 #![tactic(auto)]
 
 mod actions;
@@ -7,12 +8,13 @@ mod resumed;
 mod runs;
 mod show;
 
-use crate::actions::{EDITS, RUNS, show_new};
+use crate::actions::{EDITS, RUNS, show_full, show_new};
 use crate::resumed::show_resumed;
 use std::test::Fail;
 
 fn main(rt: HostRuntime) -> Result<(), Fail> {
     show_new(&rt, &RUNS)?;
     show_new(&rt, &EDITS)?;
+    show_full(&rt)?;
     show_resumed(&rt)
 }

@@ -9,7 +9,7 @@ ghost use Rattle.rc_session.specs.Doing.{IsStateOf};
 use crate::actions::{Action, show_session};
 use crate::runs::{End, Way};
 use rc_db::{Db, Table};
-use rc_line::Line;
+use rc_line::{Line, USUAL_BOUND};
 use rc_session::Session;
 use rc_set::{NoMem, Set};
 use samples::{ROOT, sample, set_of};
@@ -88,7 +88,7 @@ fn line_of(alloc: Global, table: &Table, first: Set, second: Set) -> Result<Line
     ensures closed { IfOk result (λ line. line.is_open ≡ false) }
 {
     let held = pairs(alloc, table, first, second)?;
-    Line::from_states(alloc, held, 1)
+    Line::from_states(alloc, held, 1, USUAL_BOUND)
 }
 
 fn pairs(alloc: Global, table: &Table, first: Set, second: Set) -> Result<Vec<(Set, Table)>, NoMem>

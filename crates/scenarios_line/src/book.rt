@@ -1,6 +1,6 @@
 //! A line on which moves are made.
 
-ghost use Rattle.std.specs.Prelude.{◌≡◌, false, length};
+ghost use Rattle.std.specs.Prelude.{◌≡◌, ◌≤◌, false, length};
 
 use rc_db::Table;
 use rc_line::{Line, LineFault};
@@ -15,24 +15,29 @@ pub(crate) struct Book {
 }
 
 impl Book {
-    /// The line of one state.
-    pub(crate) fn new(alloc: Global, live: Set, table: Table) -> Book {
-        let line = Line::new(alloc, live, table);
+    /// The line of one state, of which there may be so many.
+    pub(crate) fn new(alloc: Global, live: Set, table: Table, bound: u32) -> Book
+        requires { 3 ≤ bound }
+    {
+        let line = Line::with_bound(alloc, live, table, bound);
         Book { line }
     }
 
-    /// The line of two states, on the second. Where both have the same services there is the second alone.
+    /// The line of two states, on the second. Where both have the same services there is the
+    /// second alone.
     pub(crate) fn of_two(
         alloc: Global,
         first: (Set, Table),
         second: (Set, Table),
+        bound: u32,
     ) -> Result<Book, NoMem>
-        requires { length second.0 ≡ length first.0 }
+        requires sets { length second.0 ≡ length first.0 }
+        requires bound { 3 ≤ bound }
     {
         if first.0.same(&second.0) {
-            return Ok(Book::new(alloc, second.0, second.1));
+            return Ok(Book::new(alloc, second.0, second.1, bound));
         }
-        let line = Line::from_states(alloc, vec![in alloc; first, second]?, 1)?;
+        let line = Line::from_states(alloc, vec![in alloc; first, second]?, 1, bound)?;
         Ok(Book { line })
     }
 

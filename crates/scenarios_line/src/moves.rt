@@ -1,12 +1,14 @@
-//! The ways back and on along a line of two states that differ in services and bundles, with ends of all kinds. After each
-//! move it is printed where the line stands, its entries, and the state that it is on.
+//! The ways back and on along a line of two states that differ in services and bundles, with ends
+//! of all kinds. After each move it is printed where the line stands, its entries, and the state
+//! that it is on.
 
-ghost use Rattle.std.specs.Prelude.{◌≡◌, length, IfOk};
+ghost use Rattle.std.specs.Prelude.{◌≡◌, ◌≤◌, length, IfOk};
 
 use crate::book::Book;
 use crate::moves::Move::{Copy, Redo, States, Undo};
 use crate::show::{show_book, show_outcome, show_part, show_state};
 use rc_db::Table;
+use rc_line::USUAL_BOUND;
 use rc_set::{NoMem, Set};
 use samples::{LOG, ROOT, WEB, set_of, table_of};
 use std::alloc::Global;
@@ -44,18 +46,44 @@ static MOVES: [Move; 12] = [
     Undo(NOTHING),
 ];
 
+/// On a line of at most three states, an undo or redo that ends elsewhere pushes out the first
+/// state or, where that stands beside its end, the last.
+static FULL: [Move; 11] = [
+    Undo(&[ROOT]),
+    Undo(&[LOG]),
+    Redo(&[ROOT]),
+    Redo(&[ROOT]),
+    Copy,
+    Undo(NOTHING),
+    Undo(&[LOG]),
+    Undo(NOTHING),
+    Redo(&[LOG, ROOT]),
+    Redo(NOTHING),
+    Redo(NOTHING),
+];
+
 pub(crate) fn show_moves(rt: &(impl Print + AllocGlobal)) -> Result<(), Fail> {
-    let mut book = both(rt.alloc())?;
-    let made = make_each(rt, &mut book, &MOVES);
+    show_on(rt, USUAL_BOUND, &MOVES)?;
+    show_on(rt, 3, &FULL)
+}
+
+/// Moves on a line of up to so many states.
+fn show_on(rt: &(impl Print + AllocGlobal), bound: u32, moves: &[Move<'_>]) -> Result<(), Fail>
+    requires { 3 ≤ bound }
+{
+    let mut book = both(rt.alloc(), bound)?;
+    let made = make_each(rt, &mut book, moves);
     drop(book);
     Ok(made?)
 }
 
 /// The line of two states that differ in services and bundles.
-fn both(alloc: Global) -> Result<Book, Fail> {
+fn both(alloc: Global, bound: u32) -> Result<Book, Fail>
+    requires { 3 ≤ bound }
+{
     let before = table_of(alloc, 5, &[("site", &[WEB])])?;
     match table_of(alloc, 5, &[("base", &[ROOT]), ("site", &[LOG])]) {
-        Ok(now) => Ok(of_tables(alloc, before, now)?),
+        Ok(now) => Ok(of_tables(alloc, before, now, bound)?),
         Err(fault) => {
             drop(before);
             Err(fault)
@@ -63,9 +91,11 @@ fn both(alloc: Global) -> Result<Book, Fail> {
     }
 }
 
-fn of_tables(alloc: Global, before: Table, now: Table) -> Result<Book, NoMem> {
+fn of_tables(alloc: Global, before: Table, now: Table, bound: u32) -> Result<Book, NoMem>
+    requires { 3 ≤ bound }
+{
     match sets(alloc) {
-        Ok((first, second)) => Book::of_two(alloc, (first, before), (second, now)),
+        Ok((first, second)) => Book::of_two(alloc, (first, before), (second, now), bound),
         Err(short) => {
             drop(before);
             drop(now);
@@ -87,7 +117,7 @@ fn make_each(
     book: &mut Book,
     moves: &[Move<'_>],
 ) -> io::Result<()> {
-    print!(rt; "a line")?;
+    print!(rt; "a line of up to {}", book.line().bound())?;
     show_book(rt, book)?;
     for each in moves {
         make(rt, book, *each)?;

@@ -8,8 +8,8 @@ use Rattle.scenarios_begun.proofs.resumed.line_of.Goals as goal
 abbrev HaveOneBound : List State → Type 0
 HaveOneBound all = (bound : ℕ) × All (λ (s : State). length s.live ≡ bound) all
 
-pub from_states-requires-clause-bound : goal.from_states-requires-clause-bound
-from_states-requires-clause-bound c =
+pub from_states-requires-clause-sets : goal.from_states-requires-clause-sets
+from_states-requires-clause-sets c =
     let bound = length c.args.first in
     subst HaveOneBound (sym c.in_ok-held.ensures.states) (
       bound,

@@ -1,4 +1,6 @@
-use Rattle.std.proofs.Common.{◌∙◌, ◌++◌, ap, sym}
+use Rattle.std.proofs.Common.{◌≡◌, ◌∙◌, ◌++◌, ◌∷◌, [], List, Bool, length, arith, length-append, ap, sym}
+use Rattle.std.proofs.lemmas.List.{length-map}
+use Rattle.rc_db.specs.Bundles.{Bundles}
 use Rattle.rc_line.specs.State.{states_of}
 use Rattle.rc_line.specs.Line.{Line, states}
 use Rattle.rc_line.specs.Opening.{Journal}
@@ -8,9 +10,10 @@ use Rattle.rc_line.proofs.line.Line.from_states.Goals as goal
 
 pub loop-live-init : goal.loop-live-init
 loop-live-init c = record {
-  first = ap (λ (j : Journal). j.line.before) c.new-line.ensures;
-  closed = ap (λ (j : Journal). j.is_open) c.new-line.ensures;
-  whole = ap (λ (j : Journal). states_of c.take_last-live.new.self.items ++ states j.line) c.new-line.ensures
+  bound = ap (λ (j : Journal). j.line.bound) c.with_bound-line.ensures;
+  first = ap (λ (j : Journal). j.line.before) c.with_bound-line.ensures;
+  closed = ap (λ (j : Journal). j.is_open) c.with_bound-line.ensures;
+  whole = ap (λ (j : Journal). states_of c.take_last-live.new.self.items ++ states j.line) c.with_bound-line.ensures
       ∙ sym (states_of-push c.take_last-live.new.self.items c.take_last-live.result) ∙ ap states_of (sym c.take_last-live.ensures.items);
 }
 
@@ -24,14 +27,32 @@ pub prepend-requires-clause-bound : goal.prepend-requires-clause-bound
 prepend-requires-clause-bound c =
     let line : Line = c.loop-live.line.line in
     let whole = one_less c.loop-live.held.items c.pop.new.self.items (c.in-Some.live, c.in-Some.table) (states_of c.args.held.items) line c.loop-live.invariant.first c.loop-live.invariant.whole c.in-Some.ensures.items in
-    same_bound c.requires.bound.0 (states_of c.pop.new.self.items) (state c.in-Some.live c.in-Some.table) line.current line.after (states_of c.args.held.items) c.requires.bound.1 whole
+    same_bound c.requires.sets.0 (states_of c.pop.new.self.items) (state c.in-Some.live c.in-Some.table) line.current line.after (states_of c.args.held.items) c.requires.sets.1 whole
 
 pub loop-live-preserved : goal.loop-live-preserved
 loop-live-preserved c =
     let line : Line = c.loop-live.line.line in
     let whole = one_less c.loop-live.held.items c.pop.new.self.items (c.in-Some.live, c.in-Some.table) (states_of c.args.held.items) line c.loop-live.invariant.first c.loop-live.invariant.whole c.in-Some.ensures.items in
     record {
+      bound = ap (λ (l : Line). l.bound) c.in_ok-prepend.ensures.line ∙ c.loop-live.invariant.bound;
       first = ap (λ (l : Line). l.before) c.in_ok-prepend.ensures.line;
       closed = c.in_ok-prepend.ensures.closed;
       whole = ap (λ (l : Line). states_of c.pop.new.self.items ++ states l) c.in_ok-prepend.ensures.line ∙ whole;
     }
+
+pub prepend-requires-clause-few : goal.prepend-requires-clause-few
+prepend-requires-clause-few c =
+    let line : Line = c.loop-live.line.line in
+    let held = c.loop-live.held.items in
+    let all : length (states_of held ++ states line) ≡ length (states_of c.args.held.items) = ap length c.loop-live.invariant.whole in
+    omega (
+      arith,
+      c.requires.few,
+      all,
+      length-append (states_of held) (states line),
+      length-map held (λ (p : List Bool × Bundles). state p.0 p.1),
+      length-map c.args.held.items (λ (p : List Bool × Bundles). state p.0 p.1),
+      ap length c.in-Some.ensures.items,
+      length-append c.pop.new.self.items ((c.in-Some.live, c.in-Some.table) ∷ []),
+      c.loop-live.invariant.bound,
+    )

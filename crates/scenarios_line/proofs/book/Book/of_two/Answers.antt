@@ -16,6 +16,6 @@ one_bound first second same = (length first.0, each)
     each (suc zero) d low = same
     each (suc (suc k)) d low = absurd (omega arith)
 
-pub from_states-requires-clause-bound : goal.from_states-requires-clause-bound
-from_states-requires-clause-bound c =
-    subst HaveOneBound (sym c.in_ok-vec.ensures.items) (one_bound c.args.first c.args.second c.requires)
+pub from_states-requires-clause-sets : goal.from_states-requires-clause-sets
+from_states-requires-clause-sets c =
+    subst HaveOneBound (sym c.in_ok-vec.ensures.items) (one_bound c.args.first c.args.second c.requires.sets)

@@ -1,0 +1,83 @@
+//! The two stacks of a line: entries, the nearest last.
+
+ghost use Rattle.std.specs.Prelude.{◌≡◌, ◌-◌, ◌<◌, ◌≤◌, [], ◌∷◌, ◌++◌, length, slice_get, OnOk};
+ghost use Rattle.std.specs.VecDeque.{deque_len, deque_capacity};
+ghost use Rattle.std.specs.Option.{option_copied};
+ghost use Rattle.rc_line.specs.State.{Entry};
+ghost use Rattle.rc_line.specs.Keeping.{HasSpare, IsFit};
+
+use crate::entry::Entry;
+use rc_set::NoMem;
+use std::collections::VecDeque;
+
+/// The nearest entry, if there is one.
+pub(crate) fn nearest(stack: &VecDeque<Entry>) -> Option<&Entry>
+    ensures { option_copied result ≡ slice_get stack.now.items (length stack.now.items - 1) }
+{
+    stack.back()
+}
+
+/// Takes the nearest entry.
+pub(crate) fn take_last(stack: &mut VecDeque<Entry>) -> Entry
+    requires { 0 < deque_len stack.old }
+    ensures items { stack.old.items ≡ stack.new.items ++ result ∷ [] }
+    ensures capacity { deque_capacity stack.new ≡ deque_capacity stack.old }
+{
+    match stack.pop_back() {
+        Some(entry) => entry,
+        None => unreachable!(),
+    }
+}
+
+/// Lets the farthest entry go.
+pub(crate) fn drop_first(stack: &mut VecDeque<Entry>)
+    requires { 0 < deque_len stack.old }
+    ensures { (gone : Entry) × (stack.old.items ≡ gone ∷ stack.new.items) }
+{
+    match stack.pop_front() {
+        Some(entry) => entry.spend(),
+        None => unreachable!(),
+    }
+}
+
+/// Lets all entries go.
+pub(crate) fn spend_all(stack: &mut VecDeque<Entry>)
+    ensures items { stack.new.items ≡ [] }
+    ensures capacity { deque_capacity stack.new ≡ deque_capacity stack.old }
+{
+    while !stack.is_empty() {
+        take_last(stack).spend();
+    }
+}
+
+/// Lets one entry go where there is one too many: the farthest behind or, where that is the nearest
+/// too, the farthest ahead.
+pub(crate) fn fit(done: &mut VecDeque<Entry>, undone: &mut VecDeque<Entry>, bound: u32)
+    requires { 3 ≤ bound }
+    ensures { IsFit bound done.old.items undone.old.items done.new.items undone.new.items }
+{
+    let many = bound as usize;
+    if done.len() < many && undone.len() < many - done.len() {
+        return;
+    }
+    if done.len() >= 2 {
+        drop_first(done);
+    } else {
+        drop_first(undone);
+    }
+}
+
+/// Makes room for one more entry in both stacks.
+pub(crate) fn make_room(
+    done: &mut VecDeque<Entry>,
+    undone: &mut VecDeque<Entry>,
+) -> Result<(), NoMem>
+    ensures done { done.new.items ≡ done.old.items }
+    ensures undone { undone.new.items ≡ undone.old.items }
+    ensures done_room { OnOk result (HasSpare (deque_capacity done.new) (deque_len done.new)) }
+    ensures undone_room { OnOk result (HasSpare (deque_capacity undone.new) (deque_len undone.new)) }
+{
+    done.reserve(1)?;
+    undone.reserve(1)?;
+    Ok(())
+}
