@@ -1,6 +1,5 @@
 mod Sequences
 mod WordLines
-mod Numbers
 mod Cutting
 mod KindLines
 mod LineReads

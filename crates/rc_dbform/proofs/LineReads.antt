@@ -1,19 +1,13 @@
 -- What is read of a line, and what refuses it, from its words.
-use Rattle.std.proofs.Common.{◌≡◌, ◌∙◌, ℕ, List, [], ◌∷◌, ◌++◌, length, get_or, arith, refl, sym, ap, append_assoc}
+use Rattle.std.proofs.Common.{◌≡◌, ◌∙◌, ℕ, List, ◌++◌, length, refl, sym, ap, append_assoc}
 use Rattle.std.proofs.lemmas.List.{append-nil}
 use Rattle.rc_dbform.specs.declared.fault.FormFault.{FormFault}
 use Rattle.rc_dbform.specs.declared.fault.FormFault.TheVariants.{Bad, Version, TooMany, Memory}
 use Rattle.rc_dbform.specs.Text.{Line, words, worded, text_behind, spell}
-use Rattle.rc_dbform.specs.Reading.{IsRead, IsRefused, IsNumber, HasNumber, IsNoNumber, HasOtherVersion, HasTooMany, one}
-use Rattle.rc_dbform.specs.Words.{IsPlain, ArePlain, BeginsWith, IsNoLine}
+use Rattle.rc_dbform.specs.Reading.{IsRead, IsRefused, HasOtherVersion, HasTooMany, one}
+use Rattle.rc_dbform.specs.Words.{ArePlain, BeginsWith, IsNoLine}
 use Rattle.rc_dbform.proofs.Sequences.{HasNo, stuck_line}
-use Rattle.rc_dbform.proofs.WordLines.{no_such_line, no_line, words_once, each_cons}
-
--- a word and a number
-pub plain_numbered : (word number : List ℕ) → IsPlain word → IsNumber number → ArePlain (word ∷ number ∷ [])
-plain_numbered word number plain is =
-    let digits : IsPlain number = λ k d within. let digit = is.each k d within in (omega arith, omega arith) in
-    record { some = omega arith; each = each_cons word (number ∷ []) plain (each_cons number [] digits (λ k d within. absurd (omega arith))) }
+use Rattle.rc_dbform.proofs.WordLines.{no_such_line, no_line}
 
 -- a kind of line that is no line of a number: its words are words, and there is one
 pub record IsKind {A : Type 0} (Is : A → Type 0) (line : A → Line) : Type 0 where
@@ -47,20 +41,3 @@ module _ {A : Type 0} (Is : A → Type 0) (line : A → Line) (kind : IsKind Is 
   no_line_here bytes Version none = absurd none
   no_line_here bytes TooMany none = absurd none
   no_line_here bytes Memory none = tt
-
--- the one word behind this word
-behind_word : (word number : List ℕ) (ws : List (List ℕ)) → ws ≡ word ∷ number ∷ [] → get_or ws 1 [] ≡ number
-behind_word word number ws same = ap (λ (l : List (List ℕ)). get_or l 1 []) same
-
-module _ (word bytes : List ℕ) (plain : IsPlain word) where
-  -- a line of a word and a number has these words
-  pub number_words : (Such : List ℕ → Type 0) (ws : List (List ℕ)) (rest : List ℕ) → BeginsWith bytes ws rest → HasNumber word Such bytes → (number : List ℕ) × IsNumber number × Such number × (ws ≡ word ∷ number ∷ [])
-  number_words Such ws rest begins (number, after, is, such, same) =
-      (number, is, such, (words_once ws (word ∷ number ∷ []) rest after begins.0 (plain_numbered word number plain is) (sym begins.1 ∙ same)).0)
-
-  -- where no line stands, there is no number
-  pub no_number_here : (fault : FormFault) → IsNoLine bytes fault → IsNoNumber word bytes fault
-  no_number_here (Bad left) none = (none.0, λ has. none.1 (word ∷ has.0 ∷ []) has.1 has.4)
-  no_number_here Version none = absurd none
-  no_number_here TooMany none = absurd none
-  no_number_here Memory none = tt

@@ -11,10 +11,10 @@ use Rattle.rc_dbform.specs.Text.{Line, First, ServiceCount, BundleCount, words, 
 use Rattle.rc_dbform.specs.Reading.{IsRefused, IsNumber, HasNumber, IsNoNumber, IsNoCount, HasOtherVersion, HasTooMany, one}
 use Rattle.rc_dbform.specs.Words.{IsPlain}
 use Rattle.rc_dbform.proofs.Sequences.{stuck_line}
-use Rattle.rc_dbform.proofs.LineReads.{plain_numbered}
-use Rattle.rc_dbform.proofs.Numbers.{IsNumber-decimal, digits_value-decimal}
-use Rattle.rc_dbform.proofs.WordLines.{words_once}
-use Rattle.rc_dbform.proofs.KindLines.{plain_from}
+use Rattle.rc_textform.proofs.NumberLines.{plain_numbered}
+use Rattle.rc_textform.proofs.Numbers.{IsNumber-decimal, digits_value-decimal}
+use Rattle.rc_textform.proofs.WordLines.{words_once}
+use Rattle.rc_textform.proofs.Plain.{plain_from}
 
 -- lines of one word and a number have one number
 one_number : (word number other x y : List ℕ) → IsPlain word → IsNumber number → IsNumber other → worded (word ∷ number ∷ []) ++ x ≡ worded (word ∷ other ∷ []) ++ y → number ≡ other

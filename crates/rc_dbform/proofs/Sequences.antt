@@ -6,17 +6,15 @@ use Rattle.std.proofs.lemmas.List.Concat.{flat_map-append}
 use Rattle.std.proofs.lemmas.List.Elements.{All-head, All-tail}
 use Rattle.std.proofs.Math.Seq.{take-append-add}
 use Rattle.std.specs.List.{flat_map}
+use Rattle.rc_textform.proofs.WordLines.{append-cancel}
+use Rattle.rc_textform.proofs.Stuck as stuck_at
 use Rattle.rc_dbform.specs.declared.fault.FormFault.{FormFault}
 use Rattle.rc_dbform.specs.declared.fault.FormFault.TheVariants.{Bad, Version, TooMany, Memory}
 use Rattle.rc_dbform.specs.Text.{Line, spell, spells, counted, AreFew}
 use Rattle.rc_dbform.specs.Reading.{IsStuck, IsFaultWhere, AreSo}
 
-pub append-cancel : (text x y : List ℕ) → text ++ x ≡ text ++ y → x ≡ y
-append-cancel [] x y same = same
-append-cancel (c ∷ text) x y same = append-cancel text x y cc
-
-pub spells-append : (ls ms : List Line) → spells (ls ++ ms) ≡ spells ls ++ spells ms
-spells-append ls ms = flat_map-append spell ls ms
+spells-append : (ls ms : List Line) → spells (ls ++ ms) ≡ spells ls ++ spells ms
+spells-append ls ms = stuck_at.spells-append spell ls ms
 
 -- the front of two lists in a row
 take-two : (ls ms : List Line) (n : ℕ) → take n (ls ++ ms) ≡ take n ls ++ take (n - length ls) ms

@@ -1,4 +1,4 @@
-use Rattle.std.specs.Prelude.{ℕ, List, string_bytes}
+use Rattle.std.specs.Prelude.{string_bytes}
 use Rattle.std.specs.Option.{option_map}
 use Rattle.rc_dbform.specs.declared.forms.BodyForm.{BodyForm}
 use Rattle.rc_dbform.specs.declared.forms.BodyForm.TheVariants as forms

@@ -1,8 +1,10 @@
-use Rattle.std.specs.Prelude.{◌≡◌, ◌≢◌, ◌<◌, ◌≤◌, ◌+◌, ℕ, List, [], ◌∷◌, ◌++◌, length, take, All, codes, slice_index}
+use Rattle.std.specs.Prelude.{◌≡◌, ◌≢◌, ◌<◌, ℕ, List, [], ◌∷◌, length, All, codes}
 use Rattle.std.specs.Str.Parse.{digits_value}
 use Rattle.rc_dbform.specs.declared.fault.FormFault.{FormFault}
 use Rattle.rc_dbform.specs.declared.fault.FormFault.TheVariants.{Bad, Version, TooMany, Memory}
-use Rattle.rc_dbform.specs.Text.{Line, First, ServiceCount, BundleCount, worded, spells}
+pub use Rattle.rc_textform.specs.Words.{IsNumber, HasNumber}
+use Rattle.rc_textform.specs.Form as form
+use Rattle.rc_dbform.specs.Text.{Line, First, ServiceCount, BundleCount, spell}
 
 -- the lines of a value that is one line
 abbrev pub one : {A : Type 0} → (A → Line) → A → List Line
@@ -14,27 +16,13 @@ AreSo Is n values = (length values ≡ n) × All Is values
 
 -- the value is such, and its lines stand in front of the rest
 abbrev pub IsRead : {A : Type 0} → (A → Type 0) → (A → List Line) → List ℕ → A → List ℕ → Type 0
-IsRead Is lines bytes value rest = Is value × (bytes ≡ spells (lines value) ++ rest)
+IsRead Is lines bytes value rest = form.IsRead spell Is lines bytes value rest
 
--- the lines of some value stand at the front up to the one that is due, where the rest begins, and no value has one line more there
-pub record IsStuck {A : Type 0} (Is : A → Type 0) (lines : A → List Line) (bytes rest : List ℕ) (due : Line) : Type 0 where
-  pub value : A
-  pub before : List Line
-  pub after : List Line
-  pub is : Is value
-  pub parts : lines value ≡ before ++ due ∷ after
-  pub front : bytes ≡ spells before ++ rest
-  pub none : (other : A) (tail : List ℕ) → Is other → bytes ≡ spells (take (length before + 1) (lines other)) ++ tail → ⊥
-
--- decimal digits without a sign and without leading zeros, as many as one likes
-pub record IsNumber (digits : List ℕ) : Type 0 where
-  pub some : 0 < length digits
-  pub each : All (λ digit. (48 ≤ digit) × (digit ≤ 57)) digits
-  pub plain : 1 < length digits → slice_index digits 0 ≢ 48
-
--- here stands a line of a word and a number, such a number
-abbrev pub HasNumber : List ℕ → (List ℕ → Type 0) → List ℕ → Type 0
-HasNumber word Such rest = (number : List ℕ) × (after : List ℕ) × IsNumber number × Such number × (rest ≡ worded (word ∷ number ∷ []) ++ after)
+-- the lines of some value stand at the front up to the one that is due, where the rest begins, and
+-- no value has one line more there
+abbrev pub IsStuck : {A : Type 0} → (A → Type 0) → (A → List Line)
+    → List ℕ → List ℕ → Line → Type 0
+IsStuck Is lines bytes rest due = form.IsStuck spell Is lines bytes rest due
 
 -- there is no line of a word and a number here, unless memory ran out
 abbrev pub IsNoNumber : List ℕ → List ℕ → FormFault → Type 0

@@ -1,10 +1,12 @@
 use Rattle.std.specs.Prelude.{◌≡◌, ◌≤◌, ◌<◌, ◌^◌, ℕ, Bool, true, false, List, [], ◌∷◌, ◌++◌, length, All, Option, Some, None, IfSome, codes}
-use Rattle.std.specs.List.{flat_map, join_with_byte}
+use Rattle.std.specs.List.{flat_map}
 use Rattle.std.specs.Fmt.{decimal}
 use Rattle.rc_names.specs.declared.kind.Kind.{Kind}
 use Rattle.rc_names.specs.declared.kind.Kind.TheVariants as kinds
 use Rattle.rc_names.specs.Name.{IsName}
 use Rattle.rc_db.specs.Service.{IsScript}
+pub use Rattle.rc_textform.specs.Words.{BundleText, worded}
+use Rattle.rc_textform.specs.Form as form
 
 -- what the first line of a service says
 pub record Head : Type 0 where
@@ -24,11 +26,6 @@ pub record ServiceText : Type 0 where
   pub head : Head
   pub needs : List (List ℕ)
   pub body : Body
-
--- a bundle as the text gives it
-pub record BundleText : Type 0 where
-  pub name : List ℕ
-  pub members : List (List ℕ)
 
 -- a database as its text gives it
 pub record DbText : Type 0 where
@@ -80,10 +77,6 @@ words (BundleCount count) = codes "bundles" ∷ decimal count ∷ []
 words (OfBundle b) = codes "bundle" ∷ b.name ∷ b.members
 words Last = codes "end" ∷ []
 
--- words with one space between them, and a newline
-abbrev pub worded : List (List ℕ) → List ℕ
-worded words = join_with_byte 32 words ++ 10 ∷ []
-
 -- the text of a oneshot, with its newline
 abbrev pub text_behind : Line → List ℕ
 text_behind (OfUp text) = text ++ 10 ∷ []
@@ -96,7 +89,7 @@ spell line = worded (words line) ++ text_behind line
 
 -- the bytes of lines
 abbrev pub spells : List Line → List ℕ
-spells lines = flat_map spell lines
+spells lines = form.spells spell lines
 
 abbrev pub body_lines : Body → List Line
 body_lines (OfLongrun producer_for) = OfProducer producer_for ∷ []

@@ -1,20 +1,8 @@
-use Rattle.std.specs.Prelude.{◌≡◌, ◌≢◌, ◌<◌, ℕ, List, ◌++◌, length, map, All}
+use Rattle.std.specs.Prelude.{◌≡◌, ℕ, List, ◌++◌, length}
 use Rattle.rc_dbform.specs.declared.fault.FormFault.{FormFault}
 use Rattle.rc_dbform.specs.declared.fault.FormFault.TheVariants.{Bad, Version, TooMany, Memory}
-use Rattle.rc_dbform.specs.Text.{Line, words, worded, spell}
-
--- no space and no newline
-abbrev pub IsPlain : List ℕ → Type 0
-IsPlain word = All (λ byte. (byte ≢ 32) × (byte ≢ 10)) word
-
--- words of a line
-pub record ArePlain (words : List (List ℕ)) : Type 0 where
-  pub some : 0 < length words
-  pub each : All IsPlain words
-
--- the words of a line stand in front of the rest
-abbrev pub BeginsWith : List ℕ → List (List ℕ) → List ℕ → Type 0
-BeginsWith bytes words rest = ArePlain words × (bytes ≡ worded words ++ rest)
+pub use Rattle.rc_textform.specs.Words.{IsPlain, ArePlain, BeginsWith}
+use Rattle.rc_dbform.specs.Text.{Line, words, worded}
 
 -- there is no line here, unless memory ran out
 abbrev pub IsNoLine : List ℕ → FormFault → Type 0

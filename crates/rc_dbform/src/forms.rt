@@ -8,10 +8,11 @@ ghost use Rattle.rc_dbform.specs.FormText.{body_text};
 
 use crate::fault::FormFault;
 use crate::lines::{
-    BundleForm, Head, bundle_line, count_line, down_line, first_line, head_line, last_line,
-    needs_line, producer_line, up_line,
+    Head, bundle_line, count_line, down_line, first_line, head_line, last_line, needs_line,
+    producer_line, up_line,
 };
 use rc_names::{Kind, Name};
+use rc_textform::BundleForm;
 use std::alloc::Global;
 use std::marker::Model;
 

@@ -11,5 +11,6 @@ mod words;
 
 pub use crate::fault::FormFault;
 pub use crate::forms::{BodyForm, DbForm, ServiceForm, read_form};
-pub use crate::lines::{BundleForm, Head};
+pub use crate::lines::Head;
 pub use rc_db::NoMem;
+pub use rc_textform::BundleForm;

@@ -11,11 +11,10 @@ ghost use Rattle.rc_dbform.specs.Reading.{IsNumber, IsNoNumber, IsNoCount, IsRea
 ghost use Rattle.rc_dbform.specs.Words.{IsPlain, IsOfWords, IsOfNoWords};
 
 use crate::fault::FormFault;
-use crate::words::{
-    MAX_TEXT, is, is_number, name_of, names_of, number_of, text_of, value_of, words_of,
-};
+use crate::words::{MAX_TEXT, number_line, text_of, words_of};
 use rc_db::NoMem;
 use rc_names::{Kind, Name};
+use rc_textform::{BundleForm, argument, arguments, is, name_of, names_of, number_of, value_of};
 use std::alloc::Global;
 use std::marker::Model;
 
@@ -51,21 +50,6 @@ impl Head {
     }
 }
 
-/// A bundle as the text gives it.
-#[derive(Debug, Drop)]
-pub struct BundleForm {
-    pub name: Name,
-    pub members: Vec<Name>,
-}
-
-impl Model for BundleForm {
-    ghost use Rattle.rc_dbform.specs.Text.{BundleText};
-
-    ghost Value = { BundleText };
-
-    ghost view = { λ b. record { name = b.name; members = b.members.items } };
-}
-
 /// What follows the first line.
 pub(crate) fn first_line(alloc: Global, bytes: &[u8]) -> Result<&[u8], FormFault>
     ensures ok { IfOk result (λ rest. bytes.now ≡ spell First ++ rest.now) }
@@ -94,28 +78,6 @@ pub(crate) fn count_line<'a>(
     match value_of(number, MAX_COUNT) {
         Some(count) => Ok((count, rest)),
         None => Err(FormFault::TooMany),
-    }
-}
-
-// A number behind its word, and what follows that line.
-fn number_line<'a>(
-    alloc: Global,
-    bytes: &'a [u8],
-    word: &[u8],
-) -> Result<(&'a [u8], &'a [u8]), FormFault>
-    requires { IsPlain word.now }
-    ensures ok { IfOk result (λ read. IsNumber read.0.now
-        × (bytes.now ≡ worded (word.now ∷ read.0.now ∷ []) ++ read.1.now)) }
-    ensures fault { IfErr result (IsNoNumber word.now bytes.now) }
-{
-    let (words, rest) = words_of(alloc, bytes)?;
-    let Some(number) = argument(words.as_slice(), word) else {
-        return Err(FormFault::Bad(bytes.len()));
-    };
-    if is_number(number) {
-        Ok((number, rest))
-    } else {
-        Err(FormFault::Bad(bytes.len()))
     }
 }
 
@@ -374,26 +336,4 @@ fn flag_of(word: &[u8]) -> Option<bool>
     } else {
         None
     }
-}
-
-// The one word behind this word, where there is one.
-fn argument<'a>(words: &[&'a [u8]], word: &[u8]) -> Option<&'a [u8]>
-    ensures { MatchOption result
-        ((other : List ℕ) → map (λ word. word.now) words.entry.now ≡ word.now ∷ other ∷ [] → ⊥)
-        (λ other. map (λ word. word.now) words.entry.now ≡ word.now ∷ other.now ∷ []) }
-{
-    match arguments(words, word)? {
-        [argument] => Some(argument),
-        _ => None,
-    }
-}
-
-// The words behind this word.
-fn arguments<'a, 'b>(words: &'b [&'a [u8]], word: &[u8]) -> Option<&'b [&'a [u8]]>
-    ensures { MatchOption result
-        ((others : List (List ℕ)) → map (λ word. word.now) words.entry.now ≡ word.now ∷ others → ⊥)
-        (λ others. map (λ word. word.now) words.entry.now ≡ word.now ∷ map (λ word. word.now) others.now) }
-{
-    let (first, others) = words.split_first()?;
-    if is(first, word) { Some(others) } else { None }
 }

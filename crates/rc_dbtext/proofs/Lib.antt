@@ -1,15 +1,15 @@
-mod Orders
-mod Naming
+pub mod Orders
+pub mod Naming
 mod Drafting
 mod Joining
-mod Bundling
+pub mod Bundling
 mod Sorting
-mod Spelled
+pub mod Spelled
 mod Reading
 mod Zips
 mod Completing
 mod Lawful
-mod LineLemmas
-mod Unique
-mod Writing
+pub mod LineLemmas
+pub mod Unique
+pub mod Writing
 mod OneFault

@@ -3,7 +3,7 @@ use Rattle.std.proofs.Common.{◌≡◌, ℕ, ◌+◌, ◌<◌, ◌↔◌, Bool,
 use Rattle.std.proofs.lemmas.List.{get_or-map, length-map}
 use Rattle.std.specs.List.{IsAllAdjacentAnswer}
 use Rattle.rc_names.specs.Names.{IsInByteOrder}
-use Rattle.rc_dbtext.proofs.Orders.{before, sorted_answer}
+use Rattle.rc_textform.proofs.Orders.{before, sorted_answer}
 
 module _ {X : Type 0} (name : X → List ℕ) where
   -- what was found of values and the next is what was found of their names

@@ -18,10 +18,10 @@ use Rattle.rc_names.proofs.ByteOrder.{one_place}
 use Rattle.rc_dbtext.proofs.Bundling.{has_member, member_has}
 use Rattle.rc_dbtext.proofs.Spelled.{below, fed_low, has_low, named_texts}
 
-head_once : {X : Type 0} (x y : X) (xs ys : List X) → x ∷ xs ≡ y ∷ ys → x ≡ y
+pub head_once : {X : Type 0} (x y : X) (xs ys : List X) → x ∷ xs ≡ y ∷ ys → x ≡ y
 head_once x y xs ys same = cc
 
-tail_once : {X : Type 0} (x y : X) (xs ys : List X) → x ∷ xs ≡ y ∷ ys → xs ≡ ys
+pub tail_once : {X : Type 0} (x y : X) (xs ys : List X) → x ∷ xs ≡ y ∷ ys → xs ≡ ys
 tail_once x y xs ys same = cc
 
 -- two flags that are set alike
@@ -31,7 +31,7 @@ alike false true up down = absurd (false≢true (down refl))
 alike false false up down = refl
 
 -- sets of one bound with the same members are one
-flags_once : (a b : List Bool) → length a ≡ length b → members a ≡ members b → a ≡ b
+pub flags_once : (a b : List Bool) → length a ≡ length b → members a ≡ members b → a ≡ b
 flags_once a b long same = ext_get_or false a b long (λ k within. alike (get_or a k false) (get_or b k false)
     (λ has. has_member b k (subst (λ (ids : List ℕ). Contains ids k) same (member_has a k has)))
     (λ has. has_member a k (subst (λ (ids : List ℕ). Contains ids k) (sym same) (member_has b k has))))
@@ -51,7 +51,7 @@ module _ (names : List (List ℕ)) (order : IsInByteOrder names) where
   name_once : (s t : ℕ) → s < length names → t < length names → name_at names s ≡ name_at names t → s ≡ t
   name_once s t low_s low_t same = one_place names (name_at names s) s t order (slice_get-get_or names s [] low_s) (slice_get-get_or names t [] low_t ∙ ap (λ (n : List ℕ). Some n) (sym same))
 
-  ids_once : (xs ys : List ℕ) → All (λ t. t < length names) xs → All (λ t. t < length names) ys → map (name_at names) xs ≡ map (name_at names) ys → xs ≡ ys
+  pub ids_once : (xs ys : List ℕ) → All (λ t. t < length names) xs → All (λ t. t < length names) ys → map (name_at names) xs ≡ map (name_at names) ys → xs ≡ ys
   ids_once [] [] low_x low_y same = refl
   ids_once [] (y ∷ ys) low_x low_y same = absurd (omega (arith, ap length same))
   ids_once (x ∷ xs) [] low_x low_y same = absurd (omega (arith, ap length same))
@@ -116,12 +116,12 @@ module _ (names : List (List ℕ)) (order : IsInByteOrder names) where
       let rest = texts_once own ss ts rows others (omega arith) (omega arith) (omega arith) (omega arith) (All-tail (IsPlain (length names)) s ss is_s) (All-tail (IsPlain (length names)) t ts is_t) (All-tail Low r rows low_r) (All-tail Low o others low_o) tails in
       ((λ k. first k ∷ rest.0 k), (λ k. row k ∷ rest.1 k))
 
-  members_low : (set : List Bool) → length set ≡ length names → All (λ t. t < length names) (members set)
+  pub members_low : (set : List Bool) → length set ≡ length names → All (λ t. t < length names) (members set)
   members_low set long k d within =
       let low : get_or (members set) k d < length set = has_low set (get_or (members set) k d) (has_member set (get_or (members set) k d) (Contains-get_or (members set) k d within)) in
       omega arith
 
-  tables_once : (a b : Bundles) → AreBelow (length names) a → AreBelow (length names) b → map (bundle_text names) a ≡ map (bundle_text names) b → a ≡ b
+  pub tables_once : (a b : Bundles) → AreBelow (length names) a → AreBelow (length names) b → map (bundle_text names) a ≡ map (bundle_text names) b → a ≡ b
   tables_once [] [] below_a below_b same = refl
   tables_once [] (y ∷ b) below_a below_b same = absurd (omega (arith, ap length same))
   tables_once (x ∷ a) [] below_a below_b same = absurd (omega (arith, ap length same))

@@ -9,6 +9,7 @@ use Rattle.std.specs.Fmt.{decimal}
 use Rattle.std.specs.List.{flat_map}
 use Rattle.std.specs.Option.{option_map}
 use Rattle.rc_set.specs.Set.{Has, Lists}
+use Rattle.rc_names.specs.Names.{IsInByteOrder}
 use Rattle.rc_db.specs.Service.{Service}
 use Rattle.rc_db.specs.Database.{Database, IsDatabase}
 use Rattle.rc_dbform.specs.Text.{Line, OfService, OfNeeds, Last, ServiceText, BundleText, body_lines, bundle_lines, service_lines, spell, spells, worded}
@@ -46,6 +47,31 @@ module _ {A : Type 0} (lines : A → List Line) (count : Line) (xs : List A) whe
   -- all of them
   pub counted_all : (old now : List ℕ) (i : ℕ) → length xs < i + 1 → now ≡ old ++ spells (count ∷ flat_map lines (take i xs)) → now ≡ old ++ spells (count ∷ flat_map lines xs)
   counted_all old now i past so_far = so_far ∙ ap (λ (front : List A). old ++ spells (count ∷ flat_map lines front)) (take_all i xs (omega arith))
+
+module _ (names : List (List ℕ)) (order : IsInByteOrder names) where
+  -- the ids of a set have the names of its members
+  pub same_members : (set : List Bool) (ids : List ℕ) → length set ≡ length names → Lists (Has set) ids → map (name_at names) ids ≡ map (name_at names) (members set)
+  same_members set ids long are =
+      let low : All (λ t. t < length names) (members set) = λ k e within. (
+      let below : get_or (members set) k e < length set = has_low set (get_or (members set) k e) (has_member set (get_or (members set) k e) (Contains-get_or (members set) k e within)) in omega arith) in
+      let known : All (Contains names) (map (name_at names) (members set)) = All-map (Contains names) (name_at names) (members set) (λ k e within. Contains-get_or names (get_or (members set) k e) [] (low k e within)) in
+      named_back names (map (name_at names) (members set)) ids known (λ t. (
+        λ has.
+            let member : Contains (members set) t = member_has set t ((are.same t).0 has) in
+            let below : t < length set = has_low set t ((are.same t).0 has) in
+            (name_at names t, slice_get-get_or names t [] (omega arith), mapped_member (name_at names) (members set) t member),
+        λ (name, at, listed).
+            let found = member_mapped (name_at names) (members set) name listed in
+            let below : found.0 < length set = has_low set found.0 (has_member set found.0 found.1) in
+            let here : slice_get names found.0 ≡ Some name = slice_get-get_or names found.0 [] (omega arith) ∙ ap (λ (n : List ℕ). Some n) found.2 in
+            (are.same t).1 (subst (Has set) (one_place names name found.0 t order here at) (has_member set found.0 found.1)),
+      )) order (names_ascend names (members set) order (members_ascend set) low) are.ascending
+
+  -- the ids of a set are below the number of names
+  pub ids_low : (set : List Bool) (ids : List ℕ) → length set ≡ length names → Lists (Has set) ids → All (λ t. t < length names) ids
+  ids_low set ids long are k e within =
+      let low : get_or ids k e < length set = has_low set (get_or ids k e) ((are.same (get_or ids k e)).0 (Contains-get_or ids k e within)) in
+      omega arith
 
 module _ (d : Database) (is : IsDatabase d) where
   abbrev pub texts : List ServiceText
@@ -89,38 +115,15 @@ module _ (d : Database) (is : IsDatabase d) where
       → e ≡ b ++ spells (body_lines (body_of ns s.kind s)) → e ≡ old ++ spells (service_lines text) in
       subst P (sym same) (own_written id name s row text old a b e within here listed at)
 
-  -- the ids of a set have the names of its members
-  same_members : (set : List Bool) (ids : List ℕ) → length set ≡ length d.names → Lists (Has set) ids → map (name_at d.names) ids ≡ map (name_at d.names) (members set)
-  same_members set ids long are =
-      let low : All (λ t. t < length d.names) (members set) = λ k e within. (
-      let below : get_or (members set) k e < length set = has_low set (get_or (members set) k e) (has_member set (get_or (members set) k e) (Contains-get_or (members set) k e within)) in omega arith) in
-      let known : All (Contains d.names) (map (name_at d.names) (members set)) = All-map (Contains d.names) (name_at d.names) (members set) (λ k e within. Contains-get_or d.names (get_or (members set) k e) [] (low k e within)) in
-      named_back d.names (map (name_at d.names) (members set)) ids known (λ t. (
-        λ has.
-            let member : Contains (members set) t = member_has set t ((are.same t).0 has) in
-            let below : t < length set = has_low set t ((are.same t).0 has) in
-            (name_at d.names t, slice_get-get_or d.names t [] (omega arith), mapped_member (name_at d.names) (members set) t member),
-        λ (name, at, listed).
-            let found = member_mapped (name_at d.names) (members set) name listed in
-            let below : found.0 < length set = has_low set found.0 (has_member set found.0 found.1) in
-            let here : slice_get d.names found.0 ≡ Some name = slice_get-get_or d.names found.0 [] (omega arith) ∙ ap (λ (n : List ℕ). Some n) found.2 in
-            (are.same t).1 (subst (Has set) (one_place d.names name found.0 t is.names.order here at) (has_member set found.0 found.1)),
-      )) is.names.order (names_ascend d.names (members set) is.names.order (members_ascend set) low) are.ascending
-
-  long_at : (place : ℕ) (name : List ℕ) (set : List Bool) → slice_get d.table place ≡ Some (name, set) → length set ≡ length d.names
+  pub long_at : (place : ℕ) (name : List ℕ) (set : List Bool) → slice_get d.table place ≡ Some (name, set) → length set ≡ length d.names
   long_at place name set at =
       subst (λ (b : List ℕ × List Bool). length b.1 ≡ length d.names) (get_or_from_slice_get d.table place (name, set) (name, set) at) (is.fit.bounds place (name, set) (slice_get_within d.table place (name, set) at))
 
-  pub ids_within : (place : ℕ) (name : List ℕ) (set : List Bool) (ids : List ℕ) (names : List (List ℕ)) → slice_get d.table place ≡ Some (name, set) → Lists (Has set) ids → names ≡ d.names → All (λ t. t < length names) ids
-  ids_within place name set ids names at are same k e within =
-      let low : get_or ids k e < length set = has_low set (get_or ids k e) ((are.same (get_or ids k e)).0 (Contains-get_or ids k e within)) in
-      omega (arith, long_at place name set at, ap length same)
-
   -- a bundle is written where its line is
-  pub bundle_written : (names : List (List ℕ)) (place : ℕ) (name : List ℕ) (set : List Bool) (ids : List ℕ) (text : BundleText) (old new : List ℕ) → names ≡ d.names → slice_get d.table place ≡ Some (name, set) → Lists (Has set) ids
-      → slice_get (map (bundle_text d.names) d.table) place ≡ Some text → new ≡ old ++ worded (codes "bundle" ∷ name ∷ map (name_at names) ids) → new ≡ old ++ spells (bundle_lines text)
-  bundle_written names place name set ids text old new same at are text_at line =
-      let listed : map (name_at names) ids ≡ map (name_at d.names) (members set) = ap (λ (ns : List (List ℕ)). map (name_at ns) ids) same ∙ same_members set ids (long_at place name set at) are in
+  pub bundle_written : (names : List (List ℕ)) (place : ℕ) (name : List ℕ) (set : List Bool) (text : BundleText) (old new : List ℕ) → names ≡ d.names → slice_get d.table place ≡ Some (name, set)
+      → slice_get (map (bundle_text d.names) d.table) place ≡ Some text → new ≡ old ++ worded (codes "bundle" ∷ name ∷ map (name_at names) (members set)) → new ≡ old ++ spells (bundle_lines text)
+  bundle_written names place name set text old new same at text_at line =
+      let listed : map (name_at names) (members set) ≡ map (name_at d.names) (members set) = ap (λ (ns : List (List ℕ)). map (name_at ns) (members set)) same in
       let is_text : bundle_text d.names (name, set) ≡ text = same_Some (bundle_text d.names (name, set)) text (ap (option_map (bundle_text d.names)) (sym at) ∙ sym (slice_get-map (bundle_text d.names) d.table place) ∙ text_at) in
       let words : List ℕ = worded (codes "bundle" ∷ name ∷ map (name_at d.names) (members set)) in
       line ∙ ap (λ (ns : List (List ℕ)). old ++ worded (codes "bundle" ∷ name ∷ ns)) listed

@@ -14,7 +14,7 @@ use rc_set::Set;
 use std::alloc::Global;
 
 /// The table of the bundles, whose names and members ascend.
-pub(crate) fn table_of(alloc: Global, forms: &[BundleForm], names: &Names) -> Result<Table, NoMem>
+pub fn table_of(alloc: Global, forms: &[BundleForm], names: &Names) -> Result<Table, NoMem>
     requires few { length forms.now ≤ 4096 }
     requires sorted { IsInByteOrder (bundle_names forms.now) }
     requires each { All (λ b. IsInByteOrder b.members) forms.now }
@@ -52,8 +52,8 @@ fn add_bundle(
     Ok(())
 }
 
-// The set of members, which are all names.
-fn set_of(alloc: Global, texts: &[Name], names: &Names) -> Result<Set, NoMem>
+/// The set of services with these names, which are all names and ascend.
+pub fn set_of(alloc: Global, texts: &[Name], names: &Names) -> Result<Set, NoMem>
     requires sorted { IsInByteOrder texts.now }
     requires known { All (Contains names.now) texts.now }
     ensures bound { IfOk result (λ set. length set ≡ length names.now) }

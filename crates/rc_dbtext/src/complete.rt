@@ -24,8 +24,8 @@ fn services_are_complete(services: &[ServiceForm], names: &Names) -> bool
     all_needs_known(services, names) && all_feed_well(services, names)
 }
 
-// Whether what bundles have is there, and none has the name of a service.
-fn bundles_are_complete(bundles: &[BundleForm], names: &Names) -> bool
+/// Whether what bundles have is there, and none has the name of a service.
+pub fn bundles_are_complete(bundles: &[BundleForm], names: &Names) -> bool
     ensures { IsTrue result ↔ AreBundlesComplete names.now bundles.now }
 {
     all_members_known(bundles, names) && all_apart(bundles, names)
@@ -100,9 +100,9 @@ fn is_of_longrun(service: &ServiceForm) -> bool
     service.head.kind() == Kind::Longrun
 }
 
-// Whether all are among the names.
+/// Whether all are among the names.
 #[tactic(auto, unfolding(crate::specs::Parts::AreKnown))]
-fn are_known(texts: &[Name], names: &Names) -> bool
+pub fn are_known(texts: &[Name], names: &Names) -> bool
     ensures { IsTrue result ↔ AreKnown names.now texts.now }
 {
     texts.iter().all(|text| is_known(text, names))

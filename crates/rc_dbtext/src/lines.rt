@@ -5,10 +5,11 @@ ghost use Rattle.std.specs.Option.{option_map};
 ghost use Rattle.rc_dbform.specs.Text.{OfDown, OfNeeds, OfProducer, OfService, OfUp, body_lines, spell, spells, worded};
 ghost use Rattle.rc_dbform.specs.Text as text;
 ghost use Rattle.rc_dbtext.specs.Lines.{spaced};
-ghost use Rattle.rc_dbtext.specs.Spelling.{body_of, head_of, name_at};
+ghost use Rattle.rc_dbtext.specs.Spelling.{body_of, head_of, members, name_at};
 
 use rc_db::{NoMem, Service};
 use rc_names::{Kind, Name, Names};
+use rc_set::Set;
 use std::alloc::Global;
 
 /// The first line of a service.
@@ -60,22 +61,36 @@ pub(crate) fn push_needs(out: &mut Vec<u8>, names: &Names, needs: &[u16]) -> Res
     Ok(())
 }
 
-/// A bundle.
+/// A bundle: its name, and those of its services.
 #[tactic(auto, using(crate::proofs::LineLemmas::bundle_line))]
-pub(crate) fn push_bundle(
+pub fn push_bundle(
+    alloc: Global,
     out: &mut Vec<u8>,
     names: &Names,
     name: &Name,
-    members: &[u16],
+    set: &Set,
 ) -> Result<(), NoMem>
-    requires { All (λ id. id < length names.now) members.now }
+    requires { length set.now ≡ length names.now }
     ensures { OnOk result (out.new.items ≡ out.old.items
-        ++ worded (codes "bundle" ∷ name.now ∷ map (name_at names.now) members.now)) }
+        ++ worded (codes "bundle" ∷ name.now ∷ map (name_at names.now) (members set.now))) }
 {
     out.extend_from_slice(b"bundle")?;
     push_word(out, name.text().as_bytes())?;
-    push_ids(out, names, members)?;
+    push_set(alloc, out, names, set)?;
     out.extend_from_slice(b"\n")?;
+    Ok(())
+}
+
+/// The names of the services of a set, a space before each.
+pub fn push_set(alloc: Global, out: &mut Vec<u8>, names: &Names, set: &Set) -> Result<(), NoMem>
+    requires { length set.now ≡ length names.now }
+    ensures { OnOk result (out.new.items ≡ out.old.items
+        ++ spaced (map (name_at names.now) (members set.now))) }
+{
+    // The names ascend.
+    let _count = names.len();
+    let ids = set.ids(alloc)?;
+    push_ids(out, names, ids.as_slice())?;
     Ok(())
 }
 
@@ -177,7 +192,7 @@ pub(crate) fn push_count(
 
 /// A line of two words.
 #[tactic(auto, using(crate::proofs::LineLemmas::two_words))]
-pub(crate) fn push_line(out: &mut Vec<u8>, first: &[u8], second: &[u8]) -> Result<(), NoMem>
+pub fn push_line(out: &mut Vec<u8>, first: &[u8], second: &[u8]) -> Result<(), NoMem>
     ensures { OnOk result (out.new.items ≡ out.old.items
         ++ worded (first.now ∷ second.now ∷ [])) }
 {
@@ -198,8 +213,8 @@ fn push_ids(out: &mut Vec<u8>, names: &Names, ids: &[u16]) -> Result<(), NoMem>
     Ok(())
 }
 
-// A space and a word.
-fn push_word(out: &mut Vec<u8>, word: &[u8]) -> Result<(), NoMem>
+/// A space and a word.
+pub fn push_word(out: &mut Vec<u8>, word: &[u8]) -> Result<(), NoMem>
     ensures { OnOk result (out.new.items ≡ out.old.items ++ 32 ∷ word.now) }
 {
     out.extend_from_slice(b" ")?;

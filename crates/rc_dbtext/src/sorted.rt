@@ -1,11 +1,10 @@
 //! Whether the names of a text ascend.
 ghost use Rattle.std.specs.Prelude.{◌↔◌, All, IsTrue};
-ghost use Rattle.rc_names.specs.Names.{IsBefore, IsInByteOrder};
+ghost use Rattle.rc_names.specs.Names.{IsInByteOrder};
 ghost use Rattle.rc_dbtext.specs.Meaning.{IsSorted, bundle_names, service_names};
 
 use rc_dbform::{BundleForm, DbForm, ServiceForm};
-use rc_names::Name;
-use std::cmp::Ordering;
+use rc_textform::{ascend, is_before};
 
 /// Whether all lists of names ascend.
 pub(crate) fn is_sorted(form: &DbForm) -> bool
@@ -60,18 +59,4 @@ fn members_ascend(bundles: &[BundleForm]) -> bool
     bundles
         .iter()
         .all(|bundle| ascend(bundle.members.as_slice()))
-}
-
-// Whether names ascend.
-fn ascend(names: &[Name]) -> bool
-    ensures { IsTrue result ↔ IsInByteOrder names.now }
-{
-    names.is_sorted_by(is_before)
-}
-
-// Whether a name comes before another.
-fn is_before(first: &Name, second: &Name) -> bool
-    ensures { IsTrue result ↔ IsBefore first.now second.now }
-{
-    first.text().cmp(second.text()) == Ordering::Less
 }

@@ -69,7 +69,6 @@ fn push_bundle_at(alloc: Global, out: &mut Vec<u8>, db: &Db, place: u16) -> Resu
     let names = db.names();
     let table = db.table();
     let (name, set) = table.at(place);
-    let ids = set.ids(alloc)?;
-    push_bundle(out, names, name, ids.as_slice())?;
+    push_bundle(alloc, out, names, name, set)?;
     Ok(())
 }

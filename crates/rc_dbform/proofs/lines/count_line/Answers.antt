@@ -1,7 +1,7 @@
 use Rattle.std.proofs.Common.{◌≡◌, ◌∙◌, ◌∷◌, ◌++◌, [], List, ℕ, arith, ap, sym}
 use Rattle.std.specs.Fmt.{decimal}
 use Rattle.rc_dbform.specs.Text.{worded}
-use Rattle.rc_dbform.proofs.Numbers.{decimal-number}
+use Rattle.rc_textform.proofs.Numbers.{decimal-number}
 use Rattle.rc_dbform.proofs.lines.count_line.Goals as goal
 
 pub returns-in-Some-clause-ok : goal.returns-in-Some-clause-ok

@@ -1,0 +1,11 @@
+pub mod LineWords
+pub mod ManyLines
+pub mod Structure
+pub mod Reading
+pub mod Follows
+pub mod Parts
+pub mod Adding
+pub mod Missing
+pub mod Heading
+pub mod StateLines
+pub mod Whole

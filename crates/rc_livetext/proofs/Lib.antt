@@ -1,0 +1,10 @@
+mod Texts
+mod OneFault
+mod Naming
+mod Lawful
+mod LineLemmas
+mod Writing
+mod Pairs
+mod Joined
+mod Knowing
+mod Reading

@@ -1,0 +1,36 @@
+use Rattle.std.proofs.Common.{◌∙◌, ◌+◌, ◌==◌, ◌++◌, ℕ, List, take, ap, sym, arith}
+use Rattle.rc_line.specs.State.{State}
+use Rattle.rc_line.specs.Line.{states, cursor}
+use Rattle.rc_textform.specs.Form.{spells}
+use Rattle.rc_liveform.specs.Text.{spell, state_lines}
+use Rattle.rc_livetext.specs.Spelling.{state_text}
+use Rattle.rc_livetext.specs.Written.{state_bytes}
+use Rattle.rc_livetext.proofs.Writing.{grown, states_first, states_next, states_all}
+use Rattle.rc_livetext.proofs.write.push_states.Goals as goal
+
+pub loop-place-init : goal.loop-place-init
+loop-place-init c =
+    let line = c.args.line.now.line in
+    let s : State = record { live = c.in_ok-live.live; table = c.in_ok-live.table } in
+    record {
+      here = c.in_ok-live.ensures;
+      said = c.in_ok-push_state.ensures
+          ∙ ap (λ (t : List ℕ). c.args.out.now.items ++ t) (ap (λ (k : ℕ). spells spell (state_lines (k == 0) (state_text c.args.names.now s))) c.cursor-cursor.ensures ∙ sym (states_first c.args.names.now (cursor line) (states line) s c.in_ok-live.ensures));
+    }
+
+pub loop-place-preserved : goal.loop-place-preserved
+loop-place-preserved c =
+    let line = c.args.line.now.line in
+    let s : State = record { live = c.step_on.new.live; table = c.step_on.new.table } in
+    record {
+      here = c.in_ok-step_on.ensures;
+      said = grown c.push_state-in-loop-place.new.out.items c.loop-place.out.items c.args.out.now.items (state_bytes c.args.names.now (cursor line) 0 (take (c.loop-place.place + 1) (states line))) _ _
+          c.in_ok-push_state-2.ensures c.loop-place.invariant.said
+          (states_next c.args.names.now (cursor line) (states line) (c.loop-place.place + 1) s c.in_ok-step_on.ensures
+          ∙ ap (λ (k : ℕ). state_bytes c.args.names.now (cursor line) 0 (take (c.loop-place.place + 1) (states line)) ++ spells spell (state_lines (k == (c.loop-place.place + 1)) (state_text c.args.names.now s))) (sym c.cursor-cursor.ensures));
+    }
+
+pub returns : goal.returns
+returns c =
+    let line = c.args.line.now.line in
+    c.loop-place.invariant.said ∙ ap (λ (t : List ℕ). c.args.out.now.items ++ t) (states_all c.args.names.now (cursor line) (states line) (c.loop-place.place + 1) (omega (arith, c.states-last.ensures.count)))

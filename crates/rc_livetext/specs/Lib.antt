@@ -1,0 +1,5 @@
+pub mod Spelling
+pub mod Meaning
+pub mod LiveFaults
+pub mod Parts
+pub mod Written

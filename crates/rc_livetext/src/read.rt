@@ -1,0 +1,112 @@
+//! From bytes to a line of states.
+ghost use Rattle.std.specs.Prelude.{◌≡◌, false, [], length, All, IfOk, IfErr};
+ghost use Rattle.rc_db.specs.Database.{Database};
+ghost use Rattle.rc_line.specs.Line.{states};
+ghost use Rattle.rc_session.specs.Doing.{IsLineOf};
+ghost use Rattle.rc_liveform.specs.Text.{IsLiveText};
+ghost use Rattle.rc_liveform.specs.Refusals.{BeginsWith, IsRefused};
+ghost use Rattle.rc_livetext.specs.Meaning.{PassesNames, all_states};
+ghost use Rattle.rc_livetext.specs.Parts.{IsTextOf};
+ghost use Rattle.rc_livetext.specs.Spelling.{Spells};
+ghost use Rattle.rc_livetext.specs.LiveFaults.{IsLiveFault, IsMeaningFault};
+
+use crate::fault::LiveFault;
+use crate::known::{are_services, states_are_known};
+use crate::making::bound_of_line;
+use crate::states::states_in;
+use rc_db::Db;
+use rc_line::Line;
+use rc_liveform::{FormFault, LiveForm, read_form};
+use std::alloc::Global;
+
+/// The line whose text the bytes are, and how many states it has.
+pub fn read_live(alloc: Global, bytes: &[u8], db: &Db) -> Result<(Line, usize), LiveFault>
+    ensures text { IfOk result (λ read. Spells db.now bytes.now read.0.line) }
+    ensures line { IfOk result (λ read.
+        IsLineOf db.now read.0.line × (read.0.is_open ≡ false)) }
+    ensures count { IfOk result (λ read. read.1 ≡ length (states read.0.line)) }
+    ensures fault { IfErr result (IsLiveFault db.now bytes.now) }
+{
+    let form = match whole_form(alloc, bytes) {
+        Ok(form) => form,
+        Err(fault) => return Err(fault),
+    };
+    match line_of(alloc, &form, db) {
+        Ok(line) => {
+            let count = line.states();
+            Ok((line, count))
+        }
+        Err(fault) => Err(fault),
+    }
+}
+
+// What a text says that is all of the bytes.
+fn whole_form(alloc: Global, bytes: &[u8]) -> Result<LiveForm, LiveFault>
+    ensures ok { IfOk result (λ form. BeginsWith bytes.now form []) }
+    ensures fault { IfErr result (λ fault. (d : Database) → IsLiveFault d bytes.now fault) }
+{
+    let (form, rest) = match read_form(alloc, bytes) {
+        Ok(read) => read,
+        Err(fault) => return Err(told(fault, bytes)),
+    };
+    if rest.is_empty() {
+        Ok(form)
+    } else {
+        Err(LiveFault::Bad(bytes.len() - rest.len()))
+    }
+}
+
+// A fault of the form, told by where the line begins.
+fn told(fault: FormFault, bytes: &[u8]) -> LiveFault
+    requires { IsRefused bytes.now fault }
+    ensures { (d : Database) → IsLiveFault d bytes.now result }
+{
+    match fault {
+        FormFault::Bad(left) => LiveFault::Bad(bytes.len() - left),
+        FormFault::Version => LiveFault::Version,
+        FormFault::Memory => LiveFault::Memory,
+    }
+}
+
+// The line of what a text says.
+fn line_of(alloc: Global, form: &LiveForm, db: &Db) -> Result<Line, LiveFault>
+    requires { IsLiveText form.now }
+    ensures text { IfOk result (λ line. IsTextOf db.now form.now line.line form.now.bound) }
+    ensures line { IfOk result (λ line. IsLineOf db.now line.line × (line.is_open ≡ false)) }
+    ensures fault { IfErr result (IsMeaningFault db.now form.now) }
+{
+    let names = db.names();
+    if !are_services(form.services.as_slice(), names) {
+        return Err(LiveFault::OtherDb);
+    }
+    if !states_are_known(form, names) {
+        return Err(LiveFault::Unknown);
+    }
+    joined(alloc, form, db)
+}
+
+// The line of a text whose names are those of the database.
+fn joined(alloc: Global, form: &LiveForm, db: &Db) -> Result<Line, LiveFault>
+    requires text { IsLiveText form.now }
+    requires names { PassesNames db.now form.now }
+    ensures text { IfOk result (λ line. IsTextOf db.now form.now line.line form.now.bound) }
+    ensures line { IfOk result (λ line. IsLineOf db.now line.line × (line.is_open ≡ false)) }
+    ensures fault { IfErr result (IsMeaningFault db.now form.now) }
+{
+    let Ok(held) = states_in(alloc, form, db.names()) else {
+        return Err(LiveFault::Memory);
+    };
+    let bound = match bound_of_line(held.as_slice(), form.bound, db.graph()) {
+        Ok(bound) => bound,
+        Err(fault) => {
+            drop(held);
+            return Err(fault);
+        }
+    };
+    let Ok(line) = Line::from_states(alloc, held, form.before.len(), bound) else {
+        return Err(LiveFault::Memory);
+    };
+    // A line tells by the number of its states that it is one.
+    let _count = line.states();
+    Ok(line)
+}

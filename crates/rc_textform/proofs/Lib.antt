@@ -1,0 +1,6 @@
+pub mod WordLines
+pub mod Numbers
+pub mod Plain
+pub mod NumberLines
+pub mod Orders
+pub mod Stuck

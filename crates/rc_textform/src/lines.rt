@@ -1,0 +1,71 @@
+//! What lines have in common: a word with what follows it, and bundles.
+ghost use Rattle.std.specs.Prelude.{◌≡◌, ℕ, List, [], ◌∷◌, ◌++◌, map, IfOk, MatchOption};
+ghost use Rattle.rc_textform.specs.Words.{IsNumber, IsPlain, HasNumber, worded};
+
+use crate::words::{is, is_number, words_of};
+use rc_names::Name;
+use std::alloc::{AllocError, Global};
+use std::marker::Model;
+
+/// A bundle as a text gives it.
+#[derive(Debug, Drop)]
+pub struct BundleForm {
+    pub name: Name,
+    pub members: Vec<Name>,
+}
+
+impl Model for BundleForm {
+    ghost use Rattle.rc_textform.specs.Words.{BundleText};
+
+    ghost Value = { BundleText };
+
+    ghost view = { λ b. record { name = b.name; members = b.members.items } };
+}
+
+/// The number behind this word in a line of the two at the front, and what follows that line.
+pub fn number_line<'a>(
+    alloc: Global,
+    bytes: &'a [u8],
+    word: &[u8],
+) -> Result<Option<(&'a [u8], &'a [u8])>, AllocError>
+    requires { IsPlain word.now }
+    ensures { IfOk result (λ read. MatchOption read
+        (HasNumber word.now (λ _. Unit {0}) bytes.now → ⊥)
+        (λ read. IsNumber read.0.now
+        × (bytes.now ≡ worded (word.now ∷ read.0.now ∷ []) ++ read.1.now))) }
+{
+    let Some((words, rest)) = words_of(alloc, bytes)? else {
+        return Ok(None);
+    };
+    let Some(number) = argument(words.as_slice(), word) else {
+        return Ok(None);
+    };
+    if is_number(number) {
+        Ok(Some((number, rest)))
+    } else {
+        Ok(None)
+    }
+}
+
+/// The one word behind this word, where there is one.
+pub fn argument<'a>(words: &[&'a [u8]], word: &[u8]) -> Option<&'a [u8]>
+    ensures { MatchOption result
+        ((other : List ℕ) → map (λ word. word.now) words.entry.now ≡ word.now ∷ other ∷ [] → ⊥)
+        (λ other. map (λ word. word.now) words.entry.now ≡ word.now ∷ other.now ∷ []) }
+{
+    match arguments(words, word)? {
+        [argument] => Some(argument),
+        _ => None,
+    }
+}
+
+/// The words behind this word.
+pub fn arguments<'a, 'b>(words: &'b [&'a [u8]], word: &[u8]) -> Option<&'b [&'a [u8]]>
+    ensures { MatchOption result
+        ((others : List (List ℕ)) → map (λ word. word.now) words.entry.now ≡ word.now ∷ others → ⊥)
+        (λ others. map (λ word. word.now) words.entry.now
+        ≡ word.now ∷ map (λ word. word.now) others.now) }
+{
+    let (first, others) = words.split_first()?;
+    if is(first, word) { Some(others) } else { None }
+}
