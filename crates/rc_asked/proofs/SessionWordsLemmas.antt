@@ -6,19 +6,25 @@ use Rattle.clap.specs.declared.ArgMatches.{ArgMatches}
 use Rattle.clap.proofs.WalkLemmas.{first_value-rows}
 use Rattle.rc_asked.specs.Listed.{Listed, SpellsList}
 use Rattle.rc_asked.specs.Programs.{ByPrograms, ByTable, MakesBy, MakesIn, MakingAsk}
-use Rattle.rc_asked.specs.SessionAsked.{AsksNoSession, IsCrewIn}
+use Rattle.rc_asked.specs.SessionAsked.{AsksNoSession}
 use Rattle.rc_command.specs.Words.{rows_for}
 
 -- words without matches of `session` ask for none
 pub asked_none : (words : List Text) → rows_for (codes "session") words ≡ None → AsksNoSession words
 asked_none words none ask asks = let both : Some asks.0 ≡ None = sym asks.1 ∙ none in cc
 
--- the number of the matches, by the text that is found in them
-pub crew_found : (m : ArgMatches) (given : Option Text) (workers : ℕ) → given ≡ first_value (found_of m) (codes "workers") → IsCrewIn given workers → IsCrewIn (first_of (codes "workers") (rows_of (found_of m))) workers
-crew_found m given workers is = subst (λ (o : Option Text). IsCrewIn o workers) (is ∙ first_value-rows (found_of m) (codes "workers"))
+-- what is said of a text that is found in the matches is said of it in their rows, and the other way round
+pub found_as : (Says : Option Text → Type 0) (m : ArgMatches) (id : Text) (given : Option Text)
+    → given ≡ first_value (found_of m) id → Says given → Says (first_of id (rows_of (found_of m)))
+found_as Says m id given is = subst Says (is ∙ first_value-rows (found_of m) id)
 
-pub crew_back : (m : ArgMatches) (given : Option Text) (workers : ℕ) → given ≡ first_value (found_of m) (codes "workers") → IsCrewIn (first_of (codes "workers") (rows_of (found_of m))) workers → IsCrewIn given workers
-crew_back m given workers is = subst (λ (o : Option Text). IsCrewIn o workers) (sym (is ∙ first_value-rows (found_of m) (codes "workers")))
+pub found_back : (Says : Option Text → Type 0) (m : ArgMatches) (id : Text) (given : Option Text)
+    → given ≡ first_value (found_of m) id → Says (first_of id (rows_of (found_of m))) → Says given
+found_back Says m id given is = subst Says (sym (is ∙ first_value-rows (found_of m) id))
+
+-- the file that is named, by the text that is found in the matches
+pub live_found : (m : ArgMatches) (file : Option Text) → file ≡ first_value (found_of m) (codes "live") → file ≡ first_of (codes "live") (rows_of (found_of m))
+live_found m file is = is ∙ first_value-rows (found_of m) (codes "live")
 
 -- how the transitions are made, by the texts that are found in the matches
 pub made_right : (m : ArgMatches) (list runner controller : Option Text) (making : MakingAsk) → list ≡ first_value (found_of m) (codes "failing") → runner ≡ first_value (found_of m) (codes "runner")

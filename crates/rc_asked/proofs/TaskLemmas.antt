@@ -14,8 +14,8 @@ use Rattle.rc_command.proofs.WordsLemmas.{rows_right, rows_wrong}
 use Rattle.rc_asked.specs.Asked.{ask_in, plan_asked}
 use Rattle.rc_asked.specs.DbAsked.{AsksIn, AsksNothing}
 use Rattle.rc_asked.specs.Query.{DbAsk}
-use Rattle.rc_asked.specs.SessionAsked.{AsksNoSession, AsksSessionIn, IsCrewIn, SessionAsk}
-use Rattle.rc_asked.specs.Task.{AsksEntered, AsksNamed, AsksNoTask, AsksTask, AsksTaskIn, HasWorkers, OfCompile, OfDb, OfPlan, OfReplay, OfSession, TaskAsk, command_of, file_in, task_ask_of}
+use Rattle.rc_asked.specs.SessionAsked.{AsksNoSession, AsksSessionIn, IsBoundIn, IsCrewIn, SessionAsk}
+use Rattle.rc_asked.specs.Task.{AsksEntered, AsksNamed, AsksNoTask, AsksTask, AsksTaskIn, HasBound, HasWorkers, OfCompile, OfDb, OfPlan, OfReplay, OfSession, TaskAsk, command_of, file_in, task_ask_of}
 use Rattle.rc_asked.specs.declared.task.Task.{Task}
 use Rattle.rc_asked.specs.declared.task.Task.TheVariants as task
 
@@ -73,7 +73,19 @@ asked_workers entered (task.Compile sources) asks = tt
 asked_workers entered (task.Db request file) asks = tt
 asked_workers entered (task.Plan request file) asks = tt
 asked_workers entered (task.Replay file) asks = tt
-asked_workers entered (task.Session request file) asks = workers_in (first_of (codes "workers") asks.0) request.workers asks.2.0.0
+asked_workers entered (task.Session request file) asks = workers_in (first_of (codes "workers") asks.0) request.workers asks.2.0.workers
+
+-- and a bound
+bound_in : (given : Option Text) (bound : ℕ) → IsBoundIn given bound → 3 ≤ bound
+bound_in None bound is = omega arith
+bound_in (Some text) bound is = is.2
+
+pub asked_bound : (entered : Option (Text × List Row)) (t : Task) → AsksEntered entered (task_ask_of t) → HasBound t
+asked_bound entered (task.Compile sources) asks = tt
+asked_bound entered (task.Db request file) asks = tt
+asked_bound entered (task.Plan request file) asks = tt
+asked_bound entered (task.Replay file) asks = tt
+asked_bound entered (task.Session request file) asks = bound_in (first_of (codes "bound") asks.0) request.bound asks.2.0.bound
 
 -- a wrong line asks nothing
 pub wrong_asks : (words : List Text) → has_fault (fault_of program words) ≡ true → AsksNoTask words

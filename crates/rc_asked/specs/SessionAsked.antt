@@ -1,5 +1,5 @@
 -- What the words ask of `session`.
-use Rattle.std.specs.Prelude.{◌≡◌, ◌≤◌, ℕ, Bool, List, Option, None, Some, codes}
+use Rattle.std.specs.Prelude.{◌≡◌, ◌≤◌, ◌<◌, ◌^◌, ℕ, Bool, List, Option, None, Some, codes, option_map}
 use Rattle.std.specs.Str.Parse.{IsNumeral, digits_value, without_leading_plus}
 use Rattle.clap.specs.Words.{Row, Text, first_of}
 use Rattle.rc_asked.specs.Making.{making_ask_of}
@@ -7,11 +7,13 @@ use Rattle.rc_asked.specs.Programs.{MakesIn, MakingAsk}
 use Rattle.rc_command.specs.Words.{is_on, rows_for}
 use Rattle.rc_asked.specs.declared.session_words.SessionRequest.{SessionRequest}
 
--- what is asked of a session: how many workers it has, how transitions are made, and whether each outcome other than success is told
+-- what is asked of a session: how many workers it has, how transitions are made, whether each outcome other than success is told, how many states a new one has at most, and the file that it goes on with and is kept in, if one is named
 pub record SessionAsk : Type 0 where
   pub workers : ℕ
   pub making : MakingAsk
   pub tells : Bool
+  pub bound : ℕ
+  pub live : Option Text
 
 -- the text of a number of workers, from 1 to 64: digits, before which a plus may stand
 abbrev pub SpellsCrew : Text → ℕ → Type 0
@@ -22,9 +24,23 @@ abbrev pub IsCrewIn : Option Text → ℕ → Type 0
 IsCrewIn None workers = workers ≡ 4
 IsCrewIn (Some text) workers = SpellsCrew text workers
 
--- the matches of `session` are those of this number of workers, of transitions that are made so, and of outcomes that are told or not
-abbrev pub AsksSessionIn : List Row → SessionAsk → Type 0
-AsksSessionIn rows ask = IsCrewIn (first_of (codes "workers") rows) ask.workers × MakesIn rows ask.making × (ask.tells ≡ is_on (codes "verbose") rows)
+-- the text of a bound on how many states there are, at least 3: digits, before which a plus may stand
+abbrev pub SpellsBound : Text → ℕ → Type 0
+SpellsBound text bound = IsNumeral 10 (without_leading_plus text)
+    × (bound ≡ digits_value 10 (without_leading_plus text)) × (3 ≤ bound) × (bound < 2 ^ 32)
+
+-- the bound that is given, and 1,024 where none is
+abbrev pub IsBoundIn : Option Text → ℕ → Type 0
+IsBoundIn None bound = bound ≡ 1024
+IsBoundIn (Some text) bound = SpellsBound text bound
+
+-- the matches of `session` are those of this number of workers, of transitions that are made so, of outcomes that are told or not, of this bound and of this file
+pub record AsksSessionIn (rows : List Row) (ask : SessionAsk) : Type 0 where
+  pub workers : IsCrewIn (first_of (codes "workers") rows) ask.workers
+  pub making : MakesIn rows ask.making
+  pub tells : ask.tells ≡ is_on (codes "verbose") rows
+  pub bound : IsBoundIn (first_of (codes "bound") rows) ask.bound
+  pub live : ask.live ≡ first_of (codes "live") rows
 
 -- the words ask this of `session`
 abbrev pub AsksSession : List Text → SessionAsk → Type 0
@@ -40,4 +56,10 @@ AsksNoSession words = (ask : SessionAsk) → AsksSession words ask → ⊥
 
 -- what a request of the program asks
 abbrev pub session_ask_of : SessionRequest → SessionAsk
-session_ask_of request = record { workers = request.workers; making = making_ask_of request.making; tells = request.tells }
+session_ask_of request = record {
+  workers = request.workers;
+  making = making_ask_of request.making;
+  tells = request.tells;
+  bound = request.bound;
+  live = option_map (λ f. f.now) request.live;
+}

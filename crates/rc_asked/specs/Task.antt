@@ -62,6 +62,11 @@ task_ask_of (task.Plan request file) = OfPlan (ask_of request) (option_map (λ f
 task_ask_of (task.Replay file) = OfReplay (option_map (λ f. f.now) file)
 task_ask_of (task.Session request file) = OfSession (session_ask_of request) (option_map (λ f. f.now) file)
 
+-- a session has a bound on how many states there are, of at least 3
+abbrev pub HasBound : Task → Type 0
+HasBound (task.Session request file) = 3 ≤ request.bound
+HasBound other = Unit {0}
+
 -- a session has workers, 64 at most
 abbrev pub HasWorkers : Task → Type 0
 HasWorkers (task.Session request file) = (1 ≤ request.workers) × (request.workers ≤ 64)

@@ -29,6 +29,8 @@ pub enum WordsFault {
     Query,
     /// Their number of workers is none from 1 to 64.
     Workers,
+    /// Their bound on how many states there are is none of at least 3.
+    Bound,
     /// Their list of transitions that fail has not the form of one.
     List,
     Memory,
@@ -117,6 +119,10 @@ pub fn tell_words<F: Write>(faults: &mut F, fault: &WordsFault) -> u8
         }
         WordsFault::Workers => {
             tell(faults, b"-w wants a number from 1 to 64");
+            WRONG_LINE
+        }
+        WordsFault::Bound => {
+            tell(faults, b"-n wants a number from 3 to 4294967295");
             WRONG_LINE
         }
         WordsFault::List => {

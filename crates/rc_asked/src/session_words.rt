@@ -1,7 +1,7 @@
 //! What the words ask of `session`.
 ghost use Rattle.std.specs.Prelude.{◌≢◌, ℕ, map, option_map, string_bytes, IfErr, IfNone, IfOk, IfSome};
 ghost use Rattle.clap.specs.Words.{found_of, rows_of};
-ghost use Rattle.rc_asked.specs.SessionAsked.{AsksNoSession, AsksSession, AsksSessionIn, IsCrewIn, SessionAsk, SpellsCrew, session_ask_of};
+ghost use Rattle.rc_asked.specs.SessionAsked.{AsksNoSession, AsksSession, AsksSessionIn, IsBoundIn, IsCrewIn, SessionAsk, SpellsBound, SpellsCrew, session_ask_of};
 ghost use Rattle.rc_asked.specs.declared.asked.WordsFault.TheVariants.{Memory};
 
 use crate::asked::WordsFault;
@@ -17,6 +17,12 @@ const USUAL_WORKERS: u8 = 4;
 /// The most workers of a session.
 const MAX_WORKERS: u8 = 64;
 
+/// The most states of a new session, where no number is given.
+const USUAL_BOUND: u32 = 1024;
+
+/// The least number that a session may have as the most of its states.
+const LEAST_BOUND: u32 = 3;
+
 /// What the words ask of `session`.
 #[derive(Drop)]
 pub struct SessionRequest<'a> {
@@ -26,6 +32,10 @@ pub struct SessionRequest<'a> {
     pub making: Making<'a>,
     /// Whether each outcome other than success is told.
     pub tells: bool,
+    /// How many states a new session has at most.
+    pub bound: u32,
+    /// The file that the session goes on with, and is kept in.
+    pub live: Option<&'a str>,
 }
 
 /// What the words ask of `session`. The first word is the program's own name.
@@ -57,12 +67,17 @@ pub(crate) fn session_in<'a>(
     let Some(workers) = workers_of(matches.get_str("workers")) else {
         return Err(WordsFault::Workers);
     };
+    let Some(bound) = bound_of(matches.get_str("bound")) else {
+        return Err(WordsFault::Bound);
+    };
     let tells = is_on(matches, "verbose");
     match making_in(alloc, matches) {
         Ok(making) => Ok(SessionRequest {
             workers,
             making,
             tells,
+            bound,
+            live: matches.get_str("live"),
         }),
         Err(fault) => Err(fault),
     }
@@ -88,6 +103,36 @@ fn crew_of(text: &str) -> Option<u8>
         Ok(workers) => {
             if 1 <= workers && workers <= MAX_WORKERS {
                 Some(workers)
+            } else {
+                None
+            }
+        }
+        Err(_) => None,
+    }
+}
+
+// The bound that is given, if it is one.
+fn bound_of(given: Option<&str>) -> Option<u32>
+    ensures some { IfSome result (λ bound.
+        IsBoundIn (option_map (λ text. text.now) given.entry) bound) }
+    ensures none { IfNone result ((bound : ℕ) →
+        IsBoundIn (option_map (λ text. text.now) given.entry) bound → ⊥) }
+{
+    match given {
+        Some(text) => most_of(text),
+        None => Some(USUAL_BOUND),
+    }
+}
+
+// The bound that a text spells.
+fn most_of(text: &str) -> Option<u32>
+    ensures some { IfSome result (λ bound. SpellsBound text.now bound) }
+    ensures none { IfNone result ((bound : ℕ) → SpellsBound text.now bound → ⊥) }
+{
+    match text.parse::<u32>() {
+        Ok(bound) => {
+            if LEAST_BOUND <= bound {
+                Some(bound)
             } else {
                 None
             }

@@ -1,7 +1,7 @@
 //! The words of the command line, read once.
 ghost use Rattle.std.specs.Prelude.{◌≡◌, ◌≢◌, codes, map, string_bytes, IfErr, IfOk};
 ghost use Rattle.clap.specs.Words.{found_of, rows_of, subcommand_rows_of};
-ghost use Rattle.rc_asked.specs.Task.{AsksEntered, AsksNamed, AsksNoTask, AsksTask, HasWorkers, TaskAsk, task_ask_of};
+ghost use Rattle.rc_asked.specs.Task.{AsksEntered, AsksNamed, AsksNoTask, AsksTask, HasBound, HasWorkers, TaskAsk, task_ask_of};
 ghost use Rattle.rc_asked.specs.declared.asked.WordsFault.TheVariants.{Memory};
 
 use crate::asked::{WordsFault, plan_in};
@@ -33,6 +33,7 @@ pub enum Task<'a> {
 pub fn task_of<'a>(alloc: Global, words: &'a [String]) -> Result<Task<'a>, WordsFault>
     ensures asked { IfOk result (λ task. AsksTask (map string_bytes words.entry.now) (task_ask_of task)) }
     ensures workers { IfOk result HasWorkers }
+    ensures bound { IfOk result HasBound }
     ensures wrong { IfErr result (λ fault. fault ≢ Memory → AsksNoTask (map string_bytes words.entry.now)) }
 {
     match matches_of(alloc, words) {

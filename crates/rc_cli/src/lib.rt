@@ -6,6 +6,6 @@ pub use rc_asked::{DbRequest, SessionRequest, Task, WordsFault, task_of, tell_wo
 pub use rc_compiling::compile_run;
 pub use rc_queries::{db_as_asked, db_run, plan_as_asked, plan_run, replay_as_asked, replay_run};
 pub use rc_select::Request;
-pub use rc_serve::{ServeFault, serve};
-pub use rc_sessions::{session_as_asked, session_run};
+pub use rc_serve::{KeepFault, Keeper, ServeFault, Unkept, serve};
+pub use rc_sessions::{LiveFile, Store, TextKeeper, session_as_asked, session_run};
 pub use rc_streams::{MAX_INPUT, Noted};

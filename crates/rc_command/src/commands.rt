@@ -3,7 +3,7 @@ ghost use Rattle.std.specs.Prelude.{◌≡◌};
 ghost use Rattle.clap.specs.Words.{App};
 ghost use Rattle.rc_command.specs.Commands.{IsOwn, Reads, rule_in, bare, bare_program, with_arg, with_command};
 ghost use Rattle.rc_command.specs.Commands.{compile_command, db_command, plan_command, program, replay_command, session_command};
-ghost use Rattle.rc_command.specs.Commands.{base_option, flag, option, query_word, source_list, with_names, with_programs, with_ways, word_list};
+ghost use Rattle.rc_command.specs.Commands.{base_option, flag, option, query_word, source_list, with_file, with_names, with_programs, with_ways, word_list};
 
 use clap::{Arg, ArgAction, Command};
 use std::alloc::{AllocError, Global};
@@ -158,7 +158,36 @@ fn session_command<'a>(alloc: Global) -> Result<Command<'a>, AllocError>
             "Start nothing, and let these transitions fail: `none`, or `up:NAME` and `down:NAME` joined by commas",
         ),
     );
-    with_programs(alloc, command)
+    with_file(alloc, with_programs(alloc, command))
+}
+
+// The command with the options of where a session begins, and where it is kept.
+fn with_file<'a>(
+    alloc: Global,
+    command: Result<Command<'a>, AllocError>,
+) -> Result<Command<'a>, AllocError>
+    ensures { (app : App) → Reads command.entry app → Reads result (with_file app) }
+{
+    let command = with_arg(
+        command,
+        option(
+            alloc,
+            "live",
+            'l',
+            "FILE",
+            "Go on with the session that this file holds, and keep it there",
+        ),
+    );
+    with_arg(
+        command,
+        option(
+            alloc,
+            "bound",
+            'n',
+            "N",
+            "Keep so many states of a new session at most, 3 or more; 1024 without it",
+        ),
+    )
 }
 
 // The command with the options of the programs that are started.

@@ -29,9 +29,11 @@ use Rattle.rc_board.specs.Made.{IsSaid, AreMade, way_from}
 use Rattle.rc_answers.specs.ReportText.{report_text}
 use Rattle.rc_lines.specs.Says.{Saying, SaysNothing, SaysWrong, SaysStep, SaysDry, SaysLive, SaysBundles, SaysJournal}
 use Rattle.rc_serve.specs.declared.fault.ServeFault.{ServeFault}
+use Rattle.rc_serve.specs.declared.keeper.KeepFault.{KeepFault}
 use Rattle.rc_serve.specs.Meeting.{IsDoneBy, Meets}
+use Rattle.rc_serve.specs.Keeping.{Keeping, ServesFrontFailingKept, ServesFrontKept}
 use Rattle.rc_serve.specs.Serving.{Serves, ServesAll, ServesFront}
-use Rattle.rc_serve.specs.SessionText.{EndsFailing, FailsExactly, HasNoLimit, IsDoneFailing, IsTimeless, IsUnlimited, ServesFailing, ServesFrontFailing, limit_of}
+use Rattle.rc_serve.specs.SessionText.{EndsFailing, FailsExactly, HasNoLimit, IsDoneFailing, IsTimeless, IsUnlimited, ServesFailing, limit_of}
 
 -- a deadline comes of a limit, and is no earlier than the moment 1
 some_or_none : (flag : Bool) (y x : ℕ) → (if flag then None else Some y) ≡ Some x → (flag ≡ false) × (y ≡ x)
@@ -226,7 +228,9 @@ module _ (fails : ℕ → Way → Bool) (workers : ℕ) (Answers : ℕ → Way �
   text_failing (Ok done) input left written gained old new db of timeless served = all_failing input left written gained old new db of timeless served
   text_failing (Err fault) input left written gained old new db of timeless served = tt
 
-  pub front_text_failing : {A : Type 0} (result : Result A ServeFault) (input left written gained : Option (List ℕ)) (old new : Holding) → IsDatabase old.database → IsLineOf old.database old.line → IsTimeless Gives input
-      → IfErr result (λ fault. ServesFront (IsDoneBy workers Answers Gives) fault input left written gained old new) → IfErr result (λ fault. ServesFrontFailing fault fails input left written gained old new)
-  front_text_failing (Ok done) input left written gained old new db of timeless served = tt
-  front_text_failing (Err fault) input left written gained old new db of timeless served = front_failing fault input left written gained old new db of timeless served
+  pub front_text_failing : {A : Type 0} (result : Result A ServeFault) (May : KeepFault → Type 0) (was is : Keeping) (input left written gained : Option (List ℕ)) (old new : Holding) → IsDatabase old.database → IsLineOf old.database old.line → IsTimeless Gives input
+      → IfErr result (λ fault. ServesFrontKept (IsDoneBy workers Answers Gives) fault May was is input left written gained old new)
+      → IfErr result (λ fault. ServesFrontFailingKept fault May was is fails input left written gained old new)
+  unfolding front_failing
+  front_text_failing (Ok done) May was is input left written gained old new db of timeless served = tt
+  front_text_failing (Err fault) May was is input left written gained old new db of timeless served = (front_failing fault input left written gained old new db of timeless served.0, served.1)

@@ -105,6 +105,7 @@ inner_as P Q T U serve.Memory strange threads inner = inner
 inner_as P Q T U serve.NoThread strange threads inner = threads inner
 inner_as P Q T U serve.Strange strange threads inner = strange inner
 inner_as P Q T U serve.Workers strange threads inner = inner
+inner_as P Q T U serve.Io strange threads inner = inner
 
 pub inner_by : {A : Type 0} (P Q T U : Type 0) (result : Result A ServeFault) → (P → Q) → (T → U) → IfErr result (IsInner P T) → IfErr result (IsInner Q U)
 inner_by P Q T U (Ok text) strange threads inner = tt
@@ -126,6 +127,7 @@ kept_spoils P Q (Err serve.Memory) old new same strange inner = same
 kept_spoils P Q (Err serve.NoThread) old new same strange inner = same
 kept_spoils P Q (Err serve.Strange) old new same strange inner = strange inner
 kept_spoils P Q (Err serve.Workers) old new same strange inner = same
+kept_spoils P Q (Err serve.Io) old new same strange inner = same
 
 -- a session that is only looked at is spoiled where it ends as strange
 pub shown_spoils : {A : Type 0} (h : Holding) (result : Result A ServeFault) → IfErr result (EndsSession ⊥ h h) → IsSpoiledBy result h h

@@ -1,5 +1,5 @@
 -- One line after another.
-use Rattle.std.proofs.Common.{◌≡◌, ◌∙◌, ◌⊎◌, inl, inr, ℕ, ◌+◌, ◌-◌, ◌<◌, ◌≤◌, Bool, true, false, List, [], ◌∷◌, ◌++◌, Option, length, take, ap, sym, refl, subst, arith, append_assoc, length-append}
+use Rattle.std.proofs.Common.{◌≡◌, ◌∙◌, ◌⊎◌, inl, inr, ℕ, ◌+◌, ◌-◌, ◌<◌, ◌≤◌, Bool, true, false, List, [], ◌∷◌, ◌++◌, Option, Result, Err, IfErr, length, take, ap, sym, refl, subst, arith, append_assoc, length-append}
 use Rattle.std.proofs.lemmas.List.{append-nil}
 use Rattle.std.proofs.lemmas.List.Elements.{All-nil, All-push}
 use Rattle.std.specs.List.{flat_map}
@@ -15,10 +15,13 @@ use Rattle.rc_streams.specs.Taking.{Held, BeginsTooLong, HandsLine, HandsOut, Is
 use Rattle.rc_streams.specs.declared.input.Failure.{Failure}
 use Rattle.rc_streams.specs.declared.input.Failure.TheVariants as failures
 use Rattle.rc_serve.specs.declared.fault.ServeFault.{ServeFault}
-use Rattle.rc_serve.specs.declared.fault.ServeFault.TheVariants.{Read, Write, TooLong, Memory, NoThread, Strange, Workers}
-use Rattle.rc_serve.specs.Faults.{EndsSession, IsOfAnswer, IsServeFault, Spoils, StandsAt, of_failure}
+use Rattle.rc_serve.specs.declared.fault.ServeFault.TheVariants.{Read, Write, TooLong, Memory, NoThread, Strange, Workers, Io}
+use Rattle.rc_serve.specs.declared.keeper.KeepFault.{KeepFault}
+use Rattle.rc_serve.specs.Faults.{EndsSession, IsOfLine, IsServeFault, Spoils, StandsAt, of_failure}
 use Rattle.rc_serve.specs.Meeting.{Doing}
-use Rattle.rc_serve.specs.Serving.{AreLines, BytesWantWork, IsServing, MayMeetBytes, MeetsBytes, NextWantsWork, Serves, ServesAll, ServesFront, ServesNext, Stays, StopsAt}
+use Rattle.rc_serve.specs.Serving.{AreLines, BytesWantWork, IsServing, MayMeetBytes, MeetsBytes, NextWantsWork, Serves, ServesAll, ServesFront, ServesNext, Stays}
+use Rattle.rc_serve.specs.Keeping.{AltersNone, Keeping, EndsLine, IsKeptAt, IsKeptOn, IsKeptOrFails, IsKeptUp, IsOfKeeping, ServesFrontKept, StopsAt}
+use Rattle.rc_serve.proofs.Keeping.{kept_more, kept_none}
 
 -- one more line is met
 pub serves_more : (Done : Doing) (d : Database) (here : Line) (lines : List (List ℕ)) (text : List ℕ) (mid : Line) (bytes first : List ℕ) (new : Line) → Serves Done d here lines text mid → MeetsBytes Done d mid bytes first new
@@ -29,6 +32,14 @@ serves_more Done d here [] text mid bytes first new served met =
 serves_more Done d here (x ∷ lines) text mid bytes first new served met =
     let (one, next, others, here_met, rest, whole) = served in
     (one, next, others ++ first, here_met, serves_more Done d next lines others mid bytes first new rest met, ap (λ (t : List ℕ). t ++ first) whole ∙ append_assoc one others first)
+
+-- lines are served, and then others
+pub serves_both : (Done : Doing) (d : Database) (here : Line) (lines : List (List ℕ)) (text : List ℕ) (mid : Line) (more : List (List ℕ)) (answer : List ℕ) (new : Line)
+    → Serves Done d here lines text mid → Serves Done d mid more answer new → Serves Done d here (lines ++ more) (text ++ answer) new
+serves_both Done d here [] text mid more answer new served next =
+    subst (λ (t : List ℕ). Serves Done d here more (t ++ answer) new) (sym served.0) (subst (λ (l : Line). Serves Done d l more answer new) served.1 next)
+serves_both Done d here (bytes ∷ lines) text mid more answer new (first, on, others, met, rest, whole) next =
+    (first, on, others ++ answer, met, serves_both Done d on lines others mid more answer new rest next, ap (λ (t : List ℕ). t ++ answer) whole ∙ append_assoc first others answer)
 
 -- what was handed out, and then the next part
 pub hands_on : (old here new : Option (List ℕ)) (before held after : Held) (front more : List ℕ) → HandsOut old here before held front → HandsOut here new held after more → HandsOut old new before after (front ++ more)
@@ -105,93 +116,107 @@ stands_as Memory P Q W X taken count rest spoiled work is stands = tt
 stands_as NoThread P Q W X taken count rest spoiled work is stands = work stands
 stands_as Strange P Q W X taken count rest spoiled work is stands = elim stands [ inl was ↦ inl (spoiled was) | inr wants ↦ inr (work wants) ]
 stands_as Workers P Q W X taken count rest spoiled work is stands = tt
+stands_as Io P Q W X taken count rest spoiled work is stands = tt
 
 -- one line is met
 serves_one : (Done : Doing) (d : Database) (here : Line) (bytes text : List ℕ) (new : Line) → MeetsBytes Done d here bytes text new → Serves Done d here (bytes ∷ []) text new
 serves_one Done d here bytes text new met = (text, new, [], met, (refl, refl), sym (append-nil text))
 
-front_line : (Done : Doing) (fault : ServeFault) (input here left : Option (List ℕ)) (held after : Held) (written mid gained : Option (List ℕ)) (old now new : Holding) (ends : Bool) (bytes text : List ℕ) → IsOfAnswer fault → IsServing Done input here held written mid old now
-    → HandsLine ends here left held after bytes → MeetsBytes Done now.database now.line bytes text new.line → AppendsFront mid gained text → ServesFront Done fault input left written gained old new
-front_line Done fault input here left held after written mid gained old now new true bytes text of so handed met told =
-    let all = hands_on input here left fresh held after (flat_map line so.lines) (line bytes) so.hands handed.1 in
-    record {
-      bytes = all.bytes;
-      rest = after.pending;
-      lines = so.lines;
-      text = so.text;
-      here = now.line;
-      more = bytes ∷ [];
-      answer = text;
-      consumed = all.consumed;
-      spelled = (
-        All-push IsLine so.lines bytes so.each handed.0,
-        inl (all.split ∙ ap (λ (t : List ℕ). t ++ after.pending) (sym (one_more line so.lines bytes))),
-      );
-      met = so.met;
-      one = omega arith;
-      met_more = serves_one Done old.database now.line bytes text new.line (subst (λ (d : Database). MeetsBytes Done d now.line bytes text new.line) so.stays.0 met);
-      told = (told.0, Appends-trans written mid gained so.text (take told.0 text) so.told told.1);
-      stands = inl of;
-    }
-front_line Done fault input here left held after written mid gained old now new false bytes text of so handed met told =
+-- the line that stands is kept, or the one before it, and nothing was written of the answer
+front_kept : (fault : ServeFault) (May : KeepFault → Type 0) (first was is : Keeping) (old now new : Holding) (n : ℕ) → now.database ≡ old.database → IsKeptUp was is now.database now.line new.line ⊎ (IsOfKeeping May fault × (n ≡ 0) × IsKeptOn was is)
+    → IsKeptUp first was old.database old.line now.line → IsKeptAt fault May first is old.database old.line now.line new.line n
+front_kept fault May first was is old now new n same (inl keeps) kept = inl (kept_more first was is old.database old.line now.line new.line kept (subst (λ (d : Database). IsKeptUp was is d now.line new.line) same keeps))
+front_kept fault May first was is old now new n same (inr (so, none, on)) kept = inr (so, none, kept_more first was is old.database old.line now.line now.line kept (inr (on, refl)))
+
+front_line : (Done : Doing) (fault : ServeFault) (May : KeepFault → Type 0) (first was is : Keeping) (input here left : Option (List ℕ)) (held after : Held) (written mid gained : Option (List ℕ)) (old now new : Holding) (ends : Bool) (bytes text : List ℕ) → IsOfLine fault → IsServing Done input here held written mid old now
+    → HandsLine ends here left held after bytes → MeetsBytes Done now.database now.line bytes text new.line → (told : AppendsFront mid gained text) → IsKeptUp was is now.database now.line new.line ⊎ (IsOfKeeping May fault × (told.0 ≡ 0) × IsKeptOn was is)
+    → IsKeptUp first was old.database old.line now.line → ServesFrontKept Done fault May first is input left written gained old new
+front_line Done fault May first was is input here left held after written mid gained old now new true bytes text of so handed met told keeps kept =
+    let all = hands_on input here left fresh held after (flat_map line so.lines) (line bytes) so.hands handed.1 in (
+      record {
+        bytes = all.bytes;
+        rest = after.pending;
+        lines = so.lines;
+        text = so.text;
+        here = now.line;
+        more = bytes ∷ [];
+        answer = text;
+        consumed = all.consumed;
+        spelled = (
+          All-push IsLine so.lines bytes so.each handed.0,
+          inl (all.split ∙ ap (λ (t : List ℕ). t ++ after.pending) (sym (one_more line so.lines bytes))),
+        );
+        met = so.met;
+        one = omega arith;
+        met_more = serves_one Done old.database now.line bytes text new.line (subst (λ (d : Database). MeetsBytes Done d now.line bytes text new.line) so.stays.0 met);
+        told = (told.0, Appends-trans written mid gained so.text (take told.0 text) so.told told.1);
+        stands = inl of;
+      },
+      front_kept fault May first was is old now new told.0 so.stays.0 keeps kept,
+    )
+front_line Done fault May first was is input here left held after written mid gained old now new false bytes text of so handed met told keeps kept =
     let (one, hands, some, ended) = handed in
     let (none, end, within) = ended in
-    let all = hands_on input here left fresh held after (flat_map line so.lines) bytes so.hands hands in
-    record {
-      bytes = all.bytes;
-      rest = [];
-      lines = so.lines;
-      text = so.text;
-      here = now.line;
-      more = bytes ∷ [];
-      answer = text;
-      consumed = all.consumed;
-      spelled = (
-        All-push IsLine so.lines bytes so.each one,
-        inr (so.lines, bytes, refl, some, all.split ∙ (ap (λ (t : List ℕ). (flat_map line so.lines ++ bytes) ++ t) none ∙ append-nil (flat_map line so.lines ++ bytes)), refl),
-      );
-      met = so.met;
-      one = omega arith;
-      met_more = serves_one Done old.database now.line bytes text new.line (subst (λ (d : Database). MeetsBytes Done d now.line bytes text new.line) so.stays.0 met);
-      told = (told.0, Appends-trans written mid gained so.text (take told.0 text) so.told told.1);
-      stands = inl of;
-    }
+    let all = hands_on input here left fresh held after (flat_map line so.lines) bytes so.hands hands in (
+      record {
+        bytes = all.bytes;
+        rest = [];
+        lines = so.lines;
+        text = so.text;
+        here = now.line;
+        more = bytes ∷ [];
+        answer = text;
+        consumed = all.consumed;
+        spelled = (
+          All-push IsLine so.lines bytes so.each one,
+          inr (so.lines, bytes, refl, some, all.split ∙ (ap (λ (t : List ℕ). (flat_map line so.lines ++ bytes) ++ t) none ∙ append-nil (flat_map line so.lines ++ bytes)), refl),
+        );
+        met = so.met;
+        one = omega arith;
+        met_more = serves_one Done old.database now.line bytes text new.line (subst (λ (d : Database). MeetsBytes Done d now.line bytes text new.line) so.stays.0 met);
+        told = (told.0, Appends-trans written mid gained so.text (take told.0 text) so.told told.1);
+        stands = inl of;
+      },
+      front_kept fault May first was is old now new told.0 so.stays.0 keeps kept,
+    )
 
 -- what the next line wants, it wants of the same database and line of states
 wants_as : (d e : Database) (here there : Line) (bytes : List ℕ) → d ≡ e → there ≡ here → NextWantsWork d here bytes → NextWantsWork e there bytes
 wants_as d e here there bytes same still wants = subst (λ (b : Database). NextWantsWork b there bytes) same (subst (λ (l : Line). NextWantsWork d l bytes) (sym still) wants)
 
 -- a fault came
-pub serves_front : (Done : Doing) (fault : ServeFault) (input here left : Option (List ℕ)) (held after : Held) (written mid gained : Option (List ℕ)) (old now new : Holding) → IsServing Done input here held written mid old now
-    → StopsAt Done fault here left held after mid gained now new → ServesFront Done fault input left written gained old new
-serves_front Done fault input here left held after written mid gained old now new so (inl stop) =
-    let (takes, same, kept, stands) = stop in
-    let told = subst (λ (c : Option (List ℕ)). Appends written c so.text) (sym kept) so.told in
-    record {
-      bytes = so.hands.bytes ++ takes.bytes;
-      rest = held.pending ++ takes.bytes;
-      lines = so.lines;
-      text = so.text;
-      here = now.line;
-      more = [];
-      answer = [];
-      consumed = Consumes-trans input here left so.hands.bytes takes.bytes so.hands.consumed takes.consumed;
-      spelled = subst (λ (all : List (List ℕ)). AreLines all (so.hands.bytes ++ takes.bytes) (held.pending ++ takes.bytes)) (sym (append-nil so.lines))
-          (so.each, inl (ap (λ (t : List ℕ). t ++ takes.bytes) so.hands.split ∙ append_assoc (flat_map line so.lines) held.pending takes.bytes));
-      met = so.met;
-      one = omega arith;
-      met_more = (refl, same);
-      told = (0, subst (λ (t : List ℕ). Appends written gained t) (sym (append-nil so.text)) told);
-      stands = inr (
-        refl,
-        stands_as fault (now.spoiled ≡ true) (old.spoiled ≡ true) (NextWantsWork now.database now.line (held.pending ++ takes.bytes)) (NextWantsWork old.database new.line (held.pending ++ takes.bytes))
-            after.taken (length (so.hands.bytes ++ takes.bytes)) (held.pending ++ takes.bytes) (λ was. sym so.whole ∙ was) (wants_as now.database old.database now.line new.line (held.pending ++ takes.bytes) so.stays.0 same)
-            (omega (arith, so.hands.counted, takes.counted, length-append so.hands.bytes takes.bytes)) stands,
-      );
-    }
-serves_front Done fault input here left held after written mid gained old now new so (inr stop) =
-    let (of, ends, bytes, text, handed, met, told) = stop in
-    front_line Done fault input here left held after written mid gained old now new ends bytes text of so handed met told
+pub serves_front : (Done : Doing) (fault : ServeFault) (May : KeepFault → Type 0) (first was is : Keeping) (input here left : Option (List ℕ)) (held after : Held) (written mid gained : Option (List ℕ)) (old now new : Holding) → IsServing Done input here held written mid old now
+    → IsKeptUp first was old.database old.line now.line → StopsAt Done fault May was is here left held after mid gained now new → ServesFrontKept Done fault May first is input left written gained old new
+serves_front Done fault May first was is input here left held after written mid gained old now new so before (inl stop) =
+    let (takes, same, kept, stands, keeps) = stop in
+    let told = subst (λ (c : Option (List ℕ)). Appends written c so.text) (sym kept) so.told in (
+      record {
+        bytes = so.hands.bytes ++ takes.bytes;
+        rest = held.pending ++ takes.bytes;
+        lines = so.lines;
+        text = so.text;
+        here = now.line;
+        more = [];
+        answer = [];
+        consumed = Consumes-trans input here left so.hands.bytes takes.bytes so.hands.consumed takes.consumed;
+        spelled = subst (λ (all : List (List ℕ)). AreLines all (so.hands.bytes ++ takes.bytes) (held.pending ++ takes.bytes)) (sym (append-nil so.lines))
+            (so.each, inl (ap (λ (t : List ℕ). t ++ takes.bytes) so.hands.split ∙ append_assoc (flat_map line so.lines) held.pending takes.bytes));
+        met = so.met;
+        one = omega arith;
+        met_more = (refl, same);
+        told = (0, subst (λ (t : List ℕ). Appends written gained t) (sym (append-nil so.text)) told);
+        stands = inr (
+          refl,
+          stands_as fault (now.spoiled ≡ true) (old.spoiled ≡ true) (NextWantsWork now.database now.line (held.pending ++ takes.bytes)) (NextWantsWork old.database new.line (held.pending ++ takes.bytes))
+              after.taken (length (so.hands.bytes ++ takes.bytes)) (held.pending ++ takes.bytes) (λ was. sym so.whole ∙ was) (wants_as now.database old.database now.line new.line (held.pending ++ takes.bytes) so.stays.0 same)
+              (omega (arith, so.hands.counted, takes.counted, length-append so.hands.bytes takes.bytes)) stands,
+        );
+      },
+      inl (kept_more first was is old.database old.line now.line new.line before (subst (λ (d : Database). IsKeptUp was is d now.line new.line) so.stays.0 keeps)),
+    )
+serves_front Done fault May first was is input here left held after written mid gained old now new so before (inr stop) =
+    let (of, ends, bytes, text, handed, met, n, told, keeps) = stop in
+    front_line Done fault May first was is input here left held after written mid gained old now new ends bytes text of so handed met (n, told) keeps before
 
 -- the line that was handed out is the next one of what was held and read
 next_line : (ends : Bool) (input left : Option (List ℕ)) (held after : Held) (bytes : List ℕ) → HandsLine ends input left held after bytes
@@ -207,29 +232,58 @@ next_line false input left held after bytes (one, hands, some, ended) = (
   (All-push IsLine [] bytes (All-nil IsLine) one, inr ([], bytes, refl, some, hands.split ∙ (ap (λ (t : List ℕ). bytes ++ t) ended.0 ∙ append-nil bytes), refl)),
 )
 
+-- what is kept where the line of states is as it was, and where nothing was written
+still_kept : (fault : ServeFault) (May : KeepFault → Type 0) (was is : Keeping) (d : Database) (here new : Line) → new ≡ here → IsKeptOrFails fault May was is d here new → IsKeptUp was is d here new
+still_kept fault May was is d here new same (inl kept) = kept
+still_kept fault May was is d here new same (inr failed) = inr (failed.1, same)
+
+unwritten_kept : (fault : ServeFault) (May : KeepFault → Type 0) (was is : Keeping) (d : Database) (here new : Line) → IsKeptOrFails fault May was is d here new → IsKeptUp was is d here new ⊎ (IsOfKeeping May fault × (◌≡◌ {A = ℕ} 0 0) × IsKeptOn was is)
+unwritten_kept fault May was is d here new (inl kept) = inl kept
+unwritten_kept fault May was is d here new (inr failed) = inr (failed.0, refl, failed.1)
+
 -- a line was handed out, and no answer came of it
-pub stops_short : (Done : Doing) (fault : ServeFault) (ends : Bool) (input left : Option (List ℕ)) (held after : Held) (written : Option (List ℕ)) (old new : Holding) (bytes : List ℕ) → HandsLine ends input left held after bytes → Takes input left held.taken after.taken
-    → MayMeetBytes Done old.database old.line bytes new.line → EndsSession (BytesWantWork old.database old.line bytes) old new fault → StopsAt Done fault input left held after written written old new
-stops_short Done Read ends input left held after written old new bytes handed takes may end = absurd end
-stops_short Done Write ends input left held after written old new bytes handed takes may end = absurd end
-stops_short Done TooLong ends input left held after written old new bytes handed takes may end = absurd end
-stops_short Done Memory ends input left held after written old new bytes handed takes (inl same) end = inl (takes, same, refl, tt)
-stops_short Done Memory ends input left held after written old new bytes handed takes (inr met) end = inr (tt, ends, bytes, met.0, handed, met.1, (0, Appends-nil written))
-stops_short Done NoThread ends input left held after written old new bytes handed takes may end =
+ends_short : (Done : Doing) (fault : ServeFault) (May : KeepFault → Type 0) (was is : Keeping) (ends : Bool) (input left : Option (List ℕ)) (held after : Held) (written : Option (List ℕ)) (old new : Holding) (bytes : List ℕ) → HandsLine ends input left held after bytes → Takes input left held.taken after.taken
+    → MayMeetBytes Done old.database old.line bytes new.line → IsKeptOrFails fault May was is old.database old.line new.line → EndsSession (BytesWantWork old.database old.line bytes) old new fault → StopsAt Done fault May was is input left held after written written old new
+ends_short Done Read May was is ends input left held after written old new bytes handed takes may keeps end = absurd end
+ends_short Done Write May was is ends input left held after written old new bytes handed takes may keeps end = absurd end
+ends_short Done TooLong May was is ends input left held after written old new bytes handed takes may keeps end = absurd end
+ends_short Done Memory May was is ends input left held after written old new bytes handed takes (inl same) keeps end = inl (takes, same, refl, tt, still_kept Memory May was is old.database old.line new.line same keeps)
+ends_short Done Memory May was is ends input left held after written old new bytes handed takes (inr met) keeps end = inr (tt, ends, bytes, met.0, handed, met.1, 0, Appends-nil written, unwritten_kept Memory May was is old.database old.line new.line keeps)
+ends_short Done NoThread May was is ends input left held after written old new bytes handed takes may keeps end =
     let (taken, rest, spelled) = next_line ends input left held after bytes handed in
-    inl (taken, end.1, refl, (bytes, rest, spelled, end.0))
-stops_short Done Strange ends input left held after written old new bytes handed takes may end =
+    inl (taken, end.1, refl, (bytes, rest, spelled, end.0), still_kept NoThread May was is old.database old.line new.line end.1 keeps)
+ends_short Done Strange May was is ends input left held after written old new bytes handed takes may keeps end =
     let (taken, rest, spelled) = next_line ends input left held after bytes handed in
-    inl (taken, end.1, refl, elim end.0 [ inl was ↦ inl was | inr work ↦ inr (bytes, rest, spelled, work) ])
-stops_short Done Workers ends input left held after written old new bytes handed takes may end = absurd end
+    inl (taken, end.1, refl, elim end.0 [ inl spoiled ↦ inl spoiled | inr work ↦ inr (bytes, rest, spelled, work) ], still_kept Strange May was is old.database old.line new.line end.1 keeps)
+ends_short Done Workers May was is ends input left held after written old new bytes handed takes may keeps end = absurd end
+ends_short Done Io May was is ends input left held after written old new bytes handed takes may keeps end = absurd end
+
+io_short : (Done : Doing) (May : KeepFault → Type 0) (was is : Keeping) (ends : Bool) (input left : Option (List ℕ)) (held after : Held) (written : Option (List ℕ)) (old new : Holding) (bytes : List ℕ) → HandsLine ends input left held after bytes → Takes input left held.taken after.taken
+    → MayMeetBytes Done old.database old.line bytes new.line → IsKeptOrFails Io May was is old.database old.line new.line → StopsAt Done Io May was is input left held after written written old new
+io_short Done May was is ends input left held after written old new bytes handed takes (inl same) keeps = inl (takes, same, refl, tt, still_kept Io May was is old.database old.line new.line same keeps)
+io_short Done May was is ends input left held after written old new bytes handed takes (inr met) keeps = inr (tt, ends, bytes, met.0, handed, met.1, 0, Appends-nil written, unwritten_kept Io May was is old.database old.line new.line keeps)
+
+pub stops_short : (Done : Doing) (fault : ServeFault) (May : KeepFault → Type 0) (was is : Keeping) (keeper : Type 0) (ends : Bool) (input left : Option (List ℕ)) (held after : Held) (written : Option (List ℕ)) (old new : Holding) (bytes : List ℕ) → HandsLine ends input left held after bytes → Takes input left held.taken after.taken
+    → MayMeetBytes Done old.database old.line bytes new.line → IsKeptOrFails fault May was is old.database old.line new.line → EndsLine keeper (BytesWantWork old.database old.line bytes) old new fault → StopsAt Done fault May was is input left held after written written old new
+stops_short Done fault May was is keeper ends input left held after written old new bytes handed takes may keeps (inl io) =
+    subst (λ (f : ServeFault). StopsAt Done f May was is input left held after written written old new) (sym io.0) (io_short Done May was is ends input left held after written old new bytes handed takes may (subst (λ (f : ServeFault). IsKeptOrFails f May was is old.database old.line new.line) io.0 keeps))
+stops_short Done fault May was is keeper ends input left held after written old new bytes handed takes may keeps (inr end) = ends_short Done fault May was is ends input left held after written old new bytes handed takes may keeps end
+
+-- the answer could not be written
+pub write_fault : {A : Type 0} (failure : Failure) → ◌≡◌ {A = Result A Failure} (Err failure) (Err failures.Write) → IsOfLine (of_failure failure)
+write_fault {A} failure is = subst (λ (r : Result A Failure). IfErr r (λ f. IsOfLine (of_failure f))) (sym is) tt
+
+pub stops_writing : (Done : Doing) (failure : Failure) (May : KeepFault → Type 0) (was is : Keeping) (ends : Bool) (input left : Option (List ℕ)) (held after : Held) (written gained : Option (List ℕ)) (old new : Holding) (bytes text : List ℕ) → IsOfLine (of_failure failure) → HandsLine ends input left held after bytes
+    → MeetsBytes Done old.database old.line bytes text new.line → AppendsFront written gained text → IsKeptUp was is old.database old.line new.line → StopsAt Done (of_failure failure) May was is input left held after written gained old new
+stops_writing Done failure May was is ends input left held after written gained old new bytes text of handed met told kept = inr (of, ends, bytes, text, handed, met, told.0, told.1, inl kept)
 
 -- there was no line to hand out
-pub stops_unread : (Done : Doing) (failed : Type 0) (failure : Failure) (input left : Option (List ℕ)) (held after : Held) (written : Option (List ℕ)) (old : Holding) → LacksLine failed input left held after failure
-    → StopsAt Done (of_failure failure) input left held after written written old old
-stops_unread Done failed failures.Read input left held after written old lacks = inl (lacks.takes, refl, refl, (lacks.fault.1, lacks.fault.2))
-stops_unread Done failed failures.Write input left held after written old lacks = absurd lacks.fault
-stops_unread Done failed failures.TooLong input left held after written old lacks = inl (lacks.takes, refl, refl, lacks.fault)
-stops_unread Done failed failures.Memory input left held after written old lacks = inl (lacks.takes, refl, refl, tt)
+pub stops_unread : (Done : Doing) (failed : Type 0) (failure : Failure) (May : KeepFault → Type 0) (k : Keeping) (input left : Option (List ℕ)) (held after : Held) (written : Option (List ℕ)) (old : Holding) → LacksLine failed input left held after failure
+    → StopsAt Done (of_failure failure) May k k input left held after written written old old
+stops_unread Done failed failures.Read May k input left held after written old lacks = inl (lacks.takes, refl, refl, (lacks.fault.1, lacks.fault.2), kept_none k old.database old.line)
+stops_unread Done failed failures.Write May k input left held after written old lacks = absurd lacks.fault
+stops_unread Done failed failures.TooLong May k input left held after written old lacks = inl (lacks.takes, refl, refl, lacks.fault, kept_none k old.database old.line)
+stops_unread Done failed failures.Memory May k input left held after written old lacks = inl (lacks.takes, refl, refl, tt, kept_none k old.database old.line)
 
 -- a device or its bound spoils no session
 pub spoils_failure : (failure : Failure) (h : Holding) → Spoils (of_failure failure) h h
@@ -247,17 +301,27 @@ spoils_on Memory old now new same spoils = spoils ∙ same
 spoils_on NoThread old now new same spoils = spoils ∙ same
 spoils_on Strange old now new same spoils = spoils
 spoils_on Workers old now new same spoils = spoils ∙ same
+spoils_on Io old now new same spoils = spoils ∙ same
 
 -- a fault that ends a session at a line is none of the devices, and none of the workers' number
-pub inner_fault : (reader writer work : Type 0) (fault : ServeFault) (old new : Holding)
-    → EndsSession work old new fault → IsServeFault reader writer fault
-inner_fault reader writer work Read old new end = absurd end
-inner_fault reader writer work Write old new end = absurd end
-inner_fault reader writer work TooLong old new end = absurd end
-inner_fault reader writer work Memory old new end = tt
-inner_fault reader writer work NoThread old new end = tt
-inner_fault reader writer work Strange old new end = tt
-inner_fault reader writer work Workers old new end = absurd end
+ends_inner : (reader writer keeper work : Type 0) (fault : ServeFault) (old new : Holding)
+    → EndsSession work old new fault → IsServeFault reader writer keeper fault
+ends_inner reader writer keeper work Read old new end = absurd end
+ends_inner reader writer keeper work Write old new end = absurd end
+ends_inner reader writer keeper work TooLong old new end = absurd end
+ends_inner reader writer keeper work Memory old new end = tt
+ends_inner reader writer keeper work NoThread old new end = tt
+ends_inner reader writer keeper work Strange old new end = tt
+ends_inner reader writer keeper work Workers old new end = absurd end
+ends_inner reader writer keeper work Io old new end = absurd end
+
+-- and the keeper's only where it may fail so
+pub inner_fault : (reader writer keeper work : Type 0) (fault : ServeFault) (old new : Holding)
+    → EndsLine keeper work old new fault → IsServeFault reader writer keeper fault
+inner_fault reader writer keeper work fault old new (inl io) =
+    subst (IsServeFault reader writer keeper) (sym io.0) io.1
+inner_fault reader writer keeper work fault old new (inr end) =
+    ends_inner reader writer keeper work fault old new end
 
 -- nothing was read yet
 pub serving_none : (Done : Doing) (input written : Option (List ℕ)) (old : Holding) → old.begun ≡ false → IsServing Done input input fresh written written old old
@@ -295,10 +359,10 @@ takes_next Done false here left held after mid gained now new (inr next) =
     record { bytes = hands.bytes; consumed = hands.consumed; counted = hands.counted }
 
 -- what was taken where a fault came
-pub takes_stop : (Done : Doing) (fault : ServeFault) (here left : Option (List ℕ)) (held after : Held) (mid gained : Option (List ℕ)) (now new : Holding) → StopsAt Done fault here left held after mid gained now new → Takes here left held.taken after.taken
-takes_stop Done fault here left held after mid gained now new (inl stop) = stop.0
-takes_stop Done fault here left held after mid gained now new (inr stop) =
-    let (of, ends, bytes, text, handed, met, told) = stop in
+pub takes_stop : (Done : Doing) (fault : ServeFault) (May : KeepFault → Type 0) (was is : Keeping) (here left : Option (List ℕ)) (held after : Held) (mid gained : Option (List ℕ)) (now new : Holding) → StopsAt Done fault May was is here left held after mid gained now new → Takes here left held.taken after.taken
+takes_stop Done fault May was is here left held after mid gained now new (inl stop) = stop.0
+takes_stop Done fault May was is here left held after mid gained now new (inr stop) =
+    let (of, ends, bytes, text, handed, met, n, told, keeps) = stop in
     takes_line ends here left held after bytes handed
 
 -- what was taken in all
@@ -331,3 +395,29 @@ serves_none Done input written old = record {
   told = (0, Appends-nil written);
   stands = inr (refl, tt);
 }
+
+-- and nothing was kept
+pub none_kept : (Done : Doing) (May : KeepFault → Type 0) (k : Keeping) (input written : Option (List ℕ)) (old : Holding) → ServesFrontKept Done Workers May k k input input written written old old
+none_kept Done May k input written old = (serves_none Done input written old, inl (kept_none k old.database old.line))
+
+-- where no lines at the front of an input alter the line of states, none that were served did
+module _ (Done : Doing) (input : Option (List ℕ)) (old : Holding)
+    (none : AltersNone Done input old.database old.line) where
+  pub unaltered_so : (here : Option (List ℕ)) (held : Held) (written mid : Option (List ℕ)) (now : Holding)
+      → IsServing Done input here held written mid old now → now.line ≡ old.line
+  unaltered_so here held written mid now so =
+      none here so.hands.bytes held.pending so.lines so.text now.line so.hands.consumed
+      (so.each, inl so.hands.split) so.met
+
+  pub unaltered_all : (left written gained : Option (List ℕ)) (new : Holding)
+      → ServesAll Done input left written gained old new → new.line ≡ old.line
+  unaltered_all left written gained new served =
+      none left served.bytes [] served.lines served.text new.line served.consumed served.spelled served.met
+
+  pub unaltered_front : (fault : ServeFault) (left written gained : Option (List ℕ)) (new : Holding)
+      → ServesFront Done fault input left written gained old new → new.line ≡ old.line
+  unaltered_front fault left written gained new served =
+      none left served.bytes served.rest (served.lines ++ served.more) (served.text ++ served.answer) new.line
+      served.consumed served.spelled
+      (serves_both Done old.database old.line served.lines served.text served.here served.more served.answer
+      new.line served.met served.met_more)

@@ -2,6 +2,7 @@
 use Rattle.std.proofs.Common.{◌≡◌, ◌∙◌, ◌⊎◌, Bool, List, inl, inr, sym, subst}
 use Rattle.rc_line.specs.State.{State}
 use Rattle.rc_line.specs.Line.{Line}
+use Rattle.rc_line.specs.Bound.{fitted}
 use Rattle.rc_line.specs.Moves.{EndsIn, put_between, with_live}
 use Rattle.rc_session.specs.Commands.{Command, Change, Undo, Redo, Add, Delete}
 use Rattle.rc_session.specs.Task.{MovesTo}
@@ -32,11 +33,11 @@ pub one_move : (line : Line) (command : Command) (live : List Bool) (a b : Line)
 one_move line (Change ask events) live a b ma mb = one_end line (with_live line live) a b ma mb
 one_move line (Undo limit events) live a b ma mb =
     let same = one_back ma.0 mb.0 line ma.1 mb.1 in
-    one_by_two (live ≡ mb.0.current.live) (live ≡ line.current.live) mb.0 line (put_between mb.0 (with_live line live) line) a b
-    (subst (λ (back : Line). ByTwo (live ≡ back.current.live) (live ≡ line.current.live) back line (put_between back (with_live line live) line) a) same ma.2) mb.2
+    one_by_two (live ≡ mb.0.current.live) (live ≡ line.current.live) mb.0 line (fitted (put_between mb.0 (with_live line live) line)) a b
+    (subst (λ (back : Line). ByTwo (live ≡ back.current.live) (live ≡ line.current.live) back line (fitted (put_between back (with_live line live) line)) a) same ma.2) mb.2
 one_move line (Redo limit events) live a b ma mb =
     let same = one_on line ma.0 mb.0 ma.1 mb.1 in
-    one_by_two (live ≡ mb.0.current.live) (live ≡ line.current.live) mb.0 line (put_between line (with_live line live) mb.0) a b
-    (subst (λ (on : Line). ByTwo (live ≡ on.current.live) (live ≡ line.current.live) on line (put_between line (with_live line live) on) a) same ma.2) mb.2
+    one_by_two (live ≡ mb.0.current.live) (live ≡ line.current.live) mb.0 line (fitted (put_between line (with_live line live) mb.0)) a b
+    (subst (λ (on : Line). ByTwo (live ≡ on.current.live) (live ≡ line.current.live) on line (fitted (put_between line (with_live line live) on)) a) same ma.2) mb.2
 one_move line (Add name contents force) live a b ma mb = absurd ma
 one_move line (Delete words force) live a b ma mb = absurd ma

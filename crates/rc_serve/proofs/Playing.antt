@@ -1,5 +1,5 @@
 -- What is served is a play of the commands among the lines.
-use Rattle.std.proofs.Common.{◌≡◌, ◌∙◌, inl, inr, ℕ, List, [], ◌∷◌, ◌++◌, Option, Result, Ok, Err, IfErr, OnOk, ap, refl, subst, sym, append_assoc}
+use Rattle.std.proofs.Common.{◌≡◌, inl, inr, ℕ, List, [], ◌∷◌, ◌++◌, Option, Result, Ok, Err, IfErr, OnOk, ap, refl, subst}
 use Rattle.rc_graph.specs.declared.Way.{Way}
 use Rattle.rc_db.specs.Database.{Database, IsDatabase}
 use Rattle.rc_core.specs.declared.event.Outcome.{Outcome}
@@ -13,11 +13,13 @@ use Rattle.rc_session.specs.Plays.{Plays}
 use Rattle.rc_session.proofs.Promising.{all_along}
 use Rattle.rc_lines.specs.Says.{Saying, SaysNothing, SaysWrong, SaysStep, SaysDry, SaysLive, SaysBundles, SaysJournal, Says}
 use Rattle.rc_serve.specs.declared.fault.ServeFault.{ServeFault}
+use Rattle.rc_serve.specs.declared.keeper.KeepFault.{KeepFault}
 use Rattle.rc_serve.specs.declared.fault.ServeFault.TheVariants.{Workers}
 use Rattle.rc_serve.specs.Meeting.{Doing, IsDoneBy, Meets}
 use Rattle.rc_serve.specs.Playing.{ArePlayed, AreSaid, IsDone, PlaysInput, SaysFirst}
 use Rattle.rc_serve.specs.Serving.{Serves, ServesAll, ServesFront}
-use Rattle.rc_serve.proofs.Lines.{serves_none}
+use Rattle.rc_serve.specs.Keeping.{Keeping, ServesFrontKept}
+use Rattle.rc_serve.proofs.Lines.{serves_both, serves_none}
 
 -- a command stands with its own events
 own_events : (command : Command) → command ≡ with_events command (events_of command)
@@ -26,14 +28,6 @@ own_events (Undo limit events) = refl
 own_events (Redo limit events) = refl
 own_events (Add name contents force) = refl
 own_events (Delete words force) = refl
-
--- lines are served, and then others
-serves_both : (Done : Doing) (d : Database) (here : Line) (lines : List (List ℕ)) (text : List ℕ) (mid : Line) (more : List (List ℕ)) (answer : List ℕ) (new : Line)
-    → Serves Done d here lines text mid → Serves Done d mid more answer new → Serves Done d here (lines ++ more) (text ++ answer) new
-serves_both Done d here [] text mid more answer new served next =
-    subst (λ (t : List ℕ). Serves Done d here more (t ++ answer) new) (sym served.0) (subst (λ (l : Line). Serves Done d l more answer new) served.1 next)
-serves_both Done d here (bytes ∷ lines) text mid more answer new (first, on, others, met, rest, whole) next =
-    (first, on, others ++ answer, met, serves_both Done d on lines others mid more answer new rest next, ap (λ (t : List ℕ). t ++ answer) whole ∙ append_assoc first others answer)
 
 -- some commands among lines are played
 record IsPlay (d : Database) (here : Line) (lines : List (List ℕ)) (new : Line) : Type 0 where
@@ -114,12 +108,12 @@ module _ (workers : ℕ) (Answers : ℕ → Way → Outcome → Type 0) (Gives :
   forget : (d : Database) (here : Line) (command : Command) (text : List ℕ) (new : Line) → IsDoneBy workers Answers Gives d here command text new → IsDone d here command text new
   forget d here command text new (events, told, made, does, is) = (events, told, does, is)
 
-  pub plays_input : {A : Type 0} (result : Result A ServeFault) (input left written gained : Option (List ℕ)) (old new : Holding) → IsDatabase old.database → IsLineOf old.database old.line
+  pub plays_input : {A : Type 0} (result : Result A ServeFault) (May : KeepFault → Type 0) (was is : Keeping) (input left written gained : Option (List ℕ)) (old new : Holding) → IsDatabase old.database → IsLineOf old.database old.line
       → OnOk result (ServesAll (IsDoneBy workers Answers Gives) input left written gained old new)
-      → IfErr result (λ fault. ServesFront (IsDoneBy workers Answers Gives) fault input left written gained old new) → PlaysInput input left old new
-  plays_input (Ok done) input left written gained old new is_db of served front =
+      → IfErr result (λ fault. ServesFrontKept (IsDoneBy workers Answers Gives) fault May was is input left written gained old new) → PlaysInput input left old new
+  plays_input (Ok done) May was is input left written gained old new is_db of served front =
       (served.bytes, [], served.lines, served.consumed, served.spelled, played (IsDoneBy workers Answers Gives) forget old.database old.line new.line served.lines served.text is_db of served.met)
-  plays_input (Err fault) input left written gained old new is_db of served front = plays_front (IsDoneBy workers Answers Gives) forget fault input left written gained old new is_db of front
+  plays_input (Err fault) May was is input left written gained old new is_db of served front = plays_front (IsDoneBy workers Answers Gives) forget fault input left written gained old new is_db of front.0
 
   pub plays_unread : (input written : Option (List ℕ)) (old : Holding) → IsDatabase old.database → IsLineOf old.database old.line → PlaysInput input input old old
   plays_unread input written old is_db of = plays_front (IsDoneBy workers Answers Gives) forget Workers input input written written old old is_db of (serves_none (IsDoneBy workers Answers Gives) input written old)

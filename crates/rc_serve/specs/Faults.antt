@@ -8,7 +8,7 @@ use Rattle.rc_session.specs.declared.refusal.Refusal.TheVariants as refusals
 use Rattle.rc_session.specs.Holding.{Holding}
 use Rattle.rc_streams.specs.Taking.{BeginsTooLong, IsLine}
 use Rattle.rc_serve.specs.declared.fault.ServeFault.{ServeFault}
-use Rattle.rc_serve.specs.declared.fault.ServeFault.TheVariants.{Read, Write, TooLong, Memory, NoThread, Strange, Workers}
+use Rattle.rc_serve.specs.declared.fault.ServeFault.TheVariants.{Read, Write, TooLong, Memory, NoThread, Strange, Workers, Io}
 
 -- a failure of a device, of its bounds or of memory, as it is told
 abbrev pub of_failure : Failure → ServeFault
@@ -51,6 +51,14 @@ IsOfAnswer Write = Unit {0}
 IsOfAnswer Memory = Unit {0}
 IsOfAnswer other = ⊥
 
+-- a fault that comes of a line that was met: it could not be kept, or its answer could not be made
+-- or written
+abbrev pub IsOfLine : ServeFault → Type 0
+IsOfLine Write = Unit {0}
+IsOfLine Memory = Unit {0}
+IsOfLine Io = Unit {0}
+IsOfLine other = ⊥
+
 -- where a session stands as a fault comes while all is answered: so many bytes were read in all, and these follow the lines that were met. A read fails only where no line of them is whole and no bound is passed;
 -- the input is too long only where no line of them is whole, or the next line is too long; and workers fail only where the next line has work for them, or the session was spoiled before
 abbrev pub StandsAt : ServeFault → (spoiled work : Type 0) → ℕ → List ℕ → Type 0
@@ -60,13 +68,14 @@ StandsAt NoThread spoiled work taken rest = work
 StandsAt Strange spoiled work taken rest = spoiled ⊎ work
 StandsAt other spoiled work taken rest = Unit {0}
 
--- when each fault comes: of the reader and the writer only where that one has failed, that of the
--- workers' number not once anything was read. When workers fail, `StandsAt` says
-abbrev pub IsServeFault : (reader writer : Type 0) → ServeFault → Type 0
-IsServeFault reader writer Read = reader
-IsServeFault reader writer Write = writer
-IsServeFault reader writer TooLong = Unit {0}
-IsServeFault reader writer Memory = Unit {0}
-IsServeFault reader writer NoThread = Unit {0}
-IsServeFault reader writer Strange = Unit {0}
-IsServeFault reader writer Workers = ⊥
+-- when each fault comes: of the reader, the writer and the keeper only where that one has failed,
+-- that of the workers' number not once anything was read. When workers fail, `StandsAt` says
+abbrev pub IsServeFault : (reader writer keeper : Type 0) → ServeFault → Type 0
+IsServeFault reader writer keeper Read = reader
+IsServeFault reader writer keeper Write = writer
+IsServeFault reader writer keeper TooLong = Unit {0}
+IsServeFault reader writer keeper Memory = Unit {0}
+IsServeFault reader writer keeper NoThread = Unit {0}
+IsServeFault reader writer keeper Strange = Unit {0}
+IsServeFault reader writer keeper Workers = ⊥
+IsServeFault reader writer keeper Io = keeper

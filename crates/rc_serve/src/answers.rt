@@ -1,31 +1,38 @@
 //! Session lines and their answers.
-ghost use Rattle.std.specs.Prelude.{◌≡◌, [], true, false, IfOk, IfErr};
+ghost use Rattle.std.specs.Prelude.{◌≡◌, ◌↔◌, [], true, false, length, IsTrue, IfOk, IfErr};
 ghost use Rattle.rc_session.specs.Commands.{Command, command_of, events_of, with_events};
 ghost use Rattle.rc_board.specs.Crew.{IsCrew};
 ghost use Rattle.rc_board.specs.Working.{HasWork};
 ghost use Rattle.rc_lines.specs.Says.{SaysStep, saying_of};
 ghost use Rattle.rc_serve.specs.Faults.{EndsSession, IsSpoiledBy};
+ghost use Rattle.rc_serve.specs.Keeping.{EndsLine, KeepsLine};
 ghost use Rattle.rc_serve.specs.Meeting.{IsDoneBy, IsEdited, MayMeet, MayMeetSaying, Meets, MeetsCommand, WantsWork};
 ghost use Rattle.rc_serve.specs.Serving.{BytesWantWork, MayMeetBytes, MeetsBytes, Stays};
 
 use crate::edits::{add_answer, delete_answer};
 use crate::fault::ServeFault;
+use crate::keeper::Keeper;
 use crate::runs::{change_answer, redo_answer, undo_answer};
 use crate::shows::{bundles_answer, dry_answer, journal_answer, live_answer};
 use rc_board::Gate;
+use rc_db::Table;
 use rc_lines::laws::lines_give_no_events;
 use rc_lines::{SessionLine, read_line};
 use rc_session::{Session, Step};
+use rc_set::{NoMem, Set};
 use std::alloc::Global;
 use std::sync::Wait;
 use std::thread::Threads;
 
-/// Does what a session line says, and answers. An empty line and a comment have no answer.
+/// Does what a session line says, keeps what it altered, and answers.
+///
+/// An empty line and a comment have no answer.
 #[tactic(none)]
-pub(crate) fn line_answer<T: Threads + Wait + Sync, G: Gate>(
+pub(crate) fn line_answer<T: Threads + Wait + Sync, K: Keeper, G: Gate>(
     rt: &T,
     alloc: Global,
     session: &mut Session,
+    keeper: &mut K,
     gate: &G,
     workers: u8,
     line: &[u8],
@@ -37,22 +44,28 @@ pub(crate) fn line_answer<T: Threads + Wait + Sync, G: Gate>(
     ensures may { MayMeetBytes (IsDoneBy workers (G.answers gate.now) (G.gives gate.now))
         session.old.database session.old.line line.now session.new.line }
     ensures stays { Stays session.old session.new }
-    ensures fault { IfErr result (EndsSession (BytesWantWork session.old.database session.old.line line.now) session.old session.new) }
+    ensures fault { IfErr result (EndsLine (K.failed keeper.new)
+        (BytesWantWork session.old.database session.old.line line.now)
+        session.old session.new) }
+    ensures kept { KeepsLine result K.fails (K.keeps keeper.old) (K.keeps keeper.new)
+        session.old.database session.old.line session.new.line }
+    ensures unaltered { session.new.line ≡ session.old.line → keeper.new ≡ keeper.old }
     ensures whole { IsSpoiledBy result session.old session.new }
 {
     lines_give_no_events();
     match read_line(alloc, line) {
-        Ok(said) => said_answer(rt, alloc, session, gate, workers, &said),
+        Ok(said) => said_answer(rt, alloc, session, keeper, gate, workers, &said),
         Err(_) => Err(ServeFault::Memory),
     }
 }
 
-/// Does what is said, and answers.
+/// Does what is said, keeps what it altered, and answers.
 #[tactic(none)]
-fn said_answer<T: Threads + Wait + Sync, G: Gate>(
+fn said_answer<T: Threads + Wait + Sync, K: Keeper, G: Gate>(
     rt: &T,
     alloc: Global,
     session: &mut Session,
+    keeper: &mut K,
     gate: &G,
     workers: u8,
     said: &SessionLine,
@@ -65,13 +78,83 @@ fn said_answer<T: Threads + Wait + Sync, G: Gate>(
     ensures may { MayMeetSaying (IsDoneBy workers (G.answers gate.now) (G.gives gate.now))
         session.old.database session.old.line (saying_of said.now) session.new.line }
     ensures stays { Stays session.old session.new }
-    ensures fault { IfErr result (EndsSession (WantsWork session.old.database session.old.line (saying_of said.now)) session.old session.new) }
+    ensures fault { IfErr result (EndsLine (K.failed keeper.new)
+        (WantsWork session.old.database session.old.line (saying_of said.now))
+        session.old session.new) }
+    ensures kept { KeepsLine result K.fails (K.keeps keeper.old) (K.keeps keeper.new)
+        session.old.database session.old.line session.new.line }
+    ensures unaltered { session.new.line ≡ session.old.line → keeper.new ≡ keeper.old }
     ensures whole { IsSpoiledBy result session.old session.new }
 {
     match said {
-        SessionLine::Step(step) => step_answer(rt, alloc, session, gate, workers, step),
+        SessionLine::Step(step) => kept_answer(rt, alloc, session, keeper, gate, workers, step),
         _ => shown(alloc, session, said),
     }
+}
+
+/// Carries a command out, keeps the line of states if it has altered, and answers.
+///
+/// It has altered exactly where its current state has, since neighbours differ.
+fn kept_answer<T: Threads + Wait + Sync, K: Keeper, G: Gate>(
+    rt: &T,
+    alloc: Global,
+    session: &mut Session,
+    keeper: &mut K,
+    gate: &G,
+    workers: u8,
+    step: &Step,
+) -> Result<Vec<u8>, ServeFault>
+    requires closed { session.old.begun ≡ false }
+    requires crew { IsCrew workers }
+    ensures met { IfOk result (λ text. MeetsCommand
+        (IsDoneBy workers (G.answers gate.now) (G.gives gate.now))
+        session.old.database session.old.line (with_events (command_of step.now) [])
+        text.items session.new.line) }
+    ensures may { MayMeet (IsDoneBy workers (G.answers gate.now) (G.gives gate.now))
+        session.old.database session.old.line (with_events (command_of step.now) [])
+        session.new.line }
+    ensures stays { Stays session.old session.new }
+    ensures fault { IfErr result (EndsLine (K.failed keeper.new)
+        (HasWork session.old.database session.old.line (with_events (command_of step.now) []))
+        session.old session.new) }
+    ensures kept { KeepsLine result K.fails (K.keeps keeper.old) (K.keeps keeper.new)
+        session.old.database session.old.line session.new.line }
+    ensures unaltered { session.new.line ≡ session.old.line → keeper.new ≡ keeper.old }
+    ensures whole { IsSpoiledBy result session.old session.new }
+{
+    // The session tells that its line is one of its database: so neighbours differ.
+    let _ = session.journal();
+    let Ok((live, table)) = current(alloc, session) else {
+        return Err(ServeFault::Memory);
+    };
+    let answer = step_answer(rt, alloc, session, gate, workers, step);
+    let _ = session.journal();
+    if is_current(session, &live, &table) {
+        return answer;
+    }
+    match keeper.keep(alloc, session) {
+        Ok(()) => answer,
+        Err(fault) => Err(ServeFault::from(fault)),
+    }
+}
+
+/// A copy of the current state.
+fn current(alloc: Global, session: &Session) -> Result<(Set, Table), NoMem>
+    ensures { IfOk result (λ state. (state.0 ≡ session.now.line.current.live)
+        × (state.1 ≡ session.now.line.current.table)) }
+{
+    let live = session.live().copy(alloc)?;
+    let table = session.table().copy(alloc)?;
+    Ok((live, table))
+}
+
+/// Whether the current state is this one.
+fn is_current(session: &Session, live: &Set, table: &Table) -> bool
+    requires { length live.now ≡ length session.now.line.current.live }
+    ensures { IsTrue result ↔ ((session.now.line.current.live ≡ live.now)
+        × (session.now.line.current.table ≡ table.now)) }
+{
+    session.live().same(live) && session.table().same(table)
 }
 
 /// Answers what is said where nothing is to be done.

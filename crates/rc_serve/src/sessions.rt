@@ -5,13 +5,15 @@ ghost use Rattle.rc_streams.specs.Noting.{HasFailed, IsFlushed, inner_of};
 ghost use Rattle.rc_graph.specs.declared.Way.{Way};
 ghost use Rattle.rc_board.specs.Crew.{IsCrew};
 ghost use Rattle.rc_serve.specs.Faults.{IsOfAnswer, IsServeFault, IsSpoiledBy};
+ghost use Rattle.rc_serve.specs.Keeping.{AltersNone, IsKeptUp, ServesFrontFailingKept, ServesFrontKept, StopsAt};
 ghost use Rattle.rc_serve.specs.Meeting.{IsDoneBy};
-ghost use Rattle.rc_serve.specs.Serving.{ServesAll, ServesFront, ServesNext, Stays, StopsAt};
+ghost use Rattle.rc_serve.specs.Serving.{ServesAll, ServesNext, Stays};
 ghost use Rattle.rc_serve.specs.Playing.{PlaysInput};
-ghost use Rattle.rc_serve.specs.SessionText.{FailsExactly, IsTimeless, ServesFailing, ServesFrontFailing};
+ghost use Rattle.rc_serve.specs.SessionText.{FailsExactly, IsTimeless, ServesFailing};
 
 use crate::answers::line_answer;
 use crate::fault::ServeFault;
+use crate::keeper::Keeper;
 use rc_board::Gate;
 use rc_session::Session;
 use rc_streams::writing::write_answer;
@@ -26,18 +28,22 @@ const MAX_WORKERS: u8 = 64;
 
 /// Runs a session: reads lines, does what each says, and answers it before the next one is waited for.
 ///
+/// A line that alters the line of states is kept before it is answered: no answer is written of
+/// what is not kept.
+///
 /// An answer is written whole and flushed. A refused command is answered too, and the session goes on. It ends with
 /// the input, or with a fault: then the lines before were done and answered whole. The line whose answer could not be made
 /// or written may be done as well, and nothing behind it is.
 ///
 /// Time: it grows with the bytes of the lines and with what the commands do; a line costs no more the longer the journal is,
 /// but for `journal`, which shows it.
-pub fn serve<T: Threads + Wait + Sync, R: Read, W: Write, G: Gate>(
+pub fn serve<T: Threads + Wait + Sync, R: Read, W: Write, K: Keeper, G: Gate>(
     rt: &T,
     alloc: Global,
     reader: &mut Noted<R>,
     writer: &mut Noted<W>,
     session: &mut Session,
+    keeper: &mut K,
     gate: &G,
     workers: u8,
 ) -> Result<(), ServeFault>
@@ -50,11 +56,25 @@ pub fn serve<T: Threads + Wait + Sync, R: Read, W: Write, G: Gate>(
         (R.remaining (inner_of reader.old)) (R.remaining (inner_of reader.new))
         (W.contents (inner_of writer.old)) (W.contents (inner_of writer.new)) session.old session.new) }
 
-    // Lines at the front of the input were met and answered whole, and then one more at most, of whose answer a front was
-    // written. There is one more only where a write failed or memory was wanting. A read fails only where no whole line is
-    // left. TooLong comes only where none is left, and the input passes its bound, or where the next line passes its own.
-    // Workers fail only where the next line is a command that moves a service.
-    ensures begun { IfErr result (λ fault. ServesFront (IsDoneBy workers (G.answers gate.now) (G.gives gate.now)) fault
+    // The line of states that stands is kept, or none was altered.
+    ensures kept { OnOk result (IsKeptUp (K.keeps keeper.old) (K.keeps keeper.new)
+        session.old.database session.old.line session.new.line) }
+
+    // A session none of whose lines alters the line of states keeps nothing.
+    ensures unaltered { AltersNone (IsDoneBy workers (G.answers gate.now) (G.gives gate.now))
+        (R.remaining (inner_of reader.old)) session.old.database session.old.line
+        → keeper.new ≡ keeper.old }
+
+    // Lines at the front of the input were met and answered whole, and then one more at most, of
+    // whose answer a front was written. There is one more only where it could not be kept, its
+    // answer could not be written, or memory was wanting. A read fails only where no whole line is
+    // left. TooLong comes only where none is left, and the input passes its bound, or where the
+    // next line passes its own. Workers fail only where the next line is a command that moves a
+    // service. The line of states that stands is kept, or none was altered; or keeping it has
+    // failed: then nothing was written of its answer, and the one before it is kept.
+    ensures begun { IfErr result (λ fault. ServesFrontKept
+        (IsDoneBy workers (G.answers gate.now) (G.gives gate.now)) fault
+        K.fails (K.keeps keeper.old) (K.keeps keeper.new)
         (R.remaining (inner_of reader.old)) (R.remaining (inner_of reader.new))
         (W.contents (inner_of writer.old)) (W.contents (inner_of writer.new)) session.old session.new) }
 
@@ -70,7 +90,8 @@ pub fn serve<T: Threads + Wait + Sync, R: Read, W: Write, G: Gate>(
     ensures front { (fails : ℕ → Way → Bool) →
         FailsExactly (G.answers gate.now) fails →
         IsTimeless (G.gives gate.now) (R.remaining (inner_of reader.old)) →
-        IfErr result (λ fault. ServesFrontFailing fault fails
+        IfErr result (λ fault. ServesFrontFailingKept fault
+        K.fails (K.keeps keeper.old) (K.keeps keeper.new) fails
         (R.remaining (inner_of reader.old)) (R.remaining (inner_of reader.new))
         (W.contents (inner_of writer.old)) (W.contents (inner_of writer.new))
         session.old session.new) }
@@ -89,6 +110,7 @@ pub fn serve<T: Threads + Wait + Sync, R: Read, W: Write, G: Gate>(
     ensures unread { result ≡ Err ServeFault.Workers → reader.new ≡ reader.old }
     ensures unwritten { result ≡ Err ServeFault.Workers → writer.new ≡ writer.old }
     ensures same { result ≡ Err ServeFault.Workers → session.new ≡ session.old }
+    ensures unkept { result ≡ Err ServeFault.Workers → keeper.new ≡ keeper.old }
 
     // Where a device has failed it ends by a fault, and by one of the reader or the writer only where that one has failed.
     ensures sound { OnOk result ((HasFailed reader.new → ⊥) × (HasFailed writer.new → ⊥)) }
@@ -97,6 +119,9 @@ pub fn serve<T: Threads + Wait + Sync, R: Read, W: Write, G: Gate>(
     // Where the reader has failed that is what is told: no read is made before the lines that were read are answered.
     ensures told { HasFailed reader.new → result ≡ Err ServeFault.Read }
     ensures written { result ≡ Err ServeFault.Write → HasFailed writer.new }
+
+    // It ends as Io only where the keeper has failed.
+    ensures io { result ≡ Err ServeFault.Io → K.failed keeper.new }
 
     // A session is spoiled by a strange fault, and by nothing else.
     ensures whole { IsSpoiledBy result session.old session.new }
@@ -111,16 +136,17 @@ pub fn serve<T: Threads + Wait + Sync, R: Read, W: Write, G: Gate>(
     if workers == 0 || workers > MAX_WORKERS {
         return Err(ServeFault::Workers);
     }
-    serve_lines(rt, alloc, reader, writer, session, gate, workers)
+    serve_lines(rt, alloc, reader, writer, session, keeper, gate, workers)
 }
 
 /// The same with a right number of workers.
-fn serve_lines<T: Threads + Wait + Sync, R: Read, W: Write, G: Gate>(
+fn serve_lines<T: Threads + Wait + Sync, R: Read, W: Write, K: Keeper, G: Gate>(
     rt: &T,
     alloc: Global,
     reader: &mut Noted<R>,
     writer: &mut Noted<W>,
     session: &mut Session,
+    keeper: &mut K,
     gate: &G,
     workers: u8,
 ) -> Result<(), ServeFault>
@@ -131,32 +157,41 @@ fn serve_lines<T: Threads + Wait + Sync, R: Read, W: Write, G: Gate>(
     ensures done { OnOk result (ServesAll (IsDoneBy workers (G.answers gate.now) (G.gives gate.now))
         (R.remaining (inner_of reader.old)) (R.remaining (inner_of reader.new))
         (W.contents (inner_of writer.old)) (W.contents (inner_of writer.new)) session.old session.new) }
-    ensures begun { IfErr result (λ fault. ServesFront (IsDoneBy workers (G.answers gate.now) (G.gives gate.now)) fault
+    ensures kept { OnOk result (IsKeptUp (K.keeps keeper.old) (K.keeps keeper.new)
+        session.old.database session.old.line session.new.line) }
+    ensures unaltered { AltersNone (IsDoneBy workers (G.answers gate.now) (G.gives gate.now))
+        (R.remaining (inner_of reader.old)) session.old.database session.old.line
+        → keeper.new ≡ keeper.old }
+    ensures begun { IfErr result (λ fault. ServesFrontKept
+        (IsDoneBy workers (G.answers gate.now) (G.gives gate.now)) fault
+        K.fails (K.keeps keeper.old) (K.keeps keeper.new)
         (R.remaining (inner_of reader.old)) (R.remaining (inner_of reader.new))
         (W.contents (inner_of writer.old)) (W.contents (inner_of writer.new)) session.old session.new) }
     ensures flushed { MatchResult result (λ _. IsFlushed writer.old → IsFlushed writer.new) (λ fault. IsOfAnswer fault ⊎ (IsFlushed writer.old → IsFlushed writer.new)) }
     ensures sound { OnOk result ((HasFailed reader.new → ⊥) × (HasFailed writer.new → ⊥)) }
     ensures told { HasFailed reader.new → result ≡ Err ServeFault.Read }
     ensures stays { Stays session.old session.new }
-    ensures fault { IfErr result (IsServeFault (HasFailed reader.new) (HasFailed writer.new)) }
+    ensures fault { IfErr result (IsServeFault
+        (HasFailed reader.new) (HasFailed writer.new) (K.failed keeper.new)) }
     ensures whole { IsSpoiledBy result session.old session.new }
     ensures taken { ConsumesAtMost (R.remaining (inner_of reader.old)) (R.remaining (inner_of reader.new)) 16777217 }
 {
     let mut lines = Lines::new(alloc);
     while next_answer(
-        rt, alloc, &mut lines, reader, writer, session, gate, workers,
+        rt, alloc, &mut lines, reader, writer, session, keeper, gate, workers,
     )? {}
     Ok(())
 }
 
 /// Answers the next line. False: it was the last one, or there was none.
-fn next_answer<T: Threads + Wait + Sync, R: Read, W: Write, G: Gate>(
+fn next_answer<T: Threads + Wait + Sync, R: Read, W: Write, K: Keeper, G: Gate>(
     rt: &T,
     alloc: Global,
     lines: &mut Lines,
     reader: &mut Noted<R>,
     writer: &mut Noted<W>,
     session: &mut Session,
+    keeper: &mut K,
     gate: &G,
     workers: u8,
 ) -> Result<bool, ServeFault>
@@ -167,7 +202,12 @@ fn next_answer<T: Threads + Wait + Sync, R: Read, W: Write, G: Gate>(
     ensures next { IfOk result (λ more. ServesNext (IsDoneBy workers (G.answers gate.now) (G.gives gate.now)) more
         (R.remaining (inner_of reader.old)) (R.remaining (inner_of reader.new)) lines.old lines.new
         (W.contents (inner_of writer.old)) (W.contents (inner_of writer.new)) session.old session.new) }
-    ensures stopped { IfErr result (λ fault. StopsAt (IsDoneBy workers (G.answers gate.now) (G.gives gate.now)) fault
+    ensures kept { OnOk result (IsKeptUp (K.keeps keeper.old) (K.keeps keeper.new)
+        session.old.database session.old.line session.new.line) }
+    ensures unaltered { session.new.line ≡ session.old.line → keeper.new ≡ keeper.old }
+    ensures stopped { IfErr result (λ fault. StopsAt
+        (IsDoneBy workers (G.answers gate.now) (G.gives gate.now)) fault
+        K.fails (K.keeps keeper.old) (K.keeps keeper.new)
         (R.remaining (inner_of reader.old)) (R.remaining (inner_of reader.new)) lines.old lines.new
         (W.contents (inner_of writer.old)) (W.contents (inner_of writer.new)) session.old session.new) }
     ensures flushed { MatchResult result (λ _. IsFlushed writer.old → IsFlushed writer.new) (λ fault. IsOfAnswer fault ⊎ (IsFlushed writer.old → IsFlushed writer.new)) }
@@ -175,14 +215,15 @@ fn next_answer<T: Threads + Wait + Sync, R: Read, W: Write, G: Gate>(
     ensures reader { OnOk result (HasFailed reader.new → ⊥) }
     ensures writer { OnOk result (HasFailed writer.new → ⊥) }
     ensures told { HasFailed reader.new → result ≡ Err ServeFault.Read }
-    ensures fault { IfErr result (IsServeFault (HasFailed reader.new) (HasFailed writer.new)) }
+    ensures fault { IfErr result (IsServeFault
+        (HasFailed reader.new) (HasFailed writer.new) (K.failed keeper.new)) }
     ensures whole { IsSpoiledBy result session.old session.new }
     ensures within { lines.new.taken ≤ 16777217 }
 {
     let Some((line, ends)) = lines.next(alloc, reader)? else {
         return Ok(false);
     };
-    let text = line_answer(rt, alloc, session, gate, workers, &line)?;
+    let text = line_answer(rt, alloc, session, keeper, gate, workers, &line)?;
     write_answer(writer, &text)?;
     Ok(ends)
 }

@@ -1,6 +1,6 @@
 -- How a session of the program ends.
-use Rattle.std.proofs.Common.{◌≡◌, ◌∙◌, ◌⊎◌, ◌↔◌, ℕ, Bool, true, false, if◌then◌else◌, Contains, List, [], Option, None, Some, Result, Ok, Err, IfErr, OnOk, inl, inr, ap, arith, refl, sym, subst}
-use Rattle.clap.specs.Words.{Text}
+use Rattle.std.proofs.Common.{◌≡◌, ◌≢◌, ◌∙◌, ◌⊎◌, ◌↔◌, ℕ, Bool, true, false, if◌then◌else◌, Contains, List, [], Option, None, Some, option_map, Result, Ok, Err, IfErr, OnOk, inl, inr, ap, arith, refl, sym, subst}
+use Rattle.clap.specs.Words.{Text, Text as Path}
 use Rattle.rc_graph.specs.declared.Way.{Way}
 use Rattle.rc_core.specs.Standing.{is_success}
 use Rattle.rc_core.specs.declared.event.Outcome.{Outcome}
@@ -16,75 +16,158 @@ use Rattle.rc_asked.specs.Listed.{Listed}
 use Rattle.rc_sessions.specs.declared.failing.GateFault.{GateFault}
 use Rattle.rc_sessions.specs.declared.failing.GateFault.TheVariants as gate
 use Rattle.rc_serve.specs.declared.fault.ServeFault.{ServeFault}
-use Rattle.rc_serve.specs.declared.fault.ServeFault.TheVariants.{Read, Write, TooLong, Memory, NoThread, Strange, Workers}
+use Rattle.rc_serve.specs.declared.fault.ServeFault.TheVariants.{Read, Write, TooLong, Memory, NoThread, Strange, Workers, Io}
 use Rattle.rc_streams.specs.Input.{AppendsFront, fault_line}
+use Rattle.rc_serve.specs.Faults.{IsServeFault}
+use Rattle.rc_serve.specs.Keeping.{IsKeptAt, IsKeptUp, IsOfKeeping, Keeping, ServesFrontKept}
+use Rattle.rc_serve.specs.declared.keeper.KeepFault.{KeepFault}
+use Rattle.rc_serve.specs.Playing.{PlaysInput}
 use Rattle.rc_serve.specs.Meeting.{Doing, IsDoneBy}
 use Rattle.rc_serve.specs.SessionText.{FailsExactly, IsDoneFailing, IsTimeless}
 use Rattle.rc_base.specs.Base.{Spells}
-use Rattle.rc_sessions.specs.Serving.{RunsFor, RunsGated, RunsOn, Serves, ServesUpTo, Serving, first_session}
+use Rattle.rc_line.specs.Line.{Line}
+use Rattle.rc_sessions.specs.Filing.{BeginsWith, CannotKeep, Filing, Holds, HoldsBy, IsLeft, IsLeftOrFirst, IsUnread, filing_of}
+use Rattle.rc_sessions.specs.Storing.{HoldsText}
+use Rattle.rc_sessions.specs.declared.keeping.LiveFile.{LiveFile}
+use Rattle.rc_sessions.specs.Serving.{IsOfFile, KeepsAt, RunsFor, RunsGated, RunsOn, Serves, ServesUpTo, Serving, StopsUpTo, session_on}
 use Rattle.rc_base.specs.Opening.{Reads}
-use Rattle.rc_sessions.specs.Session.{Runs, RunsAsked}
+use Rattle.rc_sessions.specs.Session.{Runs}
 use Rattle.rc_asked.specs.Programs.{ByPrograms, ByTable}
-use Rattle.rc_asked.specs.SessionAsked.{AsksSession, SessionAsk}
-use Rattle.rc_sessions.specs.SessionFaults.{EndsBy, EndsGated, EndsOn, IsGateFailing, IsRefusal, IsServingFault, IsSessionRefused, IsToldAs, IsUnserved, serve_word}
+use Rattle.rc_asked.specs.SessionAsked.{SessionAsk}
+use Rattle.rc_sessions.specs.SessionFaults.{EndsBy, EndsGated, EndsOn, IsBeginFault, IsGateFailing, IsNotBegun, IsRefusal, IsRefusedBy, IsToldAs, IsUnserved, serve_word}
 use Rattle.rc_sessions.specs.declared.session_fault.SessionFault.{SessionFault}
-use Rattle.rc_sessions.specs.declared.session_fault.SessionFault.TheVariants.{OfText, Unknown, Failed}
+use Rattle.rc_sessions.specs.declared.session_fault.SessionFault.TheVariants.{OfText, Unknown, OfLive, Failed}
 
 -- a fault of serving stays one where more counts as a failure of the devices
-pub fault_wider : (fault : ServeFault) (reader writer more others : Type 0) → (reader → more) → (writer → others) → IsServingFault reader writer fault → IsServingFault more others fault
-fault_wider Read reader writer more others f g h = f h
-fault_wider Write reader writer more others f g h = g h
-fault_wider TooLong reader writer more others f g h = tt
-fault_wider Memory reader writer more others f g h = tt
-fault_wider NoThread reader writer more others f g h = h
-fault_wider Strange reader writer more others f g h = h
-fault_wider Workers reader writer more others f g h = h
+pub fault_wider : (fault : ServeFault) (reader writer keeper more others kept : Type 0)
+    → (reader → more) → (writer → others) → (keeper → kept)
+    → IsServeFault reader writer keeper fault → IsServeFault more others kept fault
+fault_wider Read reader writer keeper more others kept f g h fails = f fails
+fault_wider Write reader writer keeper more others kept f g h fails = g fails
+fault_wider TooLong reader writer keeper more others kept f g h fails = tt
+fault_wider Memory reader writer keeper more others kept f g h fails = tt
+fault_wider NoThread reader writer keeper more others kept f g h fails = fails
+fault_wider Strange reader writer keeper more others kept f g h fails = fails
+fault_wider Workers reader writer keeper more others kept f g h fails = fails
+fault_wider Io reader writer keeper more others kept f g h fails = h fails
+
+-- a session that is not begun is not served
+unbegun : (fault : ServeFault) (base remaining : Option (List ℕ)) → IsOfFile fault → IsUnserved fault base remaining
+unbegun Read base remaining is = absurd is
+unbegun Write base remaining is = absurd is
+unbegun TooLong base remaining is = absurd is
+unbegun Memory base remaining is = tt
+unbegun NoThread base remaining is = absurd is
+unbegun Strange base remaining is = absurd is
+unbegun Workers base remaining is = absurd is
+unbegun Io base remaining is = tt
 
 -- the first name that is no service's ends the session on a database
-pub gate_ends : (fault : GateFault) (told : SessionFault) (d : Database) (workers : ℕ) (names : List (List ℕ)) (listed : List Listed) (input written : Option (List ℕ)) (reader writer : Type 0)
-    → IsGateFailing fault told → names ≡ d.names → IsGateFault names listed fault → EndsOn told d workers (ByTable listed) input input written written reader writer
-gate_ends (gate.Unknown word) told d workers names listed input written reader writer is same wrong =
+pub gate_ends : (fault : GateFault) (told : SessionFault) (filing : Filing) (d : Database) (workers : ℕ) (names : List (List ℕ)) (listed : List Listed) (input written : Option (List ℕ)) (reader writer keeper : Type 0)
+    → IsLeft filing → IsGateFailing fault told → names ≡ d.names → IsGateFault names listed fault
+    → EndsOn told filing d workers (ByTable listed) input input written written reader writer keeper
+gate_ends (gate.Unknown word) told filing d workers names listed input written reader writer keeper left is same wrong =
     let first : IsFirstUnknown d.names listed word.now = subst (λ (ns : List (List ℕ)). IsFirstUnknown ns listed word.now) same wrong in
-    subst (λ (f : SessionFault). EndsOn f d workers (ByTable listed) input input written written reader writer) (sym is) (first, refl, refl)
-gate_ends gate.Memory told d workers names listed input written reader writer is same wrong = subst (λ (f : SessionFault). EndsOn f d workers (ByTable listed) input input written written reader writer) (sym is) (tt, inl (refl, refl))
+    subst (λ (f : SessionFault). EndsOn f filing d workers (ByTable listed) input input written written reader writer keeper) (sym is) (first, refl, refl, left)
+gate_ends gate.Memory told filing d workers names listed input written reader writer keeper left is same wrong =
+    subst (λ (f : SessionFault). EndsOn f filing d workers (ByTable listed) input input written written reader writer keeper) (sym is) (tt, inl (tt, refl, inl left))
+
+-- why a session does not begin ends it
+pub begin_ends : (fault : SessionFault) (ask : SessionAsk) (file : LiveFile) (held : Option (List ℕ)) (Done : Doing) (d : Database) (input written : Option (List ℕ)) (reader writer failed : Type 0)
+    → IsBeginFault ask file d fault
+    → EndsGated fault (filing_of ask file held held) Done d input input written written reader writer (CannotKeep ask file failed)
+begin_ends (OfText fault) ask file held Done d input written reader writer failed is = absurd is
+begin_ends (Unknown word) ask file held Done d input written reader writer failed is = absurd is
+begin_ends (OfLive fault) ask file held Done d input written reader writer failed is = (is, refl, refl, refl)
+begin_ends (Failed fault) ask file held Done d input written reader writer failed is =
+    (unbegun_fault fault ask file reader writer failed is.0 is.1, inl (is.0, refl, inl refl))
+  where
+    unbegun_fault : (f : ServeFault) (a : SessionAsk) (at : LiveFile) (r w bad : Type 0)
+        → IsOfFile f → ((f ≡ Io) → (a.live ≢ None) × IsUnread at) → IsServeFault r w (CannotKeep a at bad) f
+    unbegun_fault Read a at r w bad u io = absurd u
+    unbegun_fault Write a at r w bad u io = absurd u
+    unbegun_fault TooLong a at r w bad u io = absurd u
+    unbegun_fault Memory a at r w bad u io = tt
+    unbegun_fault NoThread a at r w bad u io = absurd u
+    unbegun_fault Strange a at r w bad u io = absurd u
+    unbegun_fault Workers a at r w bad u io = absurd u
+    unbegun_fault Io a at r w bad u io = let both = io refl in (both.0, inl both.1)
+
+-- a session that is not served on a database is not begun, whatever the base
+not_begun : (fault : ServeFault) (base remaining : Option (List ℕ)) (d : Database) (filing : Filing) (written gained : Option (List ℕ))
+    → IsOfFile fault × (gained ≡ written) × IsLeftOrFirst d filing → IsNotBegun fault base filing remaining written gained
+not_begun fault base remaining d filing written gained is = (unbegun fault base remaining is.0, is.1, inr (d, is.2))
+
+-- a session on the database of a base is one of the base and the input
+pub ends_on_base : (fault : SessionFault) (bytes : List ℕ) (d : Database) (ask : SessionAsk) (file : LiveFile) (was is : Option (List ℕ)) (remaining after written gained : Option (List ℕ)) (reader writer keeper : Type 0)
+    → Spells (Some bytes) [] d [] → EndsOn fault (filing_of ask file was is) d ask.workers ask.making remaining after written gained reader writer keeper
+    → EndsBy fault (Some bytes) ask file was is remaining after written gained reader writer keeper
+ends_on_base (OfText fault) bytes d ask file was is remaining after written gained reader writer keeper spelled end = absurd end
+ends_on_base (Unknown word) bytes d ask file was is remaining after written gained reader writer keeper spelled end =
+    (([], (refl, end.1), (d, [], spelled, end.0)), end.2, end.3)
+ends_on_base (OfLive fault) bytes d ask file was is remaining after written gained reader writer keeper spelled end =
+    (([], (refl, end.1), (d, [], spelled, end.0.0, end.0.1)), end.2, end.3)
+ends_on_base (Failed fault) bytes d ask file was is remaining after written gained reader writer keeper spelled end = (
+  end.0,
+  elim end.1 [
+    | inl un ↦ inl (not_begun fault (Some bytes) remaining d (filing_of ask file was is) written gained un)
+    | inr run ↦ inr (record { database = d; input = remaining; left = after; opened = (spelled, refl, refl); run = run })
+  ],
+)
 
 -- a session on the database at the front of the input, over what is behind it, is one of the input
-pub runs_on_input : (Served : Serving) (all rest : List ℕ) (d : Database) (ask : SessionAsk) (remaining after left written gained : Option (List ℕ))
-    → Reads None remaining after all → Spells None all d rest → RunsFor Served d ask.workers ask.making (Some rest) left written gained → Runs Served None ask remaining after written gained
-runs_on_input Served all rest d ask remaining after left written gained reads spelled run =
+pub runs_on_input : (Served : Serving) (all rest : List ℕ) (d : Database) (ask : SessionAsk) (file : LiveFile) (was is : Option (List ℕ)) (remaining after left written gained : Option (List ℕ))
+    → Reads None remaining after all → Spells None all d rest → RunsFor Served (filing_of ask file was is) d ask.workers ask.making (Some rest) left written gained
+    → Runs Served None ask file was is remaining after written gained
+runs_on_input Served all rest d ask file was is remaining after left written gained reads spelled run =
     record { database = d; input = Some rest; left = left; opened = (all, rest, reads, spelled, refl); run = run }
 
-pub ends_on_input : (fault : SessionFault) (all rest : List ℕ) (d : Database) (ask : SessionAsk) (remaining after left written gained : Option (List ℕ)) (reader writer : Type 0)
-    → Reads None remaining after all → Spells None all d rest → EndsOn fault d ask.workers ask.making (Some rest) left written gained reader writer → EndsBy fault None ask remaining after written gained (Unit {0}) writer
-ends_on_input (OfText fault) all rest d ask remaining after left written gained reader writer reads spelled end = absurd end
-ends_on_input (Unknown word) all rest d ask remaining after left written gained reader writer reads spelled end = ((all, reads, (d, rest, spelled, end.0)), end.2)
-ends_on_input (Failed fault) all rest d ask remaining after left written gained reader writer reads spelled end = (
-  fault_wider fault reader writer (Unit {0}) writer (λ _. tt) (λ w. w) end.0,
-  elim end.1 [ inl same ↦ inl (subst (λ (f : ServeFault). IsUnserved f None remaining) (sym same.0) tt, same.1) | inr run ↦ inr (runs_on_input (ServesUpTo fault) all rest d ask remaining after left written gained reads spelled run) ],
+pub ends_on_input : (fault : SessionFault) (all rest : List ℕ) (d : Database) (ask : SessionAsk) (file : LiveFile) (was is : Option (List ℕ)) (remaining after left written gained : Option (List ℕ)) (reader writer keeper : Type 0)
+    → Reads None remaining after all → Spells None all d rest
+    → EndsOn fault (filing_of ask file was is) d ask.workers ask.making (Some rest) left written gained reader writer keeper
+    → EndsBy fault None ask file was is remaining after written gained (Unit {0}) writer keeper
+ends_on_input (OfText fault) all rest d ask file was is remaining after left written gained reader writer keeper reads spelled end = absurd end
+ends_on_input (Unknown word) all rest d ask file was is remaining after left written gained reader writer keeper reads spelled end =
+    ((all, reads, (d, rest, spelled, end.0)), end.2, end.3)
+ends_on_input (OfLive fault) all rest d ask file was is remaining after left written gained reader writer keeper reads spelled end =
+    ((all, reads, (d, rest, spelled, end.0.0, end.0.1)), end.2, end.3)
+ends_on_input (Failed fault) all rest d ask file was is remaining after left written gained reader writer keeper reads spelled end = (
+  fault_wider fault reader writer keeper (Unit {0}) writer keeper (λ _. tt) (λ w. w) (λ k. k) end.0,
+  elim end.1 [
+    | inl un ↦ inl (not_begun fault None remaining d (filing_of ask file was is) written gained un)
+    | inr run ↦ inr (runs_on_input (ServesUpTo fault) all rest d ask file was is remaining after left written gained reads spelled run)
+  ],
 )
 
 -- what holds where a refusal is told
-pub refusal_holds : (fault : SessionFault) (base : Option (List ℕ)) (ask : SessionAsk) (remaining after written gained : Option (List ℕ)) (reader writer : Type 0)
-    → IsRefusal fault → EndsBy fault base ask remaining after written gained reader writer
-    → ((input : List ℕ) × Reads base remaining after input × IsSessionRefused fault ask base input) × (gained ≡ written)
-refusal_holds (OfText fault) base ask remaining after written gained reader writer is end = end
-refusal_holds (Unknown word) base ask remaining after written gained reader writer is end = end
-refusal_holds (Failed fault) base ask remaining after written gained reader writer is end = absurd is
+pub refusal_holds : (fault : SessionFault) (base : Option (List ℕ)) (ask : SessionAsk) (file : LiveFile) (was is : Option (List ℕ)) (remaining after written gained : Option (List ℕ)) (reader writer keeper : Type 0)
+    → IsRefusal fault → EndsBy fault base ask file was is remaining after written gained reader writer keeper
+    → IsRefusedBy fault base ask (filing_of ask file was is) remaining after × (gained ≡ written) × (is ≡ was)
+refusal_holds (OfText fault) base ask file was is remaining after written gained reader writer keeper told end = end
+refusal_holds (Unknown word) base ask file was is remaining after written gained reader writer keeper told end = end
+refusal_holds (OfLive fault) base ask file was is remaining after written gained reader writer keeper told end = end
+refusal_holds (Failed fault) base ask file was is remaining after written gained reader writer keeper told end = absurd told
+
+-- a refusal that could not be told is told as out of memory
+refused_memory : (told : ServeFault) (base : Option (List ℕ)) (ask : SessionAsk) (file : LiveFile) (was is : Option (List ℕ)) (remaining after written gained : Option (List ℕ)) (reader writer keeper : Type 0)
+    → told ≡ Memory → gained ≡ written → is ≡ was
+    → IsServeFault reader writer keeper told × (IsNotBegun told base (filing_of ask file was is) remaining written gained ⊎ Runs (ServesUpTo told) base ask file was is remaining after written gained)
+refused_memory told base ask file was is remaining after written gained reader writer keeper same none left =
+    subst (λ (f : ServeFault). IsServeFault reader writer keeper f × (IsNotBegun f base (filing_of ask file was is) remaining written gained ⊎ Runs (ServesUpTo f) base ask file was is remaining after written gained)) (sym same)
+    (tt, inl (tt, none, inl left))
 
 -- what holds where a failure is told
-pub failure_holds : (fault : SessionFault) (told : ServeFault) (base : Option (List ℕ)) (ask : SessionAsk) (remaining after written gained : Option (List ℕ)) (reader writer : Type 0)
-    → IsToldAs fault told → EndsBy fault base ask remaining after written gained reader writer
-    → IsServingFault reader writer told × ((IsUnserved told base remaining × (gained ≡ written)) ⊎ Runs (ServesUpTo told) base ask remaining after written gained)
-failure_holds (OfText fault) told base ask remaining after written gained reader writer is end = (subst (IsServingFault reader writer) (sym is) tt, inl (subst (λ (f : ServeFault). IsUnserved f base remaining) (sym is) tt, end.1))
-failure_holds (Unknown word) told base ask remaining after written gained reader writer is end = (subst (IsServingFault reader writer) (sym is) tt, inl (subst (λ (f : ServeFault). IsUnserved f base remaining) (sym is) tt, end.1))
-failure_holds (Failed fault) told base ask remaining after written gained reader writer is end =
-    subst (λ (f : ServeFault). IsServingFault reader writer f × ((IsUnserved f base remaining × (gained ≡ written)) ⊎ Runs (ServesUpTo f) base ask remaining after written gained)) (sym is) end
-
--- a session was served for what the words ask, or not at all
-pub front_asked : (told : ServeFault) (words : List Text) (base : Option (List ℕ)) (ask : SessionAsk) (remaining after written gained : Option (List ℕ))
-    → AsksSession words ask → (IsUnserved told base remaining × (gained ≡ written)) ⊎ Runs (ServesUpTo told) base ask remaining after written gained
-    → (IsUnserved told base remaining × (gained ≡ written)) ⊎ RunsAsked (ServesUpTo told) words base remaining after written gained
-front_asked told words base ask remaining after written gained asked front = elim front [ inl same ↦ inl same | inr run ↦ inr (ask, asked, run) ]
+pub failure_holds : (fault : SessionFault) (told : ServeFault) (base : Option (List ℕ)) (ask : SessionAsk) (file : LiveFile) (was is : Option (List ℕ)) (remaining after written gained : Option (List ℕ)) (reader writer keeper : Type 0)
+    → IsToldAs fault told → EndsBy fault base ask file was is remaining after written gained reader writer keeper
+    → IsServeFault reader writer keeper told × (IsNotBegun told base (filing_of ask file was is) remaining written gained ⊎ Runs (ServesUpTo told) base ask file was is remaining after written gained)
+failure_holds (Failed fault) told base ask file was is remaining after written gained reader writer keeper same end =
+    subst (λ (f : ServeFault). IsServeFault reader writer keeper f × (IsNotBegun f base (filing_of ask file was is) remaining written gained ⊎ Runs (ServesUpTo f) base ask file was is remaining after written gained)) (sym same) end
+failure_holds (OfText fault) told base ask file was is remaining after written gained reader writer keeper same end =
+    refused_memory told base ask file was is remaining after written gained reader writer keeper same end.1 end.2
+failure_holds (Unknown word) told base ask file was is remaining after written gained reader writer keeper same end =
+    refused_memory told base ask file was is remaining after written gained reader writer keeper same end.1 end.2
+failure_holds (OfLive fault) told base ask file was is remaining after written gained reader writer keeper same end =
+    refused_memory told base ask file was is remaining after written gained reader writer keeper same end.1 end.2
 
 -- at a gate of a table exactly the transitions of the table fail
 exact_of : (flag : Bool) → (is_success (if flag then outcome.Failed 1 else outcome.Ok) ≡ true) ↔ (flag ≡ false)
@@ -98,27 +181,140 @@ table_exact failing s way o is = subst (λ (x : Outcome). (is_success x ≡ true
 pub clock_timeless : (moments : List ℕ) (input : Option (List ℕ)) → moments ≡ [] → IsTimeless (IsMomentOf moments) input
 clock_timeless moments input none = inl (λ m gives. elim gives [ inl one ↦ absurd (none_contained m (subst (λ (all : List ℕ). Contains all m) none one)) | inr zero ↦ zero.1 ])
 
--- what was written, and what was played
-pub all_served : {A : Type 0} (result : Result A ServeFault) (P Q : Type 0) → OnOk result P → Q → OnOk result (P × Q)
-all_served (Ok done) P Q p q = (p, q)
-all_served (Err fault) P Q p q = tt
+-- what was written and played of a session that nothing keeps
+pub alone_all : {A : Type 0} (result : Result A ServeFault) (P Q : Type 0) → OnOk result P → Q → OnOk result (P × Q × Unit {0})
+alone_all (Ok done) P Q p q = (p, q, tt)
+alone_all (Err fault) P Q p q = tt
 
-pub front_served : {A : Type 0} (result : Result A ServeFault) (P : ServeFault → Type 0) (Q : Type 0) → IfErr result P → Q → IfErr result (λ fault. P fault × Q)
-front_served (Ok done) P Q p q = tt
-front_served (Err fault) P Q p q = (p, q)
+pub alone_front : {A : Type 0} (result : Result A ServeFault) (Done : Doing) (May : KeepFault → Type 0) (was is : Keeping) (input left written gained : Option (List ℕ)) (old new : Holding)
+    → IfErr result (λ fault. ServesFrontKept Done fault May was is input left written gained old new) → PlaysInput input left old new
+    → IfErr result (λ fault. ServesUpTo fault (λ d line. Unit {0}) Done input left written gained old new)
+alone_front (Ok done) Done May was is input left written gained old new p q = tt
+alone_front (Err fault) Done May was is input left written gained old new p q = (p.0, q, inl tt)
 
--- the session that was served is the one that the database begins with
-pub gated_all : {A : Type 0} (result : Result A ServeFault) (Done : Doing) (d : Database) (input left written gained : Option (List ℕ)) (old new : Holding) → old ≡ first_session d
-    → OnOk result (Serves Done input left written gained old new) → OnOk result (RunsGated Serves Done d input left written gained)
-gated_all (Ok done) Done d input left written gained old new begins served = record { new = new; served = subst (λ (h : Holding). Serves Done input left written gained h new) begins served }
-gated_all (Err fault) Done d input left written gained old new begins served = tt
+-- what is kept up where the first line was kept is kept
+kept_now : (was is : Keeping) (d : Database) (first line : Line) → was d first → IsKeptUp was is d first line → is d line
+kept_now was is d first line begun (inl now) = now
+kept_now was is d first line begun (inr still) = subst (is d) (sym still.1) ((still.0 d first).0 begun)
 
-pub gated_front : {A : Type 0} (result : Result A ServeFault) (Done : Doing) (d : Database) (input left written gained : Option (List ℕ)) (old new : Holding) (reader writer : Type 0) → old ≡ first_session d
-    → IfErr result (IsServingFault reader writer) → IfErr result (λ fault. ServesUpTo fault Done input left written gained old new)
-    → IfErr result (λ fault. EndsGated fault Done d input left written gained reader writer)
-gated_front (Ok done) Done d input left written gained old new reader writer begins wrong served = tt
-gated_front (Err fault) Done d input left written gained old new reader writer begins wrong served =
-    (wrong, inr (record { new = new; served = subst (λ (h : Holding). ServesUpTo fault Done input left written gained h new) begins served }))
+-- what was written, played and kept of a session that is kept from its first line on
+pub kept_all : {A : Type 0} (result : Result A ServeFault) (P Q : Type 0) (was is : Keeping) (d : Database) (first line : Line) → was d first
+    → OnOk result P → Q → OnOk result (IsKeptUp was is d first line) → OnOk result (P × Q × is d line)
+kept_all (Ok done) P Q was is d first line begun p q up = (p, q, kept_now was is d first line begun up)
+kept_all (Err fault) P Q was is d first line begun p q up = tt
+
+-- what may come of keeping may come of a file
+of_file : (fault : ServeFault) (May : KeepFault → Type 0) → IsOfKeeping May fault → IsOfFile fault
+of_file Read May is = absurd is
+of_file Write May is = absurd is
+of_file TooLong May is = absurd is
+of_file Memory May is = tt
+of_file NoThread May is = absurd is
+of_file Strange May is = absurd is
+of_file Workers May is = absurd is
+of_file Io May is = tt
+
+kept_at : (fault : ServeFault) (May : KeepFault → Type 0) (was is : Keeping) (d : Database) (first here line : Line) (written : ℕ) → was d first
+    → IsKeptAt fault May was is d first here line written → KeepsAt is fault d here line written
+kept_at fault May was is d first here line written begun (inl up) = inl (kept_now was is d first line begun up)
+kept_at fault May was is d first here line written begun (inr fails) = inr (of_file fault May fails.0, fails.1, kept_now was is d first here begun fails.2)
+
+pub kept_front : {A : Type 0} (result : Result A ServeFault) (Same : Type 0) (Done : Doing) (May : KeepFault → Type 0) (was is : Keeping) (input left written gained : Option (List ℕ)) (old new : Holding) → was old.database old.line
+    → IfErr result (λ fault. ServesFrontKept Done fault May was is input left written gained old new) → PlaysInput input left old new
+    → IfErr result (λ fault. StopsUpTo fault Same is Done input left written gained old new)
+kept_front (Ok done) Same Done May was is input left written gained old new begun p q = tt
+kept_front (Err fault) Same Done May was is input left written gained old new begun p q =
+    inr (p.0, q, kept_at fault May was is old.database old.line p.0.here new.line p.0.told.0 begun p.1)
+
+-- what is kept is so by another word
+pub all_as : {A : Type 0} (result : Result A ServeFault) (Done : Doing) (kept other : Keeping) (input left written gained : Option (List ℕ)) (old new : Holding)
+    → ((d : Database) (line : Line) → kept d line → other d line)
+    → OnOk result (Serves kept Done input left written gained old new) → OnOk result (Serves other Done input left written gained old new)
+all_as (Ok done) Done kept other input left written gained old new wider served = (served.0, served.1, wider old.database new.line served.2)
+all_as (Err fault) Done kept other input left written gained old new wider served = tt
+
+at_as : (fault : ServeFault) (kept other : Keeping) (d : Database) (here line : Line) (written : ℕ)
+    → ((d : Database) (line : Line) → kept d line → other d line) → KeepsAt kept fault d here line written → KeepsAt other fault d here line written
+at_as fault kept other d here line written wider (inl now) = inl (wider d line now)
+at_as fault kept other d here line written wider (inr fails) = inr (fails.0, fails.1, wider d here fails.2)
+
+up_to_as : (fault : ServeFault) (Done : Doing) (kept other : Keeping) (input left written gained : Option (List ℕ)) (old new : Holding)
+    → ((d : Database) (line : Line) → kept d line → other d line)
+    → ServesUpTo fault kept Done input left written gained old new → ServesUpTo fault other Done input left written gained old new
+up_to_as fault Done kept other input left written gained old new wider served =
+    (served.0, served.1, at_as fault kept other old.database served.0.here new.line served.0.told.0 wider served.2)
+
+pub front_as : {A : Type 0} (result : Result A ServeFault) (Same : Type 0) (Done : Doing) (kept other : Keeping) (input left written gained : Option (List ℕ)) (old new : Holding)
+    → ((d : Database) (line : Line) → kept d line → other d line)
+    → IfErr result (λ fault. ServesUpTo fault kept Done input left written gained old new)
+    → IfErr result (λ fault. StopsUpTo fault Same other Done input left written gained old new)
+front_as (Ok done) Same Done kept other input left written gained old new wider served = tt
+front_as (Err fault) Same Done kept other input left written gained old new wider served =
+    inr (up_to_as fault Done kept other input left written gained old new wider served)
+
+pub stops_as : {A : Type 0} (result : Result A ServeFault) (Same : Type 0) (Done : Doing) (kept other : Keeping) (input left written gained : Option (List ℕ)) (old new : Holding)
+    → ((d : Database) (line : Line) → kept d line → other d line)
+    → IfErr result (λ fault. StopsUpTo fault Same kept Done input left written gained old new)
+    → IfErr result (λ fault. StopsUpTo fault Same other Done input left written gained old new)
+stops_as (Ok done) Same Done kept other input left written gained old new wider served = tt
+stops_as (Err fault) Same Done kept other input left written gained old new wider (inl un) =
+    inl (un.0, un.1, elim un.2 [ inl same ↦ inl same | inr first ↦ inr (wider old.database old.line first) ])
+stops_as (Err fault) Same Done kept other input left written gained old new wider (inr served) =
+    inr (up_to_as fault Done kept other input left written gained old new wider served)
+
+-- a store that holds a text is that of a file that is named, and one that was left alone that of none
+pub holds_named : (path : Option Path) (was is : Option (List ℕ)) → path ≢ None → (d : Database) (line : Line) → HoldsText is d line → HoldsBy path was is d line
+holds_named None was is named d line held = absurd (named refl)
+holds_named (Some path) was is named d line held = held
+
+pub holds_none : (path : Option Path) (held : Option (List ℕ)) → path ≡ None → (d : Database) (line : Line) → Unit {0} → HoldsBy path held held d line
+holds_none None held none d line _ = refl
+holds_none (Some path) held none d line _ = let bad : Some path ≡ None = none in cc
+
+-- a file that is named is so as what is asked has it
+pub named_some : {A B : Type 0} (f : A → B) (o : Option A) (x : A) → o ≡ Some x → option_map f o ≢ None
+named_some f o x is none = let bad : Some (f x) ≡ None = sym (ap (option_map f) is) ∙ none in cc
+
+-- the session that was served stands where it begins
+pub gated_all : (filing : Filing) (Done : Doing) (d : Database) (input left written gained : Option (List ℕ)) (old new : Holding)
+    → ((start : Line) × BeginsWith d filing start × (old ≡ session_on d start))
+    → Serves (Holds filing) Done input left written gained old new → RunsGated Serves filing Done d input left written gained
+gated_all filing Done d input left written gained old new begins served = record {
+  start = begins.0;
+  new = new;
+  begins = begins.1;
+  served = subst (λ (h : Holding). Serves (Holds filing) Done input left written gained h new) begins.2 served;
+}
+
+pub gated_front : (fault : ServeFault) (filing : Filing) (Done : Doing) (d : Database) (input left written gained : Option (List ℕ)) (old new : Holding) (reader writer keeper : Type 0)
+    → ((start : Line) × BeginsWith d filing start × (old ≡ session_on d start))
+    → IsServeFault reader writer keeper fault → StopsUpTo fault (IsLeft filing) (Holds filing) Done input left written gained old new
+    → EndsGated (Failed fault) filing Done d input left written gained reader writer keeper
+gated_front fault filing Done d input left written gained old new reader writer keeper begins wrong (inl un) = (
+  wrong,
+  inl (
+    un.0,
+    un.1,
+    elim un.2 [
+      | inl same ↦ inl same
+      | inr first ↦ inr (begins.0, begins.1, subst (λ (h : Holding). Holds filing h.database h.line) begins.2 first)
+    ],
+  ),
+)
+gated_front fault filing Done d input left written gained old new reader writer keeper begins wrong (inr served) = (
+  wrong,
+  inr (record {
+    start = begins.0;
+    new = new;
+    begins = begins.1;
+    served = subst (λ (h : Holding). ServesUpTo fault (Holds filing) Done input left written gained h new) begins.2 served;
+  }),
+)
+
+-- what follows from a result follows where it is one
+pub on_ok : {A E : Type 0} (result : Result A E) (P Q : Type 0) → (P → Q) → OnOk result P → OnOk result Q
+on_ok (Ok done) P Q so p = so p
+on_ok (Err fault) P Q so p = tt
 
 -- the gate is the one of the names that are to fail, also where it is wrapped
 pub found_at : (d : Database) (names : List (List ℕ)) (listed : List Listed) (inner outer : Table) → names ≡ d.names → outer ≡ inner → AreFound names listed inner.failing → AreFound d.names listed outer.failing
@@ -129,25 +325,36 @@ found_at d names listed inner outer same is found =
 pub clock_at : (inner outer : Table) (input : Option (List ℕ)) → outer ≡ inner → inner.moments ≡ [] → IsTimeless (IsMomentOf outer.moments) input
 clock_at inner outer input is none = clock_timeless outer.moments input (ap (λ (t : Table). t.moments) is ∙ none)
 
-pub runs_found : (Served : Serving) (d : Database) (listed : List Listed) (table : List (ℕ × Way)) (input left written gained : Option (List ℕ)) → AreFound d.names listed table
-    → RunsGated Served (IsDoneFailing (fails_in table)) d input left written gained → RunsOn Served d listed input left written gained
-runs_found Served d listed table input left written gained found run = record { table = table; new = run.new; found = found; served = run.served }
+pub runs_found : (Served : Serving) (filing : Filing) (d : Database) (listed : List Listed) (table : List (ℕ × Way)) (input left written gained : Option (List ℕ)) → AreFound d.names listed table
+    → RunsGated Served filing (IsDoneFailing (fails_in table)) d input left written gained → RunsOn Served filing d listed input left written gained
+runs_found Served filing d listed table input left written gained found run = record { table = table; found = found; run = run }
 
-pub ends_found : (fault : ServeFault) (d : Database) (workers : ℕ) (listed : List Listed) (table : List (ℕ × Way)) (input left written gained : Option (List ℕ)) (reader writer : Type 0) → AreFound d.names listed table
-    → EndsGated fault (IsDoneFailing (fails_in table)) d input left written gained reader writer → EndsOn (Failed fault) d workers (ByTable listed) input left written gained reader writer
-ends_found fault d workers listed table input left written gained reader writer found end =
-    (end.0, elim end.1 [ inl same ↦ inl same | inr run ↦ inr (runs_found (ServesUpTo fault) d listed table input left written gained found run) ])
+pub ends_found : (fault : SessionFault) (filing : Filing) (d : Database) (workers : ℕ) (listed : List Listed) (table : List (ℕ × Way)) (input left written gained : Option (List ℕ)) (reader writer keeper : Type 0) → AreFound d.names listed table
+    → EndsGated fault filing (IsDoneFailing (fails_in table)) d input left written gained reader writer keeper
+    → EndsOn fault filing d workers (ByTable listed) input left written gained reader writer keeper
+ends_found (OfText fault) filing d workers listed table input left written gained reader writer keeper found end = absurd end
+ends_found (Unknown word) filing d workers listed table input left written gained reader writer keeper found end = absurd end
+ends_found (OfLive fault) filing d workers listed table input left written gained reader writer keeper found end =
+    (((table, found), end.0), end.1, end.2, end.3)
+ends_found (Failed fault) filing d workers listed table input left written gained reader writer keeper found end =
+    (end.0, elim end.1 [ inl un ↦ inl un | inr run ↦ inr (runs_found (ServesUpTo fault) filing d listed table input left written gained found run) ])
 
 -- the gate is the one of the programs
-pub runs_scripts : (Served : Serving) (d : Database) (workers : ℕ) (runner controller : List Text) (gate : Scripts) (input left written gained : Option (List ℕ)) → gate ≡ scripts_of d runner controller
-    → RunsGated Served (IsDoneBy workers (MayAnswer gate) (λ m. Unit {0})) d input left written gained → RunsFor Served d workers (ByPrograms runner controller) input left written gained
-runs_scripts Served d workers runner controller gate input left written gained is run =
-    subst (λ (g : Scripts). RunsGated Served (IsDoneBy workers (MayAnswer g) (λ m. Unit {0})) d input left written gained) is run
+pub runs_scripts : (Served : Serving) (filing : Filing) (d : Database) (workers : ℕ) (runner controller : List Text) (gate : Scripts) (input left written gained : Option (List ℕ)) → gate ≡ scripts_of d runner controller
+    → RunsGated Served filing (IsDoneBy workers (MayAnswer gate) (λ m. Unit {0})) d input left written gained
+    → RunsFor Served filing d workers (ByPrograms runner controller) input left written gained
+runs_scripts Served filing d workers runner controller gate input left written gained is run =
+    subst (λ (g : Scripts). RunsGated Served filing (IsDoneBy workers (MayAnswer g) (λ m. Unit {0})) d input left written gained) is run
 
-pub ends_scripts : (fault : ServeFault) (d : Database) (workers : ℕ) (runner controller : List Text) (gate : Scripts) (input left written gained : Option (List ℕ)) (reader writer : Type 0) → gate ≡ scripts_of d runner controller
-    → EndsGated fault (IsDoneBy workers (MayAnswer gate) (λ m. Unit {0})) d input left written gained reader writer → EndsOn (Failed fault) d workers (ByPrograms runner controller) input left written gained reader writer
-ends_scripts fault d workers runner controller gate input left written gained reader writer is end =
-    (end.0, elim end.1 [ inl same ↦ inl same | inr run ↦ inr (runs_scripts (ServesUpTo fault) d workers runner controller gate input left written gained is run) ])
+pub ends_scripts : (fault : SessionFault) (filing : Filing) (d : Database) (workers : ℕ) (runner controller : List Text) (gate : Scripts) (input left written gained : Option (List ℕ)) (reader writer keeper : Type 0) → gate ≡ scripts_of d runner controller
+    → EndsGated fault filing (IsDoneBy workers (MayAnswer gate) (λ m. Unit {0})) d input left written gained reader writer keeper
+    → EndsOn fault filing d workers (ByPrograms runner controller) input left written gained reader writer keeper
+ends_scripts (OfText fault) filing d workers runner controller gate input left written gained reader writer keeper is end = absurd end
+ends_scripts (Unknown word) filing d workers runner controller gate input left written gained reader writer keeper is end = absurd end
+ends_scripts (OfLive fault) filing d workers runner controller gate input left written gained reader writer keeper is end =
+    ((([], tt), end.0), end.1, end.2, end.3)
+ends_scripts (Failed fault) filing d workers runner controller gate input left written gained reader writer keeper is end =
+    (end.0, elim end.1 [ inl un ↦ inl un | inr run ↦ inr (runs_scripts (ServesUpTo fault) filing d workers runner controller gate input left written gained is run) ])
 
 -- a failed read is told as that
 pub told_read : {A : Type 0} (result : Result A SessionFault) (fault : SessionFault) (status : ℕ) (Refused : Type 0) (old new : Option (List ℕ)) → result ≡ Err (Failed Read) → result ≡ Err fault → (status ≡ 1) ⊎ (status ≡ 111) → (status ≡ 1 → IsRefusal fault × Refused)

@@ -5,21 +5,28 @@ use Rattle.rc_db.specs.Database.{Database}
 use Rattle.rc_base.specs.Base.{Spells}
 use Rattle.rc_base.specs.Opening.{Reads}
 use Rattle.rc_asked.specs.SessionAsked.{AsksSession, SessionAsk}
+use Rattle.rc_sessions.specs.Filing.{filing_of}
 use Rattle.rc_sessions.specs.Serving.{RunsFor, Serving}
+use Rattle.rc_sessions.specs.declared.keeping.LiveFile.{LiveFile}
 
 -- the session's own input, and what is left of it: with a base that of the reader; without one what is behind the database's text
 abbrev pub Opens : Option (List ℕ) → (remaining after : Option (List ℕ)) → Database → (input left : Option (List ℕ)) → Type 0
 Opens (Some base) remaining after d input left = Spells (Some base) [] d [] × (input ≡ remaining) × (left ≡ after)
 Opens None remaining after d input left = (all : List ℕ) × (rest : List ℕ) × Reads None remaining after all × Spells None all d rest × (input ≡ Some rest)
 
--- there is a database, and its session was served
-pub record Runs (Served : Serving) (base : Option (List ℕ)) (ask : SessionAsk) (remaining after written gained : Option (List ℕ)) : Type 0 where
+-- there is a database, and a session on it was served
+pub record Runs (Served : Serving) (base : Option (List ℕ)) (ask : SessionAsk) (file : LiveFile)
+    (was is : Option (List ℕ)) (remaining after written gained : Option (List ℕ)) : Type 0 where
   pub database : Database
   pub input : Option (List ℕ)
   pub left : Option (List ℕ)
   pub opened : Opens base remaining after database input left
-  pub run : RunsFor Served database ask.workers ask.making input left written gained
+  pub run : RunsFor Served (filing_of ask file was is) database ask.workers ask.making
+      input left written gained
 
 -- the words ask for a session, and it was served
-abbrev pub RunsAsked : Serving → List Text → Option (List ℕ) → (remaining after written gained : Option (List ℕ)) → Type 0
-RunsAsked Served words base remaining after written gained = (ask : SessionAsk) × AsksSession words ask × Runs Served base ask remaining after written gained
+abbrev pub RunsAsked : Serving → List Text → Option (List ℕ) → LiveFile → (was is : Option (List ℕ)) →
+    (remaining after written gained : Option (List ℕ)) → Type 0
+RunsAsked Served words base file was is remaining after written gained =
+    (ask : SessionAsk) × AsksSession words ask
+    × Runs Served base ask file was is remaining after written gained

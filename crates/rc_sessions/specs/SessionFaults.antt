@@ -1,40 +1,58 @@
 -- When `session` refuses or fails, and how it tells that.
 use Rattle.std.specs.Prelude.{◌≡◌, ◌≢◌, ◌⊎◌, ◌++◌, ℕ, List, Option, codes, ◌<◌, None, IfSome, length}
+use Rattle.std.specs.Fmt.{decimal}
+use Rattle.rc_graph.specs.declared.Way.{Way}
+use Rattle.rc_livetext.specs.LiveFaults.{IsLiveFault}
+use Rattle.rc_livetext.specs.declared.fault.LiveFault.{LiveFault}
+use Rattle.rc_livetext.specs.declared.fault.LiveFault.TheVariants as live
 use Rattle.clap.specs.Words.{Text}
 use Rattle.rc_db.specs.Database.{Database}
 use Rattle.rc_dbtext.specs.declared.fault.TextFault.{TextFault}
 use Rattle.rc_dbtext.specs.declared.fault.TextFault.TheVariants as text
-use Rattle.rc_sessions.specs.Finding.{IsFirstUnknown}
+use Rattle.rc_sessions.specs.Filing.{CannotKeep, Filing, IsFileRefused, IsLeft, IsLeftOrFirst, IsUnread, filing_of, text_in, text_named}
+use Rattle.rc_sessions.specs.Finding.{AreFound, IsFirstUnknown}
+use Rattle.rc_sessions.specs.declared.keeping.LiveFile.{LiveFile}
 use Rattle.rc_sessions.specs.declared.failing.GateFault.{GateFault}
 use Rattle.rc_sessions.specs.declared.failing.GateFault.TheVariants as gate
 use Rattle.rc_serve.specs.Faults.{IsServeFault}
 use Rattle.rc_serve.specs.declared.fault.ServeFault.{ServeFault}
-use Rattle.rc_serve.specs.declared.fault.ServeFault.TheVariants.{Read, Write, TooLong, Memory, NoThread, Strange, Workers}
+use Rattle.rc_serve.specs.declared.fault.ServeFault.TheVariants.{Read, Write, TooLong, Memory, NoThread, Strange, Workers, Io}
 use Rattle.rc_streams.specs.declared.input.Failure.{Failure}
 use Rattle.rc_streams.specs.declared.input.Failure.TheVariants as failures
 use Rattle.rc_streams.specs.Input.{AppendsFront, fault_line}
 use Rattle.rc_base.specs.Base.{IsTextFault, Spells}
 use Rattle.rc_base.specs.Opening.{Reads}
 use Rattle.rc_base.specs.TextFaultWord.{text_word}
-use Rattle.rc_sessions.specs.Serving.{RunsFor, RunsGated, ServesUpTo}
+use Rattle.rc_sessions.specs.Serving.{IsOfFile, RunsFor, RunsGated, ServesUpTo}
 use Rattle.rc_sessions.specs.Session.{Runs, RunsAsked}
 use Rattle.rc_serve.specs.Meeting.{Doing}
+use Rattle.rc_asked.specs.Listed.{Listed}
 use Rattle.rc_asked.specs.Programs.{MakingAsk, listed_in}
 use Rattle.rc_asked.specs.SessionAsked.{AsksSession, SessionAsk}
 use Rattle.rc_sessions.specs.declared.session_fault.SessionFault.{SessionFault}
-use Rattle.rc_sessions.specs.declared.session_fault.SessionFault.TheVariants.{OfText, Unknown, Failed}
+use Rattle.rc_sessions.specs.declared.session_fault.SessionFault.TheVariants.{OfText, Unknown, OfLive, Failed}
 
 -- it is a refusal, and no failure
 abbrev pub IsRefusal : SessionFault → Type 0
 IsRefusal (OfText fault) = Unit {0}
 IsRefusal (Unknown word) = Unit {0}
+IsRefusal (OfLive fault) = Unit {0}
 IsRefusal (Failed fault) = ⊥
 
--- when each refusal comes: those of the database text, and then the first name that is to fail and is no service's
-abbrev pub IsSessionRefused : SessionFault → SessionAsk → Option (List ℕ) → List ℕ → Type 0
-IsSessionRefused (OfText fault) ask base input = (fault ≢ text.Memory) × IsTextFault base input fault
-IsSessionRefused (Unknown word) ask base input = (d : Database) × (rest : List ℕ) × Spells base input d rest × IsFirstUnknown d.names (listed_in ask.making) word.now
-IsSessionRefused (Failed fault) ask base input = ⊥
+-- each name that is to fail is a service's
+abbrev pub AreAllFound : Database → List Listed → Type 0
+AreAllFound d listed = (table : List (ℕ × Way)) × AreFound d.names listed table
+
+-- when each refusal comes: those of the database text, then the first name that is to fail and is no service's, and then those of the text that stands in the file
+abbrev pub IsSessionRefused : SessionFault → SessionAsk → Filing → Option (List ℕ) → List ℕ → Type 0
+IsSessionRefused (OfText fault) ask filing base input =
+    (fault ≢ text.Memory) × IsTextFault base input fault
+IsSessionRefused (Unknown word) ask filing base input = (d : Database) × (rest : List ℕ)
+    × Spells base input d rest × IsFirstUnknown d.names (listed_in ask.making) word.now
+IsSessionRefused (OfLive fault) ask filing base input = (d : Database) × (rest : List ℕ)
+    × Spells base input d rest × AreAllFound d (listed_in ask.making)
+    × IsFileRefused d filing.text fault
+IsSessionRefused (Failed fault) ask filing base input = ⊥
 
 -- a failure to read the whole input, as a fault of serving
 abbrev pub reading_fault : Failure → ServeFault
@@ -43,9 +61,10 @@ reading_fault failures.Memory = Memory
 reading_fault failures.Read = Read
 reading_fault failures.Write = Read
 
--- why a session was not served: want of memory, or without a base that the whole input could not be read, which is too long only above its bound
+-- why a session was not served: out of memory, or that its file can't be read or written, or without a base that the whole input could not be read, which is too long only above its bound
 abbrev pub IsUnserved : ServeFault → Option (List ℕ) → Option (List ℕ) → Type 0
 IsUnserved Memory base remaining = Unit {0}
+IsUnserved Io base remaining = Unit {0}
 IsUnserved Read base remaining = base ≡ None
 IsUnserved TooLong base remaining = (base ≡ None) × IfSome remaining (λ all. 16777216 < length all)
 IsUnserved Write base remaining = ⊥
@@ -53,32 +72,85 @@ IsUnserved NoThread base remaining = ⊥
 IsUnserved Strange base remaining = ⊥
 IsUnserved Workers base remaining = ⊥
 
--- when each fault of serving comes in a session of the program
-abbrev pub IsServingFault : (reader writer : Type 0) → ServeFault → Type 0
-IsServingFault reader writer = IsServeFault reader writer
+-- why a session does not go on with a text: it is refused, or out of memory
+abbrev pub IsTextFaultOf : Database → List ℕ → SessionFault → Type 0
+IsTextFaultOf d bytes (OfLive fault) = (fault ≢ live.Memory) × IsLiveFault d bytes fault
+IsTextFaultOf d bytes (Failed fault) = fault ≡ Memory
+IsTextFaultOf d bytes other = ⊥
 
--- how a session on a database ends before its input: refused with nothing read and nothing written, or by a fault of serving with a front of its input served, or for want of memory with nothing written
-abbrev pub EndsOn : SessionFault → Database → (workers : ℕ) → MakingAsk → (input left written gained : Option (List ℕ)) → (reader writer : Type 0) → Type 0
-EndsOn (OfText fault) d workers making input left written gained reader writer = ⊥
-EndsOn (Unknown word) d workers making input left written gained reader writer = IsFirstUnknown d.names (listed_in making) word.now × (left ≡ input) × (gained ≡ written)
-EndsOn (Failed fault) d workers making input left written gained reader writer = IsServingFault reader writer fault
-    × (((fault ≡ Memory) × (gained ≡ written)) ⊎ RunsFor (ServesUpTo fault) d workers making input left written gained)
+-- why it does not go on with a file: that could not be read, or the text that stands in it
+abbrev pub IsFileFault : LiveFile → Database → SessionFault → Type 0
+IsFileFault file d (OfLive fault) = IsFileRefused d (text_in file) fault
+IsFileFault file d (Failed fault) = IsOfFile fault × ((fault ≡ Io) → IsUnread file)
+IsFileFault file d other = ⊥
 
--- how a session ends at whose gate commands are done so
-abbrev pub EndsGated : ServeFault → Doing → Database → (input left written gained : Option (List ℕ)) → (reader writer : Type 0) → Type 0
-EndsGated fault Done d input left written gained reader writer = IsServingFault reader writer fault
-    × (((fault ≡ Memory) × (gained ≡ written)) ⊎ RunsGated (ServesUpTo fault) Done d input left written gained)
+-- why it does not begin as it is asked to: where a file is named, for that file
+abbrev pub IsBeginFault : SessionAsk → LiveFile → Database → SessionFault → Type 0
+IsBeginFault ask file d (OfLive fault) = IsFileRefused d (text_named ask.live file) fault
+IsBeginFault ask file d (Failed fault) = IsOfFile fault
+    × ((fault ≡ Io) → (ask.live ≢ None) × IsUnread file)
+IsBeginFault ask file d other = ⊥
+
+-- how a session on a database ends before its input, whose commands are done so: refused for its file, with nothing read and nothing written; or by a fault of serving with a front of its input served, or before it is begun with nothing written
+abbrev pub EndsGated : SessionFault → Filing → Doing → Database →
+    (input left written gained : Option (List ℕ)) → (reader writer keeper : Type 0) → Type 0
+EndsGated (OfText fault) filing Done d input left written gained reader writer keeper = ⊥
+EndsGated (Unknown word) filing Done d input left written gained reader writer keeper = ⊥
+EndsGated (OfLive fault) filing Done d input left written gained reader writer keeper =
+    IsFileRefused d filing.text fault × (left ≡ input) × (gained ≡ written) × IsLeft filing
+EndsGated (Failed fault) filing Done d input left written gained reader writer keeper =
+    IsServeFault reader writer keeper fault
+    × ((IsOfFile fault × (gained ≡ written) × IsLeftOrFirst d filing)
+    ⊎ RunsGated (ServesUpTo fault) filing Done d input left written gained)
+
+-- the same where transitions are made so: refused also for the first name that is to fail and is no service's, and for its file only behind that
+abbrev pub EndsOn : SessionFault → Filing → Database → (workers : ℕ) → MakingAsk →
+    (input left written gained : Option (List ℕ)) → (reader writer keeper : Type 0) → Type 0
+EndsOn (OfText fault) filing d workers making input left written gained reader writer keeper = ⊥
+EndsOn (Unknown word) filing d workers making input left written gained reader writer keeper =
+    IsFirstUnknown d.names (listed_in making) word.now
+    × (left ≡ input) × (gained ≡ written) × IsLeft filing
+EndsOn (OfLive fault) filing d workers making input left written gained reader writer keeper =
+    (AreAllFound d (listed_in making) × IsFileRefused d filing.text fault)
+    × (left ≡ input) × (gained ≡ written) × IsLeft filing
+EndsOn (Failed fault) filing d workers making input left written gained reader writer keeper =
+    IsServeFault reader writer keeper fault
+    × ((IsOfFile fault × (gained ≡ written) × IsLeftOrFirst d filing)
+    ⊎ RunsFor (ServesUpTo fault) filing d workers making input left written gained)
+
+-- a refusal holds
+abbrev pub IsRefusedBy : SessionFault → Option (List ℕ) → SessionAsk → Filing →
+    (remaining after : Option (List ℕ)) → Type 0
+IsRefusedBy fault base ask filing remaining after = (input : List ℕ)
+    × Reads base remaining after input × IsSessionRefused fault ask filing base input
+
+-- a session was not begun: nothing was written, and its store was left alone or holds the text of the line with which a session on some database begins
+abbrev pub IsNotBegun : ServeFault → Option (List ℕ) → Filing →
+    (remaining written gained : Option (List ℕ)) → Type 0
+IsNotBegun fault base filing remaining written gained = IsUnserved fault base remaining
+    × (gained ≡ written) × (IsLeft filing ⊎ ((d : Database) × IsLeftOrFirst d filing))
 
 -- the same of a session whose database is looked for first
-abbrev pub EndsBy : SessionFault → Option (List ℕ) → SessionAsk → (remaining after written gained : Option (List ℕ)) → (reader writer : Type 0) → Type 0
-EndsBy (OfText fault) base ask remaining after written gained reader writer = ((input : List ℕ) × Reads base remaining after input × IsSessionRefused (OfText fault) ask base input) × (gained ≡ written)
-EndsBy (Unknown word) base ask remaining after written gained reader writer = ((input : List ℕ) × Reads base remaining after input × IsSessionRefused (Unknown word) ask base input) × (gained ≡ written)
-EndsBy (Failed fault) base ask remaining after written gained reader writer = IsServingFault reader writer fault × ((IsUnserved fault base remaining × (gained ≡ written)) ⊎ Runs (ServesUpTo fault) base ask remaining after written gained)
+abbrev pub EndsBy : SessionFault → Option (List ℕ) → SessionAsk → LiveFile →
+    (was is : Option (List ℕ)) → (remaining after written gained : Option (List ℕ)) →
+    (reader writer keeper : Type 0) → Type 0
+EndsBy (Failed fault) base ask file was is remaining after written gained reader writer keeper =
+    IsServeFault reader writer keeper fault
+    × (IsNotBegun fault base (filing_of ask file was is) remaining written gained
+    ⊎ Runs (ServesUpTo fault) base ask file was is remaining after written gained)
+EndsBy fault base ask file was is remaining after written gained reader writer keeper =
+    IsRefusedBy fault base ask (filing_of ask file was is) remaining after
+    × (gained ≡ written) × (is ≡ was)
 
 -- a fault of the database text, as one of the session
 abbrev pub IsTextFailing : TextFault → SessionFault → Type 0
 IsTextFailing text.Memory fault = fault ≡ Failed Memory
 IsTextFailing other fault = fault ≡ OfText other
+
+-- a fault of the file's text, as one of the session
+abbrev pub IsLiveFailing : LiveFault → SessionFault → Type 0
+IsLiveFailing live.Memory fault = fault ≡ Failed Memory
+IsLiveFailing other fault = fault ≡ OfLive other
 
 -- a name that is no service's, as a fault of the session
 abbrev pub IsGateFailing : GateFault → SessionFault → Type 0
@@ -94,35 +166,62 @@ serve_word Memory = codes "Memory"
 serve_word NoThread = codes "NoThread"
 serve_word Strange = codes "Strange"
 serve_word Workers = codes "Workers"
+serve_word Io = codes "Io"
+
+-- a fault of the text that stands in the file in words
+abbrev pub live_word : LiveFault → List ℕ
+live_word (live.Bad offset) = codes "Bad " ++ decimal offset
+live_word live.Version = codes "Version"
+live_word live.Unknown = codes "Unknown"
+live_word (live.NotClosed place) = codes "NotClosed " ++ decimal place
+live_word live.SameState = codes "SameState"
+live_word live.OtherDb = codes "OtherDb"
+live_word live.Memory = codes "Memory"
+live_word live.OverBound = codes "OverBound"
 
 -- how a fault is told
 abbrev pub session_fault_text : SessionFault → List ℕ
 session_fault_text (OfText fault) = text_word fault
 session_fault_text (Unknown word) = codes "Unknown " ++ word.now
+session_fault_text (OfLive fault) = live_word fault
 session_fault_text (Failed fault) = serve_word fault
 
 -- as which fault of serving a failure is told: as its own, or as want of memory where a refusal could not be told
 abbrev pub IsToldAs : SessionFault → ServeFault → Type 0
 IsToldAs (OfText fault) told = told ≡ Memory
 IsToldAs (Unknown word) told = told ≡ Memory
+IsToldAs (OfLive fault) told = told ≡ Memory
 IsToldAs (Failed fault) told = told ≡ fault
 
 -- a refusal of what is asked holds, and a writer gains a front of the line that tells it
-abbrev pub TellsSessionRefusal : SessionAsk → Option (List ℕ) → (remaining after old new : Option (List ℕ)) → Type 0
-TellsSessionRefusal ask base remaining after old new = (fault : SessionFault)
-    × ((input : List ℕ) × Reads base remaining after input × IsSessionRefused fault ask base input) × AppendsFront old new (fault_line (session_fault_text fault))
+abbrev pub TellsSessionRefusal : SessionAsk → Option (List ℕ) → LiveFile → (was is : Option (List ℕ)) →
+    (remaining after old new : Option (List ℕ)) → Type 0
+TellsSessionRefusal ask base file was is remaining after old new = (fault : SessionFault)
+    × IsRefusedBy fault base ask (filing_of ask file was is) remaining after
+    × AppendsFront old new (fault_line (session_fault_text fault))
 
--- a fault of serving comes, and a writer gains a front of the line that tells it; nothing was served and nothing written, or what serving comes to before that fault
-abbrev pub TellsSessionFault : SessionAsk → Option (List ℕ) → (remaining after written gained : Option (List ℕ)) → (reader writer : Type 0) → (old new : Option (List ℕ)) → Type 0
-TellsSessionFault ask base remaining after written gained reader writer old new = (fault : ServeFault) × IsServingFault reader writer fault
-    × AppendsFront old new (fault_line (serve_word fault)) × ((IsUnserved fault base remaining × (gained ≡ written)) ⊎ Runs (ServesUpTo fault) base ask remaining after written gained)
+-- a fault of serving comes, and a writer gains a front of the line that tells it; the session was not begun, or what serving comes to before that fault
+abbrev pub TellsSessionFault : SessionAsk → Option (List ℕ) → LiveFile → (was is : Option (List ℕ)) →
+    (remaining after written gained : Option (List ℕ)) → (reader writer failed : Type 0) →
+    (old new : Option (List ℕ)) → Type 0
+TellsSessionFault ask base file was is remaining after written gained reader writer failed old new =
+    (fault : ServeFault) × IsServeFault reader writer (CannotKeep ask file failed) fault
+    × AppendsFront old new (fault_line (serve_word fault))
+    × (IsNotBegun fault base (filing_of ask file was is) remaining written gained
+    ⊎ Runs (ServesUpTo fault) base ask file was is remaining after written gained)
 
 -- a refusal of what the words ask holds, and a writer gains a front of the line that tells it
-abbrev pub TellsRefusal : List Text → Option (List ℕ) → (remaining after old new : Option (List ℕ)) → Type 0
-TellsRefusal words base remaining after old new = (ask : SessionAsk) × (fault : SessionFault) × AsksSession words ask
-    × ((input : List ℕ) × Reads base remaining after input × IsSessionRefused fault ask base input) × AppendsFront old new (fault_line (session_fault_text fault))
+abbrev pub TellsRefusal : List Text → Option (List ℕ) → LiveFile → (was is : Option (List ℕ)) →
+    (remaining after old new : Option (List ℕ)) → Type 0
+TellsRefusal words base file was is remaining after old new = (ask : SessionAsk)
+    × AsksSession words ask × TellsSessionRefusal ask base file was is remaining after old new
 
--- a fault of serving comes, and a writer gains a front of the line that tells it; nothing was served and nothing written, or what serving comes to before that fault
-abbrev pub TellsServeFault : List Text → Option (List ℕ) → (remaining after written gained : Option (List ℕ)) → (reader writer : Type 0) → (old new : Option (List ℕ)) → Type 0
-TellsServeFault words base remaining after written gained reader writer old new = (fault : ServeFault) × IsServingFault reader writer fault
-    × AppendsFront old new (fault_line (serve_word fault)) × ((IsUnserved fault base remaining × (gained ≡ written)) ⊎ RunsAsked (ServesUpTo fault) words base remaining after written gained)
+-- the words can't be read for want of memory; or a fault of what they ask is told
+abbrev pub TellsServeFault : List Text → Option (List ℕ) → LiveFile → (was is : Option (List ℕ)) →
+    (remaining after written gained : Option (List ℕ)) → (reader writer failed : Type 0) →
+    (old new : Option (List ℕ)) → Type 0
+TellsServeFault words base file was is remaining after written gained reader writer failed old new =
+    (AppendsFront old new (fault_line (serve_word Memory)) × (gained ≡ written) × (is ≡ was))
+    ⊎ ((ask : SessionAsk) × AsksSession words ask
+    × TellsSessionFault ask base file was is remaining after written gained reader writer failed
+    old new)

@@ -1,10 +1,15 @@
-//! The command `session`: lines in, what each says done, and its answer out.
+//! The command `session`: lines in, what each says done, and its answer out; and that it is kept in a
+//! file, from which the next one goes on.
 #![tactic(auto)]
 
+mod beginning;
 mod failing;
+mod keeping;
+mod live_fault;
 mod serving;
 mod session;
 mod session_fault;
 
 pub use crate::failing::{GateFault, gate_of};
+pub use crate::keeping::{LiveFile, Store, TextKeeper};
 pub use crate::session::{session_as_asked, session_run};

@@ -1,16 +1,19 @@
 //! The command `session`: lines in, what each says done, and its answer out.
-ghost use Rattle.std.specs.Prelude.{◌≡◌, ◌⊎◌, ◌+◌, [], None, Some, Err, map, string_bytes, IfErr, OnOk};
+ghost use Rattle.std.specs.Prelude.{◌≡◌, ◌≤◌, ◌⊎◌, ◌+◌, [], None, Some, Err, map, string_bytes, IfErr, OnOk};
 ghost use Rattle.rc_board.specs.Crew.{IsCrew};
 ghost use Rattle.rc_streams.specs.Noting.{HasFailed, inner_of};
 ghost use Rattle.rc_streams.specs.Input.{AppendsFront, ConsumesAtMost, fault_line};
 ghost use Rattle.rc_base.specs.Base.{bytes_of};
+ghost use Rattle.rc_sessions.specs.Filing.{CannotKeep};
 ghost use Rattle.rc_sessions.specs.Serving.{Serves};
 ghost use Rattle.rc_sessions.specs.Session.{Runs, RunsAsked};
 ghost use Rattle.rc_asked.specs.SessionAsked.{AsksNoSession, session_ask_of};
 ghost use Rattle.rc_sessions.specs.SessionFaults.{EndsBy, TellsRefusal, TellsServeFault, TellsSessionFault, TellsSessionRefusal, reading_fault, serve_word};
 ghost use Rattle.rc_sessions.specs.declared.session_fault.SessionFault.TheVariants.{Failed};
+ghost use Rattle.rc_sessions.specs.Storing.{store_of};
 ghost use Rattle.rc_serve.specs.declared.fault.ServeFault.TheVariants.{Read as Unread};
 
+use crate::keeping::{LiveFile, Store, TextKeeper};
 use crate::serving::run_on;
 use crate::session_fault::{SessionFault, tell_session_fault};
 use rc_asked::{SessionRequest, session_asked, tell_words};
@@ -29,12 +32,18 @@ use std::thread::Threads;
 /// the next one is waited for. Without one the database stands at the front of the input, which is
 /// read whole first, and the lines behind it. The answers are written to `writer`, and why the
 /// session ended before its input to `faults`. The two devices must not have failed before.
-pub fn session_run<T: Threads + Wait + Sync, R: Read, W: Write, F: Write>(
+///
+/// `live` is what stood in the file of `-l`, where the words name one: the session goes on with its
+/// text. `keeper` keeps the session there, from before its first line on, and each line before it
+/// is answered.
+pub fn session_run<T: Threads + Wait + Sync, R: Read, W: Write, F: Write, S: Store>(
     rt: &T,
     host: &HostRuntime,
     alloc: Global,
     words: &[String],
     base: Option<&[u8]>,
+    live: LiveFile<'_>,
+    keeper: &mut TextKeeper<S>,
     reader: &mut Noted<R>,
     writer: &mut Noted<W>,
     faults: &mut F,
@@ -44,17 +53,20 @@ pub fn session_run<T: Threads + Wait + Sync, R: Read, W: Write, F: Write>(
     ensures statuses { (result ≡ 0) ⊎ (result ≡ 1) ⊎ (result ≡ 100) ⊎ (result ≡ 111) }
 
     // The names that are to fail are services', and what was written is the text of the session
-    // that the database begins with, for these failing transitions and the whole input: no workers,
-    // no gate, no limit and no events are left in it. The commands among its lines were played, so
-    // all that the headline promises holds of them. Nothing was told.
-    ensures done { result ≡ 0 → RunsAsked Serves (map string_bytes words.now) (bytes_of base.entry)
+    // from where it begins, for these failing transitions and the whole input: no workers, no gate,
+    // no limit and no events are left in it. The commands among its lines were played, so all that
+    // the headline promises holds of them. Where a file is named, the store holds the text of the
+    // line on which the session stands in the end. Nothing was told.
+    ensures done { result ≡ 0 → RunsAsked Serves (map string_bytes words.now) (bytes_of base.entry) live.entry
+        (S.holds (store_of keeper.old)) (S.holds (store_of keeper.new))
         (R.remaining (inner_of reader.old)) (R.remaining (inner_of reader.new))
         (W.contents (inner_of writer.old)) (W.contents (inner_of writer.new)) }
     ensures untold { result ≡ 0 → F.contents faults.new ≡ F.contents faults.old }
 
     // A refusal holds, and a front of its line was told, or all of it. With a base nothing was read
-    // for it.
-    ensures refused { result ≡ 1 → TellsRefusal (map string_bytes words.now) (bytes_of base.entry)
+    // for it. The store was left alone.
+    ensures refused { result ≡ 1 → TellsRefusal (map string_bytes words.now) (bytes_of base.entry) live.entry
+        (S.holds (store_of keeper.old)) (S.holds (store_of keeper.new))
         (R.remaining (inner_of reader.old)) (R.remaining (inner_of reader.new))
         (F.contents faults.old) (F.contents faults.new) }
 
@@ -64,14 +76,19 @@ pub fn session_run<T: Threads + Wait + Sync, R: Read, W: Write, F: Write>(
         ≡ R.remaining (inner_of reader.old) }
     ensures unwritten { (result ≡ 1) ⊎ (result ≡ 100) → W.contents (inner_of writer.new)
         ≡ W.contents (inner_of writer.old) }
+    ensures alone { (result ≡ 1) ⊎ (result ≡ 100) → S.holds (store_of keeper.new)
+        ≡ S.holds (store_of keeper.old) }
 
     // A failure is told by its line. The session was served up to that very fault, or not at all,
-    // and then nothing was written.
+    // and then nothing was written. The store holds the text of where it stands or, where writing
+    // that failed, of the line before, up to which all was answered.
     ensures failed { result ≡ 111 → TellsServeFault (map string_bytes words.now)
-        (bytes_of base.entry)
+        (bytes_of base.entry) live.entry
+        (S.holds (store_of keeper.old)) (S.holds (store_of keeper.new))
         (R.remaining (inner_of reader.old)) (R.remaining (inner_of reader.new))
         (W.contents (inner_of writer.old)) (W.contents (inner_of writer.new))
         (HasFailed reader.new ⊎ (bytes_of base.entry ≡ None)) (HasFailed writer.new)
+        (S.failed (store_of keeper.new))
         (F.contents faults.old) (F.contents faults.new) }
 
     // Where the reader has failed, that is the cause that is told.
@@ -84,52 +101,64 @@ pub fn session_run<T: Threads + Wait + Sync, R: Read, W: Write, F: Write>(
         (R.remaining (inner_of reader.new)) (MAX_INPUT + 1) }
 {
     match session_asked(alloc, words) {
-        Ok(request) => session_as_asked(rt, host, alloc, &request, base, reader, writer, faults),
+        Ok(request) => session_as_asked(
+            rt, host, alloc, &request, base, live, keeper, reader, writer, faults,
+        ),
         Err(fault) => tell_words(faults, &fault),
     }
 }
 
 /// Runs `undorc session` for what is asked, as `session_run` does for words, and answers the
 /// status.
-pub fn session_as_asked<T: Threads + Wait + Sync, R: Read, W: Write, F: Write>(
+pub fn session_as_asked<T: Threads + Wait + Sync, R: Read, W: Write, F: Write, S: Store>(
     rt: &T,
     host: &HostRuntime,
     alloc: Global,
     request: &SessionRequest<'_>,
     base: Option<&[u8]>,
+    live: LiveFile<'_>,
+    keeper: &mut TextKeeper<S>,
     reader: &mut Noted<R>,
     writer: &mut Noted<W>,
     faults: &mut F,
 ) -> u8
     requires crew { IsCrew request.now.workers }
+    requires bound { 3 ≤ request.now.bound }
     requires reader { HasFailed reader.old → ⊥ }
     requires writer { HasFailed writer.old → ⊥ }
     ensures statuses { (result ≡ 0) ⊎ (result ≡ 1) ⊎ (result ≡ 111) }
 
     // The names that are to fail are services', and what was written is the text of the session
-    // that the database begins with, for these failing transitions and the whole input. Its
-    // commands were played. Nothing was told.
-    ensures done { result ≡ 0 → Runs Serves (bytes_of base.entry) (session_ask_of request.now)
+    // from where it begins, for these failing transitions and the whole input. Its commands were
+    // played, and what the store holds is of where it stands. Nothing was told.
+    ensures done { result ≡ 0 → Runs Serves (bytes_of base.entry) (session_ask_of request.now) live.entry
+        (S.holds (store_of keeper.old)) (S.holds (store_of keeper.new))
         (R.remaining (inner_of reader.old)) (R.remaining (inner_of reader.new))
         (W.contents (inner_of writer.old)) (W.contents (inner_of writer.new)) }
     ensures untold { result ≡ 0 → F.contents faults.new ≡ F.contents faults.old }
 
     // A refusal holds, and a front of its line was told, or all of it. With a base nothing was read
-    // for it.
+    // for it. The store was left alone.
     ensures refused { result ≡ 1 → TellsSessionRefusal (session_ask_of request.now)
-        (bytes_of base.entry)
+        (bytes_of base.entry) live.entry
+        (S.holds (store_of keeper.old)) (S.holds (store_of keeper.new))
         (R.remaining (inner_of reader.old)) (R.remaining (inner_of reader.new))
         (F.contents faults.old) (F.contents faults.new) }
     ensures unwritten { result ≡ 1 → W.contents (inner_of writer.new)
         ≡ W.contents (inner_of writer.old) }
+    ensures alone { result ≡ 1 → S.holds (store_of keeper.new)
+        ≡ S.holds (store_of keeper.old) }
 
     // A failure is told by its line. The session was served up to that very fault, or not at all,
-    // and then nothing was written.
+    // and then nothing was written. The store holds the text of where it stands or, where writing
+    // that failed, of the line before, up to which all was answered.
     ensures failed { result ≡ 111 → TellsSessionFault (session_ask_of request.now)
-        (bytes_of base.entry)
+        (bytes_of base.entry) live.entry
+        (S.holds (store_of keeper.old)) (S.holds (store_of keeper.new))
         (R.remaining (inner_of reader.old)) (R.remaining (inner_of reader.new))
         (W.contents (inner_of writer.old)) (W.contents (inner_of writer.new))
         (HasFailed reader.new ⊎ (bytes_of base.entry ≡ None)) (HasFailed writer.new)
+        (S.failed (store_of keeper.new))
         (F.contents faults.old) (F.contents faults.new) }
 
     // Where the reader has failed, that is the cause that is told.
@@ -141,90 +170,112 @@ pub fn session_as_asked<T: Threads + Wait + Sync, R: Read, W: Write, F: Write>(
     ensures taken { ConsumesAtMost (R.remaining (inner_of reader.old))
         (R.remaining (inner_of reader.new)) (MAX_INPUT + 1) }
 {
-    match run_asked(rt, host, alloc, request, base, reader, writer) {
+    match run_asked(rt, host, alloc, request, base, live, keeper, reader, writer) {
         Ok(()) => DONE,
         Err(fault) => tell_session_fault(alloc, faults, fault),
     }
 }
 
 // Runs what is asked.
-fn run_asked<'a, T: Threads + Wait + Sync, R: Read, W: Write>(
+fn run_asked<'a, T: Threads + Wait + Sync, R: Read, W: Write, S: Store>(
     rt: &T,
     host: &HostRuntime,
     alloc: Global,
     request: &SessionRequest<'a>,
     base: Option<&[u8]>,
+    live: LiveFile<'_>,
+    keeper: &mut TextKeeper<S>,
     reader: &mut Noted<R>,
     writer: &mut Noted<W>,
 ) -> Result<(), SessionFault<'a>>
     requires crew { IsCrew request.now.workers }
+    requires bound { 3 ≤ request.now.bound }
     requires reader { HasFailed reader.old → ⊥ }
     requires writer { HasFailed writer.old → ⊥ }
-    ensures done { OnOk result (Runs Serves (bytes_of base.entry) (session_ask_of request.now)
+    ensures done { OnOk result (Runs Serves (bytes_of base.entry) (session_ask_of request.now) live.entry
+        (S.holds (store_of keeper.old)) (S.holds (store_of keeper.new))
         (R.remaining (inner_of reader.old)) (R.remaining (inner_of reader.new))
         (W.contents (inner_of writer.old)) (W.contents (inner_of writer.new))) }
     ensures ended { IfErr result (λ fault. EndsBy fault (bytes_of base.entry)
-        (session_ask_of request.now) (R.remaining (inner_of reader.old))
-        (R.remaining (inner_of reader.new))
+        (session_ask_of request.now) live.entry
+        (S.holds (store_of keeper.old)) (S.holds (store_of keeper.new))
+        (R.remaining (inner_of reader.old)) (R.remaining (inner_of reader.new))
         (W.contents (inner_of writer.old)) (W.contents (inner_of writer.new))
-        (HasFailed reader.new ⊎ (bytes_of base.entry ≡ None)) (HasFailed writer.new)) }
+        (HasFailed reader.new ⊎ (bytes_of base.entry ≡ None)) (HasFailed writer.new)
+        (CannotKeep (session_ask_of request.now) live.entry (S.failed (store_of keeper.new)))) }
     ensures told { HasFailed reader.new → result ≡ Err (Failed Unread) }
     ensures taken { ConsumesAtMost (R.remaining (inner_of reader.old))
         (R.remaining (inner_of reader.new)) (MAX_INPUT + 1) }
 {
     match base {
-        Some(bytes) => run_on_base(rt, host, alloc, request, bytes, reader, writer),
-        None => run_on_input(rt, host, alloc, request, reader, writer),
+        Some(bytes) => run_on_base(
+            rt, host, alloc, request, bytes, live, keeper, reader, writer,
+        ),
+        None => run_on_input(rt, host, alloc, request, live, keeper, reader, writer),
     }
 }
 
 // Runs a session on the database of a text of its own.
-fn run_on_base<'a, T: Threads + Wait + Sync, R: Read, W: Write>(
+fn run_on_base<'a, T: Threads + Wait + Sync, R: Read, W: Write, S: Store>(
     rt: &T,
     host: &HostRuntime,
     alloc: Global,
     request: &SessionRequest<'a>,
     base: &[u8],
+    live: LiveFile<'_>,
+    keeper: &mut TextKeeper<S>,
     reader: &mut Noted<R>,
     writer: &mut Noted<W>,
 ) -> Result<(), SessionFault<'a>>
     requires crew { IsCrew request.now.workers }
+    requires bound { 3 ≤ request.now.bound }
     requires reader { HasFailed reader.old → ⊥ }
     requires writer { HasFailed writer.old → ⊥ }
-    ensures done { OnOk result (Runs Serves (Some base.now) (session_ask_of request.now)
+    ensures done { OnOk result (Runs Serves (Some base.now) (session_ask_of request.now) live.entry
+        (S.holds (store_of keeper.old)) (S.holds (store_of keeper.new))
         (R.remaining (inner_of reader.old)) (R.remaining (inner_of reader.new))
         (W.contents (inner_of writer.old)) (W.contents (inner_of writer.new))) }
-    ensures ended { IfErr result (λ fault. EndsBy fault (Some base.now) (session_ask_of request.now)
+    ensures ended { IfErr result (λ fault. EndsBy fault (Some base.now)
+        (session_ask_of request.now) live.entry
+        (S.holds (store_of keeper.old)) (S.holds (store_of keeper.new))
         (R.remaining (inner_of reader.old)) (R.remaining (inner_of reader.new))
-        (W.contents (inner_of writer.old)) (W.contents (inner_of writer.new)) (HasFailed reader.new)
-        (HasFailed writer.new)) }
+        (W.contents (inner_of writer.old)) (W.contents (inner_of writer.new))
+        (HasFailed reader.new) (HasFailed writer.new)
+        (CannotKeep (session_ask_of request.now) live.entry (S.failed (store_of keeper.new)))) }
     ensures told { HasFailed reader.new → result ≡ Err (Failed Unread) }
     ensures taken { ConsumesAtMost (R.remaining (inner_of reader.old))
         (R.remaining (inner_of reader.new)) (MAX_INPUT + 1) }
 {
     let (db, _none) = database_of(alloc, Some(base), &[])?;
-    run_on(rt, host, alloc, db, request, reader, writer)
+    run_on(rt, host, alloc, db, request, live, keeper, reader, writer)
 }
 
 // Runs a session on the database at the front of the input, and on the lines behind it.
-fn run_on_input<'a, T: Threads + Wait + Sync, R: Read, W: Write>(
+fn run_on_input<'a, T: Threads + Wait + Sync, R: Read, W: Write, S: Store>(
     rt: &T,
     host: &HostRuntime,
     alloc: Global,
     request: &SessionRequest<'a>,
+    live: LiveFile<'_>,
+    keeper: &mut TextKeeper<S>,
     reader: &mut Noted<R>,
     writer: &mut Noted<W>,
 ) -> Result<(), SessionFault<'a>>
     requires crew { IsCrew request.now.workers }
+    requires bound { 3 ≤ request.now.bound }
     requires reader { HasFailed reader.old → ⊥ }
     requires writer { HasFailed writer.old → ⊥ }
-    ensures done { OnOk result (Runs Serves None (session_ask_of request.now)
+    ensures done { OnOk result (Runs Serves None (session_ask_of request.now) live.entry
+        (S.holds (store_of keeper.old)) (S.holds (store_of keeper.new))
         (R.remaining (inner_of reader.old)) (R.remaining (inner_of reader.new))
         (W.contents (inner_of writer.old)) (W.contents (inner_of writer.new))) }
     ensures ended { IfErr result (λ fault. EndsBy fault None (session_ask_of request.now)
+        live.entry
+        (S.holds (store_of keeper.old)) (S.holds (store_of keeper.new))
         (R.remaining (inner_of reader.old)) (R.remaining (inner_of reader.new))
         (W.contents (inner_of writer.old)) (W.contents (inner_of writer.new)) (Unit {0})
-        (HasFailed writer.new)) }
+        (HasFailed writer.new)
+        (CannotKeep (session_ask_of request.now) live.entry (S.failed (store_of keeper.new)))) }
     ensures told { HasFailed reader.new → result ≡ Err (Failed Unread) }
     ensures taken { ConsumesAtMost (R.remaining (inner_of reader.old))
         (R.remaining (inner_of reader.new)) (MAX_INPUT + 1) }
@@ -234,7 +285,17 @@ fn run_on_input<'a, T: Threads + Wait + Sync, R: Read, W: Write>(
         Err(failure) => return Err(SessionFault::Failed(reading_fault(failure))),
     };
     let (db, lines) = database_of(alloc, None, &input)?;
-    run_on(rt, host, alloc, db, request, &mut Noted::new(lines), writer)
+    run_on(
+        rt,
+        host,
+        alloc,
+        db,
+        request,
+        live,
+        keeper,
+        &mut Noted::new(lines),
+        writer,
+    )
 }
 
 // Why the input was not read whole, as a fault of serving. A read fails as none but a read does.

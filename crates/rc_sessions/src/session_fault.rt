@@ -1,15 +1,17 @@
 //! Why a session of the program ends, and how that is told.
 ghost use Rattle.std.specs.Prelude.{◌≡◌, ◌⊎◌, IfOk};
 ghost use Rattle.rc_streams.specs.Input.{AppendsFront, fault_line};
-ghost use Rattle.rc_sessions.specs.SessionFaults.{IsGateFailing, IsRefusal, IsTextFailing, IsToldAs, serve_word, session_fault_text};
+ghost use Rattle.rc_sessions.specs.SessionFaults.{IsGateFailing, IsLiveFailing, IsRefusal, IsTextFailing, IsToldAs, serve_word, session_fault_text};
 ghost use Rattle.rc_sessions.specs.declared.session_fault.SessionFault.TheVariants.{Failed};
 ghost use Rattle.rc_serve.specs.declared.fault.ServeFault.{ServeFault as Failing};
 ghost use Rattle.rc_serve.specs.declared.fault.ServeFault.TheVariants.{Memory};
 
 use crate::failing::GateFault;
+use crate::live_fault::live_word;
 use rc_base::text_word;
 use rc_db::NoMem;
 use rc_dbtext::TextFault;
+use rc_livetext::LiveFault;
 use rc_serve::ServeFault;
 use rc_streams::ending::{FAILED, REFUSED};
 use rc_streams::tell;
@@ -23,6 +25,8 @@ pub(crate) enum SessionFault<'a> {
     OfText(TextFault),
     /// This name is to fail, and is no service's.
     Unknown(&'a [u8]),
+    /// The file's text is none of a session on the database.
+    OfLive(LiveFault),
     /// A device, memory or a thread failed.
     Failed(ServeFault),
 }
@@ -42,6 +46,17 @@ impl From<TextFault> for SessionFault<'_> {
         match fault {
             TextFault::Memory => SessionFault::Failed(ServeFault::Memory),
             fault => SessionFault::OfText(fault),
+        }
+    }
+}
+
+impl From<LiveFault> for SessionFault<'_> {
+    ghost from_gives = { IsLiveFailing };
+
+    fn from(fault: LiveFault) -> Self {
+        match fault {
+            LiveFault::Memory => SessionFault::Failed(ServeFault::Memory),
+            fault => SessionFault::OfLive(fault),
         }
     }
 }
@@ -83,6 +98,7 @@ pub(crate) fn tell_session_fault<F: Write>(
         SessionFault::Failed(failing) => fail_serving(faults, failing),
         SessionFault::OfText(_) => tell_refusal(alloc, faults, fault),
         SessionFault::Unknown(_) => tell_refusal(alloc, faults, fault),
+        SessionFault::OfLive(_) => tell_refusal(alloc, faults, fault),
     }
 }
 
@@ -125,6 +141,7 @@ fn serve_word(fault: ServeFault) -> &'static [u8]
         ServeFault::NoThread => b"NoThread",
         ServeFault::Strange => b"Strange",
         ServeFault::Workers => b"Workers",
+        ServeFault::Io => b"Io",
     }
 }
 
@@ -139,6 +156,7 @@ fn text_of(alloc: Global, fault: SessionFault<'_>) -> Result<Vec<u8>, NoMem>
             text.extend_from_slice(word)?;
             Ok(text)
         }
+        SessionFault::OfLive(fault) => live_word(alloc, fault),
         SessionFault::Failed(fault) => Vec::from_slice(alloc, serve_word(fault)),
     }
 }

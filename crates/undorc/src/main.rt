@@ -1,14 +1,17 @@
 //! `undorc`: hands the process's words, files and streams to the library.
 #![tactic(auto)]
 
+ghost use Rattle.std.specs.Prelude.{◌≤◌};
 ghost use Rattle.rc_board.specs.Crew.{IsCrew};
 
+mod live_store;
 mod own_name;
 
+use crate::live_store::{LiveStore, keep_fault};
 use crate::own_name::OwnName;
 use rc_cli::{
-    DbRequest, Noted, Request, SessionRequest, Task, compile_run, db_as_asked, plan_as_asked,
-    replay_as_asked, session_as_asked, task_of, tell_words,
+    DbRequest, LiveFile, Noted, Request, SessionRequest, Task, TextKeeper, compile_run,
+    db_as_asked, plan_as_asked, replay_as_asked, session_as_asked, task_of, tell_words,
 };
 use rc_names::NoMem;
 use rc_source::FolderTree;
@@ -127,20 +130,51 @@ fn session<T: Threads + Wait + Sync>(
     request: &SessionRequest<'_>,
     file: Option<&str>,
 ) -> u8
-    requires { IsCrew request.now.workers }
+    requires crew { IsCrew request.now.workers }
+    requires bound { 3 ≤ request.now.bound }
 {
     match base_at(rt, file) {
-        Ok(base) => session_as_asked(
-            threads,
-            rt,
-            rt.alloc(),
-            request,
-            base.as_deref(),
-            &mut Noted::new(rt.stdin()),
-            &mut Noted::new(rt.stdout()),
-            &mut rt.stderr(),
-        ),
+        Ok(base) => {
+            let text = live_at(rt, request.live);
+            session_as_asked(
+                threads,
+                rt,
+                rt.alloc(),
+                request,
+                base.as_deref(),
+                live_file(&text),
+                &mut TextKeeper::new(LiveStore::new(rt, request.live.unwrap_or(""))),
+                &mut Noted::new(rt.stdin()),
+                &mut Noted::new(rt.stdout()),
+                &mut rt.stderr(),
+            )
+        }
         Err(error) => tell_file(rt, &error),
+    }
+}
+
+/// The bytes of the file of `-l`, where one is named and is there.
+fn live_at(rt: &HostRuntime, file: Option<&str>) -> io::Result<Option<Vec<u8>>> {
+    let Some(path) = file else {
+        return Ok(None);
+    };
+    match fs::read(rt, path) {
+        Ok(bytes) => Ok(Some(bytes)),
+        Err(error) => {
+            if error.kind() == ErrorKind::NotFound {
+                return Ok(None);
+            }
+            Err(error)
+        }
+    }
+}
+
+/// What stood in the file of `-l`.
+fn live_file(read: &io::Result<Option<Vec<u8>>>) -> LiveFile<'_> {
+    match read {
+        Ok(Some(bytes)) => LiveFile::Text(bytes),
+        Ok(None) => LiveFile::Missing,
+        Err(error) => LiveFile::Unread(keep_fault(error)),
     }
 }
 

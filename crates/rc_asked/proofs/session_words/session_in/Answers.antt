@@ -1,15 +1,32 @@
-use Rattle.rc_asked.proofs.SessionWordsLemmas.{crew_back, crew_found}
+use Rattle.std.proofs.Common.{ℕ, Option, codes}
+use Rattle.clap.specs.Words.{Text}
+use Rattle.rc_asked.specs.SessionAsked.{IsBoundIn, IsCrewIn}
+use Rattle.rc_asked.proofs.SessionWordsLemmas.{found_as, found_back, live_found}
 use Rattle.rc_asked.proofs.session_words.session_in.Goals as goal
 
+-- a text that is given says this number of workers, or this bound
+abbrev says_crew : ℕ → Option Text → Type 0
+says_crew workers given = IsCrewIn given workers
+
+abbrev says_bound : ℕ → Option Text → Type 0
+says_bound bound given = IsBoundIn given bound
+
 pub returns-in_default-clause-wrong : goal.returns-in_default-clause-wrong
-returns-in_default-clause-wrong c = λ _ ask asks. c.in_default.ensures.none ask.workers (crew_back c.args.matches.now _ ask.workers c.get_str.ensures asks.0)
+returns-in_default-clause-wrong c = λ _ ask asks. c.in_default.ensures.none ask.workers
+    (found_back (says_crew ask.workers) c.args.matches.now (codes "workers") _ c.get_str.ensures asks.workers)
+
+pub returns-in_default-bound_of-clause-wrong : goal.returns-in_default-bound_of-clause-wrong
+returns-in_default-bound_of-clause-wrong c = λ _ ask asks. c.in_default-bound_of.ensures.none ask.bound
+    (found_back (says_bound ask.bound) c.args.matches.now (codes "bound") _ c.get_str-2.ensures asks.bound)
 
 pub returns-in-Ok-clause-asked : goal.returns-in-Ok-clause-asked
-returns-in-Ok-clause-asked c = (
-  crew_found c.args.matches.now _ c.in-Some.workers c.get_str.ensures c.in-Some.ensures.some,
-  c.in-Ok.ensures.asked,
-  c.is_on-tells.ensures,
-)
+returns-in-Ok-clause-asked c = record {
+  workers = found_as (says_crew c.in-Some.workers) c.args.matches.now (codes "workers") _ c.get_str.ensures c.in-Some.ensures.some;
+  making = c.in-Ok.ensures.asked;
+  tells = c.is_on-tells.ensures;
+  bound = found_as (says_bound c.in-Some-bound_of.bound) c.args.matches.now (codes "bound") _ c.get_str-2.ensures c.in-Some-bound_of.ensures.some;
+  live = live_found c.args.matches.now _ c.get_str-in-Ok.ensures;
+}
 
 pub returns-in-Err-clause-wrong : goal.returns-in-Err-clause-wrong
-returns-in-Err-clause-wrong c = λ other ask asks. c.in-Err.ensures.wrong other ask.making asks.1
+returns-in-Err-clause-wrong c = λ other ask asks. c.in-Err.ensures.wrong other ask.making asks.making

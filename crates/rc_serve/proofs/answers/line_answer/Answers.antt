@@ -1,8 +1,8 @@
-use Rattle.std.proofs.Common.{inl, refl, subst}
+use Rattle.std.proofs.Common.{inl, inr, refl, subst}
 use Rattle.rc_lines.specs.Says.{Saying, Says, saying_of}
 use Rattle.rc_serve.specs.Meeting.{IsDoneBy, WantsWork}
 use Rattle.rc_serve.specs.Serving.{BytesWantWork}
-use Rattle.rc_serve.proofs.Hindering.{ends_as}
+use Rattle.rc_serve.proofs.Keeping.{ends_line_as, kept_none}
 use Rattle.rc_serve.proofs.Steps.{bytes_may, bytes_met, read_says}
 use Rattle.rc_serve.proofs.answers.line_answer.Goals as goal
 
@@ -25,8 +25,17 @@ pub returns-in-Ok-clause-stays : goal.returns-in-Ok-clause-stays
 returns-in-Ok-clause-stays g c = c.said_answer.ensures.stays
 
 pub returns-in-Ok-clause-fault : goal.returns-in-Ok-clause-fault
-returns-in-Ok-clause-fault g c = ends_as (WantsWork c.args.session.now.database c.args.session.now.line (saying_of c.in-Ok.said)) (BytesWantWork c.args.session.now.database c.args.session.now.line c.args.line.now) c.args.session.now c.said_answer.new.session c.said_answer.result
+returns-in-Ok-clause-fault g c = ends_line_as (g.K.Keeper.failed c.said_answer.new.keeper) (WantsWork c.args.session.now.database c.args.session.now.line (saying_of c.in-Ok.said)) (BytesWantWork c.args.session.now.database c.args.session.now.line c.args.line.now) c.said_answer.result c.args.session.now c.said_answer.new.session
     (λ work. (saying_of c.in-Ok.said, read_says _ c.args.line.now c.read_line.result c.in-Ok.said c.in-Ok.is c.read_line.ensures.said, work)) c.said_answer.ensures.fault
+
+pub returns-in-Ok-clause-kept : goal.returns-in-Ok-clause-kept
+returns-in-Ok-clause-kept g c = c.said_answer.ensures.kept
+
+pub returns-in-Err-clause-kept : goal.returns-in-Err-clause-kept
+returns-in-Err-clause-kept g c = inl (kept_none (g.K.Keeper.keeps c.args.keeper.now) c.args.session.now.database c.args.session.now.line)
+
+pub returns-in-Err-clause-fault : goal.returns-in-Err-clause-fault
+returns-in-Err-clause-fault g c = inr tt
 
 pub returns-in-Ok-clause-whole : goal.returns-in-Ok-clause-whole
 returns-in-Ok-clause-whole g c = c.said_answer.ensures.whole
@@ -39,3 +48,9 @@ returns-in-Err-clause-stays g c = (refl, c.requires.closed)
 
 pub returns-in-Err-clause-whole : goal.returns-in-Err-clause-whole
 returns-in-Err-clause-whole g c = refl
+
+pub returns-in-Ok-clause-unaltered : goal.returns-in-Ok-clause-unaltered
+returns-in-Ok-clause-unaltered g c = c.said_answer.ensures.unaltered
+
+pub returns-in-Err-clause-unaltered : goal.returns-in-Err-clause-unaltered
+returns-in-Err-clause-unaltered g c = λ same. refl

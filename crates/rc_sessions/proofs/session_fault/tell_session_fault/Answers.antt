@@ -9,3 +9,6 @@ returns-in-OfText-clause-failed g c told = (Memory, subst (λ (f : SessionFault)
 
 pub returns-in-Unknown-clause-failed : goal.returns-in-Unknown-clause-failed
 returns-in-Unknown-clause-failed g c told = (Memory, subst (λ (f : SessionFault). IsToldAs f Memory) (sym c.in-Unknown.is) refl, c.tell_refusal-in-Unknown.ensures.failed told)
+
+pub returns-in-OfLive-clause-failed : goal.returns-in-OfLive-clause-failed
+returns-in-OfLive-clause-failed g c told = (Memory, subst (λ (f : SessionFault). IsToldAs f Memory) (sym c.in-OfLive.is) refl, c.tell_refusal-in-OfLive.ensures.failed told)

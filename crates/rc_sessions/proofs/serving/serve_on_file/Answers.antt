@@ -1,0 +1,34 @@
+use Rattle.std.proofs.Common.{◌≡◌}
+use Rattle.rc_streams.specs.Noting.{inner_of}
+use Rattle.rc_serve.specs.Keeping.{Keeping}
+use Rattle.rc_serve.specs.Meeting.{IsDoneBy}
+use Rattle.rc_serve.specs.SessionText.{IsDoneFailing}
+use Rattle.rc_sessions.specs.Storing.{HoldsText, store_of}
+use Rattle.rc_sessions.proofs.SessionLemmas.{kept_all, kept_front}
+use Rattle.rc_sessions.proofs.serving.serve_on_file.Goals as goal
+
+pub returns-in-Ok-clause-done : goal.returns-in-Ok-clause-done
+returns-in-Ok-clause-done g c fails exact timeless =
+    kept_all c.serve.result _ _
+    (HoldsText (g.S.Store.holds (store_of c.keep.new.self))) (HoldsText (g.S.Store.holds (store_of c.serve.new.keeper)))
+    c.args.session.now.database c.args.session.now.line c.serve.new.session.line c.in-Ok.ensures.kept
+    (c.serve.ensures.text fails exact timeless) c.serve.ensures.play c.serve.ensures.kept
+
+pub returns-in-Ok-clause-begun : goal.returns-in-Ok-clause-begun
+returns-in-Ok-clause-begun g c fails exact timeless =
+    kept_front c.serve.result (g.S.Store.holds (store_of c.serve.new.keeper) ≡ g.S.Store.holds (store_of c.args.keeper.now))
+    (IsDoneFailing fails) (λ fault. Unit {0})
+    (HoldsText (g.S.Store.holds (store_of c.keep.new.self))) (HoldsText (g.S.Store.holds (store_of c.serve.new.keeper)))
+    (g.R.Read.remaining (inner_of c.args.reader.now)) (g.R.Read.remaining (inner_of c.serve.new.reader))
+    (g.W.Write.contents (inner_of c.args.writer.now)) (g.W.Write.contents (inner_of c.serve.new.writer))
+    c.args.session.now c.serve.new.session c.in-Ok.ensures.kept
+    (c.serve.ensures.front fails exact timeless) c.serve.ensures.play
+
+pub returns-in-Ok-clause-begun_by : goal.returns-in-Ok-clause-begun_by
+returns-in-Ok-clause-begun_by g c =
+    kept_front c.serve.result (g.S.Store.holds (store_of c.serve.new.keeper) ≡ g.S.Store.holds (store_of c.args.keeper.now))
+    (IsDoneBy c.args.workers (g.G.Gate.answers c.args.gate.now) (g.G.Gate.gives c.args.gate.now)) (λ fault. Unit {0})
+    (HoldsText (g.S.Store.holds (store_of c.keep.new.self))) (HoldsText (g.S.Store.holds (store_of c.serve.new.keeper)))
+    (g.R.Read.remaining (inner_of c.args.reader.now)) (g.R.Read.remaining (inner_of c.serve.new.reader))
+    (g.W.Write.contents (inner_of c.args.writer.now)) (g.W.Write.contents (inner_of c.serve.new.writer))
+    c.args.session.now c.serve.new.session c.in-Ok.ensures.kept c.serve.ensures.begun c.serve.ensures.play

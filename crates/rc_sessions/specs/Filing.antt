@@ -1,0 +1,83 @@
+-- Where a session begins, and what its file holds in the end.
+use Rattle.std.specs.Prelude.{◌≡◌, ◌≢◌, ◌⊎◌, ℕ, List, Option, None, Some, IfSome}
+use Rattle.clap.specs.Words.{Text as Path}
+use Rattle.rc_db.specs.Database.{Database}
+use Rattle.rc_line.specs.Line.{Line}
+use Rattle.rc_session.specs.Doing.{IsLineOf}
+use Rattle.rc_session.specs.Holding.{first_line}
+use Rattle.rc_livetext.specs.Spelling.{Spells, spelling}
+use Rattle.rc_livetext.specs.LiveFaults.{IsLiveFault}
+use Rattle.rc_livetext.specs.declared.fault.LiveFault.{LiveFault}
+use Rattle.rc_livetext.specs.declared.fault.LiveFault.TheVariants as live
+use Rattle.rc_asked.specs.SessionAsked.{SessionAsk}
+use Rattle.rc_sessions.specs.declared.keeping.LiveFile.{LiveFile}
+use Rattle.rc_sessions.specs.declared.keeping.LiveFile.TheVariants.{Missing, Text, Unread}
+
+-- how many states a fresh session has at most; the file that is named, if one is, and the text that stood in it; and what the store of that file held before and holds in the end, where that is known
+pub record Filing : Type 0 where
+  pub bound : ℕ
+  pub path : Option Path
+  pub text : Option (List ℕ)
+  pub was : Option (List ℕ)
+  pub is : Option (List ℕ)
+
+-- the text that stood in a file
+abbrev pub text_in : LiveFile → Option (List ℕ)
+text_in Missing = None
+text_in (Text bytes) = Some bytes.now
+text_in (Unread fault) = None
+
+-- the text that stood in the file, where one is named
+abbrev pub text_named : Option Path → LiveFile → Option (List ℕ)
+text_named None file = None
+text_named (Some path) file = text_in file
+
+-- what is asked of where a session begins, with what stood in the file, and with what its store held and holds
+abbrev pub filing_of : SessionAsk → LiveFile → (was is : Option (List ℕ)) → Filing
+filing_of ask file was is = record {
+  bound = ask.bound;
+  path = ask.live;
+  text = text_named ask.live file;
+  was = was;
+  is = is;
+}
+
+-- the line of states that a session begins with: the database's own with this bound; or, where there is a text, a line of the database that the text is of
+abbrev pub BeginsBy : Database → (bound : ℕ) → Option (List ℕ) → Line → Type 0
+BeginsBy d bound None line = line ≡ first_line d bound
+BeginsBy d bound (Some bytes) line = IsLineOf d line × Spells d bytes line
+
+abbrev pub BeginsWith : Database → Filing → Line → Type 0
+BeginsWith d filing line = BeginsBy d filing.bound filing.text line
+
+-- the store holds the text of this line, so far as it is known what it holds; where no file is named it is left alone
+abbrev pub HoldsBy : Option Path → (was is : Option (List ℕ)) → Database → Line → Type 0
+HoldsBy None was is d line = is ≡ was
+HoldsBy (Some path) was is d line = IfSome is (λ bytes. bytes ≡ spelling d line)
+
+abbrev pub Holds : Filing → Database → Line → Type 0
+Holds filing d line = HoldsBy filing.path filing.was filing.is d line
+
+-- the store was left alone
+abbrev pub IsLeft : Filing → Type 0
+IsLeft filing = filing.is ≡ filing.was
+
+-- the store was left alone, or holds the text of the line with which the session begins
+abbrev pub IsLeftOrFirst : Database → Filing → Type 0
+IsLeftOrFirst d filing = IsLeft filing
+    ⊎ ((start : Line) × BeginsWith d filing start × Holds filing d start)
+
+-- a text that stands in the file is refused
+abbrev pub IsFileRefused : Database → Option (List ℕ) → LiveFault → Type 0
+IsFileRefused d text fault = (bytes : List ℕ) × (text ≡ Some bytes)
+    × (fault ≢ live.Memory) × IsLiveFault d bytes fault
+
+-- a file could not be read
+abbrev pub IsUnread : LiveFile → Type 0
+IsUnread Missing = ⊥
+IsUnread (Text bytes) = ⊥
+IsUnread (Unread fault) = Unit {0}
+
+-- a session can't be kept: a file is named, and it could not be read or its store has failed
+abbrev pub CannotKeep : SessionAsk → LiveFile → (failed : Type 0) → Type 0
+CannotKeep ask file failed = (ask.live ≢ None) × (IsUnread file ⊎ failed)

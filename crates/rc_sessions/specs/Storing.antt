@@ -1,0 +1,14 @@
+-- What keeps the text of a session.
+use Rattle.std.specs.Prelude.{◌≡◌, ℕ, List, Option, IfSome}
+use Rattle.rc_db.specs.Database.{Database}
+use Rattle.rc_line.specs.Line.{Line}
+use Rattle.rc_livetext.specs.Spelling.{spelling}
+use Rattle.rc_sessions.specs.declared.keeping.TextKeeper.{TextKeeper}
+
+-- the store of a keeper of texts
+abbrev pub store_of : {S : Type 0} → TextKeeper S → S
+store_of keeper = keeper.store
+
+-- a store holds the text of a line, so far as it is known what it holds
+abbrev pub HoldsText : Option (List ℕ) → Database → Line → Type 0
+HoldsText held d line = IfSome held (λ bytes. bytes ≡ spelling d line)
