@@ -4,6 +4,10 @@
 # runs (N.K), for each K, and what these come to, one K behind the other (N.wanted). It prints in
 # how many sessions an undo or a redo failed in part.
 #   awk -v seed=NUMBER -v sessions=NUMBER -v commands=NUMBER -f tests/drawn.awk
+# With -v bounded=1 each command is a run of `undorc session` of its own, on a line of 3 to 5 states at
+# most that a file keeps from run to run. Of each it writes the words for it (N.K.words) and its lines,
+# behind which what is live and the journal are looked at (N.K), and what all of them come to
+# (N.wanted). It prints in how many sessions a full line lost its oldest state, and in how many its last.
 
 function below(bound) {
     seed = seed * 16807 % 2147483647
@@ -66,6 +70,18 @@ function go() {
     cursor++
     copy(0, cursor)
     count = cursor
+    fit()
+}
+# Of more states than there may be one goes: the oldest, unless it stands beside the new one, else
+# the last.
+function fit(  i) {
+    if (!bound || count <= bound) return
+    if (cursor > 2) {
+        for (i = 1; i < count; i++) copy(i + 1, i)
+        cursor--
+        oldest_gone = 1
+    } else last_gone = 1
+    count--
 }
 # An undo (-1) or a redo (1) ends with these services live.
 function step(way, end,  place, i) {
@@ -79,6 +95,7 @@ function step(way, end,  place, i) {
         count++
         cursor = place
         split_one = 1
+        fit()
     }
 }
 function journal(  text, i, s, b) {
@@ -123,7 +140,7 @@ function carry_out(target, limit,  workers, w, s, holding, held) {
     from = after = live[cursor]
     to = target
     taken = failed = nothing
-    fails = some(6)
+    fails = bounded ? either(both(falls, from), less(rises, from)) : some(6)
     events = stopped = 0
     for (s = 1; s <= services; s++) moving[s] = 0
     workers = 1 + below(4)
@@ -149,6 +166,7 @@ function carry_out(target, limit,  workers, w, s, holding, held) {
 # The refusal of the events, which are spoiled sometimes: the last is gone, or one is put in that is
 # never legal.
 function spoiled(limit,  drawn, place, i) {
+    if (bounded) return ""
     drawn = below(10)
     if (drawn == 0 && !limit && events) {
         events--
@@ -165,6 +183,7 @@ function spoiled(limit,  drawn, place, i) {
     return ""
 }
 function script_of(command,  i) {
+    if (bounded) return command "\n"
     for (i = 1; i <= events; i++) command = command "\n" event[i]
     return command "\n"
 }
@@ -194,7 +213,7 @@ function change(  words, mode, prune, all, limit, now, keep, target, kept, refus
     mode = substr("uudD", 1 + below(4), 1)
     prune = below(4) == 0
     all = below(8) == 0
-    limit = below(4) == 0 ? 5 : 0
+    limit = !bounded && below(4) == 0 ? 5 : 0
     now = live[cursor]
     if (all) wanted = either(wanted, now)
     keep = up(both(essential, now))
@@ -220,7 +239,7 @@ function change(  words, mode, prune, all, limit, now, keep, target, kept, refus
     return report(kept)
 }
 function move(way,  limit, refusal) {
-    limit = below(4) == 0 ? 5 : 0
+    limit = !bounded && below(4) == 0 ? 5 : 0
     script = way < 0 ? "undo" : "redo"
     if (cursor + way < 1 || cursor + way > count) {
         script = script "\n"
@@ -285,32 +304,52 @@ function database(  turned, s, t, flag, text) {
 }
 
 function command(  drawn) {
-    drawn = below(13)
+    # With a bound some changes are followed by some undos, so that full lines are walked back.
+    drawn = bounded && int(k / 6) % 2 ? 5 + below(4) : below(13)
     if (drawn < 5) return change()
     if (drawn < 8) return move(-1)
     if (drawn < 10) return move(1)
     return drawn < 12 ? add() : remove()
 }
 
+# The words of a run on a bounded line: services fail on their way up or down.
+function bounded_words(  s, list) {
+    rises = some(5)
+    falls = some(3)
+    for (s = 1; s <= services; s++) {
+        if (has(rises, s)) list = list ",up:" name(s)
+        if (has(falls, s)) list = list ",down:" name(s)
+    }
+    return "-x " (list == "" ? "none" : substr(list, 2))
+}
+
 BEGIN {
     for (session = 1; session <= sessions; session++) {
         printf "%s", database() > (session ".base")
         close(session ".base")
+        bound = bounded ? 3 + below(3) : 0
+        oldest_gone = last_gone = 0
         count = cursor = 1
         live[1] = nothing
         for (b = 1; b <= 3; b++) bundles[1, b] = ""
         scripts = answers = ""
         split_one = 0
         for (k = 1; k <= commands; k++) {
-            answers = answers command()
-            scripts = scripts script
+            if (bounded) {
+                printf "%s\n", (k == 1 ? "-n " bound " " : "") bounded_words() > (session "." k ".words")
+                close(session "." k ".words")
+            }
+            answers = (bounded ? "" : answers) command()
+            scripts = bounded ? script "live\njournal\n" : scripts script
             printf "%s", scripts > (session "." k)
             close(session "." k)
-            printf "%slive%s\n", answers, names(live[cursor], " ") > (session ".wanted")
-            printf "%s", journal() > (session ".wanted")
+            printf "%slive%s\n", answers, names(live[cursor], " ") (bounded ? "\nok" : "") > (session ".wanted")
+            printf "%s", journal() (bounded ? "ok\n" : "") > (session ".wanted")
         }
         close(session ".wanted")
         splits += split_one
+        oldest += oldest_gone
+        newest += last_gone
     }
-    print splits + 0
+    print bounded ? (oldest + 0) " " (newest + 0) : splits + 0
 }

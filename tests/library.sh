@@ -116,6 +116,78 @@ ends() {
     judge "$1" "$2"
 }
 
+# preloads NAME: makes the library tests/NAME.c, which `numbered` puts before the C library.
+preloads() {
+    preload=$room/$1.so
+    if ! "${CC:-cc}" -shared -fPIC -o "$preload" "$here/$1.c" -ldl > made 2>&1; then
+        failed=$((failed + 1))
+        echo "FAILED: tests/$1.c was not made:"
+        cat made
+    fi
+}
+
+# numbered WORDS..: the run `number` of several, on the file `in`. With `file` it is a session that is
+# kept in a file of its own, behind a link where `file` is that word. The text `kept` stands there, or
+# nothing where that is empty.
+numbered() {
+    [ -z "$file" ] || set -- "$@" -l "live.$number"
+    [ "$file" != link ] || ln -s "place.$number" "live.$number"
+    [ -z "$kept" ] || printf '%s\n' "$kept" > "live.$number"
+    echo 0 > "status.$number"
+    LOG="log.$number" LD_PRELOAD="$preload" \
+        "$program" "$@" < in > "out.$number" 2> "err.$number" || echo $? > "status.$number"
+}
+
+# ended LEAST OPTIONS..: what tests/ended.awk says of the numbered runs, of which there are LEAST at
+# least; what they left beside the files of their sessions, and which links are none any more.
+ended() {
+    [ "$number" -ge "$1" ] || echo "only $number runs"
+    shift
+    for told in $(grep -ls ': nostart$' err.*); do
+        key=$(sed -n 's/^\[WARN  undorc\] \(.*\) \(.\): nostart$/\1:\2/p' "$told" | sort -t : -k 2 | tr '\n' ,)
+        [ -e "whole.${key%,}" ] || expects "${key%,}"
+    done
+    awk -v "runs=$number" "$@" -f "$here/ended.awk"
+    find . -name '*.new'
+    [ "$file" != link ] || find . -name 'live.*' ! -type l
+    find . ! -name . -prune \( -name '*.new' -o -name '[eosl]*.[0-9]*' -o -name 'place.*' \) -exec rm -f {} +
+}
+
+# begins_at WORDS..: numbered sessions go on with what the session of these words keeps, from nothing and
+# on the lines `in`.
+begins_at() {
+    "$program" "$@" -l text.none.0 < in > out
+    kept=$(cat text.none.0)
+}
+
+# expects KEY: what numbered sessions on the database `base` are to come to, where the transitions KEY
+# can't be started: the answers to the lines `in`, and the file behind each line.
+expects() {
+    many=0
+    cp text.none.0 live
+    [ "$1" = none ] || cp live "text.$1.0"
+    while IFS= read -r line; do
+        many=$((many + 1))
+        printf '%s\n' "$line" | "$program" session -b base -x "$1" -l live || echo 'a wrong status'
+        cp live "text.$1.$many"
+    done < in > "whole.$1"
+    rm live
+}
+
+# three_scripts: the database `base` of the scripts a, b that needs a, and c, which note in the file of
+# LOG when they are run.
+three_scripts() {
+    for name in a b c; do
+        mkdir -p "tree/$name"
+        echo oneshot > "tree/$name/type"
+        echo "echo up $name >> \"\$LOG\"" > "tree/$name/up"
+        echo "echo down $name >> \"\$LOG\"" > "tree/$name/down"
+    done
+    echo a > tree/b/dependencies
+    "$program" compile tree > base
+    rm -r tree
+}
+
 # The last line, and the status.
 tally() {
     echo "$passed passed, $failed failed"

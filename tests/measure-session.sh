@@ -39,7 +39,7 @@ pairs() {
 took() {
     for _ in $(seq "$runs"); do
         /usr/bin/time -f '%U %S' -o "$room/took" sh -ec '
-            for _ in $(seq "$1"); do "$2" session -x none -b "$3" < "$4" > "$5"; done' \
+            for _ in $(seq "$1"); do "$2" session -x none -n 100000 -b "$3" < "$4" > "$5"; done' \
             times "$1" "$program" "$2" "$3" "$room/out"
         tail -n 1 "$room/took"
     done | awk '{ took = $1 + $2; if (NR == 1 || took < best) best = took } END { print best }'
@@ -55,7 +55,7 @@ for count in 1000 2000 4000 8000 10000 16000 32000; do
     times=$((64000 / count))
     all=$(took $times "$room/random" "$room/lines")
     none=$(took $times "$room/random" "$room/nothing")
-    states=$({ cat "$room/lines"; echo journal; } | "$program" session -x none -b "$room/random" | sed -n 's/^at .* of //p')
+    states=$({ cat "$room/lines"; echo journal; } | "$program" session -x none -n 100000 -b "$room/random" | sed -n 's/^at .* of //p')
     echo "$count $states $all $none $times"
 done | awk '{
     each = ($3 - $4) / $5 / $1

@@ -95,8 +95,8 @@ over() {
     reads=$1 writes=$2 tells=$3
     shift 3
     echo 0 > status
-    env "LD_PRELOAD=$room/devices.so" "READS=$reads" "WRITES=$writes" "TELLS=$tells" \
-        timeout 60 "$program" "$@" < in > out 2> err || echo $? > status
+    LD_PRELOAD="$room/devices.so" READS="$reads" WRITES="$writes" TELLS="$tells" \
+        "$program" "$@" < in > out 2> err || echo $? > status
 }
 
 # plans STATUS OUTPUT FAULT READS WRITES TELLS: a plan over such devices.
@@ -251,7 +251,7 @@ failing() {
     while [ "$well" -lt 4 ] && [ "$made" -lt 500 ]; do
         made=$((made + 1))
         echo 0 > status
-        env "LD_PRELOAD=$room/devices.so" "FILES=once $made" \
+        LD_PRELOAD="$room/devices.so" FILES="once $made" \
             "$program" "$@" < in > out 2> err || echo $? > status
         read -r ended < status
         if [ "$ended" -eq 0 ]; then

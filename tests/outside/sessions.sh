@@ -90,7 +90,7 @@ awk 'BEGIN {
     print "ok"
 }' > out.wanted
 : > err.wanted
-runs session -b many -x none
+runs session -b many -x none -n 10001
 judge '10,000 lines, and the journal of 10,001 states' 0
 
 # A line of 1,000 states, in which the bits of a state's number are live, undone to the first and

@@ -107,8 +107,16 @@ wrong session -c true -c true
 wrong session -v -v
 wrong session -v none
 wrong session -x up -r true -c true -v
-wrong session -x none -l live
-wrong session -l live
+wrong session -x none -l
+wrong session -x none -l live -l live
+for bound in '' 0 1 2 x -3 3. ' 3' '3 ' 3x 0x3 4294967296 18446744073709551619; do
+    wrong session -x none -n "$bound"
+done
+says '^undorc: -n wants a number from 3 to 4294967295$'
+wrong session -x none -n
+wrong session -x none -n 4 -n 4
+wrong session -x none --live live
+wrong session -x none --bound 4
 wrong session -x none -u
 wrong session -x none -t 5
 wrong session -x none -d
@@ -128,6 +136,8 @@ says '^  -w <N>  '
 says '^  -r <TEXT>  '
 says '^  -c <TEXT>  '
 says '^  -v  '
+says '^  -l <FILE>  '
+says '^  -n <N>  '
 says '^  -x <LIST>  '
 wrong session -x "$strange"
 says '^undorc: a word of the command line is not UTF-8$'

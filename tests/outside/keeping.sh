@@ -1,0 +1,68 @@
+# The file of a session, and scripts, over devices that fail: at each of the calls about files, of the
+# reads and writes, of the starts of scripts and of the waits for them. tests/program.sh reads this
+# file; tests/devices.c makes the devices.
+mkdir keeping
+cd keeping
+preloads devices
+export READS='' WRITES='' FILES='' STARTS=''
+three_scripts
+: > in
+begins_at session -b base
+printf '%s\n' 'change b c' undo 'add both a c' 'delete both other' > in
+expects none
+
+# failing LEAST ENDS DEVICE WORDS OPTIONS: sessions whose DEVICE does what WORDS say at one call after the
+# other, until none is left. ENDS are the lines of how they end. What one leaves beside its file where
+# all calls fail, that of removing it among them, the next one removes.
+failing() {
+    least=$1 ends=$2 device=$3 words=$4 options=$5
+    number=0 well=0
+    while [ "$well" -lt 4 ] && [ "$number" -lt 500 ]; do
+        eval "$device=\"$words $number\""
+        number=$((number + 1))
+        numbered session -b base -v -w 2
+        read -r ended < "status.$number"
+        well=$((well + 1))
+        if [ "$ended" -ne 0 ] || [ -s "err.$number" ]; then well=0; fi
+    done
+    eval "$device="
+    for left in ./*.new; do
+        [ ! -e "$left" ] || "$program" session -b base -l "${left%.new}" < /dev/null
+    done
+    # shellcheck disable=SC2086
+    ended "$least" -v answers=1 -v scripts=1 -v kept=1 $options > said
+    sort -u said > out
+    : > err
+    echo 0 > status
+    wants "0\\n$ends" ''
+    judge "a session whose $device are '$words'" 0
+}
+
+# Files, each call alone and with all that follow. A script that can't be handed /dev/null is not
+# started.
+io='111 undorc: Io\n'
+text=$kept
+for file in file link; do
+    kept=$text
+    failing 55 "$io" FILES once '-v faults=Io'
+    failing 55 "$io" FILES 'piece 16 once' '-v faults=Io'
+    failing 55 "$io" FILES good '-v faults=Io'
+    kept=''
+    failing 55 "$io" FILES once '-v faults=Io -v fresh=1'
+    failing 55 "$io" FILES good '-v faults=Io -v fresh=1'
+done
+
+# Reads and writes of the streams. What was answered, in part or not at all, is done and on file.
+kept=$text
+for word in once good cut; do
+    failing 5 '111 undorc: Read\n' READS "piece 7 $word" '-v faults=Read'
+    failing 10 '111 undorc: Write\n' WRITES "piece 5 $word" '-v faults=Write'
+done
+
+# Starts of scripts, and waits for them. What can't be waited for is told as not started, and nobody
+# knows whether it ran.
+failing 12 '' STARTS once '-v lost=1'
+failing 12 '' STARTS good '-v lost=1'
+unset READS WRITES FILES STARTS
+cd ..
+rm -r keeping
