@@ -12,7 +12,7 @@ use Rattle.rc_board.specs.Made.{worker_of, IsSaid, AreMade}
 use Rattle.rc_board.specs.Pads.{Written, own, noted, way_of, IsSaidWith, AreSaid}
 use Rattle.rc_board.specs.Interleaving.{IsOfCrew, AreInterleaved}
 
-own_head : (w : ℕ) (e : Event) (es : List Event) → (worker_of e == w) ≡ true
+pub own_head : (w : ℕ) (e : Event) (es : List Event) → (worker_of e == w) ≡ true
     → own w (e ∷ es) ≡ e ∷ own w es
 own_head w e es h = rw h refl
 

@@ -4,5 +4,6 @@ pub mod Halting
 pub mod Interleaving
 pub mod Made
 pub mod Pads
+pub mod Reading
 pub mod Sight
 pub mod Working

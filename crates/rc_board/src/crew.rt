@@ -70,7 +70,7 @@ pub(crate) fn tools_of(
 }
 
 /// A glance, where looks are wanted.
-fn glance_of(alloc: Global, run: &Run, looks: bool) -> Result<Option<Glance>, NoMem>
+pub(crate) fn glance_of(alloc: Global, run: &Run, looks: bool) -> Result<Option<Glance>, NoMem>
     requires { run.now.events ≡ [] }
 {
     if looks {
@@ -80,8 +80,8 @@ fn glance_of(alloc: Global, run: &Run, looks: bool) -> Result<Option<Glance>, No
     }
 }
 
-/// Has the workers make the run on the board, and gives their pads, that of worker 1 first. None:
-/// not all of them could be started, and nothing was taken.
+/// Has the workers make the run on the board, of whom the caller is worker 1, and gives their pads,
+/// that of worker 1 first. None: not all of the others could be started, and nothing was taken.
 pub(crate) fn run_crew<G: Gate, W: Watch, R: Threads + Wait + Sync>(
     rt: &R,
     gate: &G,
@@ -91,6 +91,7 @@ pub(crate) fn run_crew<G: Gate, W: Watch, R: Threads + Wait + Sync>(
     all: Vec<Tools>,
     pads: Vec<Pad>,
 ) -> Option<Vec<Pad>>
+    requires some { 1 ≤ workers }
     requires tools { All (λ (tools : _). tools.pad.notes ≡ []) all.items }
     requires none { (pads.items ≡ []) × (vec_len pads ≡ 0) × (workers ≤ vec_capacity pads) }
     ensures said { IfSome result (λ pads. All (λ (pad : Written).
@@ -101,7 +102,7 @@ pub(crate) fn run_crew<G: Gate, W: Watch, R: Threads + Wait + Sync>(
         thread::scope_env(),
         rt,
         move |scope| -> Option<Vec<Pad>>
-            requires { All (λ (tools : _). tools.pad.notes ≡ []) all.items
+            requires { (1 ≤ workers) × All (λ (tools : _). tools.pad.notes ≡ []) all.items
                 × ((pads.items ≡ []) × (vec_len pads ≡ 0) × (workers ≤ vec_capacity pads)) }
             ensures { IfSome result (λ pads. All (λ (pad : Written).
                 AreSaid (G.answers gate.entry.now) (G.gives gate.entry.now) pad.notes) pads.items
@@ -118,8 +119,9 @@ pub(crate) fn run_crew<G: Gate, W: Watch, R: Threads + Wait + Sync>(
     )
 }
 
-/// Starts the workers with the numbers from this one down, opens the start once all are there,
-/// joins them, and adds their pads, that of worker 1 first. False: one could not be started.
+/// Starts the workers with the numbers from this one down to 2, opens the start once all are there,
+/// works as worker 1, joins the others, and adds their pads, that of worker 1 first. False: one could
+/// not be started.
 fn start_rest<'s, E, G: Gate, W: Watch, R: Threads + Wait + Sync>(
     scope: &'s Scope<'s, E>,
     rt: &'s R,
@@ -130,6 +132,7 @@ fn start_rest<'s, E, G: Gate, W: Watch, R: Threads + Wait + Sync>(
     rest: &mut Vec<Tools>,
     pads: &mut Vec<Pad>,
 ) -> bool
+    requires some { 1 ≤ worker }
     requires tools { All (λ (tools : _). tools.pad.notes ≡ []) rest.old.items }
     requires said { All (λ (pad : Written).
         AreSaid (G.answers gate.now) (G.gives gate.now) pad.notes) pads.old.items }
@@ -140,14 +143,15 @@ fn start_rest<'s, E, G: Gate, W: Watch, R: Threads + Wait + Sync>(
     ensures all { IsTrue result → vec_len pads.new ≡ vec_len pads.old + worker }
     ensures capacity { vec_capacity pads.new ≡ vec_capacity pads.old }
 {
-    if worker == 0 {
-        set_start(rt, shared, Start::Opened);
-        return true;
-    }
     let Some(tools) = rest.pop() else {
         set_start(rt, shared, Start::GivenUp);
         return false;
     };
+    if worker == 1 {
+        set_start(rt, shared, Start::Opened);
+        pads.push_reserved(work(rt, gate, watch, shared, worker, tools));
+        return true;
+    }
     let body = move || -> Pad
         requires { tools.pad.notes ≡ [] }
         ensures { AreSaid (G.answers gate.entry.now) (G.gives gate.entry.now) result.notes }

@@ -1,7 +1,8 @@
 //! Whether the events of a run are an interleaving of what its workers wrote down.
 
-ghost use Rattle.std.specs.Prelude.{◌≡◌, ◌<◌, ◌≤◌, ◌+◌, ◌↔◌, ℕ, All, length, slice_index_or, IsTrue};
+ghost use Rattle.std.specs.Prelude.{◌≡◌, ◌<◌, ◌≤◌, ◌+◌, ◌↔◌, ℕ, [], All, replicate, length, slice_index_or, IsTrue};
 ghost use Rattle.rc_board.specs.Interleaving.{IsOfCrew, AreInterleaved};
+ghost use Rattle.rc_board.specs.Reading.{AreLeft, IsNext, ReadsOn};
 ghost use Rattle.rc_board.specs.Pads.{Written, noted, own, way_of};
 
 use crate::made::{way_of, worker_of};
@@ -12,7 +13,7 @@ use rc_graph::Way;
 use rc_set::Set;
 
 /// Whether the events are an interleaving of the pads, where this is up at first. It looks at each
-/// event once for each pad.
+/// event once.
 pub(crate) fn are_interleaved(up: &Set, pads: &[Pad], events: &[Event]) -> bool
     requires { length pads.now ≤ 64 }
     ensures { IsTrue result ↔ AreInterleaved up.now pads.now events.now }
@@ -27,14 +28,61 @@ fn are_of_crew(events: &[Event], workers: usize) -> bool
     events.iter().all(|event| 1 <= worker_of(*event) && worker_of(*event) as usize <= workers)
 }
 
-/// Whether the events of each worker are those on its pad.
+/// Whether the events of each worker are those on its pad. It looks at each event once.
 fn are_own(events: &[Event], pads: &[Pad]) -> bool
-    requires { length pads.now ≤ 64 }
+    requires few { length pads.now ≤ 64 }
+    requires crew { All (IsOfCrew (length pads.now)) events.now }
     ensures { IsTrue result ↔ ((k : ℕ) (d : Written) → k < length pads.now
         → own (k + 1) events.now ≡ noted (slice_index_or pads.now k d).notes) }
 {
+    // How far each pad is read.
+    let mut read = unread();
+    let mut events = events;
+    while let Some((event, later)) = events.split_first() {
+        events = later;
+        if !read_on(pads, &mut read, *event) {
+            return false;
+        }
+    }
+    are_read(pads, &read)
+}
+
+/// The place before the first note, of each pad that there may be.
+fn unread() -> [usize; 64]
+    ensures { result ≡ replicate 64 0 }
+{
+    [0; 64]
+}
+
+/// Reads one event further. False: it is not next on the pad of its worker.
+fn read_on(pads: &[Pad], read: &mut [usize], event: Event) -> bool
+    requires crew { IsOfCrew (length pads.now) event }
+    requires room { length pads.now ≤ length read.old }
+    ensures room { length read.new ≡ length read.old }
+    ensures step { ReadsOn pads.now read.old event result read.new }
+{
+    let k = worker_of(event) as usize - 1;
+    if !is_next(pads[k].notes(), read[k], event) {
+        return false;
+    }
+    read[k] += 1;
+    true
+}
+
+/// Whether an event is noted at this place.
+fn is_next(notes: &[Note], at: usize, event: Event) -> bool
+    ensures { IsTrue result ↔ IsNext notes.now at event }
+{
+    at < notes.len() && notes[at].event == event
+}
+
+/// Whether nothing is left on the pads behind these places.
+fn are_read(pads: &[Pad], read: &[usize]) -> bool
+    requires { length pads.now ≤ length read.now }
+    ensures { IsTrue result ↔ AreLeft pads.now read.now [] }
+{
     for (k, pad) in pads.iter().enumerate() {
-        if !is_own(events, pad.notes(), (k + 1) as u8) {
+        if read[k] < pad.notes().len() {
             return false;
         }
     }

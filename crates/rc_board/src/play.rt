@@ -1,12 +1,13 @@
 //! A run that was begun, made by workers.
 
-ghost use Rattle.std.specs.Prelude.{◌≡◌, ◌≤◌, ℕ, [], All, IfOk, IfErr, vec_len, vec_capacity};
+ghost use Rattle.std.specs.Prelude.{◌≡◌, ◌<◌, ◌≤◌, ℕ, min, [], All, IfOk, IfErr, vec_len, vec_capacity};
 ghost use Rattle.rc_core.specs.Course.{IsCourse, IsPlanned, course_of};
 ghost use Rattle.rc_core.specs.Settled.{IsSettled};
 ghost use Rattle.rc_board.specs.Crew.{IsCrew};
 ghost use Rattle.rc_board.specs.Halting.{MayHalt};
 ghost use Rattle.rc_board.specs.Made.{AreMade};
 
+use crate::alone::played_alone;
 use crate::board::Board;
 use crate::crew::{Shared, Tools, run_crew, tools_of};
 use crate::gate::Gate;
@@ -41,8 +42,8 @@ impl From<AllocError> for Halt {
     }
 }
 
-/// Has workers make the run of a plan. Where nothing is to move, none is started. All room that
-/// they will need is made before.
+/// Has workers make the run of a plan, of whom the caller is the first. No more are started than
+/// there are services to move. All room that they will need is made before.
 pub(crate) fn played<R: Threads + Wait + Sync, G: Gate, W: Watch>(
     rt: &R,
     alloc: Global,
@@ -65,14 +66,33 @@ pub(crate) fn played<R: Threads + Wait + Sync, G: Gate, W: Watch>(
     ensures halt { IfErr result (MayHalt (course_of graph.now plan.now deadline)) }
 {
     let run = Run::open(alloc, graph, plan, deadline)?;
-    if run.planned() == 0 {
+    let planned = run.planned();
+    if planned == 0 {
         return Ok(run.finish());
     }
-    let tools = tools_of(alloc, &run, workers, watch.wants_looks())?;
-    let pads = Vec::with_capacity(alloc, workers as usize)?;
+    let crew = crew_for(workers, planned);
+    if crew == 1 {
+        return played_alone(alloc, run, deadline, gate, watch);
+    }
+    let tools = tools_of(alloc, &run, crew, watch.wants_looks())?;
+    let pads = Vec::with_capacity(alloc, crew as usize)?;
     worked(
-        rt, graph, plan, deadline, gate, workers, watch, run, tools, pads,
+        rt, graph, plan, deadline, gate, crew, watch, run, tools, pads,
     )
+}
+
+/// As many of these workers as there are services to move: no other would have anything to do.
+fn crew_for(workers: u8, planned: usize) -> u8
+    requires crew { IsCrew workers }
+    requires some { 0 < planned }
+    ensures crew { IsCrew result }
+    ensures fewer { result ≡ min workers planned }
+{
+    if planned < workers as usize {
+        planned as u8
+    } else {
+        workers
+    }
 }
 
 /// Has workers make a run in which something is to move. Takes no memory but that of their threads.

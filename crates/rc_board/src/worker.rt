@@ -198,7 +198,7 @@ fn ask<G: Gate, R: Wait>(
 }
 
 /// The moment that it is, where it has reached the deadline.
-fn late_moment<G: Gate>(gate: &G, deadline: Option<u64>) -> Option<u64>
+pub(crate) fn late_moment<G: Gate>(gate: &G, deadline: Option<u64>) -> Option<u64>
     ensures { IfSome result (G.gives gate.now) }
 {
     let deadline = deadline?;

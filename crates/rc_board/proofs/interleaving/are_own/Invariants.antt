@@ -1,8 +1,17 @@
-use Rattle.std.proofs.Common.{◌≡◌, ℕ, ◌+◌, ◌<◌, get_or}
+use Rattle.std.proofs.Common.{◌≡◌, ◌↔◌, ◌+◌, ◌<◌, ℕ, length, get_or}
+use Rattle.std.specs.List.{All}
 use Rattle.rc_board.specs.Pads.{Written, own, noted}
+use Rattle.rc_board.specs.Interleaving.{IsOfCrew}
+use Rattle.rc_board.specs.Reading.{AreLeft}
 use Rattle.rc_board.proofs.interleaving.are_own.Given as goal
 
--- the pads so far have what their workers made
-abbrev pub invariant-loop-k : goal.invariant-loop-k
-invariant-loop-k l =
-    (k : ℕ) (d : Written) → k < l.k → own (k + 1) l.events ≡ noted (get_or l.pads k d).notes
+-- what is left of both is the same exactly where the whole is
+abbrev pub invariant-loop-event : goal.invariant-loop-event
+invariant-loop-event l =
+    (((k : ℕ) (d : Written) → k < length l.pads
+    → own (k + 1) l.fn.events ≡ noted (get_or l.pads k d).notes)
+    ↔ AreLeft l.pads l.read l.events)
+    × All (IsOfCrew (length l.pads)) l.events × (length l.read ≡ 64)
+
+abbrev pub decreases-loop-event : goal.decreases-loop-event
+decreases-loop-event l = length l.events

@@ -1,0 +1,142 @@
+-- Pads that are read one event after the other.
+use Rattle.std.proofs.Common.{◌≡◌, ◌∙◌, ℕ, suc, ◌+◌, ◌<◌, ◌≤◌, ◌==◌, ◌↔◌, true, false, List, [], ◌∷◌, None, length, drop, replicate, get_or, slice_set, get_or-set_same, get_or-set_other, inl, inr, refl, ap, sym, subst, arith}
+use Rattle.std.proofs.Math.Seq.{drop-cons}
+use Rattle.std.proofs.Math.ListN.{drop_of_length-le}
+use Rattle.std.proofs.lemmas.List.{get_or_default, get_or-replicate}
+use Rattle.std.proofs.lemmas.Bool.{eq-eqb, ne_eqb, cases_eq, cases_lt}
+use Rattle.rc_core.specs.declared.event.Event.{Event}
+use Rattle.rc_core.specs.declared.event.Event.TheVariants.{Stop}
+use Rattle.rc_board.specs.declared.note.Note.{Note}
+use Rattle.rc_board.specs.Made.{worker_of}
+use Rattle.rc_board.specs.Pads.{Written, own, noted}
+use Rattle.rc_board.specs.Reading.{AreLeft, IsNext}
+use Rattle.rc_board.proofs.Joining.{own_head}
+
+own_other : (w : ℕ) (e : Event) (es : List Event) → (worker_of e == w) ≡ false
+    → own w (e ∷ es) ≡ own w es
+own_other w e es h = rw h refl
+
+abbrev first_or : Event → List Event → Event
+first_or e [] = e
+first_or e (x ∷ xs) = x
+
+abbrev rest_of : List Event → List Event
+rest_of [] = []
+rest_of (x ∷ xs) = xs
+
+-- what is left on a pad from a place within it on
+noted_from : (notes : List Note) (a : ℕ) (d : Note) → a < length notes
+    → noted (drop a notes) ≡ (get_or notes a d).event ∷ noted (drop (a + 1) notes)
+noted_from notes a d low =
+    let one : suc a ≡ a + 1 = omega arith in
+    subst (λ (n : ℕ). noted (drop a notes) ≡ (get_or notes a d).event ∷ noted (drop n notes)) one
+    (ap (λ (ns : List Note). noted ns) (drop-cons notes a d low))
+
+-- an event that is next on its worker's pad
+read_one : (w : ℕ) (e : Event) (rest : List Event) (notes : List Note) (a : ℕ)
+    → (worker_of e == w) ≡ true → IsNext notes a e
+    → (own w (e ∷ rest) ≡ noted (drop a notes)) ↔ (own w rest ≡ noted (drop (a + 1) notes))
+read_one w e rest notes a mine next =
+    let d : Note = record { event = e; way = None } in
+    let cut : noted (drop a notes) ≡ e ∷ noted (drop (a + 1) notes) =
+    subst (λ (x : Event). noted (drop a notes) ≡ x ∷ noted (drop (a + 1) notes)) (next.1 d)
+    (noted_from notes a d next.0) in (
+      λ same. ap rest_of (sym (own_head w e rest mine) ∙ same ∙ cut),
+      λ same. own_head w e rest mine ∙ ap (λ (es : List Event). e ∷ es) same ∙ sym cut,
+    )
+
+-- one that stands on it is next
+is_next : (w : ℕ) (e : Event) (rest : List Event) (notes : List Note) (a : ℕ)
+    → (worker_of e == w) ≡ true → own w (e ∷ rest) ≡ noted (drop a notes) → IsNext notes a e
+is_next w e rest notes a mine same =
+    let here : e ∷ own w rest ≡ noted (drop a notes) = sym (own_head w e rest mine) ∙ same in
+    elim (cases_lt a (length notes)) [
+      | inl low ↦ (low, λ d. ap (first_or e) (sym (noted_from notes a d low) ∙ sym here))
+      | inr high ↦ absurd
+          (let none : e ∷ own w rest ≡ [] =
+          here ∙ ap (λ (ns : List Note). noted ns) (drop_of_length-le notes high) in cc)
+    ]
+
+-- one event further
+pub read_on : (pads : List Written) (read : List ℕ) (e : Event) (rest : List Event) (k : ℕ)
+    → worker_of e ≡ k + 1 → length pads ≤ length read
+    → ((d : Written) → IsNext (get_or pads k d).notes (get_or read k 0) e)
+    → AreLeft pads read (e ∷ rest)
+    ↔ AreLeft pads (slice_set read k (get_or read k 0 + 1)) rest
+read_on pads read e rest k worker room next =
+    let a = get_or read k 0 in
+    let read' = slice_set read k (a + 1) in
+    let one : (j : ℕ) (d : Written) → j < length pads →
+    (own (j + 1) (e ∷ rest) ≡ noted (drop (get_or read j 0) (get_or pads j d).notes))
+    ↔ (own (j + 1) rest ≡ noted (drop (get_or read' j 0) (get_or pads j d).notes)) =
+    λ j d low. elim (cases_eq j k) [
+      | inl same ↦
+          let mine : (worker_of e == j + 1) ≡ true =
+          eq-eqb (worker_of e) (j + 1) (worker ∙ ap (λ (n : ℕ). n + 1) (sym same)) in
+          let within : k < length read = omega (arith, same, low, room) in
+          let at : get_or read' j 0 ≡ get_or read j 0 + 1 =
+          subst (λ (n : ℕ). get_or read' n 0 ≡ get_or read n 0 + 1) (sym same)
+          (get_or-set_same read k (a + 1) 0 within) in
+          let there : IsNext (get_or pads j d).notes (get_or read j 0) e =
+          subst (λ (n : ℕ). IsNext (get_or pads n d).notes (get_or read n 0) e) (sym same) (next d) in
+          subst (λ (n : ℕ).
+          (own (j + 1) (e ∷ rest) ≡ noted (drop (get_or read j 0) (get_or pads j d).notes))
+          ↔ (own (j + 1) rest ≡ noted (drop n (get_or pads j d).notes))) (sym at)
+          (read_one (j + 1) e rest (get_or pads j d).notes (get_or read j 0) mine there)
+      | inr other ↦
+          let not_mine : (worker_of e == j + 1) ≡ false =
+          ne_eqb (worker_of e) (j + 1) (λ bad. other (omega (arith, bad, worker))) in
+          let at : get_or read' j 0 ≡ get_or read j 0 =
+          get_or-set_other read k j (a + 1) 0 other in
+          let same : own (j + 1) (e ∷ rest) ≡ own (j + 1) rest =
+          own_other (j + 1) e rest not_mine in (
+            λ h. sym same ∙ h ∙ ap (λ (n : ℕ). noted (drop n (get_or pads j d).notes)) (sym at),
+            λ h. same ∙ h ∙ ap (λ (n : ℕ). noted (drop n (get_or pads j d).notes)) at,
+          )
+    ] in
+    (λ left j d low. (one j d low).0 (left j d low), λ left j d low. (one j d low).1 (left j d low))
+
+-- an event that is not next on its worker's pad
+pub stuck : (pads : List Written) (read : List ℕ) (e : Event) (rest : List Event) (k : ℕ)
+    (d : Written) → worker_of e ≡ k + 1 → k < length pads
+    → (IsNext (get_or pads k d).notes (get_or read k 0) e → ⊥)
+    → AreLeft pads read (e ∷ rest) → ⊥
+stuck pads read e rest k d worker low not_next left =
+    not_next (is_next (k + 1) e rest (get_or pads k d).notes (get_or read k 0)
+    (eq-eqb (worker_of e) (k + 1) worker) (left k d low))
+
+-- something is left on a pad
+pub not_end : (notes : List Note) (a : ℕ) → a < length notes → [] ≡ noted (drop a notes) → ⊥
+not_end notes a low none =
+    let d : Note = record { event = Stop 0 0; way = None } in
+    let bad : [] ≡ (get_or notes a d).event ∷ noted (drop (a + 1) notes) =
+    none ∙ noted_from notes a d low in
+    cc
+
+-- the pad at a place, whatever stands in for one that is none
+pub pad_at : (pads : List Written) (k : ℕ) (pad : Written) (d : Written) → k < length pads
+    → pad ≡ get_or pads k pad → get_or pads k d ≡ pad
+pad_at pads k pad d low is = get_or_default pads k d pad low ∙ sym is
+
+-- nothing is read at first
+pub all_left : (pads : List Written) (read : List ℕ) (events : List Event)
+    → read ≡ replicate 64 0 → length pads ≤ 64
+    → ((k : ℕ) (d : Written) → k < length pads
+    → own (k + 1) events ≡ noted (get_or pads k d).notes)
+    ↔ AreLeft pads read events
+all_left pads read events fresh few =
+    let none : (k : ℕ) → k < length pads → get_or read k 0 ≡ 0 =
+    λ k low.
+    let within : k < 64 = omega (arith, low, few) in
+    ap (λ (r : List ℕ). get_or r k 0) fresh ∙ get_or-replicate 64 k 0 0 within in (
+      λ whole k d low.
+          subst (λ (n : ℕ). own (k + 1) events ≡ noted (drop n (get_or pads k d).notes))
+          (sym (none k low)) (whole k d low),
+      λ left k d low.
+          subst (λ (n : ℕ). own (k + 1) events ≡ noted (drop n (get_or pads k d).notes))
+          (none k low) (left k d low),
+    )
+
+-- the same by way of two others
+pub by_both : {A B C : Type 0} → A ↔ B → B ↔ C → A ↔ C
+by_both f g = (λ a. g.0 (f.0 a), λ c. f.1 (g.1 c))
