@@ -2,6 +2,7 @@ pub mod TaskLemmas
 pub mod AskedLemmas
 pub mod DbAskedLemmas
 pub mod SessionWordsLemmas
+pub mod OnceLemmas
 pub mod Mapped
 pub mod Spelling
 mod TextWords

@@ -1,5 +1,5 @@
 -- What the words ask, by the matches that `clap` makes of them.
-use Rattle.std.proofs.Common.{◌≡◌, ◌≤◌, ◌∙◌, ℕ, arith, Bool, List, Option, None, Some, false, true, if◌then◌else◌, refl, ap, sym, subst, unwrap_or, codes}
+use Rattle.std.proofs.Common.{◌≡◌, ◌≤◌, ◌∙◌, ℕ, arith, Bool, List, [], Option, None, Some, false, true, if◌then◌else◌, refl, ap, sym, subst, unwrap_or, codes}
 use Rattle.std.proofs.lemmas.Slice.Eq.{bytes_eq-Decides}
 use Rattle.std.specs.Option.{option_and_then}
 use Rattle.std.specs.Str.{bytes_eq}
@@ -8,14 +8,17 @@ use Rattle.clap.specs.Words.{Row, Text, fault_of, first_of, rows_of, subcommand_
 use Rattle.clap.specs.declared.ArgMatches.{ArgMatches}
 use Rattle.clap.proofs.WalkLemmas.{first_value-rows}
 use Rattle.rc_select.specs.Ask.{Ask}
+use Rattle.rc_session.specs.Commands.{Add, Change, Delete, Redo, Undo}
+use Rattle.rc_lines.specs.Says.{SaysBundles, SaysDry, SaysJournal, SaysLive, SaysNothing, SaysStep, SaysWrong}
 use Rattle.rc_command.specs.Commands.{program}
 use Rattle.rc_command.specs.Words.{has_fault, rows_for, rows_named}
 use Rattle.rc_command.proofs.WordsLemmas.{rows_right, rows_wrong}
 use Rattle.rc_asked.specs.Asked.{ask_in, plan_asked}
 use Rattle.rc_asked.specs.DbAsked.{AsksIn, AsksNothing}
+use Rattle.rc_asked.specs.OnceAsked.{OnceAsk, OnceSaying, Said, WantsDryRedo, WantsDryUndo, once_command, once_saying_of}
 use Rattle.rc_asked.specs.Query.{DbAsk}
 use Rattle.rc_asked.specs.SessionAsked.{AsksNoSession, AsksSessionIn, IsBoundIn, IsCrewIn, SessionAsk}
-use Rattle.rc_asked.specs.Task.{AsksEntered, AsksNamed, AsksNoTask, AsksTask, AsksTaskIn, HasBound, HasWorkers, OfCompile, OfDb, OfPlan, OfReplay, OfSession, TaskAsk, command_of, file_in, task_ask_of}
+use Rattle.rc_asked.specs.Task.{AsksEntered, AsksNamed, AsksNoTask, AsksTask, AsksTaskIn, HasBound, HasWorkers, OfCompile, OfDb, OfOnce, OfPlan, OfReplay, OfSession, OfVersion, TaskAsk, command_of, file_in, task_ask_of}
 use Rattle.rc_asked.specs.declared.task.Task.{Task}
 use Rattle.rc_asked.specs.declared.task.Task.TheVariants as task
 
@@ -69,11 +72,13 @@ workers_in None workers is = (omega arith, omega arith)
 workers_in (Some text) workers is = (is.2, is.3)
 
 pub asked_workers : (entered : Option (Text × List Row)) (t : Task) → AsksEntered entered (task_ask_of t) → HasWorkers t
-asked_workers entered (task.Compile sources) asks = tt
+asked_workers entered (task.Compile request) asks = tt
 asked_workers entered (task.Db request file) asks = tt
 asked_workers entered (task.Plan request file) asks = tt
 asked_workers entered (task.Replay file) asks = tt
 asked_workers entered (task.Session request file) asks = workers_in (first_of (codes "workers") asks.0) request.workers asks.2.0.workers
+asked_workers entered (task.Once request file) asks = workers_in (first_of (codes "workers") asks.0) request.session.workers asks.2.0.1.workers
+asked_workers entered task.Version asks = tt
 
 -- and a bound
 bound_in : (given : Option Text) (bound : ℕ) → IsBoundIn given bound → 3 ≤ bound
@@ -81,11 +86,13 @@ bound_in None bound is = omega arith
 bound_in (Some text) bound is = is.2
 
 pub asked_bound : (entered : Option (Text × List Row)) (t : Task) → AsksEntered entered (task_ask_of t) → HasBound t
-asked_bound entered (task.Compile sources) asks = tt
+asked_bound entered (task.Compile request) asks = tt
 asked_bound entered (task.Db request file) asks = tt
 asked_bound entered (task.Plan request file) asks = tt
 asked_bound entered (task.Replay file) asks = tt
 asked_bound entered (task.Session request file) asks = bound_in (first_of (codes "bound") asks.0) request.bound asks.2.0.bound
+asked_bound entered (task.Once request file) asks = bound_in (first_of (codes "bound") asks.0) request.session.bound asks.2.0.1.bound
+asked_bound entered task.Version asks = tt
 
 -- a wrong line asks nothing
 pub wrong_asks : (words : List Text) → has_fault (fault_of program words) ≡ true → AsksNoTask words
@@ -106,30 +113,87 @@ pub file_found : (m : ArgMatches) (file : Option Text) → file ≡ first_value 
 file_found m file is = is ∙ first_value-rows (found_of m) (codes "base")
 
 -- two names are apart
-apart : (name other : Text) → bytes_eq name other ≡ false → name ≡ other → ⊥
+pub apart : (name other : Text) → bytes_eq name other ≡ false → name ≡ other → ⊥
 apart name other no_test is = let yes : bytes_eq name other ≡ true = (bytes_eq-Decides name other).1 is in let both : true ≡ false = sym yes ∙ no_test in cc
+
+-- a name is that of no command of one line
+pub once_apart : (name : Text) → bytes_eq name [] ≡ false → bytes_eq name (codes "change") ≡ false
+    → bytes_eq name (codes "undo") ≡ false → bytes_eq name (codes "redo") ≡ false
+    → bytes_eq name (codes "live") ≡ false → bytes_eq name (codes "journal") ≡ false
+    → (what : OnceSaying) → name ≡ once_command what → ⊥
+once_apart name none change undo redo live journal (Said SaysNothing) is = apart name [] none is
+once_apart name none change undo redo live journal (Said SaysWrong) is = apart name [] none is
+once_apart name none change undo redo live journal (Said (SaysStep (Change ask events))) is = apart name (codes "change") change is
+once_apart name none change undo redo live journal (Said (SaysStep (Undo limit events))) is = apart name (codes "undo") undo is
+once_apart name none change undo redo live journal (Said (SaysStep (Redo limit events))) is = apart name (codes "redo") redo is
+once_apart name none change undo redo live journal (Said (SaysStep (Add word contents force))) is = apart name [] none is
+once_apart name none change undo redo live journal (Said (SaysStep (Delete words force))) is = apart name [] none is
+once_apart name none change undo redo live journal (Said (SaysDry ask)) is = apart name (codes "change") change is
+once_apart name none change undo redo live journal (Said SaysLive) is = apart name (codes "live") live is
+once_apart name none change undo redo live journal (Said SaysBundles) is = apart name [] none is
+once_apart name none change undo redo live journal (Said SaysJournal) is = apart name (codes "journal") journal is
+once_apart name none change undo redo live journal WantsDryUndo is = apart name (codes "undo") undo is
+once_apart name none change undo redo live journal WantsDryRedo is = apart name (codes "redo") redo is
+
+-- a command of one line is none of the others
+pub once_other : (name : Text) → bytes_eq [] name ≡ false → bytes_eq (codes "change") name ≡ false
+    → bytes_eq (codes "undo") name ≡ false → bytes_eq (codes "redo") name ≡ false
+    → bytes_eq (codes "live") name ≡ false → bytes_eq (codes "journal") name ≡ false
+    → (what : OnceSaying) → bytes_eq (once_command what) name ≡ false
+once_other name none change undo redo live journal (Said SaysNothing) = none
+once_other name none change undo redo live journal (Said SaysWrong) = none
+once_other name none change undo redo live journal (Said (SaysStep (Change ask events))) = change
+once_other name none change undo redo live journal (Said (SaysStep (Undo limit events))) = undo
+once_other name none change undo redo live journal (Said (SaysStep (Redo limit events))) = redo
+once_other name none change undo redo live journal (Said (SaysStep (Add word contents force))) = none
+once_other name none change undo redo live journal (Said (SaysStep (Delete words force))) = none
+once_other name none change undo redo live journal (Said (SaysDry ask)) = change
+once_other name none change undo redo live journal (Said SaysLive) = live
+once_other name none change undo redo live journal (Said SaysBundles) = none
+once_other name none change undo redo live journal (Said SaysJournal) = journal
+once_other name none change undo redo live journal WantsDryUndo = undo
+once_other name none change undo redo live journal WantsDryRedo = redo
 
 -- matches that ask nothing of their command ask nothing
 pub db_none : (rows : List Row) → ((ask : DbAsk) → AsksIn rows ask → ⊥) → (ask : TaskAsk) → AsksNamed (codes "db") rows ask → ⊥
-db_none rows none (OfCompile sources) asks = apart (codes "db") (codes "compile") refl asks.0
+db_none rows none (OfCompile ask) asks = apart (codes "db") (codes "compile") refl asks.0
 db_none rows none (OfDb ask file) asks = none ask asks.1.0
 db_none rows none (OfPlan ask file) asks = apart (codes "db") (codes "plan") refl asks.0
 db_none rows none (OfReplay file) asks = apart (codes "db") (codes "replay") refl asks.0
 db_none rows none (OfSession ask file) asks = apart (codes "db") (codes "session") refl asks.0
+db_none rows none (OfOnce ask file) asks = once_apart (codes "db") refl refl refl refl refl refl ask.what asks.0
+db_none rows none OfVersion asks = apart (codes "db") (codes "version") refl asks.0
 
 pub plan_none : (rows : List Row) → ask_in rows ≡ None → (ask : TaskAsk) → AsksNamed (codes "plan") rows ask → ⊥
-plan_none rows none (OfCompile sources) asks = apart (codes "plan") (codes "compile") refl asks.0
+plan_none rows none (OfCompile ask) asks = apart (codes "plan") (codes "compile") refl asks.0
 plan_none rows none (OfDb ask file) asks = apart (codes "plan") (codes "db") refl asks.0
 plan_none rows none (OfPlan ask file) asks = let both : None ≡ Some ask = sym none ∙ asks.1.0 in cc
 plan_none rows none (OfReplay file) asks = apart (codes "plan") (codes "replay") refl asks.0
 plan_none rows none (OfSession ask file) asks = apart (codes "plan") (codes "session") refl asks.0
+plan_none rows none (OfOnce ask file) asks = once_apart (codes "plan") refl refl refl refl refl refl ask.what asks.0
+plan_none rows none OfVersion asks = apart (codes "plan") (codes "version") refl asks.0
 
 pub session_none : (rows : List Row) → ((ask : SessionAsk) → AsksSessionIn rows ask → ⊥) → (ask : TaskAsk) → AsksNamed (codes "session") rows ask → ⊥
-session_none rows none (OfCompile sources) asks = apart (codes "session") (codes "compile") refl asks.0
+session_none rows none (OfCompile ask) asks = apart (codes "session") (codes "compile") refl asks.0
 session_none rows none (OfDb ask file) asks = apart (codes "session") (codes "db") refl asks.0
 session_none rows none (OfPlan ask file) asks = apart (codes "session") (codes "plan") refl asks.0
 session_none rows none (OfReplay file) asks = apart (codes "session") (codes "replay") refl asks.0
 session_none rows none (OfSession ask file) asks = none ask asks.1.0
+session_none rows none (OfOnce ask file) asks = once_apart (codes "session") refl refl refl refl refl refl ask.what asks.0
+session_none rows none OfVersion asks = apart (codes "session") (codes "version") refl asks.0
+
+-- matches that ask for no session of one line ask nothing, where their command has none of the other names
+pub others_none : (name : Text) (rows : List Row) → (name ≡ codes "compile" → ⊥) → (name ≡ codes "db" → ⊥)
+    → (name ≡ codes "plan" → ⊥) → (name ≡ codes "replay" → ⊥) → (name ≡ codes "session" → ⊥) → (name ≡ codes "version" → ⊥)
+    → ((ask : OnceAsk) (file : Option Text) → AsksNamed name rows (OfOnce ask file) → ⊥)
+    → (ask : TaskAsk) → AsksNamed name rows ask → ⊥
+others_none name rows compile db plan replay session version none (OfCompile ask) asks = compile asks.0
+others_none name rows compile db plan replay session version none (OfDb ask file) asks = db asks.0
+others_none name rows compile db plan replay session version none (OfPlan ask file) asks = plan asks.0
+others_none name rows compile db plan replay session version none (OfReplay file) asks = replay asks.0
+others_none name rows compile db plan replay session version none (OfSession ask file) asks = session asks.0
+others_none name rows compile db plan replay session version none (OfOnce ask file) asks = none ask file asks
+others_none name rows compile db plan replay session version none OfVersion asks = version asks.0
 
 -- what a task of another command says of a command
 pub plan_other : (words : List Text) (task other : Task) → task ≡ other → bytes_eq (command_of (task_ask_of other)) (codes "plan") ≡ false → AsksTask words (task_ask_of task) → plan_asked words ≡ None

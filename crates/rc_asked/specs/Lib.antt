@@ -2,6 +2,9 @@ pub mod Asked
 pub mod Query
 pub mod DbAsked
 pub mod SessionAsked
+pub mod OnceAsked
+pub mod CompileAsked
+pub mod Limits
 pub mod ReplayAsked
 pub mod Task
 pub mod Listed

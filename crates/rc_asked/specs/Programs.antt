@@ -1,18 +1,20 @@
 -- How the transitions of a session are made, by its options.
-use Rattle.std.specs.Prelude.{◌≡◌, List, Option, None, Some, [], codes, unwrap_or}
+use Rattle.std.specs.Prelude.{◌≡◌, ℕ, List, Option, None, Some, [], codes, unwrap_or}
 use Rattle.clap.specs.Words.{Row, Text, first_of}
 use Rattle.rc_lines.specs.Words.{words_in as spaced}
 use Rattle.rc_asked.specs.Listed.{Listed, SpellsList}
+use Rattle.rc_asked.specs.Limits.{IsLimitIn}
 
--- by a table of those that fail, with nothing started, or by programs: the words of a runner for oneshots, and those of a controller for longruns
+-- by a table of those that fail, with nothing started, or by programs: the words of a runner for
+-- oneshots, those of a controller for longruns, and the limit of services that have none, or 0
 pub data MakingAsk : Type 0 where
   ByTable : List Listed → MakingAsk
-  ByPrograms : List Text → List Text → MakingAsk
+  ByPrograms : List Text → List Text → ℕ → MakingAsk
 
 -- the transitions that are listed as failing
 abbrev pub listed_in : MakingAsk → List Listed
 listed_in (ByTable failing) = failing
-listed_in (ByPrograms first second) = []
+listed_in (ByPrograms first second limit) = []
 
 -- the words of the runner: those of the text that is given, and `/bin/sh -c` where none is
 abbrev pub runner_in : Option Text → List Text
@@ -23,12 +25,14 @@ abbrev pub controller_in : Option Text → List Text
 controller_in given = spaced (unwrap_or given [])
 
 -- where a list of transitions is given they are those that fail, whatever the programs; else there are programs
-abbrev pub MakesBy : (list runner controller : Option Text) → MakingAsk → Type 0
-MakesBy (Some text) runner controller (ByTable failing) = SpellsList text failing
-MakesBy (Some text) runner controller (ByPrograms first second) = ⊥
-MakesBy None runner controller (ByTable failing) = ⊥
-MakesBy None runner controller (ByPrograms first second) = (first ≡ runner_in runner) × (second ≡ controller_in controller)
+abbrev pub MakesBy : (list runner controller limit : Option Text) → MakingAsk → Type 0
+MakesBy (Some text) runner controller limit (ByTable failing) = SpellsList text failing
+MakesBy (Some text) runner controller limit (ByPrograms first second usual) = ⊥
+MakesBy None runner controller limit (ByTable failing) = ⊥
+MakesBy None runner controller limit (ByPrograms first second usual) =
+    (first ≡ runner_in runner) × (second ≡ controller_in controller) × IsLimitIn limit usual
 
 -- the matches of `session` ask that transitions are made so
 abbrev pub MakesIn : List Row → MakingAsk → Type 0
-MakesIn rows making = MakesBy (first_of (codes "failing") rows) (first_of (codes "runner") rows) (first_of (codes "controller") rows) making
+MakesIn rows making = MakesBy (first_of (codes "failing") rows) (first_of (codes "runner") rows)
+    (first_of (codes "controller") rows) (first_of (codes "usual") rows) making

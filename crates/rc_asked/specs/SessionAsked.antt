@@ -7,13 +7,16 @@ use Rattle.rc_asked.specs.Programs.{MakesIn, MakingAsk}
 use Rattle.rc_command.specs.Words.{is_on, rows_for}
 use Rattle.rc_asked.specs.declared.session_words.SessionRequest.{SessionRequest}
 
--- what is asked of a session: how many workers it has, how transitions are made, whether each outcome other than success is told, how many states a new one has at most, and the file that it goes on with and is kept in, if one is named
+-- what is asked of a session: how many workers it has, how transitions are made, whether each is
+-- told, how many states a new one has at most, the file that it goes on with and is kept in, if one
+-- is named, and whether that is waited for where another program holds it
 pub record SessionAsk : Type 0 where
   pub workers : ℕ
   pub making : MakingAsk
   pub tells : Bool
   pub bound : ℕ
   pub live : Option Text
+  pub waits : Bool
 
 -- the text of a number of workers, from 1 to 64: digits, before which a plus may stand
 abbrev pub SpellsCrew : Text → ℕ → Type 0
@@ -34,13 +37,15 @@ abbrev pub IsBoundIn : Option Text → ℕ → Type 0
 IsBoundIn None bound = bound ≡ 1024
 IsBoundIn (Some text) bound = SpellsBound text bound
 
--- the matches of `session` are those of this number of workers, of transitions that are made so, of outcomes that are told or not, of this bound and of this file
+-- the matches are those of this number of workers, of transitions that are made so, and told or
+-- not, of this bound and of this file, waited for or not
 pub record AsksSessionIn (rows : List Row) (ask : SessionAsk) : Type 0 where
   pub workers : IsCrewIn (first_of (codes "workers") rows) ask.workers
   pub making : MakesIn rows ask.making
   pub tells : ask.tells ≡ is_on (codes "verbose") rows
   pub bound : IsBoundIn (first_of (codes "bound") rows) ask.bound
   pub live : ask.live ≡ first_of (codes "live") rows
+  pub waits : ask.waits ≡ is_on (codes "wait") rows
 
 -- the words ask this of `session`
 abbrev pub AsksSession : List Text → SessionAsk → Type 0
@@ -62,4 +67,5 @@ session_ask_of request = record {
   tells = request.tells;
   bound = request.bound;
   live = option_map (λ f. f.now) request.live;
+  waits = request.waits;
 }

@@ -2,41 +2,49 @@
 use Rattle.std.specs.Prelude.{◌≡◌, ◌≤◌, List, Option, Some, codes, map, option_map, string_bytes}
 use Rattle.clap.specs.Words.{Row, Text, first_of}
 use Rattle.rc_select.specs.Ask.{Ask, ask_of}
-use Rattle.rc_command.specs.Words.{rows_for, words_in}
+use Rattle.rc_command.specs.Words.{rows_for}
 use Rattle.rc_asked.specs.Asked.{ask_in}
+use Rattle.rc_asked.specs.CompileAsked.{AsksCompileIn, CompileAsk, compile_ask_of}
+use Rattle.rc_asked.specs.OnceAsked.{AsksOnceIn, OnceAsk, once_ask_of, once_command}
 use Rattle.rc_asked.specs.DbAsked.{AsksIn}
 use Rattle.rc_asked.specs.Query.{DbAsk, db_ask_of}
 use Rattle.rc_asked.specs.SessionAsked.{AsksSessionIn, SessionAsk, session_ask_of}
 use Rattle.rc_asked.specs.declared.task.Task.{Task}
 use Rattle.rc_asked.specs.declared.task.Task.TheVariants as task
 
--- what is asked of a command, and but for `compile` the file of `-b`, if one is named
+-- what is asked of a command, and but for `compile` and `version` the file of `-b`, if one is named
 pub data TaskAsk : Type 0 where
-  OfCompile : List Text → TaskAsk
+  OfCompile : CompileAsk → TaskAsk
   OfDb : DbAsk → Option Text → TaskAsk
   OfPlan : Ask → Option Text → TaskAsk
   OfReplay : Option Text → TaskAsk
   OfSession : SessionAsk → Option Text → TaskAsk
+  OfOnce : OnceAsk → Option Text → TaskAsk
+  OfVersion : TaskAsk
 
 -- the command that is asked
 abbrev pub command_of : TaskAsk → Text
-command_of (OfCompile sources) = codes "compile"
+command_of (OfCompile ask) = codes "compile"
 command_of (OfDb ask file) = codes "db"
 command_of (OfPlan ask file) = codes "plan"
 command_of (OfReplay file) = codes "replay"
 command_of (OfSession ask file) = codes "session"
+command_of (OfOnce ask file) = once_command ask.what
+command_of OfVersion = codes "version"
 
 -- the file of `-b` in the matches of a command
 abbrev pub file_in : List Row → Option Text
 file_in rows = first_of (codes "base") rows
 
--- the matches of the command ask this: of `compile` its sources
+-- the matches of the command ask this
 abbrev pub AsksTaskIn : List Row → TaskAsk → Type 0
-AsksTaskIn rows (OfCompile sources) = sources ≡ words_in rows
+AsksTaskIn rows (OfCompile ask) = AsksCompileIn rows ask
 AsksTaskIn rows (OfDb ask file) = AsksIn rows ask × (file ≡ file_in rows)
 AsksTaskIn rows (OfPlan ask file) = (ask_in rows ≡ Some ask) × (file ≡ file_in rows)
 AsksTaskIn rows (OfReplay file) = file ≡ file_in rows
 AsksTaskIn rows (OfSession ask file) = AsksSessionIn rows ask × (file ≡ file_in rows)
+AsksTaskIn rows (OfOnce ask file) = AsksOnceIn rows ask × (file ≡ file_in rows)
+AsksTaskIn rows OfVersion = Unit {0}
 
 -- the matches of the command of this name ask this
 abbrev pub AsksNamed : Text → List Row → TaskAsk → Type 0
@@ -56,18 +64,23 @@ AsksNoTask words = (ask : TaskAsk) → AsksTask words ask → ⊥
 
 -- what a task of the program asks
 abbrev pub task_ask_of : Task → TaskAsk
-task_ask_of (task.Compile sources) = OfCompile (map string_bytes sources.items)
+task_ask_of (task.Compile request) = OfCompile (compile_ask_of request)
 task_ask_of (task.Db request file) = OfDb (db_ask_of request) (option_map (λ f. f.now) file)
 task_ask_of (task.Plan request file) = OfPlan (ask_of request) (option_map (λ f. f.now) file)
 task_ask_of (task.Replay file) = OfReplay (option_map (λ f. f.now) file)
 task_ask_of (task.Session request file) = OfSession (session_ask_of request) (option_map (λ f. f.now) file)
+task_ask_of (task.Once request file) = OfOnce (once_ask_of request) (option_map (λ f. f.now) file)
+task_ask_of task.Version = OfVersion
 
 -- a session has a bound on how many states there are, of at least 3
 abbrev pub HasBound : Task → Type 0
 HasBound (task.Session request file) = 3 ≤ request.bound
+HasBound (task.Once request file) = 3 ≤ request.session.bound
 HasBound other = Unit {0}
 
 -- a session has workers, 64 at most
 abbrev pub HasWorkers : Task → Type 0
 HasWorkers (task.Session request file) = (1 ≤ request.workers) × (request.workers ≤ 64)
+HasWorkers (task.Once request file) =
+    (1 ≤ request.session.workers) × (request.session.workers ≤ 64)
 HasWorkers other = Unit {0}

@@ -31,6 +31,8 @@ pub enum WordsFault {
     Workers,
     /// Their bound on how many states there are is none of at least 3.
     Bound,
+    /// Their limit is no number of milliseconds.
+    Limit,
     /// Their list of transitions that fail has not the form of one.
     List,
     Memory,
@@ -55,6 +57,8 @@ pub fn plan_asked(alloc: Global, words: &[String]) -> Result<Request, WordsFault
         Ok(Task::Db(..)) => Err(WordsFault::OtherCommand),
         Ok(Task::Replay(_)) => Err(WordsFault::OtherCommand),
         Ok(Task::Session(..)) => Err(WordsFault::OtherCommand),
+        Ok(Task::Once(..)) => Err(WordsFault::OtherCommand),
+        Ok(Task::Version) => Err(WordsFault::OtherCommand),
         Err(fault) => Err(fault),
     }
 }
@@ -123,6 +127,10 @@ pub fn tell_words<F: Write>(faults: &mut F, fault: &WordsFault) -> u8
         }
         WordsFault::Bound => {
             tell(faults, b"-n wants a number from 3 to 4294967295");
+            WRONG_LINE
+        }
+        WordsFault::Limit => {
+            tell(faults, b"-t and -T want a number from 0 to 4294967295");
             WRONG_LINE
         }
         WordsFault::List => {

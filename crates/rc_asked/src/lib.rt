@@ -2,7 +2,10 @@
 #![tactic(auto)]
 
 mod asked;
+mod compile_words;
 mod db_words;
+mod limits;
+mod once_words;
 mod program_words;
 mod query;
 mod replay_words;
@@ -12,7 +15,9 @@ mod texts;
 mod transitions;
 
 pub use crate::asked::{WordsFault, plan_asked, tell_words};
+pub use crate::compile_words::CompileRequest;
 pub use crate::db_words::db_asked;
+pub use crate::once_words::{Once, OnceRequest};
 pub use crate::program_words::{Making, Programs};
 pub use crate::query::{DbRequest, NameQuery, NamesQuery, Query};
 pub use crate::replay_words::replay_asked;

@@ -19,6 +19,8 @@ pub fn replay_asked(alloc: Global, words: &[String]) -> Result<(), WordsFault>
         Ok(Task::Db(..)) => Err(WordsFault::OtherCommand),
         Ok(Task::Plan(..)) => Err(WordsFault::OtherCommand),
         Ok(Task::Session(..)) => Err(WordsFault::OtherCommand),
+        Ok(Task::Once(..)) => Err(WordsFault::OtherCommand),
+        Ok(Task::Version) => Err(WordsFault::OtherCommand),
         Err(fault) => Err(fault),
     }
 }

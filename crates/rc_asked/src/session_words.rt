@@ -30,12 +30,14 @@ pub struct SessionRequest<'a> {
     pub workers: u8,
     /// How they are made.
     pub making: Making<'a>,
-    /// Whether each outcome other than success is told.
+    /// Whether each transition is told.
     pub tells: bool,
     /// How many states a new session has at most.
     pub bound: u32,
     /// The file that the session goes on with, and is kept in.
     pub live: Option<&'a str>,
+    /// Whether that file is waited for where another program holds it.
+    pub waits: bool,
 }
 
 /// What the words ask of `session`. The first word is the program's own name.
@@ -52,6 +54,8 @@ pub fn session_asked<'a>(
         Ok(Task::Db(..)) => Err(WordsFault::OtherCommand),
         Ok(Task::Plan(..)) => Err(WordsFault::OtherCommand),
         Ok(Task::Replay(_)) => Err(WordsFault::OtherCommand),
+        Ok(Task::Once(..)) => Err(WordsFault::OtherCommand),
+        Ok(Task::Version) => Err(WordsFault::OtherCommand),
         Err(fault) => Err(fault),
     }
 }
@@ -78,6 +82,7 @@ pub(crate) fn session_in<'a>(
             tells,
             bound,
             live: matches.get_str("live"),
+            waits: is_on(matches, "wait"),
         }),
         Err(fault) => Err(fault),
     }

@@ -1,14 +1,17 @@
 //! The words of the command line, read once.
-ghost use Rattle.std.specs.Prelude.{◌≡◌, ◌≢◌, codes, map, string_bytes, IfErr, IfOk};
-ghost use Rattle.clap.specs.Words.{found_of, rows_of, subcommand_rows_of};
-ghost use Rattle.rc_asked.specs.Task.{AsksEntered, AsksNamed, AsksNoTask, AsksTask, HasBound, HasWorkers, TaskAsk, task_ask_of};
+ghost use Rattle.std.specs.Prelude.{◌≡◌, ◌≢◌, Option, codes, map, string_bytes, IfErr, IfOk};
+ghost use Rattle.clap.specs.Words.{Text, found_of, rows_of, subcommand_rows_of};
+ghost use Rattle.rc_asked.specs.OnceAsked.{OnceAsk};
+ghost use Rattle.rc_asked.specs.Task.{AsksEntered, AsksNamed, AsksNoTask, AsksTask, HasBound, HasWorkers};
+ghost use Rattle.rc_asked.specs.Task.{OfOnce, TaskAsk, task_ask_of};
 ghost use Rattle.rc_asked.specs.declared.asked.WordsFault.TheVariants.{Memory};
 
 use crate::asked::{WordsFault, plan_in};
+use crate::compile_words::{CompileRequest, compile_in};
 use crate::db_words::db_in;
+use crate::once_words::{OnceRequest, once_in};
 use crate::query::DbRequest;
 use crate::session_words::{SessionRequest, session_in};
-use crate::texts::words_in;
 use clap::ArgMatches;
 use rc_command::{entered, is_memory, matches_of};
 use rc_select::Request;
@@ -18,7 +21,7 @@ use std::alloc::Global;
 #[derive(Drop)]
 pub enum Task<'a> {
     /// The database that these source directories define.
-    Compile(Vec<String>),
+    Compile(CompileRequest<'a>),
     /// The answer of a question about a database.
     Db(DbRequest<'a>, Option<&'a str>),
     /// The plan of a change.
@@ -27,6 +30,10 @@ pub enum Task<'a> {
     Replay(Option<&'a str>),
     /// A session.
     Session(SessionRequest<'a>, Option<&'a str>),
+    /// A session of one line.
+    Once(OnceRequest<'a>, Option<&'a str>),
+    /// Which version this is.
+    Version,
 }
 
 /// What the words ask. The first word is the program's own name.
@@ -77,7 +84,8 @@ fn task_named<'a>(
         "plan" => plan_task(alloc, matches),
         "replay" => Ok(Task::Replay(matches.get_str("base"))),
         "session" => session_task(alloc, matches),
-        _ => Err(WordsFault::OtherCommand),
+        "version" => Ok(Task::Version),
+        _ => once_task(alloc, name, matches),
     }
 }
 
@@ -86,7 +94,7 @@ fn compile_task<'a>(alloc: Global, matches: &ArgMatches<'a>) -> Result<Task<'a>,
     ensures asked { IfOk result (λ task. AsksNamed (codes "compile") (rows_of (found_of matches.now)) (task_ask_of task)) }
     ensures wrong { IfErr result (λ fault. fault ≡ Memory) }
 {
-    Ok(Task::Compile(words_in(alloc, matches)?))
+    Ok(Task::Compile(compile_in(alloc, matches)?))
 }
 
 // What the matches of `db` ask.
@@ -118,6 +126,21 @@ fn session_task<'a>(alloc: Global, matches: &ArgMatches<'a>) -> Result<Task<'a>,
 {
     match session_in(alloc, matches) {
         Ok(request) => Ok(Task::Session(request, matches.get_str("base"))),
+        Err(fault) => Err(fault),
+    }
+}
+
+// What the matches of the command of this name ask of a session of one line.
+fn once_task<'a>(
+    alloc: Global,
+    name: &str,
+    matches: &ArgMatches<'a>,
+) -> Result<Task<'a>, WordsFault>
+    ensures asked { IfOk result (λ task. AsksNamed name.now (rows_of (found_of matches.now)) (task_ask_of task)) }
+    ensures wrong { IfErr result (λ fault. fault ≢ Memory → (ask : OnceAsk) (file : Option Text) → AsksNamed name.now (rows_of (found_of matches.now)) (OfOnce ask file) → ⊥) }
+{
+    match once_in(alloc, name, matches) {
+        Ok(request) => Ok(Task::Once(request, matches.get_str("base"))),
         Err(fault) => Err(fault),
     }
 }

@@ -2,8 +2,12 @@
 ghost use Rattle.std.specs.Prelude.{◌≡◌};
 ghost use Rattle.clap.specs.Words.{App};
 ghost use Rattle.rc_command.specs.Commands.{IsOwn, Reads, rule_in, bare, bare_program, with_arg, with_command};
-ghost use Rattle.rc_command.specs.Commands.{compile_command, db_command, plan_command, program, replay_command, session_command};
-ghost use Rattle.rc_command.specs.Commands.{base_option, flag, option, query_word, source_list, with_file, with_names, with_programs, with_ways, word_list};
+ghost use Rattle.rc_command.specs.Commands.{asking_program, changing_program, program};
+ghost use Rattle.rc_command.specs.Commands.{change_command, compile_command, db_command, plan_command};
+ghost use Rattle.rc_command.specs.Commands.{replay_command, session_command, show_command, step_command};
+ghost use Rattle.rc_command.specs.Commands.{base_option, flag, option, query_word, source_list, word_list};
+ghost use Rattle.rc_command.specs.Commands.{with_crew, with_live, with_making, with_names, with_once, with_programs};
+ghost use Rattle.rc_command.specs.Commands.{with_session, with_watch, with_ways};
 
 use clap::{Arg, ArgAction, Command};
 use std::alloc::{AllocError, Global};
@@ -13,12 +17,38 @@ use std::alloc::{AllocError, Global};
 pub(crate) fn undorc_command<'a>(alloc: Global) -> Result<Command<'a>, AllocError>
     ensures { Reads result program }
 {
+    let command = changing_command(alloc);
+    let about = "Prints what is up";
+    let command = with_command(command, show_command(alloc, "live", about));
+    let about = "Prints what the changes raised and lowered, and which of them are undone";
+    let command = with_command(command, show_command(alloc, "journal", about));
+    with_command(command, bare(alloc, "version", "Prints the version"))
+}
+
+// The program with all commands but those that show.
+#[tactic(auto, unfolding(crate::specs::Commands::changing_program))]
+fn changing_command<'a>(alloc: Global) -> Result<Command<'a>, AllocError>
+    ensures { Reads result changing_program }
+{
+    let command = asking_command(alloc);
+    let command = with_command(command, session_command(alloc));
+    let command = with_command(command, change_command(alloc));
+    let about = "Takes the last change back that is not undone";
+    let command = with_command(command, step_command(alloc, "undo", about));
+    let about = "Makes the change again that was undone last";
+    with_command(command, step_command(alloc, "redo", about))
+}
+
+// The program with the commands that ask about databases.
+#[tactic(auto, unfolding(crate::specs::Commands::asking_program))]
+fn asking_command<'a>(alloc: Global) -> Result<Command<'a>, AllocError>
+    ensures { Reads result asking_program }
+{
     let command = undorc_alone(alloc);
     let command = with_command(command, compile_command(alloc));
     let command = with_command(command, db_command(alloc));
     let command = with_command(command, plan_command(alloc));
-    let command = with_command(command, replay_command(alloc));
-    with_command(command, session_command(alloc))
+    with_command(command, replay_command(alloc))
 }
 
 #[tactic(auto, unfolding(crate::specs::Commands::Reads, crate::specs::Commands::bare_program))]
@@ -71,7 +101,26 @@ fn compile_command<'a>(alloc: Global) -> Result<Command<'a>, AllocError>
     let command = bare(
         alloc,
         "compile",
-        "Prints the database that source directories define",
+        "Makes the database that source directories define",
+    );
+    let command = with_arg(
+        command,
+        option(
+            alloc,
+            "output",
+            'o',
+            "FILE",
+            "Put it into this file, once it is whole, and not on standard output",
+        ),
+    );
+    let command = with_arg(
+        command,
+        flag(
+            alloc,
+            "verbose",
+            'v',
+            "Tell which files were not looked at, on standard error",
+        ),
     );
     with_arg(command, sources_argument(alloc))
 }
@@ -137,7 +186,133 @@ fn session_command<'a>(alloc: Global) -> Result<Command<'a>, AllocError>
         "session",
         "Reads a database, and then from standard input session lines; does what each says, and answers it",
     );
+    with_arg(
+        with_session(alloc, command),
+        option(
+            alloc,
+            "bound",
+            'n',
+            "N",
+            "Keep so many states of a new session at most, 3 or more; 1024 without it",
+        ),
+    )
+}
+
+#[tactic(auto, unfolding(crate::specs::Commands::change_command))]
+fn change_command<'a>(alloc: Global) -> Result<Command<'a>, AllocError>
+    ensures { Reads result change_command }
+{
+    let command = bare(
+        alloc,
+        "change",
+        "Raises or lowers services with all that this needs, and answers",
+    );
+    let command = with_once(alloc, command);
+    with_names(alloc, with_ways(alloc, command))
+}
+
+// A command that goes back or on.
+#[tactic(auto, unfolding(crate::specs::Commands::step_command))]
+fn step_command<'a>(alloc: Global, name: &'a str, about: &'a str) -> Result<Command<'a>, AllocError>
+    ensures { Reads result (step_command name.entry.now) }
+{
+    with_once(alloc, bare(alloc, name, about))
+}
+
+// A command that shows where a session stands.
+#[tactic(auto, unfolding(crate::specs::Commands::show_command))]
+fn show_command<'a>(alloc: Global, name: &'a str, about: &'a str) -> Result<Command<'a>, AllocError>
+    ensures { Reads result (show_command name.entry.now) }
+{
+    let command = with_arg(bare(alloc, name, about), base_argument(alloc));
+    with_live(alloc, command)
+}
+
+// The command with the options of a change, an undo and a redo.
+fn with_once<'a>(
+    alloc: Global,
+    command: Result<Command<'a>, AllocError>,
+) -> Result<Command<'a>, AllocError>
+    ensures { (app : App) → Reads command.entry app → Reads result (with_once app) }
+{
+    let command = with_arg(
+        with_session(alloc, command),
+        option(
+            alloc,
+            "limit",
+            't',
+            "MS",
+            "Begin no transition once so many milliseconds are over",
+        ),
+    );
+    with_arg(
+        command,
+        flag(
+            alloc,
+            "dry",
+            'n',
+            "Print what would be lowered and raised, and move nothing",
+        ),
+    )
+}
+
+// The command with the options of a session.
+fn with_session<'a>(
+    alloc: Global,
+    command: Result<Command<'a>, AllocError>,
+) -> Result<Command<'a>, AllocError>
+    ensures { (app : App) → Reads command.entry app → Reads result (with_session app) }
+{
     let command = with_arg(command, base_argument(alloc));
+    with_live(alloc, with_making(alloc, command))
+}
+
+// The command with the options of how transitions are made.
+fn with_making<'a>(
+    alloc: Global,
+    command: Result<Command<'a>, AllocError>,
+) -> Result<Command<'a>, AllocError>
+    ensures { (app : App) → Reads command.entry app → Reads result (with_making app) }
+{
+    let command = with_crew(alloc, command);
+    with_watch(alloc, with_programs(alloc, command))
+}
+
+// The command with the option of how long a transition may take, and the flag that tells each.
+fn with_watch<'a>(
+    alloc: Global,
+    command: Result<Command<'a>, AllocError>,
+) -> Result<Command<'a>, AllocError>
+    ensures { (app : App) → Reads command.entry app → Reads result (with_watch app) }
+{
+    let command = with_arg(
+        command,
+        option(
+            alloc,
+            "usual",
+            'T',
+            "MS",
+            "Give services that have no limit this one, in milliseconds",
+        ),
+    );
+    with_arg(
+        command,
+        flag(
+            alloc,
+            "verbose",
+            'v',
+            "Tell each transition as it begins and as it ends, on standard error",
+        ),
+    )
+}
+
+// The command with the options of how many transitions are made at once, and of those that fail.
+fn with_crew<'a>(
+    alloc: Global,
+    command: Result<Command<'a>, AllocError>,
+) -> Result<Command<'a>, AllocError>
+    ensures { (app : App) → Reads command.entry app → Reads result (with_crew app) }
+{
     let command = with_arg(
         command,
         option(
@@ -148,7 +323,7 @@ fn session_command<'a>(alloc: Global) -> Result<Command<'a>, AllocError>
             "Make so many transitions at once, 1 to 64; 4 without it",
         ),
     );
-    let command = with_arg(
+    with_arg(
         command,
         option(
             alloc,
@@ -157,16 +332,15 @@ fn session_command<'a>(alloc: Global) -> Result<Command<'a>, AllocError>
             "LIST",
             "Start nothing, and let these transitions fail: `none`, or `up:NAME` and `down:NAME` joined by commas",
         ),
-    );
-    with_file(alloc, with_programs(alloc, command))
+    )
 }
 
-// The command with the options of where a session begins, and where it is kept.
-fn with_file<'a>(
+// The command with the options of the file that a session goes on with and is kept in.
+fn with_live<'a>(
     alloc: Global,
     command: Result<Command<'a>, AllocError>,
 ) -> Result<Command<'a>, AllocError>
-    ensures { (app : App) → Reads command.entry app → Reads result (with_file app) }
+    ensures { (app : App) → Reads command.entry app → Reads result (with_live app) }
 {
     let command = with_arg(
         command,
@@ -180,12 +354,11 @@ fn with_file<'a>(
     );
     with_arg(
         command,
-        option(
+        flag(
             alloc,
-            "bound",
-            'n',
-            "N",
-            "Keep so many states of a new session at most, 3 or more; 1024 without it",
+            "wait",
+            'W',
+            "Wait where another program holds the file of -l",
         ),
     )
 }
@@ -207,7 +380,7 @@ fn with_programs<'a>(
             "Start this program, with these words, for a oneshot, whose text is its last word; `/bin/sh -c` without it",
         ),
     );
-    let command = with_arg(
+    with_arg(
         command,
         option(
             alloc,
@@ -215,15 +388,6 @@ fn with_programs<'a>(
             'c',
             "TEXT",
             "Start this program, with these words, for a longrun; `up` or `down` and the name are its last words",
-        ),
-    );
-    with_arg(
-        command,
-        flag(
-            alloc,
-            "verbose",
-            'v',
-            "Tell each outcome other than success on standard error",
         ),
     )
 }

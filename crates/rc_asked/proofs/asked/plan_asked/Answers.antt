@@ -1,5 +1,5 @@
-use Rattle.std.proofs.Common.{refl}
-use Rattle.rc_asked.proofs.TaskLemmas.{no_plan, plan_other}
+use Rattle.std.proofs.Common.{codes, refl}
+use Rattle.rc_asked.proofs.TaskLemmas.{no_plan, once_other, plan_other}
 use Rattle.rc_asked.proofs.asked.plan_asked.Goals as goal
 
 pub returns-in-Ok-Compile-clause-wrong : goal.returns-in-Ok-Compile-clause-wrong
@@ -13,6 +13,12 @@ returns-in-Ok-Replay-clause-wrong c = λ _. plan_other _ _ _ c.in-Ok-Replay.fiel
 
 pub returns-in-Ok-Session-clause-wrong : goal.returns-in-Ok-Session-clause-wrong
 returns-in-Ok-Session-clause-wrong c = λ _. plan_other _ _ _ c.in-Ok-Session.field-0-is refl c.in-Ok-Session.ensures.asked
+
+pub returns-in-Ok-Once-clause-wrong : goal.returns-in-Ok-Once-clause-wrong
+returns-in-Ok-Once-clause-wrong c = λ _. plan_other _ _ _ c.in-Ok-Once.field-0-is (once_other (codes "plan") refl refl refl refl refl refl _) c.in-Ok-Once.ensures.asked
+
+pub returns-in-Ok-Version-clause-wrong : goal.returns-in-Ok-Version-clause-wrong
+returns-in-Ok-Version-clause-wrong c = λ _. plan_other _ _ _ c.in-Ok-Version.field-0-is refl c.in-Ok-Version.ensures.asked
 
 pub returns-clause-wrong : goal.returns-clause-wrong
 returns-clause-wrong c = λ other. no_plan _ (c.in-Err.ensures.wrong other)

@@ -1,6 +1,6 @@
 use Rattle.std.proofs.Common.{refl, codes}
 use Rattle.rc_asked.proofs.DbAskedLemmas.{asked_none}
-use Rattle.rc_asked.proofs.TaskLemmas.{no_db, other_asked}
+use Rattle.rc_asked.proofs.TaskLemmas.{no_db, once_other, other_asked}
 use Rattle.rc_asked.proofs.db_words.db_asked.Goals as goal
 
 pub returns-in-Ok-Compile-clause-wrong : goal.returns-in-Ok-Compile-clause-wrong
@@ -14,6 +14,12 @@ returns-in-Ok-Replay-clause-wrong c = λ _. asked_none _ (other_asked (codes "db
 
 pub returns-in-Ok-Session-clause-wrong : goal.returns-in-Ok-Session-clause-wrong
 returns-in-Ok-Session-clause-wrong c = λ _. asked_none _ (other_asked (codes "db") _ _ _ c.in-Ok-Session.field-0-is refl c.in-Ok-Session.ensures.asked)
+
+pub returns-in-Ok-Once-clause-wrong : goal.returns-in-Ok-Once-clause-wrong
+returns-in-Ok-Once-clause-wrong c = λ _. asked_none _ (other_asked (codes "db") _ _ _ c.in-Ok-Once.field-0-is (once_other (codes "db") refl refl refl refl refl refl _) c.in-Ok-Once.ensures.asked)
+
+pub returns-in-Ok-Version-clause-wrong : goal.returns-in-Ok-Version-clause-wrong
+returns-in-Ok-Version-clause-wrong c = λ _. asked_none _ (other_asked (codes "db") _ _ _ c.in-Ok-Version.field-0-is refl c.in-Ok-Version.ensures.asked)
 
 pub returns-clause-wrong : goal.returns-clause-wrong
 returns-clause-wrong c = λ other. no_db _ (c.in-Err.ensures.wrong other)

@@ -1,6 +1,6 @@
 use Rattle.std.proofs.Common.{refl, codes}
 use Rattle.rc_asked.proofs.SessionWordsLemmas.{asked_none}
-use Rattle.rc_asked.proofs.TaskLemmas.{no_session, other_asked}
+use Rattle.rc_asked.proofs.TaskLemmas.{no_session, once_other, other_asked}
 use Rattle.rc_asked.proofs.session_words.session_asked.Goals as goal
 
 pub returns-in-Ok-Compile-clause-wrong : goal.returns-in-Ok-Compile-clause-wrong
@@ -14,6 +14,12 @@ returns-in-Ok-Plan-clause-wrong c = λ _. asked_none _ (other_asked (codes "sess
 
 pub returns-in-Ok-Replay-clause-wrong : goal.returns-in-Ok-Replay-clause-wrong
 returns-in-Ok-Replay-clause-wrong c = λ _. asked_none _ (other_asked (codes "session") _ _ _ c.in-Ok-Replay.field-0-is refl c.in-Ok-Replay.ensures.asked)
+
+pub returns-in-Ok-Once-clause-wrong : goal.returns-in-Ok-Once-clause-wrong
+returns-in-Ok-Once-clause-wrong c = λ _. asked_none _ (other_asked (codes "session") _ _ _ c.in-Ok-Once.field-0-is (once_other (codes "session") refl refl refl refl refl refl _) c.in-Ok-Once.ensures.asked)
+
+pub returns-in-Ok-Version-clause-wrong : goal.returns-in-Ok-Version-clause-wrong
+returns-in-Ok-Version-clause-wrong c = λ _. asked_none _ (other_asked (codes "session") _ _ _ c.in-Ok-Version.field-0-is refl c.in-Ok-Version.ensures.asked)
 
 pub returns-clause-wrong : goal.returns-clause-wrong
 returns-clause-wrong c = λ other. no_session _ (c.in-Err.ensures.wrong other)

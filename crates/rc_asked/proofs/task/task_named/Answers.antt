@@ -1,5 +1,13 @@
-use Rattle.rc_asked.proofs.TaskLemmas.{file_found}
+use Rattle.std.proofs.lemmas.Result.{IfErr-weaker}
+use Rattle.rc_asked.proofs.TaskLemmas.{file_found, others_none}
 use Rattle.rc_asked.proofs.task.task_named.Goals as goal
 
 pub returns-in-replay-clause-asked : goal.returns-in-replay-clause-asked
 returns-in-replay-clause-asked c = (c.in-replay.is, file_found c.args.matches.now _ c.get_str.ensures)
+
+pub returns-in_default-clause-wrong : goal.returns-in_default-clause-wrong
+returns-in_default-clause-wrong c =
+    let d = c.in_default in
+    IfErr-weaker c.once_task.result _ _
+    (λ fault none other. others_none _ _ d.not-compile d.not-db d.not-plan d.not-replay d.not-session d.not-version (none other))
+    c.once_task.ensures.wrong

@@ -1,0 +1,14 @@
+-- The numbers of milliseconds among the words.
+use Rattle.std.specs.Prelude.{◌≡◌, ◌<◌, ◌^◌, ℕ, Option, None, Some}
+use Rattle.std.specs.Str.Parse.{IsNumeral, digits_value, without_leading_plus}
+use Rattle.clap.specs.Words.{Text}
+
+-- the text of a number of milliseconds: digits, before which a plus may stand
+abbrev pub SpellsLimit : Text → ℕ → Type 0
+SpellsLimit text limit = IsNumeral 10 (without_leading_plus text)
+    × (limit ≡ digits_value 10 (without_leading_plus text)) × (limit < 2 ^ 32)
+
+-- the limit that is given, and 0, which is none, where none is
+abbrev pub IsLimitIn : Option Text → ℕ → Type 0
+IsLimitIn None limit = limit ≡ 0
+IsLimitIn (Some text) limit = SpellsLimit text limit

@@ -1,0 +1,91 @@
+-- What the words ask of a session of one line.
+use Rattle.std.specs.Prelude.{◌≡◌, ℕ, true, false, List, [], Some, codes}
+use Rattle.clap.specs.Words.{Row, Text, first_of}
+use Rattle.rc_select.specs.Ask.{Ask}
+use Rattle.rc_session.specs.Commands.{Add, Change, Delete, Redo, Undo}
+use Rattle.rc_lines.specs.Says.{Saying, SaysBundles, SaysDry, SaysJournal, SaysLive, SaysNothing, SaysStep, SaysWrong, saying_of}
+use Rattle.rc_command.specs.Words.{is_on}
+use Rattle.rc_asked.specs.Asked.{ask_in}
+use Rattle.rc_asked.specs.Limits.{IsLimitIn}
+use Rattle.rc_asked.specs.SessionAsked.{AsksSessionIn, SessionAsk, session_ask_of}
+use Rattle.rc_asked.specs.declared.once_words.Once.{Once}
+use Rattle.rc_asked.specs.declared.once_words.Once.TheVariants as once
+use Rattle.rc_asked.specs.declared.once_words.OnceRequest.{OnceRequest}
+
+-- what one line is to do: what a session line says, or to show what an undo or a redo would move
+pub data OnceSaying : Type 0 where
+  Said : Saying → OnceSaying
+  WantsDryUndo : OnceSaying
+  WantsDryRedo : OnceSaying
+
+-- what is asked of a session of one line: what that is to do, and what is asked of the session
+pub record OnceAsk : Type 0 where
+  pub what : OnceSaying
+  pub session : SessionAsk
+
+-- the command that asks this
+abbrev pub once_command : OnceSaying → Text
+once_command (Said SaysNothing) = []
+once_command (Said SaysWrong) = []
+once_command (Said (SaysStep (Change ask events))) = codes "change"
+once_command (Said (SaysStep (Undo limit events))) = codes "undo"
+once_command (Said (SaysStep (Redo limit events))) = codes "redo"
+once_command (Said (SaysStep (Add name contents force))) = []
+once_command (Said (SaysStep (Delete words force))) = []
+once_command (Said (SaysDry ask)) = codes "change"
+once_command (Said SaysLive) = codes "live"
+once_command (Said SaysBundles) = []
+once_command (Said SaysJournal) = codes "journal"
+once_command WantsDryUndo = codes "undo"
+once_command WantsDryRedo = codes "redo"
+
+-- the matches of `change` ask this, with the limit that is given
+abbrev pub AsksChangeIn : List Row → Ask → Type 0
+AsksChangeIn rows ask = (ask_in rows ≡ Some (record ask { limit = 0 }))
+    × IsLimitIn (first_of (codes "limit") rows) ask.limit
+
+-- the matches of an undo or a redo give this limit
+abbrev pub AsksStepIn : List Row → ℕ → Type 0
+AsksStepIn rows limit = IsLimitIn (first_of (codes "limit") rows) limit
+
+-- the matches of its command ask this: with the flag `dry` it is shown and not done
+abbrev pub AsksWhatIn : List Row → OnceSaying → Type 0
+AsksWhatIn rows (Said SaysNothing) = ⊥
+AsksWhatIn rows (Said SaysWrong) = ⊥
+AsksWhatIn rows (Said (SaysStep (Change ask events))) =
+    (is_on (codes "dry") rows ≡ false) × (events ≡ []) × AsksChangeIn rows ask
+AsksWhatIn rows (Said (SaysStep (Undo limit events))) =
+    (is_on (codes "dry") rows ≡ false) × (events ≡ []) × AsksStepIn rows limit
+AsksWhatIn rows (Said (SaysStep (Redo limit events))) =
+    (is_on (codes "dry") rows ≡ false) × (events ≡ []) × AsksStepIn rows limit
+AsksWhatIn rows (Said (SaysStep (Add name contents force))) = ⊥
+AsksWhatIn rows (Said (SaysStep (Delete words force))) = ⊥
+AsksWhatIn rows (Said (SaysDry ask)) = (is_on (codes "dry") rows ≡ true) × AsksChangeIn rows ask
+AsksWhatIn rows (Said SaysLive) = Unit {0}
+AsksWhatIn rows (Said SaysBundles) = ⊥
+AsksWhatIn rows (Said SaysJournal) = Unit {0}
+AsksWhatIn rows WantsDryUndo = (is_on (codes "dry") rows ≡ true)
+    × ((limit : ℕ) × AsksStepIn rows limit)
+AsksWhatIn rows WantsDryRedo = (is_on (codes "dry") rows ≡ true)
+    × ((limit : ℕ) × AsksStepIn rows limit)
+
+-- the matches of the command of this name ask this to be done
+abbrev pub AsksWhat : Text → List Row → OnceSaying → Type 0
+AsksWhat name rows what = (name ≡ once_command what) × AsksWhatIn rows what
+
+-- the matches ask this of a session of one line
+abbrev pub AsksOnceIn : List Row → OnceAsk → Type 0
+AsksOnceIn rows ask = AsksWhatIn rows ask.what × AsksSessionIn rows ask.session
+
+-- what one line is to do, as the program has it
+abbrev pub once_saying_of : Once → OnceSaying
+once_saying_of (once.Line line) = Said (saying_of line)
+once_saying_of once.DryUndo = WantsDryUndo
+once_saying_of once.DryRedo = WantsDryRedo
+
+-- what a request of the program asks
+abbrev pub once_ask_of : OnceRequest → OnceAsk
+once_ask_of request = record {
+  what = once_saying_of request.once;
+  session = session_ask_of request.session;
+}

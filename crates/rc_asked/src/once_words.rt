@@ -1,0 +1,123 @@
+//! What the words ask of a session of one line.
+ghost use Rattle.std.specs.Prelude.{◌≡◌, ◌≢◌, codes, IfErr, IfOk};
+ghost use Rattle.clap.specs.Words.{found_of, rows_of};
+ghost use Rattle.rc_asked.specs.OnceAsked.{AsksOnceIn, AsksWhat, AsksWhatIn, OnceAsk, OnceSaying};
+ghost use Rattle.rc_asked.specs.OnceAsked.{once_ask_of, once_command, once_saying_of};
+ghost use Rattle.rc_asked.specs.declared.asked.WordsFault.TheVariants.{Memory};
+
+use crate::asked::{WordsFault, plan_in};
+use crate::limits::limit_of;
+use crate::session_words::{SessionRequest, session_in};
+use clap::ArgMatches;
+use rc_command::is_on;
+use rc_lines::SessionLine;
+use rc_session::Step;
+use std::alloc::Global;
+
+/// What a session of one line is to do.
+#[derive(Drop)]
+pub enum Once {
+    /// What this line says.
+    Line(SessionLine),
+    /// To show what an undo would move.
+    DryUndo,
+    /// To show what a redo would move.
+    DryRedo,
+}
+
+/// What the words ask of a session of one line.
+#[derive(Drop)]
+pub struct OnceRequest<'a> {
+    /// What it is to do.
+    pub once: Once,
+    /// What is asked of the session.
+    pub session: SessionRequest<'a>,
+}
+
+/// What the matches of the command of this name ask of a session of one line.
+pub(crate) fn once_in<'a>(
+    alloc: Global,
+    name: &str,
+    matches: &ArgMatches<'a>,
+) -> Result<OnceRequest<'a>, WordsFault>
+    ensures named { IfOk result (λ request. name.now ≡ once_command (once_saying_of request.once)) }
+    ensures asked { IfOk result (λ request.
+        AsksOnceIn (rows_of (found_of matches.now)) (once_ask_of request)) }
+    ensures wrong { IfErr result (λ fault. fault ≢ Memory → (ask : OnceAsk) →
+        name.now ≡ once_command ask.what →
+        AsksOnceIn (rows_of (found_of matches.now)) ask → ⊥) }
+{
+    let once = what_in(alloc, name, matches)?;
+    let session = session_in(alloc, matches)?;
+    Ok(OnceRequest { once, session })
+}
+
+// What the matches of the command of this name ask to be done.
+fn what_in(alloc: Global, name: &str, matches: &ArgMatches<'_>) -> Result<Once, WordsFault>
+    ensures asked { IfOk result (λ once.
+        AsksWhat name.now (rows_of (found_of matches.now)) (once_saying_of once)) }
+    ensures wrong { IfErr result (λ fault. fault ≢ Memory → (what : OnceSaying) →
+        AsksWhat name.now (rows_of (found_of matches.now)) what → ⊥) }
+{
+    match name {
+        "change" => change_in(alloc, matches),
+        "undo" => undo_in(alloc, matches),
+        "redo" => redo_in(alloc, matches),
+        "live" => Ok(Once::Line(SessionLine::Live)),
+        "journal" => Ok(Once::Line(SessionLine::Journal)),
+        _ => Err(WordsFault::OtherCommand),
+    }
+}
+
+// What the matches of `change` ask to be done.
+fn change_in(alloc: Global, matches: &ArgMatches<'_>) -> Result<Once, WordsFault>
+    ensures asked { IfOk result (λ once.
+        AsksWhat (codes "change") (rows_of (found_of matches.now)) (once_saying_of once)) }
+    ensures wrong { IfErr result (λ fault. fault ≢ Memory → (what : OnceSaying) →
+        AsksWhat (codes "change") (rows_of (found_of matches.now)) what → ⊥) }
+{
+    let Some(limit) = limit_of(matches.get_str("limit")) else {
+        return Err(WordsFault::Limit);
+    };
+    let mut request = plan_in(alloc, matches)?;
+    request.limit = limit;
+    if is_on(matches, "dry") {
+        return Ok(Once::Line(SessionLine::Dry(request)));
+    }
+    let step = Step::Change(request, Vec::new(alloc));
+    Ok(Once::Line(SessionLine::Step(step)))
+}
+
+// What the matches of `undo` ask to be done.
+fn undo_in(alloc: Global, matches: &ArgMatches<'_>) -> Result<Once, WordsFault>
+    ensures asked { IfOk result (λ once.
+        AsksWhat (codes "undo") (rows_of (found_of matches.now)) (once_saying_of once)) }
+    ensures wrong { IfErr result (λ fault. fault ≢ Memory → (what : OnceSaying) →
+        AsksWhat (codes "undo") (rows_of (found_of matches.now)) what → ⊥) }
+{
+    let Some(limit) = limit_of(matches.get_str("limit")) else {
+        return Err(WordsFault::Limit);
+    };
+    if is_on(matches, "dry") {
+        return Ok(Once::DryUndo);
+    }
+    let step = Step::Undo(limit, Vec::new(alloc));
+    Ok(Once::Line(SessionLine::Step(step)))
+}
+
+// What the matches of `redo` ask to be done.
+fn redo_in(alloc: Global, matches: &ArgMatches<'_>) -> Result<Once, WordsFault>
+    ensures asked { IfOk result (λ once.
+        AsksWhat (codes "redo") (rows_of (found_of matches.now)) (once_saying_of once)) }
+    ensures wrong { IfErr result (λ fault. fault ≢ Memory → (what : OnceSaying) →
+        AsksWhat (codes "redo") (rows_of (found_of matches.now)) what → ⊥) }
+{
+    let Some(limit) = limit_of(matches.get_str("limit")) else {
+        return Err(WordsFault::Limit);
+    };
+    if is_on(matches, "dry") {
+        return Ok(Once::DryRedo);
+    }
+    let step = Step::Redo(limit, Vec::new(alloc));
+    Ok(Once::Line(SessionLine::Step(step)))
+}
