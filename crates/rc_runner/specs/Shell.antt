@@ -1,6 +1,6 @@
 -- What a gate that starts programs may answer.
-use Rattle.std.specs.Prelude.{◌≡◌, ◌≢◌, ◌+◌, ◌/◌, ◌≤◌, ◌++◌, ◌∷◌, ◌⊎◌, ℕ, List, [], Option, Some, None, slice_get, codes}
-use Rattle.std.specs.Process.{command_program, command_args}
+use Rattle.std.specs.Prelude.{◌≡◌, ◌≢◌, ◌+◌, ◌/◌, ◌≤◌, ◌++◌, ◌∷◌, ◌⊎◌, ℕ, List, [], Option, Some, None, slice_get, codes, decimal, ◌==◌, if◌then◌else◌}
+use Rattle.std.specs.Process.{command_program, command_args, command_var}
 use Rattle.std.specs.declared.process.command.Command.{Command}
 use Rattle.rc_names.specs.declared.kind.Kind.{Kind}
 use Rattle.rc_names.specs.declared.kind.Kind.TheVariants.{Oneshot, Longrun, Bundle}
@@ -11,22 +11,32 @@ use Rattle.rc_core.specs.declared.event.Outcome.TheVariants as outcome
 use Rattle.rc_db.specs.Service.{Service, limit_of}
 use Rattle.rc_db.specs.Database.{Database}
 
--- what is kept of a database, and the words of the program that runs the texts of oneshots and of
--- the one that moves longruns
+-- what is kept of a database, the words of the program that runs the texts of oneshots and of the
+-- one that moves longruns, and the limit of services without one of their own, 0 for none
 pub record Scripts : Type 0 where
   pub names : List (List ℕ)
   pub services : List Service
   pub runner : List (List ℕ)
   pub controller : List (List ℕ)
+  pub limit : ℕ
 
--- what is kept of a database with these programs
-abbrev pub scripts_of : Database → List (List ℕ) → List (List ℕ) → Scripts
-scripts_of d runner controller = record {
+-- what is kept of a database with these programs and this usual limit
+abbrev pub scripts_of : Database → List (List ℕ) → List (List ℕ) → ℕ → Scripts
+scripts_of d runner controller limit = record {
   names = d.names;
   services = d.services;
   runner = runner;
   controller = controller;
+  limit = limit;
 }
+
+-- a limit of one's own, or the usual one where that is 0
+abbrev pub limit_or : (own usual : ℕ) → ℕ
+limit_or own usual = if own == 0 then usual else own
+
+-- how long a service may take on its way, in milliseconds, 0 for no limit
+abbrev pub limit_for : Scripts → Service → Way → ℕ
+limit_for g s way = limit_or (limit_of s way) g.limit
 
 -- the text that is run for a service on its way, if there is one
 abbrev pub text_of : Service → Way → Option (List ℕ)
@@ -45,6 +55,14 @@ seconds_of limit = (limit + 999) / 1000
 -- a program and its words: those of a list, and further ones behind them
 abbrev pub Runs : {A : Type 0} → List (List ℕ) → List (List ℕ) → Command A → Type 0
 Runs words more command = command_program command ∷ command_args command ≡ words ++ more
+
+-- what a program is told in its environment: the service, the way that it is to go, and how long it
+-- may take, in milliseconds, 0 for no limit
+abbrev pub IsTold : {A : Type 0} → List ℕ → Way → ℕ → Command A → Type 0
+IsTold name way limit command =
+    (command_var command (codes "UNDORC_NAME") ≡ Some (Some name))
+    × (command_var command (codes "UNDORC_WAY") ≡ Some (Some (word_of way)))
+    × (command_var command (codes "UNDORC_LIMIT") ≡ Some (Some (decimal limit)))
 
 -- how a program that is to be started may end under a limit in seconds, 0 for none: only under a
 -- limit may it take too long, and some statuses then tell something else than a failure
@@ -68,8 +86,8 @@ MayRun runner (Some text) limit o = MayCall runner limit o
 
 -- how a service of this kind may end: a oneshot by its text, a longrun by the controller
 abbrev pub MayMove : Scripts → Kind → Service → Way → Outcome → Type 0
-MayMove g Oneshot s way o = MayRun g.runner (text_of s way) (limit_of s way) o
-MayMove g Longrun s way o = MayCall g.controller (limit_of s way) o
+MayMove g Oneshot s way o = MayRun g.runner (text_of s way) (limit_for g s way) o
+MayMove g Longrun s way o = MayCall g.controller (limit_for g s way) o
 MayMove g Bundle s way o = o ≡ outcome.NotStarted
 
 -- what may be answered for what stands at a place: where there is no service, nothing is started

@@ -2,16 +2,19 @@
 
 ghost use Rattle.std.specs.Prelude.{◌≡◌, ◌∷◌, [], IfOk, IfSome, map, string_bytes, option_map};
 ghost use Rattle.rc_db.specs.Service.{limit_of};
-ghost use Rattle.rc_runner.specs.Shell.{Runs, MayAnswer, MayCall, MayEnd, MayMove, MayRun, scripts_of, seconds_of, text_of, word_of};
+ghost use Rattle.rc_runner.specs.Shell.{IsTold, Runs, MayAnswer, MayCall, MayEnd, MayMove, MayRun, limit_or, scripts_of, seconds_of, text_of, word_of};
 
 use crate::copy::{names_of, services_of, words_of};
-use crate::start::{add_two, command_of, millis_since, run};
+use crate::progress::{Event, tell};
+use crate::start::{add_two, command_of, end_of, millis_since, start};
+use crate::task::{Task, tell_task, word_towards};
 use rc_board::Gate;
 use rc_core::{Job, Outcome};
 use rc_db::{Db, NoMem, Service};
 use rc_graph::Way;
 use rc_names::Kind;
 use std::alloc::{AllocError, Global};
+use std::io::Stderr;
 use std::marker::Model;
 use std::process::{Command, Processes};
 use std::time::{Clock, Instant};
@@ -19,10 +22,10 @@ use std::time::{Clock, Instant};
 /// A gate that starts a program for each transition: a runner is handed a oneshot's text, and a
 /// controller moves a longrun. What the programs answer is nobody's to know.
 ///
-/// A program is started with nothing to read, and what it writes is thrown away. It is waited for,
-/// and what it leaves behind is not. A limit is rounded up to whole seconds; where it is reached the
-/// program is asked to end, by TERM, and is made to, by KILL, where it has not after five seconds
-/// more.
+/// A program is started with nothing to read, and is told in its environment what it is to do. What
+/// it writes is thrown away, or goes where this program's errors go. It is waited for, and what it
+/// leaves behind is not. A limit is rounded up to whole seconds; where it is reached the program is
+/// asked to end, by TERM, and is made to, by KILL, where it has not after five seconds more.
 #[derive(Drop)]
 pub struct ShellGate<'a, R> {
     rt: &'a R,
@@ -33,8 +36,10 @@ pub struct ShellGate<'a, R> {
     services: Vec<Service>,
     runner: Vec<String>,
     controller: Vec<String>,
-    /// Whether what the programs write as errors goes where this program's errors go.
-    shows_errors: bool,
+    /// The limit of services without one of their own, in milliseconds; 0 for none.
+    limit: u32,
+    /// Where it is told that programs are started, and what they write goes, if anywhere.
+    errors: Option<Stderr>,
 }
 
 impl<'a, R> Model for ShellGate<'a, R> {
@@ -48,21 +53,24 @@ impl<'a, R> Model for ShellGate<'a, R> {
       services = g.services.items;
       runner = map string_bytes g.runner.items;
       controller = map string_bytes g.controller.items;
+      limit = g.limit;
     } };
 }
 
 impl<'a, R: Processes + Clock> ShellGate<'a, R> {
-    /// A gate for the services of a database, with the words of a runner and of a controller;
-    /// without a word there is no such program.
+    /// A gate for the services of a database, with the words of a runner and of a controller, and
+    /// the limit in milliseconds of services without one of their own. Without a word there is no
+    /// such program, and 0 is no limit.
     pub fn new(
         rt: &'a R,
         alloc: Global,
         db: &Db,
         runner: &[String],
         controller: &[String],
+        limit: u32,
     ) -> Result<ShellGate<'a, R>, NoMem>
         ensures { IfOk result (λ gate. gate ≡ scripts_of db.now
-            (map string_bytes runner.now) (map string_bytes controller.now)) }
+            (map string_bytes runner.now) (map string_bytes controller.now) limit) }
     {
         let names = names_of(alloc, db)?;
         let services = services_of(alloc, db)?;
@@ -76,16 +84,17 @@ impl<'a, R: Processes + Clock> ShellGate<'a, R> {
             services,
             runner,
             controller,
-            shows_errors: false,
+            limit,
+            errors: None,
         })
     }
 
-    /// The same gate, at which what the programs write as errors goes where this program's errors
-    /// go.
-    pub fn with_errors(mut self) -> ShellGate<'a, R>
+    /// The same gate, which tells there of each program that it is started, and lets it write
+    /// there.
+    pub fn with_errors(mut self, errors: Stderr) -> ShellGate<'a, R>
         ensures { result ≡ self.entry }
     {
-        self.shows_errors = true;
+        self.errors = Some(errors);
         self
     }
 
@@ -103,16 +112,16 @@ impl<'a, R: Processes + Clock> ShellGate<'a, R> {
     fn move_one(&self, service: u16, facts: &Service, way: Way) -> Outcome
         ensures { MayMove self.now facts.now.kind facts.now way result }
     {
-        let limit = limit_towards(facts, way);
+        let limit = limit_unless(limit_towards(facts, way), self.limit);
         match facts.kind {
-            Kind::Oneshot => self.run_text(text_towards(facts, way), limit),
+            Kind::Oneshot => self.run_text(service, text_towards(facts, way), way, limit),
             Kind::Longrun => self.control(service, way, limit),
             Kind::Bundle => Outcome::NotStarted,
         }
     }
 
     /// Has the runner run a text.
-    fn run_text(&self, text: &Option<String>, limit: u32) -> Outcome
+    fn run_text(&self, service: u16, text: &Option<String>, way: Way, limit: u32) -> Outcome
         ensures { MayRun self.now.runner (option_map string_bytes text.now) limit result }
     {
         let Some(text) = text else {
@@ -121,8 +130,16 @@ impl<'a, R: Processes + Clock> ShellGate<'a, R> {
         if self.runner.is_empty() {
             return Outcome::NotStarted;
         }
-        match self.command_to_run(text) {
-            Ok(Some(command)) => self.run_command(command, limit),
+        let Some(name) = self.names.get(service as usize) else {
+            return Outcome::NotStarted;
+        };
+        let task = Task {
+            name: name.as_str(),
+            way,
+            limit,
+        };
+        match self.command_to_run(text, &task) {
+            Ok(Some(command)) => self.run_command(command, &task),
             Ok(None) | Err(_) => Outcome::NotStarted,
         }
     }
@@ -137,46 +154,63 @@ impl<'a, R: Processes + Clock> ShellGate<'a, R> {
         let Some(name) = self.names.get(service as usize) else {
             return Outcome::NotStarted;
         };
-        match self.command_to_move(name.as_str(), way) {
-            Ok(Some(command)) => self.run_command(command, limit),
+        let task = Task {
+            name: name.as_str(),
+            way,
+            limit,
+        };
+        match self.command_to_move(&task) {
+            Ok(Some(command)) => self.run_command(command, &task),
             Ok(None) | Err(_) => Outcome::NotStarted,
         }
     }
 
-    /// Starts a program under a limit in milliseconds, and waits for it.
-    fn run_command(&self, command: Command, limit: u32) -> Outcome
-        ensures { MayEnd (seconds_of limit) result }
+    /// Tells that a program is started, starts it, and waits for it under the limit of its task.
+    fn run_command(&self, command: Command, task: &Task<'_>) -> Outcome
+        ensures { MayEnd (seconds_of task.now.limit) result }
     {
-        run(
-            self.rt,
-            self.alloc,
-            command,
-            self.shows_errors,
-            seconds(limit),
-        )
+        self.tell_start(task);
+        let Some(mut child) = start(self.rt, command, self.errors) else {
+            return Outcome::NotStarted;
+        };
+        end_of(self.rt, self.alloc, &mut child, seconds(task.limit))
     }
 
-    /// The runner, with a text as its last argument.
-    fn command_to_run(&self, text: &String) -> Result<Option<Command>, AllocError>
-        ensures { IfOk result (λ made.
+    /// Tells that a program is started, before it can write anything.
+    fn tell_start(&self, task: &Task<'_>) {
+        if let Some(errors) = self.errors {
+            let moment = millis_since(self.rt, self.start).unwrap_or(0);
+            tell(&errors, moment, task.way, task.name, Event::Started);
+        }
+    }
+
+    /// The runner, with a text as its last argument, told what it is to do.
+    fn command_to_run(&self, text: &String, task: &Task<'_>) -> Result<Option<Command>, AllocError>
+        ensures runs { IfOk result (λ made.
             IfSome made (Runs self.now.runner (string_bytes text.now ∷ []))) }
+        ensures told { IfOk result (λ made.
+            IfSome made (IsTold task.now.name.now task.now.way task.now.limit)) }
     {
         let Some(mut command) = command_of(self.alloc, &self.runner)? else {
             return Ok(None);
         };
         command.arg(text.as_str())?;
+        tell_task(self.alloc, &mut command, task)?;
         Ok(Some(command))
     }
 
-    /// The controller, with the way and a name as its last two arguments.
-    fn command_to_move(&self, name: &str, way: Way) -> Result<Option<Command>, AllocError>
-        ensures { IfOk result (λ made.
-            IfSome made (Runs self.now.controller (word_of way ∷ name.now ∷ []))) }
+    /// The controller, with the way and the name as its last two arguments, told what it is to do.
+    fn command_to_move(&self, task: &Task<'_>) -> Result<Option<Command>, AllocError>
+        ensures runs { IfOk result (λ made. IfSome made
+            (Runs self.now.controller (word_of task.now.way ∷ task.now.name.now ∷ []))) }
+        ensures told { IfOk result (λ made.
+            IfSome made (IsTold task.now.name.now task.now.way task.now.limit)) }
     {
         let Some(mut command) = command_of(self.alloc, &self.controller)? else {
             return Ok(None);
         };
-        add_two(&mut command, word_towards(way), name)?;
+        add_two(&mut command, word_towards(task.way), task.name)?;
+        tell_task(self.alloc, &mut command, task)?;
         Ok(Some(command))
     }
 }
@@ -219,14 +253,11 @@ fn text_towards(service: &Service, way: Way) -> &Option<String>
     }
 }
 
-/// The word that tells a controller which way a service is to go.
-pub(crate) fn word_towards(way: Way) -> &'static str
-    ensures { result.now ≡ word_of way }
+/// A service's own limit, or where it has none the usual one.
+fn limit_unless(own: u32, usual: u32) -> u32
+    ensures { result ≡ limit_or own usual }
 {
-    match way {
-        Way::Raise => "up",
-        Way::Lower => "down",
-    }
+    if own == 0 { usual } else { own }
 }
 
 /// Milliseconds in whole seconds, rounded up.

@@ -6,6 +6,8 @@ ghost use Rattle.rc_runner.specs.Shell.{Runs, MayEnd};
 
 use rc_core::Outcome;
 use std::alloc::{AllocError, Global};
+use std::io::Stderr;
+use std::os::fd::AsFd;
 use std::process::{Child, Command, ExitStatus, OpenProcess, Processes, Stdio};
 use std::time::{Clock, Duration, Instant};
 use std::{io, thread};
@@ -57,38 +59,51 @@ pub(crate) fn add_two(command: &mut Command, one: &str, two: &str) -> Result<(),
     Ok(())
 }
 
-/// Starts a program under a limit in seconds, 0 for none, and waits for it. All its streams lead
-/// nowhere, but that of its errors may be this program's own: with a pipe a child that it leaves
-/// behind would have to be waited for.
-pub(crate) fn run<R: Processes + Clock>(
+/// Starts a program. It reads nothing, and what it writes goes to `errors`, if that is open: with a
+/// pipe a child that it leaves behind would have to be waited for. None: it can't be started.
+pub(crate) fn start<R: Processes>(
+    rt: &R,
+    mut command: Command,
+    errors: Option<Stderr>,
+) -> Option<Child<R::Started>> {
+    command
+        .stdin(Stdio::null())
+        .stdout(stream_to(errors))
+        .stderr(stream_to(errors));
+    command.spawn(rt).ok()
+}
+
+/// Where what a program writes goes.
+fn stream_to(errors: Option<Stderr>) -> Stdio {
+    let Some(errors) = errors else {
+        return Stdio::null();
+    };
+    match errors.as_fd().try_clone_to_owned() {
+        Ok(open) => Stdio::from(open),
+        Err(_) => Stdio::null(),
+    }
+}
+
+/// Waits for a program under a limit in seconds, 0 for none, and says how it ended.
+pub(crate) fn end_of<R: Processes + Clock, P: OpenProcess + Drop>(
     rt: &R,
     alloc: Global,
-    mut command: Command,
-    shows_errors: bool,
+    child: &mut Child<P>,
     seconds: u64,
 ) -> Outcome
     ensures { MayEnd seconds result }
 {
-    command.stdin(Stdio::null()).stdout(Stdio::null());
-    command.stderr(if shows_errors {
-        Stdio::inherit()
-    } else {
-        Stdio::null()
-    });
-    let Ok(mut child) = command.spawn(rt) else {
-        return Outcome::NotStarted;
-    };
     if seconds == 0 {
         return match child.wait() {
             Ok(status) => told(status, 0),
             Err(_) => Outcome::NotStarted,
         };
     }
-    match wait_for(rt, &mut child, seconds.saturating_mul(1000)) {
+    match wait_for(rt, child, seconds.saturating_mul(1000)) {
         Waited::Ended(status) => told(status, seconds),
         Waited::Lost => Outcome::NotStarted,
         Waited::Running => {
-            end(rt, alloc, &mut child);
+            end(rt, alloc, child);
             Outcome::TimedOut
         }
     }

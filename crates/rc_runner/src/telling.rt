@@ -3,8 +3,7 @@
 ghost use Rattle.std.specs.Prelude.{◌≡◌, IfOk};
 
 use crate::copy::names_of;
-use crate::shell::word_towards;
-use log::{Log, warn};
+use crate::progress::{Event, tell};
 use rc_board::Gate;
 use rc_core::{Job, Outcome};
 use rc_db::{Db, NoMem};
@@ -12,9 +11,9 @@ use rc_graph::Way;
 use std::alloc::Global;
 use std::marker::Model;
 
-/// A gate that answers as another does, and tells each outcome other than success by a line of the
-/// log: the way, the name of the service, and how the transition ended. A line that can't be
-/// written is dropped.
+/// A gate that answers as another does, and tells each outcome by a line on standard error: the
+/// moment by the clock of that gate, the way, the name of the service, and how its transition
+/// ended.
 #[derive(Drop)]
 pub struct Telling<'a, R, G> {
     rt: &'a R,
@@ -29,7 +28,7 @@ impl<'a, R, G> Model for Telling<'a, R, G> {
     ghost view = { λ t. t.inner.now };
 }
 
-impl<'a, R: Log, G> Telling<'a, R, G> {
+impl<'a, R: Eprint, G> Telling<'a, R, G> {
     /// A gate over this one, which tells nothing where it is not to.
     pub fn new(
         rt: &'a R,
@@ -48,24 +47,15 @@ impl<'a, R: Log, G> Telling<'a, R, G> {
         Ok(Telling { rt, names, inner })
     }
 
-    /// Tells how the transition of a service ended, where it did not succeed.
-    fn tell(&self, service: u16, way: Way, outcome: Outcome) {
-        let Some(name) = self.names.get(service as usize) else {
-            return;
-        };
-        let way = word_towards(way);
-        match outcome {
-            Outcome::Ok => {}
-            Outcome::Failed(status) => {
-                warn!(*self.rt; target: "undorc", "{way} {name}: failed {status}")
-            }
-            Outcome::TimedOut => warn!(*self.rt; target: "undorc", "{way} {name}: timeout"),
-            Outcome::NotStarted => warn!(*self.rt; target: "undorc", "{way} {name}: nostart"),
+    /// Tells how the transition of a service ended at a moment.
+    fn tell_end(&self, moment: u64, service: u16, way: Way, outcome: Outcome) {
+        if let Some(name) = self.names.get(service as usize) {
+            tell(self.rt, moment, way, name.as_str(), Event::Ended(outcome));
         }
     }
 }
 
-impl<'a, R: Log + Sync, G: Gate> Gate for Telling<'a, R, G> {
+impl<'a, R: Eprint + Sync, G: Gate> Gate for Telling<'a, R, G> {
     ghost answers = { λ gate service way outcome. G.answers gate service way outcome };
 
     ghost gives = { λ gate moment. G.gives gate moment };
@@ -74,7 +64,9 @@ impl<'a, R: Log + Sync, G: Gate> Gate for Telling<'a, R, G> {
         let service = job.service();
         let way = job.way();
         let outcome = self.inner.run(job);
-        self.tell(service, way, outcome);
+        if !self.names.is_empty() {
+            self.tell_end(self.inner.now(), service, way, outcome);
+        }
         outcome
     }
 
