@@ -1,6 +1,5 @@
 -- Refusals and faults, and what they leave.
 use Rattle.std.proofs.Common.{◌≡◌, ◌∙◌, ◌⊎◌, inl, inr, ℕ, List, [], true, false, Result, Ok, Err, IfOk, IfErr, OnErr, refl, ap, sym, subst}
-use Rattle.std.specs.Global.{Vec}
 use Rattle.rc_core.specs.declared.event.Event.{Event}
 use Rattle.rc_session.specs.declared.refusal.Refusal.{Refusal}
 use Rattle.rc_session.specs.declared.refusal.Refusal.TheVariants.{BadEvent, NotSettled, PruneNeedsUp, Unknown, IsAtomic, Exists, Missing, Full, NothingToUndo, NothingToRedo, NotEdit, Strange, Memory}
@@ -20,7 +19,10 @@ use Rattle.rc_answers.specs.AnswerText.{words_of}
 use Rattle.rc_serve.specs.declared.fault.ServeFault.{ServeFault}
 use Rattle.rc_serve.specs.declared.fault.ServeFault.TheVariants as serve
 use Rattle.rc_serve.specs.Faults.{EndsSession, IsInner, IsSpoiledBy, IsStrange}
-use Rattle.rc_serve.specs.Meeting.{IsAnswered, IsDoneBy, IsToldAs, MayMeet, MeetsCommand}
+use Rattle.rc_serve.specs.Meeting.{IsAnswered, IsDoneBy, MayMeet}
+use Rattle.rc_serve.specs.Ending.{EndsCommand, IsDoneAs}
+use Rattle.rc_serve.specs.Telling.{IsToldAs}
+use Rattle.rc_serve.specs.declared.ending.Answer.{Answer}
 use Rattle.rc_serve.specs.Serving.{Stays}
 
 -- what hinders a command, where it is answered, is a fault of its own
@@ -61,17 +63,18 @@ eventless (Redo limit events) none = ap (λ (e : List Event). Redo limit e) (sym
 eventless (Add name contents force) none = refl
 eventless (Delete words force) none = refl
 
--- what came of a command that workers carry out, and how it was told, is its answer
-pub met_by : (workers : ℕ) (Says : ℕ → Way → Outcome → Type 0) (Gives : ℕ → Type 0) (old new : Holding) (command : Command) (outcome : Result Report Fault) (result : Result (Vec ℕ) ServeFault)
+-- what came of a command that workers carry out, and how it was told, is its answer and its ending
+pub met_by : (workers : ℕ) (Says : ℕ → Way → Outcome → Type 0) (Gives : ℕ → Type 0) (old new : Holding) (command : Command) (outcome : Result Report Fault) (result : Result Answer ServeFault)
     → IfOk outcome (λ report. IsCarriedOut workers Says Gives old command (told_of report) new) → IfErr outcome (IsFault workers old command) → IfErr outcome (λ fault. LeavesSession old fault new)
-    → IfOk result (λ text. IsToldAs old.database.names (words_of command) outcome text.items) → IfOk result (λ text. MeetsCommand (IsDoneBy workers Says Gives) old.database old.line command text.items new.line)
+    → IfOk result (λ answer. IsToldAs old.database.names (words_of command) outcome answer.ending answer.text.items)
+    → IfOk result (λ answer. EndsCommand (IsDoneAs workers Says Gives) answer.ending old.database old.line command answer.text.items new.line)
 met_by workers Says Gives old new command outcome (Err e) done fault left told = tt
-met_by workers Says Gives old new command (Ok report) (Ok text) done fault left told = inl (report.trace.items, told_of report, done.made, inl done.runs, told)
-met_by workers Says Gives old new command (Err (faults.Refused refusal)) (Ok text) done fault left told =
-    inr (refusal, own_fault (IsOwnFault old.database old.line command) old refusal fault.1 told.0, told.1, left_line old new (faults.Refused refusal) left)
-met_by workers Says Gives old new command (Err faults.Workers) (Ok text) done fault left told = absurd told
-met_by workers Says Gives old new command (Err faults.NoThread) (Ok text) done fault left told = absurd told
-met_by workers Says Gives old new command (Err faults.Strange) (Ok text) done fault left told = absurd told
+met_by workers Says Gives old new command (Ok report) (Ok answer) done fault left told = inl (report.trace.items, told_of report, done.made, inl done.runs, told.0, told.1)
+met_by workers Says Gives old new command (Err (faults.Refused refusal)) (Ok answer) done fault left told =
+    inr (told.2, (refusal, own_fault (IsOwnFault old.database old.line command) old refusal fault.1 told.0, told.1, left_line old new (faults.Refused refusal) left))
+met_by workers Says Gives old new command (Err faults.Workers) (Ok answer) done fault left told = absurd told
+met_by workers Says Gives old new command (Err faults.NoThread) (Ok answer) done fault left told = absurd told
+met_by workers Says Gives old new command (Err faults.Strange) (Ok answer) done fault left told = absurd told
 
 -- whether it is told or not
 pub may_by : (workers : ℕ) (Says : ℕ → Way → Outcome → Type 0) (Gives : ℕ → Type 0) (old new : Holding) (command : Command) (outcome : Result Report Fault)
@@ -92,9 +95,10 @@ right_crew workers h command outcome fault crew is =
     wrong crew
 
 -- told of the same names and words
-pub retold : (names others words more : List (List ℕ)) (outcome : Result Report Fault) (result : Result (Vec ℕ) ServeFault) → names ≡ others → words ≡ more → IfOk result (λ text. IsToldAs names words outcome text.items) → IfOk result (λ text. IsToldAs others more outcome text.items)
+pub retold : (names others words more : List (List ℕ)) (outcome : Result Report Fault) (result : Result Answer ServeFault) → names ≡ others → words ≡ more
+    → IfOk result (λ answer. IsToldAs names words outcome answer.ending answer.text.items) → IfOk result (λ answer. IsToldAs others more outcome answer.ending answer.text.items)
 retold names others words more outcome result a b told =
-    subst (λ (w : List (List ℕ)). IfOk result (λ text. IsToldAs others w outcome text.items)) b (subst (λ (n : List (List ℕ)). IfOk result (λ text. IsToldAs n words outcome text.items)) a told)
+    subst (λ (w : List (List ℕ)). IfOk result (λ answer. IsToldAs others w outcome answer.ending answer.text.items)) b (subst (λ (n : List (List ℕ)). IfOk result (λ answer. IsToldAs n words outcome answer.ending answer.text.items)) a told)
 
 -- a fault that ends the session for one reason does for another that follows
 pub inner_as : (P Q T U : Type 0) (fault : ServeFault) → (P → Q) → (T → U) → IsInner P T fault → IsInner Q U fault

@@ -233,11 +233,11 @@ next_line false input left held after bytes (one, hands, some, ended) = (
 )
 
 -- what is kept where the line of states is as it was, and where nothing was written
-still_kept : (fault : ServeFault) (May : KeepFault → Type 0) (was is : Keeping) (d : Database) (here new : Line) → new ≡ here → IsKeptOrFails fault May was is d here new → IsKeptUp was is d here new
+pub still_kept : (fault : ServeFault) (May : KeepFault → Type 0) (was is : Keeping) (d : Database) (here new : Line) → new ≡ here → IsKeptOrFails fault May was is d here new → IsKeptUp was is d here new
 still_kept fault May was is d here new same (inl kept) = kept
 still_kept fault May was is d here new same (inr failed) = inr (failed.1, same)
 
-unwritten_kept : (fault : ServeFault) (May : KeepFault → Type 0) (was is : Keeping) (d : Database) (here new : Line) → IsKeptOrFails fault May was is d here new → IsKeptUp was is d here new ⊎ (IsOfKeeping May fault × (◌≡◌ {A = ℕ} 0 0) × IsKeptOn was is)
+pub unwritten_kept : (fault : ServeFault) (May : KeepFault → Type 0) (was is : Keeping) (d : Database) (here new : Line) → IsKeptOrFails fault May was is d here new → IsKeptUp was is d here new ⊎ (IsOfKeeping May fault × (◌≡◌ {A = ℕ} 0 0) × IsKeptOn was is)
 unwritten_kept fault May was is d here new (inl kept) = inl kept
 unwritten_kept fault May was is d here new (inr failed) = inr (failed.0, refl, failed.1)
 

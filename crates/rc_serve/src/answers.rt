@@ -6,10 +6,12 @@ ghost use Rattle.rc_board.specs.Working.{HasWork};
 ghost use Rattle.rc_lines.specs.Says.{SaysStep, saying_of};
 ghost use Rattle.rc_serve.specs.Faults.{EndsSession, IsSpoiledBy};
 ghost use Rattle.rc_serve.specs.Keeping.{EndsLine, KeepsLine};
-ghost use Rattle.rc_serve.specs.Meeting.{IsDoneBy, IsEdited, MayMeet, MayMeetSaying, Meets, MeetsCommand, WantsWork};
+ghost use Rattle.rc_serve.specs.Ending.{Ends, EndsCommand, IsDoneAs, IsEditedAs};
+ghost use Rattle.rc_serve.specs.Meeting.{IsDoneBy, MayMeet, MayMeetSaying, WantsWork};
 ghost use Rattle.rc_serve.specs.Serving.{BytesWantWork, MayMeetBytes, MeetsBytes, Stays};
 
 use crate::edits::{add_answer, delete_answer};
+use crate::ending::{Answer, done, refused};
 use crate::fault::ServeFault;
 use crate::keeper::Keeper;
 use crate::runs::{change_answer, redo_answer, undo_answer};
@@ -36,11 +38,12 @@ pub(crate) fn line_answer<T: Threads + Wait + Sync, K: Keeper, G: Gate>(
     gate: &G,
     workers: u8,
     line: &[u8],
-) -> Result<Vec<u8>, ServeFault>
+) -> Result<Answer, ServeFault>
     requires closed { session.old.begun ≡ false }
     requires crew { IsCrew workers }
-    ensures met { IfOk result (λ text. MeetsBytes (IsDoneBy workers (G.answers gate.now) (G.gives gate.now))
-        session.old.database session.old.line line.now text.items session.new.line) }
+    ensures met { IfOk result (λ answer. MeetsBytes
+        (IsDoneBy workers (G.answers gate.now) (G.gives gate.now))
+        session.old.database session.old.line line.now answer.text.items session.new.line) }
     ensures may { MayMeetBytes (IsDoneBy workers (G.answers gate.now) (G.gives gate.now))
         session.old.database session.old.line line.now session.new.line }
     ensures stays { Stays session.old session.new }
@@ -61,7 +64,7 @@ pub(crate) fn line_answer<T: Threads + Wait + Sync, K: Keeper, G: Gate>(
 
 /// Does what is said, keeps what it altered, and answers.
 #[tactic(none)]
-fn said_answer<T: Threads + Wait + Sync, K: Keeper, G: Gate>(
+pub(crate) fn said_answer<T: Threads + Wait + Sync, K: Keeper, G: Gate>(
     rt: &T,
     alloc: Global,
     session: &mut Session,
@@ -69,12 +72,14 @@ fn said_answer<T: Threads + Wait + Sync, K: Keeper, G: Gate>(
     gate: &G,
     workers: u8,
     said: &SessionLine,
-) -> Result<Vec<u8>, ServeFault>
+) -> Result<Answer, ServeFault>
     requires closed { session.old.begun ≡ false }
     requires crew { IsCrew workers }
     requires eventless { (command : Command) → saying_of said.now ≡ SaysStep command → events_of command ≡ [] }
-    ensures met { IfOk result (λ text. Meets (IsDoneBy workers (G.answers gate.now) (G.gives gate.now))
-        session.old.database session.old.line (saying_of said.now) text.items session.new.line) }
+    ensures met { IfOk result (λ answer. Ends
+        (IsDoneAs workers (G.answers gate.now) (G.gives gate.now)) answer.ending
+        session.old.database session.old.line (saying_of said.now) answer.text.items
+        session.new.line) }
     ensures may { MayMeetSaying (IsDoneBy workers (G.answers gate.now) (G.gives gate.now))
         session.old.database session.old.line (saying_of said.now) session.new.line }
     ensures stays { Stays session.old session.new }
@@ -103,13 +108,13 @@ fn kept_answer<T: Threads + Wait + Sync, K: Keeper, G: Gate>(
     gate: &G,
     workers: u8,
     step: &Step,
-) -> Result<Vec<u8>, ServeFault>
+) -> Result<Answer, ServeFault>
     requires closed { session.old.begun ≡ false }
     requires crew { IsCrew workers }
-    ensures met { IfOk result (λ text. MeetsCommand
-        (IsDoneBy workers (G.answers gate.now) (G.gives gate.now))
+    ensures met { IfOk result (λ answer. EndsCommand
+        (IsDoneAs workers (G.answers gate.now) (G.gives gate.now)) answer.ending
         session.old.database session.old.line (with_events (command_of step.now) [])
-        text.items session.new.line) }
+        answer.text.items session.new.line) }
     ensures may { MayMeet (IsDoneBy workers (G.answers gate.now) (G.gives gate.now))
         session.old.database session.old.line (with_events (command_of step.now) [])
         session.new.line }
@@ -158,20 +163,21 @@ fn is_current(session: &Session, live: &Set, table: &Table) -> bool
 }
 
 /// Answers what is said where nothing is to be done.
-fn shown(alloc: Global, session: &Session, said: &SessionLine) -> Result<Vec<u8>, ServeFault>
+fn shown(alloc: Global, session: &Session, said: &SessionLine) -> Result<Answer, ServeFault>
     requires closed { session.now.begun ≡ false }
     requires shows { (command : Command) → saying_of said.now ≡ SaysStep command → ⊥ }
-    ensures met { IfOk result (λ text. Meets IsEdited session.now.database session.now.line (saying_of said.now) text.items session.now.line) }
+    ensures met { IfOk result (λ answer. Ends IsEditedAs answer.ending session.now.database
+        session.now.line (saying_of said.now) answer.text.items session.now.line) }
     ensures fault { IfErr result (EndsSession ⊥ session.now session.now) }
 {
     match said {
-        SessionLine::Nothing => Ok(Vec::new(alloc)),
-        SessionLine::Wrong => Ok(Vec::from_slice(alloc, b"refused BadLine\n")?),
+        SessionLine::Nothing => Ok(done(Vec::new(alloc))),
+        SessionLine::Wrong => Ok(refused(Vec::from_slice(alloc, b"refused BadLine\n")?)),
         SessionLine::Step(_) => unreachable!(),
         SessionLine::Dry(request) => dry_answer(alloc, session, request),
-        SessionLine::Live => Ok(live_answer(alloc, session)?),
-        SessionLine::Bundles => Ok(bundles_answer(alloc, session)?),
-        SessionLine::Journal => Ok(journal_answer(alloc, session)?),
+        SessionLine::Live => Ok(done(live_answer(alloc, session)?)),
+        SessionLine::Bundles => Ok(done(bundles_answer(alloc, session)?)),
+        SessionLine::Journal => Ok(done(journal_answer(alloc, session)?)),
     }
 }
 
@@ -184,11 +190,13 @@ fn step_answer<T: Threads + Wait + Sync, G: Gate>(
     gate: &G,
     workers: u8,
     step: &Step,
-) -> Result<Vec<u8>, ServeFault>
+) -> Result<Answer, ServeFault>
     requires closed { session.old.begun ≡ false }
     requires crew { IsCrew workers }
-    ensures met { IfOk result (λ text. MeetsCommand (IsDoneBy workers (G.answers gate.now) (G.gives gate.now))
-        session.old.database session.old.line (with_events (command_of step.now) []) text.items session.new.line) }
+    ensures met { IfOk result (λ answer. EndsCommand
+        (IsDoneAs workers (G.answers gate.now) (G.gives gate.now)) answer.ending
+        session.old.database session.old.line (with_events (command_of step.now) [])
+        answer.text.items session.new.line) }
     ensures may { MayMeet (IsDoneBy workers (G.answers gate.now) (G.gives gate.now))
         session.old.database session.old.line (with_events (command_of step.now) []) session.new.line }
     ensures stays { Stays session.old session.new }

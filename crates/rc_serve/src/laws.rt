@@ -1,13 +1,18 @@
 //! Laws of the definitions. The functions do nothing when they run.
-ghost use Rattle.std.specs.Prelude.{◌≡◌, ℕ, Bool, List};
+ghost use Rattle.std.specs.Prelude.{◌≡◌, ◌∷◌, [], ℕ, Bool, List};
 ghost use Rattle.rc_graph.specs.declared.Way.{Way};
 ghost use Rattle.rc_db.specs.Database.{Database, IsDatabase};
 ghost use Rattle.rc_line.specs.Line.{Line};
 ghost use Rattle.rc_session.specs.Doing.{IsLineOf};
+ghost use Rattle.rc_lines.specs.Says.{Saying, Says};
+ghost use Rattle.rc_serve.specs.Ending.{Ends, IsDoneAs};
+ghost use Rattle.rc_serve.specs.Meeting.{IsDoneBy};
 ghost use Rattle.rc_serve.specs.Playing.{ArePlayed, IsDone};
 ghost use Rattle.rc_serve.specs.Serving.{Serves};
 ghost use Rattle.rc_serve.specs.SessionText.{SessionText};
+ghost use Rattle.rc_serve.specs.declared.ending.Ending.{Ending};
 
+use rc_board::Gate;
 use rc_lines::laws::lines_say_one_thing;
 
 /// Where certain transitions fail, an input has one text, and leads to one line of states: it hangs
@@ -26,4 +31,12 @@ pub fn served_lines_are_a_play()
     ensures { (d : Database) (here new : Line) (lines : List (List ℕ)) (text : List ℕ) →
         IsDatabase d → IsLineOf d here → Serves IsDone d here lines text new →
         ArePlayed d here lines new }
+{}
+
+/// What one line alone comes to, past a gate, is what a session of this one line comes to.
+pub fn one_line_is_a_session<G: Gate>(gate: &G)
+    ensures { (workers : ℕ) (ending : Ending) (d : Database) (here new : Line) (bytes : List ℕ)
+        (saying : Saying) (text : List ℕ) → Says bytes saying →
+        Ends (IsDoneAs workers (G.answers gate.now) (G.gives gate.now)) ending d here saying text new →
+        Serves (IsDoneBy workers (G.answers gate.now) (G.gives gate.now)) d here (bytes ∷ []) text new }
 {}

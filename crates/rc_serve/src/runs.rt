@@ -5,9 +5,12 @@ ghost use Rattle.rc_session.specs.Commands.{Change, Undo, Redo};
 ghost use Rattle.rc_board.specs.Crew.{IsCrew};
 ghost use Rattle.rc_board.specs.Working.{HasWork};
 ghost use Rattle.rc_serve.specs.Faults.{EndsSession, IsInner, IsSpoiledBy, IsStrange};
-ghost use Rattle.rc_serve.specs.Meeting.{IsDoneBy, IsToldAs, MayMeet, MeetsCommand};
+ghost use Rattle.rc_serve.specs.Ending.{EndsCommand, IsDoneAs};
+ghost use Rattle.rc_serve.specs.Meeting.{IsDoneBy, MayMeet};
 ghost use Rattle.rc_serve.specs.Serving.{Stays};
+ghost use Rattle.rc_serve.specs.Telling.{IsToldAs};
 
+use crate::ending::{Answer, ending_of, refused};
 use crate::fault::{ServeFault, answered};
 use rc_answers::{refusal_text, report_text};
 use rc_board::{Fault, Gate, NoWatch, change, redo, undo};
@@ -26,11 +29,13 @@ pub(crate) fn change_answer<T: Threads + Wait + Sync, G: Gate>(
     gate: &G,
     workers: u8,
     request: &Request,
-) -> Result<Vec<u8>, ServeFault>
+) -> Result<Answer, ServeFault>
     requires closed { session.old.begun ≡ false }
     requires crew { IsCrew workers }
-    ensures met { IfOk result (λ text. MeetsCommand (IsDoneBy workers (G.answers gate.now) (G.gives gate.now))
-        session.old.database session.old.line (Change (ask_of request.now) []) text.items session.new.line) }
+    ensures met { IfOk result (λ answer. EndsCommand
+        (IsDoneAs workers (G.answers gate.now) (G.gives gate.now)) answer.ending
+        session.old.database session.old.line (Change (ask_of request.now) []) answer.text.items
+        session.new.line) }
     ensures may { MayMeet (IsDoneBy workers (G.answers gate.now) (G.gives gate.now))
         session.old.database session.old.line (Change (ask_of request.now) []) session.new.line }
     ensures stays { Stays session.old session.new }
@@ -49,11 +54,13 @@ pub(crate) fn undo_answer<T: Threads + Wait + Sync, G: Gate>(
     gate: &G,
     workers: u8,
     limit: u32,
-) -> Result<Vec<u8>, ServeFault>
+) -> Result<Answer, ServeFault>
     requires closed { session.old.begun ≡ false }
     requires crew { IsCrew workers }
-    ensures met { IfOk result (λ text. MeetsCommand (IsDoneBy workers (G.answers gate.now) (G.gives gate.now))
-        session.old.database session.old.line (Undo limit []) text.items session.new.line) }
+    ensures met { IfOk result (λ answer. EndsCommand
+        (IsDoneAs workers (G.answers gate.now) (G.gives gate.now)) answer.ending
+        session.old.database session.old.line (Undo limit []) answer.text.items
+        session.new.line) }
     ensures may { MayMeet (IsDoneBy workers (G.answers gate.now) (G.gives gate.now))
         session.old.database session.old.line (Undo limit []) session.new.line }
     ensures stays { Stays session.old session.new }
@@ -72,11 +79,13 @@ pub(crate) fn redo_answer<T: Threads + Wait + Sync, G: Gate>(
     gate: &G,
     workers: u8,
     limit: u32,
-) -> Result<Vec<u8>, ServeFault>
+) -> Result<Answer, ServeFault>
     requires closed { session.old.begun ≡ false }
     requires crew { IsCrew workers }
-    ensures met { IfOk result (λ text. MeetsCommand (IsDoneBy workers (G.answers gate.now) (G.gives gate.now))
-        session.old.database session.old.line (Redo limit []) text.items session.new.line) }
+    ensures met { IfOk result (λ answer. EndsCommand
+        (IsDoneAs workers (G.answers gate.now) (G.gives gate.now)) answer.ending
+        session.old.database session.old.line (Redo limit []) answer.text.items
+        session.new.line) }
     ensures may { MayMeet (IsDoneBy workers (G.answers gate.now) (G.gives gate.now))
         session.old.database session.old.line (Redo limit []) session.new.line }
     ensures stays { Stays session.old session.new }
@@ -93,17 +102,23 @@ fn told(
     names: &Names,
     words: &[String],
     outcome: Result<Report, Fault>,
-) -> Result<Vec<u8>, ServeFault>
+) -> Result<Answer, ServeFault>
     requires { outcome ≡ Err Fault.Workers → ⊥ }
-    ensures told { IfOk result (λ text. IsToldAs names.now (map string_bytes words.now) outcome text.items) }
+    ensures told { IfOk result (λ answer. IsToldAs names.now (map string_bytes words.now) outcome
+        answer.ending answer.text.items) }
     ensures strange { outcome ≡ Err Fault.Strange → result ≡ Err ServeFault.Strange }
     ensures fault { IfErr result (IsInner (IsStrange outcome) (outcome ≡ Err Fault.NoThread)) }
 {
     match outcome {
-        Ok(report) => Ok(report_text(alloc, names, &report)?),
+        Ok(report) => {
+            let ending = ending_of(&report);
+            let text = report_text(alloc, names, &report)?;
+            Ok(Answer { text, ending })
+        }
         Err(Fault::Refused(refusal)) => {
             let refusal = answered(refusal)?;
-            Ok(refusal_text(alloc, words, refusal)?)
+            let text = refusal_text(alloc, words, refusal)?;
+            Ok(refused(text))
         }
         Err(Fault::NoThread) => Err(ServeFault::NoThread),
         Err(Fault::Strange) => Err(ServeFault::Strange),

@@ -223,7 +223,7 @@ fn next_answer<T: Threads + Wait + Sync, R: Read, W: Write, K: Keeper, G: Gate>(
     let Some((line, ends)) = lines.next(alloc, reader)? else {
         return Ok(false);
     };
-    let text = line_answer(rt, alloc, session, keeper, gate, workers, &line)?;
-    write_answer(writer, &text)?;
+    let answer = line_answer(rt, alloc, session, keeper, gate, workers, &line)?;
+    write_answer(writer, &answer.text)?;
     Ok(ends)
 }

@@ -340,21 +340,21 @@ ends_found (Failed fault) filing d workers listed table input left written gaine
     (end.0, elim end.1 [ inl un ↦ inl un | inr run ↦ inr (runs_found (ServesUpTo fault) filing d listed table input left written gained found run) ])
 
 -- the gate is the one of the programs
-pub runs_scripts : (Served : Serving) (filing : Filing) (d : Database) (workers : ℕ) (runner controller : List Text) (gate : Scripts) (input left written gained : Option (List ℕ)) → gate ≡ scripts_of d runner controller
+pub runs_scripts : (Served : Serving) (filing : Filing) (d : Database) (workers : ℕ) (runner controller : List Text) (limit : ℕ) (gate : Scripts) (input left written gained : Option (List ℕ)) → gate ≡ scripts_of d runner controller limit
     → RunsGated Served filing (IsDoneBy workers (MayAnswer gate) (λ m. Unit {0})) d input left written gained
-    → RunsFor Served filing d workers (ByPrograms runner controller) input left written gained
-runs_scripts Served filing d workers runner controller gate input left written gained is run =
+    → RunsFor Served filing d workers (ByPrograms runner controller limit) input left written gained
+runs_scripts Served filing d workers runner controller limit gate input left written gained is run =
     subst (λ (g : Scripts). RunsGated Served filing (IsDoneBy workers (MayAnswer g) (λ m. Unit {0})) d input left written gained) is run
 
-pub ends_scripts : (fault : SessionFault) (filing : Filing) (d : Database) (workers : ℕ) (runner controller : List Text) (gate : Scripts) (input left written gained : Option (List ℕ)) (reader writer keeper : Type 0) → gate ≡ scripts_of d runner controller
+pub ends_scripts : (fault : SessionFault) (filing : Filing) (d : Database) (workers : ℕ) (runner controller : List Text) (limit : ℕ) (gate : Scripts) (input left written gained : Option (List ℕ)) (reader writer keeper : Type 0) → gate ≡ scripts_of d runner controller limit
     → EndsGated fault filing (IsDoneBy workers (MayAnswer gate) (λ m. Unit {0})) d input left written gained reader writer keeper
-    → EndsOn fault filing d workers (ByPrograms runner controller) input left written gained reader writer keeper
-ends_scripts (OfText fault) filing d workers runner controller gate input left written gained reader writer keeper is end = absurd end
-ends_scripts (Unknown word) filing d workers runner controller gate input left written gained reader writer keeper is end = absurd end
-ends_scripts (OfLive fault) filing d workers runner controller gate input left written gained reader writer keeper is end =
+    → EndsOn fault filing d workers (ByPrograms runner controller limit) input left written gained reader writer keeper
+ends_scripts (OfText fault) filing d workers runner controller limit gate input left written gained reader writer keeper is end = absurd end
+ends_scripts (Unknown word) filing d workers runner controller limit gate input left written gained reader writer keeper is end = absurd end
+ends_scripts (OfLive fault) filing d workers runner controller limit gate input left written gained reader writer keeper is end =
     ((([], tt), end.0), end.1, end.2, end.3)
-ends_scripts (Failed fault) filing d workers runner controller gate input left written gained reader writer keeper is end =
-    (end.0, elim end.1 [ inl un ↦ inl un | inr run ↦ inr (runs_scripts (ServesUpTo fault) filing d workers runner controller gate input left written gained is run) ])
+ends_scripts (Failed fault) filing d workers runner controller limit gate input left written gained reader writer keeper is end =
+    (end.0, elim end.1 [ inl un ↦ inl un | inr run ↦ inr (runs_scripts (ServesUpTo fault) filing d workers runner controller limit gate input left written gained is run) ])
 
 -- a failed read is told as that
 pub told_read : {A : Type 0} (result : Result A SessionFault) (fault : SessionFault) (status : ℕ) (Refused : Type 0) (old new : Option (List ℕ)) → result ≡ Err (Failed Read) → result ≡ Err fault → (status ≡ 1) ⊎ (status ≡ 111) → (status ≡ 1 → IsRefusal fault × Refused)

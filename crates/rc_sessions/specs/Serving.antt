@@ -72,15 +72,19 @@ pub record RunsOn (Served : Serving) (filing : Filing) (d : Database) (failing :
   pub found : AreFound d.names failing table
   pub run : RunsGated Served filing (IsDoneFailing (fails_in table)) d input left written gained
 
--- a command is done with events that so many workers made, at most, by these programs: a runner for the texts of oneshots, and a controller for longruns
-abbrev pub IsDoneByPrograms : (workers : ℕ) → Database → (runner controller : List Text) → Doing
-IsDoneByPrograms workers d runner controller = IsDoneBy workers (MayAnswer (scripts_of d runner controller)) (λ m. Unit {0})
+-- a command is done with events that so many workers made, at most, by these programs: a runner for
+-- the texts of oneshots, and a controller for longruns; and with this limit for services that have
+-- none on their way
+abbrev pub IsDoneByPrograms : (workers : ℕ) → Database → (runner controller : List Text) →
+    (limit : ℕ) → Doing
+IsDoneByPrograms workers d runner controller limit =
+    IsDoneBy workers (MayAnswer (scripts_of d runner controller limit)) (λ m. Unit {0})
 
 -- a session was served, with so many workers, by a table of what fails or by programs
 abbrev pub RunsFor : Serving → Filing → Database → (workers : ℕ) → MakingAsk →
     (input left written gained : Option (List ℕ)) → Type 0
 RunsFor Served filing d workers (ByTable failing) input left written gained =
     RunsOn Served filing d failing input left written gained
-RunsFor Served filing d workers (ByPrograms runner controller) input left written gained =
-    RunsGated Served filing (IsDoneByPrograms workers d runner controller) d
+RunsFor Served filing d workers (ByPrograms runner controller limit) input left written gained =
+    RunsGated Served filing (IsDoneByPrograms workers d runner controller limit) d
     input left written gained

@@ -21,7 +21,7 @@ use rc_session::Session;
 use std::alloc::Global;
 
 /// A session on a database, where it begins.
-pub(crate) fn begin<'a>(
+pub fn begin<'a>(
     alloc: Global,
     db: Db,
     request: &SessionRequest<'_>,

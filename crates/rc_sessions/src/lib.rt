@@ -10,6 +10,9 @@ mod serving;
 mod session;
 mod session_fault;
 
+pub use crate::beginning::begin;
 pub use crate::failing::{GateFault, gate_of};
 pub use crate::keeping::{LiveFile, Store, TextKeeper};
-pub use crate::session::{session_as_asked, session_run};
+pub use crate::serving::gate_by_programs;
+pub use crate::session::{reading_fault, session_as_asked, session_run};
+pub use crate::session_fault::{SessionFault, tell_session_fault};

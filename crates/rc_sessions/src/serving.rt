@@ -1,6 +1,6 @@
 //! A session of the program on its database: how its transitions are made, where it begins, and
 //! that it is kept.
-ghost use Rattle.std.specs.Prelude.{◌≡◌, ◌≢◌, ◌≤◌, ◌⊎◌, ◌+◌, ℕ, Bool, false, Err, None, map, string_bytes};
+ghost use Rattle.std.specs.Prelude.{◌≡◌, ◌≢◌, ◌≤◌, ◌⊎◌, ◌+◌, ℕ, Bool, false, [], Err, None, map, string_bytes};
 ghost use Rattle.std.specs.Prelude.{IfErr, IfOk, OnOk};
 ghost use Rattle.rc_graph.specs.declared.Way.{Way};
 ghost use Rattle.rc_board.specs.Crew.{IsCrew};
@@ -14,6 +14,7 @@ ghost use Rattle.rc_asked.specs.Making.{making_ask_of};
 ghost use Rattle.rc_asked.specs.Programs.{ByPrograms, ByTable};
 ghost use Rattle.rc_asked.specs.Reading.{listed_of};
 ghost use Rattle.rc_asked.specs.SessionAsked.{session_ask_of};
+ghost use Rattle.rc_sessions.specs.Finding.{AreFound, IsGateFault};
 ghost use Rattle.rc_sessions.specs.Filing.{CannotKeep, HoldsBy, filing_of};
 ghost use Rattle.rc_sessions.specs.Serving.{RunsFor, RunsGated, Serves, ServesUpTo, StopsUpTo};
 ghost use Rattle.rc_sessions.specs.SessionFaults.{EndsGated, EndsOn};
@@ -22,13 +23,13 @@ ghost use Rattle.rc_sessions.specs.declared.session_fault.SessionFault.TheVarian
 ghost use Rattle.rc_serve.specs.declared.fault.ServeFault.TheVariants.{Read as Unread};
 
 use crate::beginning::begin;
-use crate::failing::gate_of;
+use crate::failing::{GateFault, gate_of};
 use crate::keeping::{LiveFile, Store, TextKeeper};
 use crate::session_fault::SessionFault;
 use rc_asked::{Making, Programs, SessionRequest, Transition};
 use rc_board::Gate;
 use rc_db::{Db, NoMem};
-use rc_runner::{ShellGate, Telling};
+use rc_runner::{ShellGate, TableGate, Telling};
 use rc_serve::{Keeper, ServeFault, Unkept, serve};
 use rc_session::Session;
 use rc_streams::{MAX_INPUT, Noted};
@@ -37,8 +38,8 @@ use std::io::{Read, Write};
 use std::sync::Wait;
 use std::thread::Threads;
 
-/// Runs a session on a database, over its own input. Programs are started by `host`, which logs
-/// what is to be told of them, too.
+/// Runs a session on a database, over its own input. Programs are started by `host`, which also
+/// tells what is to be told of them.
 pub(crate) fn run_on<'a, T: Threads + Wait + Sync, R: Read, W: Write, S: Store>(
     rt: &T,
     host: &HostRuntime,
@@ -121,7 +122,7 @@ fn run_by_table<'a, T: Threads + Wait + Sync, R: Read, W: Write, S: Store>(
     ensures taken { ConsumesAtMost (R.remaining (inner_of reader.old))
         (R.remaining (inner_of reader.new)) (MAX_INPUT + 1) }
 {
-    let gate = match gate_of(alloc, db.names(), failing) {
+    let gate = match gate_by_table(alloc, &db, failing) {
         Ok(gate) => gate,
         Err(fault) => {
             drop(db);
@@ -138,6 +139,20 @@ fn run_by_table<'a, T: Threads + Wait + Sync, R: Read, W: Write, S: Store>(
     drop(telling);
     drop(gate);
     ended
+}
+
+// The gate of a database at which listed transitions fail.
+fn gate_by_table<'a>(
+    alloc: Global,
+    db: &Db,
+    failing: &[Transition<'a>],
+) -> Result<TableGate, GateFault<'a>>
+    ensures found { IfOk result (λ gate. AreFound db.now.names (map listed_of failing.now)
+        gate.failing) }
+    ensures clock { IfOk result (λ gate. gate.moments ≡ []) }
+    ensures fault { IfErr result (IsGateFault db.now.names (map listed_of failing.now)) }
+{
+    gate_of(alloc, db.names(), failing)
 }
 
 // Runs a session whose transitions are made by programs.
@@ -161,14 +176,14 @@ fn run_by_programs<'a, T: Threads + Wait + Sync, R: Read, W: Write, S: Store>(
         (filing_of (session_ask_of request.now) live.entry
         (S.holds (store_of keeper.old)) (S.holds (store_of keeper.new)))
         db request.now.workers (ByPrograms (map string_bytes programs.now.runner.items)
-        (map string_bytes programs.now.controller.items))
+        (map string_bytes programs.now.controller.items) programs.now.limit)
         (R.remaining (inner_of reader.old)) (R.remaining (inner_of reader.new))
         (W.contents (inner_of writer.old)) (W.contents (inner_of writer.new))) }
     ensures ended { IfErr result (λ fault. EndsOn fault
         (filing_of (session_ask_of request.now) live.entry
         (S.holds (store_of keeper.old)) (S.holds (store_of keeper.new)))
         db request.now.workers (ByPrograms (map string_bytes programs.now.runner.items)
-        (map string_bytes programs.now.controller.items))
+        (map string_bytes programs.now.controller.items) programs.now.limit)
         (R.remaining (inner_of reader.old)) (R.remaining (inner_of reader.new))
         (W.contents (inner_of writer.old)) (W.contents (inner_of writer.new))
         (HasFailed reader.new) (HasFailed writer.new)
@@ -193,8 +208,8 @@ fn run_by_programs<'a, T: Threads + Wait + Sync, R: Read, W: Write, S: Store>(
     ended
 }
 
-// The gate of these programs. Where outcomes are told, so is what the programs write as errors.
-fn gate_by_programs<'h>(
+/// The gate of these programs. Where transitions are told, so is what the programs write.
+pub fn gate_by_programs<'h>(
     host: &'h HostRuntime,
     alloc: Global,
     db: &Db,
@@ -203,11 +218,18 @@ fn gate_by_programs<'h>(
 ) -> Result<ShellGate<'h, HostRuntime>, NoMem>
     ensures { IfOk result (λ gate. gate ≡ scripts_of db.now
         (map string_bytes programs.now.runner.items)
-        (map string_bytes programs.now.controller.items)) }
+        (map string_bytes programs.now.controller.items) programs.now.limit) }
 {
-    let gate = ShellGate::new(host, alloc, db, &programs.runner, &programs.controller)?;
+    let gate = ShellGate::new(
+        host,
+        alloc,
+        db,
+        &programs.runner,
+        &programs.controller,
+        programs.limit,
+    )?;
     if tells {
-        return Ok(gate.with_errors());
+        return Ok(gate.with_errors(host.stderr()));
     }
     Ok(gate)
 }

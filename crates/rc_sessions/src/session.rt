@@ -298,8 +298,8 @@ fn run_on_input<'a, T: Threads + Wait + Sync, R: Read, W: Write, S: Store>(
     )
 }
 
-// Why the input was not read whole, as a fault of serving. A read fails as none but a read does.
-fn reading_fault(failure: Failure) -> ServeFault
+/// Why the input was not read whole, as a fault of serving. A read fails as none but a read does.
+pub fn reading_fault(failure: Failure) -> ServeFault
     ensures { result ≡ reading_fault failure }
 {
     match failure {

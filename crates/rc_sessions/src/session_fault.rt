@@ -20,7 +20,7 @@ use std::io::Write;
 
 /// Why a session ends before its input does, or is not begun.
 #[derive(Clone, Copy)]
-pub(crate) enum SessionFault<'a> {
+pub enum SessionFault<'a> {
     /// The database text is none.
     OfText(TextFault),
     /// This name is to fail, and is no service's.
@@ -81,11 +81,7 @@ impl From<ServeFault> for SessionFault<'_> {
 }
 
 /// Tells why a session ended, and answers the status.
-pub(crate) fn tell_session_fault<F: Write>(
-    alloc: Global,
-    faults: &mut F,
-    fault: SessionFault<'_>,
-) -> u8
+pub fn tell_session_fault<F: Write>(alloc: Global, faults: &mut F, fault: SessionFault<'_>) -> u8
     ensures statuses { (result ≡ 1) ⊎ (result ≡ 111) }
     ensures refused { result ≡ 1 → IsRefusal fault.entry
         × AppendsFront (F.contents faults.old) (F.contents faults.new)

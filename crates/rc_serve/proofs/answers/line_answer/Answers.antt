@@ -16,7 +16,7 @@ pub said_answer-requires-clause-eventless : goal.said_answer-requires-clause-eve
 said_answer-requires-clause-eventless g c κs within = λ command is. c.lines_give_no_events.ensures c.args.line.now command (subst (λ (s : Saying). Says c.args.line.now s) is (read_says _ c.args.line.now c.read_line.result c.in-Ok.said c.in-Ok.is c.read_line.ensures.said))
 
 pub returns-in-Ok-clause-met : goal.returns-in-Ok-clause-met
-returns-in-Ok-clause-met g c = bytes_met (IsDoneBy c.args.workers (g.G.Gate.answers c.args.gate.now) (g.G.Gate.gives c.args.gate.now)) c.args.line.now (saying_of c.in-Ok.said) c.args.session.now.database c.args.session.now.line c.said_answer.result c.said_answer.new.session.line (read_says _ c.args.line.now c.read_line.result c.in-Ok.said c.in-Ok.is c.read_line.ensures.said) c.said_answer.ensures.met
+returns-in-Ok-clause-met g c = bytes_met c.args.workers (g.G.Gate.answers c.args.gate.now) (g.G.Gate.gives c.args.gate.now) c.args.line.now (saying_of c.in-Ok.said) c.args.session.now.database c.args.session.now.line c.said_answer.result c.said_answer.new.session.line (read_says _ c.args.line.now c.read_line.result c.in-Ok.said c.in-Ok.is c.read_line.ensures.said) c.said_answer.ensures.met
 
 pub returns-in-Ok-clause-may : goal.returns-in-Ok-clause-may
 returns-in-Ok-clause-may g c = bytes_may (IsDoneBy c.args.workers (g.G.Gate.answers c.args.gate.now) (g.G.Gate.gives c.args.gate.now)) c.args.line.now (saying_of c.in-Ok.said) c.args.session.now.database c.args.session.now.line c.said_answer.new.session.line (read_says _ c.args.line.now c.read_line.result c.in-Ok.said c.in-Ok.is c.read_line.ensures.said) c.said_answer.ensures.may

@@ -2,8 +2,9 @@ use Rattle.std.proofs.Common.{[], ap, refl}
 use Rattle.rc_session.specs.Commands.{command_of, with_events}
 use Rattle.rc_lines.specs.Says.{saying_of}
 use Rattle.rc_board.specs.Working.{HasWork}
-use Rattle.rc_serve.specs.Meeting.{IsDoneBy, IsEdited, WantsWork}
-use Rattle.rc_serve.proofs.Editing.{edited_by}
+use Rattle.rc_serve.specs.Ending.{IsDoneAs, IsEditedAs}
+use Rattle.rc_serve.specs.Meeting.{IsDoneBy, WantsWork}
+use Rattle.rc_serve.proofs.Editing.{edited_as}
 use Rattle.rc_serve.proofs.Keeping.{ends_line, ends_line_as, line_still}
 use Rattle.rc_serve.proofs.Hindering.{ends_as, shown_spoils}
 use Rattle.rc_serve.proofs.Steps.{may_stay, not_step, said_met_on, step_may, step_met, step_wants}
@@ -19,7 +20,7 @@ pub shown-requires : goal.shown-requires
 shown-requires g c = record { closed = c.requires.closed; shows = λ command is. not_step c.args.said.now command c.in_default.not-Step is }
 
 pub returns-in-Step-clause-met : goal.returns-in-Step-clause-met
-returns-in-Step-clause-met g c = step_met (IsDoneBy c.args.workers (g.G.Gate.answers c.args.gate.now) (g.G.Gate.gives c.args.gate.now)) (saying_of c.args.said.now) (command_of c.in-Step.step) c.args.session.now.database c.args.session.now.line c.kept_answer.result c.kept_answer.new.session.line (ap saying_of c.in-Step.is) (c.requires.eventless (command_of c.in-Step.step) (ap saying_of c.in-Step.is)) c.kept_answer.ensures.met
+returns-in-Step-clause-met g c = step_met (IsDoneAs c.args.workers (g.G.Gate.answers c.args.gate.now) (g.G.Gate.gives c.args.gate.now)) (saying_of c.args.said.now) (command_of c.in-Step.step) c.args.session.now.database c.args.session.now.line c.kept_answer.result c.kept_answer.new.session.line (ap saying_of c.in-Step.is) (c.requires.eventless (command_of c.in-Step.step) (ap saying_of c.in-Step.is)) c.kept_answer.ensures.met
 
 pub returns-in-Step-clause-may : goal.returns-in-Step-clause-may
 returns-in-Step-clause-may g c = step_may (IsDoneBy c.args.workers (g.G.Gate.answers c.args.gate.now) (g.G.Gate.gives c.args.gate.now)) (saying_of c.args.said.now) (command_of c.in-Step.step) c.args.session.now.database c.args.session.now.line c.kept_answer.new.session.line (ap saying_of c.in-Step.is) (c.requires.eventless (command_of c.in-Step.step) (ap saying_of c.in-Step.is)) c.kept_answer.ensures.may
@@ -42,7 +43,7 @@ returns-in-Step-clause-unaltered g c = c.kept_answer.ensures.unaltered
 
 pub returns-in_default : goal.returns-in_default
 returns-in_default g c = record {
-  met = said_met_on IsEdited (IsDoneBy c.args.workers (g.G.Gate.answers c.args.gate.now) (g.G.Gate.gives c.args.gate.now)) c.args.session.now.database c.args.session.now.line (saying_of c.args.said.now) c.shown.result c.args.session.now.line (λ command text done. edited_by c.args.workers (g.G.Gate.answers c.args.gate.now) (g.G.Gate.gives c.args.gate.now) c.args.session.now.database c.args.session.now.line command text c.args.session.now.line done) c.shown.ensures.met;
+  met = said_met_on IsEditedAs (IsDoneAs c.args.workers (g.G.Gate.answers c.args.gate.now) (g.G.Gate.gives c.args.gate.now)) c.args.session.now.database c.args.session.now.line (saying_of c.args.said.now) c.shown.result c.args.session.now.line (λ ending command text done. edited_as c.args.workers (g.G.Gate.answers c.args.gate.now) (g.G.Gate.gives c.args.gate.now) ending c.args.session.now.database c.args.session.now.line command text c.args.session.now.line done) c.shown.ensures.met;
   may = may_stay (IsDoneBy c.args.workers (g.G.Gate.answers c.args.gate.now) (g.G.Gate.gives c.args.gate.now)) c.args.session.now.database c.args.session.now.line (saying_of c.args.said.now);
   stays = (refl, c.requires.closed);
   fault = ends_line (g.K.Keeper.failed c.args.keeper.now) (WantsWork c.args.session.now.database c.args.session.now.line (saying_of c.args.said.now)) c.shown.result c.args.session.now c.args.session.now (ends_as ⊥ (WantsWork c.args.session.now.database c.args.session.now.line (saying_of c.args.said.now)) c.args.session.now c.args.session.now c.shown.result (λ none. absurd none) c.shown.ensures.fault);

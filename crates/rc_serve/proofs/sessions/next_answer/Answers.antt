@@ -13,12 +13,12 @@ returns-in_err-line-clause-stopped g c =
     let is = err_from_is_err_and c.from_residual.result c.from_residual.ensures.1 in
     rw (is.1, is.2) stops
 
-pub returns-in_err-text-clause-stopped : goal.returns-in_err-text-clause-stopped
-returns-in_err-text-clause-stopped g c =
-    let stops : StopsAt (IsDoneBy c.args.workers (g.G.Gate.answers c.args.gate.now) (g.G.Gate.gives c.args.gate.now)) c.in_err-text.field-0.0 g.K.Keeper.fails (g.K.Keeper.keeps c.args.keeper.now) (g.K.Keeper.keeps c.line_answer.new.keeper) (g.R.Read.remaining (inner_of c.args.reader.now)) (g.R.Read.remaining (inner_of c.next.new.reader)) c.args.lines.now c.next.new.self (g.W.Write.contents (inner_of c.args.writer.now)) (g.W.Write.contents (inner_of c.args.writer.now)) c.args.session.now c.line_answer.new.session =
-    stops_short (IsDoneBy c.args.workers (g.G.Gate.answers c.args.gate.now) (g.G.Gate.gives c.args.gate.now)) c.in_err-text.field-0.0 g.K.Keeper.fails (g.K.Keeper.keeps c.args.keeper.now) (g.K.Keeper.keeps c.line_answer.new.keeper) (g.K.Keeper.failed c.line_answer.new.keeper) c.in-Some.ends (g.R.Read.remaining (inner_of c.args.reader.now)) (g.R.Read.remaining (inner_of c.next.new.reader)) c.args.lines.now c.next.new.self (g.W.Write.contents (inner_of c.args.writer.now)) c.args.session.now c.line_answer.new.session c.in-Some.line.items
-    (rw c.in-Some.is at c.in_ok-line.ensures.line) c.in_ok-line.ensures.taken (rw c.deref.ensures.value at c.in_err-text.ensures.may) c.in_err-text.ensures.kept (rw c.deref.ensures.value at c.in_err-text.ensures.fault) in
-    let is = err_from_is_err_and c.from_residual-in_err-text.result c.from_residual-in_err-text.ensures.1 in
+pub returns-in_err-answer-clause-stopped : goal.returns-in_err-answer-clause-stopped
+returns-in_err-answer-clause-stopped g c =
+    let stops : StopsAt (IsDoneBy c.args.workers (g.G.Gate.answers c.args.gate.now) (g.G.Gate.gives c.args.gate.now)) c.in_err-answer.field-0.0 g.K.Keeper.fails (g.K.Keeper.keeps c.args.keeper.now) (g.K.Keeper.keeps c.line_answer.new.keeper) (g.R.Read.remaining (inner_of c.args.reader.now)) (g.R.Read.remaining (inner_of c.next.new.reader)) c.args.lines.now c.next.new.self (g.W.Write.contents (inner_of c.args.writer.now)) (g.W.Write.contents (inner_of c.args.writer.now)) c.args.session.now c.line_answer.new.session =
+    stops_short (IsDoneBy c.args.workers (g.G.Gate.answers c.args.gate.now) (g.G.Gate.gives c.args.gate.now)) c.in_err-answer.field-0.0 g.K.Keeper.fails (g.K.Keeper.keeps c.args.keeper.now) (g.K.Keeper.keeps c.line_answer.new.keeper) (g.K.Keeper.failed c.line_answer.new.keeper) c.in-Some.ends (g.R.Read.remaining (inner_of c.args.reader.now)) (g.R.Read.remaining (inner_of c.next.new.reader)) c.args.lines.now c.next.new.self (g.W.Write.contents (inner_of c.args.writer.now)) c.args.session.now c.line_answer.new.session c.in-Some.line.items
+    (rw c.in-Some.is at c.in_ok-line.ensures.line) c.in_ok-line.ensures.taken (rw c.deref.ensures.value at c.in_err-answer.ensures.may) c.in_err-answer.ensures.kept (rw c.deref.ensures.value at c.in_err-answer.ensures.fault) in
+    let is = err_from_is_err_and c.from_residual-in_err-answer.result c.from_residual-in_err-answer.ensures.1 in
     rw (is.1, is.2) stops
 
 pub returns-in_err-line-clause-whole : goal.returns-in_err-line-clause-whole
@@ -27,16 +27,16 @@ returns-in_err-line-clause-whole g c =
     let is = err_from_is_err_and c.from_residual.result c.from_residual.ensures.1 in
     rw (is.1, is.2) spoils
 
-pub returns-in_err-text-clause-fault : goal.returns-in_err-text-clause-fault
-returns-in_err-text-clause-fault g c =
-    let wrong : IsServeFault (HasFailed c.next.new.reader) (HasFailed c.args.writer.now) (g.K.Keeper.failed c.line_answer.new.keeper) c.in_err-text.field-0.0 = inner_fault _ _ _ _ c.in_err-text.field-0.0 c.args.session.now c.line_answer.new.session c.in_err-text.ensures.fault in
-    let is = err_from_is_err_and c.from_residual-in_err-text.result c.from_residual-in_err-text.ensures.1 in
+pub returns-in_err-answer-clause-fault : goal.returns-in_err-answer-clause-fault
+returns-in_err-answer-clause-fault g c =
+    let wrong : IsServeFault (HasFailed c.next.new.reader) (HasFailed c.args.writer.now) (g.K.Keeper.failed c.line_answer.new.keeper) c.in_err-answer.field-0.0 = inner_fault _ _ _ _ c.in_err-answer.field-0.0 c.args.session.now c.line_answer.new.session c.in_err-answer.ensures.fault in
+    let is = err_from_is_err_and c.from_residual-in_err-answer.result c.from_residual-in_err-answer.ensures.1 in
     rw (is.1, is.2) wrong
 
 pub returns-in_err-write_answer-clause-stopped : goal.returns-in_err-write_answer-clause-stopped
 returns-in_err-write_answer-clause-stopped g c =
     let stops : StopsAt (IsDoneBy c.args.workers (g.G.Gate.answers c.args.gate.now) (g.G.Gate.gives c.args.gate.now)) (of_failure c.in_err-write_answer.field-0.0) g.K.Keeper.fails (g.K.Keeper.keeps c.args.keeper.now) (g.K.Keeper.keeps c.line_answer.new.keeper) (g.R.Read.remaining (inner_of c.args.reader.now)) (g.R.Read.remaining (inner_of c.next.new.reader)) c.args.lines.now c.next.new.self (g.W.Write.contents (inner_of c.args.writer.now)) (g.W.Write.contents (inner_of c.write_answer.new.writer)) c.args.session.now c.line_answer.new.session =
     stops_writing (IsDoneBy c.args.workers (g.G.Gate.answers c.args.gate.now) (g.G.Gate.gives c.args.gate.now)) c.in_err-write_answer.field-0.0 g.K.Keeper.fails (g.K.Keeper.keeps c.args.keeper.now) (g.K.Keeper.keeps c.line_answer.new.keeper) c.in-Some.ends (g.R.Read.remaining (inner_of c.args.reader.now)) (g.R.Read.remaining (inner_of c.next.new.reader)) c.args.lines.now c.next.new.self (g.W.Write.contents (inner_of c.args.writer.now)) (g.W.Write.contents (inner_of c.write_answer.new.writer)) c.args.session.now c.line_answer.new.session c.in-Some.line.items _ (write_fault c.in_err-write_answer.field-0.0 c.in_err-write_answer.ensures.fault.0)
-    (rw c.in-Some.is at c.in_ok-line.ensures.line) (rw c.deref.ensures.value at c.in_ok-text.ensures.met) (rw c.deref-2.ensures.value at c.in_err-write_answer.ensures.front) c.in_ok-text.ensures.kept in
+    (rw c.in-Some.is at c.in_ok-line.ensures.line) (rw c.deref.ensures.value at c.in_ok-answer.ensures.met) (rw c.deref-2.ensures.value at c.in_err-write_answer.ensures.front) c.in_ok-answer.ensures.kept in
     let is = err_from_is_err_and c.from_residual-in_err-write_answer.result c.from_residual-in_err-write_answer.ensures.1 in
     rw (is.1, is.2) stops

@@ -11,7 +11,7 @@ use Rattle.rc_sessions.proofs.serving.run_by_programs.Goals as goal
 pub returns-clause-done : goal.returns-clause-done
 returns-clause-done g c =
     on_ok c.run_gated-ended.result _ _
-    (λ run. runs_scripts Serves (filing_of (session_ask_of c.args.request.now) c.args.live (g.S.Store.holds (store_of c.args.keeper.now)) (g.S.Store.holds (store_of c.run_gated-ended.new.keeper))) c.args.db c.args.request.now.workers (map string_bytes c.args.programs.now.runner.items) (map string_bytes c.args.programs.now.controller.items) c.in-Ok-new.telling
+    (λ run. runs_scripts Serves (filing_of (session_ask_of c.args.request.now) c.args.live (g.S.Store.holds (store_of c.args.keeper.now)) (g.S.Store.holds (store_of c.run_gated-ended.new.keeper))) c.args.db c.args.request.now.workers (map string_bytes c.args.programs.now.runner.items) (map string_bytes c.args.programs.now.controller.items) c.args.programs.now.limit c.in-Ok-new.telling
     (g.R.Read.remaining (inner_of c.args.reader.now)) (g.R.Read.remaining (inner_of c.run_gated-ended.new.reader))
     (g.W.Write.contents (inner_of c.args.writer.now)) (g.W.Write.contents (inner_of c.run_gated-ended.new.writer))
     (c.in-Ok-new.ensures ∙ c.in-Ok.ensures) run)
@@ -20,7 +20,7 @@ returns-clause-done g c =
 pub returns-clause-ended : goal.returns-clause-ended
 returns-clause-ended g c =
     IfErr-weaker c.run_gated-ended.result _ _
-    (λ fault end. ends_scripts fault (filing_of (session_ask_of c.args.request.now) c.args.live (g.S.Store.holds (store_of c.args.keeper.now)) (g.S.Store.holds (store_of c.run_gated-ended.new.keeper))) c.args.db c.args.request.now.workers (map string_bytes c.args.programs.now.runner.items) (map string_bytes c.args.programs.now.controller.items) c.in-Ok-new.telling
+    (λ fault end. ends_scripts fault (filing_of (session_ask_of c.args.request.now) c.args.live (g.S.Store.holds (store_of c.args.keeper.now)) (g.S.Store.holds (store_of c.run_gated-ended.new.keeper))) c.args.db c.args.request.now.workers (map string_bytes c.args.programs.now.runner.items) (map string_bytes c.args.programs.now.controller.items) c.args.programs.now.limit c.in-Ok-new.telling
     (g.R.Read.remaining (inner_of c.args.reader.now)) (g.R.Read.remaining (inner_of c.run_gated-ended.new.reader))
     (g.W.Write.contents (inner_of c.args.writer.now)) (g.W.Write.contents (inner_of c.run_gated-ended.new.writer))
     _ _ _ (c.in-Ok-new.ensures ∙ c.in-Ok.ensures) end)

@@ -12,14 +12,14 @@ use Rattle.rc_sessions.proofs.serving.run_by_table.Goals as goal
 
 pub returns-in-Err-clause-ended : goal.returns-in-Err-clause-ended
 returns-in-Err-clause-ended g c =
-    gate_ends c.in-Err.fault c.from.result (filing_of (session_ask_of c.args.request.now) c.args.live (g.S.Store.holds (store_of c.args.keeper.now)) (g.S.Store.holds (store_of c.args.keeper.now))) c.args.db c.args.request.now.workers c.names.result.now (map listed_of c.args.failing.now)
+    gate_ends c.in-Err.fault c.from.result (filing_of (session_ask_of c.args.request.now) c.args.live (g.S.Store.holds (store_of c.args.keeper.now)) (g.S.Store.holds (store_of c.args.keeper.now))) c.args.db c.args.request.now.workers c.args.db.names (map listed_of c.args.failing.now)
     (g.R.Read.remaining (inner_of c.args.reader.now)) (g.W.Write.contents (inner_of c.args.writer.now)) _ _ _
-    refl c.from.ensures c.names.ensures.names c.in-Err.ensures.fault
+    refl c.from.ensures refl c.in-Err.ensures.fault
 
 pub returns-clause-done : goal.returns-clause-done
 returns-clause-done g c =
     let table = c.in-Ok-new.telling in
-    let found = found_at c.args.db c.names.result.now (map listed_of c.args.failing.now) c.in-Ok.gate table c.names.ensures.names c.in-Ok-new.ensures c.in-Ok.ensures.found in
+    let found = found_at c.args.db c.args.db.names (map listed_of c.args.failing.now) c.in-Ok.gate table refl c.in-Ok-new.ensures c.in-Ok.ensures.found in
     on_ok c.run_gated-ended.result _ _
     (λ run. runs_found Serves (filing_of (session_ask_of c.args.request.now) c.args.live (g.S.Store.holds (store_of c.args.keeper.now)) (g.S.Store.holds (store_of c.run_gated-ended.new.keeper))) c.args.db (map listed_of c.args.failing.now) table.failing
     (g.R.Read.remaining (inner_of c.args.reader.now)) (g.R.Read.remaining (inner_of c.run_gated-ended.new.reader))
@@ -30,7 +30,7 @@ returns-clause-done g c =
 pub returns-clause-ended : goal.returns-clause-ended
 returns-clause-ended g c =
     let table = c.in-Ok-new.telling in
-    let found = found_at c.args.db c.names.result.now (map listed_of c.args.failing.now) c.in-Ok.gate table c.names.ensures.names c.in-Ok-new.ensures c.in-Ok.ensures.found in
+    let found = found_at c.args.db c.args.db.names (map listed_of c.args.failing.now) c.in-Ok.gate table refl c.in-Ok-new.ensures c.in-Ok.ensures.found in
     IfErr-weaker c.run_gated-ended.result _ _
     (λ fault end. ends_found fault (filing_of (session_ask_of c.args.request.now) c.args.live (g.S.Store.holds (store_of c.args.keeper.now)) (g.S.Store.holds (store_of c.run_gated-ended.new.keeper))) c.args.db c.args.request.now.workers (map listed_of c.args.failing.now) table.failing
     (g.R.Read.remaining (inner_of c.args.reader.now)) (g.R.Read.remaining (inner_of c.run_gated-ended.new.reader))

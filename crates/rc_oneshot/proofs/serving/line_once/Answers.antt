@@ -1,0 +1,29 @@
+use Rattle.std.proofs.Common.{◌≡◌, ◌∙◌, true, false, refl, sym}
+use Rattle.rc_streams.specs.Noting.{inner_of}
+use Rattle.rc_lines.specs.Says.{saying_of}
+use Rattle.rc_asked.specs.SessionAsked.{session_ask_of}
+use Rattle.rc_serve.specs.Ending.{IsDoneAs}
+use Rattle.rc_sessions.specs.Storing.{store_of}
+use Rattle.rc_oneshot.proofs.OnceLemmas.{no_events, served_alone, served_kept}
+use Rattle.rc_oneshot.proofs.serving.line_once.Goals as goal
+
+pub keep_once-requires-clause-eventless : goal.keep_once-requires-clause-eventless
+keep_once-requires-clause-eventless g c κs within command is = no_events (saying_of c.args.said.now) command c.requires.eventless is
+
+pub answer_once-requires-clause-eventless : goal.answer_once-requires-clause-eventless
+answer_once-requires-clause-eventless g c κs within command is = no_events (saying_of c.args.said.now) command c.requires.eventless is
+
+pub returns-then-is_kept-clause-done : goal.returns-then-is_kept-clause-done
+returns-then-is_kept-clause-done g c =
+    let kept = c.is_kept.ensures.kept c.if-is_kept.true in
+    served_kept (session_ask_of c.args.request.now).live (g.S.Store.holds (store_of c.args.keeper.now)) (g.S.Store.holds (store_of c.keep_once.new.keeper))
+    (IsDoneAs c.args.request.now.workers (g.G.Gate.answers c.args.gate.now) (g.G.Gate.gives c.args.gate.now)) (saying_of c.args.said.now)
+    (g.W.Write.contents (inner_of c.args.writer.now)) (g.W.Write.contents (inner_of c.keep_once.new.writer)) c.args.session.now c.keep_once.new.session
+    c.keep_once.result kept.0 kept.1 c.keep_once.ensures.ended c.keep_once.ensures.arrives c.keep_once.ensures.kept
+
+pub returns-clause-done : goal.returns-clause-done
+returns-clause-done g c =
+    served_alone (session_ask_of c.args.request.now).live (g.S.Store.holds (store_of c.args.keeper.now)) (g.S.Store.holds (store_of c.args.keeper.now))
+    (IsDoneAs c.args.request.now.workers (g.G.Gate.answers c.args.gate.now) (g.G.Gate.gives c.args.gate.now)) (saying_of c.args.said.now)
+    (g.W.Write.contents (inner_of c.args.writer.now)) (g.W.Write.contents (inner_of c.answer_once.new.writer)) c.args.session.now c.answer_once.new.session
+    c.answer_once.result refl (c.is_kept.ensures.alone (λ kept. let bad : false ≡ true = sym c.if-is_kept.false ∙ kept in cc)) c.answer_once.ensures.ended c.answer_once.ensures.arrives

@@ -1,0 +1,4 @@
+use Rattle.rc_oneshot.proofs.serving.run_told.Goals as goal
+
+pub returns-clause-done : goal.returns-clause-done
+returns-clause-done g c = rw c.in-Ok.ensures at c.run_gated-ended.ensures.done
