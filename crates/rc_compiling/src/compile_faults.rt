@@ -32,7 +32,7 @@ impl From<AllocError> for TreesFault {
 }
 
 /// Tells why there is no text, and answers the status.
-pub(crate) fn tell_trees<F: Write>(alloc: Global, faults: &mut F, fault: &TreesFault) -> u8
+pub fn tell_trees<F: Write>(alloc: Global, faults: &mut F, fault: &TreesFault) -> u8
     ensures statuses { (result ≡ 1) ⊎ (result ≡ 111) }
     ensures refused { result ≡ 1 → IsRefusal fault.now × AppendsFront (F.contents faults.old) (F.contents faults.new) (fault_line (trees_text fault.now)) }
     ensures failed { result ≡ 111 → (IsDeviceFault fault.now × AppendsFront (F.contents faults.old) (F.contents faults.new) (fault_line (trees_text fault.now)))

@@ -4,4 +4,5 @@
 mod compile;
 mod compile_faults;
 
-pub use crate::compile::compile_run;
+pub use crate::compile::{compile_run, text_of};
+pub use crate::compile_faults::{TreesFault, tell_trees};

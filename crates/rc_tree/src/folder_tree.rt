@@ -279,8 +279,12 @@ fn is_directory<R: Files>(rt: &R, alloc: Global, path: &str, name: &str) -> io::
     })
 }
 
-// The bytes at the front of a file, one more than it may have.
+// The bytes at the front of a file, one more than it may have. What is no plain file is a fault: to open a
+// pipe would be to wait for whoever writes into it.
 fn first_bytes<R: Files>(rt: &R, alloc: Global, path: &str) -> io::Result<Vec<u8>> {
+    if !rt.metadata(path)?.is_file() {
+        return Err(io::Error::from(ErrorKind::InvalidInput));
+    }
     let mut bytes = Vec::new(alloc);
     let file = fs::open(rt, path)?;
     file.take(MAX_FILE as u64 + 1).read_to_end(&mut bytes)?;

@@ -1,0 +1,10 @@
+use denote.Text.{Utf8}
+use denote.Shadow.{shadow}
+use Rattle.rc_hints.proofs.chains.circle.Given as goal
+
+-- the names have an end, and the one before is text
+abbrev pub invariant-loop-name : goal.invariant-loop-name
+invariant-loop-name g l =
+    (goal.iterator-loop-name g).can_next l.name-iterator ×
+    (goal.iterator-loop-name g).is_finite l.name-iterator ×
+    shadow (Utf8 l.from)

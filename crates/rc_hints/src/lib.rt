@@ -1,0 +1,27 @@
+//! What helps behind a fault: which file, which line, what stands there and what may. A hint is
+//! looked for after the fault was told, and is for people: it changes no status, and where nothing
+//! is found there is none.
+#![tactic(auto)]
+
+mod chains;
+mod databases;
+mod entries;
+mod fault_lines;
+mod file_flaws;
+mod listed;
+mod name_flaws;
+mod pipes;
+mod places;
+mod refusals;
+mod slips;
+mod unread;
+
+pub use crate::databases::database_hint;
+pub use crate::entries::Sources;
+pub use crate::fault_lines::Told;
+pub use crate::file_flaws::word_of;
+pub use crate::name_flaws::{WrongName, wrong_name};
+pub use crate::places::line_at;
+pub use crate::refusals::compile_hint;
+pub use crate::slips::{is_one_edit, nearest};
+pub use crate::unread::{looks_like_entry, unread_files};

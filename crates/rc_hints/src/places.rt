@@ -1,0 +1,14 @@
+//! Places in texts.
+ghost use Rattle.std.specs.Prelude.{◌≡◌, ◌+◌, ◌==◌, take};
+ghost use Rattle.std.specs.List.{count_by};
+
+/// The number of the line in which the byte at an offset stands, from 1.
+pub fn line_at(text: &[u8], offset: usize) -> usize
+    ensures { result ≡ 1 + count_by (λ byte. byte == 10) (take offset text.now) }
+{
+    let front = match text.get(..offset) {
+        Some(front) => front,
+        None => text,
+    };
+    front.iter().filter(|byte| **byte == b'\n').count() + 1
+}
