@@ -1,0 +1,89 @@
+//! `db`, `plan` and `replay`, on the database of a file or at the front of standard input.
+use crate::hints::{behind_database, tell_file};
+use crate::terminal::Typed;
+use rc_asked::DbRequest;
+use rc_hints::Told;
+use rc_queries::{db_as_asked, plan_as_asked, replay_as_asked};
+use rc_select::Request;
+use rc_streams::Noted;
+use std::{fs, io};
+
+/// The bytes of the file of `-b`, if one is named.
+pub fn base_at(rt: &HostRuntime, file: Option<&str>) -> io::Result<Option<Vec<u8>>> {
+    match file {
+        Some(path) => Ok(Some(fs::read(rt, path)?)),
+        None => Ok(None),
+    }
+}
+
+/// Answers a question about a database, and gives the status.
+pub fn db(rt: &HostRuntime, request: &DbRequest<'_>, file: Option<&str>) -> u8 {
+    let base = match base_at(rt, file) {
+        Ok(base) => base,
+        Err(error) => return tell_file(rt, file.unwrap_or(""), &error),
+    };
+    let mut told = Told::new(rt.alloc(), rt.stderr());
+    let status = db_as_asked(
+        rt.alloc(),
+        request,
+        base.as_deref(),
+        &mut Noted::new(Typed::new(rt, Some("the database"))),
+        &mut Noted::new(rt.stdout()),
+        &mut told,
+    );
+    behind_database(rt, file, base.as_deref(), &told);
+    status
+}
+
+/// Prints the plan of a change, and gives the status.
+pub fn plan(rt: &HostRuntime, request: &Request, file: Option<&str>) -> u8 {
+    let base = match base_at(rt, file) {
+        Ok(base) => base,
+        Err(error) => return tell_file(rt, file.unwrap_or(""), &error),
+    };
+    let mut told = Told::new(rt.alloc(), rt.stderr());
+    let status = plan_as_asked(
+        rt.alloc(),
+        request,
+        base.as_deref(),
+        &mut Noted::new(Typed::new(rt, Some(plan_input(file)))),
+        &mut Noted::new(rt.stdout()),
+        &mut told,
+    );
+    behind_database(rt, file, base.as_deref(), &told);
+    status
+}
+
+/// Prints what a script comes to, and gives the status.
+pub fn replay(rt: &HostRuntime, file: Option<&str>) -> u8 {
+    let base = match base_at(rt, file) {
+        Ok(base) => base,
+        Err(error) => return tell_file(rt, file.unwrap_or(""), &error),
+    };
+    let mut told = Told::new(rt.alloc(), rt.stderr());
+    let status = replay_as_asked(
+        rt.alloc(),
+        base.as_deref(),
+        &mut Noted::new(Typed::new(rt, Some(replay_input(file)))),
+        &mut Noted::new(rt.stdout()),
+        &mut told,
+    );
+    behind_database(rt, file, base.as_deref(), &told);
+    status
+}
+
+/// What `plan` reads.
+fn plan_input(file: Option<&str>) -> &'static str {
+    match file {
+        Some(_) => "the names of what is up",
+        None => "the database and the names of what is up",
+    }
+}
+
+/// What `replay` reads.
+fn replay_input(file: Option<&str>) -> &'static str {
+    match file {
+        Some(_) => "the script",
+        None => "the database and the script",
+    }
+}

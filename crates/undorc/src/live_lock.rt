@@ -1,0 +1,121 @@
+//! The lock of the file in which a session is kept, so that one program at a time goes on with it.
+//! It is a lock on a file beside it, which is made where it is missing, and stays.
+
+use crate::replaced_file::place;
+use std::fs::{self, File, TryLockError};
+use std::io::{self, ErrorKind};
+use std::thread;
+use std::time::Duration;
+
+/// How often a program that does not wait asks again while others only look.
+const TURNS: u32 = 100;
+/// The pause before it does, in milliseconds.
+const PAUSE: u64 = 10;
+
+/// Why a lock was not taken.
+#[derive(Drop)]
+pub enum LockFault {
+    /// Another program has it.
+    Busy,
+    Failed(io::Error),
+}
+
+impl From<io::Error> for LockFault {
+    fn from(error: io::Error) -> LockFault {
+        LockFault::Failed(error)
+    }
+}
+
+/// A lock, held until it is dropped, or the program ends, in whatever way. Programs that it starts
+/// do not have it.
+#[derive(Drop)]
+pub struct LiveLock {
+    file: File,
+}
+
+impl LiveLock {
+    /// The lock of a program that goes on with the session of this file, which no other may have.
+    /// None: a device or a folder stands there, in which no session is kept.
+    pub fn take(rt: &HostRuntime, path: &str, waits: bool) -> Result<Option<LiveLock>, LockFault> {
+        let Some(file) = lock_file(rt, path)? else {
+            return Ok(None);
+        };
+        if waits {
+            file.lock()?;
+        } else {
+            take_now(rt, &file)?;
+        }
+        Ok(Some(LiveLock { file }))
+    }
+
+    /// The lock of a program that only looks, which others that do may have, too. None: there is
+    /// nothing to lock, or none of a lock can be had, as where the folder may not be written.
+    pub fn share(rt: &HostRuntime, path: &str, waits: bool) -> Result<Option<LiveLock>, LockFault> {
+        let Ok(Some(file)) = lock_file(rt, path) else {
+            return Ok(None);
+        };
+        if waits {
+            file.lock_shared()?;
+        } else if !is_taken(file.try_lock_shared())? {
+            return Err(LockFault::Busy);
+        }
+        Ok(Some(LiveLock { file }))
+    }
+}
+
+/// The file that is locked for this one. None: what stands there is no plain file.
+fn lock_file(rt: &HostRuntime, path: &str) -> io::Result<Option<File>> {
+    if path.is_empty() {
+        return Err(io::Error::from(ErrorKind::NotFound));
+    }
+    match fs::metadata(rt, path) {
+        Ok(found) if !found.is_file() => return Ok(None),
+        Ok(_) => {}
+        Err(error) if error.kind() == ErrorKind::NotFound => {}
+        Err(error) => return Err(error),
+    }
+    let place = place(rt, path)?;
+    let mut beside = place.as_str().to_string(rt.alloc())?;
+    beside.push_str(".lock")?;
+    Ok(Some(open_lock(rt, beside.as_str())?))
+}
+
+/// Opens the file that is locked, and makes it where it is missing. It is no stream of the program,
+/// also where one of those was closed: its number is above theirs.
+fn open_lock(rt: &HostRuntime, path: &str) -> io::Result<File> {
+    let opened = match File::open(rt, path) {
+        Ok(file) => file,
+        Err(error) if error.kind() == ErrorKind::NotFound => {
+            let mut options = File::options();
+            options.write(true).create(true);
+            options.open(rt, path)?
+        }
+        Err(error) => return Err(error),
+    };
+    opened.try_clone()
+}
+
+/// Takes a lock, unless another program has it. Those that only look let it go soon, so they are
+/// waited for a while.
+fn take_now(rt: &HostRuntime, file: &File) -> Result<(), LockFault> {
+    for _ in 0..TURNS {
+        if is_taken(file.try_lock())? {
+            return Ok(());
+        }
+        if !is_taken(file.try_lock_shared())? {
+            return Err(LockFault::Busy);
+        }
+        file.unlock()?;
+        thread::sleep(rt, Duration::from_millis(PAUSE));
+    }
+    Err(LockFault::Busy)
+}
+
+/// Whether a lock that was asked for was taken.
+fn is_taken(asked: Result<(), TryLockError>) -> io::Result<bool> {
+    match asked {
+        Ok(()) => Ok(true),
+        Err(TryLockError::WouldBlock) => Ok(false),
+        Err(TryLockError::Error(error)) => Err(error),
+    }
+}

@@ -1,0 +1,115 @@
+//! Files that are replaced whole, so that whoever looks at any moment, also behind a program that
+//! was killed, finds the old bytes or the new ones.
+use std::fs::{self, File, OpenFile, Permissions};
+use std::io::{self, ErrorKind, Write};
+use std::path::PathBuf;
+
+/// The most links that are followed from a path to a file.
+const MAX_LINKS: usize = 40;
+
+/// Replaces what stands at a path, which may lead through links, and to nothing yet. A device or a
+/// pipe is written as it is.
+pub fn replace(rt: &HostRuntime, path: &str, bytes: &[u8]) -> io::Result<()> {
+    match fs::metadata(rt, path) {
+        Ok(found) => {
+            if found.is_file() {
+                return put(rt, path, Some(found.permissions()), bytes);
+            }
+            write_through(rt, path, bytes)
+        }
+        Err(error) => {
+            if error.kind() == ErrorKind::NotFound {
+                return put(rt, path, None, bytes);
+            }
+            Err(error)
+        }
+    }
+}
+
+/// Writes into what stands there.
+fn write_through(rt: &HostRuntime, path: &str, bytes: &[u8]) -> io::Result<()> {
+    let mut file = File::options().write(true).open(rt, path)?;
+    file.write_all(bytes)
+}
+
+/// Puts a file of these bytes, with these rights, in the place of the one that is there, if one is.
+fn put(rt: &HostRuntime, path: &str, rights: Option<Permissions>, bytes: &[u8]) -> io::Result<()> {
+    let place = place(rt, path)?;
+    let mut beside = place.as_str().to_string(rt.alloc())?;
+    beside.push_str(".new")?;
+    clear(rt, &beside)?;
+    let put = rename_over(rt, &place, &beside, rights, bytes);
+    if put.is_err() {
+        let _ = clear(rt, &beside);
+    }
+    put
+}
+
+/// Where a path leads, through links.
+pub fn place(rt: &HostRuntime, path: &str) -> io::Result<PathBuf> {
+    let mut place = PathBuf::from_str(rt.alloc(), path)?;
+    for _ in 0..MAX_LINKS {
+        if !is_link(rt, &place)? {
+            return Ok(place);
+        }
+        let next = place.read_link(rt)?;
+        place.pop();
+        place.push(&next)?;
+    }
+    Err(io::Error::from(ErrorKind::InvalidInput))
+}
+
+/// Whether a link stands there. Where that can't be seen, what stands there is not to be replaced.
+fn is_link(rt: &HostRuntime, path: &PathBuf) -> io::Result<bool> {
+    match fs::symlink_metadata(rt, path) {
+        Ok(found) => Ok(found.is_symlink()),
+        Err(error) => {
+            if error.kind() == ErrorKind::NotFound {
+                return Ok(false);
+            }
+            Err(error)
+        }
+    }
+}
+
+/// Removes a file, if it is there.
+fn clear(rt: &HostRuntime, path: &str) -> io::Result<()> {
+    match fs::remove_file(rt, path) {
+        Ok(()) => Ok(()),
+        Err(error) => {
+            if error.kind() == ErrorKind::NotFound {
+                return Ok(());
+            }
+            Err(error)
+        }
+    }
+}
+
+/// Writes the bytes beside the place, and renames the file over it.
+fn rename_over(
+    rt: &HostRuntime,
+    place: &PathBuf,
+    beside: &str,
+    rights: Option<Permissions>,
+    bytes: &[u8],
+) -> io::Result<()> {
+    let mut file = File::create_new(rt, beside)?;
+    if let Some(rights) = rights {
+        file.set_permissions(rights)?;
+    }
+    file.write_all(bytes)?;
+    file.sync_all()?;
+    drop(file);
+    fs::rename(rt, beside, place)?;
+    sync_folder(rt, place)
+}
+
+/// Has the new name of the file reach the disk.
+fn sync_folder(rt: &HostRuntime, place: &PathBuf) -> io::Result<()> {
+    let folder = match place.parent() {
+        Some(parent) => parent.as_str(),
+        None => "",
+    };
+    let folder = if folder.is_empty() { "." } else { folder };
+    File::open(rt, folder)?.sync_all()
+}
