@@ -32,8 +32,10 @@ count() {
 count rt ci
 count sh tests/edits.sh
 count sh tests/program.sh crates/undorc/out/undorc
+count sh tests/fuzz.sh 30 1 crates/undorc/out/undorc
 if [ -f crates/undorc/out/undorc.by-rattle ]; then
     count sh tests/program.sh crates/undorc/out/undorc.by-rattle
+    count sh tests/fuzz.sh 30 1000000 crates/undorc/out/undorc.by-rattle
 fi
 
 # What it cost: the clock, and of the processors user and system time of the last line of `times`.

@@ -238,8 +238,22 @@ printf '\377' > wrong/a/up
 fails 1 'NotText a' wrong
 head -c 65537 /dev/zero | tr '\0' 'x' > wrong/a/up
 fails 1 'TooLong a' wrong
-ln -sf /dev/zero wrong/a/up
-fails 1 'TooLong a' wrong
+
+# What is no plain file is not opened: a pipe, a socket or a device is a fault, and nobody is waited for.
+for file in up type down timeout-up dependencies; do
+    tree fifos
+    oneshot fifos/a
+    rm -f "fifos/a/$file"
+    mkfifo "fifos/a/$file"
+    expect 111 '' 'undorc: Io a\n' '' compile fifos
+    rm "fifos/a/$file"
+    ln -s /dev/null "fifos/a/$file"
+    fails 111 'Io a' fifos
+done
+tree fifos
+oneshot fifos/a
+mkfifo fifos/a/event fifos/a/flag-essential
+compiles "${one}service a oneshot essential 0 0\\nneeds\\nup 2\\nup\\ndown -\\n$last" fifos
 rm wrong/a/up
 printf up > wrong/a/up
 printf 1s > wrong/a/timeout-up
@@ -414,7 +428,7 @@ wrong compile
 wrong compile -x
 wrong compile empty -b base
 wrong compile --help
-says '^Usage: undorc compile <SOURCE>\.\.\.$'
+says '^Usage: undorc compile \[OPTIONS\] <SOURCE>\.\.\.$'
 wrong compile "$strange"
 says '^undorc: a word of the command line is not UTF-8$'
 tree ./-x

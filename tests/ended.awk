@@ -24,21 +24,21 @@ function text_of(file,  text) {
     if (file !~ /^(whole|text)\./) delete texts[file]
     return text
 }
-# The transitions that a run tells as not started, in the order of their names; what else it tells is
-# `fault`.
+# The transitions that a run tells as not started, in the order of their names; what it tells beside
+# those that are started and end well is `fault`.
 function not_started(told,  many, lines, i, j, list) {
     many = split(told, lines, "\n")
     fault = ""
     for (i = 1; i < many; i++) {
-        if (lines[i] ~ /^\[WARN  undorc\] (up|down) [a-z]: nostart$/) lines[i] = substr(lines[i], 16)
-        else fault = fault lines[i] "\n"
+        if (lines[i] ~ /^undorc: +[0-9]+\.[0-9]+ s  (up|down) [a-z]: (started|ok|not started)$/) sub(/^.* s  /, "", lines[i])
+        else if (fault !~ /^undorc: / || lines[i] !~ /^  /) fault = fault lines[i] "\n"
     }
     fault = many ? fault lines[many] : ""
     sub(/\n$/, "", fault)
     for (i = 97; i < 123; i++)
         for (j = 1; j < many; j++)
-            if (lines[j] ~ sprintf("^(up|down) %c: nostart$", i)) {
-                sub(/: nostart/, "", lines[j])
+            if (lines[j] ~ sprintf("^(up|down) %c: not started$", i)) {
+                sub(/: not started/, "", lines[j])
                 sub(/ /, ":", lines[j])
                 list = list "," lines[j]
             }

@@ -21,9 +21,16 @@ with() {
     printf '%s' "$sample" | sed "s/$1/$2/"
 }
 
-# judge WHAT STATUS: the files `status`, `out` and `err` against what is wanted.
+# firsts FILE: what was told, without the lines that stand behind a fault and help; they begin with two spaces.
+firsts() {
+    sed '/^undorc: /,$ { /^  /d; }' "$1"
+}
+
+# judge WHAT STATUS: the files `status`, `out` and `err` against what is wanted, without what helps behind a fault.
 judge() {
     read -r ended < status
+    firsts err > err.firsts
+    mv err.firsts err
     if [ "$ended" -eq "$2" ] && cmp -s out out.wanted && cmp -s err err.wanted; then
         passed=$((passed + 1))
         return
@@ -116,6 +123,12 @@ ends() {
     judge "$1" "$2"
 }
 
+# timeless FILE: it without the times of what -v tells
+timeless() {
+    sed 's/^undorc: *[0-9][0-9]*\.[0-9][0-9][0-9] s  //' "$1" > "$1.timeless"
+    mv "$1.timeless" "$1"
+}
+
 # preloads NAME: makes the library tests/NAME.c, which `numbered` puts before the C library.
 preloads() {
     preload=$room/$1.so
@@ -143,13 +156,13 @@ numbered() {
 ended() {
     [ "$number" -ge "$1" ] || echo "only $number runs"
     shift
-    for told in $(grep -ls ': nostart$' err.*); do
-        key=$(sed -n 's/^\[WARN  undorc\] \(.*\) \(.\): nostart$/\1:\2/p' "$told" | sort -t : -k 2 | tr '\n' ,)
+    for told in $(grep -ls ': not started$' err.*); do
+        key=$(sed -n 's/^undorc: .* s  \(.*\) \(.\): not started$/\1:\2/p' "$told" | sort -t : -k 2 | tr '\n' ,)
         [ -e "whole.${key%,}" ] || expects "${key%,}"
     done
     awk -v "runs=$number" "$@" -f "$here/ended.awk"
     find . -name '*.new'
-    [ "$file" != link ] || find . -name 'live.*' ! -type l
+    [ "$file" != link ] || find . -name 'live.*' ! -name '*.lock' ! -type l
     find . ! -name . -prune \( -name '*.new' -o -name '[eosl]*.[0-9]*' -o -name 'place.*' \) -exec rm -f {} +
 }
 

@@ -22,7 +22,7 @@ if [ -e bad ] && [ "$failed" -eq 0 ]; then
     echo 'FAILED: the rows of text were not run to their end'
 fi
 
-for topic in words inputs sessions scripts live devices keeping memory drawn; do
+for topic in words inputs bounds messages sessions scripts starting live locking oneshots devices keeping memory drawn; do
     . "$here/outside/$topic.sh"
 done
 . "$here/compile.sh"

@@ -155,7 +155,8 @@ served() {
 # same STATUS FAULT OUTPUT: counts the run before where it is not so.
 same() {
     printf '%b' "$2" > err.wanted
-    if [ "$ended" -ne "$1" ] || ! cmp -s err err.wanted || ! cmp -s out "$3"; then
+    firsts err > err.firsts
+    if [ "$ended" -ne "$1" ] || ! cmp -s err.firsts err.wanted || ! cmp -s out "$3"; then
         unlike=$((unlike + 1))
     fi
 }
@@ -260,7 +261,7 @@ failing() {
         else
             well=0
             if [ "$ended" -ne 111 ] || [ -s out ]; then unlike=$((unlike + 1)); fi
-            cat err >> told
+            firsts err >> told
         fi
     done
     [ "$made" -lt 500 ] || unlike=$((unlike + 1))

@@ -15,9 +15,9 @@ while read -r line; do
     for length in $(seq "$end" $((next - 1))); do
         head -c "$length" base > in
         "$program" plan < in > out 2> err || true
-        [ "$(cat out err)" = "undorc: Bad $at" ] || cut=$((cut + 1))
+        [ "$(cat out && firsts err)" = "undorc: Bad $at" ] || cut=$((cut + 1))
         "$program" db -b in check > out 2> err || true
-        [ "$(cat out err)" = "undorc: Bad $at" ] || cut=$((cut + 1))
+        [ "$(cat out && firsts err)" = "undorc: Bad $at" ] || cut=$((cut + 1))
     done
     end=$next
 done < base

@@ -23,7 +23,7 @@ failing() {
         numbered session -b base -v -w 2
         read -r ended < "status.$number"
         well=$((well + 1))
-        if [ "$ended" -ne 0 ] || [ -s "err.$number" ]; then well=0; fi
+        if [ "$ended" -ne 0 ] || grep -q ': not started$' "err.$number"; then well=0; fi
     done
     eval "$device="
     for left in ./*.new; do

@@ -142,7 +142,7 @@ for text in "$kept" "$older"; do
     for bytes in $(seq 0 $((length - 1))); do
         head -c "$bytes" whole > live
         "$program" session -b base -x none -l live < /dev/null > out 2> err && unlike=$((unlike + 1))
-        cmp -s err "told.$bytes" || unlike=$((unlike + 1))
+        firsts err | cmp -s - "told.$bytes" || unlike=$((unlike + 1))
         [ "$(wc -c < live)" -eq "$bytes" ] || unlike=$((unlike + 1))
         rm "told.$bytes"
     done
@@ -298,7 +298,7 @@ for moment in $(seq 100); do
         continue
     fi
     cmp -s live "text.$answered" || cmp -s live "text.$((answered + 1))" || unlike=$((unlike + 1))
-    "$program" session -b base -x none -l live < /dev/null > out 2> err || unlike=$((unlike + 1))
+    "$program" session -b base -x none -l live -W < /dev/null > out 2> err || unlike=$((unlike + 1))
     [ ! -e live.new ] || unlike=$((unlike + 1))
 done
 [ "$cut" -gt 3 ] || unlike=$((unlike + 1))

@@ -84,10 +84,12 @@ kept='' ARMED=0
 sweep 200 "$ample$memory" '-v answers=1 -v kept=1 -v fresh=1' session -b base
 
 # Each start of a thread is refused. Nothing of the change was moved then, whatever was started before.
+# Of the workers, of whom no more work than the three services that move, one is no thread of its own.
 printf '%s\n' 'change b c' undo > in
 expects none
 kept=$(cat text.none.0)
-for workers in 1 2 3; do
+for workers in 1 2 3 4; do
+    threads=$((workers < 3 ? workers - 1 : 2))
     number=0 started=1
     while [ "$number" -le "$started" ] && [ "$number" -lt 100 ]; do
         number=$((number + 1))
@@ -95,8 +97,8 @@ for workers in 1 2 3; do
         lacking session -b base -v -w "$workers"
     done
     THREAD=0
-    [ "$number" -eq $((2 * workers + 1)) ] || echo "$workers workers, and $number runs"
-    ended 2 -v faults=NoThread -v answers=1 -v scripts=1 -v kept=1
+    [ "$number" -eq $((2 * threads + 1)) ] || echo "$workers workers, and $number runs"
+    ended 1 -v faults=NoThread -v answers=1 -v scripts=1 -v kept=1
 done > said
 sort -u said > out
 : > err

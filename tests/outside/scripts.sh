@@ -39,6 +39,17 @@ session() {
     expect 0 "$writes" "$tells" "$reads" session -b made "$@"
 }
 
+# tells ANSWERS EVENTS LINES WORDS..: such a session with -v, and what it tells but for the times
+tells() {
+    wants "$1" "$2"
+    printf '%b' "$3" > in
+    shift 3
+    "$program" compile tree > made
+    runs session -b made -v "$@"
+    timeless err
+    judge "undorc session -b made -v $*" 0
+}
+
 # same WHAT: what a script left, in the files `left` and `left.wanted`
 same() {
     passed=$((passed + 1))
@@ -72,25 +83,28 @@ oneshot late 'exit 124'
 oneshot shut 'exit 126'
 oneshot missing 'exit 127'
 answers='raised empty good\nfailed killed late missing most shut three\nok\n'
-told='[WARN  undorc] up killed: failed 255\n[WARN  undorc] up late: failed 124\n[WARN  undorc] up missing: failed 127\n'
-told="$told"'[WARN  undorc] up most: failed 255\n[WARN  undorc] up shut: failed 126\n[WARN  undorc] up three: failed 3\n'
 all='change empty good killed late missing most shut three\n'
-for workers in 1 2 64; do
+# told_by WORKERS EVENT..: what -v tells of that change, by so many: NAME:HOW of each
+told_by() {
+    workers=$1
+    shift
     session "$answers" '' "$all" -w "$workers"
-    "$program" session -b made -v -w "$workers" < in 2>&1 > out | sort > left
-    printf '%b' "$told" > left.wanted
-    same "what is told of scripts that fail, by $workers"
+    for event; do printf 'up %s: %s\nup %s: started\n' "${event%%:*}" "${event#*:}" "${event%%:*}"; done | sort > left.wanted
+    "$program" session -b made -v -w "$workers" < in 2> left > out
+    timeless left
+    sort -o left left
+    same "what is told of scripts that end so, by $workers: $*"
+}
+for workers in 1 2 64; do
+    told_by "$workers" empty:ok good:ok 'killed:failed 255' 'late:failed 124' 'missing:failed 127' \
+        'most:failed 255' 'shut:failed 126' 'three:failed 3'
 done
 
 # Under a limit some statuses tell that a script took too long, or could not be started.
 for name in good empty three most killed late shut missing; do limit $name 5000; done
-told='[WARN  undorc] up killed: failed 255\n[WARN  undorc] up late: timeout\n[WARN  undorc] up missing: nostart\n'
-told="$told"'[WARN  undorc] up most: failed 255\n[WARN  undorc] up shut: nostart\n[WARN  undorc] up three: failed 3\n'
 for workers in 1 2 64; do
-    session "$answers" '' "$all" -w "$workers"
-    "$program" session -b made -v -w "$workers" < in 2>&1 > out | sort > left
-    printf '%b' "$told" > left.wanted
-    same "what is told of scripts that fail under a limit, by $workers"
+    told_by "$workers" empty:ok good:ok 'killed:failed 255' 'late:timed out' 'missing:not started' \
+        'most:failed 255' 'shut:not started' 'three:failed 3'
 done
 
 # Limits, rounded up to seconds. At one a script is asked to end, and some seconds later it is ended.
@@ -110,7 +124,7 @@ done
 begin_tree
 oneshot loop 'while :; do :; done'
 limit loop 1
-session 'failed loop\nok\nrefused NothingToUndo\n' '[WARN  undorc] up loop: timeout\n' 'change loop\nundo\n' -v
+tells 'failed loop\nok\nrefused NothingToUndo\n' 'up loop: started\nup loop: timed out\n' 'change loop\nundo\n'
 
 # A child that a script leaves behind is not waited for, though it holds the script's output.
 begin_tree
@@ -128,7 +142,7 @@ for limit in 0 3000; do
 done
 
 # What a script writes goes nowhere, and what it reads is nothing: lines of the session stay its own. Under -v what it writes
-# as errors goes where this program's go.
+# goes where this program's errors go.
 begin_tree
 oneshot writes 'head -c 100000000 /dev/zero; head -c 100000000 /dev/zero >&2'
 oneshot reads 'wc -c > count'
@@ -141,7 +155,7 @@ for workers in 1 64; do
     same "what a script reads, by $workers"
 done
 session 'raised says\nok\n' '' 'change says\n'
-session 'raised says\nok\n' 'err\n' 'change says\n' -v
+tells 'raised says\nok\n' 'up says: started\nout\nerr\nup says: ok\n' 'change says\n'
 
 # Where it runs, in which environment, and that no other file is open there.
 begin_tree
@@ -173,8 +187,11 @@ for words in './note a b' ' ./note  a	b ' '/bin/sh ./note a b'; do
 done
 for limit in 0 1000; do
     limit one $limit
-    for words in /nonexistent '' ' ' "$PWD/made" "$PWD"; do
-        session 'failed one\nok\n' '[WARN  undorc] up one: nostart\n' 'change one\n' -v -r "$words"
+    for words in /nonexistent "$PWD/made" "$PWD"; do
+        tells 'failed one\nok\n' 'up one: started\nup one: not started\n' 'change one\n' -r "$words"
+    done
+    for words in '' ' '; do
+        tells 'failed one\nok\n' 'up one: not started\n' 'change one\n' -r "$words"
     done
 done
 
@@ -183,9 +200,10 @@ begin_tree
 oneshot one 'echo up >> log'
 rm -f log
 session 'raised one\nok\nlowered one\nok\n' '' 'change one\nundo\n'
-session 'failed one\nok\nok\n' '[WARN  undorc] up one: nostart\n' 'change one\n-d change one\n' -v -r /nonexistent
+tells 'failed one\nok\nok\n' 'up one: started\nup one: not started\n' 'change one\n-d change one\n' -r /nonexistent
+tells 'raised one\nok\nlowered one\nok\n' 'up one: started\nup one: ok\ndown one: ok\n' 'change one\nundo\n'
 down one 'exit 5'
-session 'raised one\nok\nfailed one\nok\n' '[WARN  undorc] down one: failed 5\n' 'change one\nundo\n' -v
+tells 'raised one\nok\nfailed one\nok\n' 'up one: started\nup one: ok\ndown one: started\ndown one: failed 5\n' 'change one\nundo\n'
 
 # The shell goes on behind a line that fails, but for its last one; with -e it does not.
 begin_tree
@@ -193,7 +211,7 @@ oneshot one 'false
 true'
 session 'raised one\nok\n' '' 'change one\n'
 session 'raised one\nok\n' '' 'change one\n' -r '/bin/sh -c'
-session 'failed one\nok\n' '[WARN  undorc] up one: failed 1\n' 'change one\n' -v -r '/bin/sh -ec'
+tells 'failed one\nok\n' 'up one: started\nup one: failed 1\n' 'change one\n' -r '/bin/sh -ec'
 
 # The controller moves longruns; none by itself.
 begin_tree
@@ -206,9 +224,9 @@ for words in './note x' '/bin/sh ./note x'; do
     cp noted left
     same "the words of the controller '$words'"
 done
-session 'failed db\nblocked web\nok\n' '[WARN  undorc] up db: nostart\n' 'change web\n' -v
-session 'failed db\nblocked web\nok\n' '[WARN  undorc] up db: nostart\n' 'change web\n' -v -c ' '
-session 'failed db\nblocked web\nok\n' '[WARN  undorc] up db: failed 1\n' 'change web\n' -v -c false -r true
+tells 'failed db\nblocked web\nok\n' 'up db: not started\n' 'change web\n'
+tells 'failed db\nblocked web\nok\n' 'up db: not started\n' 'change web\n' -c ' '
+tells 'failed db\nblocked web\nok\n' 'up db: started\nup db: failed 1\n' 'change web\n' -c false -r true
 cat > control <<'END'
 #!/bin/sh
 case $1 in
@@ -224,12 +242,14 @@ expect 0 'live\nok\n' '' "${sample}live\n" session
 expect 0 'raised net root\nok\n' '' "${sample}change net\n" session -w 4
 expect 0 'raised net root\nfailed db log\nblocked web\nok\n' '' "${sample}change site\n" session
 
-# With -x nothing is started, whatever -r and -c hold; what fails by its list is told under -v, too.
+# With -x nothing is started, whatever -r and -c hold; how each transition ends is told under -v all the same, at the moment 0.
 begin_tree
 oneshot one 'touch started'
 longrun two one
-session 'raised one two\nok\nfailed two\nblocked one\nok\n' '[WARN  undorc] down two: failed 1\n' 'change two\nundo\n' -v -x down:two
-session 'raised one two\nok\n' '' 'change two\n' -x none -r ./note -c ./note -v
+told='undorc:    0.000 s  up one: ok\nundorc:    0.000 s  up two: ok\n'
+session 'raised one two\nok\nfailed two\nblocked one\nok\n' "${told}undorc:    0.000 s  down two: failed 1\n" \
+    'change two\nundo\n' -v -x down:two
+session 'raised one two\nok\n' "$told" 'change two\n' -x none -r ./note -c ./note -v
 holds 'with -x nothing is started' test ! -e started
 
 # Two that wait for each other: the number of -w is the one that serves.
@@ -244,7 +264,7 @@ for workers in 2 3 64; do
     session 'raised a b\nok\n' '' 'change a b\n' -w "$workers"
 done
 rm -f come.*
-session 'raised b\nfailed a\nok\n' '[WARN  undorc] up a: failed 9\n' 'change a b\n' -v -w 1
+tells 'raised b\nfailed a\nok\n' 'up a: started\nup a: failed 9\nup b: started\nup b: ok\n' 'change a b\n' -w 1
 begin_tree
 for i in 1 2 3 4 5; do
     oneshot "s$i" "touch come.$i; n=0
@@ -310,17 +330,25 @@ wants 'failed one\nok\n' 'undorc: Write\n'
 ends 'a session that starts scripts, whose answers nobody reads' 111
 
 # Where a worker can't be started no script is run: an address space has room for some of 64 stacks.
+# No more workers work than there are services to move, and the session is one of them.
 begin_tree
-for i in 1 2 3 4 5 6 7 8; do oneshot "s$i" 'touch started'; done
+all=$(seq 64 | sed 's/^/s/' | LC_ALL=C sort | tr '\n' ' ')
+all=${all% }
+for name in $all; do oneshot "$name" 'touch started'; done
 "$program" compile tree > made
-printf 'change s1 s2 s3 s4 s5 s6 s7 s8\nlive\n' > in
+printf 'change %s\nlive\n' "$all" > in
 rm -f started
 wants '' 'undorc: NoThread\n'
 echo 0 > status
 (ulimit -v 200000 && exec "$program" session -b made -w 64 < in > out 2> err) || echo $? > status
 judge 'a session that lacks room for 64 workers' 111
 holds 'without its workers it starts nothing' test ! -e started
-wants 'raised s1 s2 s3 s4 s5 s6 s7 s8\nok\nlive s1 s2 s3 s4 s5 s6 s7 s8\nok\n' ''
+wants "raised $all\nok\nlive $all\nok\n" ''
 echo 0 > status
 (ulimit -v 200000 && exec "$program" session -b made -w 1 < in > out 2> err) || echo $? > status
 judge 'and has room for one' 0
+printf 'change s1\nlive\n' > in
+wants 'raised s1\nok\nlive s1\nok\n' ''
+echo 0 > status
+(ulimit -v 200000 && exec "$program" session -b made -w 64 < in > out 2> err) || echo $? > status
+judge 'and for a change of one by any number' 0

@@ -1,0 +1,178 @@
+# The lock of the file of `session -l`: one program at a time. tests/program.sh reads this file; the functions that make
+# definitions stand in scripts.sh.
+mkdir locks
+cd locks
+names='s0 s1 s2 s3 s4 s5 s6 s7 s8 s9'
+begin_tree
+for name in $names; do oneshot "$name" 'sleep 0.1'; done
+"$program" compile tree > base
+
+# at_once WORDS..: ten sessions at once, of a line each; each leaves its answer, what it told and its status
+at_once() {
+    rm -f live ./*.out ./*.err ./*.status
+    for name in $names; do
+        { echo 0 > "$name.status"; echo "change $name" | "$program" session -b base -l live "$@" > "$name.out" 2> "$name.err" || echo $? > "$name.status"; } &
+    done
+    wait
+}
+# found: the states of `live` as the names that came up, one after the other, in the order of the journal
+found() {
+    echo journal | "$program" session -b base -x none -l live | sed -n 's/^[0-9]* +//p'
+}
+
+# Ten that wait are all done, one after the other, in some order.
+at_once -W
+for name in $names; do
+    printf 'raised %s\nok\n' "$name" | cmp -s - "$name.out" || echo "$name: another answer"
+    [ ! -s "$name.err" ] || cat "$name.err"
+    [ "$(cat "$name.status")" -eq 0 ] || echo "$name: status $(cat "$name.status")"
+done > out
+found | sort | tr '\n' ' ' >> out
+echo >> out
+: > err
+echo 0 > status
+wants "$names \\n" ''
+judge 'ten sessions that wait for the file' 0
+
+# Of ten that do not wait each is done, or it is told that the file is in use, and then it did nothing.
+at_once
+found | sort > moved
+for name in $names; do
+    case $(cat "$name.status") in
+        0) printf 'raised %s\nok\n' "$name" | cmp -s - "$name.out" && [ ! -s "$name.err" ] && grep -qx "$name" moved || echo "$name: done otherwise" ;;
+        111) [ ! -s "$name.out" ] && echo 'undorc: Busy' | cmp -s - "$name.err" && ! grep -qx "$name" moved || echo "$name: refused otherwise" ;;
+        *) echo "$name: status $(cat "$name.status")" ;;
+    esac
+done > out
+[ -s moved ] || echo 'none was done' >> out
+wants '' ''
+judge 'ten sessions that do not wait for the file' 0
+
+# busy WHAT FILE: another session has it; nothing of the input is read, and nothing is done
+busy() {
+    echo 'change s2' > in
+    wants '' 'undorc: Busy\n'
+    echo 0 > status
+    { "$program" session -b base -x none -l "$2" > out 2> err || echo $? > status; cat > rest; } < in
+    cmp -s in rest || echo 'the input was read' >> err
+    judge "$1" 111
+}
+# A session has the file from before it reads it to its end, by whatever name; one that waits goes on from its end.
+rm -f live
+mkdir way
+ln -s ../live way/other
+ln -s live again
+begins -b base -x none -l live
+tell 'change s1'
+hear
+cp out heard
+busy 'a file that another session has' live
+busy 'the same by its whole path' "$PWD/live"
+busy 'the same by links' again
+busy 'the same by links through a folder' way/other
+printf 'change s3\nlive\n' > waiting
+"$program" session -b base -x none -l way/other -W < waiting > waited 2>&1 3>&- 4<&- &
+sleep 0.3
+cp waited out
+: > err
+echo 0 > status
+wants '' ''
+judge 'a session that waits answers nothing yet' 0
+exec 3>&-
+cat <&4 > out
+exec 4<&-
+wait
+wants 'raised s1\nok\nraised s3\nok\nlive s1 s3\nok\n' ''
+cat heard waited > out
+judge 'a session that waits goes on from the end of the other' 0
+wants '0 live.lock\n' ''
+stat -c '%s %n' ./*.lock way/*.lock 2> /dev/null | sed 's|\./||' > out
+judge 'one lock, which is empty and stays' 0
+
+# A link that leads nowhere yet has the lock of where it leads.
+rm -f live again
+ln -s live again
+begins -b base -x none -l again
+tell live
+hear
+busy 'a file that was made where a link leads' live
+exec 3>&-
+cat <&4 > out
+exec 4<&-
+wait
+
+# A session that is killed holds nothing any more, though its script goes on; nor does what a script leaves behind.
+begin_tree
+oneshot s1 'echo $$ > child; exec sleep 20'
+"$program" compile tree > slow
+begin_tree
+oneshot s1 'sleep 20 & echo $! > child'
+"$program" compile tree > leaves
+for base in slow leaves; do
+    rm -f live child
+    echo 'change s1' > in
+    ended=0
+    "$program" session -b "$base" -l live -v < in > out 2> err &
+    killed=$!
+    for turn in $(seq 100); do
+        [ ! -s child ] || break
+        sleep 0.05
+    done
+    [ "$base" = leaves ] || kill -KILL "$killed"
+    wait "$killed" 2> /dev/null || ended=$?
+    wants 'live\nok\n' ''
+    [ "$base" = slow ] || wants 'live s1\nok\n' ''
+    echo live > in
+    runs session -b "$base" -x none -l live
+    kill -0 "$(cat child)" || echo 'the script has ended' >> err
+    [ "$ended" -eq 0 ] || [ "$ended" -eq 137 ] || echo "it ended with $ended" >> err
+    judge "a lock is gone with its session, while a script goes on ($base)" 0
+    kill "$(cat child)"
+done
+base=
+
+# A lock is not taken where no session is kept, and none of the program's streams is the locked file.
+expect 111 '' 'undorc: Io\n' '' session -b slow -x none -l .
+expect 111 '' 'undorc: Io\n' '' session -b slow -x none -l ''
+expect 111 '' 'undorc: Io\n' '' session -b slow -x none -l nowhere/live
+expect 1 '' 'undorc: Bad 0\n' '' session -b slow -x none -l /dev/null
+find . /dev -maxdepth 1 -name '*.lock' ! -name live.lock > out
+: > err
+echo 0 > status
+wants '' ''
+judge 'no lock where no session is kept' 0
+rm -f live
+echo 'change s1' > in
+echo 0 > status
+"$program" session -b slow -x none -l live <&- > out 2> err || echo $? > status
+wants '' 'undorc: Read\n'
+judge 'a kept session whose input is closed' 111
+echo 0 > status
+"$program" session -b slow -x none -l live < in >&- 2> err || echo $? > status
+: > out
+wants '' 'undorc: Write\n'
+judge 'a kept session whose output is closed' 111
+rm -f live live.lock
+echo 0 > status
+"$program" session -b slow -x none -l live -v < in 2>&- > out || echo $? > status
+: > err
+wants 'raised s1\nok\n' ''
+judge 'a kept session whose standard error is closed' 0
+wants '0 live.lock\n' ''
+stat -c '%s %n' live.lock > out
+judge 'nothing was written into the locked file' 0
+
+# Who only looks is waited for, and who changes is not.
+if command -v flock > /dev/null; then
+    flock -s live.lock sleep 0.3 &
+    sleep 0.1
+    expect 0 'live s1\nok\n' '' 'live\n' session -b slow -x none -l live
+    wait
+    flock -x live.lock sleep 0.3 &
+    sleep 0.1
+    expect 111 '' 'undorc: Busy\n' 'live\n' session -b slow -x none -l live
+    expect 0 'live s1\nok\n' '' 'live\n' session -b slow -x none -l live -W
+    wait
+fi
+cd ..
+rm -r locks

@@ -1,0 +1,267 @@
+# What stands behind a fault: the mistakes of a newcomer, each with its first line, which scripts read, and with words
+# that must stand behind it, for people. tests/program.sh reads this file.
+mkdir messages
+cd messages
+
+# helps STATUS FIRST WORDS.. -- RUN..: a run without an input, which is refused with this line alone in front, and each of
+# these texts behind it, in a line that begins with two spaces.
+helps() {
+    wanted=$1
+    wants '' "$2"
+    shift 2
+    behind=
+    while [ "$1" != -- ]; do
+        behind="$behind$1
+"
+        shift
+    done
+    shift
+    : > in
+    runs "$@"
+    cp err all
+    judge "undorc $*" "$wanted"
+    printf '%s' "$behind" | while IFS= read -r text; do
+        grep -q -F -e "$text" all && sed -n '2,$p' all | grep -q '^  ' || echo "$text"
+    done > missed
+    passed=$((passed + 1))
+    if [ -s missed ]; then
+        passed=$((passed - 1))
+        failed=$((failed + 1))
+        echo "FAILED: undorc $*: there is no line behind the fault with"
+        cat missed
+        echo 'but:'
+        cat all
+    fi
+}
+
+# notes STATUS TEXT WORDS..: a run that succeeds and says this on standard error.
+notes() {
+    text=$1
+    shift
+    : > in
+    runs "$@"
+    read -r ended < status
+    passed=$((passed + 1))
+    if [ "$ended" -ne 0 ] || ! grep -q -x -F -e "$text" err; then
+        passed=$((passed - 1))
+        failed=$((failed + 1))
+        echo "FAILED: undorc $*: status $ended, and no line '$text' but:"
+        cat err
+    fi
+}
+
+# Sources without a fault: a oneshot, a longrun that needs it, and a bundle.
+newcomer() {
+    rm -rf services
+    mkdir -p services/disk services/web services/all
+    echo oneshot > services/disk/type
+    echo 'mkdir q' > services/disk/up
+    echo longrun > services/web/type
+    : > services/web/run
+    echo disk > services/web/dependencies
+    echo bundle > services/all/type
+    printf 'web\ndisk\n' > services/all/contents
+}
+
+# Windows line ends in each kind of file.
+newcomer
+printf 'longrun\r\n' > services/web/type
+helps 1 'undorc: BadType web\n' 'services/web/type:1:' '"longrun\r\n"' 'Windows line end' -- compile services
+newcomer
+printf '# needs\ndisk\r\n' > services/web/dependencies
+helps 1 'undorc: BadName web\n' 'services/web/dependencies:2: a name can'\''t hold byte 13 (a Windows line end?)' -- compile services
+newcomer
+printf 'web\r\n' > services/all/contents
+helps 1 'undorc: BadName all\n' 'services/all/contents:1:' 'Windows line end' -- compile services
+newcomer
+printf '5000\r\n' > services/disk/timeout-up
+helps 1 'undorc: BadTimeout disk\n' 'services/disk/timeout-up:1:' 'milliseconds' 'Windows line end' -- compile services
+newcomer
+printf 'mkdir q\r\n' > services/disk/up
+notes 'undorc: services/disk/up:1 has a carriage return (a Windows line end?)' compile -v services
+
+# Words that are none of those that may stand there.
+newcomer
+echo daemon > services/web/type
+helps 1 'undorc: BadType web\n' 'services/web/type:1: one of oneshot, longrun and bundle' '"daemon\n"' -- compile services
+newcomer
+echo 5s > services/disk/timeout-down
+helps 1 'undorc: BadTimeout disk\n' 'services/disk/timeout-down:1:' '"5s\n"' 'milliseconds' -- compile services
+newcomer
+: > services/disk/timeout-up
+helps 1 'undorc: BadTimeout disk\n' 'services/disk/timeout-up:1:' -- compile services
+
+# Names.
+newcomer
+echo 'web disk' > services/all/contents
+helps 1 'undorc: BadName all\n' 'services/all/contents:1: a name can'\''t hold a space (one name a line): "web disk"' -- compile services
+newcomer
+mkdir services/s6rc-x
+echo oneshot > services/s6rc-x/type
+helps 1 'undorc: BadName s6rc-x\n' 'services/s6rc-x' 'reserved' -- compile services
+newcomer
+mkdir 'services/my service'
+helps 1 'undorc: BadName my service\n' 'services/my service' 'a space' -- compile services
+newcomer
+echo longrun > services/disk/type
+: > services/disk/run
+printf 'a\nb\n' > services/web/producer-for
+helps 1 'undorc: BadName web\n' 'services/web/producer-for:2: one name may stand here' -- compile services
+newcomer
+echo dsk > services/web/dependencies
+helps 1 'undorc: UnknownIn web dsk\n' 'services/web/dependencies:1: nothing is named dsk; is disk meant?' -- compile services
+newcomer
+echo idsk > services/web/dependencies
+helps 1 'undorc: UnknownIn web idsk\n' 'is disk meant?' -- compile services
+newcomer
+echo 'web,disk' > services/all/contents
+helps 1 'undorc: UnknownIn all web,disk\n' 'services/all/contents:1: nothing is named web,disk' -- compile services
+mkdir more more/web
+newcomer
+helps 1 'undorc: Twice web\n' 'services/web and more/web have one name' -- compile services more
+
+# Files that are missing, or not what they are to be.
+newcomer
+rm services/web/type
+helps 1 'undorc: NoType web\n' 'services/web/type is missing: it holds oneshot, longrun or bundle' -- compile services
+newcomer
+mv services/web/type services/web/tpye
+helps 1 'undorc: NoType web\n' 'services/web/type is missing; services/web/tpye stands there' -- compile services
+newcomer
+rm services/disk/up
+helps 1 'undorc: NoUp disk\n' 'services/disk/up is missing' -- compile services
+newcomer
+rm services/web/run
+helps 1 'undorc: NoRun web\n' 'services/web/run is missing' -- compile services
+newcomer
+printf 'a\nb\377\n' > services/disk/up
+helps 1 'undorc: NotText disk\n' 'services/disk/up:2: the text is to be UTF-8' -- compile services
+newcomer
+printf 'a\n\nb\0\n' > services/disk/up
+helps 1 'undorc: NotText disk\n' 'services/disk/up:3: byte 0' -- compile services
+newcomer
+head -c 65537 /dev/zero | tr '\0' x > services/disk/up
+helps 1 'undorc: TooLong disk\n' 'services/disk/up has more than 65536 bytes' -- compile services
+newcomer
+rm services/disk/up
+mkfifo services/disk/up
+helps 111 'undorc: Io disk\n' 'services/disk/up: is a pipe' -- compile services
+newcomer
+rm services/disk/up
+mkdir services/disk/up
+helps 111 'undorc: Io disk\n' 'services/disk/up: is a directory' -- compile services
+newcomer
+: > services/web/dependencies.d
+helps 111 'undorc: Io web\n' 'services/web/dependencies.d: is no directory' -- compile services
+helps 111 'undorc: Io\n' 'nowhere: no such file or directory' -- compile nowhere
+helps 111 'undorc: Io\n' 'services/web/type: is no directory' -- compile services/web/type
+
+# Circles, and pipelines that do not fit together.
+newcomer
+echo all > services/disk/dependencies
+helps 1 'undorc: Cycle disk\n' 'services/disk/dependencies:1 names the bundle all, which holds disk' -- compile services
+newcomer
+echo web > services/disk/dependencies
+helps 1 'undorc: Cycle disk web\n' 'services/disk/dependencies:1 names web' 'services/web/dependencies:1 names disk' -- compile services
+newcomer
+mkdir services/site
+echo bundle > services/site/type
+echo all > services/site/contents
+echo site > services/all/contents
+helps 1 'undorc: BundleCycle all site\n' 'services/all/contents:1 names site' 'services/site/contents:1 names all' -- compile services
+newcomer
+echo disk > services/web/producer-for
+helps 1 'undorc: PipelineType web\n' 'services/web/producer-for names disk, and services/disk/type is no longrun' -- compile services
+newcomer
+mkdir services/log
+echo longrun > services/log/type
+: > services/log/run
+echo log > services/web/producer-for
+helps 1 'undorc: PipelineMismatch web\n' 'services/web/producer-for names log, and services/log/consumer-for does not name web' -- compile services
+echo web > services/log/consumer-for
+echo disk > services/log/pipeline-name
+helps 1 'undorc: PipelineName log\n' 'services/log/pipeline-name: services/disk has this name' -- compile services
+
+# What nothing was said of.
+newcomer
+notes 'undorc: services/web looks like an entry: name the directory above it' compile services/web
+echo disk > services/web/depends
+mkdir services/web/event services/web/data
+mv services/all/contents services/all/content
+notes 'undorc: services/web/depends is not looked at' compile -v services
+notes 'undorc: services/all/content is not looked at' compile -v services
+notes 'undorc: services/all is a bundle without contents' compile -v services
+: > in
+wants '' ''
+printf 'undorc: services/all/content is not looked at\nundorc: services/all is a bundle without contents\nundorc: services/web/depends is not looked at\n' > err.wanted
+runs compile -v services
+: > out
+judge 'compile -v tells no more than that' 0
+
+# A database in a file, which a refused run leaves as it was.
+newcomer
+expect 0 '' '' '' compile -o db services
+"$program" compile services > whole
+: > in
+wants '' ''
+cmp db whole > out 2>&1 || echo 'another database' >> out
+echo 0 > status
+: > err
+judge 'compile -o writes what compile prints' 0
+rm services/web/type
+helps 1 'undorc: NoType web\n' 'services/web/type is missing' -- compile -o db services
+cmp db whole > out 2>&1 || echo 'another database' >> out
+: > err
+echo 0 > status
+wants '' ''
+[ ! -e db.new ] || echo 'a draft is left' >> out
+judge 'a refused compile leaves the file alone' 0
+newcomer
+helps 111 'undorc: Io\n' 'nowhere/db: no such file or directory' -- compile -o nowhere/db services
+ln -s db linked
+chmod 640 db
+expect 0 '' '' '' compile -o linked services
+[ -L linked ] && [ "$(stat -c %a db)" = 640 ] || echo 'the link or the rights are gone' > out
+wants '' ''
+judge 'a link is followed, and rights stay' 0
+cp whole db
+
+# A database that is none.
+helps 111 'undorc: Io\n' 'nowhere: no such file or directory' -- db -b nowhere check
+helps 111 'undorc: Io\n' 'services: is a directory' -- db -b services check
+: > empty
+helps 1 'undorc: Bad 0\n' 'empty: an empty file is no database: undorc compile makes one' -- db -b empty check
+echo notes > other
+helps 1 'undorc: Bad 0\n' 'other is no database: undorc compile makes one' -- plan -b other web
+sed 's/$/\r/' whole > windows
+helps 1 'undorc: Bad 0\n' 'windows:1: this line has not the form that is due (a Windows line end?)' -- session -b windows -x none
+{ cat whole; echo; } > longer
+helps 1 "undorc: Bad $(wc -c < whole)\\n" 'nothing may stand behind the line' -- db -b longer check
+sed 's/plain/plane/' whole > plane
+helps 1 "undorc: Bad $(sed -n '1,2p' whole | wc -c)\\n" 'plane:3: this line has not the form' -- db -b plane check
+helps 1 'undorc: Bad 0\n' '-b FILE names one' -- plan web
+helps 1 'undorc: Unknown wbe\n' 'is web meant?' -- db -b db type wbe
+helps 1 'undorc: Unknown dis\n' 'is disk meant?' -- plan -b db dis
+helps 1 'undorc: NotAtomic\n' 'a bundle' -- db -b db timeout all
+helps 1 'undorc: PruneNeedsUp\n' '-p goes with' -- plan -b db -d -p web
+
+# Who has no right to read.
+if [ "$(id -u)" -eq 0 ] && command -v setpriv > /dev/null; then
+    newcomer
+    chmod 0 services/disk/up
+    chmod 755 .. .
+    cp "$program" ./undorc
+    echo 0 > status
+    : > out
+    setpriv --reuid 65534 --regid 65534 --clear-groups ./undorc compile services > out 2> err || echo $? > status
+    cp err all
+    wants '' 'undorc: Io disk\n'
+    judge 'a file without the right to read' 111
+    echo 0 > status
+    grep -q -x '  services/disk/up: permission denied' all || echo 1 > status
+    : > out
+    : > err
+    wants '' ''
+    judge 'which file, and that permission is denied' 0
+fi
+cd ..

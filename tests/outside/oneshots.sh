@@ -1,0 +1,146 @@
+# One-shot commands: how they end, that they answer and keep what a session of the same line does, and that
+# what only shows something writes nothing. tests/program.sh reads this file.
+mkdir oneshots
+cd oneshots
+printf '%b' "$sample" > base
+: > in
+
+# alike STATUS LIST LINE WORDS..: where these transitions fail, the command of these words ends so, and its
+# output and its file are those of a session of this one line
+alike() {
+    status=$1 list=$2 line=$3
+    shift 3
+    cp live other
+    printf '%s\n' "$line" | "$program" session -b base -x "$list" -l other > out.wanted 2> err.wanted || true
+    runs "$@" -b base -x "$list" -l live
+    cmp -s live other || echo 'the files differ' >> err
+    judge "undorc $* -x $list, as a session of one line" "$status"
+}
+
+# shows STATUS OUTPUT WORDS..: a command that only shows something ends so, and the file is left alone
+shows() {
+    status=$1 output=$2
+    shift 2
+    cp live live.before
+    expect "$status" "$output" '' '' "$@" -b base -l live
+    passed=$((passed + 1))
+    if ! cmp -s live live.before || [ -e live.new ]; then
+        passed=$((passed - 1))
+        failed=$((failed + 1))
+        echo "FAILED: undorc $*: the file was written"
+    fi
+}
+
+# Two commands in a row, the first of which makes the file; and what is shown between them.
+expect 0 'raised net root\nok\n' '' '' change net -b base -x none -l live
+shows 0 'live net root\nok\n' live
+shows 0 'at 1 of 2\n0 +net +root\nok\n' journal
+shows 0 'raise db log web\nok\n' change -n site
+shows 1 'refused Unknown nobody\n' change -n site nobody
+shows 1 'refused PruneNeedsUp\n' change -n -p -d net
+shows 0 'lower net root\nok\n' undo -n
+shows 1 'refused NothingToRedo\n' redo -n
+alike 0 none 'change site' change site
+alike 0 none 'change site' change site
+shows 0 'lower db log web\nok\n' undo -n
+alike 0 none undo undo
+shows 0 'raise db log web\nok\n' redo -n
+alike 0 none redo redo
+alike 0 none '-d change log' change -d log
+
+# Each way that a command is refused: nothing has moved.
+alike 1 none 'change site nobody' change site nobody
+alike 1 none '-pd change net' change -p -d net
+alike 1 none redo redo
+
+# What failed, was blocked, or could not be brought down; an undo of what failed, and what is left of it.
+alike 2 up:log 'change site' change site
+alike 0 none undo undo
+alike 2 down:net '-Da change' change -D -a
+alike 0 none undo undo
+alike 2 down:log undo undo
+shows 0 'at 2 of 5\n0 +net +root\n1 +log\n2 +db +web\n3 -db -log -web\nok\n' journal
+alike 0 none undo undo
+alike 0 none undo undo
+alike 1 none undo undo
+
+# Essential services stay, and that is all that was planned.
+rm live
+expect 0 'raised db log net root web\nok\n' '' '' change site -b base -x none -l live
+alike 0 none '-da change' change -d -a
+
+# What is not tried since the limit is reached. The limit is looked at before a service is taken.
+mkdir -p slow/first slow/second
+echo oneshot | tee slow/first/type > slow/second/type
+echo 'sleep 0.3' > slow/first/up
+echo 'true' > slow/second/up
+echo first > slow/second/dependencies
+"$program" compile slow > slow.db
+expect 2 'raised first\nuntried second\nok\n' '' '' change second -t 100 -b slow.db -l slow.live
+expect 0 'raised second\nok\n' '' '' change second -t 60000 -b slow.db -l slow.live
+expect 0 'live first second\nok\n' '' '' live -b slow.db -l slow.live
+
+# A script that fails, and one that is blocked by it.
+mkdir -p broken/first broken/second
+echo oneshot | tee broken/first/type > broken/second/type
+echo 'false' > broken/first/up
+echo 'true' > broken/second/up
+echo first > broken/second/dependencies
+"$program" compile broken > broken.db
+expect 2 'failed first\nblocked second\nok\n' '' '' change second -b broken.db
+
+# Without -l a command begins with nothing up, and without -b the database is that of the input.
+expect 0 'live\nok\n' '' '' live -b base
+expect 1 'refused NothingToUndo\n' '' '' undo -b base -x none
+expect 1 'refused NothingToUndo\n' '' '' undo -n -b base
+expect 0 'raised net root\nok\n' '' "$sample" change net -x none
+expect 0 'raise net root\nok\n' '' "${sample}what is behind it\n" change -n net
+expect 0 'at 0 of 1\nok\n' '' "$sample" journal
+expect 1 '' 'undorc: Bad 0\n' '' live
+
+# Files that can't be read, or not written: where something is only shown nothing is written.
+mkdir folder
+expect 111 '' 'undorc: Io\n' '' live -b base -l folder
+expect 111 '' 'undorc: Io\n' '' change net -b base -x none -l folder
+expect 111 '' 'undorc: Io\n' '' live -b folder
+printf '%b' 'notes\n' > notes
+expect 1 '' 'undorc: Bad 0\n' '' journal -b base -l notes
+expect 1 '' 'undorc: Bad 0\n' '' change net -b base -x none -l notes
+expect 1 '' 'undorc: Unknown nobody\n' '' change net -b base -x up:nobody -l live
+expect 111 '' 'undorc: Io\n' '' change net -b base -x none -l nowhere/live
+expect 0 'live\nok\n' '' '' live -b base -l nowhere/live
+expect 0 'raise net root\nok\n' '' '' change -n net -b base -l nowhere/live
+mkdir -p kept.new
+cp live kept
+touch kept.new/held
+expect 111 '' 'undorc: Io\n' '' undo -b base -x none -l kept
+shows 0 'at 2 of 3\n0 +db +log +net +root +web\n1 -db -log -net -web\nok\n' journal
+cp kept kept.before
+expect 0 'live root\nok\n' '' '' live -b base -l kept
+passed=$((passed + 1))
+cmp -s kept kept.before || { passed=$((passed - 1)); failed=$((failed + 1)); echo 'FAILED: a look wrote'; }
+
+# An output that is full: the command is done and kept, and nobody is answered.
+rm live
+wants '' 'undorc: Write\n'
+echo 0 > status
+: > out
+"$program" change net -b base -x none -l live > /dev/full 2> err || echo $? > status
+judge 'a one-shot command whose output is full' 111
+shows 0 'live net root\nok\n' live
+
+# The files that the environment names, where the words name none.
+UNDORC_DB=base UNDORC_LIVE=live
+export UNDORC_DB UNDORC_LIVE
+expect 0 'live net root\nok\n' '' '' live
+expect 0 'lowered net root\nok\n' '' '' undo -x none
+expect 0 'live\nok\n' '' 'live\n' session -x none
+expect 1 '' 'undorc: Bad 0\n' '' live -b notes
+unset UNDORC_LIVE
+expect 0 'live\nok\n' '' '' live
+UNDORC_DB=''
+expect 0 'live\nok\n' '' "$sample" live
+unset UNDORC_DB
+
+expect 0 'undorc 0.1.0\n' '' '' version
+cd ..

@@ -1,0 +1,157 @@
+"""Draws cases, and compares the built program with the plain one: fuzz.py PROGRAM SECONDS SEED.
+
+The last line is 'N passed, M failed'. A case that differs is made smaller, and printed with its seed;
+fuzz.py PROGRAM 0 SEED runs the one case of that seed.
+"""
+
+import os
+import random
+import select
+import shutil
+import signal
+import sys
+import tempfile
+import time
+
+import program
+from draw import Drawer
+from shrink import shrunk
+
+PATIENCE = 60000
+
+
+def write(path, text):
+    with open(path, "wb") as file:
+        file.write(text)
+
+
+def read(path):
+    try:
+        with open(path, "rb") as file:
+            return file.read()
+    except FileNotFoundError:
+        return None
+
+
+def plant(path, tree):
+    os.mkdir(path)
+    for name, there in tree.items():
+        inner = os.path.join(path, name)
+        if isinstance(there, dict):
+            plant(inner, there)
+        else:
+            write(inner, there)
+
+
+class Bench:
+    """A folder in which the built program is run."""
+
+    def __init__(self, built):
+        self.built = os.path.realpath(built)
+        self.room = tempfile.mkdtemp(dir="/dev/shm" if os.path.isdir("/dev/shm") else None)
+        os.chdir(self.room)
+
+    def close(self):
+        shutil.rmtree(self.room)
+
+    def prepare(self, case):
+        for left in os.listdir(b"."):
+            if os.path.isdir(left):
+                shutil.rmtree(left)
+            else:
+                os.unlink(left)
+        for place, tree in enumerate(case.trees):
+            plant(b"tree%d" % place, tree)
+        if case.base is not None and not case.in_front:
+            write(b"base", case.base)
+        if case.kept is not None:
+            write(b"kept", case.kept)
+        write(b"in", case.input)
+
+    def run(self, case):
+        """The status, what is written, the first line of what is told, the file of -l, what is left."""
+        self.prepare(case)
+        actions = [(os.POSIX_SPAWN_OPEN, 0, "in", os.O_RDONLY, 0)]
+        for stream, name in ((1, "out"), (2, "err")):
+            actions.append((os.POSIX_SPAWN_OPEN, stream, name, os.O_WRONLY | os.O_CREAT, 0o600))
+        words = [b"undorc"] + case.arguments()
+        child = os.posix_spawn(self.built, words, os.environ, file_actions=actions)
+        watch = os.pidfd_open(child)
+        ready = select.poll()
+        ready.register(watch, select.POLLIN)
+        if not ready.poll(PATIENCE):
+            os.kill(child, signal.SIGKILL)
+        os.close(watch)
+        status = os.waitstatus_to_exitcode(os.waitpid(child, 0)[1])
+        told = read("err").split(b"\n", 1)
+        fault = told[0] + b"\n" if len(told) == 2 else told[0]
+        return status, read("out"), fault, read("kept"), sorted(os.listdir(b"."))
+
+
+def is_circle(fault, word, steps):
+    """Whether a circle is told: each name leads to the next, and the least comes first."""
+    words = fault.rstrip(b"\n").split(b" ")
+    names = words[2:]
+    if words[:2] != [b"undorc:", word] or not names or len(set(names)) != len(names):
+        return False
+    pairs = zip(names, names[1:] + names[:1])
+    return min(names) == names[0] and all(a in steps and b in steps[a] for a, b in pairs)
+
+
+def difference(bench, case):
+    """What the built program does and the plain one does not, nothing where they agree."""
+    wanted = program.run(case)
+    status, out, fault, kept, left = bench.run(case)
+    if wanted.circle is not None:
+        word = wanted.fault.split()[1]
+        if is_circle(fault, word, wanted.circle):
+            fault = wanted.fault
+    given = (status, out, fault, kept, left)
+    plain = (wanted.status, wanted.out, wanted.fault, wanted.kept, case.files(wanted.kept))
+    names = ("status", "standard output", "standard error", "the file of -l", "files")
+    return [
+        f"{name}: plain {one!r}, built {other!r}"
+        for name, one, other in zip(names, plain, given)
+        if one != other
+    ]
+
+
+def show(seed, case, lines):
+    print(f"FAILED: seed {seed}: undorc {b' '.join(case.arguments())!r}")
+    parts = [("input", case.input), ("base", None if case.in_front else case.base)]
+    parts += [("kept", case.kept)] + [(f"tree{k}", t) for k, t in enumerate(case.trees)]
+    for name, text in parts:
+        if text is not None:
+            print(f"  {name}: {text!r}")
+    for line in lines:
+        print(f"  {line}", flush=True)
+
+
+def try_seed(bench, seed):
+    """Whether both agree on the case of a seed; one that differs is shown as small as it gets."""
+    case = Drawer(random.Random(seed)).case()
+    if not difference(bench, case):
+        return case, True
+    case = shrunk(case, lambda smaller: difference(bench, smaller))
+    show(seed, case, difference(bench, case) or ["it did not differ again"])
+    return case, False
+
+
+def main():
+    built, seconds, seed = sys.argv[1], int(sys.argv[2]), int(sys.argv[3])
+    bench = Bench(built)
+    end = time.monotonic() + seconds
+    counts, failed, tried = {}, 0, 0
+    while failed < 10 and (tried == 0 or time.monotonic() < end):
+        case, agree = try_seed(bench, seed + tried)
+        counts[case.word] = counts.get(case.word, 0) + 1
+        tried += 1
+        failed += not agree
+    bench.close()
+    told = ", ".join(f"{many} of {word}" for word, many in sorted(counts.items()))
+    print(f"drawn cases from seed {seed}: {told}")
+    print(f"{tried - failed} passed, {failed} failed")
+    sys.exit(failed > 0)
+
+
+main()
