@@ -1,9 +1,11 @@
-use Rattle.std.proofs.Common.{◌≡◌, ◌≢◌, ◌∙◌, ◌↔◌, ℕ, ◌+◌, ◌-◌, ◌<◌, ◌≤◌, List, [], ◌∷◌, ◌++◌, Bool, true, false, Contains, eqb, inl, inr, length, take, slice_index, slice_index_or, slice_set, vec_len, vec_capacity, zero, suc, refl, sym, subst, arith}
+use Rattle.std.proofs.Common.{◌≡◌, ◌≢◌, ◌∙◌, ◌↔◌, ℕ, ◌+◌, ◌-◌, ◌<◌, ◌≤◌, List, [], ◌∷◌, ◌++◌, Bool, true, false, Contains, eqb, inl, inr, length, take, slice_index, slice_index_or, slice_set, vec_len, vec_capacity, All, cond, count_by, zero, suc, refl, sym, subst, arith}
 use Rattle.std.specs.Global.{Vec}
+use mathlib.Core.Bool.{beq}
 use Rattle.std.proofs.lemmas.Bool.{cases_lt, cases_eq, ne_eqb}
 use Rattle.std.proofs.lemmas.List.{length_push, get_or_past, get_or_default, get_or-take, length-take-le, get_or_append_left, get_or_push}
 use Rattle.std.proofs.lemmas.List.Elements.{Contains-append_left, Contains-append_cases, Contains-push, Contains-push_cases, Contains-get_or}
 use Rattle.std.proofs.lemmas.List.Quantifiers.{all_pairs_push}
+use Rattle.std.proofs.lemmas.List.Sums.{count_by-le-length, sum_by-cons}
 use Rattle.std.proofs.lemmas.Map.Keys.{IsDistinct-from_apart}
 use Rattle.std.proofs.lemmas.Map.Steps.{length-le_from_distinct_below}
 use Rattle.rc_set.specs.Set.{Has, IsAscending}
@@ -18,8 +20,8 @@ use Rattle.rc_core.specs.Ready.{IsCount, HasQueue, Arrives, QueuesFrom}
 use Rattle.rc_core.proofs.Counted.{distinct_both}
 
 -- none of a list
-pub none_arrive : (set : List Bool) (old : Ready) → Arrives [] set old old
-none_arrive set old = record {
+pub none_arrive : (old : Ready) → Arrives [] old old
+none_arrive old = record {
   those = [];
   same = λ s. (λ h. absurd (no_member s h), λ h. absurd (no_member s h.0));
   meets = none_met old.queue.items old.waits.items;
@@ -70,16 +72,17 @@ room_for_one those waits mid_waits queue mid x has meets out low one =
       | inr past ↦ absurd (omega (arith, here, get_or_past ws q 0 past))
     ]
 
--- one more of the list, which is in the set
-pub one_arrives : (front : List ℕ) (set : List Bool) (old mid new : Ready) (x : ℕ)
-    (before : Arrives front set old mid) → (Contains before.those x → ⊥)
-    → x < length old.waits.items → 0 < slice_index old.waits.items x → Has set x
+-- one more of the list, which waits for some
+pub one_arrives : (front : List ℕ) (old mid new : Ready) (x : ℕ)
+    (before : Arrives front old mid) → (Contains before.those x → ⊥)
+    → x < length old.waits.items → 0 < slice_index old.waits.items x
     → new.waits.items ≡ slice_set mid.waits.items x (slice_index mid.waits.items x - 1)
     → (slice_index mid.waits.items x ≡ 1 → new.queue.items ≡ mid.queue.items ++ x ∷ [])
     → (slice_index mid.waits.items x ≢ 1 → new.queue.items ≡ mid.queue.items)
-    → vec_capacity new.queue ≡ vec_capacity mid.queue → Arrives (front ++ x ∷ []) set old new
-one_arrives front set old mid new x before out low some has waits last more capacity =
+    → vec_capacity new.queue ≡ vec_capacity mid.queue → Arrives (front ++ x ∷ []) old new
+one_arrives front old mid new x before out low some waits last more capacity =
     let here = before.meets.same x out in
+    let Waits = λ (s : ℕ). 0 < slice_index old.waits.items s in
     record {
       those = before.those ++ x ∷ [];
       same = λ s. (
@@ -89,7 +92,7 @@ one_arrives front set old mid new x before out low some has waits last more capa
               (Contains-append_left front (x ∷ []) s h.0, h.1)
           | inr now ↦ (
             subst (Contains (front ++ x ∷ [])) now (Contains-push front x),
-            subst (Has set) now has,
+            subst Waits now some,
           )
         ],
         λ h. elim (Contains-push_cases front x s h.0) [
@@ -111,16 +114,18 @@ one_arrives front set old mid new x before out low some has waits last more capa
       capacity = capacity ∙ before.capacity;
     }
 
--- one more of the list, which is not
-pub one_stays : (front : List ℕ) (set : List Bool) (old mid : Ready) (x : ℕ)
-    → Arrives front set old mid → (Has set x → ⊥) → Arrives (front ++ x ∷ []) set old mid
-one_stays front set old mid x before lacks = record {
+-- one more of the list, which waits for none
+pub one_stays : (front : List ℕ) (old mid : Ready) (x : ℕ) → Arrives front old mid
+    → slice_index old.waits.items x ≡ 0 → Arrives (front ++ x ∷ []) old mid
+one_stays front old mid x before none = record {
   those = before.those;
   same = λ s. (
     λ there. let h = (before.same s).0 there in (Contains-append_left front (x ∷ []) s h.0, h.1),
     λ h. elim (Contains-push_cases front x s h.0) [
       | inl earlier ↦ (before.same s).1 (earlier, h.1)
-      | inr now ↦ absurd (lacks (subst (Has set) (sym now) h.1))
+      | inr now ↦ absurd
+          (let some : 0 < slice_index old.waits.items x =
+          subst (λ (y : ℕ). 0 < slice_index old.waits.items y) (sym now) h.1 in omega arith)
     ],
   );
   meets = before.meets;
@@ -128,10 +133,10 @@ one_stays front set old mid x before lacks = record {
 }
 
 -- the next of an ascending list was not among those before it
-pub not_yet : (list : List ℕ) (k : ℕ) (set : List Bool) (old mid : Ready)
-    (before : Arrives (take k list) set old mid) → IsAscending list → k < length list
+pub not_yet : (list : List ℕ) (k : ℕ) (old mid : Ready)
+    (before : Arrives (take k list) old mid) → IsAscending list → k < length list
     → Contains before.those (slice_index list k) → ⊥
-not_yet list k set old mid before up within there =
+not_yet list k old mid before up within there =
     not_before list k (distinct_ascending list up) within
     ((before.same (slice_index list k)).0 there).0
 
@@ -216,6 +221,19 @@ same_truth true b iff = sym (iff.0 refl)
 same_truth false true iff = iff.1 refl
 same_truth false false iff = refl
 
+-- what a comparison of two truth values says
+pub beq-true : (a b : Bool) → beq a b ≡ true → a ≡ b
+beq-true true true e = refl
+beq-true true false e = let bad : false ≡ true = e in cc
+beq-true false true e = let bad : false ≡ true = e in cc
+beq-true false false e = refl
+
+pub beq-false : (a b : Bool) → beq a b ≡ false → a ≡ b → ⊥
+beq-false true true e same = let bad : true ≡ false = e in cc
+beq-false true false e same = let bad : true ≡ false = same in cc
+beq-false false true e same = let bad : false ≡ true = same in cc
+beq-false false false e same = let bad : true ≡ false = e in cc
+
 -- an ascending list has no number below its place
 pub at_least : (list : List ℕ) (k : ℕ) → IsAscending list → k < length list → k ≤ slice_index list k
 at_least list zero up within = omega arith
@@ -225,6 +243,61 @@ at_least list (suc k) up within =
     up k (suc k) 0 before within in
     let far : k ≤ slice_index list k = at_least list k up (omega arith) in
     omega (arith, less, far)
+
+-- and no more of them than there are below a bound
+pub short_list : (list : List ℕ) (bound : ℕ) → IsAscending list → All (λ (t : ℕ). t < bound) list
+    → length list ≤ bound
+short_list list bound up known = elim (cases_eq (length list) 0) [
+  | inl none ↦ omega arith
+  | inr some ↦
+      let last = length list - 1 in
+      let within : last < length list = omega arith in
+      let far : last ≤ slice_index list last = at_least list last up within in
+      let low : slice_index list last < bound = known last 0 within in
+      omega (arith, far, low)
+]
+
+-- all of a list count where all are alike
+pub all_counted : (In : ℕ → Type 0) (list : List ℕ) → IsAscending list
+    → ((s : ℕ) → Contains list s → In s) → IsCount (λ t. Contains list t × In t) (length list)
+all_counted In list up each = record {
+  ids = list;
+  lists = record {
+    ascending = up;
+    same = λ s. (λ there. (there, each s there), λ h. h.0);
+  };
+  long = refl;
+}
+
+-- and none where none is
+pub none_of_them : (In : ℕ → Type 0) (list : List ℕ) → ((s : ℕ) → Contains list s → In s → ⊥)
+    → IsCount (λ t. Contains list t × In t) 0
+none_of_them In list none = record {
+  ids = [];
+  lists = record {
+    ascending = λ i j d first within. absurd (omega arith);
+    same = λ s. (λ h. absurd (no_member s h), λ h. absurd (none s h.0 h.1));
+  };
+  long = refl;
+}
+
+-- a set that has as many as there are has all
+pub all_in : (set : List Bool) → count_by (λ flag. flag) set ≡ length set → (s : ℕ)
+    → s < length set → slice_index_or set s false ≡ true
+all_in [] full s low = absurd (omega arith)
+all_in (true ∷ set) full zero low = refl
+all_in (true ∷ set) full (suc s) low =
+    let first = sum_by-cons (λ (flag : Bool). cond flag 1 0) true set in
+    let rest : count_by (λ (flag : Bool). flag) set ≡ length set = omega (arith, full, first) in
+    all_in set rest s (omega (arith, low))
+all_in (false ∷ set) full s low =
+    let first = sum_by-cons (λ (flag : Bool). cond flag 1 0) false set in
+    let few = count_by-le-length (λ (flag : Bool). flag) set in
+    absurd (omega (arith, full, first, few))
+
+-- what all of a list are
+pub each_listed : (P : ℕ → Type 0) (list : List ℕ) → All P list → (s : ℕ) → Contains list s → P s
+each_listed P list all s (j, low, is) = subst P is (all j s low)
 
 -- a count at each service below a bound, with one more behind
 pub one_more_count : (P : ℕ → ℕ → Type 0) (waits more : List ℕ) (k n : ℕ) → length waits ≡ k

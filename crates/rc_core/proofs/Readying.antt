@@ -1,7 +1,8 @@
 -- The counts and the queue say what the events say.
 use Rattle.std.proofs.Common.{◌≡◌, ◌∙◌, ◌↔◌, ℕ, ◌<◌, ◌≤◌, List, [], ◌∷◌, ◌++◌, Bool, true, false, Contains, inl, inr, length, slice_index, slice_index_or, vec_capacity, ap, sym, subst, arith}
 use Rattle.std.specs.Global.{Vec}
-use Rattle.std.proofs.lemmas.Bool.{false_from_ne_true}
+use Rattle.std.proofs.lemmas.Bool.{cases_lt, false_from_ne_true}
+use Rattle.std.proofs.lemmas.List.{get_or_past}
 use Rattle.std.proofs.lemmas.List.Elements.{Contains-append_left, Contains-append_right, Contains-append_cases}
 use Rattle.rc_set.specs.Set.{Has}
 use Rattle.rc_set.proofs.Members.{has_or_lacks, is_set_or_not}
@@ -95,6 +96,7 @@ ready_after_take c events w x old new course run move ready takes =
           (same_count (IsMissing c events s) (IsMissing c (events ++ Take w x ∷ []) s)
           (slice_index old.waits.items s) (missing_after_take c events w x course run move s)
           (ready.counts s planned));
+      idle = λ s none. count s ∙ ready.idle s none;
       taken = λ s was. count s ∙ elim (take_then_take events w x was.0 s was.1) [
         | inl before ↦ ready.taken s (was.0, before)
         | inr now ↦ subst (λ (y : ℕ). slice_index old.waits.items y ≡ 0) (sym now.1) zero
@@ -122,6 +124,7 @@ ready_still c events e waits queue untaken same ready = record {
       λ s planned.
       same_count (IsMissing c events s) (IsMissing c (events ++ e ∷ []) s) (slice_index waits s)
       (same s) (ready.counts s planned);
+  idle = ready.idle;
   taken = λ s was. ready.taken s (untaken s was);
   once = ready.once;
   ones = λ s. (
@@ -197,6 +200,14 @@ ready_after_success c events w x o old new course run held well ready notes =
                   ),
               λ missing. ((after s t).0 missing).0,
             )) (ready.counts s planned))
+      ];
+      idle = λ s none. elim (contains_or_lacks notes.those s) [
+        | inl in' ↦ absurd
+            (none (elim ((notes.same s).0 in') [
+              | inl falls ↦ inl falls.1
+              | inr rises ↦ inr rises.1
+            ]))
+        | inr out ↦ meets.same s out ∙ ready.idle s none
       ];
       taken = λ s was.
           let zero = ready.taken s (untaken s was) in
@@ -289,6 +300,10 @@ ready_first c set r course all first = record {
           ],
         )) ((first.counts s low).0 raise)
       ];
+  idle = λ s none. elim (cases_lt s (length c.needs)) [
+    | inl low ↦ (first.counts s low).2 (λ raise. none (inr raise)) (λ lower. none (inl lower))
+    | inr past ↦ get_or_past r.waits.items s 0 (omega (arith, first.bound))
+  ];
   taken = λ s was. absurd (none_happened _ was.1);
   once = first.queue.once;
   ones = λ s. (
@@ -311,6 +326,22 @@ has_queue c events waits queue course ready room = record {
   room = omega (arith, ready.bound, room);
 }
 
+-- what waits for some is to move
+waits_are_planned : (c : Course) (events : List Event) (waits queue : List ℕ)
+    → AreReady c events waits queue → (s : ℕ) → 0 < slice_index waits s → IsPlanned c s
+waits_are_planned c events waits queue ready s some = elim (has_or_lacks c.lower s) [
+  | inl low ↦ inl low
+  | inr not_low ↦ elim (has_or_lacks c.raise s) [
+    | inl high ↦ inr high
+    | inr not_high ↦
+        let none = ready.idle s (λ planned. elim planned [
+          | inl low ↦ not_low low
+          | inr high ↦ not_high high
+        ]) in
+        absurd (omega (arith, some, none))
+  ]
+]
+
 -- a legal event can be written in
 pub can_note_ready : (c : Course) (events : List Event) (old : Ready) (e : Event) → IsCourse c
     → IsRun c events → AreReady c events old.waits.items old.queue.items
@@ -326,6 +357,22 @@ can_note_ready c events old (Done w s o) course run ready room legal = λ well. 
   missing =
       λ t next.
       next_waits c events w s old.waits.items old.queue.items course run legal.1 ready t next;
+  falls = λ t lower need some.
+      elim (waits_are_planned c events old.waits.items old.queue.items ready t some) [
+        | inl low ↦ low
+        | inr high ↦ absurd (course.rises t high (course.opening s t (course.falls s lower) need))
+      ];
+  rises = λ t not_low need some.
+      elim (waits_are_planned c events old.waits.items old.queue.items ready t some) [
+        | inl low ↦
+            let raise : Has c.raise s =
+            elim (taken_was_planned c events w s run legal.1.0) [
+              | inl lower ↦ absurd (not_low lower)
+              | inr raise ↦ raise
+            ] in
+            absurd (course.rises s raise (course.opening t s (course.falls t low) need))
+        | inr high ↦ high
+      ];
   queue = has_queue c events old.waits.items old.queue course ready room;
 }
 can_note_ready c events old (Stop w m) course run ready room legal = tt

@@ -19,6 +19,10 @@ pub record IsCount (P : ℕ → Type 0) (many : ℕ) : Type 0 where
   pub lists : Lists P ids
   pub long : length ids ≡ many
 
+-- all services are in a set, or none is
+abbrev pub AreAlike : List Bool → Bool → Type 0
+AreAlike set all = (s : ℕ) → s < length set → slice_index_or set s false ≡ all
+
 -- what must still arrive before a service may be taken: of what it needs, where it is to come up,
 -- what is not up; of what needs it, where it is to go down, what is not down
 abbrev pub IsMissing : Course → List Event → ℕ → ℕ → Type 0
@@ -26,11 +30,12 @@ IsMissing c events s t =
     (Has c.raise s × Needs c.needs s t × (standing_of c events t ≢ Up))
     ⊎ (Has c.lower s × Needs c.needs t s × (standing_of c events t ≢ Down))
 
--- the counts are those of what is missing, and the queue has exactly the services that are to move,
--- were never taken and miss nothing, each once
+-- the counts are those of what is missing, 0 for what is not to move, and the queue has exactly the
+-- services that are to move, were never taken and miss nothing, each once
 pub record AreReady (c : Course) (events : List Event) (waits queue : List ℕ) : Type 0 where
   pub bound : length waits ≡ length c.needs
   pub counts : (s : ℕ) → IsPlanned c s → IsCount (IsMissing c events s) (slice_index waits s)
+  pub idle : (s : ℕ) → (IsPlanned c s → ⊥) → slice_index waits s ≡ 0
   pub taken : (s : ℕ) → WasTaken events s → slice_index waits s ≡ 0
   pub once : AreDistinct queue
   pub ones : (s : ℕ) → Contains queue s ↔ (IsLeft c events s × (slice_index waits s ≡ 0))
@@ -42,11 +47,11 @@ pub record HasQueue (waits : List ℕ) (queue : Vec ℕ) : Type 0 where
   pub none : (s : ℕ) → Contains queue.items s → (s < length waits) × (slice_index waits s ≡ 0)
   pub room : length waits ≤ vec_capacity queue
 
--- each of a list that is in the set waits for one less, and those that wait for none from now on
+-- each of a list that waits for some waits for one less, and those that wait for none from now on
 -- are in the queue
-pub record Arrives (list : List ℕ) (set : List Bool) (old new : Ready) : Type 0 where
+pub record Arrives (list : List ℕ) (old new : Ready) : Type 0 where
   pub those : List ℕ
-  pub same : (s : ℕ) → Contains those s ↔ (Contains list s × Has set s)
+  pub same : (s : ℕ) → Contains those s ↔ (Contains list s × (0 < slice_index old.waits.items s))
   pub meets : Meets those old.queue.items old.waits.items new.queue.items new.waits.items
   pub capacity : vec_capacity new.queue ≡ vec_capacity old.queue
 
@@ -77,6 +82,7 @@ IsFirstCount needs up lower raise s n =
     (Has raise s → IsCount (λ t. Needs needs s t × (slice_index_or up t false ≡ false)) n)
     × ((Has raise s → ⊥) → Has lower s
     → IsCount (λ t. Needs needs t s × (slice_index_or up t false ≡ true)) n)
+    × ((Has raise s → ⊥) → (Has lower s → ⊥) → n ≡ 0)
 
 -- a queue of the services from this one on that are to move and wait for none, with room for all
 pub record QueuesFrom (waits : List ℕ) (planned : List Bool) (from : ℕ) (queue : Vec ℕ) : Type
@@ -95,13 +101,15 @@ pub record IsFirstReady (needs : List (List ℕ)) (up lower raise planned : List
       → IsFirstCount needs up lower raise s (slice_index r.waits.items s)
   pub queue : QueuesFrom r.waits.items planned 0 r.queue
 
--- a service that has arrived can be written in: those that wait for it wait for some, and the queue
--- has room
+-- a service that has arrived can be written in: of its neighbours those that wait for it are those
+-- that wait for some, and the queue has room
 pub record CanArrive (needs : List (List ℕ)) (lower raise : List Bool) (s : ℕ) (old : Ready) : Type
     0 where
   pub known : s < length needs
   pub bound : length old.waits.items ≡ length needs
   pub missing : (t : ℕ) → IsNext needs lower raise s t → 0 < slice_index old.waits.items t
+  pub falls : (t : ℕ) → Has lower s → Needs needs s t → 0 < slice_index old.waits.items t → Has lower t
+  pub rises : (t : ℕ) → (Has lower s → ⊥) → Needs needs t s → 0 < slice_index old.waits.items t → Has raise t
   pub queue : HasQueue old.waits.items old.queue
 
 -- an event can be written in

@@ -1,10 +1,10 @@
 //! How many others each service waits for, and the queue of those that may be taken.
 
-ghost use Rattle.std.specs.Prelude.{false, ◌≡◌, ◌≢◌, ℕ, ◌-◌, ◌<◌, ◌≤◌, ◌⊎◌, ◌↔◌, ◌++◌, ◌∷◌, [], Bool, List, IsTrue, IfSome, IfNone, IfOk, All, Contains, length, slice_index, slice_index_or, slice_set, vec_len, vec_capacity};
+ghost use Rattle.std.specs.Prelude.{false, ◌≡◌, ◌≢◌, ℕ, ◌-◌, ◌<◌, ◌≤◌, ◌⊎◌, ◌↔◌, ◌++◌, ◌∷◌, [], Bool, List, IsTrue, IfSome, IfNone, IfOk, All, Contains, length, remove, slice_index, slice_index_or, slice_set, vec_len, vec_capacity};
 ghost use Rattle.rc_set.specs.Set.{Has, IsAscending};
 ghost use Rattle.rc_graph.specs.Needs.{AreNeeds};
 ghost use Rattle.rc_graph.specs.Order.{AreDistinct};
-ghost use Rattle.rc_core.specs.Ready.{IsCount, HasQueue, Arrives, TakesOut, IsFirstReady, IsFirstCount, IsNext, NotesArrival, QueuesFrom, CanArrive, CanNoteReady, NotesReady};
+ghost use Rattle.rc_core.specs.Ready.{AreAlike, IsCount, HasQueue, Arrives, TakesOut, IsFirstReady, IsFirstCount, IsNext, NotesArrival, QueuesFrom, CanArrive, CanNoteReady, NotesReady};
 
 use crate::event::Event;
 use rc_graph::Graph;
@@ -62,6 +62,14 @@ impl Ready {
         self.waits[service as usize] == 0
     }
 
+    /// Whether a service waits for any.
+    fn waits_for_some(&self, service: u16) -> bool
+        requires { service < length self.now.waits.items }
+        ensures { IsTrue result ↔ (0 < slice_index self.now.waits.items service) }
+    {
+        0 < self.waits[service as usize]
+    }
+
     /// Writes one more event in. Takes no memory.
     pub(crate) fn note(&mut self, event: Event, graph: &Graph, lower: &Set, raise: &Set)
         requires lists { AreNeeds graph.now }
@@ -91,21 +99,32 @@ impl Ready {
         while self.queue[at] != service {
             at -= 1;
         }
-        self.queue.remove(at);
+        self.remove_at(at);
     }
 
-    /// A service has arrived for which those of a list wait that are in a set.
-    fn arrive(&mut self, list: &[u16], set: &Set)
+    /// Takes out of the queue what stands at a place. What stands last goes in one step.
+    fn remove_at(&mut self, at: usize)
+        requires { at < length self.old.queue.items }
+        ensures waits { self.new.waits.items ≡ self.old.waits.items }
+        ensures queue { self.new.queue.items ≡ remove self.old.queue.items at }
+        ensures capacity { vec_capacity self.new.queue ≡ vec_capacity self.old.queue }
+    {
+        if at + 1 == self.queue.len() {
+            self.queue.pop();
+        } else {
+            self.queue.remove(at);
+        }
+    }
+
+    /// A service has arrived for which those of a list wait that wait for any.
+    fn arrive(&mut self, list: &[u16])
         requires list { IsAscending list.now }
         requires known { All (λ t. t < length self.old.waits.items) list.now }
-        requires bound { length set.now ≡ length self.old.waits.items }
-        requires missing { (t : ℕ) → Contains list.now t → Has set.now t →
-            0 < slice_index self.old.waits.items t }
         requires queue { HasQueue self.old.waits.items self.old.queue }
-        ensures { Arrives list.now set.now self.old self.new }
+        ensures { Arrives list.now self.old self.new }
     {
         for service in list {
-            if set.contains(*service) {
+            if self.waits_for_some(*service) {
                 self.wait_for_less(*service);
             }
         }
@@ -120,9 +139,9 @@ impl Ready {
         ensures { NotesArrival graph.now lower.now raise.now service self.old self.new }
     {
         if lower.contains(service) {
-            self.arrive(graph.needs(service), lower);
+            self.arrive(graph.needs(service));
         } else {
-            self.arrive(graph.needed_by(service), raise);
+            self.arrive(graph.needed_by(service));
         }
     }
 
@@ -164,29 +183,80 @@ fn waits_of(
     ensures counts { IfOk result (λ waits. (s : ℕ) → s < length graph.now →
         IsFirstCount graph.now up.now lower.now raise.now s (slice_index waits.items s)) }
 {
+    let alike = alike(up);
     let mut waits = Vec::with_capacity(alloc, graph.len() as usize)?;
     for service in 0..graph.len() {
-        waits.push(count_for(graph, up, lower, raise, service))?;
+        waits.push(count_for(graph, up, alike, lower, raise, service))?;
     }
     Ok(waits)
 }
 
+/// Whether all services are in a set, or none. Nothing: some are.
+fn alike(set: &Set) -> Option<bool>
+    ensures { IfSome result (AreAlike set.now) }
+{
+    if set.is_empty() {
+        Some(false)
+    } else if set.len() == set.bound() {
+        Some(true)
+    } else {
+        None
+    }
+}
+
 /// How many must arrive before a service may be taken.
-fn count_for(graph: &Graph, up: &Set, lower: &Set, raise: &Set, service: u16) -> u16
+fn count_for(
+    graph: &Graph,
+    up: &Set,
+    alike: Option<bool>,
+    lower: &Set,
+    raise: &Set,
+    service: u16,
+) -> u16
     requires lists { AreNeeds graph.now }
     requires known { service < length graph.now }
     requires up { length up.now ≡ length graph.now }
     requires lower { length lower.now ≡ length graph.now }
     requires raise { length raise.now ≡ length graph.now }
+    requires alike { IfSome alike (AreAlike up.now) }
     ensures { IsFirstCount graph.now up.now lower.now raise.now service result }
 {
     if raise.contains(service) {
-        count_of(graph.needs(service), up, false)
+        count_in(graph.needs(service), up, alike, false)
     } else if lower.contains(service) {
-        count_of(graph.needed_by(service), up, true)
+        count_in(graph.needed_by(service), up, alike, true)
     } else {
         0
     }
+}
+
+/// How many of a list are in a set, or are not, where it may be known that all are, or none.
+fn count_in(list: &[u16], set: &Set, alike: Option<bool>, inside: bool) -> u16
+    requires list { IsAscending list.now }
+    requires known { All (λ t. t < length set.now) list.now }
+    requires few { length set.now ≤ 4096 }
+    requires alike { IfSome alike (AreAlike set.now) }
+    ensures { IsCount (λ t. Contains list.now t × (slice_index_or set.now t false ≡ inside))
+        result }
+{
+    match alike {
+        Some(all) => count_alike(list, set, all, inside),
+        None => count_of(list, set, inside),
+    }
+}
+
+/// The same where all are in the set, or none.
+fn count_alike(list: &[u16], set: &Set, all: bool, inside: bool) -> u16
+    requires list { IsAscending list.now }
+    requires known { All (λ t. t < length set.now) list.now }
+    requires few { length set.now ≤ 4096 }
+    requires alike { AreAlike set.now all }
+    ensures { IsCount (λ t. Contains list.now t × (slice_index_or set.now t false ≡ inside))
+        result }
+{
+    // What the list and the bound of the set say is all that is looked at.
+    let _bound = set.bound();
+    if all == inside { list.len() as u16 } else { 0 }
 }
 
 /// How many of a list are in a set, or are not.

@@ -1,23 +1,9 @@
-use Rattle.std.proofs.Common.{◌≡◌, ◌∙◌, ◌<◌, ℕ, List, Bool, true, false, refl, take, Contains, slice_index, slice_index_or, sym, subst, arith}
+use Rattle.std.proofs.Common.{◌≡◌, ◌∙◌, ◌<◌, ℕ, List, true, false, refl, take, Contains, slice_index, slice_index_or, sym, subst, arith}
 use Rattle.std.proofs.lemmas.List.{take_more, take_all}
-use mathlib.Core.Bool.{beq}
 use Rattle.rc_core.specs.Ready.{IsCount}
-use Rattle.rc_core.proofs.Arriving.{none_counted, one_counted, one_passed_by, above_front, at_least, same_truth}
+use Rattle.rc_core.proofs.Arriving.{beq-true, beq-false, none_counted, one_counted, one_passed_by, above_front, at_least, same_truth}
 use Rattle.rc_core.proofs.ready.count_of.Goals as goal
 use Rattle.rc_core.proofs.ready.count_of.Goals.{then-contains-inside, else-contains-inside}
-
--- what a comparison of two truth values says
-beq-true : (a b : Bool) → beq a b ≡ true → a ≡ b
-beq-true true true e = refl
-beq-true true false e = let bad : false ≡ true = e in cc
-beq-true false true e = let bad : false ≡ true = e in cc
-beq-true false false e = refl
-
-beq-false : (a b : Bool) → beq a b ≡ false → a ≡ b → ⊥
-beq-false true true e same = let bad : true ≡ false = e in cc
-beq-false true false e same = let bad : true ≡ false = same in cc
-beq-false false true e same = let bad : false ≡ true = same in cc
-beq-false false false e same = let bad : true ≡ false = e in cc
 
 pub loop-service-init : goal.loop-service-init
 loop-service-init c =

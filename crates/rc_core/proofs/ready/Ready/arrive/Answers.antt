@@ -1,12 +1,20 @@
-use Rattle.std.proofs.Common.{◌≡◌, true, false, refl, take, slice_index, arith}
+use Rattle.std.proofs.Common.{◌≡◌, ◌<◌, true, false, inl, inr, refl, take, slice_index, arith}
+use Rattle.std.proofs.lemmas.Bool.{cases_eq}
 use Rattle.std.proofs.lemmas.List.{take_more, take_all}
-use Rattle.std.proofs.lemmas.List.Elements.{Contains-get_or}
 use Rattle.rc_core.proofs.Arriving.{none_arrive, room_for_one, one_arrives, one_stays, not_yet}
 use Rattle.rc_core.proofs.ready.Ready.arrive.Goals as goal
-use Rattle.rc_core.proofs.ready.Ready.arrive.Goals.{then-contains, else-contains}
+use Rattle.rc_core.proofs.ready.Ready.arrive.Goals.{then-waits_for_some, else-waits_for_some}
 
 pub loop-service-init : goal.loop-service-init
-loop-service-init c = none_arrive c.args.set.now c.args.self.now
+loop-service-init c = none_arrive c.args.self.now
+
+pub waits_for_some-requires : goal.waits_for_some-requires
+waits_for_some-requires c =
+    omega (
+      arith,
+      c.requires.known c.loop-service.service-index 0 c.loop-service-test.true,
+      c.loop-service.invariant.meets.bound,
+    )
 
 pub wait_for_less-requires-clause-known : goal.wait_for_less-requires-clause-known
 wait_for_less-requires-clause-known c =
@@ -16,27 +24,13 @@ wait_for_less-requires-clause-known c =
       c.loop-service.invariant.meets.bound,
     )
 
-pub wait_for_less-requires-clause-missing : goal.wait_for_less-requires-clause-missing
-wait_for_less-requires-clause-missing c =
-    let k = c.loop-service.service-index in
-    let list = c.args.list.now in
-    let out =
-    not_yet list k c.args.set.now c.args.self.now c.loop-service.self c.loop-service.invariant
-    c.requires.list c.loop-service-test.true in
-    omega (
-      arith,
-      c.loop-service.invariant.meets.same (slice_index list k) out,
-      c.requires.missing (slice_index list k) (Contains-get_or list k 0 c.loop-service-test.true)
-          (c.if-contains.ensures.0 refl),
-    )
-
 pub wait_for_less-requires-clause-room : goal.wait_for_less-requires-clause-room
 wait_for_less-requires-clause-room c one =
     let k = c.loop-service.service-index in
     let list = c.args.list.now in
     let before = c.loop-service.invariant in
     let out =
-    not_yet list k c.args.set.now c.args.self.now c.loop-service.self before c.requires.list
+    not_yet list k c.args.self.now c.loop-service.self before c.requires.list
     c.loop-service-test.true in
     let room =
     room_for_one before.those c.args.self.now.waits.items c.loop-service.self.waits.items
@@ -50,22 +44,27 @@ loop-service-preserved c =
     let list = c.args.list.now in
     let before = c.loop-service.invariant in
     let out =
-    not_yet list k c.args.set.now c.args.self.now c.loop-service.self before c.requires.list
+    not_yet list k c.args.self.now c.loop-service.self before c.requires.list
     c.loop-service-test.true in
-    rw (take_more list k 0 c.loop-service-test.true) (elim c.if-contains.branch [
-      | then-contains w ↦ rw w.self-is
-          (one_arrives (take k list) c.args.set.now c.args.self.now c.loop-service.self
+    let here = before.meets.same (slice_index list k) out in
+    rw (take_more list k 0 c.loop-service-test.true) (elim c.if-waits_for_some.branch [
+      | then-waits_for_some w ↦
+          let now : 0 < slice_index c.loop-service.self.waits.items (slice_index list k) =
+          w.if-waits_for_some.ensures.0 refl in
+          rw w.self-is
+          (one_arrives (take k list) c.args.self.now c.loop-service.self
           w.wait_for_less.new.self (slice_index list k) before out
-          (c.requires.known k 0 c.loop-service-test.true)
-          (c.requires.missing (slice_index list k)
-          (Contains-get_or list k 0 c.loop-service-test.true) (w.if-contains.ensures.0 refl))
-          (w.if-contains.ensures.0 refl)
+          (c.requires.known k 0 c.loop-service-test.true) (omega (arith, here, now))
           w.wait_for_less.ensures.missing w.wait_for_less.ensures.last w.wait_for_less.ensures.more
           w.wait_for_less.ensures.capacity)
-      | else-contains w ↦ rw w.self-is
-          (one_stays (take k list) c.args.set.now c.args.self.now c.loop-service.self
-          (slice_index list k) before
-          (λ has. let bad : false ≡ true = w.if-contains.ensures.1 has in cc))
+      | else-waits_for_some w ↦ rw w.self-is
+          (one_stays (take k list) c.args.self.now c.loop-service.self (slice_index list k) before
+          (elim (cases_eq (slice_index c.args.self.now.waits.items (slice_index list k)) 0) [
+            | inl none ↦ none
+            | inr some ↦ absurd
+                (let bad : false ≡ true =
+                w.if-waits_for_some.ensures.1 (omega (arith, here, some)) in cc)
+          ]))
     ])
 
 pub returns : goal.returns

@@ -9,28 +9,10 @@ arrive-requires-clause-known c =
     (length c.args.self.now.waits.items) c.needs.ensures.list c.requires.lists.known
     c.requires.can.bound
 
-pub arrive-requires-clause-missing : goal.arrive-requires-clause-missing
-arrive-requires-clause-missing c t there has =
-    c.requires.can.missing t
-    (inl (
-      c.if-contains.ensures.0 refl,
-      has,
-      subst (λ (list : List ℕ). Contains list t) c.needs.ensures.list there,
-    ))
-
 pub arrive-requires-else-contains-clause-known : goal.arrive-requires-else-contains-clause-known
 arrive-requires-else-contains-clause-known c =
     needers_within c.args.graph.now c.needed_by.result.now c.args.service
     (length c.args.self.now.waits.items) c.needed_by.ensures.same c.requires.can.bound
-
-pub arrive-requires-else-contains-clause-missing : goal.arrive-requires-else-contains-clause-missing
-arrive-requires-else-contains-clause-missing c t there has =
-    c.requires.can.missing t
-    (inr (
-      λ lower. (let bad : false ≡ true = c.if-contains.ensures.1 lower in cc),
-      has,
-      (c.needed_by.ensures.same t).0 there,
-    ))
 
 pub returns-then-contains : goal.returns-then-contains
 returns-then-contains c =
@@ -40,12 +22,13 @@ returns-then-contains c =
       same = λ t. (
         λ there.
             let h = (c.arrive.ensures.same t).0 there in
-            inl (lower, h.1, subst (λ (list : List ℕ). Contains list t) c.needs.ensures.list h.0),
+            let need = subst (λ (list : List ℕ). Contains list t) c.needs.ensures.list h.0 in
+            inl (lower, c.requires.can.falls t lower need h.1, need),
         λ next. (c.arrive.ensures.same t).1 (elim next [
           | inl falls ↦ (
             subst (λ (list : List ℕ). Contains list t) (sym c.needs.ensures.list)
                 falls.2,
-            falls.1,
+            c.requires.can.missing t (inl falls),
           )
           | inr rises ↦ absurd (rises.0 lower)
         ]),
@@ -63,10 +46,11 @@ returns-else-contains c =
       same = λ t. (
         λ there.
             let h = (c.arrive-else-contains.ensures.same t).0 there in
-            inr (out, h.1, (c.needed_by.ensures.same t).0 h.0),
+            let need = (c.needed_by.ensures.same t).0 h.0 in
+            inr (out, c.requires.can.rises t out need h.1, need),
         λ next. (c.arrive-else-contains.ensures.same t).1 (elim next [
           | inl falls ↦ absurd (out falls.0)
-          | inr rises ↦ ((c.needed_by.ensures.same t).1 rises.2, rises.1)
+          | inr rises ↦ ((c.needed_by.ensures.same t).1 rises.2, c.requires.can.missing t (inr rises))
         ]),
       );
       meets = c.arrive-else-contains.ensures.meets;

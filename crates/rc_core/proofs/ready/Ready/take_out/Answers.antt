@@ -74,17 +74,17 @@ returns c =
     c.index.ensures 0) ∙ c.loop-at-test.false in
     let out = removed queue c.loop-at.at c.requires.once c.loop-at.invariant.within in
     record {
-      waits = refl;
-      once = subst AreDistinct (sym c.remove.ensures.items)
+      waits = c.remove_at.ensures.waits;
+      once = subst AreDistinct (sym c.remove_at.ensures.queue)
           (all_pairs_remove (λ a b. a ≢ b) queue c.loop-at.at c.loop-at.invariant.within
           c.requires.once);
       ones = λ t. (
         λ there.
             let h =
-            (out t).0 (subst (λ (xs : List ℕ). Contains xs t) c.remove.ensures.items there) in
+            (out t).0 (subst (λ (xs : List ℕ). Contains xs t) c.remove_at.ensures.queue there) in
             (h.0, λ same. h.1 (same ∙ sym here)),
-        λ h. subst (λ (xs : List ℕ). Contains xs t) (sym c.remove.ensures.items)
+        λ h. subst (λ (xs : List ℕ). Contains xs t) (sym c.remove_at.ensures.queue)
             ((out t).1 (h.0, λ same. h.1 (same ∙ here))),
       );
-      capacity = c.remove.ensures.capacity;
+      capacity = c.remove_at.ensures.capacity;
     }
