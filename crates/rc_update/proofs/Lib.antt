@@ -1,0 +1,3 @@
+pub mod CarryingLemmas
+pub mod NeedsLemmas
+pub mod SameLemmas
