@@ -1,3 +1,4 @@
 pub mod LineLemmas
 pub mod NameLemmas
 pub mod JournalLemmas
+pub mod DotLemmas

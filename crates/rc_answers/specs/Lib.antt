@@ -5,3 +5,4 @@ pub mod ReportText
 pub mod RefusalText
 pub mod AnswerText
 pub mod JournalText
+pub mod DotText

@@ -1,7 +1,8 @@
-//! Answers as text: plans, the names that queries find, and what a session tells.
+//! Answers as text: plans, the names that queries find, pictures, and what a session tells.
 #![tactic(auto)]
 
 mod answer;
+mod dot;
 mod journal;
 mod lines;
 mod plan;
@@ -11,6 +12,7 @@ mod stand;
 mod told;
 
 pub use crate::answer::answer_text;
+pub use crate::dot::dot_text;
 pub use crate::journal::journal_text;
 pub use crate::lines::{id_lines, name_lines};
 pub use crate::plan::plan_text;

@@ -1,9 +1,11 @@
 -- What the words ask of `db`, by the matches that `clap` makes of them.
-use Rattle.std.proofs.Common.{◌≡◌, ◌∙◌, ◌<◌, Bor, List, [], ◌∷◌, Option, None, Some, IfNone, IfSome, ap, arith, length, map, sym, subst, codes}
+use Rattle.std.proofs.Common.{◌≡◌, ◌∙◌, ◌<◌, Bor, List, [], ◌∷◌, Option, None, Some, IfNone, IfSome, ap, arith, length, map, refl, sym, subst, codes}
+use Rattle.std.proofs.lemmas.Option.{IfSome_then}
 use Rattle.std.specs.Option.{option_map_or}
 use Rattle.clap.specs.Words.{Row, Text, first_of}
-use Rattle.rc_asked.specs.DbAsked.{AsksIn, AsksNothing, query_words}
-use Rattle.rc_asked.specs.Query.{Check, DbAsk, ListOf, OfName, OfNames, Question, question_of, spelled}
+use Rattle.rc_asked.specs.DbAsked.{AsksIn, AsksNothing, query_words, way_of}
+use Rattle.rc_asked.specs.Query.{Check, DbAsk, Dot, ListOf, OfName, OfNames, Question, ShowsByPicture, question_of, spelled}
+use Rattle.rc_asked.specs.declared.query.NamesQuery.TheVariants.{Atomics, Dependencies, AllDependencies}
 use Rattle.rc_asked.specs.declared.query.Query.{Query}
 use Rattle.rc_command.specs.Words.{rows_for, words_in}
 
@@ -14,6 +16,7 @@ asked_none words none ask asks = let both : Some asks.0 ≡ None = sym asks.1 �
 -- a question has a word
 spelled_some : (question : Question) → [] ≡ spelled question → ⊥
 spelled_some Check e = cc
+spelled_some Dot e = cc
 spelled_some (ListOf which) e = cc
 spelled_some (OfName query name) e = cc
 spelled_some (OfNames query names) e = cc
@@ -33,7 +36,35 @@ some_along word given words found same = subst (λ (ws : List Text). IfSome foun
 pub none_along : (word : Text) (given words : List Text) (found : Option Query) → given ≡ words → IfNone found ((question : Question) → word ∷ given ≡ spelled question → ⊥) → IfNone found ((question : Question) → word ∷ words ≡ spelled question → ⊥)
 none_along word given words found same = subst (λ (ws : List Text). IfNone found ((question : Question) → word ∷ ws ≡ spelled question → ⊥)) same
 
--- the word `check`, and none behind it
-pub checked : (word : Text) (words : List (Bor Text)) → length words < 1 → word ≡ codes "check" → word ∷ map (λ w. w.now) words ≡ codes "check" ∷ []
-checked word [] few is = ap (λ w. w ∷ []) is
-checked word (w ∷ words) few is = absurd (omega arith)
+-- a word, and none behind it
+pub alone : (word text : Text) (words : List (Bor Text)) → length words < 1 → word ≡ text → word ∷ map (λ w. w.now) words ≡ text ∷ []
+alone word text [] few is = ap (λ w. w ∷ []) is
+alone word text (w ∷ words) few is = absurd (omega arith)
+
+-- one word of the picture's, and no word of another question, is a question's spelling
+pub picture_alone : (question : Question) → spelled Dot ≡ spelled question → question ≡ Dot
+picture_alone Check e = cc
+picture_alone Dot e = refl
+picture_alone (ListOf which) e = cc
+picture_alone (OfName query name) e = cc
+picture_alone (OfNames Atomics names) e = cc
+picture_alone (OfNames Dependencies names) e = cc
+picture_alone (OfNames AllDependencies names) e = cc
+
+-- what the matches ask, by what was found in them
+pub asks_as : (rows : List Row) (ask given : DbAsk) → query_words rows ≡ spelled given.question → given.way ≡ way_of rows → given.live ≡ first_of (codes "live") rows
+    → (ask ≡ given) × ShowsByPicture ask → AsksIn rows ask
+asks_as rows ask given words way live both =
+    let same : given ≡ ask = sym both.0 in (
+      words ∙ ap (λ (a : DbAsk). spelled a.question) same,
+      sym (ap (λ (a : DbAsk). a.way) same) ∙ way,
+      sym (ap (λ (a : DbAsk). a.live) same) ∙ live,
+      both.1,
+    )
+
+-- where the matches ask something, what was found in them shows a session by a picture alone
+pub shown_by_picture : (rows : List Row) (given : DbAsk) → query_words rows ≡ spelled given.question → given.live ≡ first_of (codes "live") rows
+    → (ShowsByPicture given → ⊥) → (ask : DbAsk) → AsksIn rows ask → ⊥
+shown_by_picture rows given words live never ask asks =
+    never (subst (λ (o : Option Text). IfSome o (λ file. given.question ≡ Dot)) (asks.2 ∙ sym live)
+    (IfSome_then ask.live asks.3 (λ file is. picture_alone given.question (sym (ap spelled is) ∙ sym asks.0 ∙ words))))

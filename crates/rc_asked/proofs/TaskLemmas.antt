@@ -15,10 +15,10 @@ use Rattle.rc_command.specs.Words.{has_fault, rows_for, rows_named}
 use Rattle.rc_command.proofs.WordsLemmas.{rows_right, rows_wrong}
 use Rattle.rc_asked.specs.Asked.{ask_in, plan_asked}
 use Rattle.rc_asked.specs.DbAsked.{AsksIn, AsksNothing}
-use Rattle.rc_asked.specs.OnceAsked.{OnceAsk, OnceSaying, Said, WantsDryRedo, WantsDryUndo, once_command, once_saying_of}
+use Rattle.rc_asked.specs.OnceAsked.{AsksWhatIn, HasNoEvents, OnceAsk, OnceSaying, Said, WantsDryRedo, WantsDryUndo, once_command, once_saying_of}
 use Rattle.rc_asked.specs.Query.{DbAsk}
 use Rattle.rc_asked.specs.SessionAsked.{AsksNoSession, AsksSessionIn, IsBoundIn, IsCrewIn, SessionAsk}
-use Rattle.rc_asked.specs.Task.{AsksEntered, AsksNamed, AsksNoTask, AsksTask, AsksTaskIn, HasBound, HasWorkers, OfCompile, OfDb, OfOnce, OfPlan, OfReplay, OfSession, OfVersion, TaskAsk, command_of, file_in, task_ask_of}
+use Rattle.rc_asked.specs.Task.{AsksEntered, AsksNamed, AsksNoTask, AsksTask, AsksTaskIn, HasBound, HasWorkers, IsEventless, OfCompile, OfDb, OfOnce, OfPlan, OfReplay, OfSession, OfVersion, TaskAsk, command_of, file_in, task_ask_of}
 use Rattle.rc_asked.specs.declared.task.Task.{Task}
 use Rattle.rc_asked.specs.declared.task.Task.TheVariants as task
 
@@ -93,6 +93,26 @@ asked_bound entered (task.Replay file) asks = tt
 asked_bound entered (task.Session request file) asks = bound_in (first_of (codes "bound") asks.0) request.bound asks.2.0.bound
 asked_bound entered (task.Once request file) asks = bound_in (first_of (codes "bound") asks.0) request.session.bound asks.2.0.1.bound
 asked_bound entered task.Version asks = tt
+
+-- and brings no events
+what_no_events : (rows : List Row) (what : OnceSaying) → AsksWhatIn rows what → HasNoEvents what
+what_no_events rows (Said SaysNothing) asks = tt
+what_no_events rows (Said SaysWrong) asks = tt
+what_no_events rows (Said (SaysStep (Change ask events))) asks = asks.1
+what_no_events rows (Said (SaysStep (Undo limit events))) asks = asks.1
+what_no_events rows (Said (SaysStep (Redo limit events))) asks = asks.1
+what_no_events rows (Said (SaysStep (Add name contents force))) asks = absurd asks
+what_no_events rows (Said (SaysStep (Delete words force))) asks = absurd asks
+what_no_events rows (Said (SaysDry ask)) asks = tt
+what_no_events rows (Said SaysLive) asks = tt
+what_no_events rows (Said SaysBundles) asks = tt
+what_no_events rows (Said SaysJournal) asks = tt
+what_no_events rows WantsDryUndo asks = tt
+what_no_events rows WantsDryRedo asks = tt
+
+pub asked_eventless : (entered : Option (Text × List Row)) (t : Task) → AsksEntered entered (task_ask_of t) → IsEventless t
+asked_eventless entered (task.Once request file) asks = what_no_events asks.0 (once_saying_of request.once) asks.2.0.0
+asked_eventless entered other asks = tt
 
 -- a wrong line asks nothing
 pub wrong_asks : (words : List Text) → has_fault (fault_of program words) ≡ true → AsksNoTask words

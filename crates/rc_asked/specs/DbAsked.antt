@@ -4,7 +4,7 @@ use Rattle.std.specs.Option.{option_map_or}
 use Rattle.clap.specs.Words.{Row, Text, first_of}
 use Rattle.rc_graph.specs.declared.Way.{Way}
 use Rattle.rc_graph.specs.declared.Way.TheVariants.{Raise, Lower}
-use Rattle.rc_asked.specs.Query.{DbAsk, spelled}
+use Rattle.rc_asked.specs.Query.{DbAsk, ShowsByPicture, spelled}
 use Rattle.rc_command.specs.Words.{is_on, rows_for, words_in}
 
 -- the way of the flag `-d`
@@ -15,9 +15,10 @@ way_of rows = if is_on (codes "down") rows then Lower else Raise
 abbrev pub query_words : List Row → List Text
 query_words rows = option_map_or (λ word. word ∷ words_in rows) (first_of (codes "query") rows) []
 
--- the matches of `db` are those of the words of a question, and of its way
+-- the matches of `db` are those of the words of a question, of its way, and of the file of a session, which only a picture shows
 abbrev pub AsksIn : List Row → DbAsk → Type 0
 AsksIn rows ask = (query_words rows ≡ spelled ask.question) × (ask.way ≡ way_of rows)
+    × (ask.live ≡ first_of (codes "live") rows) × ShowsByPicture ask
 
 -- the words ask this of `db`
 abbrev pub AsksDb : List Text → DbAsk → Type 0

@@ -2,7 +2,7 @@
 use Rattle.std.specs.Prelude.{◌≡◌, ℕ, true, false, List, [], Some, codes}
 use Rattle.clap.specs.Words.{Row, Text, first_of}
 use Rattle.rc_select.specs.Ask.{Ask}
-use Rattle.rc_session.specs.Commands.{Add, Change, Delete, Redo, Undo}
+use Rattle.rc_session.specs.Commands.{Add, Change, Delete, Redo, Undo, events_of}
 use Rattle.rc_lines.specs.Says.{Saying, SaysBundles, SaysDry, SaysJournal, SaysLive, SaysNothing, SaysStep, SaysWrong, saying_of}
 use Rattle.rc_command.specs.Words.{is_on}
 use Rattle.rc_asked.specs.Asked.{ask_in}
@@ -38,6 +38,11 @@ once_command (Said SaysBundles) = []
 once_command (Said SaysJournal) = codes "journal"
 once_command WantsDryUndo = codes "undo"
 once_command WantsDryRedo = codes "redo"
+
+-- what one line is to do brings no events
+abbrev pub HasNoEvents : OnceSaying → Type 0
+HasNoEvents (Said (SaysStep command)) = events_of command ≡ []
+HasNoEvents other = Unit {0}
 
 -- the matches of `change` ask this, with the limit that is given
 abbrev pub AsksChangeIn : List Row → Ask → Type 0

@@ -5,7 +5,7 @@ use Rattle.rc_select.specs.Ask.{Ask, ask_of}
 use Rattle.rc_command.specs.Words.{rows_for}
 use Rattle.rc_asked.specs.Asked.{ask_in}
 use Rattle.rc_asked.specs.CompileAsked.{AsksCompileIn, CompileAsk, compile_ask_of}
-use Rattle.rc_asked.specs.OnceAsked.{AsksOnceIn, OnceAsk, once_ask_of, once_command}
+use Rattle.rc_asked.specs.OnceAsked.{AsksOnceIn, HasNoEvents, OnceAsk, once_ask_of, once_command}
 use Rattle.rc_asked.specs.DbAsked.{AsksIn}
 use Rattle.rc_asked.specs.Query.{DbAsk, db_ask_of}
 use Rattle.rc_asked.specs.SessionAsked.{AsksSessionIn, SessionAsk, session_ask_of}
@@ -84,3 +84,8 @@ HasWorkers (task.Session request file) = (1 ≤ request.workers) × (request.wor
 HasWorkers (task.Once request file) =
     (1 ≤ request.session.workers) × (request.session.workers ≤ 64)
 HasWorkers other = Unit {0}
+
+-- a session of one line brings no events
+abbrev pub IsEventless : Task → Type 0
+IsEventless (task.Once request file) = HasNoEvents (once_ask_of request).what
+IsEventless other = Unit {0}

@@ -27,6 +27,8 @@ pub enum WordsFault {
     Ways,
     /// They ask no question of a database.
     Query,
+    /// They name the file of a session, and ask for no picture.
+    Live,
     /// Their number of workers is none from 1 to 64.
     Workers,
     /// Their bound on how many states there are is none of at least 3.
@@ -119,6 +121,10 @@ pub fn tell_words<F: Write>(faults: &mut F, fault: &WordsFault) -> u8
                 faults,
                 b"db has no such query, or it takes other words; `undorc db --help` lists the queries",
             );
+            WRONG_LINE
+        }
+        WordsFault::Live => {
+            tell(faults, b"-l of db goes with the query dot alone");
             WRONG_LINE
         }
         WordsFault::Workers => {

@@ -1,8 +1,8 @@
 //! What the words ask of `db`.
-ghost use Rattle.std.specs.Prelude.{◌≡◌, ◌≢◌, ◌∷◌, [], codes, if◌then◌else◌, map, string_bytes, IfErr, IfNone, IfOk, IfSome};
+ghost use Rattle.std.specs.Prelude.{◌≡◌, ◌≢◌, ◌↔◌, ◌∷◌, [], codes, if◌then◌else◌, map, string_bytes, IfErr, IfNone, IfOk, IfSome, IsTrue};
 ghost use Rattle.clap.specs.Words.{found_of, rows_of};
 ghost use Rattle.rc_asked.specs.DbAsked.{AsksDb, AsksIn, AsksNothing};
-ghost use Rattle.rc_asked.specs.Query.{DbAsk, Question, db_ask_of, list_word, name_word, names_word, question_of, spelled};
+ghost use Rattle.rc_asked.specs.Query.{DbAsk, Dot, Question, ShowsByPicture, ask_by, db_ask_of, list_word, name_word, names_word, question_of, spelled};
 ghost use Rattle.rc_command.specs.Words.{words_in};
 ghost use Rattle.rc_asked.specs.declared.asked.WordsFault.TheVariants.{Memory};
 ghost use Rattle.rc_asked.specs.declared.query.NameQuery.{NameQuery as OfOne};
@@ -49,9 +49,32 @@ pub(crate) fn db_in<'a>(
     };
     let way = way_of(is_on(matches, "down"));
     match query_in(alloc, word, matches)? {
-        Some(query) => Ok(DbRequest { query, way }),
+        Some(query) => request_of(query, way, matches.get_str("live")),
         None => Err(WordsFault::Query),
     }
+}
+
+// The request of a query, a way, and the file of a session, if one is named.
+fn request_of<'a>(
+    query: Query<'a>,
+    way: Way,
+    live: Option<&'a str>,
+) -> Result<DbRequest<'a>, WordsFault>
+    ensures asked { IfOk result (λ request. (db_ask_of request ≡ ask_by query.entry way live.entry)
+        × ShowsByPicture (db_ask_of request)) }
+    ensures wrong { IfErr result (λ fault. ShowsByPicture (ask_by query.entry way live.entry) → ⊥) }
+{
+    if live.is_some() && !is_picture(&query) {
+        return Err(WordsFault::Live);
+    }
+    Ok(DbRequest { query, way, live })
+}
+
+// Whether a query is that of a picture.
+fn is_picture(query: &Query<'_>) -> bool
+    ensures { IsTrue result ↔ (question_of query.now ≡ Dot) }
+{
+    matches!(query, Query::Dot)
 }
 
 // The way that is asked about.
@@ -101,6 +124,8 @@ fn small_query<'a>(word: &str, words: &[&'a str]) -> Option<Query<'a>>
         [] => {
             if word == "check" {
                 Some(Query::Check)
+            } else if word == "dot" {
+                Some(Query::Dot)
             } else {
                 None
             }

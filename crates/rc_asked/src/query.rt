@@ -9,6 +9,8 @@ pub struct DbRequest<'a> {
     pub query: Query<'a>,
     /// The way that is asked about, where the query has one.
     pub way: Way,
+    /// The file of a session, of which a picture shows what is up.
+    pub live: Option<&'a str>,
 }
 
 /// What is asked of a database.
@@ -16,6 +18,8 @@ pub struct DbRequest<'a> {
 pub enum Query<'a> {
     /// Whether it is one.
     Check,
+    /// Its picture.
+    Dot,
     /// The names of one sort.
     List(Which),
     /// What is said of one name.

@@ -9,6 +9,7 @@ use crate::program_words::{Making, making_in};
 use crate::task::{Task, task_of};
 use clap::ArgMatches;
 use rc_command::is_on;
+use rc_line::USUAL_BOUND;
 use std::alloc::Global;
 
 /// The workers of a session, where no number is given.
@@ -16,9 +17,6 @@ const USUAL_WORKERS: u8 = 4;
 
 /// The most workers of a session.
 const MAX_WORKERS: u8 = 64;
-
-/// The most states of a new session, where no number is given.
-const USUAL_BOUND: u32 = 1024;
 
 /// The least number that a session may have as the most of its states.
 const LEAST_BOUND: u32 = 3;

@@ -2,7 +2,7 @@
 ghost use Rattle.std.specs.Prelude.{◌≡◌, ◌≢◌, Option, codes, map, string_bytes, IfErr, IfOk};
 ghost use Rattle.clap.specs.Words.{Text, found_of, rows_of, subcommand_rows_of};
 ghost use Rattle.rc_asked.specs.OnceAsked.{OnceAsk};
-ghost use Rattle.rc_asked.specs.Task.{AsksEntered, AsksNamed, AsksNoTask, AsksTask, HasBound, HasWorkers};
+ghost use Rattle.rc_asked.specs.Task.{AsksEntered, AsksNamed, AsksNoTask, AsksTask, HasBound, HasWorkers, IsEventless};
 ghost use Rattle.rc_asked.specs.Task.{OfOnce, TaskAsk, task_ask_of};
 ghost use Rattle.rc_asked.specs.declared.asked.WordsFault.TheVariants.{Memory};
 
@@ -41,6 +41,7 @@ pub fn task_of<'a>(alloc: Global, words: &'a [String]) -> Result<Task<'a>, Words
     ensures asked { IfOk result (λ task. AsksTask (map string_bytes words.entry.now) (task_ask_of task)) }
     ensures workers { IfOk result HasWorkers }
     ensures bound { IfOk result HasBound }
+    ensures eventless { IfOk result IsEventless }
     ensures wrong { IfErr result (λ fault. fault ≢ Memory → AsksNoTask (map string_bytes words.entry.now)) }
 {
     match matches_of(alloc, words) {

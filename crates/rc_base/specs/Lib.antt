@@ -1,3 +1,4 @@
 pub mod Base
 pub mod Opening
 pub mod TextFaultWord
+pub mod LiveFaultWord

@@ -7,7 +7,7 @@ ghost use Rattle.rc_command.specs.Commands.{change_command, compile_command, db_
 ghost use Rattle.rc_command.specs.Commands.{replay_command, session_command, show_command, step_command};
 ghost use Rattle.rc_command.specs.Commands.{base_option, flag, option, query_word, source_list, word_list};
 ghost use Rattle.rc_command.specs.Commands.{with_crew, with_live, with_making, with_names, with_once, with_programs};
-ghost use Rattle.rc_command.specs.Commands.{with_session, with_watch, with_ways};
+ghost use Rattle.rc_command.specs.Commands.{with_session, with_shown, with_watch, with_ways};
 
 use clap::{Arg, ArgAction, Command};
 use std::alloc::{AllocError, Global};
@@ -135,6 +135,20 @@ fn db_command<'a>(alloc: Global) -> Result<Command<'a>, AllocError>
         "Reads a database, and prints the answer of a query",
     );
     let command = with_arg(command, base_argument(alloc));
+    let command = with_arg(with_shown(alloc, command), query_argument(alloc));
+    with_arg(
+        command,
+        words_argument(alloc, "WORD", "The names that it is asked of"),
+    )
+}
+
+// The command with the flag of the way, and the option of the file whose session a picture shows.
+fn with_shown<'a>(
+    alloc: Global,
+    command: Result<Command<'a>, AllocError>,
+) -> Result<Command<'a>, AllocError>
+    ensures { (app : App) → Reads command.entry app → Reads result (with_shown app) }
+{
     let command = with_arg(
         command,
         flag(
@@ -144,10 +158,15 @@ fn db_command<'a>(alloc: Global) -> Result<Command<'a>, AllocError>
             "Ask for what needs the names, or for the way down",
         ),
     );
-    let command = with_arg(command, query_argument(alloc));
     with_arg(
         command,
-        words_argument(alloc, "WORD", "The names that it is asked of"),
+        option(
+            alloc,
+            "live",
+            'l',
+            "FILE",
+            "With dot: fill what is up in the session that this file holds",
+        ),
     )
 }
 
@@ -509,7 +528,7 @@ fn query_argument<'a>(alloc: Global) -> Arg<'a>
         .action(ArgAction::Set)
         .required(true)
         .help(
-            "What is asked: check, list, type, timeout, flags, contents, pipeline, script, atomics, dependencies or all-dependencies",
+            "What is asked: check, dot, list, type, timeout, flags, contents, pipeline, script, atomics, dependencies or all-dependencies",
         )
 }
 

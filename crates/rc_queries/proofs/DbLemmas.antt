@@ -14,7 +14,11 @@ use Rattle.rc_db.specs.Database.{Database, IsDatabase}
 use Rattle.rc_db.specs.Named.{Selected}
 use Rattle.rc_db.proofs.Words.{bound_of_value}
 use Rattle.rc_queries.specs.DbAnswer.{IsFound}
-use Rattle.rc_queries.specs.DbFaults.{IfRead}
+use Rattle.rc_base.specs.Base.{Spells}
+use Rattle.rc_queries.specs.DbFaults.{IfRead, IsDbRefused, IsOfQuery, IsQuestionFault, IsUnanswered}
+use Rattle.rc_queries.specs.declared.db_fault.DbFault.{DbFault}
+use Rattle.rc_queries.specs.declared.db_fault.DbFault.TheVariants.{OfText, OfQuery, OfLive, Memory}
+use Rattle.rc_asked.specs.Query.{DbAsk, Question}
 use Rattle.rc_asked.specs.declared.query.NamesQuery.{NamesQuery}
 use Rattle.rc_asked.specs.declared.query.NamesQuery.TheVariants.{Atomics, Dependencies, AllDependencies}
 
@@ -75,3 +79,17 @@ pub if_read_then : (base remaining : Option (List ℕ)) (P Q : List ℕ → Type
 if_read_then (Some bytes) remaining P Q then h = then [] h
 if_read_then None None P Q then h = tt
 if_read_then None (Some input) P Q then h = then input h
+
+-- a refusal of the question is one of the answer
+pub question_unanswered : (d : Database) (question : Question) (shown : Option (List ℕ)) (fault : DbFault) → IsOfQuery (IsQuestionFault d question) fault → IsUnanswered d question shown fault
+question_unanswered d question shown (OfText fault) never = never
+question_unanswered d question shown (OfQuery fault) is = is
+question_unanswered d question shown (OfLive fault) never = absurd never
+question_unanswered d question shown Memory is = is
+
+-- a refusal of the answer is one of what is asked
+pub unanswered_refused : (fault : DbFault) (ask : DbAsk) (base shown : Option (List ℕ)) (input : List ℕ) (d : Database) (rest : List ℕ) → Spells base input d rest → IsUnanswered d ask.question shown fault → IsDbRefused fault ask base shown input
+unanswered_refused (OfText fault) ask base shown input d rest spelled never = absurd never
+unanswered_refused (OfQuery fault) ask base shown input d rest spelled is = (d, rest, spelled, is)
+unanswered_refused (OfLive fault) ask base shown input d rest spelled is = (d, rest, spelled, is)
+unanswered_refused Memory ask base shown input d rest spelled is = tt

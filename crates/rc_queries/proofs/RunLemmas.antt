@@ -31,10 +31,10 @@ pub plan_begun : (words : List (List ℕ)) (ask : Ask) (base : Option (List ℕ)
     → WritesFront (IsPlanFor ask base input) old new → WritesFront (IsAnswer words base input) old new
 plan_begun words ask base input old new asked h = (h.0, (ask, asked, h.1), h.2)
 
-pub answer_written : (words : List (List ℕ)) (ask : DbAsk) (base : Option (List ℕ)) (input : List ℕ) (old new : Option (List ℕ)) → AsksDb words ask
-    → WritesAll (IsAnswerFor ask base input) old new → WritesAll (IsDbAnswer words base input) old new
-answer_written words ask base input old new asked h = (h.0, (ask, asked, h.1), h.2)
+pub answer_written : (words : List (List ℕ)) (ask : DbAsk) (base shown : Option (List ℕ)) (input : List ℕ) (old new : Option (List ℕ)) → AsksDb words ask
+    → WritesAll (IsAnswerFor ask base shown input) old new → WritesAll (IsDbAnswer words base shown input) old new
+answer_written words ask base shown input old new asked h = (h.0, (ask, asked, h.1), h.2)
 
-pub answer_begun : (words : List (List ℕ)) (ask : DbAsk) (base : Option (List ℕ)) (input : List ℕ) (old new : Option (List ℕ)) → AsksDb words ask
-    → WritesFront (IsAnswerFor ask base input) old new → WritesFront (IsDbAnswer words base input) old new
-answer_begun words ask base input old new asked h = (h.0, (ask, asked, h.1), h.2)
+pub answer_begun : (words : List (List ℕ)) (ask : DbAsk) (base shown : Option (List ℕ)) (input : List ℕ) (old new : Option (List ℕ)) → AsksDb words ask
+    → WritesFront (IsAnswerFor ask base shown input) old new → WritesFront (IsDbAnswer words base shown input) old new
+answer_begun words ask base shown input old new asked h = (h.0, (ask, asked, h.1), h.2)

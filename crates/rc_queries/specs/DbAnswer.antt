@@ -1,5 +1,5 @@
 -- What is printed for a question.
-use Rattle.std.specs.Prelude.{◌≡◌, ℕ, Bool, true, false, List, [], All, Option, Some, codes, slice_get}
+use Rattle.std.specs.Prelude.{◌≡◌, ℕ, Bool, true, false, List, [], All, Option, None, Some, codes, slice_get}
 use Rattle.std.specs.Fmt.{decimal}
 use Rattle.clap.specs.Words.{Text}
 use Rattle.rc_names.specs.declared.kind.Kind.{Kind}
@@ -13,10 +13,13 @@ use Rattle.rc_db.specs.Pipeline.{InPipelineOf}
 use Rattle.rc_names.specs.Names.{ListsNames}
 use Rattle.rc_db.specs.Queries.{IsKindOf, IsNextTo, IsServiceNamed, IsShown, IsWithAll}
 use Rattle.rc_db.specs.Service.{Service, limit_of, script_of}
+use Rattle.rc_line.specs.Line.{Line}
+use Rattle.rc_livetext.specs.Spelling as texts
+use Rattle.rc_answers.specs.DotText.{dot_text}
 use Rattle.rc_answers.specs.Lines.{line, name_lines, names_at}
 use Rattle.rc_base.specs.Base.{Spells}
 use Rattle.rc_asked.specs.DbAsked.{AsksDb}
-use Rattle.rc_asked.specs.Query.{Check, DbAsk, ListOf, OfName, OfNames, Question}
+use Rattle.rc_asked.specs.Query.{Check, DbAsk, Dot, ListOf, OfName, OfNames, Question}
 use Rattle.rc_asked.specs.declared.query.NameQuery.{NameQuery}
 use Rattle.rc_asked.specs.declared.query.NameQuery.TheVariants as of_name
 use Rattle.rc_asked.specs.declared.query.NamesQuery.{NamesQuery}
@@ -80,20 +83,30 @@ IsFound d way of_names.AllDependencies In = IsWithAll d.needs way In
 abbrev pub IsNamesAnswer : Database → Way → NamesQuery → List Text → List ℕ → Type 0
 IsNamesAnswer d way query names text = All (IsKnown d.names d.table) names × IsListed d (IsFound d way query (Selected d.names d.table names)) text
 
--- the answer of a question: nothing, names in byte order, or that of its query
-abbrev pub IsAnswerTo : Database → Way → Question → List ℕ → Type 0
-IsAnswerTo d way Check text = text ≡ []
-IsAnswerTo d way (ListOf which) text = (names : List Text) × ListsNames (IsShown d which) names × (text ≡ name_lines names)
-IsAnswerTo d way (OfName query name) text = IsNameAnswer d way query name text
-IsAnswerTo d way (OfNames query names) text = IsNamesAnswer d way query names text
+-- what is live where the text of a session stands, and nothing without one
+abbrev pub IsLiveBy : Database → Option (List ℕ) → List Bool → Type 0
+IsLiveBy d None live = live ≡ []
+IsLiveBy d (Some bytes) live = (line : Line) × texts.Spells d bytes line × (live ≡ line.current.live)
 
--- what is written for what is asked, in the database that is spelled
-pub record IsAnswerFor (ask : DbAsk) (base : Option (List ℕ)) (input output : List ℕ) : Type 0 where
+-- the picture, with what is live filled
+abbrev pub IsPicture : Database → Option (List ℕ) → List ℕ → Type 0
+IsPicture d shown text = (live : List Bool) × IsLiveBy d shown live × (text ≡ dot_text d live)
+
+-- the answer of a question: nothing, the picture, names in byte order, or that of its query
+abbrev pub IsAnswerTo : Database → Way → Option (List ℕ) → Question → List ℕ → Type 0
+IsAnswerTo d way shown Check text = text ≡ []
+IsAnswerTo d way shown Dot text = IsPicture d shown text
+IsAnswerTo d way shown (ListOf which) text = (names : List Text) × ListsNames (IsShown d which) names × (text ≡ name_lines names)
+IsAnswerTo d way shown (OfName query name) text = IsNameAnswer d way query name text
+IsAnswerTo d way shown (OfNames query names) text = IsNamesAnswer d way query names text
+
+-- what is written for what is asked, in the database that is spelled, where this is the text of the session to show
+pub record IsAnswerFor (ask : DbAsk) (base shown : Option (List ℕ)) (input output : List ℕ) : Type 0 where
   pub database : Database
   pub rest : List ℕ
   pub spelled : Spells base input database rest
-  pub text : IsAnswerTo database ask.way ask.question output
+  pub text : IsAnswerTo database ask.way shown ask.question output
 
 -- the same, of the words that ask
-abbrev pub IsDbAnswer : List Text → Option (List ℕ) → List ℕ → List ℕ → Type 0
-IsDbAnswer words base input output = (ask : DbAsk) × AsksDb words ask × IsAnswerFor ask base input output
+abbrev pub IsDbAnswer : List Text → (base shown : Option (List ℕ)) → List ℕ → List ℕ → Type 0
+IsDbAnswer words base shown input output = (ask : DbAsk) × AsksDb words ask × IsAnswerFor ask base shown input output

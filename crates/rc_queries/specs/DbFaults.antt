@@ -8,12 +8,16 @@ use Rattle.rc_db.specs.declared.fault.QueryFault.TheVariants as wrong
 use Rattle.rc_dbtext.specs.declared.fault.TextFault.{TextFault}
 use Rattle.rc_dbtext.specs.declared.fault.TextFault.TheVariants as text
 use Rattle.rc_base.specs.Base.{IsTextFault, Spells}
+use Rattle.rc_base.specs.LiveFaultWord.{live_word}
 use Rattle.rc_base.specs.TextFaultWord.{text_word}
+use Rattle.rc_livetext.specs.LiveFaults.{IsLiveFault}
+use Rattle.rc_livetext.specs.declared.fault.LiveFault.{LiveFault}
+use Rattle.rc_livetext.specs.declared.fault.LiveFault.TheVariants as live
 use Rattle.rc_asked.specs.DbAsked.{AsksDb}
 use Rattle.rc_streams.specs.Input.{AppendsFront, fault_line}
-use Rattle.rc_asked.specs.Query.{Check, DbAsk, ListOf, OfName, OfNames, Question, names_in}
+use Rattle.rc_asked.specs.Query.{Check, DbAsk, Dot, ListOf, OfName, OfNames, Question, names_in}
 use Rattle.rc_queries.specs.declared.db_fault.DbFault.{DbFault}
-use Rattle.rc_queries.specs.declared.db_fault.DbFault.TheVariants.{OfText, OfQuery, Memory}
+use Rattle.rc_queries.specs.declared.db_fault.DbFault.TheVariants.{OfText, OfQuery, OfLive, Memory}
 use Rattle.rc_asked.specs.declared.query.NameQuery.{NameQuery}
 use Rattle.rc_asked.specs.declared.query.NameQuery.TheVariants as of_name
 
@@ -29,6 +33,7 @@ asked_by of_name.Script = OfOneshot
 -- when a question is refused, want of memory aside
 abbrev pub IsQuestionFault : Database → Question → QueryFault → Type 0
 IsQuestionFault d Check fault = ⊥
+IsQuestionFault d Dot fault = ⊥
 IsQuestionFault d (ListOf which) fault = ⊥
 IsQuestionFault d (OfName query name) fault = IsQueryFault d (asked_by query) name fault
 IsQuestionFault d (OfNames query names) fault = IsNamesFault d.names d.table names fault
@@ -37,13 +42,26 @@ IsQuestionFault d (OfNames query names) fault = IsNamesFault d.names d.table nam
 abbrev pub IsOfQuery : (QueryFault → Type 0) → DbFault → Type 0
 IsOfQuery Is (OfText fault) = ⊥
 IsOfQuery Is (OfQuery fault) = (fault ≢ wrong.Memory) × Is fault
+IsOfQuery Is (OfLive fault) = ⊥
 IsOfQuery Is Memory = Unit {0}
 
--- when each refusal comes: those of the text, and then those of the query
-abbrev pub IsDbRefused : DbFault → DbAsk → Option (List ℕ) → List ℕ → Type 0
-IsDbRefused (OfText fault) ask base input = (fault ≢ text.Memory) × IsTextFault base input fault
-IsDbRefused (OfQuery fault) ask base input = (fault ≢ wrong.Memory) × ((d : Database) × (rest : List ℕ) × Spells base input d rest × IsQuestionFault d ask.question fault)
-IsDbRefused Memory ask base input = Unit {0}
+-- when the text of a session is refused, want of memory aside: it is none of the database
+abbrev pub IsShownFault : Database → Option (List ℕ) → LiveFault → Type 0
+IsShownFault d None fault = ⊥
+IsShownFault d (Some bytes) fault = (fault ≢ live.Memory) × IsLiveFault d bytes fault
+
+-- when there is no answer in a database: the question is refused, or the session that a picture is to show
+abbrev pub IsUnanswered : Database → Question → Option (List ℕ) → DbFault → Type 0
+IsUnanswered d question shown (OfText fault) = ⊥
+IsUnanswered d question shown (OfQuery fault) = (fault ≢ wrong.Memory) × IsQuestionFault d question fault
+IsUnanswered d question shown (OfLive fault) = (question ≡ Dot) × IsShownFault d shown fault
+IsUnanswered d question shown Memory = Unit {0}
+
+-- when each refusal comes: those of the text, and then those of the answer
+abbrev pub IsDbRefused : DbFault → DbAsk → (base shown : Option (List ℕ)) → List ℕ → Type 0
+IsDbRefused (OfText fault) ask base shown input = (fault ≢ text.Memory) × IsTextFault base input fault
+IsDbRefused Memory ask base shown input = Unit {0}
+IsDbRefused fault ask base shown input = (d : Database) × (rest : List ℕ) × Spells base input d rest × IsUnanswered d ask.question shown fault
 
 -- a fault of a question in words: of an unknown name the name, too
 abbrev pub query_word : QueryFault → Question → List ℕ
@@ -58,15 +76,16 @@ query_word wrong.Memory question = codes "Memory"
 abbrev pub db_fault_text : DbFault → Question → List ℕ
 db_fault_text (OfText fault) question = text_word fault
 db_fault_text (OfQuery fault) question = query_word fault question
+db_fault_text (OfLive fault) question = live_word fault
 db_fault_text Memory question = codes "Memory"
 
 -- a refusal of what is asked holds, and a writer gains a front of the line that tells it
-abbrev pub TellsAnswerFault : DbAsk → Option (List ℕ) → List ℕ → Option (List ℕ) → Option (List ℕ) → Type 0
-TellsAnswerFault ask base input old new = (fault : DbFault) × IsDbRefused fault ask base input × (fault ≢ Memory) × AppendsFront old new (fault_line (db_fault_text fault ask.question))
+abbrev pub TellsAnswerFault : DbAsk → (base shown : Option (List ℕ)) → List ℕ → Option (List ℕ) → Option (List ℕ) → Type 0
+TellsAnswerFault ask base shown input old new = (fault : DbFault) × IsDbRefused fault ask base shown input × (fault ≢ Memory) × AppendsFront old new (fault_line (db_fault_text fault ask.question))
 
 -- the same, of the words that ask
-abbrev pub TellsDbFault : List Text → Option (List ℕ) → List ℕ → Option (List ℕ) → Option (List ℕ) → Type 0
-TellsDbFault words base input old new = (ask : DbAsk) × AsksDb words ask × TellsAnswerFault ask base input old new
+abbrev pub TellsDbFault : List Text → (base shown : Option (List ℕ)) → List ℕ → Option (List ℕ) → Option (List ℕ) → Type 0
+TellsDbFault words base shown input old new = (ask : DbAsk) × AsksDb words ask × TellsAnswerFault ask base shown input old new
 
 -- a fault of the text as a refusal
 abbrev pub IsTextTold : TextFault → DbFault → Type 0
@@ -75,6 +94,10 @@ IsTextTold fault refusal = ((fault ≡ text.Memory) × (refusal ≡ Memory)) ⊎
 -- a fault of a query as a refusal
 abbrev pub IsQueryTold : QueryFault → DbFault → Type 0
 IsQueryTold fault refusal = ((fault ≡ wrong.Memory) × (refusal ≡ Memory)) ⊎ ((fault ≢ wrong.Memory) × (refusal ≡ OfQuery fault))
+
+-- a fault of the text of a session as a refusal
+abbrev pub IsLiveTold : LiveFault → DbFault → Type 0
+IsLiveTold fault refusal = ((fault ≡ live.Memory) × (refusal ≡ Memory)) ⊎ ((fault ≢ live.Memory) × (refusal ≡ OfLive fault))
 
 -- what is so of the input that is read: none of it where there is a base, and else all of what a reader has
 abbrev pub IfRead : Option (List ℕ) → Option (List ℕ) → (List ℕ → Type 0) → Type 0

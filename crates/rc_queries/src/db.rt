@@ -21,14 +21,13 @@ use std::io::{Read, Write};
 /// Runs `undorc db` on its words, and answers the status.
 ///
 /// The database is `base`, where there is one, and then nothing is read; else it stands at the
-/// front
-/// of the input, and the rest of that is ignored. The answer is written to `writer`, and why there
-/// is
-/// none to `faults`.
+/// front of the input, and the rest of that is ignored. A picture shows the session whose text is
+/// `shown`, if there is one. The answer is written to `writer`, and why there is none to `faults`.
 pub fn db_run<R: Read, W: Write, F: Write>(
     alloc: Global,
     words: &[String],
     base: Option<&[u8]>,
+    shown: Option<&[u8]>,
     reader: &mut Noted<R>,
     writer: &mut Noted<W>,
     faults: &mut F,
@@ -38,15 +37,15 @@ pub fn db_run<R: Read, W: Write, F: Write>(
     // What was written is the answer of what the words ask, and nothing was told.
     ensures done { result ≡ 0 → IfRead (bytes_of base.entry) (R.remaining (inner_of reader.old))
         (λ input. WritesAll
-        (IsDbAnswer (map string_bytes words.now) (bytes_of base.entry) input)
+        (IsDbAnswer (map string_bytes words.now) (bytes_of base.entry) (bytes_of shown.entry) input)
         (W.contents (inner_of writer.old)) (W.contents (inner_of writer.new))) }
     ensures untold { result ≡ 0 → F.contents faults.new ≡ F.contents faults.old }
 
     // A refusal holds, and a front of its line was told, or all of it.
     ensures refused { result ≡ 1 → IfRead (bytes_of base.entry) (R.remaining (inner_of reader.old))
         (λ input. TellsDbFault
-        (map string_bytes words.now) (bytes_of base.entry) input (F.contents faults.old)
-        (F.contents faults.new)) }
+        (map string_bytes words.now) (bytes_of base.entry) (bytes_of shown.entry) input
+        (F.contents faults.old) (F.contents faults.new)) }
 
     // A wrong command line is found before anything is read.
     ensures wrong { result ≡ 100 → AsksNothing (map string_bytes words.now) }
@@ -66,7 +65,7 @@ pub fn db_run<R: Read, W: Write, F: Write>(
     ensures begun { result ≡ 111 → (W.contents (inner_of writer.new)
         ≡ W.contents (inner_of writer.old))
         ⊎ IfRead (bytes_of base.entry) (R.remaining (inner_of reader.old)) (λ input. WritesFront
-        (IsDbAnswer (map string_bytes words.now) (bytes_of base.entry) input)
+        (IsDbAnswer (map string_bytes words.now) (bytes_of base.entry) (bytes_of shown.entry) input)
         (W.contents (inner_of writer.old)) (W.contents (inner_of writer.new))) }
     ensures unwritten { (result ≡ 1) ⊎ (result ≡ 100) → W.contents (inner_of writer.new)
         ≡ W.contents (inner_of writer.old) }
@@ -83,7 +82,7 @@ pub fn db_run<R: Read, W: Write, F: Write>(
         (R.remaining (inner_of reader.new)) (MAX_INPUT + 1) }
 {
     match db_asked(alloc, words) {
-        Ok(request) => db_as_asked(alloc, &request, base, reader, writer, faults),
+        Ok(request) => db_as_asked(alloc, &request, base, shown, reader, writer, faults),
         Err(fault) => tell_words(faults, &fault),
     }
 }
@@ -93,6 +92,7 @@ pub fn db_as_asked<R: Read, W: Write, F: Write>(
     alloc: Global,
     request: &DbRequest<'_>,
     base: Option<&[u8]>,
+    shown: Option<&[u8]>,
     reader: &mut Noted<R>,
     writer: &mut Noted<W>,
     faults: &mut F,
@@ -102,15 +102,15 @@ pub fn db_as_asked<R: Read, W: Write, F: Write>(
     // What was written is the answer of what is asked, and nothing was told.
     ensures done { result ≡ 0 → IfRead (bytes_of base.entry) (R.remaining (inner_of reader.old))
         (λ input. WritesAll
-        (IsAnswerFor (db_ask_of request.now) (bytes_of base.entry) input)
+        (IsAnswerFor (db_ask_of request.now) (bytes_of base.entry) (bytes_of shown.entry) input)
         (W.contents (inner_of writer.old)) (W.contents (inner_of writer.new))) }
     ensures untold { result ≡ 0 → F.contents faults.new ≡ F.contents faults.old }
 
     // A refusal holds, and a front of its line was told, or all of it.
     ensures refused { result ≡ 1 → IfRead (bytes_of base.entry) (R.remaining (inner_of reader.old))
         (λ input. TellsAnswerFault
-        (db_ask_of request.now) (bytes_of base.entry) input (F.contents faults.old)
-        (F.contents faults.new)) }
+        (db_ask_of request.now) (bytes_of base.entry) (bytes_of shown.entry) input
+        (F.contents faults.old) (F.contents faults.new)) }
 
     // A failure is told by the line of its cause, and what was written is nothing or a front of the
     // answer.
@@ -124,7 +124,7 @@ pub fn db_as_asked<R: Read, W: Write, F: Write>(
     ensures begun { result ≡ 111 → (W.contents (inner_of writer.new)
         ≡ W.contents (inner_of writer.old))
         ⊎ IfRead (bytes_of base.entry) (R.remaining (inner_of reader.old)) (λ input. WritesFront
-        (IsAnswerFor (db_ask_of request.now) (bytes_of base.entry) input)
+        (IsAnswerFor (db_ask_of request.now) (bytes_of base.entry) (bytes_of shown.entry) input)
         (W.contents (inner_of writer.old)) (W.contents (inner_of writer.new))) }
     ensures unwritten { result ≡ 1 → W.contents (inner_of writer.new)
         ≡ W.contents (inner_of writer.old) }
@@ -144,7 +144,7 @@ pub fn db_as_asked<R: Read, W: Write, F: Write>(
         Ok(input) => input,
         Err(failure) => return fail(faults, failure),
     };
-    match answer_for(alloc, request, base, &input) {
+    match answer_for(alloc, request, base, shown, &input) {
         Ok(text) => write_answer(writer, faults, &text),
         Err(fault) => tell_db_fault(alloc, faults, fault, &request.query),
     }
@@ -179,15 +179,16 @@ fn answer_for(
     alloc: Global,
     request: &DbRequest<'_>,
     base: Option<&[u8]>,
+    shown: Option<&[u8]>,
     input: &[u8],
 ) -> Result<Vec<u8>, DbFault>
     ensures answer { IfOk result (λ text. IsAnswerFor (db_ask_of request.now)
-        (bytes_of base.entry) input.now text.items) }
+        (bytes_of base.entry) (bytes_of shown.entry) input.now text.items) }
     ensures fault { IfErr result (λ fault. IsDbRefused fault (db_ask_of request.now)
-        (bytes_of base.entry) input.now) }
+        (bytes_of base.entry) (bytes_of shown.entry) input.now) }
 {
     let (db, _rest) = database_of(alloc, base, input)?;
-    let answer = answer_to(alloc, &db, &request.query, request.way);
+    let answer = answer_to(alloc, &db, &request.query, request.way, shown);
     drop(db);
     answer
 }

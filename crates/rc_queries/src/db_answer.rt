@@ -1,19 +1,23 @@
 //! The answers of questions about a database, as they are printed.
-ghost use Rattle.std.specs.Prelude.{◌≡◌, map, string_bytes, All, IfErr, IfOk, OnOk};
+ghost use Rattle.std.specs.Prelude.{◌≡◌, None, Some, [], map, string_bytes, All, IfErr, IfOk, OnOk};
 ghost use Rattle.rc_set.specs.Set.{Lists};
+ghost use Rattle.rc_answers.specs.DotText.{dot_text};
 ghost use Rattle.rc_answers.specs.Lines.{line};
+ghost use Rattle.rc_base.specs.Base.{bytes_of};
 ghost use Rattle.rc_db.specs.Named.{IsKnown, Selected};
 ghost use Rattle.rc_db.specs.QueryFaults.{AnyName, IsNamesFault, IsQueryFault, OfBundle, OfLongrun, OfOneshot, OfService};
-ghost use Rattle.rc_queries.specs.DbAnswer.{IsAnswerTo, IsContentsText, IsFlagsText, IsFound, IsKindText, IsLimitText, IsNameAnswer, IsNamesAnswer, IsPipelineText, IsScriptText, kind_word};
-ghost use Rattle.rc_queries.specs.DbFaults.{IsOfQuery, IsQuestionFault, asked_by};
-ghost use Rattle.rc_asked.specs.Query.{ListOf, question_of};
+ghost use Rattle.rc_queries.specs.DbAnswer.{IsAnswerTo, IsContentsText, IsFlagsText, IsFound, IsKindText, IsLimitText, IsNameAnswer, IsNamesAnswer, IsPicture, IsPipelineText, IsScriptText, kind_word};
+ghost use Rattle.rc_queries.specs.DbFaults.{IsOfQuery, IsUnanswered, asked_by};
+ghost use Rattle.rc_asked.specs.Query.{Dot, ListOf, question_of};
 
 use crate::db_fault::DbFault;
-use rc_answers::{id_lines, name_lines};
+use rc_answers::{dot_text, id_lines, name_lines};
 use rc_asked::{NameQuery, NamesQuery, Query};
 use rc_db::{Db, QueryFault, Which};
 use rc_graph::Way;
+use rc_livetext::read_live;
 use rc_names::Kind;
+use rc_set::Set;
 use std::alloc::Global;
 
 /// What is printed for a query.
@@ -22,21 +26,57 @@ pub(crate) fn answer_to(
     db: &Db,
     query: &Query<'_>,
     way: Way,
+    shown: Option<&[u8]>,
 ) -> Result<Vec<u8>, DbFault>
-    ensures text { IfOk result (λ text. IsAnswerTo db.now way (question_of query.now) text.items) }
-    ensures fault { IfErr result (IsOfQuery (IsQuestionFault db.now (question_of query.now))) }
+    ensures text { IfOk result (λ text. IsAnswerTo db.now way (bytes_of shown.entry) (question_of query.now) text.items) }
+    ensures fault { IfErr result (IsUnanswered db.now (question_of query.now) (bytes_of shown.entry)) }
 {
     match query {
         Query::Check => Ok(Vec::new(alloc)),
+        Query::Dot => picture(alloc, db, shown),
         Query::List(which) => list_text(alloc, db, *which),
         Query::OfName(query, name) => name_text(alloc, db, *query, name, way),
         Query::OfNames(query, names) => names_text(alloc, db, *query, names, way),
     }
 }
 
+// The picture, in which what is up in a session is filled, and without one nothing.
+fn picture(alloc: Global, db: &Db, shown: Option<&[u8]>) -> Result<Vec<u8>, DbFault>
+    ensures text { IfOk result (λ text. IsPicture db.now (bytes_of shown.entry) text.items) }
+    ensures fault { IfErr result (IsUnanswered db.now Dot (bytes_of shown.entry)) }
+{
+    match shown {
+        Some(bytes) => filled_picture(alloc, db, bytes),
+        None => plain_picture(alloc, db),
+    }
+}
+
+// The picture with nothing filled.
+fn plain_picture(alloc: Global, db: &Db) -> Result<Vec<u8>, DbFault>
+    ensures text { IfOk result (λ text. text.items ≡ dot_text db.now []) }
+    ensures fault { IfErr result (λ fault. fault ≡ DbFault.Memory) }
+{
+    let none = Set::empty(alloc, 0)?;
+    Ok(dot_text(alloc, db, &none)?)
+}
+
+// The picture, in which what is up by the text of a session is filled.
+fn filled_picture(alloc: Global, db: &Db, bytes: &[u8]) -> Result<Vec<u8>, DbFault>
+    ensures text { IfOk result (λ text. IsPicture db.now (Some bytes.now) text.items) }
+    ensures fault { IfErr result (IsUnanswered db.now Dot (Some bytes.now)) }
+{
+    let (line, _states) = match read_live(alloc, bytes, db) {
+        Ok(read) => read,
+        Err(fault) => return Err(DbFault::from(fault)),
+    };
+    let text = dot_text(alloc, db, line.live());
+    drop(line);
+    Ok(text?)
+}
+
 // The names of one sort.
 fn list_text(alloc: Global, db: &Db, which: Which) -> Result<Vec<u8>, DbFault>
-    ensures text { IfOk result (λ text. IsAnswerTo db.now Way.Raise (ListOf which) text.items) }
+    ensures text { IfOk result (λ text. IsAnswerTo db.now Way.Raise None (ListOf which) text.items) }
     ensures fault { IfErr result (λ fault. fault ≡ DbFault.Memory) }
 {
     let names = db.list(alloc, which)?;

@@ -1,14 +1,15 @@
 //! Why `db` refuses, and how it tells that.
 ghost use Rattle.std.specs.Prelude.{◌≡◌, ◌≢◌, ◌⊎◌, slice_get, option_map, IfOk};
-ghost use Rattle.rc_queries.specs.DbFaults.{IsQueryTold, IsTextTold, db_fault_text, query_word};
+ghost use Rattle.rc_queries.specs.DbFaults.{IsLiveTold, IsQueryTold, IsTextTold, db_fault_text, query_word};
 ghost use Rattle.rc_streams.specs.Input.{AppendsFront, failure_text, fault_line};
 ghost use Rattle.rc_asked.specs.Query.{names_in, question_of};
 ghost use Rattle.rc_queries.specs.declared.db_fault.DbFault.TheVariants.{Memory};
 
 use rc_asked::Query;
-use rc_base::text_word;
+use rc_base::{live_word, text_word};
 use rc_db::{NoMem, QueryFault};
 use rc_dbtext::TextFault;
+use rc_livetext::LiveFault;
 use rc_streams::ending::{REFUSED, fail};
 use rc_streams::{Failure, tell};
 use std::alloc::{AllocError, Global};
@@ -21,6 +22,8 @@ pub(crate) enum DbFault {
     OfText(TextFault),
     /// The query is refused.
     OfQuery(QueryFault),
+    /// The text of the session that is to be shown is none of the database.
+    OfLive(LiveFault),
     Memory,
 }
 
@@ -50,6 +53,17 @@ impl From<QueryFault> for DbFault {
         match fault {
             QueryFault::Memory => DbFault::Memory,
             fault => DbFault::OfQuery(fault),
+        }
+    }
+}
+
+impl From<LiveFault> for DbFault {
+    ghost from_gives = { IsLiveTold };
+
+    fn from(fault: LiveFault) -> Self {
+        match fault {
+            LiveFault::Memory => DbFault::Memory,
+            fault => DbFault::OfLive(fault),
         }
     }
 }
@@ -85,6 +99,7 @@ fn text_of(alloc: Global, fault: DbFault, query: &Query<'_>) -> Result<Vec<u8>, 
     match fault {
         DbFault::OfText(fault) => text_word(alloc, fault),
         DbFault::OfQuery(fault) => query_word(alloc, fault, query),
+        DbFault::OfLive(fault) => live_word(alloc, fault),
         DbFault::Memory => Vec::from_slice(alloc, b"Memory"),
     }
 }

@@ -1,7 +1,7 @@
 use Rattle.std.proofs.Common.{◌≡◌, true}
 use Rattle.std.proofs.lemmas.Result.{IfOk-weaker, IfErr-weaker}
 use Rattle.rc_asked.specs.Task.{task_ask_of}
-use Rattle.rc_asked.proofs.TaskLemmas.{asked_bound, asked_workers, entered_back, entered_right, wrong_asks}
+use Rattle.rc_asked.proofs.TaskLemmas.{asked_bound, asked_eventless, asked_workers, entered_back, entered_right, wrong_asks}
 use Rattle.rc_asked.proofs.task.task_of.Goals as goal
 
 pub returns-in-Ok-clause-asked : goal.returns-in-Ok-clause-asked
@@ -18,6 +18,11 @@ returns-in-Ok-clause-workers c =
 pub returns-in-Ok-clause-bound : goal.returns-in-Ok-clause-bound
 returns-in-Ok-clause-bound c =
     IfOk-weaker c.task_in-task.result _ _ (λ task asks. asked_bound _ task asks)
+    c.task_in-task.ensures.asked
+
+pub returns-in-Ok-clause-eventless : goal.returns-in-Ok-clause-eventless
+returns-in-Ok-clause-eventless c =
+    IfOk-weaker c.task_in-task.result _ _ (λ task asks. asked_eventless _ task asks)
     c.task_in-task.ensures.asked
 
 pub returns-in-Ok-clause-wrong : goal.returns-in-Ok-clause-wrong

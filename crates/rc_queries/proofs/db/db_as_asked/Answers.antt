@@ -10,10 +10,10 @@ pub returns-clause-refused : goal.returns-clause-refused
 returns-clause-refused g c told =
     let line = c.tell_db_fault.ensures.refused told in
     if_read_then (bytes_of c.args.base) (g.R.Read.remaining (inner_of c.args.reader.now)) (λ input. c.in-Ok.input.items ≡ input)
-    (λ input. TellsAnswerFault (db_ask_of c.args.request.now) (bytes_of c.args.base) input (g.F.Write.contents c.args.faults.now) (g.F.Write.contents c.tell_db_fault.new.faults))
+    (λ input. TellsAnswerFault (db_ask_of c.args.request.now) (bytes_of c.args.base) (bytes_of c.args.shown) input (g.F.Write.contents c.args.faults.now) (g.F.Write.contents c.tell_db_fault.new.faults))
     (λ input is. (
       c.in-Err-answer_for.fault,
-      subst (λ (bytes : List ℕ). IsDbRefused c.in-Err-answer_for.fault (db_ask_of c.args.request.now) (bytes_of c.args.base) bytes) (c.deref.ensures.value ∙ is) c.in-Err-answer_for.ensures.fault,
+      subst (λ (bytes : List ℕ). IsDbRefused c.in-Err-answer_for.fault (db_ask_of c.args.request.now) (bytes_of c.args.base) (bytes_of c.args.shown) bytes) (c.deref.ensures.value ∙ is) c.in-Err-answer_for.ensures.fault,
       line.0,
       line.1,
     )) c.in-Ok.ensures.whole
