@@ -5,7 +5,7 @@ use Rattle.clap.specs.Words.{Text as Path}
 use Rattle.rc_graph.specs.declared.Way.{Way}
 use Rattle.rc_db.specs.Database.{Database}
 use Rattle.rc_line.specs.Line.{Line}
-use Rattle.rc_session.specs.Commands.{Command, Redo, Undo, events_of}
+use Rattle.rc_session.specs.Commands.{Command, Redo, Undo}
 use Rattle.rc_session.specs.Holding.{Holding}
 use Rattle.rc_lines.specs.Says.{Saying, SaysStep}
 use Rattle.rc_runner.specs.Failing.{outcome_in}
@@ -35,11 +35,6 @@ EndsOnce As ending d here WantsDryRedo text new =
 abbrev pub ArrivesOnce : Database → Line → OnceSaying → Line → Type 0
 ArrivesOnce d here (Said saying) new = ArrivesSaying d here saying new
 ArrivesOnce d here other new = Unit {0}
-
--- what one line is to do brings no events
-abbrev pub HasNoEvents : OnceSaying → Type 0
-HasNoEvents (Said (SaysStep command)) = events_of command ≡ []
-HasNoEvents other = Unit {0}
 
 -- what is said is a command
 abbrev pub IsCommand : Saying → Type 0

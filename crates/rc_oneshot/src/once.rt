@@ -5,12 +5,12 @@ ghost use Rattle.rc_board.specs.Crew.{IsCrew};
 ghost use Rattle.rc_streams.specs.Input.{ConsumesAtMost};
 ghost use Rattle.rc_streams.specs.Noting.{HasFailed, inner_of};
 ghost use Rattle.rc_serve.specs.declared.ending.Ending.TheVariants.{Done, Refused, Hindered};
-ghost use Rattle.rc_asked.specs.OnceAsked.{once_ask_of};
+ghost use Rattle.rc_asked.specs.OnceAsked.{HasNoEvents, once_ask_of};
 ghost use Rattle.rc_base.specs.Base.{bytes_of};
 ghost use Rattle.rc_sessions.specs.Filing.{CannotKeep};
 ghost use Rattle.rc_sessions.specs.SessionFaults.{TellsSessionRefusal};
 ghost use Rattle.rc_sessions.specs.Storing.{store_of};
-ghost use Rattle.rc_oneshot.specs.Once.{AnswersOnce, HasNoEvents};
+ghost use Rattle.rc_oneshot.specs.Once.{AnswersOnce};
 ghost use Rattle.rc_oneshot.specs.OnceEnds.{EndsOnceBy, TellsFault};
 
 use crate::serving::run_on;
@@ -91,8 +91,13 @@ pub fn once_as_asked<T: Threads + Wait + Sync, R: Read, W: Write, F: Write, S: S
         × (S.holds (store_of keeper.new) ≡ S.holds (store_of keeper.old))) }
 
     // A failure is told by its line, and as one of the reader, the writer or the file only where
-    // that has failed.
+    // that has failed. Nothing was written, and the store was left alone or holds where the session
+    // begins; or a front of the answer was written, and the store holds where the line leaves it.
     ensures failed { result ≡ 111 → TellsFault
+        (bytes_of base.entry) (once_ask_of request.now) live.entry
+        (S.holds (store_of keeper.old)) (S.holds (store_of keeper.new))
+        (R.remaining (inner_of reader.old)) (R.remaining (inner_of reader.new))
+        (W.contents (inner_of writer.old)) (W.contents (inner_of writer.new))
         (HasFailed reader.new) (HasFailed writer.new)
         (CannotKeep (once_ask_of request.now).session live.entry (S.failed (store_of keeper.new)))
         (F.contents faults.old) (F.contents faults.new) }

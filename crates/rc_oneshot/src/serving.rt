@@ -10,15 +10,15 @@ ghost use Rattle.rc_serve.specs.Ending.{ArrivesSaying, Ends, IsDoneAs};
 ghost use Rattle.rc_serve.specs.Faults.{IsServeFault};
 ghost use Rattle.rc_serve.specs.declared.ending.Ending.TheVariants.{Done};
 ghost use Rattle.rc_asked.specs.Making.{making_ask_of};
-ghost use Rattle.rc_asked.specs.OnceAsked.{Said, once_ask_of};
+ghost use Rattle.rc_asked.specs.OnceAsked.{HasNoEvents, Said, once_ask_of};
 ghost use Rattle.rc_asked.specs.Programs.{ByPrograms, ByTable, listed_in};
 ghost use Rattle.rc_asked.specs.Reading.{listed_of};
 ghost use Rattle.rc_asked.specs.SessionAsked.{session_ask_of};
 ghost use Rattle.rc_sessions.specs.Filing.{CannotKeep, filing_of};
 ghost use Rattle.rc_sessions.specs.SessionFaults.{AreAllFound};
 ghost use Rattle.rc_sessions.specs.Storing.{HoldsText, store_of};
-ghost use Rattle.rc_oneshot.specs.Once.{DoesBy, HasNoEvents, IsCommand, RunsOnce, ServesOnce};
-ghost use Rattle.rc_oneshot.specs.OnceEnds.{EndsGatedOnce, EndsOnceOn};
+ghost use Rattle.rc_oneshot.specs.Once.{DoesBy, HoldsOnce, IsCommand, RunsOnce, ServesOnce};
+ghost use Rattle.rc_oneshot.specs.OnceEnds.{EndsGatedOnce, EndsOnceOn, StopsServing};
 
 use rc_asked::{Making, Once, OnceRequest, Programs, SessionRequest, Transition};
 use rc_board::Gate;
@@ -61,7 +61,8 @@ pub(crate) fn run_on<'a, T: Threads + Wait + Sync, W: Write, S: Store>(
     ensures ended { IfErr result (λ fault. EndsOnceOn fault
         (filing_of (session_ask_of request.now.session) live.entry
         (S.holds (store_of keeper.old)) (S.holds (store_of keeper.new)))
-        db (making_ask_of request.now.session.making)
+        db request.now.session.workers (making_ask_of request.now.session.making)
+        (once_ask_of request.now).what
         (W.contents (inner_of writer.old)) (W.contents (inner_of writer.new))
         ⊥ (HasFailed writer.new) (CannotKeep (session_ask_of request.now.session) live.entry
         (S.failed (store_of keeper.new)))) }
@@ -102,7 +103,8 @@ fn run_by_table<'a, T: Threads + Wait + Sync, W: Write, S: Store>(
     ensures ended { IfErr result (λ fault. EndsOnceOn fault
         (filing_of (session_ask_of request.now.session) live.entry
         (S.holds (store_of keeper.old)) (S.holds (store_of keeper.new)))
-        db (ByTable (map listed_of failing.now))
+        db request.now.session.workers (ByTable (map listed_of failing.now))
+        (once_ask_of request.now).what
         (W.contents (inner_of writer.old)) (W.contents (inner_of writer.new))
         ⊥ (HasFailed writer.new) (CannotKeep (session_ask_of request.now.session) live.entry
         (S.failed (store_of keeper.new)))) }
@@ -146,8 +148,9 @@ fn run_by_programs<'a, T: Threads + Wait + Sync, W: Write, S: Store>(
     ensures ended { IfErr result (λ fault. EndsOnceOn fault
         (filing_of (session_ask_of request.now.session) live.entry
         (S.holds (store_of keeper.old)) (S.holds (store_of keeper.new)))
-        db (ByPrograms (map string_bytes programs.now.runner.items)
+        db request.now.session.workers (ByPrograms (map string_bytes programs.now.runner.items)
         (map string_bytes programs.now.controller.items) programs.now.limit)
+        (once_ask_of request.now).what
         (W.contents (inner_of writer.old)) (W.contents (inner_of writer.new))
         ⊥ (HasFailed writer.new) (CannotKeep (session_ask_of request.now.session) live.entry
         (S.failed (store_of keeper.new)))) }
@@ -187,7 +190,8 @@ fn run_told<'a, T: Threads + Wait + Sync, W: Write, G: Gate, S: Store>(
     ensures ended { IfErr result (λ fault. EndsGatedOnce fault
         (filing_of (session_ask_of request.now.session) live.entry
         (S.holds (store_of keeper.old)) (S.holds (store_of keeper.new)))
-        db
+        (IsDoneAs request.now.session.workers (G.answers gate.now) (G.gives gate.now))
+        db (once_ask_of request.now).what
         (W.contents (inner_of writer.old)) (W.contents (inner_of writer.new))
         ⊥ (HasFailed writer.new) (CannotKeep (session_ask_of request.now.session) live.entry
         (S.failed (store_of keeper.new)))) }
@@ -225,7 +229,8 @@ fn run_gated<'a, T: Threads + Wait + Sync, W: Write, G: Gate, S: Store>(
     ensures ended { IfErr result (λ fault. EndsGatedOnce fault
         (filing_of (session_ask_of request.now.session) live.entry
         (S.holds (store_of keeper.old)) (S.holds (store_of keeper.new)))
-        db
+        (IsDoneAs request.now.session.workers (G.answers gate.now) (G.gives gate.now))
+        db (once_ask_of request.now).what
         (W.contents (inner_of writer.old)) (W.contents (inner_of writer.new))
         ⊥ (HasFailed writer.new) (CannotKeep (session_ask_of request.now.session) live.entry
         (S.failed (store_of keeper.new)))) }
@@ -255,6 +260,7 @@ fn serve_once<T: Threads + Wait + Sync, W: Write, G: Gate, S: Store>(
 ) -> Result<Ending, ServeFault>
     requires crew { IsCrew request.now.session.workers }
     requires closed { session.old.begun ≡ false }
+    requires whole { session.old.spoiled ≡ false }
     requires eventless { HasNoEvents (once_ask_of request.now).what }
     requires writer { HasFailed writer.old → ⊥ }
     ensures done { IfOk result (λ ending. ServesOnce (session_ask_of request.now.session).live
@@ -263,6 +269,14 @@ fn serve_once<T: Threads + Wait + Sync, W: Write, G: Gate, S: Store>(
         ending (once_ask_of request.now).what
         (W.contents (inner_of writer.old)) (W.contents (inner_of writer.new))
         session.old session.new) }
+    ensures stopped { IfErr result (λ fault. StopsServing fault
+        (S.holds (store_of keeper.new) ≡ S.holds (store_of keeper.old))
+        (λ d line. HoldsOnce (session_ask_of request.now.session).live
+        (S.holds (store_of keeper.old)) (S.holds (store_of keeper.new)) d
+        (once_ask_of request.now).what line)
+        (IsDoneAs request.now.session.workers (G.answers gate.now) (G.gives gate.now))
+        (once_ask_of request.now).what
+        (W.contents (inner_of writer.old)) (W.contents (inner_of writer.new)) session.old) }
     ensures fault { IfErr result (IsServeFault ⊥ (HasFailed writer.new)
         (((session_ask_of request.now.session).live ≢ None) × S.failed (store_of keeper.new))) }
 {
@@ -295,6 +309,7 @@ fn line_once<T: Threads + Wait + Sync, W: Write, G: Gate, S: Store>(
 ) -> Result<Ending, ServeFault>
     requires crew { IsCrew request.now.workers }
     requires closed { session.old.begun ≡ false }
+    requires whole { session.old.spoiled ≡ false }
     requires eventless { HasNoEvents (Said (saying_of said.now)) }
     requires writer { HasFailed writer.old → ⊥ }
     ensures done { IfOk result (λ ending. ServesOnce (session_ask_of request.now).live
@@ -303,6 +318,14 @@ fn line_once<T: Threads + Wait + Sync, W: Write, G: Gate, S: Store>(
         ending (Said (saying_of said.now))
         (W.contents (inner_of writer.old)) (W.contents (inner_of writer.new))
         session.old session.new) }
+    ensures stopped { IfErr result (λ fault. StopsServing fault
+        (S.holds (store_of keeper.new) ≡ S.holds (store_of keeper.old))
+        (λ d line. HoldsOnce (session_ask_of request.now).live
+        (S.holds (store_of keeper.old)) (S.holds (store_of keeper.new)) d
+        (Said (saying_of said.now)) line)
+        (IsDoneAs request.now.workers (G.answers gate.now) (G.gives gate.now))
+        (Said (saying_of said.now))
+        (W.contents (inner_of writer.old)) (W.contents (inner_of writer.new)) session.old) }
     ensures fault { IfErr result (IsServeFault ⊥ (HasFailed writer.new)
         (((session_ask_of request.now).live ≢ None) × S.failed (store_of keeper.new))) }
 {
@@ -346,6 +369,7 @@ fn keep_once<T: Threads + Wait + Sync, W: Write, G: Gate, S: Store>(
 ) -> Result<Ending, ServeFault>
     requires crew { IsCrew workers }
     requires closed { session.old.begun ≡ false }
+    requires whole { session.old.spoiled ≡ false }
     requires eventless { (command : Command) → saying_of said.now ≡ SaysStep command
         → events_of command ≡ [] }
     requires writer { HasFailed writer.old → ⊥ }
@@ -357,6 +381,11 @@ fn keep_once<T: Threads + Wait + Sync, W: Write, G: Gate, S: Store>(
         (saying_of said.now) session.new.line }
     ensures kept { OnOk result (HoldsText (S.holds (store_of keeper.new)) session.old.database
         session.new.line) }
+    ensures stopped { IfErr result (λ fault. StopsServing fault
+        (S.holds (store_of keeper.new) ≡ S.holds (store_of keeper.old))
+        (HoldsText (S.holds (store_of keeper.new)))
+        (IsDoneAs workers (G.answers gate.now) (G.gives gate.now)) (Said (saying_of said.now))
+        (W.contents (inner_of writer.old)) (W.contents (inner_of writer.new)) session.old) }
     ensures fault { IfErr result (IsServeFault ⊥ (HasFailed writer.new)
         (S.failed (store_of keeper.new))) }
 {

@@ -94,7 +94,7 @@ begin_ends (Failed fault) ask file held Done d input written reader writer faile
     unbegun_fault Io a at r w bad u io = let both = io refl in (both.0, inl both.1)
 
 -- a session that is not served on a database is not begun, whatever the base
-not_begun : (fault : ServeFault) (base remaining : Option (List ℕ)) (d : Database) (filing : Filing) (written gained : Option (List ℕ))
+pub not_begun : (fault : ServeFault) (base remaining : Option (List ℕ)) (d : Database) (filing : Filing) (written gained : Option (List ℕ))
     → IsOfFile fault × (gained ≡ written) × IsLeftOrFirst d filing → IsNotBegun fault base filing remaining written gained
 not_begun fault base remaining d filing written gained is = (unbegun fault base remaining is.0, is.1, inr (d, is.2))
 
@@ -204,7 +204,7 @@ kept_all (Ok done) P Q was is d first line begun p q up = (p, q, kept_now was is
 kept_all (Err fault) P Q was is d first line begun p q up = tt
 
 -- what may come of keeping may come of a file
-of_file : (fault : ServeFault) (May : KeepFault → Type 0) → IsOfKeeping May fault → IsOfFile fault
+pub of_file : (fault : ServeFault) (May : KeepFault → Type 0) → IsOfKeeping May fault → IsOfFile fault
 of_file Read May is = absurd is
 of_file Write May is = absurd is
 of_file TooLong May is = absurd is

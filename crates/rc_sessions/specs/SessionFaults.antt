@@ -22,6 +22,7 @@ use Rattle.rc_streams.specs.declared.input.Failure.TheVariants as failures
 use Rattle.rc_streams.specs.Input.{AppendsFront, fault_line}
 use Rattle.rc_base.specs.Base.{IsTextFault, Spells}
 use Rattle.rc_base.specs.Opening.{Reads}
+use Rattle.rc_base.specs.LiveFaultWord.{live_word}
 use Rattle.rc_base.specs.TextFaultWord.{text_word}
 use Rattle.rc_sessions.specs.Serving.{IsOfFile, RunsFor, RunsGated, ServesUpTo}
 use Rattle.rc_sessions.specs.Session.{Runs, RunsAsked}
@@ -167,17 +168,6 @@ serve_word NoThread = codes "NoThread"
 serve_word Strange = codes "Strange"
 serve_word Workers = codes "Workers"
 serve_word Io = codes "Io"
-
--- a fault of the text that stands in the file in words
-abbrev pub live_word : LiveFault → List ℕ
-live_word (live.Bad offset) = codes "Bad " ++ decimal offset
-live_word live.Version = codes "Version"
-live_word live.Unknown = codes "Unknown"
-live_word (live.NotClosed place) = codes "NotClosed " ++ decimal place
-live_word live.SameState = codes "SameState"
-live_word live.OtherDb = codes "OtherDb"
-live_word live.Memory = codes "Memory"
-live_word live.OverBound = codes "OverBound"
 
 -- how a fault is told
 abbrev pub session_fault_text : SessionFault → List ℕ

@@ -1,5 +1,5 @@
 //! Where a session is kept: a store of one text, which is replaced whole.
-ghost use Rattle.std.specs.Prelude.{◌≡◌, ◌⊎◌, ℕ, false, List, Option, IfSome, IfErr, OnErr, OnOk};
+ghost use Rattle.std.specs.Prelude.{◌≡◌, ◌⊎◌, ℕ, false, List, Option, IfSome, IfErr, IsSome, OnErr, OnOk};
 ghost use Rattle.rc_livetext.specs.Spelling.{spelling};
 ghost use Rattle.rc_serve.specs.declared.keeper.KeepFault.TheVariants.{Io};
 ghost use Rattle.rc_sessions.specs.Storing.{HoldsText, store_of};
@@ -29,9 +29,10 @@ pub trait Store {
     ghost failed: { Self → Type 0 };
 
     /// Puts these bytes in the place of what stands there. Where that fails, what stood there
-    /// does, or the bytes do.
+    /// does, or the bytes do. A store of which that can be said stays one.
     fn replace(&mut self, bytes: &[u8]) -> Result<(), KeepFault>
         ensures put { OnOk result (IfSome (holds self.new) (λ held. held ≡ bytes.now)) }
+        ensures known { IsSome (holds self.old) → IsSome (holds self.new) }
         ensures left { OnErr result ((holds self.new ≡ holds self.old)
             ⊎ IfSome (holds self.new) (λ held. held ≡ bytes.now)) }
         ensures io { IfErr result (λ fault. fault ≡ KeepFault.Io → failed self.new) };
@@ -63,6 +64,7 @@ impl<S: Store> Keeper for TextKeeper<S> {
         requires { session.now.begun ≡ false }
         ensures kept { OnOk result (HoldsText (S.holds (store_of self.new))
             session.now.database session.now.line) }
+        ensures known { IsSome (S.holds (store_of self.old)) → IsSome (S.holds (store_of self.new)) }
         ensures left { OnErr result ((S.holds (store_of self.new) ≡ S.holds (store_of self.old))
             ⊎ HoldsText (S.holds (store_of self.new)) session.now.database session.now.line) }
         ensures io { IfErr result (λ fault. fault ≡ KeepFault.Io

@@ -5,7 +5,6 @@
 mod beginning;
 mod failing;
 mod keeping;
-mod live_fault;
 mod serving;
 mod session;
 mod session_fault;

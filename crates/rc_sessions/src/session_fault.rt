@@ -7,8 +7,7 @@ ghost use Rattle.rc_serve.specs.declared.fault.ServeFault.{ServeFault as Failing
 ghost use Rattle.rc_serve.specs.declared.fault.ServeFault.TheVariants.{Memory};
 
 use crate::failing::GateFault;
-use crate::live_fault::live_word;
-use rc_base::text_word;
+use rc_base::{live_word, text_word};
 use rc_db::NoMem;
 use rc_dbtext::TextFault;
 use rc_livetext::LiveFault;

@@ -24,4 +24,5 @@ returns-in-Err-clause-refused g c told =
 pub returns-in-Err-clause-failed : goal.returns-in-Err-clause-failed
 returns-in-Err-clause-failed g c told =
     let line = c.tell_session_fault.ensures.failed told in
-    (line.0, failure_once c.in-Err.fault line.0 (bytes_of c.args.base) (once_ask_of c.args.request.now) c.args.live (g.S.Store.holds (store_of c.args.keeper.now)) (g.S.Store.holds (store_of c.run_asked.new.keeper)) (g.R.Read.remaining (inner_of c.args.reader.now)) (g.R.Read.remaining (inner_of c.run_asked.new.reader)) (g.W.Write.contents (inner_of c.args.writer.now)) (g.W.Write.contents (inner_of c.run_asked.new.writer)) _ _ _ line.1 c.in-Err.ensures.ended, line.2)
+    let holds = failure_once c.in-Err.fault line.0 (bytes_of c.args.base) (once_ask_of c.args.request.now) c.args.live (g.S.Store.holds (store_of c.args.keeper.now)) (g.S.Store.holds (store_of c.run_asked.new.keeper)) (g.R.Read.remaining (inner_of c.args.reader.now)) (g.R.Read.remaining (inner_of c.run_asked.new.reader)) (g.W.Write.contents (inner_of c.args.writer.now)) (g.W.Write.contents (inner_of c.run_asked.new.writer)) _ _ _ line.1 c.in-Err.ensures.ended in
+    (line.0, holds.0, line.2, holds.1)

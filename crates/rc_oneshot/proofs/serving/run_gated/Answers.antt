@@ -6,12 +6,14 @@ use Rattle.rc_sessions.specs.Filing.{filing_of}
 use Rattle.rc_sessions.specs.Storing.{store_of}
 use Rattle.rc_serve.specs.Ending.{IsDoneAs}
 use Rattle.rc_sessions.proofs.SessionLemmas.{fault_wider}
-use Rattle.rc_oneshot.proofs.OnceLemmas.{begin_once, runs_gated}
+use Rattle.rc_oneshot.proofs.OnceLemmas.{begin_once, runs_gated, stops_gated}
 use Rattle.rc_oneshot.proofs.serving.run_gated.Goals as goal
 
 pub returns-in-Err-clause-ended : goal.returns-in-Err-clause-ended
 returns-in-Err-clause-ended g c =
-    begin_once c.in-Err.fault (session_ask_of c.args.request.now.session) c.args.live (g.S.Store.holds (store_of c.args.keeper.now)) c.args.db (g.W.Write.contents (inner_of c.args.writer.now)) _ _ _ c.in-Err.ensures.fault
+    begin_once c.in-Err.fault (session_ask_of c.args.request.now.session) c.args.live (g.S.Store.holds (store_of c.args.keeper.now))
+    (IsDoneAs c.args.request.now.session.workers (g.G.Gate.answers c.args.gate.now) (g.G.Gate.gives c.args.gate.now)) c.args.db (once_ask_of c.args.request.now).what
+    (g.W.Write.contents (inner_of c.args.writer.now)) _ _ _ c.in-Err.ensures.fault
 
 pub returns-in-Ok-ended-clause-done : goal.returns-in-Ok-ended-clause-done
 returns-in-Ok-ended-clause-done g c =
@@ -20,4 +22,9 @@ returns-in-Ok-ended-clause-done g c =
     (g.W.Write.contents (inner_of c.args.writer.now)) (g.W.Write.contents (inner_of c.serve_once-ended.new.writer)) c.in-Ok.session c.serve_once-ended.new.session c.in-Ok.ensures.begun c.in-Ok-ended.ensures.done
 
 pub returns-in-Err-ended-clause-ended : goal.returns-in-Err-ended-clause-ended
-returns-in-Err-ended-clause-ended g c = fault_wider c.in-Err-ended.fault ⊥ _ _ ⊥ _ _ (λ r. r) (λ w. w) (λ k. (k.0, inr k.1)) c.in-Err-ended.ensures.fault
+returns-in-Err-ended-clause-ended g c =
+    stops_gated c.in-Err-ended.fault (filing_of (session_ask_of c.args.request.now.session) c.args.live (g.S.Store.holds (store_of c.args.keeper.now)) (g.S.Store.holds (store_of c.serve_once-ended.new.keeper)))
+    (IsDoneAs c.args.request.now.session.workers (g.G.Gate.answers c.args.gate.now) (g.G.Gate.gives c.args.gate.now)) c.args.db (once_ask_of c.args.request.now).what
+    (g.W.Write.contents (inner_of c.args.writer.now)) (g.W.Write.contents (inner_of c.serve_once-ended.new.writer)) c.in-Ok.session _ _ _ c.in-Ok.ensures.begun
+    (fault_wider c.in-Err-ended.fault ⊥ _ _ ⊥ _ _ (λ r. r) (λ w. w) (λ k. (k.0, inr k.1)) c.in-Err-ended.ensures.fault)
+    c.in-Err-ended.ensures.stopped
