@@ -1,5 +1,5 @@
 //! What helps where the names that entries give do not fit together.
-use crate::entries::{Entry, Hint, Sources, is_there, path_in};
+use crate::entries::{Entry, Hint, Sources, path_in};
 use crate::listed::{lines_in, place_of};
 use crate::slips::nearest;
 use rc_names::{Kind, NoMem};
@@ -13,14 +13,17 @@ const MAX_DEPTH: usize = 4;
 /// Where an entry gives a name that is nobody's.
 pub(crate) fn unknown_in<R: Files + AllocGlobal + Clone + Drop>(
     sources: &Sources<'_, R>,
-    entry: &Entry<'_>,
+    name: &str,
     other: &str,
 ) -> Hint {
-    let Some(place) = given_at(sources, entry, other)? else {
+    let Some(entry) = sources.entry(name)? else {
+        return Ok(None);
+    };
+    let Some(place) = given_at(sources, &entry, other)? else {
         return Ok(None);
     };
     let names = sources.names()?;
-    let alloc = sources.alloc();
+    let alloc = sources.alloc;
     match nearest(&names, other) {
         Some(name) => {
             let hint = format!(in alloc; "{place}: nothing is named {other}; is {name} meant?")?;
@@ -49,9 +52,9 @@ fn given_at<R: Files + AllocGlobal + Clone + Drop>(
     } else {
         "dependencies.d"
     };
-    let folder = path_in(sources.alloc(), entry.path.as_str(), folder)?;
-    let path = path_in(sources.alloc(), folder.as_str(), name)?;
-    if is_there(sources.runtime(), path.as_str()) {
+    let folder = path_in(sources.alloc, entry.path.as_str(), folder)?;
+    let path = path_in(sources.alloc, folder.as_str(), name)?;
+    if sources.rt.metadata(path.as_str()).is_ok() {
         return Ok(Some(path));
     }
     Ok(None)
@@ -62,7 +65,7 @@ pub(crate) fn circle<R: Files + AllocGlobal + Clone + Drop>(
     sources: &Sources<'_, R>,
     names: &str,
 ) -> Hint {
-    let mut text = String::new(sources.alloc());
+    let mut text = String::new(sources.alloc);
     let mut from = "";
     for name in names.split(' ').take(MAX_STEPS) {
         if !from.is_empty() {
@@ -103,7 +106,7 @@ fn step<R: Files + AllocGlobal + Clone + Drop>(
     entry: &Entry<'_>,
     to: &str,
 ) -> Hint {
-    let alloc = sources.alloc();
+    let alloc = sources.alloc;
     if let Some(place) = given_at(sources, entry, to)? {
         return Ok(Some(format!(in alloc; "{place} names {to}")?));
     }
@@ -123,11 +126,11 @@ fn step_by_bundle<R: Files + AllocGlobal + Clone + Drop>(
     entry: &Entry<'_>,
     to: &str,
 ) -> Hint {
-    let alloc = sources.alloc();
+    let alloc = sources.alloc;
     let Some(text) = sources.text(entry, "dependencies")? else {
         return Ok(None);
     };
-    for bundle in lines_in(alloc, text.as_str())? {
+    for (_, bundle) in lines_in(alloc, text.as_str())? {
         if holds(sources, bundle, to, MAX_DEPTH)? {
             let Some(place) = place_of(sources, entry, "dependencies", bundle)? else {
                 return Ok(None);
@@ -158,7 +161,7 @@ fn holds<R: Files + AllocGlobal + Clone + Drop>(
     let Some(text) = sources.text(&entry, "contents")? else {
         return Ok(false);
     };
-    for name in lines_in(sources.alloc(), text.as_str())? {
+    for (_, name) in lines_in(sources.alloc, text.as_str())? {
         if name == service || holds(sources, name, service, depth - 1)? {
             return Ok(true);
         }

@@ -12,9 +12,9 @@ pub(crate) type Hint = Result<Option<String>, NoMem>;
 /// Source directories as they were named, which can be read again.
 #[derive(Drop)]
 pub struct Sources<'a, R> {
-    rt: &'a R,
-    alloc: Global,
-    roots: &'a [String],
+    pub(crate) rt: &'a R,
+    pub(crate) alloc: Global,
+    pub(crate) roots: &'a [String],
 }
 
 /// A directory in one of them, by its name.
@@ -50,18 +50,6 @@ impl Entry<'_> {
 impl<'a, R: Files + AllocGlobal + Clone + Drop> Sources<'a, R> {
     pub fn new(rt: &'a R, alloc: Global, roots: &'a [String]) -> Sources<'a, R> {
         Sources { rt, alloc, roots }
-    }
-
-    pub(crate) fn alloc(&self) -> Global {
-        self.alloc
-    }
-
-    pub(crate) fn runtime(&self) -> &'a R {
-        self.rt
-    }
-
-    pub(crate) fn roots(&self) -> &'a [String] {
-        self.roots
     }
 
     /// The entry of this name, in the first source directory that has it.
@@ -112,20 +100,12 @@ impl<'a, R: Files + AllocGlobal + Clone + Drop> Sources<'a, R> {
             let mut tree = FolderTree::open(self.rt.clone()?, self.alloc, root.as_str())?;
             let found = tree.entries(self.alloc);
             drop(tree);
-            if let Ok(found) = found {
-                add_all(&mut names, found)?;
+            for name in found.unwrap_or(Vec::new(self.alloc)) {
+                names.push(name)?;
             }
         }
         Ok(names)
     }
-}
-
-/// Puts names behind others.
-fn add_all(names: &mut Vec<String>, more: Vec<String>) -> Result<(), NoMem> {
-    for name in more {
-        names.push(name)?;
-    }
-    Ok(())
 }
 
 /// The kind that the file `type` of a directory gives, where it gives one.
@@ -170,9 +150,13 @@ pub(crate) fn is_directory<R: Files>(rt: &R, path: &str) -> bool {
     }
 }
 
-/// Whether anything stands there.
-pub(crate) fn is_there<R: Files>(rt: &R, path: &str) -> bool {
-    rt.metadata(path).is_ok()
+/// Whether a source directory has a file `type` of its own, as an entry has.
+pub(crate) fn is_entry<R: Files>(rt: &R, alloc: Global, root: &str) -> Result<bool, NoMem> {
+    let path = path_in(alloc, root, "type")?;
+    match rt.metadata(path.as_str()) {
+        Ok(found) => Ok(found.is_file()),
+        Err(_) => Ok(false),
+    }
 }
 
 /// The names in a directory, as far as they can be read.

@@ -1,8 +1,8 @@
 //! What helps where a file of an entry is not what it is to be.
-use crate::entries::{Entry, Hint, Sources, is_directory, names_at, path_in};
+use crate::entries::{Entry, Hint, Sources, is_directory, is_entry, path_in};
 use crate::listed::{bad_line, second_line};
 use crate::name_flaws::wrong_name;
-use crate::places::line_at;
+use crate::places::{line_at, offset_of};
 use crate::slips::nearest;
 use rc_names::NoMem;
 use std::io::ErrorKind;
@@ -38,7 +38,7 @@ pub(crate) fn bad_name<R: Files + AllocGlobal + Clone + Drop>(
     sources: &Sources<'_, R>,
     entry: &Entry<'_>,
 ) -> Hint {
-    let alloc = sources.alloc();
+    let alloc = sources.alloc;
     if let Some(wrong) = wrong_name(alloc, entry.name.as_bytes())? {
         let path = entry.path.as_str();
         return Ok(Some(format!(in alloc; "{path:?}: {wrong}")?));
@@ -59,14 +59,6 @@ pub(crate) fn bad_name<R: Files + AllocGlobal + Clone + Drop>(
             return Ok(Some(hint));
         }
     }
-    bad_single(sources, entry)
-}
-
-/// The second name in a file of one name.
-fn bad_single<R: Files + AllocGlobal + Clone + Drop>(
-    sources: &Sources<'_, R>,
-    entry: &Entry<'_>,
-) -> Hint {
     match second_line(sources, entry, "producer-for")? {
         Some(hint) => Ok(Some(hint)),
         None => second_line(sources, entry, "pipeline-name"),
@@ -79,7 +71,7 @@ fn bad_listing<R: Files + AllocGlobal + Clone + Drop>(
     entry: &Entry<'_>,
     folder: &str,
 ) -> Hint {
-    let alloc = sources.alloc();
+    let alloc = sources.alloc;
     let path = entry.path.as_str();
     for name in sources.listing(entry, folder)? {
         if name.starts_with('.') {
@@ -101,7 +93,7 @@ pub(crate) fn bad_type<R: Files + AllocGlobal + Clone + Drop>(
         return Ok(None);
     };
     let path = entry.path.as_str();
-    let alloc = sources.alloc();
+    let alloc = sources.alloc;
     let windows = windows_end(text.as_str());
     let hint = format!(in alloc;
         "{path}/type:1: one of oneshot, longrun and bundle may stand here, not {text:?}{windows}"
@@ -123,9 +115,10 @@ pub(crate) fn no_type<R: Files + AllocGlobal + Clone + Drop>(
     sources: &Sources<'_, R>,
     entry: &Entry<'_>,
 ) -> Hint {
-    let alloc = sources.alloc();
+    let alloc = sources.alloc;
     let path = entry.path.as_str();
-    if let Some(root) = entry_above(sources, entry)? {
+    if is_entry(sources.rt, alloc, entry.root)? {
+        let root = entry.root;
         let hint = format!(in alloc; "{root} looks like an entry: name the directory above it")?;
         return Ok(Some(hint));
     }
@@ -144,18 +137,6 @@ pub(crate) fn no_type<R: Files + AllocGlobal + Clone + Drop>(
     }
 }
 
-/// The source directory of an entry, where it has a file `type` of its own.
-fn entry_above<'a, R: Files + AllocGlobal + Clone + Drop>(
-    sources: &Sources<'_, R>,
-    entry: &Entry<'a>,
-) -> Result<Option<&'a str>, NoMem> {
-    let path = path_in(sources.alloc(), entry.root, "type")?;
-    match sources.runtime().metadata(path.as_str()) {
-        Ok(found) if found.is_file() => Ok(Some(entry.root)),
-        _ => Ok(None),
-    }
-}
-
 /// What is said of a file that is missing.
 pub(crate) fn missing<R: Files + AllocGlobal + Clone + Drop>(
     sources: &Sources<'_, R>,
@@ -164,7 +145,7 @@ pub(crate) fn missing<R: Files + AllocGlobal + Clone + Drop>(
     what: &str,
 ) -> Hint {
     let path = entry.path.as_str();
-    let alloc = sources.alloc();
+    let alloc = sources.alloc;
     Ok(Some(format!(in alloc; "{path}/{file} is missing: {what}")?))
 }
 
@@ -173,30 +154,21 @@ pub(crate) fn bad_timeout<R: Files + AllocGlobal + Clone + Drop>(
     sources: &Sources<'_, R>,
     entry: &Entry<'_>,
 ) -> Hint {
-    match bad_limit(sources, entry, "timeout-up")? {
-        Some(hint) => Ok(Some(hint)),
-        None => bad_limit(sources, entry, "timeout-down"),
-    }
-}
-
-fn bad_limit<R: Files + AllocGlobal + Clone + Drop>(
-    sources: &Sources<'_, R>,
-    entry: &Entry<'_>,
-    file: &str,
-) -> Hint {
-    let Some(text) = sources.text(entry, file)? else {
-        return Ok(None);
-    };
-    if is_limit(text.as_str()) {
-        return Ok(None);
-    }
+    let alloc = sources.alloc;
     let path = entry.path.as_str();
-    let alloc = sources.alloc();
-    let windows = windows_end(text.as_str());
-    let hint = format!(in alloc;
-        "{path}/{file}:1: milliseconds may stand here, up to 4294967295, not {text:?}{windows}"
-    )?;
-    Ok(Some(hint))
+    for file in ["timeout-up", "timeout-down"] {
+        let Some(text) = sources.text(entry, file)? else {
+            continue;
+        };
+        if !is_limit(text.as_str()) {
+            let windows = windows_end(text.as_str());
+            let hint = format!(in alloc;
+                "{path}/{file}:1: milliseconds may stand here, up to 4294967295, not {text:?}{windows}"
+            )?;
+            return Ok(Some(hint));
+        }
+    }
+    Ok(None)
 }
 
 /// Whether a text is a limit, with or without a newline at its end.
@@ -205,9 +177,7 @@ fn is_limit(text: &str) -> bool {
         Some(front) => front,
         None => text,
     };
-    digits.len() <= 10
-        && digits.bytes().all(|byte| byte.is_ascii_digit())
-        && digits.parse::<u32>().is_ok()
+    digits.len() <= 10 && !digits.starts_with('+') && digits.parse::<u32>().is_ok()
 }
 
 /// Where a file has bytes that are no text.
@@ -215,7 +185,7 @@ pub(crate) fn no_text<R: Files + AllocGlobal + Clone + Drop>(
     sources: &Sources<'_, R>,
     entry: &Entry<'_>,
 ) -> Hint {
-    let alloc = sources.alloc();
+    let alloc = sources.alloc;
     let path = entry.path.as_str();
     for file in FILES {
         if !entry.reads(file) {
@@ -236,10 +206,8 @@ fn bad_byte(bytes: &[u8]) -> Option<(usize, &'static str)> {
         let what = "the text is to be UTF-8, and here it is not";
         return Some((line_at(bytes, fault.valid_up_to()), what));
     }
-    match bytes.iter().position(|byte| *byte == 0) {
-        Some(offset) => Some((line_at(bytes, offset), "byte 0 may stand in no text")),
-        None => None,
-    }
+    let offset = offset_of(bytes, 0)?;
+    Some((line_at(bytes, offset), "byte 0 may stand in no text"))
 }
 
 /// Which file is too long.
@@ -247,14 +215,14 @@ pub(crate) fn too_long<R: Files + AllocGlobal + Clone + Drop>(
     sources: &Sources<'_, R>,
     entry: &Entry<'_>,
 ) -> Hint {
-    let alloc = sources.alloc();
+    let alloc = sources.alloc;
     let path = entry.path.as_str();
     for file in FILES {
         if !entry.reads(file) {
             continue;
         }
         let place = path_in(alloc, path, file)?;
-        if let Ok(found) = sources.runtime().metadata(place.as_str()) {
+        if let Ok(found) = sources.rt.metadata(place.as_str()) {
             if found.len() > 65536 {
                 return Ok(Some(format!(in alloc; "{place} has more than 65536 bytes")?));
             }
@@ -268,12 +236,12 @@ pub(crate) fn twice<R: Files + AllocGlobal + Clone + Drop>(
     sources: &Sources<'_, R>,
     entry: &Entry<'_>,
 ) -> Hint {
-    let alloc = sources.alloc();
+    let alloc = sources.alloc;
     let path = entry.path.as_str();
     let mut seen = false;
-    for root in sources.roots() {
+    for root in sources.roots {
         let other = path_in(alloc, root.as_str(), entry.name.as_str())?;
-        if is_directory(sources.runtime(), other.as_str()) {
+        if is_directory(sources.rt, other.as_str()) {
             if seen {
                 return Ok(Some(format!(in alloc; "{path} and {other} have one name")?));
             }
@@ -288,13 +256,13 @@ pub(crate) fn unread_in<R: Files + AllocGlobal + Clone + Drop>(
     sources: &Sources<'_, R>,
     entry: &Entry<'_>,
 ) -> Hint {
-    let alloc = sources.alloc();
+    let alloc = sources.alloc;
     for file in FILES {
         if !entry.reads(file) {
             continue;
         }
         let path = path_in(alloc, entry.path.as_str(), file)?;
-        if let Some(word) = no_file(sources.runtime(), path.as_str()) {
+        if let Some(word) = no_file(sources.rt, path.as_str()) {
             return Ok(Some(format!(in alloc; "{path}: {word}")?));
         }
     }
@@ -303,7 +271,7 @@ pub(crate) fn unread_in<R: Files + AllocGlobal + Clone + Drop>(
             continue;
         }
         let path = path_in(alloc, entry.path.as_str(), folder)?;
-        if let Some(word) = no_folder(sources.runtime(), path.as_str()) {
+        if let Some(word) = no_folder(sources.rt, path.as_str()) {
             return Ok(Some(format!(in alloc; "{path}: {word}")?));
         }
     }
@@ -312,9 +280,9 @@ pub(crate) fn unread_in<R: Files + AllocGlobal + Clone + Drop>(
 
 /// Which source directory can't be listed, and why.
 pub(crate) fn unread_root<R: Files + AllocGlobal + Clone + Drop>(sources: &Sources<'_, R>) -> Hint {
-    let alloc = sources.alloc();
-    for root in sources.roots() {
-        if let Err(error) = fs::read_dir(sources.runtime(), root.as_str()) {
+    let alloc = sources.alloc;
+    for root in sources.roots {
+        if let Err(error) = fs::read_dir(sources.rt, root.as_str()) {
             let word = word_of(error.kind());
             return Ok(Some(format!(in alloc; "{root}: {word}")?));
         }

@@ -16,7 +16,7 @@ mod refusals;
 mod slips;
 mod unread;
 
-pub use crate::databases::database_hint;
+pub use crate::databases::{behind_end, database_hint, lacking_hint, live_hint, near_hint};
 pub use crate::entries::Sources;
 pub use crate::fault_lines::Told;
 pub use crate::file_flaws::word_of;

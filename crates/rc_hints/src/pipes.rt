@@ -14,7 +14,7 @@ pub(crate) fn pipe_type<R: Files + AllocGlobal + Clone + Drop>(
     sources: &Sources<'_, R>,
     entry: &Entry<'_>,
 ) -> Hint {
-    let alloc = sources.alloc();
+    let alloc = sources.alloc;
     let path = entry.path.as_str();
     if entry.kind != Some(Kind::Longrun) {
         let hint = format!(in alloc;
@@ -36,11 +36,11 @@ fn other_type<R: Files + AllocGlobal + Clone + Drop>(
     entry: &Entry<'_>,
     file: &str,
 ) -> Hint {
-    let alloc = sources.alloc();
+    let alloc = sources.alloc;
     let Some(text) = sources.text(entry, file)? else {
         return Ok(None);
     };
-    for name in lines_in(alloc, text.as_str())? {
+    for (_, name) in lines_in(alloc, text.as_str())? {
         let Some(other) = sources.entry(name)? else {
             continue;
         };
@@ -76,11 +76,11 @@ fn unanswered<R: Files + AllocGlobal + Clone + Drop>(
     file: &str,
     back: &str,
 ) -> Hint {
-    let alloc = sources.alloc();
+    let alloc = sources.alloc;
     let Some(text) = sources.text(entry, file)? else {
         return Ok(None);
     };
-    for name in lines_in(alloc, text.as_str())? {
+    for (_, name) in lines_in(alloc, text.as_str())? {
         let Some(other) = sources.entry(name)? else {
             continue;
         };
@@ -102,13 +102,13 @@ pub(crate) fn pipe_name<R: Files + AllocGlobal + Clone + Drop>(
     sources: &Sources<'_, R>,
     entry: &Entry<'_>,
 ) -> Hint {
-    let alloc = sources.alloc();
+    let alloc = sources.alloc;
     let path = entry.path.as_str();
     let Some(text) = sources.text(entry, "pipeline-name")? else {
         return Ok(None);
     };
     let lines = lines_in(alloc, text.as_str())?;
-    let Some(name) = lines.first() else {
+    let Some((_, name)) = lines.first() else {
         return Ok(None);
     };
     let name = *name;

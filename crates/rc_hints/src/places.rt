@@ -12,3 +12,13 @@ pub fn line_at(text: &[u8], offset: usize) -> usize
     };
     front.iter().filter(|byte| **byte == b'\n').count() + 1
 }
+
+/// Where the first such byte stands.
+pub(crate) fn offset_of(text: &[u8], byte: u8) -> Option<usize> {
+    for (offset, other) in text.iter().enumerate() {
+        if *other == byte {
+            return Some(offset);
+        }
+    }
+    None
+}

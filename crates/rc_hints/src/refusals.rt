@@ -13,25 +13,13 @@ pub fn compile_hint<R: Files + AllocGlobal + Clone + Drop>(
         "Io" if names.is_empty() => file_flaws::unread_root(sources),
         "Cycle" | "BundleCycle" => chains::circle(sources, names),
         "UnknownIn" => match names.split_once(' ') {
-            Some((name, other)) => unknown_hint(sources, name, other),
+            Some((name, other)) => chains::unknown_in(sources, name, other),
             None => Ok(None),
         },
         _ => match sources.entry(names)? {
             Some(entry) => entry_hint(sources, &entry, word),
             None => Ok(None),
         },
-    }
-}
-
-/// What helps where an entry gives a name that is nobody's.
-fn unknown_hint<R: Files + AllocGlobal + Clone + Drop>(
-    sources: &Sources<'_, R>,
-    name: &str,
-    other: &str,
-) -> Hint {
-    match sources.entry(name)? {
-        Some(entry) => chains::unknown_in(sources, &entry, other),
-        None => Ok(None),
     }
 }
 

@@ -1,16 +1,15 @@
 //! What a person may think is looked at, and is not.
-use crate::entries::{Entry, Hint, Sources, is_directory, names_at, path_in};
-use crate::places::line_at;
+use crate::entries::{Entry, Hint, Sources, is_directory, is_entry, names_at, path_in};
+use crate::places::{line_at, offset_of};
 use rc_names::{Kind, NoMem};
 use std::rt::Files;
 
 /// A note about a source directory that has no entry, and looks like one itself.
 pub fn looks_like_entry<R: Files + AllocGlobal + Clone + Drop>(sources: &Sources<'_, R>) -> Hint {
-    let alloc = sources.alloc();
-    for root in sources.roots() {
+    let alloc = sources.alloc;
+    for root in sources.roots {
         let root = root.as_str();
-        let path = path_in(alloc, root, "type")?;
-        if is_file(sources.runtime(), path.as_str()) && !has_entry(sources, root)? {
+        if is_entry(sources.rt, alloc, root)? && !has_entry(sources, root)? {
             let note = format!(in alloc;
                 "{root} looks like an entry: name the directory above it"
             )?;
@@ -20,22 +19,15 @@ pub fn looks_like_entry<R: Files + AllocGlobal + Clone + Drop>(sources: &Sources
     Ok(None)
 }
 
-fn is_file<R: Files>(rt: &R, path: &str) -> bool {
-    match rt.metadata(path) {
-        Ok(found) => found.is_file(),
-        Err(_) => false,
-    }
-}
-
 /// Whether a source directory has a directory that begins with no dot.
 fn has_entry<R: Files + AllocGlobal + Clone + Drop>(
     sources: &Sources<'_, R>,
     root: &str,
 ) -> Result<bool, NoMem> {
-    let alloc = sources.alloc();
-    for name in names_at(sources.runtime(), alloc, root)? {
+    let alloc = sources.alloc;
+    for name in names_at(sources.rt, alloc, root)? {
         let path = path_in(alloc, root, name.as_str())?;
-        if !name.starts_with('.') && is_directory(sources.runtime(), path.as_str()) {
+        if !name.starts_with('.') && is_directory(sources.rt, path.as_str()) {
             return Ok(true);
         }
     }
@@ -47,7 +39,7 @@ fn has_entry<R: Files + AllocGlobal + Clone + Drop>(
 pub fn unread_files<R: Files + AllocGlobal + Clone + Drop>(
     sources: &Sources<'_, R>,
 ) -> Result<Vec<String>, NoMem> {
-    let mut notes = Vec::new(sources.alloc());
+    let mut notes = Vec::new(sources.alloc);
     let mut names = sources.names()?;
     names.sort()?;
     for name in &names {
@@ -66,27 +58,21 @@ fn add_notes<R: Files + AllocGlobal + Clone + Drop>(
 ) -> Result<(), NoMem> {
     let mut files = sources.listing(entry, "")?;
     files.sort()?;
+    let mut is_empty = entry.kind == Some(Kind::Bundle);
     for file in &files {
+        if file.as_str() == "contents" || file.as_str() == "contents.d" {
+            is_empty = false;
+        }
         if let Some(note) = note_of(sources, entry, file.as_str())? {
             notes.push(note)?;
         }
     }
-    if entry.kind == Some(Kind::Bundle) && !has_contents(&files) {
-        let alloc = sources.alloc();
+    if is_empty {
+        let alloc = sources.alloc;
         let path = entry.path.as_str();
         notes.push(format!(in alloc; "{path} is a bundle without contents")?)?;
     }
     Ok(())
-}
-
-/// Whether contents are among these files.
-fn has_contents(files: &[String]) -> bool {
-    for file in files {
-        if file.as_str() == "contents" || file.as_str() == "contents.d" {
-            return true;
-        }
-    }
-    false
 }
 
 /// The note about a file of an entry, if there is something to say.
@@ -95,7 +81,7 @@ fn note_of<R: Files + AllocGlobal + Clone + Drop>(
     entry: &Entry<'_>,
     file: &str,
 ) -> Hint {
-    let alloc = sources.alloc();
+    let alloc = sources.alloc;
     let path = entry.path.as_str();
     if !entry.reads(file) {
         if is_of_supervisors(file) || file.starts_with('.') {
@@ -126,7 +112,7 @@ fn carriage_return<R: Files + AllocGlobal + Clone + Drop>(
     let Some(bytes) = sources.bytes(entry, file)? else {
         return Ok(None);
     };
-    match bytes.iter().position(|byte| *byte == b'\r') {
+    match offset_of(&bytes, b'\r') {
         Some(offset) => Ok(Some(line_at(&bytes, offset))),
         None => Ok(None),
     }

@@ -1,5 +1,6 @@
 //! `db`, `plan` and `replay`, on the database of a file or at the front of standard input.
-use crate::hints::{behind_database, tell_file};
+use crate::hints::{Seen, behind_database, behind_session, tell_file};
+use crate::sessions::live_at;
 use crate::terminal::Typed;
 use rc_asked::DbRequest;
 use rc_hints::Told;
@@ -16,22 +17,35 @@ pub fn base_at(rt: &HostRuntime, file: Option<&str>) -> io::Result<Option<Vec<u8
     }
 }
 
-/// Answers a question about a database, and gives the status.
+/// Answers a question about a database, and gives the status. A file of a session that is not there
+/// is one of a session with nothing up.
 pub fn db(rt: &HostRuntime, request: &DbRequest<'_>, file: Option<&str>) -> u8 {
     let base = match base_at(rt, file) {
         Ok(base) => base,
         Err(error) => return tell_file(rt, file.unwrap_or(""), &error),
     };
+    let live = live_at(rt, request.live);
+    let shown = match &live {
+        Ok(shown) => shown.as_deref(),
+        Err(error) => return tell_file(rt, request.live.unwrap_or(""), error),
+    };
+    let mut typed = Typed::new(rt, Some(db_input()));
     let mut told = Told::new(rt.alloc(), rt.stderr());
     let status = db_as_asked(
         rt.alloc(),
         request,
         base.as_deref(),
-        &mut Noted::new(Typed::new(rt, Some("the database"))),
+        shown,
+        &mut Noted::new(&mut typed),
         &mut Noted::new(rt.stdout()),
         &mut told,
     );
-    behind_database(rt, file, base.as_deref(), &told);
+    let seen = Seen {
+        file,
+        base: base.as_deref(),
+        input: typed.kept(),
+    };
+    behind_session(rt, request.live, &live, &seen, &told);
     status
 }
 
@@ -41,16 +55,22 @@ pub fn plan(rt: &HostRuntime, request: &Request, file: Option<&str>) -> u8 {
         Ok(base) => base,
         Err(error) => return tell_file(rt, file.unwrap_or(""), &error),
     };
+    let mut typed = Typed::new(rt, Some(plan_input(file)));
     let mut told = Told::new(rt.alloc(), rt.stderr());
     let status = plan_as_asked(
         rt.alloc(),
         request,
         base.as_deref(),
-        &mut Noted::new(Typed::new(rt, Some(plan_input(file)))),
+        &mut Noted::new(&mut typed),
         &mut Noted::new(rt.stdout()),
         &mut told,
     );
-    behind_database(rt, file, base.as_deref(), &told);
+    let seen = Seen {
+        file,
+        base: base.as_deref(),
+        input: typed.kept(),
+    };
+    behind_database(rt, &seen, &told);
     status
 }
 
@@ -60,16 +80,27 @@ pub fn replay(rt: &HostRuntime, file: Option<&str>) -> u8 {
         Ok(base) => base,
         Err(error) => return tell_file(rt, file.unwrap_or(""), &error),
     };
+    let mut typed = Typed::new(rt, Some(replay_input(file)));
     let mut told = Told::new(rt.alloc(), rt.stderr());
     let status = replay_as_asked(
         rt.alloc(),
         base.as_deref(),
-        &mut Noted::new(Typed::new(rt, Some(replay_input(file)))),
+        &mut Noted::new(&mut typed),
         &mut Noted::new(rt.stdout()),
         &mut told,
     );
-    behind_database(rt, file, base.as_deref(), &told);
+    let seen = Seen {
+        file,
+        base: base.as_deref(),
+        input: typed.kept(),
+    };
+    behind_database(rt, &seen, &told);
     status
+}
+
+/// What `db` reads whole.
+fn db_input() -> &'static str {
+    "the database"
 }
 
 /// What `plan` reads.

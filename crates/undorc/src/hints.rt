@@ -1,9 +1,14 @@
 //! The lines behind a fault, for people: where it is, and what helps. They change no status, and
 //! where nothing is found, or memory is short, there are none.
-use rc_asked::CompileRequest;
+use rc_asked::{CompileRequest, DbRequest, Query};
+use rc_graph::Way;
 use rc_hints::{
-    Sources, Told, compile_hint, database_hint, looks_like_entry, unread_files, word_of,
+    Sources, Told, behind_end, compile_hint, database_hint, lacking_hint, live_hint,
+    looks_like_entry, near_hint, unread_files, word_of,
 };
+use rc_names::NoMem;
+use rc_queries::db_as_asked;
+use rc_streams::Noted;
 use std::fmt::Display;
 use std::io::{self, ErrorKind, Stderr};
 
@@ -32,52 +37,118 @@ pub fn behind_compile(rt: &HostRuntime, request: &CompileRequest<'_>, told: &Tol
     }
 }
 
-/// What helps behind what was told of the database: in the file of `-b`, or at the front of the
-/// input.
-pub fn behind_database(
-    rt: &HostRuntime,
-    file: Option<&str>,
-    base: Option<&[u8]>,
-    told: &ToldErrors,
-) {
+/// Where the database of a command stands, in the file of `-b` or at the front of standard input,
+/// and what was read of that.
+#[derive(Clone, Copy)]
+pub struct Seen<'a> {
+    pub file: Option<&'a str>,
+    pub base: Option<&'a [u8]>,
+    pub input: &'a [u8],
+}
+
+impl<'a> Seen<'a> {
+    /// The text that begins with the database.
+    fn database(&self) -> &'a [u8] {
+        self.base.unwrap_or(self.input)
+    }
+
+    /// What a command reads beside the database.
+    fn rest(&self) -> &'a [u8] {
+        match self.base {
+            Some(_) => self.input,
+            None => behind_end(self.input),
+        }
+    }
+
+    /// Whether a database stands there.
+    fn is_good(&self, rt: &HostRuntime) -> bool {
+        let request = DbRequest {
+            query: Query::Check,
+            way: Way::Raise,
+            live: None,
+        };
+        let mut reader = Noted::new(self.input);
+        let mut writer = Noted::new(io::sink());
+        db_as_asked(
+            rt.alloc(),
+            &request,
+            self.base,
+            None,
+            &mut reader,
+            &mut writer,
+            &mut io::sink(),
+        ) == 0
+    }
+}
+
+/// What helps behind what was told of the database, or of what is asked of it.
+pub fn behind_database(rt: &HostRuntime, seen: &Seen<'_>, told: &ToldErrors) {
     let Some((word, rest)) = told.fault() else {
         return;
     };
-    if let Some(line) = plain_hint(word, rest, file.is_some()) {
+    if let Some(line) = plain_hint(word, rest, seen.file.is_some()) {
         tell_hint(rt, line);
         return;
     }
-    if let (Some(path), Some(bytes)) = (file, base) {
-        if let Ok(Some(hint)) = database_hint(rt.alloc(), path, bytes, word, rest) {
-            tell_hint(rt, hint.as_str());
-        }
+    let hint = if word == "NotClosed" {
+        lacking_hint(rt.alloc(), seen.database(), seen.rest())
+    } else {
+        let path = seen.file.unwrap_or("standard input");
+        database_hint(rt.alloc(), path, seen.database(), word, rest)
+    };
+    if let Ok(Some(hint)) = hint {
+        tell_hint(rt, hint.as_str());
     }
 }
 
-/// What helps behind what a session told: of its database, or of the file of `-l`.
+/// What helps behind what a session told: of the file of `-l`, with what was read there, or of its
+/// database.
 pub fn behind_session(
     rt: &HostRuntime,
     live: Option<&str>,
-    file: Option<&str>,
-    base: Option<&[u8]>,
+    text: &io::Result<Option<Vec<u8>>>,
+    seen: &Seen<'_>,
     told: &ToldErrors,
 ) {
-    let Some((word, _)) = told.fault() else {
-        return;
-    };
-    match (live, live_hint(word)) {
-        (Some(path), Some(line)) => tell_hint(rt, format_args!("{path}: {line}")),
-        _ => behind_database(rt, file, base, told),
+    if let (Some(path), Some((word, rest))) = (live, told.fault()) {
+        if let Ok(Some(hint)) = behind_live(rt, path, text, seen, word, rest) {
+            tell_hint(rt, hint.as_str());
+            return;
+        }
+    }
+    behind_database(rt, seen, told);
+}
+
+/// What helps where the file of `-l` can't be read or written, or its text is refused, which is
+/// looked at behind the database.
+fn behind_live(
+    rt: &HostRuntime,
+    path: &str,
+    text: &io::Result<Option<Vec<u8>>>,
+    seen: &Seen<'_>,
+    word: &str,
+    rest: &str,
+) -> Result<Option<String>, NoMem> {
+    match text {
+        Err(error) if word == "Io" => {
+            let what = word_of(error.kind());
+            Ok(Some(format!(in rt.alloc(); "{path}: {what}")?))
+        }
+        Ok(_) if word == "Io" => {
+            let hint = format!(in rt.alloc();
+                "{path}: it can't be replaced, by {path}.new in the same directory"
+            )?;
+            Ok(Some(hint))
+        }
+        Ok(Some(bytes)) if seen.is_good(rt) => live_hint(rt.alloc(), path, bytes, word, rest),
+        _ => Ok(None),
     }
 }
 
-/// What helps where the file of `-l` is refused.
-fn live_hint(word: &str) -> Option<&'static str> {
-    match word {
-        "OtherDb" => Some("the session of another database; give it a file of its own"),
-        "Bad" | "Version" => Some("this file, or the database, is no text of its form"),
-        "Io" => Some("the file can't be read, or not be written"),
-        _ => None,
+/// Tells which name of a database may have been meant by one that is nobody's.
+pub fn tell_near(rt: &HostRuntime, database: &[u8], name: &str) {
+    if let Ok(Some(hint)) = near_hint(rt.alloc(), database, name) {
+        tell_hint(rt, hint.as_str());
     }
 }
 
@@ -92,7 +163,6 @@ fn plain_hint(word: &str, rest: &str, is_file: bool) -> Option<&'static str> {
         "NotLongrun" => Some("the name is a oneshot's, and a longrun is asked about"),
         "NotOneshot" => Some("the name is a longrun's, and a oneshot is asked about"),
         "PruneNeedsUp" => Some("-p goes with neither -d nor -D"),
-        "NotClosed" => Some("a service that is up needs one that is not among those listed"),
         "Read" => Some("standard input can't be read"),
         "Write" => Some("standard output can't be written"),
         _ => None,
@@ -117,7 +187,7 @@ pub fn tell_failure(rt: &HostRuntime, line: &str) -> u8 {
 }
 
 /// A line behind a fault.
-fn tell_hint(rt: &HostRuntime, hint: impl Display + Drop) {
+pub fn tell_hint(rt: &HostRuntime, hint: impl Display + Drop) {
     let _ = rt.eprintln(format_args!("  {hint}"));
 }
 

@@ -4,13 +4,6 @@
 use crate::replaced_file::place;
 use std::fs::{self, File, TryLockError};
 use std::io::{self, ErrorKind};
-use std::thread;
-use std::time::Duration;
-
-/// How often a program that does not wait asks again while others only look.
-const TURNS: u32 = 100;
-/// The pause before it does, in milliseconds.
-const PAUSE: u64 = 10;
 
 /// Why a lock was not taken.
 #[derive(Drop)]
@@ -42,24 +35,13 @@ impl LiveLock {
         };
         if waits {
             file.lock()?;
-        } else {
-            take_now(rt, &file)?;
+            return Ok(Some(LiveLock { file }));
         }
-        Ok(Some(LiveLock { file }))
-    }
-
-    /// The lock of a program that only looks, which others that do may have, too. None: there is
-    /// nothing to lock, or none of a lock can be had, as where the folder may not be written.
-    pub fn share(rt: &HostRuntime, path: &str, waits: bool) -> Result<Option<LiveLock>, LockFault> {
-        let Ok(Some(file)) = lock_file(rt, path) else {
-            return Ok(None);
-        };
-        if waits {
-            file.lock_shared()?;
-        } else if !is_taken(file.try_lock_shared())? {
-            return Err(LockFault::Busy);
+        match file.try_lock() {
+            Ok(()) => Ok(Some(LiveLock { file })),
+            Err(TryLockError::WouldBlock) => Err(LockFault::Busy),
+            Err(TryLockError::Error(error)) => Err(LockFault::Failed(error)),
         }
-        Ok(Some(LiveLock { file }))
     }
 }
 
@@ -80,9 +62,16 @@ fn lock_file(rt: &HostRuntime, path: &str) -> io::Result<Option<File>> {
     Ok(Some(open_lock(rt, beside.as_str())?))
 }
 
-/// Opens the file that is locked, and makes it where it is missing. It is no stream of the program,
-/// also where one of those was closed: its number is above theirs.
+/// Opens the file that is locked, and makes it where it is missing. A link is not followed, and a
+/// pipe not waited for: what stands there is a plain file. It is no stream of the program, also
+/// where one of those was closed: its number is above theirs.
 fn open_lock(rt: &HostRuntime, path: &str) -> io::Result<File> {
+    match fs::symlink_metadata(rt, path) {
+        Ok(found) if !found.is_file() => return Err(io::Error::from(ErrorKind::InvalidInput)),
+        Ok(_) => {}
+        Err(error) if error.kind() == ErrorKind::NotFound => {}
+        Err(error) => return Err(error),
+    }
     let opened = match File::open(rt, path) {
         Ok(file) => file,
         Err(error) if error.kind() == ErrorKind::NotFound => {
@@ -93,29 +82,4 @@ fn open_lock(rt: &HostRuntime, path: &str) -> io::Result<File> {
         Err(error) => return Err(error),
     };
     opened.try_clone()
-}
-
-/// Takes a lock, unless another program has it. Those that only look let it go soon, so they are
-/// waited for a while.
-fn take_now(rt: &HostRuntime, file: &File) -> Result<(), LockFault> {
-    for _ in 0..TURNS {
-        if is_taken(file.try_lock())? {
-            return Ok(());
-        }
-        if !is_taken(file.try_lock_shared())? {
-            return Err(LockFault::Busy);
-        }
-        file.unlock()?;
-        thread::sleep(rt, Duration::from_millis(PAUSE));
-    }
-    Err(LockFault::Busy)
-}
-
-/// Whether a lock that was asked for was taken.
-fn is_taken(asked: Result<(), TryLockError>) -> io::Result<bool> {
-    match asked {
-        Ok(()) => Ok(true),
-        Err(TryLockError::WouldBlock) => Ok(false),
-        Err(TryLockError::Error(error)) => Err(error),
-    }
 }

@@ -1,6 +1,7 @@
 //! `undorc`: hands the process's words, files and streams to the library.
 #![tactic(auto)]
 
+mod answers;
 mod asking;
 mod compiling;
 mod hints;

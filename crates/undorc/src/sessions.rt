@@ -1,11 +1,11 @@
 //! Sessions, and sessions of one line, which go on with a file and are kept there.
 ghost use Rattle.std.specs.Prelude.{◌≤◌};
 ghost use Rattle.rc_board.specs.Crew.{IsCrew};
-ghost use Rattle.rc_asked.specs.OnceAsked.{once_ask_of};
-ghost use Rattle.rc_oneshot.specs.Once.{HasNoEvents};
+ghost use Rattle.rc_asked.specs.OnceAsked.{HasNoEvents, once_ask_of};
 
+use crate::answers::Answers;
 use crate::asking::base_at;
-use crate::hints::{behind_session, tell_failure, tell_file};
+use crate::hints::{Seen, behind_session, tell_failure, tell_file};
 use crate::live_lock::{LiveLock, LockFault};
 use crate::live_store::{LiveStore, keep_fault};
 use crate::terminal::Typed;
@@ -38,11 +38,13 @@ pub fn session<'a, T: Threads + Wait + Sync>(
         Ok(base) => base,
         Err(error) => return tell_file(rt, file.unwrap_or(""), &error),
     };
-    let lock = match lock_at(rt, request.live, true, request.waits) {
+    let lock = match lock_at(rt, request.live, request.waits) {
         Ok(lock) => lock,
         Err(fault) => return tell_lock(rt, request.live, &fault),
     };
     let text = live_at(rt, request.live);
+    let mut typed = Typed::new(rt, session_input(file));
+    let mut answers = Answers::new(rt, base.as_deref());
     let mut told = Told::new(rt.alloc(), rt.stderr());
     let status = session_as_asked(
         threads,
@@ -52,12 +54,18 @@ pub fn session<'a, T: Threads + Wait + Sync>(
         base.as_deref(),
         live_file(&text),
         &mut TextKeeper::new(LiveStore::new(rt, request.live.unwrap_or(""))),
-        &mut Noted::new(Typed::new(rt, session_input(file))),
-        &mut Noted::new(rt.stdout()),
+        &mut Noted::new(&mut typed),
+        &mut Noted::new(&mut answers),
         &mut told,
     );
     drop(lock);
-    behind_session(rt, request.live, file, base.as_deref(), &told);
+    answers.tell_all(typed.kept());
+    let seen = Seen {
+        file,
+        base: base.as_deref(),
+        input: typed.kept(),
+    };
+    behind_session(rt, request.live, &text, &seen, &told);
     status
 }
 
@@ -85,12 +93,14 @@ pub fn once<'a, T: Threads + Wait + Sync>(
         Ok(base) => base,
         Err(error) => return tell_file(rt, file.unwrap_or(""), &error),
     };
-    let changes = moves(&request.once);
-    let lock = match lock_at(rt, live, changes, request.session.waits) {
+    let kept = if moves(&request.once) { live } else { None };
+    let lock = match lock_at(rt, kept, request.session.waits) {
         Ok(lock) => lock,
         Err(fault) => return tell_lock(rt, live, &fault),
     };
     let text = live_at(rt, live);
+    let mut typed = Typed::new(rt, once_input(file));
+    let mut answers = Answers::new(rt, base.as_deref());
     let mut told = Told::new(rt.alloc(), rt.stderr());
     let status = once_as_asked(
         threads,
@@ -100,16 +110,23 @@ pub fn once<'a, T: Threads + Wait + Sync>(
         base.as_deref(),
         live_file(&text),
         &mut TextKeeper::new(LiveStore::new(rt, live.unwrap_or(""))),
-        &mut Noted::new(Typed::new(rt, once_input(file))),
-        &mut Noted::new(rt.stdout()),
+        &mut Noted::new(&mut typed),
+        &mut Noted::new(&mut answers),
         &mut told,
     );
     drop(lock);
-    behind_session(rt, live, file, base.as_deref(), &told);
+    answers.tell_all(typed.kept());
+    let seen = Seen {
+        file,
+        base: base.as_deref(),
+        input: typed.kept(),
+    };
+    behind_session(rt, live, &text, &seen, &told);
     status
 }
 
-/// Whether a line is to do something, and not only to show it.
+/// Whether a line is to do something, and not only to show it. Who only looks takes no lock: the
+/// file is replaced whole, so what is read is one text of it.
 fn moves(once: &Once) -> bool {
     matches!(once, Once::Line(SessionLine::Step(_)))
 }
@@ -130,21 +147,15 @@ fn once_input(file: Option<&str>) -> Option<&'static str> {
     }
 }
 
-/// The lock of the file of `-l`, where one is named: of one who changes what is there, or only
-/// looks. It is held until it is dropped.
+/// The lock of the file of `-l`, where one is named. It is held until it is dropped.
 fn lock_at(
     rt: &HostRuntime,
     file: Option<&str>,
-    changes: bool,
     waits: bool,
 ) -> Result<Option<LiveLock>, LockFault> {
-    let Some(path) = file else {
-        return Ok(None);
-    };
-    if changes {
-        LiveLock::take(rt, path, waits)
-    } else {
-        LiveLock::share(rt, path, waits)
+    match file {
+        Some(path) => LiveLock::take(rt, path, waits),
+        None => Ok(None),
     }
 }
 
@@ -157,7 +168,7 @@ fn tell_lock(rt: &HostRuntime, file: Option<&str>, fault: &LockFault) -> u8 {
 }
 
 /// The bytes of the file of `-l`, where one is named and is there.
-fn live_at(rt: &HostRuntime, file: Option<&str>) -> io::Result<Option<Vec<u8>>> {
+pub fn live_at(rt: &HostRuntime, file: Option<&str>) -> io::Result<Option<Vec<u8>>> {
     let Some(path) = file else {
         return Ok(None);
     };

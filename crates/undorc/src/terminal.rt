@@ -7,7 +7,8 @@ use std::io::{self, IsTerminal, Read, Stdin};
 const LINES: &str =
     "undorc: end the session with ^D; its lines are change, undo, redo, live, journal and more";
 
-/// Standard input, and what is still to be said of it.
+/// Standard input, and what is still to be said of it. What is read whole is kept, as far as there
+/// is memory.
 #[derive(Drop)]
 pub struct Typed<'a> {
     rt: &'a HostRuntime,
@@ -15,6 +16,8 @@ pub struct Typed<'a> {
     is_terminal: bool,
     helps: bool,
     reads: Option<&'static str>,
+    keeps: bool,
+    kept: Vec<u8>,
 }
 
 impl<'a> Typed<'a> {
@@ -28,7 +31,14 @@ impl<'a> Typed<'a> {
             is_terminal,
             helps: is_terminal && reads.is_none(),
             reads,
+            keeps: reads.is_some(),
+            kept: Vec::new(rt.alloc()),
         }
+    }
+
+    /// What was read, where it is read whole.
+    pub fn kept(&self) -> &[u8] {
+        &self.kept
     }
 
     /// Says what is read from a terminal.
@@ -48,6 +58,9 @@ impl Read for Typed<'_> {
         }
         let outcome = self.inner.read(buf);
         if let Ok(count) = &outcome {
+            if self.keeps {
+                let _ = self.kept.extend_from_slice(&buf[..*count]);
+            }
             if self.helps && asks_for_help(&buf[..*count]) {
                 let _ = self.rt.eprintln(LINES);
             }
