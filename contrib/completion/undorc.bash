@@ -1,0 +1,202 @@
+# shellcheck shell=bash
+# Completion of undorc for bash, which reads it by `.`; it needs no other package. Names are those of
+# the database that -b or UNDORC_DB names.
+
+# Splits the line up to the cursor as the shell does, without expanding anything: the array `words`,
+# of which the last is the one that is completed, and `quote`, the quote that is open there.
+_undorc_split() {
+    local text=$1 char='' word='' begun='' i
+    words=() quote=''
+    for ((i = 0; i < ${#text}; i++)); do
+        char=${text:i:1}
+        if [[ $quote ]]; then
+            if [[ $char == "$quote" ]]; then quote=''; else word+=$char; fi
+        elif [[ $char == [\'\"] ]]; then
+            quote=$char begun=yes
+        elif [[ $char == \\ ]]; then
+            i=$((i + 1))
+            word+=${text:i:1} begun=yes
+        elif [[ $char == [[:space:]] ]]; then
+            [[ ! $begun ]] || words+=("$word")
+            word='' begun=''
+        else
+            word+=$char begun=yes
+        fi
+    done
+    words+=("$word")
+}
+
+# The options of a command.
+_undorc_options() {
+    local making='-w -x -r -c -T -v'
+    case $1 in
+        compile) echo -o -v ;;
+        db) echo -b -d -l ;;
+        plan) echo -b -u -d -D -p -a ;;
+        replay) echo -b ;;
+        session) echo "-b -l -W -n $making" ;;
+        change) echo "-b -l -W -t -n -u -d -D -p -a $making" ;;
+        undo | redo) echo "-b -l -W -t -n $making" ;;
+        live | journal) echo -b -l -W ;;
+    esac
+}
+
+# Whether an option of a command has a value.
+_undorc_has_value() {
+    case $1$2 in
+        session-n) return 0 ;;
+        *-[blorcxTtw]) return 0 ;;
+    esac
+    return 1
+}
+
+# The names of a kind, as `undorc db list` has them.
+_undorc_names() {
+    local base=${UNDORC_DB-} i
+    for ((i = 2; i < ${#words[@]} - 1; i++)); do
+        case ${words[i]} in
+            -b) [[ $((i + 1)) -eq $((${#words[@]} - 1)) ]] || base=${words[i + 1]} ;;
+            -b?*) base=${words[i]#-b} ;;
+        esac
+    done
+    # shellcheck disable=SC2088
+    [[ $base != '~/'* ]] || base=$HOME/${base#'~/'}
+    [[ ! $base ]] || command "${words[0]}" db -b "$base" list "$1" 2> /dev/null < /dev/null
+}
+
+# Puts into `quoted` how a word is to stand on the line.
+_undorc_quote() {
+    quoted=$1
+    [[ $quote ]] || printf -v quoted %q "$1"
+    quoted=${quoted//\\,/,}
+}
+
+# Offers those lines of the input that begin with the word, each with this in front.
+_undorc_offer() {
+    local front=${1-} word=${words[-1]} name quoted
+    while IFS= read -r name; do
+        name=$front$name
+        [[ $name != "$word"* ]] || {
+            _undorc_quote "$name"
+            COMPREPLY+=("$quoted")
+        }
+    done
+}
+
+# The words that may stand behind a query.
+_undorc_query_words() {
+    case $1 in
+        list) printf '%s\n' all services oneshots longruns bundles ;;
+        type) _undorc_names all ;;
+        timeout | flags) _undorc_names services ;;
+        contents) _undorc_names bundles ;;
+        pipeline) _undorc_names longruns ;;
+        script) _undorc_names oneshots ;;
+        atomics | dependencies | all-dependencies) _undorc_names all ;;
+    esac
+}
+
+# Offers transitions that fail, joined by commas.
+_undorc_failing() {
+    local word=${words[-1]} front='' way
+    [[ $word != *,* ]] || front=${word%,*},
+    [[ $front ]] || _undorc_offer < <(echo none)
+    for way in up: down:; do
+        if [[ $word == "$front$way"* ]]; then
+            _undorc_offer "$front$way" < <(_undorc_names services)
+        else
+            _undorc_offer "$front" < <(echo "$way")
+            compopt -o nospace 2> /dev/null
+        fi
+    done
+}
+
+# Offers the value of an option.
+_undorc_value() {
+    case $1 in
+        -b | -l | -o)
+            compopt -o filenames 2> /dev/null
+            mapfile -t COMPREPLY < <(compgen -f -- "${words[-1]}")
+            ;;
+        -c | -r) mapfile -t COMPREPLY < <(compgen -c -- "${words[-1]}") ;;
+        -x) _undorc_failing ;;
+        -w) _undorc_offer < <(printf '%s\n' 1 2 4 8 16 32 64) ;;
+    esac
+}
+
+# Offers words that are no options.
+_undorc_words() {
+    local command=$1 found=() i
+    for ((i = 2; i < ${#words[@]} - 1; i++)); do
+        if _undorc_has_value "$command" "${words[i]}"; then
+            i=$((i + 1))
+        elif [[ ${words[i]} != -* ]]; then
+            found+=("${words[i]}")
+        fi
+    done
+    case $command in
+        compile)
+            compopt -o filenames 2> /dev/null
+            mapfile -t COMPREPLY < <(compgen -d -- "${words[-1]}")
+            ;;
+        db)
+            if [[ ${#found[@]} -eq 0 ]]; then
+                _undorc_offer < <(printf '%s\n' check dot list type timeout flags contents pipeline \
+                    script atomics dependencies all-dependencies)
+            else
+                case ${#found[@]}:${found[0]} in
+                    1:* | *:atomics | *:dependencies | *:all-dependencies)
+                        _undorc_offer < <(_undorc_query_words "${found[0]}")
+                        ;;
+                esac
+            fi
+            ;;
+        plan | change) _undorc_offer < <(_undorc_names all) ;;
+        help) [[ ${#found[@]} -gt 0 ]] || _undorc_commands ;;
+    esac
+}
+
+_undorc_commands() {
+    _undorc_offer < <(printf '%s\n' compile db plan replay session change undo redo live journal \
+        version help)
+}
+
+# Takes from the front what bash does not count to the word: up to the last character at which it
+# breaks words.
+_undorc_cut() {
+    local word=${words[-1]} break='' front='' most='' quoted
+    [[ ! $quote ]] || return
+    for break in : = @; do
+        [[ $word == *"$break"* && $COMP_WORDBREAKS == *"$break"* ]] || continue
+        front=${word%"$break"*}$break
+        [[ ${#front} -le ${#most} ]] || most=$front
+    done
+    [[ $most ]] || return
+    _undorc_quote "$most"
+    COMPREPLY=("${COMPREPLY[@]#"$quoted"}")
+}
+
+_undorc() {
+    local words quote i
+    COMPREPLY=()
+    _undorc_split "${COMP_LINE:0:COMP_POINT}"
+    local count=${#words[@]} word=${words[-1]} command=${words[1]-}
+    if [[ $count -eq 2 ]]; then
+        if [[ $word == -* ]]; then
+            _undorc_offer < <(printf '%s\n' -h --help)
+        else
+            _undorc_commands
+        fi
+    elif [[ $count -gt 3 ]] && _undorc_has_value "$command" "${words[count - 2]}"; then
+        _undorc_value "${words[count - 2]}"
+    elif [[ $word == -* ]]; then
+        local options
+        read -ra options <<< "$(_undorc_options "$command") -h --help"
+        _undorc_offer < <(printf '%s\n' "${options[@]}")
+    else
+        _undorc_words "$command"
+    fi
+    _undorc_cut
+}
+
+complete -F _undorc undorc

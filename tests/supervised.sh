@@ -1,0 +1,63 @@
+#!/bin/sh
+# Runs the built program under real supervisors, with the scripts of contrib: tests/supervised.sh PROGRAM. The last line is
+# 'N passed, M failed', and the status is 0 where none failed. A supervisor that is not there is told as skipped.
+#
+# A machine is a supervisor in a folder of its own, with services that are made for it (tests/supervised/machine.sh). They
+# run side by side: of each supervisor one whose controller is called by itself, one that is set up as its README says, and
+# one for each number of workers. What contrib/lint says needs none.
+set -eu
+here=$(realpath "$(dirname "$0")")
+program=$(realpath "$1")
+room=$(mktemp -d)
+machines=
+
+# Each machine ends what it started, also where it is ended.
+tidy() {
+    trap '' INT TERM HUP
+    for machine in $machines; do kill -TERM "$machine" 2> /dev/null || true; done
+    wait
+    rm -rf "$room"
+}
+trap tidy EXIT
+trap 'exit 130' INT
+trap 'exit 143' TERM HUP
+
+passed=0
+failed=0
+skipped=
+names=
+for supervisor in s6 runit; do
+    # shellcheck source=supervised/s6.sh
+    . "$here/supervised/$supervisor.sh"
+    if ! there; then
+        skipped="${skipped}skipped: the Debian package $supervisor is not installed
+"
+        continue
+    fi
+    for kind in controllers readme 1 4 64; do
+        name=$supervisor.$kind
+        sh "$here/supervised/machine.sh" "$program" "$supervisor" "$kind" > "$room/$name" 2>&1 &
+        machines="$machines $!"
+        names="$names $name"
+    done
+done
+sh "$here/supervised/lint.sh" "$program" > "$room/lint" 2>&1 &
+machines="$machines $!"
+names="$names lint"
+wait
+machines=
+for name in $names; do
+    line=$(tail -n 1 "$room/$name")
+    good=$(echo "$line" | sed -n 's/^\([0-9]*\) passed, [0-9]* failed$/\1/p')
+    bad=$(echo "$line" | sed -n 's/^[0-9]* passed, \([0-9]*\) failed$/\1/p')
+    if [ -z "$good" ]; then
+        bad=1
+        echo 'FAILED: it was not run to its end' >> "$room/$name"
+    fi
+    [ "$bad" -eq 0 ] || sed "s/^/$name: /" "$room/$name"
+    passed=$((passed + ${good:-0}))
+    failed=$((failed + bad))
+done
+printf '%s' "$skipped"
+echo "$passed passed, $failed failed"
+[ "$failed" -eq 0 ]

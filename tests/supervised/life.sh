@@ -1,0 +1,97 @@
+# shellcheck shell=sh
+# The life of a machine: a boot, services that fail, an undo and a redo, what is killed, what somebody does by hand, and a
+# shutdown. Behind each command the supervisor says what live says. tests/supervised/machine.sh reads this file.
+oneshot root
+: > services/root/flag-essential
+oneshot net root
+logs log "$room/fifo"
+echo app > services/log/consumer-for
+longrun app "exec 1<> $room/fifo; while :; do echo line; sleep 0.2; done" net
+echo log > services/app/producer-for
+ready_after slow 2
+needs slow net
+longrun web 'exec sleep 1000' slow app
+bundle default web
+
+never_ready never
+echo 1000 > services/never/timeout-up
+longrun crash 'exit 7'
+longrun late 'sleep 0.3; exit 7'
+shut shut
+longrun above 'exec sleep 1000' crash
+longrun spare 'exec sleep 1000' root
+bundle broken above late never shut spare
+deaf deaf
+echo 3000 > services/deaf/timeout-down
+compiles
+scans
+
+does 0 'raised app log net root slow web\nok\n' "$folder/boot"
+does 0 'ok\n' "$folder/boot"
+
+# What fails is down and is not tried again; an undo takes back what came up beside it, and a redo brings that up again.
+does 2 'raised spare\nfailed crash late never shut\nblocked above\nok\n' "$folder/manage" change broken
+grep -q 'up never: timed out$' told || echo 'no time-out was told' >> told
+holds 'a limit is told as one' grep -q 'up never: timed out$' told
+does 0 'lowered spare\nok\n' "$folder/manage" undo
+does 0 'raised spare\nok\n' "$folder/manage" redo
+does 1 'refused NothingToRedo\n' "$folder/manage" redo
+does 1 'refused Unknown nobody\n' "$folder/manage" change nobody
+
+# What does not go down within its limit is up, and is kept up.
+does 0 'raised deaf\nok\n' "$folder/manage" change deaf
+does 2 'failed deaf\nok\n' "$folder/manage" undo
+: > hears
+does 0 'lowered deaf\nok\n' "$folder/manage" undo
+
+# A supervisor that is killed: the next one finds the wish, and the next command what it needs.
+kills_supervisor app
+kills_supervisor deaf
+until_so is_state deaf down
+agrees 100 > err
+: > out
+wants '' ''
+echo 0 > status
+judges 'supervisors that are killed' 0
+orphans app
+does 0 'lowered app web\nok\n' "$folder/manage" change -d app
+does 0 'raised app web\nok\n' "$folder/manage" change web
+
+# A session that is killed while slow is on its way: its controller goes on, and live does not know of it. That is told, and
+# the next command makes it true.
+does 0 'lowered slow web\nok\n' "$folder/manage" change -d slow
+"$folder/manage" change web > out 2> told &
+session=$!
+until_so is_state slow up
+kill -KILL "$session"
+wait "$session" 2> killed || true
+until_so is_state slow up
+wants 'slow: not live, but up wanted\n' ''
+echo 0 > status
+"$folder/../drift" "$folder" > out 2> err || echo $? > status
+judges 'drift behind a session that was killed' 1
+does 0 'raised slow web\nok\n' "$folder/manage" change web
+
+# drifts STATUS LINES: what drift says
+drifts() {
+    wants "$2" ''
+    echo 0 > status
+    "$folder/../drift" "$folder" > out 2> err || echo $? > status
+    judges 'drift' "$1"
+}
+drifts 0 ''
+by_hand down web
+by_hand up deaf
+drifts 1 'deaf: not live, but up wanted\nweb: live, but down\n'
+by_hand up web
+by_hand down deaf
+drifts 0 ''
+# runsvdir ends what it finds no more; s6 is told to.
+if [ "$supervisor" = s6 ]; then
+    mv scan/spare elsewhere
+    drifts 1 'spare: live, but unsupervised\n'
+    mv elsewhere scan/spare
+fi
+
+does 0 'lowered app log net root slow spare web\nok\n' "$folder/shutdown"
+does 0 'ok\n' "$folder/shutdown"
