@@ -5,7 +5,7 @@ PREFIX ?= /usr/local
 PROGRAM := crates/undorc/out/undorc
 SOURCES := $(shell find crates -name out -prune -o -type f -print) crates.txt
 
-.PHONY: build demo test install
+.PHONY: build demo test install release
 
 # Only a proved crate is built, so the first build proves everything below the program. `make test`
 # builds the program too.
@@ -21,5 +21,10 @@ demo:
 test:
 	@sh tests/all.sh
 
+# The program, the man pages, the completion and contrib.
 install: build
-	install -D -m 755 $(PROGRAM) "$(DESTDIR)$(PREFIX)/bin/undorc"
+	DESTDIR="$(DESTDIR)" PREFIX="$(PREFIX)" sh packaging/install.sh $(PROGRAM)
+
+# An archive of what `make install` copies, with what was proved.
+release: build
+	sh packaging/release.sh $(PROGRAM) .
