@@ -1,6 +1,6 @@
 #!/bin/sh
-# The whole gate: every proof and stored run, and then the built program from outside.
-# The last line is 'N passed, M failed' over both, and the status is 0 where all passed.
+# The whole gate: every proof and stored run, then the built program from outside and under real supervisors, and the scripts.
+# The last line is 'N passed, M failed' over all, and the status is 0 where all passed.
 set -eu
 cd "$(dirname "$0")/.."
 room=$(mktemp -d)
@@ -32,7 +32,12 @@ count() {
 count rt ci
 count sh tests/edits.sh
 count sh tests/program.sh crates/undorc/out/undorc
+count sh tests/pages.sh crates/undorc/out/undorc
+count sh tests/packaging.sh crates/undorc/out/undorc
+count sh tests/tutorial.sh crates/undorc/out/undorc
 count sh tests/fuzz.sh 30 1 crates/undorc/out/undorc
+count sh tests/supervised.sh crates/undorc/out/undorc
+count sh tests/shells.sh
 if [ -f crates/undorc/out/undorc.by-rattle ]; then
     count sh tests/program.sh crates/undorc/out/undorc.by-rattle
     count sh tests/fuzz.sh 30 1000000 crates/undorc/out/undorc.by-rattle
@@ -42,5 +47,12 @@ fi
 times > "$room/times"
 printf '%s' "$spent"
 echo "processor time, user and system: $(tail -n 1 "$room/times")"
+# Kept for an archive of this very program.
+if [ -f crates/undorc/out/undorc ]; then
+    {
+        echo "program $(sha256sum < crates/undorc/out/undorc | cut -d ' ' -f 1)"
+        echo "gate $passed passed, $failed failed"
+    } > crates/undorc/out/gate
+fi
 echo "$passed passed, $failed failed"
 [ "$failed" -eq 0 ]

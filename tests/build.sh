@@ -8,6 +8,7 @@ mkdir -p crates/undorc/out
 room=$(mktemp -d "$PWD/.build.XXXXXX")
 
 # What a crate keeps for its next check goes back to it, however this ends.
+# shellcheck disable=SC2317 # it is called by a trap
 put_back() {
     for out in "$room"/trees/*/crates/*/out; do
         [ -d "$out" ] || continue
@@ -18,6 +19,7 @@ put_back() {
     done
 }
 # What runs beside the script is in its process group, and does not hear an interrupt.
+# shellcheck disable=SC2317 # it is called by a trap
 end_all() {
     trap '' TERM
     kill 0
@@ -99,10 +101,10 @@ prove() {
     mkdir -p "$tree/crates/$name"
     cp HANDLES "$tree"
     for dep in $(below "$name"); do
-        grep "^$dep[ :]" crates.txt
+        grep "^${dep}[ :]" crates.txt
         link "$dep" "$tree" src specs proofs out/rlib
     done > "$tree/crates.txt"
-    grep "^$name[ :]" crates.txt >> "$tree/crates.txt"
+    grep "^${name}[ :]" crates.txt >> "$tree/crates.txt"
     link "$name" "$tree" src specs proofs
     mkdir -p "crates/$name/out"
     mv "crates/$name/out" "$tree/crates/$name/out"

@@ -21,12 +21,12 @@ run_proved() {
     for words in "$cases"/*.args; do
         name=$(basename "$words" .args)
         (
-            program=$(realpath "$program")
+            built=$(realpath "$program")
             input=$(realpath "$cases/$name")
             set --
             while IFS= read -r word; do set -- "$@" "$word"; done < "$words"
             cd "$room"
-            "$program" "$@" < "$input" > "$name.out"
+            "$built" "$@" < "$input" > "$name.out"
         )
     done
 }

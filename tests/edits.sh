@@ -291,7 +291,8 @@ try_rank() {
     log=$room/$1.log
     left=
     alone=
-    for crate in $(sed -n "s/^$1 //p" "$room/ranks"); do
+    ranked=$(sed -n "s/^$1 //p" "$room/ranks")
+    for crate in $ranked; do
         sort_edits "$crate"
     done
     while [ -n "$left" ]; do

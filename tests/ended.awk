@@ -31,6 +31,7 @@ function not_started(told,  many, lines, i, j, list) {
     fault = ""
     for (i = 1; i < many; i++) {
         if (lines[i] ~ /^undorc: +[0-9]+\.[0-9]+ s  (up|down) [a-z]: (started|ok|not started)$/) sub(/^.* s  /, "", lines[i])
+        else if (lines[i] ~ /^  (nothing is named|options stand) /) continue
         else if (fault !~ /^undorc: / || lines[i] !~ /^  /) fault = fault lines[i] "\n"
     }
     fault = many ? fault lines[many] : ""

@@ -21,9 +21,10 @@ with() {
     printf '%s' "$sample" | sed "s/$1/$2/"
 }
 
-# firsts FILE: what was told, without the lines that stand behind a fault and help; they begin with two spaces.
+# firsts FILE: what was told, without the lines that stand behind a fault or behind the refusal of a name, and help; they
+# begin with two spaces.
 firsts() {
-    sed '/^undorc: /,$ { /^  /d; }' "$1"
+    sed -e '/^  nothing is named /d' -e '/^  options stand /d' -e '/^undorc: /,$ { /^  /d; }' "$1"
 }
 
 # judge WHAT STATUS: the files `status`, `out` and `err` against what is wanted, without what helps behind a fault.
@@ -156,7 +157,8 @@ numbered() {
 ended() {
     [ "$number" -ge "$1" ] || echo "only $number runs"
     shift
-    for told in $(grep -ls ': not started$' err.*); do
+    unstarted=$(grep -ls ': not started$' err.*) || true
+    for told in $unstarted; do
         key=$(sed -n 's/^undorc: .* s  \(.*\) \(.\): not started$/\1:\2/p' "$told" | sort -t : -k 2 | tr '\n' ,)
         [ -e "whole.${key%,}" ] || expects "${key%,}"
     done

@@ -38,7 +38,7 @@ text() {
 # spent WORDS..: the processor time of a run, in milliseconds
 spent() {
     least=
-    for run in 1 2 3; do
+    for _ in 1 2 3; do
         times=$( { /usr/bin/env time -f '%U %S' "$@" > out < /dev/null; } 2>&1 | tail -n 1)
         took=$(echo "$times" | awk '{ printf "%d", ($1 + $2) * 1000 }')
         if [ -z "$least" ] || [ "$took" -lt "$least" ]; then least=$took; fi

@@ -174,6 +174,7 @@ for topic in "$@"; do
         cp "$sample" "${name%.txt}"
     done
     translate "$topic" "$here/rows/$topic.rows" > "$room/.rows"
+    # shellcheck source=/dev/null
     . "$room/.rows"
     [ "$whole" = "$topic" ] || amiss "$topic: the rows can't be read"
     cd ..

@@ -45,6 +45,31 @@ awk 'BEGIN { for (i = 1000; i < 5096; i++) print "s" i }' > out.wanted
 judge 'the contents of one of 4,096 bundles of 4,096 services' 0
 rm widest
 
+# A line of as many states as it may have where nothing is said, and one more: the oldest goes. A text of
+# a state more is refused and left alone.
+awk 'BEGIN {
+    print "undorc-live 2\nservices db log net root web\nbound 1024"
+    for (i = 1; i <= 1024; i++) print (i < 1024 ? "up" : "now") (i % 2 ? "" : " log")
+    print "end"
+}' > full
+echo '-d change log' > in
+runs session -b base -x none -l full
+{ grep -c -e '^up' -e '^now' full; tail -n 3 full; } >> out
+wants 'lowered log\nok\n1024\nup log\nnow\nend\n' ''
+judge 'a line of 1,024 states, and one more' 0
+printf '%s\n' undo journal > in
+"$program" session -b base -x none -l full < in 2> err | head -n 3 > out
+wants 'raised log\nok\nat 1022 of 1024\n' ''
+judge 'a line of 1,024 states that goes on' 0
+awk '/^bound/ { print "bound 1023"; next } { print }' full > over
+cp over before
+echo live > in
+runs session -b base -x none -l over
+cmp -s over before || echo 'the file was written' >> err
+wants '' 'undorc: OverBound\n'
+judge 'a text of a state more than there may be' 1
+rm full over
+
 # The file of a session is a link to a file that somebody else owns, in a folder of theirs: it is left
 # alone. This row runs the program as nobody, where the script runs as root.
 if [ "$(id -u)" -eq 0 ]; then
@@ -67,6 +92,72 @@ if [ "$(id -u)" -eq 0 ]; then
     : > err
     wants '../theirs/live\nours:\nlive\n\ntheirs:\nlive\n' ''
     judge 'what a link to a file of somebody else left' 0
+fi
+
+# What is to be written beside a file is a link to another file: that is not followed, and goes. A
+# database in a folder of somebody else may be read, and one that may not be read is told.
+echo theirs > precious
+for named in live db; do
+    ln -s precious "$named.new"
+    case $named in
+        live) echo 'change log' > in; set -- session -b base -x none -l live ;;
+        db) : > in; mkdir -p none; set -- compile none -o db ;;
+    esac
+    runs "$@"
+    { cat precious; find . -name '*.new'; } > out
+    wants 'theirs\n' ''
+    judge "a link to another file where undorc $* writes beside its file" 0
+done
+rm live db precious
+if [ "$(id -u)" -eq 0 ] && command -v setpriv > /dev/null; then
+    cp base secret
+    chmod 600 secret
+    ln -s secret hidden
+    for words in 'session -b hidden -x none' 'plan -b secret' 'compile shut'; do
+        mkdir -p shut/one
+        chmod 700 shut
+        : > in
+        echo 0 > status
+        # shellcheck disable=SC2086
+        setpriv --reuid=65534 --regid=65534 --clear-groups ./undorc $words < in > out 2> err || echo $? > status
+        wants '' 'undorc: Io\n'
+        judge "a file of somebody else: undorc $words" 111
+    done
+    # Who owns a file in a folder that others may write keeps it.
+    mkdir common
+    chmod 1777 common
+    echo precious > common/db
+    chmod 666 common/db
+    cp common/db before
+    echo 0 > status
+    setpriv --reuid=65534 --regid=65534 --clear-groups ./undorc compile none -o common/db < in > out 2> err || echo $? > status
+    cmp -s common/db before || echo 'the file was written' >> err
+    wants '' 'undorc: Io\n'
+    judge 'the file of somebody else in a folder that all may write' 111
+else
+    echo 'not as root, or without setpriv: the rows of files of somebody else are left out'
+fi
+
+# What a script is given: three streams and no other file, whatever undorc has open, and the environment
+# of undorc with the three variables that are told it.
+if [ -e /proc/self/fd ]; then
+    mkdir -p tells/one
+    echo oneshot > tells/one/type
+    printf '%s\n' 'ls -l /proc/self/fd > files' "tr '\\0' '\\n' < /proc/\$\$/environ > environment" > tells/one/up
+    "$program" compile tells > told
+    printf '%s\n' PATH=/usr/bin:/bin UNDORC_LIMIT=0 UNDORC_NAME=one UNDORC_WAY=up WORD=x | sort > out.wanted
+    printf '0 /dev/null\n1 %s\n2 /dev/null\n3 \n' "$PWD/files" >> out.wanted
+    for workers in 1 2; do
+        echo 'change one' > in
+        : > err
+        echo 0 > status
+        env -i WORD=x PATH=/usr/bin:/bin "$program" session -b told -l kept.$workers -w "$workers" \
+            < in > answers 7< base || echo $? > status
+        sort environment > out
+        awk '$10 == "->" { print $9, ($11 ~ /^\/proc\// ? "" : $11) }' files >> out
+        : > err.wanted
+        judge "what is open to a script, and its environment, by $workers" 0
+    done
 fi
 
 # A source directory that changes while it is read: what is told is a database, or a refusal that names

@@ -233,6 +233,8 @@ for topic in sessions bundles serving lines; do sed -n 's/^< //p' "$here/rows/$t
     while IFS= read -r line; do printf '%b\n' "$line"; done > in
 "$program" session -b base -x up:net,down:log < in > out.wanted 2> err.wanted ||
     echo 'status 1' >> out.wanted
+firsts err.wanted > err.firsts
+mv err.firsts err.wanted
 [ "$(grep -c -e '^ok$' -e '^refused ' out.wanted)" -gt 400 ] ||
     echo 'more than 400 answers' >> out.wanted
 for workers in 1 2 3 64; do

@@ -6,6 +6,7 @@ printf '%b' "$sample" > base
 cut=0
 at=0
 end=0
+# shellcheck disable=SC2094 # nothing writes what is read
 while read -r line; do
     case $line in
         true | '') ;;
@@ -126,10 +127,14 @@ comments() {
 }
 many 16777216 '\n' > whole
 bounded 1 '' 'undorc: Bad 0\n' plan
+bounded 1 '' 'undorc: Bad 0\n' replay
+bounded 1 '' 'undorc: Bad 0\n' change web -x none
 bounded 0 '' '' session -b base -x none
 printf '\n12345' >> whole
 bounded 111 12345 'undorc: TooLong\n' plan
 bounded 111 12345 'undorc: TooLong\n' db check
+bounded 111 12345 'undorc: TooLong\n' replay
+bounded 111 12345 'undorc: TooLong\n' change web -x none
 bounded 111 12345 'undorc: TooLong\n' session -b base -x none
 bounded 111 12345 'undorc: TooLong\n' session -x up:nosuch
 { echo '-u change log'; comments 16777196; echo; echo live; } > whole

@@ -7,46 +7,59 @@ begin_tree
 for name in $names; do oneshot "$name" 'sleep 0.1'; done
 "$program" compile tree > base
 
-# at_once WORDS..: ten sessions at once, of a line each; each leaves its answer, what it told and its status
+# one HOW NAME WORDS..: a session of one line that brings up this service, or the command of that line
+one() {
+    how=$1 service=$2
+    shift 2
+    case $how in
+        session) echo "change $service" | "$program" session -b base -l live "$@" ;;
+        command) "$program" change "$service" -b base -l live "$@" < /dev/null ;;
+    esac
+}
+# at_once HOW WORDS..: ten of them at once; each leaves its answer, what it told and its status
 at_once() {
     rm -f live ./*.out ./*.err ./*.status
+    how=$1
+    shift
     for name in $names; do
-        { echo 0 > "$name.status"; echo "change $name" | "$program" session -b base -l live "$@" > "$name.out" 2> "$name.err" || echo $? > "$name.status"; } &
+        { echo 0 > "$name.status"; one "$how" "$name" "$@" > "$name.out" 2> "$name.err" || echo $? > "$name.status"; } &
     done
     wait
 }
 # found: the states of `live` as the names that came up, one after the other, in the order of the journal
 found() {
-    echo journal | "$program" session -b base -x none -l live | sed -n 's/^[0-9]* +//p'
+    "$program" journal -b base -l live | sed -n 's/^[0-9]* +//p'
 }
 
-# Ten that wait are all done, one after the other, in some order.
-at_once -W
-for name in $names; do
-    printf 'raised %s\nok\n' "$name" | cmp -s - "$name.out" || echo "$name: another answer"
-    [ ! -s "$name.err" ] || cat "$name.err"
-    [ "$(cat "$name.status")" -eq 0 ] || echo "$name: status $(cat "$name.status")"
-done > out
-found | sort | tr '\n' ' ' >> out
-echo >> out
-: > err
-echo 0 > status
-wants "$names \\n" ''
-judge 'ten sessions that wait for the file' 0
+for how in session command; do
+    # Ten that wait are all done, one after the other, in some order.
+    at_once "$how" -W
+    for name in $names; do
+        printf 'raised %s\nok\n' "$name" | cmp -s - "$name.out" || echo "$name: another answer"
+        [ ! -s "$name.err" ] || cat "$name.err"
+        [ "$(cat "$name.status")" -eq 0 ] || echo "$name: status $(cat "$name.status")"
+    done > out
+    found | sort | tr '\n' ' ' >> out
+    echo >> out
+    : > err
+    echo 0 > status
+    wants "$names \\n" ''
+    judge "ten at once that wait for the file, each a $how" 0
 
-# Of ten that do not wait each is done, or it is told that the file is in use, and then it did nothing.
-at_once
-found | sort > moved
-for name in $names; do
-    case $(cat "$name.status") in
-        0) printf 'raised %s\nok\n' "$name" | cmp -s - "$name.out" && [ ! -s "$name.err" ] && grep -qx "$name" moved || echo "$name: done otherwise" ;;
-        111) [ ! -s "$name.out" ] && echo 'undorc: Busy' | cmp -s - "$name.err" && ! grep -qx "$name" moved || echo "$name: refused otherwise" ;;
-        *) echo "$name: status $(cat "$name.status")" ;;
-    esac
-done > out
-[ -s moved ] || echo 'none was done' >> out
-wants '' ''
-judge 'ten sessions that do not wait for the file' 0
+    # Of ten that do not wait each is done, or it is told that the file is in use, and then it did nothing.
+    at_once "$how"
+    found | sort > moved
+    for name in $names; do
+        case $(cat "$name.status") in
+            0) printf 'raised %s\nok\n' "$name" | cmp -s - "$name.out" && [ ! -s "$name.err" ] && grep -qx "$name" moved || echo "$name: done otherwise" ;;
+            111) [ ! -s "$name.out" ] && echo 'undorc: Busy' | cmp -s - "$name.err" && ! grep -qx "$name" moved || echo "$name: refused otherwise" ;;
+            *) echo "$name: status $(cat "$name.status")" ;;
+        esac
+    done > out
+    [ -s moved ] || echo 'none was done' >> out
+    wants '' ''
+    judge "ten at once that do not wait for the file, each a $how" 0
+done
 
 # busy WHAT FILE: another session has it; nothing of the input is read, and nothing is done
 busy() {
@@ -70,6 +83,14 @@ busy 'a file that another session has' live
 busy 'the same by its whole path' "$PWD/live"
 busy 'the same by links' again
 busy 'the same by links through a folder' way/other
+expect 111 '' 'undorc: Busy\n' '' change s2 -b base -x none -l live
+expect 111 '' 'undorc: Busy\n' '' undo -b base -x none -l live
+# Who only looks takes no lock: it finds what was answered last.
+expect 0 'live s1\nok\n' '' '' live -b base -l way/other
+expect 0 'at 1 of 2\n0 +s1\nok\n' '' '' journal -b base -l live
+expect 0 'raise s3\nok\n' '' '' change -n s3 -b base -l live
+expect 0 'lower s1\nok\n' '' '' undo -n -b base -l live
+expect 1 'refused NothingToRedo\n' '' '' redo -n -b base -l live
 printf 'change s3\nlive\n' > waiting
 "$program" session -b base -x none -l way/other -W < waiting > waited 2>&1 3>&- 4<&- &
 sleep 0.3
@@ -162,17 +183,39 @@ wants '0 live.lock\n' ''
 stat -c '%s %n' live.lock > out
 judge 'nothing was written into the locked file' 0
 
-# Who only looks is waited for, and who changes is not.
+# Whoever holds the lock: a look needs none, and a session is refused, or waits.
 if command -v flock > /dev/null; then
-    flock -s live.lock sleep 0.3 &
-    sleep 0.1
-    expect 0 'live s1\nok\n' '' 'live\n' session -b slow -x none -l live
-    wait
-    flock -x live.lock sleep 0.3 &
-    sleep 0.1
-    expect 111 '' 'undorc: Busy\n' 'live\n' session -b slow -x none -l live
-    expect 0 'live s1\nok\n' '' 'live\n' session -b slow -x none -l live -W
-    wait
+    for kind in -s -x; do
+        rm -f free
+        flock "$kind" live.lock sh -c 'until [ -e free ]; do sleep 0.05; done' &
+        for turn in $(seq 100); do
+            flock -n -x live.lock true || break
+            sleep 0.05
+        done
+        expect 0 'live s1\nok\n' '' '' live -b slow -l live
+        expect 111 '' 'undorc: Busy\n' 'live\n' session -b slow -x none -l live
+        { sleep 0.2; : > free; } &
+        expect 0 'live s1\nok\n' '' 'live\n' session -b slow -x none -l live -W
+        wait
+    done
 fi
+
+# What stands at FILE.lock and is no plain file: a link is not followed, and a pipe not waited for.
+rm -f live live.lock
+ln -s elsewhere live.lock
+expect 111 '' 'undorc: Io\n' 'live\n' session -b slow -x none -l live
+expect 111 '' 'undorc: Io\n' '' change -b slow -x none -l live s1
+rm live.lock
+mkfifo live.lock
+expect 111 '' 'undorc: Io\n' 'live\n' session -b slow -x none -l live
+rm live.lock
+mkdir live.lock
+expect 111 '' 'undorc: Io\n' '' change -b slow -x none -l live s1
+rmdir live.lock
+wants '' ''
+find . -name elsewhere -o -name live > out
+: > err
+echo 0 > status
+judge 'nothing is made where no lock can be had' 0
 cd ..
 rm -r locks

@@ -74,7 +74,7 @@ rm text.* whole.*
 begins_at session -b base
 printf '%s\n' 'change b c' undo > in
 expects none
-file=file
+file='file'
 sweep 150 "$ample$memory$no_thread" '-v answers=1 -v scripts=1 -v kept=1' session -b base -v -w 2
 
 # A session that is not there yet: where its file could not be made nothing is answered.

@@ -17,6 +17,7 @@ helps() {
     done
     shift
     : > in
+    [ ! -e given ] || cp given in
     runs "$@"
     cp err all
     judge "undorc $*" "$wanted"
@@ -244,6 +245,63 @@ helps 1 'undorc: Unknown wbe\n' 'is web meant?' -- db -b db type wbe
 helps 1 'undorc: Unknown dis\n' 'is disk meant?' -- plan -b db dis
 helps 1 'undorc: NotAtomic\n' 'a bundle' -- db -b db timeout all
 helps 1 'undorc: PruneNeedsUp\n' '-p goes with' -- plan -b db -d -p web
+
+# Of what is read: which service lacks which need, and a name of a database on standard input.
+# reads INPUT HELPS..: the run of `helps` behind this, on an input
+reads() {
+    printf '%b' "$1" > given
+}
+reads 'web\n'
+helps 1 'undorc: NotClosed\n' 'web is up and needs disk, which is not among those listed' -- plan -b db all
+cat whole given > front
+mv front given
+helps 1 'undorc: NotClosed\n' 'web is up and needs disk, which is not among those listed' -- plan all
+helps 1 'undorc: Unknown wbe\n' 'nothing is named wbe; is web meant?' -- db type wbe
+sed '3s/$/ /' whole > given
+helps 1 "undorc: Bad $(sed -n '1,2p' whole | wc -c)\\n" 'standard input:3: this line has not the form' -- db check
+rm given
+
+# The answer that refuses a name is as ever, and what helps is told behind it.
+# answers STATUS ANSWERS HELP INPUT WORDS..
+answers() {
+    wanted=$1 help=$3
+    wants "$2" ''
+    printf '%b' "$4" > in
+    shift 4
+    runs "$@"
+    grep -q -x -F -e "  $help" err || echo 'no line that helps' >> out
+    judge "undorc $*, with a name that may have been meant" "$wanted"
+}
+answers 1 'refused Unknown wbe\n' 'nothing is named wbe; is web meant?' '' change -b db -x none wbe
+answers 1 'refused Unknown al\n' 'nothing is named al; is all meant?' '' change -n -b db al
+answers 1 'refused Unknown wbe\n' 'nothing is named wbe; is web meant?' "$(sed 's/$/\\n/' whole | tr -d '\n')" change -x none wbe
+answers 0 'refused Unknown dis\nlive\nok\n' 'nothing is named dis; is disk meant?' 'change dis\nlive\n' session -b db -x none
+answers 0 'refused Unknown dis\nlive\nok\n' 'nothing is named dis; is disk meant?' "$(sed 's/$/\\n/' whole | tr -d '\n')change dis\nlive\n" session -x none
+answers 0 'refused Unknown -u\n' "options stand in front of a line's word: -u change web" 'change -u web\n' session -b db -x none
+expect 1 'refused Unknown nobody\n' '' '' change -b db -x none nobody
+
+# The file of a session that is none: not taken for the database, nor the database for it.
+"$program" change web disk -b db -x none -l state > out
+for text in '' 'notes' ; do
+    printf '%s' "$text" > other
+    helps 1 'undorc: Bad 0\n' 'no file of a session' -- live -b db -l other
+done
+sed '3s/$/ /' state > other
+helps 1 "undorc: Bad $(sed -n '1,2p' state | wc -c)\\n" 'other:3: this line has not the form that is due' -- live -b db -l other
+sed 's/^undorc-live 2/undorc-live 7/' state > other
+helps 1 'undorc: Version\n' "other:1: this program reads 'undorc-live 2'" -- session -b db -x none -l other
+sed 's/^now .*/now web/' state > other
+helps 1 'undorc: NotClosed 1\n' 'other: a service is up without one that it needs, in state 1' -- undo -b db -x none -l other
+sed 's/^now .*/now/' state > other
+helps 1 'undorc: SameState\n' 'other: two states in a row are the same' -- undo -b db -x none -l other
+sed 's/^now .*/now wbe/' state > other
+helps 1 'undorc: Unknown\n' 'other: a state names what is no service of the database' -- live -b db -l other
+sed 's/^services .*/services disk/' state > other
+helps 1 'undorc: OtherDb\n' 'other: the session of another database' -- live -b db -l other
+helps 1 'undorc: Bad 0\n' 'state is no database: undorc compile makes one' -- live -b state -l state
+helps 1 'undorc: Unknown wbe\n' 'nothing is named wbe; is web meant?' -- change web -b db -x up:wbe -l state
+helps 111 'undorc: Io\n' 'services: is a directory' -- live -b db -l services
+helps 111 'undorc: Io\n' 'nowhere/live: no such file or directory' -- change web -b db -x none -l nowhere/live
 
 # Who has no right to read.
 if [ "$(id -u)" -eq 0 ] && command -v setpriv > /dev/null; then

@@ -100,8 +100,10 @@ expect 1 '' 'undorc: Bad 0\n' '' live
 
 # Files that can't be read, or not written: where something is only shown nothing is written.
 mkdir folder
-expect 111 '' 'undorc: Io\n' '' live -b base -l folder
-expect 111 '' 'undorc: Io\n' '' change net -b base -x none -l folder
+for words in 'change net -x none' 'undo -x none' 'redo -x none' 'change -n net' 'undo -n' 'redo -n' live journal; do
+    # shellcheck disable=SC2086
+    expect 111 '' 'undorc: Io\n' '' $words -b base -l folder
+done
 expect 111 '' 'undorc: Io\n' '' live -b folder
 printf '%b' 'notes\n' > notes
 expect 1 '' 'undorc: Bad 0\n' '' journal -b base -l notes
@@ -143,4 +145,107 @@ expect 0 'live\nok\n' '' "$sample" live
 unset UNDORC_DB
 
 expect 0 'undorc 0.1.0\n' '' '' version
+
+# From here on `net` and `root` are up.
+"$program" change net -b base -x none -l live > out
+
+# unaltered WHAT LEFT: the file `shut/live` is as it was, and nothing but its lock stands beside it
+unaltered() {
+    passed=$((passed + 1))
+    if ! cmp -s shut/live live || [ "$(ls shut)" != "$2" ]; then
+        passed=$((passed - 1))
+        failed=$((failed + 1))
+        echo "FAILED: $1: the file is another, or something is left:"
+        ls shut
+    fi
+}
+
+# A directory that may not be written: a look needs no right to.
+mkdir shut
+cp live shut
+if [ "$(id -u)" -eq 0 ] && command -v setpriv > /dev/null; then
+    chmod 755 .. . shut
+    chmod 644 base shut/live
+    cp "$program" undorc
+    printf '#!/bin/sh\nexec setpriv --reuid 65534 --regid 65534 --clear-groups %s/undorc "$@"\n' "$PWD" > nobody
+    chmod 755 undorc nobody
+    owned=$program
+    program=$PWD/nobody
+    expect 111 '' 'undorc: Io\n' '' change site -b base -x none -l shut/live
+    expect 0 'live net root\nok\n' '' '' live -b base -l shut/live
+    expect 0 'raise db log web\nok\n' '' '' change -n site -b base -l shut/live
+    program=$owned
+    unaltered 'a directory that may not be written' live
+fi
+
+# A disk that is full: what stands there stays, and nothing beside it.
+echo 0 > status
+{
+    trap '' XFSZ
+    ulimit -f 0
+    "$program" change site -b base -x none -l shut/live 2>&1 || echo $?
+} | sed '/^  /d' > out
+: > err
+wants 'undorc: Io\n111\n' ''
+judge 'a one-shot command whose file may have no bytes' 0
+unaltered 'a file that may have no bytes' 'live
+live.lock'
+rm shut/live.lock
+if [ "$(id -u)" -eq 0 ] && mount -t tmpfs -o size=16k none shut 2> /dev/null; then
+    cp live shut
+    cat /dev/zero > shut/zeros 2> /dev/null || true
+    expect 111 '' 'undorc: Io\n' '' change site -b base -x none -l shut/live
+    expect 0 'live net root\nok\n' '' '' live -b base -l shut/live
+    unaltered 'a full disk' 'live
+live.lock
+zeros'
+    rm shut/zeros
+    expect 0 'raised db log web\nok\n' '' '' change site -b base -x none -l shut/live
+    umount shut
+fi
+
+# A command that is killed at any moment leaves its file as it was, or as it makes it.
+cp live before
+"$program" change site -b base -x none -l live > out
+cp live after
+unlike=0 cut=0 whole=0
+for moment in $(seq 100); do
+    cp before live
+    timeout -s KILL "$(printf '0.%05d' $((moment * moment)))" \
+        "$program" change site -b base -x none -l live > out 2> err || true
+    if cmp -s live before; then
+        cut=$((cut + 1))
+    elif cmp -s live after; then
+        whole=$((whole + 1))
+    else
+        unlike=$((unlike + 1))
+    fi
+done 2> /dev/null
+[ "$cut" -gt 3 ] && [ "$whole" -gt 0 ] || unlike=$((unlike + 1))
+: > out
+: > err
+wants '' ''
+echo "$unlike" > status
+judge 'commands that were killed (the status is the number of those that left something else)' 0
+cp before live
+alike 0 none 'change site' change site
+[ ! -e live.new ] || { failed=$((failed + 1)); echo 'FAILED: what a killed command left is still there'; }
+
+# Scripts under a one-shot command: one that ignores that it is to end, one that leaves a child behind
+# with its output, one that writes 100 MB, and one that reads its input.
+begin_tree
+oneshot deaf "trap '' TERM; while :; do sleep 0.1; done"
+limit deaf 1
+oneshot leaves 'sleep 50 & echo $! > child'
+oneshot reads 'wc -c > count'
+oneshot writes 'head -c 100000000 /dev/zero'
+"$program" compile tree > scripts.db
+expect 2 'raised leaves reads writes\nfailed deaf\nok\n' '' 'not a line\n' change deaf leaves reads writes -b scripts.db -l scripts.live
+kill "$(cat child)" || { failed=$((failed + 1)); echo 'FAILED: what a script left behind is gone'; }
+wants '0\n' ''
+tr -d ' ' < count > out
+: > err
+echo 0 > status
+judge 'what a script of a one-shot command reads' 0
+expect 0 'lowered leaves reads writes\nok\n' '' '' undo -b scripts.db -l scripts.live
 cd ..

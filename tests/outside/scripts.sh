@@ -134,6 +134,7 @@ for limit in 0 3000; do
     limit leaves $limit
     for workers in 1 2 64; do
         session 'raised leaves\nok\nlowered leaves\nok\n' '' 'change leaves\nundo\n' -w "$workers"
+        # shellcheck disable=SC2094 # nothing writes what is read
         while read -r child; do
             holds "a child that is left lives on, by $workers under limit $limit" kill -0 "$child"
             kill "$child"
@@ -163,6 +164,7 @@ oneshot tells 'echo "$PWD $WORD $0 $#" > told; ! (true <&7) 2> /dev/null'
 "$program" compile tree > made
 wants 'raised tells\nok\n' ''
 echo 'change tells' > in
+# shellcheck disable=SC2094 # nothing writes it
 (WORD=x && export WORD && runs session -b made) 7< made
 judge 'a session that starts a script' 0
 echo "$PWD x /bin/sh 0" > left.wanted
@@ -340,15 +342,18 @@ printf 'change %s\nlive\n' "$all" > in
 rm -f started
 wants '' 'undorc: NoThread\n'
 echo 0 > status
+# shellcheck disable=SC3045 # dash has it, and bash
 (ulimit -v 200000 && exec "$program" session -b made -w 64 < in > out 2> err) || echo $? > status
 judge 'a session that lacks room for 64 workers' 111
 holds 'without its workers it starts nothing' test ! -e started
 wants "raised $all\nok\nlive $all\nok\n" ''
 echo 0 > status
+# shellcheck disable=SC3045 # dash has it, and bash
 (ulimit -v 200000 && exec "$program" session -b made -w 1 < in > out 2> err) || echo $? > status
 judge 'and has room for one' 0
 printf 'change s1\nlive\n' > in
 wants 'raised s1\nok\nlive s1\nok\n' ''
 echo 0 > status
+# shellcheck disable=SC3045 # dash has it, and bash
 (ulimit -v 200000 && exec "$program" session -b made -w 64 < in > out 2> err) || echo $? > status
 judge 'and for a change of one by any number' 0

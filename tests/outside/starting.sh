@@ -52,8 +52,8 @@ holds 'the limit of -T is not in the database' cmp -s made bare
 # What is told of a script is told while it happens: that it is started before it ends, and before what it writes.
 begin_tree
 oneshot first 'echo from first; while [ ! -e go ]; do sleep 0.05; done'
-oneshot then 'echo from then >&2; exit 9' first
-oneshot last true then
+oneshot 'then' 'echo from then >&2; exit 9' first
+oneshot last true 'then'
 "$program" compile tree > made
 rm -f go
 begins -b made -v -w 2
@@ -73,9 +73,9 @@ exec 3>&-
 cat <&4 >> out
 exec 4<&-
 wait
-sed -n 's/^undorc: *\([0-9]*\.[0-9]*\) s  .*/\1/p' err > times
-sort -n -c times 2> left || echo 'a time is before the one above' >> left
-[ "$(wc -l < times)" -eq 4 ] || echo 'not four times' >> left
+sed -n 's/^undorc: *\([0-9]*\.[0-9]*\) s  .*/\1/p' err > moments
+sort -n -c moments 2> left || echo 'a time is before the one above' >> left
+[ "$(wc -l < moments)" -eq 4 ] || echo 'not four times' >> left
 : > left.wanted
 same 'the times of what is told'
 timeless err

@@ -49,6 +49,13 @@ wrong db list
 wrong db list frob
 wrong db list all all
 wrong db check x
+wrong db dot web
+wrong db dot -W
+wrong db dot -l
+wrong db -l base check
+says '^undorc: -l of db goes with the query dot alone$'
+wrong db list all -l base
+wrong db -b base -l base -d dependencies web
 wrong db type
 wrong db type web web
 wrong db timeout

@@ -36,6 +36,7 @@ class Case:
         if not self.in_front:
             words += [b"-b", b"base"]
         if self.word == "db":
+            words += [b"-l", b"kept"] if self.keeps else []
             return words + [b"-d"] * self.down + [self.query] + self.words
         if self.word == "plan":
             ask = self.ask

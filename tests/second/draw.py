@@ -14,6 +14,7 @@ from replay import Trace, by_events
 LONG = b"n" * 254
 NAMES = [b"a", b"b", b"c", b"d", b"e", b"f", b"g", b"h", b"A", b"0", b"~", b"ab", b"a.b", b"a:b"]
 NAMES += [b"a,b", b".x", b"_-", b"s6rc", "é".encode(), "日本".encode(), LONG + b"1", LONG + b"2"]
+NAMES += [b'a"b', b"a\\b", b"a&b;"]
 NO_NAMES = [b"", b"-", b"#a", b"s6rc-a", b"a/b", b"\x7f", b"\xff", b"\x01", LONG + b"12", b"a\rb"]
 TEXTS = [b"", b"\n", b"true\n", b"end\n", b"x y", b"bundles 0\nend\n", "é\n\n".encode(), b"\r\t"]
 LIMITS = [0, 0, 0, 1, 500, 4294967295]
@@ -351,16 +352,27 @@ class Drawer:
         case.down = self.one_in(3)
         one = [b"type", b"timeout", b"flags", b"contents", b"pipeline", b"script"]
         case.query = self.pick([b"check", b"list", b"atomics", b"dependencies", b"all-dependencies"] + one)
+        if self.one_in(8):
+            case.query = b"dot"
+            self.shown(case, base)
         fit = lambda w: w and w[:1] != b"-" and b"\0" not in w and w != b"\xff"
         if case.query == b"list":
             case.words = [self.pick([b"all", b"services", b"oneshots", b"longruns", b"bundles"])]
         elif case.query in one:
             case.words = [self.pick([w for w in [self.word(base)] if fit(w)] or NAMES)]
-        elif case.query != b"check":
+        elif case.query not in (b"check", b"dot"):
             case.words = [w for w in self.words(base) if fit(w)]
         if case.in_front and self.one_in(4):
             case.own = self.pick([b"x", b"\xff\n", b"undorc-db 1\n"])
         return case
+
+    def shown(self, case, base):
+        """Gives a case the file of a session that a picture shows, perhaps."""
+        case.keeps = self.one_in(2)
+        if case.keeps and not self.one_in(8):
+            case.kept = live_text_of(base, self.drawn_line(base, OLD_BOUND))
+            if self.one_in(4):
+                case.kept = self.mutated(case.kept)
 
     def plan(self):
         case = Case("plan")

@@ -83,8 +83,9 @@ class Bench:
             os.kill(child, signal.SIGKILL)
         os.close(watch)
         status = os.waitstatus_to_exitcode(os.waitpid(child, 0)[1])
-        told = read("err").split(b"\n", 1)
-        fault = told[0] + b"\n" if len(told) == 2 else told[0]
+        *lines, rest = read("err").split(b"\n")
+        told = [line + b"\n" for line in lines] + [rest]
+        fault = next((line for line in told if not line.startswith(b"  ")), b"")
         return status, read("out"), fault, read("kept"), sorted(os.listdir(b"."))
 
 

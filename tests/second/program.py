@@ -88,7 +88,10 @@ def run_of(case, answer):
         session(case, answer)
         return
     base, text = base_and_input(case)
-    if case.word == "db":
+    if case.word == "db" and case.query == b"dot":
+        shown = live.read(base, case.kept).now().live if case.kept is not None else ()
+        answer.out = queries.picture(base, shown)
+    elif case.word == "db":
         answer.out = queries.answer(base, case.down, case.query, case.words)
     elif case.word == "replay":
         answer.out = replay.replay(base, text)

@@ -60,6 +60,28 @@ def of_one_name(base, query, down, name):
     return (service.down if down else service.up) or b""
 
 
+def quoted(name):
+    """A name as graphviz reads it and shows it."""
+    for sign, told in ((b"&", b"&amp;"), (b"\\", b"\\\\"), (b'"', b'\\"')):
+        name = name.replace(sign, told)
+    return b'"' + name + b'"'
+
+
+def picture(base, live):
+    """The graph of needs for graphviz; what is live is filled."""
+    out = [b"digraph undorc {"]
+    for name, service in sorted(base.services.items()):
+        look = b"shape=box" if service.kind == b"longrun" else b"shape=ellipse"
+        look += b",peripheries=2" if service.essential else b""
+        look += b",style=filled" if name in live else b""
+        out.append(b"  %s [%s]" % (quoted(name), look))
+        out += [b"  %s -> %s" % (quoted(name), quoted(need)) for need in sorted(service.needs)]
+    for name, members in sorted(base.bundles.items()):
+        out.append(b"  %s [shape=folder]" % quoted(name))
+        out += [b"  %s -> %s [style=dashed]" % (quoted(name), quoted(m)) for m in sorted(members)]
+    return b"\n".join(out + [b"}", b""])
+
+
 def answer(base, down, query, words):
     if query == b"check":
         return b""

@@ -1,0 +1,44 @@
+#!/bin/sh
+# Looks through all scripts of the repository by shellcheck, as `.shellcheckrc` at the top has it, and through those that
+# are whole programs without what is let through there for files that others read. The last line is 'N passed, M failed'.
+set -eu
+cd "$(dirname "$0")/.."
+if ! command -v shellcheck > /dev/null; then
+    echo 'skipped: the Debian package shellcheck is not installed'
+    echo '0 passed, 0 failed'
+    exit 0
+fi
+room=$(mktemp -d)
+trap 'rm -rf "$room"' EXIT
+
+# A script is a file that begins with the line of one, or as shellcheck is told of one, or that is named as one.
+find . \( -name .git -o -name out -o -name rlib -o -name '.build.*' \) -prune -o -type f -print | sort > "$room/files"
+while read -r file; do
+    line=
+    read -r line < "$file" 2> /dev/null || true
+    case $line in
+        '#!'*sh | '#!'*sh\ -*) echo "$file" >> "$room/whole" ;;
+        '# shellcheck shell='*) echo "$file" >> "$room/parts" ;;
+        *) case $file in *.sh) echo "$file" >> "$room/parts" ;; esac ;;
+    esac
+done < "$room/files"
+
+passed=0
+failed=0
+# look FILE OPTION..: each of the scripts that stand in FILE; one that shellcheck did not look at to its end has failed
+look() {
+    scripts=$1
+    shift
+    while read -r script; do
+        if shellcheck -f gcc "$@" "$script"; then
+            passed=$((passed + 1))
+        else
+            failed=$((failed + 1))
+            echo "FAILED: shellcheck $script"
+        fi
+    done < "$scripts"
+}
+look "$room/parts"
+look "$room/whole" --norc -x -P SCRIPTDIR -e SC2016
+echo "$passed passed, $failed failed"
+[ "$failed" -eq 0 ]
