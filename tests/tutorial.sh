@@ -1,5 +1,5 @@
 #!/bin/sh
-# Follows docs/TUTORIAL.md word by word, in an empty folder, with what `make install` copies:
+# Follows docs/TUTORIAL.md and docs/S6RC.md word by word, each in an empty folder, with what `make install` copies:
 # tests/tutorial.sh PROGRAM. Each answer is compared with what stands there, but for times and
 # process numbers; lines with a time that stand together may come in another order. The last line
 # is 'N passed, M failed', and the status is 0 where none failed.
@@ -8,13 +8,13 @@ here=$(realpath "$(dirname "$0")")
 program=$(realpath "$1")
 top=$(realpath "$here/..")
 . "$here/library.sh"
-if ! command -v s6-svscan > /dev/null; then
-    echo 'skipped: the tutorial, since s6 is missing (the package s6)'
+if ! command -v s6-svscan > /dev/null || ! command -v execlineb > /dev/null; then
+    echo 'skipped: the tutorials, since s6 or execline is missing (the packages s6 and execline)'
     echo '0 passed, 0 failed'
     exit 0
 fi
 
-# Ends what was started: all that stands below the folder, by its process number.
+# Ends what was started: all that stands below the folders, by its process number.
 end_all() {
     for turn in term kill; do
         for process in /proc/[0-9]*; do
@@ -33,10 +33,11 @@ trap 'exit 143' TERM
 
 prefix=$room/usr/local
 PREFIX=$prefix sh "$top/packaging/install.sh" "$program"
-mkdir empty answers
 
-# Each command as a group of lines of one script, with the file of its answer, and what is wanted.
-sed "s|/usr/local|$prefix|g" "$top/docs/TUTORIAL.md" | awk -v answers="$room/answers" '
+# groups ANSWERS: of a document, each command as a group of lines of one script, with the file of its
+# answer, and what is wanted.
+groups() {
+    awk -v answers="$1" '
     function close_command() {
         if (command == "") return
         print "{\n" command "} > " answers "/" number ".out 2>&1"
@@ -60,13 +61,8 @@ sed "s|/usr/local|$prefix|g" "$top/docs/TUTORIAL.md" | awk -v answers="$room/ans
         }
         next
     }
-    { print > wanted }' > follow.sh
-
-status=0
-(
-    cd empty
-    env -i HOME="$HOME" PATH="$prefix/bin:$PATH" timeout 120 sh ../follow.sh > ../left 2>&1
-) || status=$?
+    wanted != "" { print > wanted }'
+}
 
 # masked FILE: it without what differs from run to run.
 masked() {
@@ -86,19 +82,33 @@ masked() {
         END { flush() }'
 }
 
-number=1
-while [ -f "answers/$number.command" ]; do
-    masked "answers/$number.wanted" > out.wanted
-    if [ -f "answers/$number.out" ]; then
-        masked "answers/$number.out" > out
-    else
-        echo "it was not come to; status $status" > out
-    fi
-    : > err
-    : > err.wanted
-    echo 0 > status
-    judge "$(cat "answers/$number.command")" 0
-    number=$((number + 1))
-done
-[ ! -s left ] || cat left
+# follow NAME: the document docs/NAME.md.
+follow() {
+    answers=$room/answers.$1
+    mkdir "empty.$1" "$answers"
+    sed "s|/usr/local|$prefix|g" "$top/docs/$1.md" | groups "$answers" > "follow.$1"
+    ended=0
+    (
+        cd "empty.$1"
+        env -i HOME="$HOME" PATH="$prefix/bin:$PATH" timeout 120 sh "../follow.$1" > ../left 2>&1
+    ) || ended=$?
+    number=1
+    while [ -f "$answers/$number.command" ]; do
+        masked "$answers/$number.wanted" > out.wanted
+        if [ -f "$answers/$number.out" ]; then
+            masked "$answers/$number.out" > out
+        else
+            echo "it was not come to; status $ended" > out
+        fi
+        : > err
+        : > err.wanted
+        echo 0 > status
+        judge "docs/$1.md: $(cat "$answers/$number.command")" 0
+        number=$((number + 1))
+    done
+    [ "$number" -gt 20 ] || { failed=$((failed + 1)); echo "FAILED: docs/$1.md has no commands"; }
+    [ ! -s left ] || cat left
+}
+follow TUTORIAL
+follow S6RC
 tally
