@@ -1,6 +1,6 @@
 #!/bin/sh
-# Compares the man pages and the completion with the program: tests/pages.sh PROGRAM. What must
-# stand there is taken from the help texts of the program, from docs/FORMATS.md and from the
+# Compares the man pages and the completion with the program, and the documents with the sources: tests/pages.sh PROGRAM.
+# What must stand there is taken from the help texts of the program, from docs/FORMATS.md, from crates.txt and from the
 # sources. The last line is 'N passed, M failed', and the status is 0 where none failed.
 set -eu
 here=$(realpath "$(dirname "$0")")
@@ -157,4 +157,5 @@ else
 fi
 
 . "$here/completion.sh"
+. "$here/documents.sh"
 tally

@@ -1,0 +1,105 @@
+# What the documents say of the sources: each crate of crates.txt has its line in the lists of docs/ARCHITECTURE.md and
+# docs/PROOF.md, and each definition and call that docs/MODEL.md names is there, and each file that any names.
+# tests/pages.sh reads this file.
+
+# The crates of the product, and those that test.
+grep -v '^#' "$top/crates.txt" | sed 's/:.*//' > crates
+grep -E '^(samples|scenarios)' crates > testing
+grep -v -E '^(samples|scenarios)' crates > product
+
+# firsts_of FILE: the names of crates in the first cells of its tables.
+firsts_of() {
+    sed -n 's/^| \(`[^|]*\) |.*/\1/p' "$1" | grep -o '`[a-z_]*`' | tr -d '`' | grep -E '^(rc_[a-z]*|undorc)$'
+}
+
+echo documents
+cp product wanted
+awk '/^```/ { if (inside) exit; inside = 1; next } inside && $1 ~ /^(rc_|undorc)/ { print $1 }' \
+    "$top/docs/ARCHITECTURE.md" > found
+equals 'the tree of docs/ARCHITECTURE.md'
+firsts_of "$top/docs/ARCHITECTURE.md" > found
+equals 'the table of docs/ARCHITECTURE.md'
+cp testing wanted
+grep '^Tests stand at the top' "$top/docs/ARCHITECTURE.md" | grep -o '`[a-z_]*`' | tr -d '`' > found
+equals 'the tests of docs/ARCHITECTURE.md'
+# What only offers what others prove, and the program itself, promise nothing of their own.
+grep -v -x -e rc_cli -e undorc product > wanted
+firsts_of "$top/docs/PROOF.md" > found
+equals 'the crates of docs/PROOF.md'
+# A heading of docs/MODEL.md may name a crate that is none any more, and each crate with definitions is named there.
+while read -r crate; do
+    [ ! -d "$top/crates/$crate/specs" ] || echo "$crate"
+done < product > wanted
+grep -o '`rc_[a-z]*`' "$top/docs/MODEL.md" | tr -d '`' > found
+holds 'docs/MODEL.md'
+cp found wanted
+cp product found
+holds 'crates.txt, of the crates of docs/MODEL.md,'
+
+# Files that documents name are there.
+grep -h -o -E '`(tests|docs|contrib|packaging|man|crates)/[A-Za-z0-9_./-]*`' "$top"/*.md "$top"/docs/*.md "$top"/contrib/*.md |
+    tr -d '`' | grep -v -e '/out/' -e /TOPIC | sort -u > wanted
+while read -r file; do
+    [ ! -e "$top/$file" ] || echo "$file"
+done < wanted > found
+holds 'the repository, of the files that documents name,'
+
+# The definitions of a crate's modules, and the variants of their types, as lines `CRATE MODULE NAME`; and what calls, types
+# and clauses of the sources are named.
+for file in "$top"/crates/*/specs/*.antt; do
+    crate=${file%/specs/*}
+    module=${file##*/}
+    sed -n -E -e "s/^(abbrev pub|unfoldable pub|abbrev unfoldable pub|pub record|pub data|pub) ([^ :({]*).*/${crate##*/} ${module%.antt} \2/p" \
+        -e "s/^  ([A-Z][A-Za-z]*) :.*/${crate##*/} ${module%.antt} \1/p" "$file"
+done > defined
+cat "$top"/crates/*/src/*.rt |
+    grep -o -E '(fn|struct|enum|trait|type|ensures|ghost invariant|ghost) [A-Za-z_]+' | sed 's/.* //' > called
+sed 's/.* //' defined >> called
+# Those of docs/MODEL.md: after a module, up to the next semicolon, stand its definitions. The crate is the one that was named
+# last in the paragraph, else one of those of the heading.
+awk '
+    FILENAME == "defined" || FILENAME == "called" { is[$0] = 1; next }
+    function look(name,  i) {
+        if (module == "") {
+            sub(/.*::/, "", name)
+            if (!(name in is)) print heads[1] ": " name
+            return
+        }
+        if (crate != "") { if ((crate " " module " " name) in is) return }
+        else for (i = 1; i <= count; i++) if ((heads[i] " " module " " name) in is) return
+        print heads[1], (crate == "" ? "" : "of " crate " "), "specs/" module ": " name
+    }
+    /^## / {
+        count = 0
+        text = $0
+        while (match(text, /`rc_[a-z]*`/)) {
+            heads[++count] = substr(text, RSTART + 1, RLENGTH - 2)
+            text = substr(text, RSTART + RLENGTH)
+        }
+        next
+    }
+    /^\*\*/ {
+        crate = module = ""
+        text = substr($0, index($0, "** (") + 4)
+        depth = 1
+        for (i = 1; i <= length(text) && depth > 0; i++) {
+            letter = substr(text, i, 1)
+            if (letter == "(") depth++
+            if (letter == ")") depth--
+            if (letter == ";") module = ""
+            if (letter != "`") continue
+            word = substr(text, i + 1)
+            word = substr(word, 1, index(word, "`") - 1)
+            i += length(word) + 1
+            if (word ~ /^rc_[a-z]*$/) crate = word
+            else if (word ~ /^specs\//) module = substr(word, 7)
+            else look(word)
+        }
+    }' defined called "$top/docs/MODEL.md" > lost
+if [ -s lost ] || [ "$(wc -l < defined)" -lt 100 ]; then
+    failed=$((failed + 1))
+    echo 'FAILED: docs/MODEL.md names what is nowhere:'
+    cat lost
+else
+    passed=$((passed + 1))
+fi
