@@ -44,6 +44,11 @@ while read -r file; do
 done < wanted > found
 holds 'the repository, of the files that documents name,'
 
+# What docs/PROOF.md shows of the sources stands there.
+awk '/^```/ { inside = !inside; next } inside { sub(/^ */, ""); print }' "$top/docs/PROOF.md" > wanted
+cat "$top"/crates/*/src/*.rt "$top"/crates/*/specs/*.antt | sed 's/^ *//' > found
+holds 'the sources, of what docs/PROOF.md shows,'
+
 # The definitions of a crate's modules, and the variants of their types, as lines `CRATE MODULE NAME`; and what calls, types
 # and clauses of the sources are named.
 for file in "$top"/crates/*/specs/*.antt; do
