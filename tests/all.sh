@@ -5,47 +5,61 @@ set -eu
 cd "$(dirname "$0")/.."
 room=$(mktemp -d)
 trap 'rm -rf "$room"' EXIT
-passed=0
-failed=0
-spent=
+: > "$room/counts"
+: > "$room/spent"
 
-# Runs a command whose last line counts what passed and what failed, and adds that up. A command that
+# Runs a command whose last line counts what passed and what failed, and notes that. A command that
 # ends badly without saying what failed is one failure.
 count() {
     begin=$(date +%s)
-    echo 1 > "$room/status"
-    { status=0; "$@" || status=$?; echo "$status" > "$room/status"; } 2>&1 | tee "$room/said"
-    line=$(tail -n 1 "$room/said")
+    here=$(mktemp -d "$room/XXXXXX")
+    echo 1 > "$here/status"
+    { status=0; "$@" || status=$?; echo "$status" > "$here/status"; } 2>&1 | tee "$here/said"
+    line=$(tail -n 1 "$here/said")
     good=$(echo "$line" | sed -n 's/^\([0-9]*\) passed, [0-9]* failed$/\1/p')
     bad=$(echo "$line" | sed -n 's/^[0-9]* passed, \([0-9]*\) failed$/\1/p')
-    if [ -z "$good" ] || { [ "$(cat "$room/status")" -ne 0 ] && [ "$bad" = 0 ]; }; then
-        echo "FAILED: $*: it ended with status $(cat "$room/status"), and did not say what failed"
+    if [ -z "$good" ] || { [ "$(cat "$here/status")" -ne 0 ] && [ "$bad" = 0 ]; }; then
+        echo "FAILED: $*: it ended with status $(cat "$here/status"), and did not say what failed"
         bad=$((${bad:-0} + 1))
     fi
-    passed=$((passed + ${good:-0}))
-    failed=$((failed + bad))
-    spent="${spent}$(($(date +%s) - begin)) s by the clock: $*
-"
+    echo "${good:-0} $bad" >> "$room/counts"
+    echo "$(($(date +%s) - begin)) s by the clock: $*" >> "$room/spent"
 }
 
-# The gate builds the program twice, by LLVM and by Rattle's own compiler.
+# The program as LLVM built it.
+first() {
+    count sh tests/program.sh crates/undorc/out/undorc
+    count sh tests/pages.sh crates/undorc/out/undorc
+    count sh tests/packaging.sh crates/undorc/out/undorc
+    count sh tests/tutorial.sh crates/undorc/out/undorc
+    count sh tests/shells.sh
+}
+
+# The program as Rattle's own compiler built it, if it did, and as long as that takes.
+second() {
+    if [ -f crates/undorc/out/undorc.by-rattle ]; then
+        count sh tests/program.sh crates/undorc/out/undorc.by-rattle
+        count sh tests/fuzz.sh 30 1000000 crates/undorc/out/undorc.by-rattle
+    fi
+    count sh tests/fuzz.sh 30 1 crates/undorc/out/undorc
+}
+
 count rt ci
-count sh tests/edits.sh
-count sh tests/program.sh crates/undorc/out/undorc
-count sh tests/pages.sh crates/undorc/out/undorc
-count sh tests/packaging.sh crates/undorc/out/undorc
-count sh tests/tutorial.sh crates/undorc/out/undorc
-count sh tests/fuzz.sh 30 1 crates/undorc/out/undorc
+count tests/edits.py
+# Side by side; what the second says comes when both have ended. Supervisors are given the machine for
+# themselves, since how soon they answer is what is looked at.
+second > "$room/second" 2>&1 &
+lane=$!
+first
+wait "$lane"
+cat "$room/second"
 count sh tests/supervised.sh crates/undorc/out/undorc
-count sh tests/shells.sh
-if [ -f crates/undorc/out/undorc.by-rattle ]; then
-    count sh tests/program.sh crates/undorc/out/undorc.by-rattle
-    count sh tests/fuzz.sh 30 1000000 crates/undorc/out/undorc.by-rattle
-fi
 
 # What it cost: the clock, and of the processors user and system time of the last line of `times`.
+passed=$(awk '{ sum += $1 } END { print sum + 0 }' "$room/counts")
+failed=$(awk '{ sum += $2 } END { print sum + 0 }' "$room/counts")
 times > "$room/times"
-printf '%s' "$spent"
+cat "$room/spent"
 echo "processor time, user and system: $(tail -n 1 "$room/times")"
 # Kept for an archive of this very program.
 if [ -f crates/undorc/out/undorc ]; then

@@ -101,6 +101,57 @@ refused "${head}bound 3\\nnow\\r\\nend\\n" 'Bad 51'
 refused "${head}bound 3\\nnow\\nend\\nend\\n" 'Bad 59'
 refused "${head}bound 3\\nnow\\nend" 'Bad 55'
 
+refused "${head%\\n} x\\nbound 3\\nnow\\nend\\n" OtherDb
+refused "${head}bound 3\\nnow\\nup root\\nbundle site other\\nend\\n" Unknown
+# Of two things that are wrong in one text, the first of: its form, its database, a name, what is not closed, a state that
+# is that before it, and more states than the bound.
+refused "undorc-live 2\\nservices db\\nbound 3\\nnow\\nend\\n\\n" 'Bad 42'
+refused "${head}bound 3\\nup web\\nnow other\\nend\\n" Unknown
+refused "${head}bound 3\\nup\\nup\\nnow web\\nend\\n" 'NotClosed 2'
+refused "${head}bound 3\\nup\\nup\\nup root\\nnow\\nend\\n" SameState
+
+# keeps WHAT TEXT: a session without a line reads this text and writes it back
+keeps() {
+    begins_with "$2"
+    goes_on 0 '' '' ''
+    holds "$1" "$2"
+}
+keeps 'bundles that come, alter and go' \
+    "${head}bound 1024\\nup\\nup\\nbundle a\\nbundle b db web\\nup root\\nbundle a log\\nnow root\\nup\\nend\\n"
+keeps 'the same services and other bundles' "${head}bound 1024\\nup root\\n${site}now root\\nend\\n"
+keeps 'states alike that are no neighbours' "${head}bound 1024\\nup root\\nup\\nnow root\\nend\\n"
+keeps 'as many states as the bound' "${head}bound 3\\nup\\nup root\\nnow\\nend\\n"
+# The older form has no bound: it has the usual one, or as many as there are states.
+many=$(awk 'BEGIN { for (i = 0; i < 600; i++) printf "up\\nup root\\n" }')
+keeps '1,201 states' "${head}bound 1201\\n${many}now\\nend\\n"
+refused "${head}bound 1200\\n${many}now\\nend\\n" OverBound
+begins_with "undorc-live 1\\n${services}${many}now\\nend\\n"
+goes_on 0 '' '' ''
+holds '1,201 states of the older form' "${head}bound 1201\\n${many}now\\nend\\n"
+# 4,096 services, none needing another, and 1,024 states, each with a hundred services up that follow each other.
+awk 'BEGIN {
+    print "undorc-db 1\nservices 4096"
+    for (i = 1000; i < 5096; i++) printf "service s%d longrun plain 0 0\nneeds\nproducer -\n", i
+    print "bundles 0\nend"
+}' > wide
+awk 'BEGIN {
+    printf "undorc-live 2\nservices"
+    for (i = 1000; i < 5096; i++) printf " s%d", i
+    print "\nbound 1024"
+    for (k = 0; k < 1024; k++) {
+        printf k == 512 ? "now" : "up"
+        for (i = 1000 + k; i < 1100 + k; i++) printf " s%d", i
+        print ""
+    }
+    print "end"
+}' > live
+cp live wide.live
+wants '' ''
+: > in
+runs session -b wide -x none -l live
+cmp live wide.live >> err || true
+judge '4,096 services and 1,024 states are written back' 0
+
 # What is told first: the words, the database, the list of -x, and then the file.
 begins_with 'notes\n'
 printf '%b' "$sample" | sed 's/^needs root/needs nosuch/' > wrong
@@ -153,7 +204,7 @@ for text in "$kept" "$older"; do
     judge 'a text of a session cut after each of its bytes (the status is the number of those told otherwise)' 0
 done
 
-# With one byte changed, or a line twice or missing, a text is refused and left alone, or it is the text of
+# With one byte changed, missing or more, or a line twice or missing, a text is refused and left alone, or it is the text of
 # another session, and stands there as it was given.
 printf '%b' "$kept" > whole
 length=$(wc -c < whole)
@@ -177,6 +228,10 @@ for place in $(seq 0 $((length - 1))); do
         { head -c "$place" whole; printf "$byte"; tail -c $((length - place - 1)) whole; } > live
         tries
     done
+    { head -c "$place" whole; tail -c $((length - place - 1)) whole; } > live
+    tries
+    { head -c "$place" whole; printf o; tail -c $((length - place)) whole; } > live
+    tries
 done
 for line in $(seq "$count"); do
     sed "${line}d" whole > live
