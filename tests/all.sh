@@ -26,19 +26,21 @@ count() {
     echo "$(($(date +%s) - begin)) s by the clock: $*" >> "$room/spent"
 }
 
-# The program as LLVM built it.
+# What LLVM built.
 first() {
     count sh tests/program.sh crates/undorc/out/undorc
     count sh tests/pages.sh crates/undorc/out/undorc
     count sh tests/packaging.sh crates/undorc/out/undorc
     count sh tests/tutorial.sh crates/undorc/out/undorc
+    count sh tests/growths.sh crates/scenarios_memory/out/scenarios_memory
     count sh tests/shells.sh
 }
 
-# The program as Rattle's own compiler built it, if it did, and as long as that takes.
+# What Rattle's own compiler built, if it did, and drawn cases on the first program, which take as long.
 second() {
     if [ -f crates/undorc/out/undorc.by-rattle ]; then
         count sh tests/program.sh crates/undorc/out/undorc.by-rattle
+        count sh tests/growths.sh crates/scenarios_memory/out/scenarios_memory.by-rattle
         count sh tests/fuzz.sh 30 1000000 crates/undorc/out/undorc.by-rattle
     fi
     count sh tests/fuzz.sh 30 1 crates/undorc/out/undorc

@@ -6,7 +6,10 @@
  *   GROWTHS  this one and all that follow
  *   THREAD   this start of a thread
  *   ARMED    how many reads of standard input come before the first growth that is counted
- *   COUNTS   a file, to which both counts are written where the program ends, as two numbers
+ *   MARKED   not 0: both are counted anew behind each write to standard output that ends in ": ", up to
+ *            the next write there, and else not
+ *   COUNTS   a file, to which both counts are written where the program ends, as two numbers; of a marked
+ *            program a line for each part that is counted
  * What the program starts is given none of this. A program that does not end is ended by a signal
  * after a minute. Nothing waits for a disk: a sync is told as done. */
 #define _GNU_SOURCE
@@ -17,6 +20,7 @@
 #include <stdatomic.h>
 #include <stdio.h>
 #include <stdlib.h>
+#include <string.h>
 #include <sys/syscall.h>
 #include <unistd.h>
 
@@ -32,6 +36,9 @@ static atomic_long grown, started;
 static const char *counts;
 /* How many reads are still to come; below 0 before `main`. */
 static long reads = -1;
+/* Whether growths are counted by parts of the output, and whether this is one. */
+static long marked;
+static atomic_int within;
 
 static long number(const char *name)
 {
@@ -49,6 +56,7 @@ __attribute__((constructor)) static void begin(void)
     unsetenv("COUNTS");
     unsetenv("LD_PRELOAD");
     alarm(60);
+    marked = number("MARKED");
     reads = number("ARMED");
 }
 
@@ -59,7 +67,7 @@ static void tell(void)
     if (!counts)
         return;
     int length = snprintf(text, sizeof text, "%ld %ld\n", grown, started);
-    int fd = open(counts, O_WRONLY | O_CREAT | O_TRUNC, 0666);
+    int fd = open(counts, O_WRONLY | O_CREAT | (marked ? O_APPEND : O_TRUNC), 0666);
     if (fd < 0 || write(fd, text, length) != length)
         syscall(SYS_exit_group, 99);
     close(fd);
@@ -68,7 +76,8 @@ static void tell(void)
 /* The program ends by this call. */
 void _exit(int status)
 {
-    tell();
+    if (!marked)
+        tell();
     for (;;)
         syscall(SYS_exit_group, status);
 }
@@ -76,7 +85,7 @@ void _exit(int status)
 /* Counts a growth. 0: it is made. */
 static int refused(void)
 {
-    if (reads != 0)
+    if (marked ? !within : reads != 0)
         return 0;
     long place = ++grown;
     if (place != growth && (growths == 0 || place < growths))
@@ -124,9 +133,23 @@ int pthread_create(pthread_t *to, const pthread_attr_t *how, void *(*what)(void 
     static __typeof__(&pthread_create) next;
     if (!next)
         next = (__typeof__(&pthread_create))dlsym(RTLD_NEXT, "pthread_create");
-    if (++started == thread)
+    if (++started == thread && (!marked || within))
         return EAGAIN;
     return next(to, how, what, of);
+}
+
+ssize_t write(int fd, const void *from, size_t bytes)
+{
+    static __typeof__(&write) next;
+    if (!next)
+        next = (__typeof__(&write))dlsym(RTLD_NEXT, "write");
+    if (marked && fd == 1) {
+        if (within)
+            tell();
+        within = bytes >= 2 && memcmp((const char *)from + bytes - 2, ": ", 2) == 0;
+        grown = started = 0;
+    }
+    return next(fd, from, bytes);
 }
 
 ssize_t read(int fd, void *to, size_t bytes)

@@ -1,0 +1,108 @@
+//! How a call is made.
+
+ghost use Rattle.std.specs.Prelude.{◌≡◌, false};
+
+use crate::begun::{abandoned, completed};
+use crate::rows::How;
+use crate::values::told_of;
+use crate::workers::by_workers;
+use rc_board::Fault;
+use rc_session::{Refusal, Session, Step};
+use std::alloc::{AllocGlobal, Global};
+use std::io::Print;
+use std::sync::Wait;
+use std::thread::Threads;
+
+/// Makes a call on a session that has this text. A wrong answer is told as a strange one.
+pub(crate) fn made<R: Print + AllocGlobal + Threads + Wait + Sync>(
+    rt: &R,
+    session: &mut Session,
+    how: How,
+    steps: &[Step],
+    text: &[u8],
+) -> Result<(), Fault>
+    requires { session.old.begun ≡ false }
+    ensures { session.new.begun ≡ false }
+{
+    if let How::Workers(workers) = how {
+        return by_workers(rt, session, workers, steps.first());
+    }
+    match told(rt, session, how, steps, text) {
+        Ok(()) => Ok(()),
+        Err(refusal) => Err(Fault::Refused(refusal)),
+    }
+}
+
+fn told(
+    rt: &(impl Print + AllocGlobal),
+    session: &mut Session,
+    how: How,
+    steps: &[Step],
+    text: &[u8],
+) -> Result<(), Refusal>
+    requires { session.old.begun ≡ false }
+    ensures { session.new.begun ≡ false }
+{
+    let alloc = rt.alloc();
+    match (how, steps.first()) {
+        (How::Value(value), _) => told_of(alloc, session, value, text),
+        (How::Play, _) => played(alloc, session, steps),
+        (How::Complete, Some(step)) => completed(rt, session, step),
+        (How::Abandon, Some(step)) => abandoned(rt, session, step, false),
+        (How::Spoil, Some(step)) => abandoned(rt, session, step, true),
+        (How::By, Some(step)) => by_events(alloc, session, step),
+        (How::Edit, Some(step)) => edited(alloc, session, step),
+        (How::Dry, Some(step)) => planned(alloc, session, step),
+        _ => Err(Refusal::Strange),
+    }
+}
+
+fn played(alloc: Global, session: &mut Session, steps: &[Step]) -> Result<(), Refusal>
+    requires { session.old.begun ≡ false }
+    ensures { session.new.begun ≡ false }
+{
+    match session.play(alloc, steps) {
+        Ok(_) => Ok(()),
+        Err(_) => Err(Refusal::Memory),
+    }
+}
+
+fn by_events(alloc: Global, session: &mut Session, step: &Step) -> Result<(), Refusal>
+    requires { session.old.begun ≡ false }
+    ensures { session.new.begun ≡ false }
+{
+    let answer = match step {
+        Step::Change(request, events) => session.change_by(alloc, request, events),
+        Step::Undo(limit, events) => session.undo_by(alloc, *limit, events),
+        Step::Redo(limit, events) => session.redo_by(alloc, *limit, events),
+        Step::Add(name, contents, force) => {
+            return session.bundle_add(alloc, name, contents, *force);
+        }
+        Step::Delete(names, force) => return session.bundle_delete(alloc, names, *force),
+    };
+    match answer {
+        Ok(_) => Ok(()),
+        Err(refusal) => Err(refusal),
+    }
+}
+
+fn edited(alloc: Global, session: &mut Session, step: &Step) -> Result<(), Refusal>
+    requires { session.old.begun ≡ false }
+    ensures { session.new.begun ≡ false }
+{
+    match step {
+        Step::Undo(..) => session.undo_edit(alloc),
+        Step::Redo(..) => session.redo_edit(alloc),
+        _ => Err(Refusal::Strange),
+    }
+}
+
+fn planned(alloc: Global, session: &Session, step: &Step) -> Result<(), Refusal> {
+    let Step::Change(request, _) = step else {
+        return Err(Refusal::Strange);
+    };
+    match session.dry(alloc, request) {
+        Ok(_) => Ok(()),
+        Err(refusal) => Err(refusal),
+    }
+}

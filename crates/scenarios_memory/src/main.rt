@@ -1,0 +1,121 @@
+//! Calls that may want memory, and calls that take none, each made on values of its own. The output
+//! names a call, `: `, and what it came to: between the two nothing else takes memory, so that a
+//! library that is preloaded can count and refuse the growths of the calls alone.
+#![tactic(auto)]
+
+ghost use Rattle.std.specs.Prelude.{◌≡◌, false, IfOk};
+
+mod begun;
+mod calls;
+mod rows;
+mod steps;
+mod values;
+mod workers;
+
+use crate::calls::made;
+use crate::rows::{How, ROWS, Row};
+use crate::steps::{Kind, steps_of};
+use rc_board::Fault;
+use rc_livetext::write_live;
+use rc_session::{Session, Step};
+use rc_set::NoMem;
+use samples::sample;
+use std::alloc::{AllocGlobal, Global};
+use std::io;
+use std::io::Print;
+use std::sync::Wait;
+use std::test::Fail;
+use std::thread::Threads;
+
+fn main(rt: HostRuntime) -> Result<(), Fail> {
+    for row in &ROWS {
+        show_row(&rt, row)?;
+    }
+    Ok(())
+}
+
+/// The row's call on a session over the sample.
+fn show_row<R: Print + AllocGlobal + Threads + Wait + Sync>(rt: &R, row: &Row) -> Result<(), Fail> {
+    let mut session = session_of_sample(rt.alloc())?;
+    let shown = show_on(rt, &mut session, row);
+    drop(session);
+    Ok(shown?)
+}
+
+fn session_of_sample(alloc: Global) -> Result<Session, Fail>
+    ensures { IfOk result (λ session. session.begun ≡ false) }
+{
+    let db = sample(alloc)?;
+    Ok(Session::new(alloc, db)?)
+}
+
+/// Plays the steps before the call, and makes it.
+fn show_on<R: Print + AllocGlobal + Threads + Wait + Sync>(
+    rt: &R,
+    session: &mut Session,
+    row: &Row,
+) -> io::Result<()>
+    requires { session.old.begun ≡ false }
+{
+    let (what, before, how, kinds) = row;
+    set_up(rt.alloc(), session, before)?;
+    let steps = steps_of(rt.alloc(), kinds)?;
+    let shown = show_call(rt, session, what, *how, &steps);
+    drop(steps);
+    shown
+}
+
+fn set_up(alloc: Global, session: &mut Session, kinds: &[Kind]) -> Result<(), NoMem>
+    requires { session.old.begun ≡ false }
+    ensures { session.new.begun ≡ false }
+{
+    let steps = steps_of(alloc, kinds)?;
+    let played = session.play(alloc, &steps);
+    drop(steps);
+    match played {
+        Ok(_) => Ok(()),
+        Err(short) => Err(short),
+    }
+}
+
+/// The call, what it came to, and whether the session is as it was.
+fn show_call<R: Print + AllocGlobal + Threads + Wait + Sync>(
+    rt: &R,
+    session: &mut Session,
+    what: &str,
+    how: How,
+    steps: &[Step],
+) -> io::Result<()>
+    requires { session.old.begun ≡ false }
+{
+    let text = write_live(rt.alloc(), session)?;
+    print!(rt; "{what}: ")?;
+    let came = made(rt, session, how, steps, &text);
+    show_came(rt, came)?;
+    show_session(rt, session, &text)
+}
+
+fn show_came(rt: &impl Print, came: Result<(), Fault>) -> io::Result<()> {
+    match came {
+        Ok(()) => print!(rt; "done, "),
+        Err(fault) => print!(rt; "{fault}, "),
+    }
+}
+
+/// Whether a session has this text, or else where it stands.
+fn show_session(rt: &(impl Print + AllocGlobal), session: &Session, text: &[u8]) -> io::Result<()>
+    requires { session.now.begun ≡ false }
+{
+    if session.is_open() {
+        return println!(rt; "left open");
+    }
+    if write_live(rt.alloc(), session)?.as_slice() == text {
+        return println!(rt; "as before");
+    }
+    let journal = session.journal();
+    let (cursor, states) = (journal.cursor(), journal.states());
+    println!(rt;
+        "now at {cursor} of {states}, {} live",
+        session.live().len()
+    )
+}

@@ -1,0 +1,128 @@
+//! Calls that alter nothing.
+
+ghost use Rattle.std.specs.Prelude.{◌≡◌, false};
+
+use rc_board::Pad;
+use rc_bundle::Edit;
+use rc_db::Db;
+use rc_graph::Graph;
+use rc_line::Line;
+use rc_livetext::{LiveFault, read_live, write_live};
+use rc_names::{Name, NameFault};
+use rc_select::{between, plan_up};
+use rc_session::{Refusal, Session};
+use rc_set::{NoMem, Set};
+use samples::has_ids;
+use std::alloc::{AllocError, Global};
+
+#[derive(Clone, Copy)]
+pub(crate) enum Value {
+    SetEmpty,
+    SetCopy,
+    SetIds,
+    NameRead,
+    GraphShare,
+    UpOf,
+    DownOf,
+    TableCopy,
+    EditBetween,
+    EditCopy,
+    PlanBetween,
+    PlanUp,
+    LineCopy,
+    LineState,
+    WriteLive,
+    ReadLive,
+    PadNew,
+}
+
+/// Makes a value. A wrong one is strange.
+pub(crate) fn told_of(
+    alloc: Global,
+    session: &Session,
+    value: Value,
+    text: &[u8],
+) -> Result<(), Refusal>
+    requires { session.now.begun ≡ false }
+{
+    let is_right = match value {
+        Value::SetEmpty | Value::SetCopy | Value::SetIds => is_set(alloc, session.live(), value)?,
+        Value::NameRead => is_name(alloc)?,
+        Value::GraphShare | Value::UpOf | Value::DownOf | Value::PlanBetween | Value::PlanUp => {
+            is_on_graph(alloc, session.db().graph(), session.live(), value)?
+        }
+        Value::PadNew => Pad::new(alloc, 5)?.room() == 11,
+        _ => is_on_session(alloc, session, value, text)?,
+    };
+    if is_right {
+        Ok(())
+    } else {
+        Err(Refusal::Strange)
+    }
+}
+
+fn is_set(alloc: Global, set: &Set, value: Value) -> Result<bool, NoMem> {
+    match value {
+        Value::SetEmpty => Ok(Set::empty(alloc, 5)?.is_empty()),
+        Value::SetCopy => Ok(set.copy(alloc)?.same(set)),
+        _ => has_ids(alloc, set, &[0, 1, 2, 3, 4]),
+    }
+}
+
+fn is_name(alloc: Global) -> Result<bool, NoMem> {
+    match Name::read(alloc, "pair") {
+        Ok(name) => Ok(name.text() == "pair"),
+        Err(NameFault::Memory) => Err(AllocError),
+        Err(_) => Ok(false),
+    }
+}
+
+fn is_on_graph(alloc: Global, graph: &Graph, set: &Set, value: Value) -> Result<bool, NoMem> {
+    if set.bound() != graph.len() || !graph.closed(set) {
+        return Ok(false);
+    }
+    match value {
+        Value::GraphShare => Ok(graph.share()?.len() == 5),
+        Value::UpOf => Ok(graph.up_of(alloc, set)?.len() == 5),
+        Value::DownOf => Ok(graph.down_of(alloc, set)?.len() == 5),
+        Value::PlanBetween => Ok(between(alloc, graph, set, set)?.raise().is_empty()),
+        _ => Ok(plan_up(alloc, graph, set, set)?.lower().is_empty()),
+    }
+}
+
+fn is_on_session(alloc: Global, session: &Session, value: Value, text: &[u8]) -> Result<bool, NoMem>
+    requires { session.now.begun ≡ false }
+{
+    let (db, table) = (session.db(), session.table());
+    match value {
+        Value::TableCopy => Ok(table.copy(alloc)?.same(table)),
+        Value::EditBetween => Ok(Edit::between(alloc, db.table(), table)?.len() == 1),
+        Value::WriteLive => Ok(write_live(alloc, session)?.as_slice() == text),
+        Value::ReadLive => is_read(alloc, text, db),
+        _ => is_on_line(alloc, session.journal(), value),
+    }
+}
+
+fn is_read(alloc: Global, text: &[u8], db: &Db) -> Result<bool, NoMem> {
+    match read_live(alloc, text, db) {
+        Ok((line, count)) => Ok(line.states() == 3 && count == 3),
+        Err(LiveFault::Memory) => Err(AllocError),
+        Err(_) => Ok(false),
+    }
+}
+
+fn is_on_line(alloc: Global, line: &Line, value: Value) -> Result<bool, NoMem>
+    requires { line.now.is_open ≡ false }
+{
+    if line.states() < 3 {
+        return Ok(false);
+    }
+    match value {
+        Value::LineCopy => Ok(line.copy(alloc)?.states() == 3),
+        Value::EditCopy => Ok(line.entry(1).edit().copy(alloc)?.len() == 1),
+        _ => {
+            let (live, table) = line.state(alloc, 0)?;
+            Ok(live.is_empty() && table.len() == 1)
+        }
+    }
+}

@@ -1,0 +1,50 @@
+# What a run of scenarios_memory is to write where growths are refused, beside what it wrote. Read are, in
+# this order, tests/growths.txt, what is written where nothing is refused, and the run. way: GROWTHS, this
+# growth `n` of each call and all that follow; GROWTH, this one alone, where a vector may have asked for
+# less and all goes on; THREAD, this start of a thread. It prints the lines that are wrong.
+# A thread's start takes memory too, and more where none has ended before: where that is refused the call
+# is out of threads.
+FNR == 1 { part++ }
+
+# How often each call of a line grows, and how many threads it starts.
+part == 1 { counts[FNR] = $0 }
+
+part == 2 { whole[FNR] = $0; lines = FNR }
+
+# Sets `before`, what is written of a line before the first call that is refused, with its name, and
+# `threads`, how many that starts; and `over`, by how many growths it is before its end. 0: none is refused.
+function is_refused(line,    calls, numbers, many, i, name, pair) {
+    many = split(whole[line], calls, "; ")
+    split(counts[line], numbers, "; ")
+    before = ""
+    for (i = 1; i <= many; i++) {
+        name = calls[i]
+        sub(/: [^:]*$/, "", name)
+        split(substr(numbers[i], length(name) + 3), pair, " ")
+        threads = pair[2] + 0
+        over = (way == "THREAD" ? threads : pair[1]) - n
+        if (over >= 0) {
+            before = before name
+            return 1
+        }
+        if (i < many) before = before calls[i] "; "
+    }
+    before = before name
+    return 0
+}
+
+function is_right(line, text,    refused) {
+    refused = is_refused(line)
+    if (text == whole[line] && (!refused || way == "GROWTH")) return 1
+    if (text == before ": out of memory, as before") return refused && way != "THREAD"
+    if (text == before ": out of threads, as before")
+        return threads > 0 && (refused || (way != "THREAD" && over >= -2 * threads))
+    return 0
+}
+
+part == 3 {
+    told = FNR
+    if (!is_right(FNR, $0)) print "wanted: " whole[FNR] "\ntold:   " $0
+}
+
+END { if (part != 3 || told != lines) print "wanted " lines " lines, and told were " told + 0 }

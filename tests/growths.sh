@@ -1,0 +1,57 @@
+#!/bin/sh
+# The calls of the built program scenarios_memory with each growth refused in turn, and each start of a
+# thread: tests/growths.sh PROGRAM. tests/growths.txt names each call with the number of its growths, and
+# of the threads that it starts. A call of which one is refused tells that, and all is as before. The last
+# line is 'N passed, M failed', and the status is 0 where none failed.
+set -eu
+here=$(realpath "$(dirname "$0")")
+program=$(realpath "$1")
+. "$here/library.sh"
+whole=$here/../crates/scenarios_memory/stdout
+preloads refuse
+export GROWTH=0 GROWTHS=0 THREAD=0 MARKED=1 COUNTS=counts
+
+# counted: a run; `out` is what it wrote, and `counts` has a line for each call.
+counted() {
+    : > counts
+    echo 0 > status
+    LD_PRELOAD="$preload" "$program" < /dev/null > out 2> err || echo $? > status
+}
+
+# Nothing is refused: the calls as they are stored, and how often each grows.
+counted
+cp "$whole" out.wanted
+: > err.wanted
+judge 'scenarios_memory, with nothing refused' 0
+awk 'NR == FNR { grown[FNR] = $1; started[FNR] = $2; next }
+    {
+        many = split($0, calls, "; ")
+        for (i = 1; i <= many; i++) {
+            sub(/: [^:]*$/, "", calls[i])
+            place++
+            printf "%s%s: %s", (i > 1 ? "; " : ""), calls[i], grown[place]
+            if (started[place]) printf " %s threads", started[place]
+        }
+        print ""
+    }
+    END { if (place != NR - FNR) print "the counts are of other calls" }' counts out > made
+cp made out
+cp "$here/growths.txt" out.wanted
+judge 'the number of growths of each call' 0
+
+# The greatest number of growths, and of threads.
+most=$(tr -c '0-9\n' '\n' < made | sort -n | tail -n 1)
+for way in GROWTHS GROWTH THREAD; do
+    number=0
+    while [ "$number" -le "$most" ]; do
+        number=$((number + 1))
+        eval "$way=$number"
+        counted
+        awk -v "way=$way" -v "n=$number" -f "$here/growths.awk" "$here/growths.txt" "$whole" out > told
+        mv told out
+        : > out.wanted
+        judge "scenarios_memory, $way $number" 0
+    done
+    eval "$way=0"
+done
+tally
