@@ -1,10 +1,10 @@
-use Rattle.std.proofs.Common.{◌≡◌, ◌≢◌, ◌∙◌, ◌↔◌, ℕ, ◌+◌, ◌-◌, ◌<◌, ◌≤◌, List, [], ◌∷◌, ◌++◌, Bool, true, false, Contains, eqb, inl, inr, length, take, slice_index, slice_index_or, slice_set, vec_len, vec_capacity, All, cond, count_by, zero, suc, refl, sym, subst, arith}
+use Rattle.std.proofs.Common.{◌≡◌, ◌≢◌, ◌∙◌, ◌↔◌, ℕ, ◌+◌, ◌-◌, ◌<◌, ◌≤◌, List, [], ◌∷◌, ◌++◌, Bool, true, false, Contains, eqb, inl, inr, length, take, remove, slice_index, slice_index_or, slice_set, vec_len, vec_capacity, All, cond, count_by, zero, suc, refl, sym, subst, arith}
 use Rattle.std.specs.Global.{Vec}
 use mathlib.Core.Bool.{beq}
 use Rattle.std.proofs.lemmas.Bool.{cases_lt, cases_eq, ne_eqb}
 use Rattle.std.proofs.lemmas.List.{length_push, get_or_past, get_or_default, get_or-take, length-take-le, get_or_append_left, get_or_push}
 use Rattle.std.proofs.lemmas.List.Elements.{Contains-append_left, Contains-append_cases, Contains-push, Contains-push_cases, Contains-get_or}
-use Rattle.std.proofs.lemmas.List.Quantifiers.{all_pairs_push}
+use Rattle.std.proofs.lemmas.List.Quantifiers.{all_pairs_push, all_pairs_remove}
 use Rattle.std.proofs.lemmas.List.Sums.{count_by-le-length, sum_by-cons}
 use Rattle.std.proofs.lemmas.Map.Keys.{IsDistinct-from_apart}
 use Rattle.std.proofs.lemmas.Map.Steps.{length-le_from_distinct_below}
@@ -16,8 +16,8 @@ use Rattle.rc_graph.proofs.PairLemmas.{no_member}
 use Rattle.rc_graph.proofs.Unmet.{contains_any}
 use Rattle.rc_core.specs.declared.ready.Ready.{Ready}
 use Rattle.rc_set.proofs.Members.{has_within}
-use Rattle.rc_core.specs.Ready.{IsCount, HasQueue, Arrives, QueuesFrom}
-use Rattle.rc_core.proofs.Counted.{distinct_both}
+use Rattle.rc_core.specs.Ready.{IsCount, HasQueue, Arrives, TakesOut, QueuesFrom}
+use Rattle.rc_core.proofs.Counted.{distinct_both, removed}
 
 -- none of a list
 pub none_arrive : (old : Ready) → Arrives [] old old
@@ -383,3 +383,24 @@ none_more_queued waits planned queue from x before next out = record {
   few = omega (arith, before.few);
   room = before.room;
 }
+
+-- a service that stands at a place is taken out there
+pub takes_out : (old new : Ready) (at s : ℕ) → AreDistinct old.queue.items
+    → at < length old.queue.items → slice_index old.queue.items at ≡ s
+    → new.waits.items ≡ old.waits.items → new.queue.items ≡ remove old.queue.items at
+    → vec_capacity new.queue ≡ vec_capacity old.queue → TakesOut old s new
+takes_out old new at s once within here waits queue capacity =
+    let out = removed old.queue.items at once within in
+    record {
+      waits = waits;
+      once = subst AreDistinct (sym queue)
+          (all_pairs_remove (λ a b. a ≢ b) old.queue.items at within once);
+      ones = λ t. (
+        λ there.
+            let h = (out t).0 (subst (λ (xs : List ℕ). Contains xs t) queue there) in
+            (h.0, λ same. h.1 (same ∙ sym here)),
+        λ h. subst (λ (xs : List ℕ). Contains xs t) (sym queue)
+            ((out t).1 (h.0, λ same. h.1 (same ∙ here))),
+      );
+      capacity = capacity;
+    }

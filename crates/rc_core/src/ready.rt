@@ -4,9 +4,8 @@ ghost use Rattle.std.specs.Prelude.{false, ◌≡◌, ◌≢◌, ℕ, ◌-◌, �
 ghost use Rattle.rc_set.specs.Set.{Has, IsAscending};
 ghost use Rattle.rc_graph.specs.Needs.{AreNeeds};
 ghost use Rattle.rc_graph.specs.Order.{AreDistinct};
-ghost use Rattle.rc_core.specs.Ready.{AreAlike, IsCount, HasQueue, Arrives, TakesOut, IsFirstReady, IsFirstCount, IsNext, NotesArrival, QueuesFrom, CanArrive, CanNoteReady, NotesReady};
+ghost use Rattle.rc_core.specs.Ready.{AreAlike, IsCount, HasQueue, Arrives, TakesOut, IsFirstReady, IsFirstCount, IsNext, NotesArrival, QueuesFrom, CanArrive};
 
-use crate::event::Event;
 use rc_graph::Graph;
 use rc_set::{NoMem, Set};
 use std::alloc::Global;
@@ -70,27 +69,45 @@ impl Ready {
         0 < self.waits[service as usize]
     }
 
-    /// Writes one more event in. Takes no memory.
-    pub(crate) fn note(&mut self, event: Event, graph: &Graph, lower: &Set, raise: &Set)
+    /// The transition of a service has ended. Where it did well, the service has arrived.
+    pub(crate) fn note_end(
+        &mut self,
+        graph: &Graph,
+        lower: &Set,
+        raise: &Set,
+        service: u16,
+        well: bool,
+    )
         requires lists { AreNeeds graph.now }
         requires lower { length lower.now ≡ length graph.now }
         requires raise { length raise.now ≡ length graph.now }
-        requires can { CanNoteReady graph.now lower.now raise.now self.old event }
-        ensures { NotesReady graph.now lower.now raise.now self.old event self.new }
+        requires can { IsTrue well → CanArrive graph.now lower.now raise.now service self.old }
+        ensures arrived { IsTrue well →
+            NotesArrival graph.now lower.now raise.now service self.old self.new }
+        ensures failed { well ≡ false → self.new ≡ self.old }
     {
-        match event {
-            Event::Take(_, service) => self.take_out(service),
-            Event::Done(_, service, outcome) => {
-                if outcome.is_ok() {
-                    self.note_arrival(graph, lower, raise, service);
-                }
-            },
-            Event::Stop(_, _) => {},
+        if well {
+            self.note_arrival(graph, lower, raise, service);
         }
     }
 
-    /// Takes a service out of the queue.
-    fn take_out(&mut self, service: u16)
+    /// Takes a service out of the queue. What stands last goes in one step.
+    pub(crate) fn take_out(&mut self, service: u16)
+        requires queued { Contains self.old.queue.items service }
+        requires once { AreDistinct self.old.queue.items }
+        ensures { TakesOut self.old service self.new }
+    {
+        let last = self.queue.len() - 1;
+        if self.queue[last] == service {
+            self.remove_at(last);
+        } else {
+            self.find_and_take_out(service);
+        }
+    }
+
+    /// Takes a service out of the queue, wherever it stands.
+    #[inline(never)]
+    fn find_and_take_out(&mut self, service: u16)
         requires queued { Contains self.old.queue.items service }
         requires once { AreDistinct self.old.queue.items }
         ensures { TakesOut self.old service self.new }
@@ -186,7 +203,7 @@ fn waits_of(
     let alike = alike(up);
     let mut waits = Vec::with_capacity(alloc, graph.len() as usize)?;
     for service in 0..graph.len() {
-        waits.push(count_for(graph, up, alike, lower, raise, service))?;
+        waits.push_reserved(count_for(graph, up, alike, lower, raise, service));
     }
     Ok(waits)
 }

@@ -140,7 +140,7 @@ impl Run {
         }
         match self.next_move() {
             Some(next) => {
-                self.add(Event::Take(worker, next.service));
+                self.add_take(worker, next.service);
                 Ok(Took::Job(Job::new(worker, next.service, next.way)))
             }
             None if self.holds_some() => Ok(Took::Wait),
@@ -155,7 +155,11 @@ impl Run {
         ensures err { OnErr result (IsLegal self.old.course self.old.events (Event.Done worker service outcome) → ⊥) }
         ensures same { OnErr result (self.new ≡ self.old) }
     {
-        self.step(Event::Done(worker, service, outcome))
+        if !self.holds(worker, service) {
+            return Err(NotLegal);
+        }
+        self.add_done(worker, service, outcome);
+        Ok(())
     }
 
     /// A worker, from 1 to 64, stops the run at a moment, in milliseconds, that has reached the deadline.
@@ -244,10 +248,43 @@ impl Run {
         requires { IsLegal self.old.course self.old.events event }
         ensures { self.new ≡ with_event self.old event }
     {
-        self.tables.note(event);
+        match event {
+            Event::Take(worker, service) => self.add_take(worker, service),
+            Event::Done(worker, service, outcome) => self.add_done(worker, service, outcome),
+            Event::Stop(worker, moment) => self.add_stop(worker, moment),
+        }
+    }
+
+    /// Adds a legal take. Takes no memory.
+    fn add_take(&mut self, worker: u8, service: u16)
+        requires { IsLegal self.old.course self.old.events (Event.Take worker service) }
+        ensures { self.new ≡ with_event self.old (Event.Take worker service) }
+    {
+        self.tables.note_take(worker, service);
+        self.ready.take_out(service);
+        self.trace.push_reserved(Event::Take(worker, service));
+    }
+
+    /// Adds the legal end of a transition. Takes no memory.
+    fn add_done(&mut self, worker: u8, service: u16, outcome: Outcome)
+        requires { IsLegal self.old.course self.old.events (Event.Done worker service outcome) }
+        ensures { self.new ≡ with_event self.old (Event.Done worker service outcome) }
+    {
+        let well = outcome.is_ok();
+        self.tables.note_done(worker, service, well);
         self.ready
-            .note(event, &self.graph, &self.lower, &self.raise);
-        self.trace.push_reserved(event);
+            .note_end(&self.graph, &self.lower, &self.raise, service, well);
+        self.trace
+            .push_reserved(Event::Done(worker, service, outcome));
+    }
+
+    /// Adds a legal stop. Takes no memory.
+    fn add_stop(&mut self, worker: u8, moment: u64)
+        requires { IsLegal self.old.course self.old.events (Event.Stop worker moment) }
+        ensures { self.new ≡ with_event self.old (Event.Stop worker moment) }
+    {
+        self.tables.note_stop();
+        self.trace.push_reserved(Event::Stop(worker, moment));
     }
 }
 

@@ -1,4 +1,4 @@
-use Rattle.std.proofs.Common.{◌≡◌, ◌∙◌, ◌<◌, ℕ, true, false, refl, sym, slice_index_or}
+use Rattle.std.proofs.Common.{◌∙◌, false, refl, sym, slice_index_or}
 use Rattle.std.proofs.lemmas.Bool.{false_from_ne_true}
 use Rattle.rc_core.proofs.Arriving.{all_in}
 use Rattle.rc_core.proofs.ready.alike.Goals as goal

@@ -1,4 +1,4 @@
-use Rattle.std.proofs.Common.{◌≡◌, ◌∙◌, ◌<◌, ◌≤◌, ℕ, Bool, true, false, length, slice_index_or, sym, arith}
+use Rattle.std.proofs.Common.{◌≡◌, ◌∙◌, ◌<◌, ℕ, false, length, slice_index_or, sym, arith}
 use Rattle.rc_core.proofs.Arriving.{beq-true, beq-false, short_list, all_counted, none_of_them, each_listed}
 use Rattle.rc_core.proofs.ready.count_alike.Goals as goal
 

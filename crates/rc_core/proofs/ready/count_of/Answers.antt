@@ -1,4 +1,4 @@
-use Rattle.std.proofs.Common.{◌≡◌, ◌∙◌, ◌<◌, ℕ, List, true, false, refl, take, Contains, slice_index, slice_index_or, sym, subst, arith}
+use Rattle.std.proofs.Common.{◌≡◌, ◌∙◌, ◌<◌, ℕ, List, false, take, Contains, slice_index, slice_index_or, sym, subst, arith}
 use Rattle.std.proofs.lemmas.List.{take_more, take_all}
 use Rattle.rc_core.specs.Ready.{IsCount}
 use Rattle.rc_core.proofs.Arriving.{beq-true, beq-false, none_counted, one_counted, one_passed_by, above_front, at_least, same_truth}
