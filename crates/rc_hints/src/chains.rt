@@ -1,8 +1,9 @@
 //! What helps where the names that entries give do not fit together.
-use crate::entries::{Entry, Hint, Sources, path_in};
-use crate::listed::{lines_in, place_of};
+use crate::entries::Entry;
+use crate::listed::{first_word, line_of, name_on, text_of};
+use crate::search::{Found, Search};
 use crate::slips::nearest;
-use rc_names::{Kind, NoMem};
+use rc_names::Kind;
 use std::rt::Files;
 
 /// The most steps of a circle that are explained.
@@ -10,161 +11,158 @@ const MAX_STEPS: usize = 20;
 /// The most bundles in bundles that are looked into.
 const MAX_DEPTH: usize = 4;
 
-/// Where an entry gives a name that is nobody's.
-pub(crate) fn unknown_in<R: Files + AllocGlobal + Clone + Drop>(
-    sources: &Sources<'_, R>,
+/// Adds where an entry gives a name that is nobody's: both stand behind the refusal's word.
+pub(crate) fn add_unknown<R: Files>(search: &mut Search<'_, R>, names: &str) {
+    let Some((name, other)) = names.split_once(' ') else {
+        return;
+    };
+    let Some(entry) = search.entry(name) else {
+        return;
+    };
+    if !add_place(search, &entry, other) {
+        return;
+    }
+    search.said.add(": nothing is named ");
+    search.said.add(other);
+    let names = search.entries();
+    if let Some(near) = nearest(&names, other) {
+        search.said.add("; is ");
+        search.said.add(near);
+        search.said.add(" meant?");
+    }
+    drop(names);
+}
+
+/// Adds where an entry gives a name, in a file, by its line, or in a folder, and says whether it does.
+fn add_place<R: Files>(search: &mut Search<'_, R>, entry: &Entry<'_, '_>, name: &str) -> bool {
+    if entry.kind == Some(Kind::Bundle) {
+        return add_line(search, entry, "contents", name)
+            || add_in(search, entry, "contents.d", name);
+    }
+    add_line(search, entry, "dependencies", name)
+        || add_line(search, entry, "producer-for", name)
+        || add_line(search, entry, "consumer-for", name)
+        || add_in(search, entry, "dependencies.d", name)
+}
+
+/// Adds the line in which a file of an entry gives a name, and says whether it does.
+fn add_line<R: Files>(
+    search: &mut Search<'_, R>,
+    entry: &Entry<'_, '_>,
+    file: &str,
     name: &str,
-    other: &str,
-) -> Hint {
-    let Some(entry) = sources.entry(name)? else {
-        return Ok(None);
-    };
-    let Some(place) = given_at(sources, &entry, other)? else {
-        return Ok(None);
-    };
-    let names = sources.names()?;
-    let alloc = sources.alloc;
-    match nearest(&names, other) {
-        Some(name) => {
-            let hint = format!(in alloc; "{place}: nothing is named {other}; is {name} meant?")?;
-            Ok(Some(hint))
+) -> bool {
+    match search.line_of(entry, file, name) {
+        Some(number) => {
+            search.said.add_file(entry, file);
+            search.said.add(":");
+            search.said.add_number(number);
+            true
         }
-        None => Ok(Some(format!(in alloc; "{place}: nothing is named {other}")?)),
+        None => false,
     }
 }
 
-/// Where an entry gives a name: in a file, by its line, or in a folder.
-fn given_at<R: Files + AllocGlobal + Clone + Drop>(
-    sources: &Sources<'_, R>,
-    entry: &Entry<'_>,
+/// Adds the path of a name in a folder of an entry, and says whether it stands there.
+fn add_in<R: Files>(
+    search: &mut Search<'_, R>,
+    entry: &Entry<'_, '_>,
+    folder: &str,
     name: &str,
-) -> Hint {
-    for file in ["dependencies", "contents", "producer-for", "consumer-for"] {
-        if !entry.reads(file) {
-            continue;
-        }
-        if let Some(place) = place_of(sources, entry, file, name)? {
-            return Ok(Some(place));
-        }
+) -> bool {
+    let place = search.said.path(folder, name);
+    let path = search.said.path(entry.root, entry.name);
+    let found = search.found(path.as_str(), place.as_str());
+    drop(path);
+    let is_there = !matches!(found, Found::Nothing);
+    if is_there {
+        search.said.add_file(entry, place.as_str());
     }
-    let folder = if entry.kind == Some(Kind::Bundle) {
-        "contents.d"
-    } else {
-        "dependencies.d"
-    };
-    let folder = path_in(sources.alloc, entry.path.as_str(), folder)?;
-    let path = path_in(sources.alloc, folder.as_str(), name)?;
-    if sources.rt.metadata(path.as_str()).is_ok() {
-        return Ok(Some(path));
-    }
-    Ok(None)
+    drop(place);
+    is_there
 }
 
-/// The steps of a circle, and which file makes each.
-pub(crate) fn circle<R: Files + AllocGlobal + Clone + Drop>(
-    sources: &Sources<'_, R>,
-    names: &str,
-) -> Hint {
-    let mut text = String::new(sources.alloc);
+/// Adds the steps of a circle, and which file makes each.
+pub(crate) fn add_circle<R: Files>(search: &mut Search<'_, R>, names: &str) {
+    let mut left = MAX_STEPS;
     let mut from = "";
-    for name in names.split(' ').take(MAX_STEPS) {
+    for name in names.split(' ') {
+        if left == 0 {
+            break;
+        }
+        left -= 1;
         if !from.is_empty() {
-            add_step(sources, &mut text, from, name)?;
+            add_step(search, from, name);
         }
         from = name;
     }
-    let first = names.split(' ').next().unwrap_or("");
-    add_step(sources, &mut text, from, first)?;
-    if text.is_empty() {
-        return Ok(None);
-    }
-    Ok(Some(text))
+    add_step(search, from, first_word(names));
 }
 
-/// Adds what makes a step, on a line of its own.
-fn add_step<R: Files + AllocGlobal + Clone + Drop>(
-    sources: &Sources<'_, R>,
-    text: &mut String,
-    from: &str,
-    to: &str,
-) -> Result<(), NoMem> {
-    let Some(entry) = sources.entry(from)? else {
-        return Ok(());
+/// Adds what makes one of a circle need, or hold, the next, on a line of its own.
+fn add_step<R: Files>(search: &mut Search<'_, R>, from: &str, to: &str) {
+    let Some(entry) = search.entry(from) else {
+        return;
     };
-    let Some(step) = step(sources, &entry, to)? else {
-        return Ok(());
-    };
-    if !text.is_empty() {
-        text.push_str("\n  ")?;
+    if !search.said.is_empty() {
+        search.said.add("\n  ");
     }
-    text.push_str(step.as_str())
+    if add_place(search, &entry, to) {
+        search.said.add(" names ");
+    } else {
+        add_holder(search, &entry, to);
+    }
+    search.said.add(to);
 }
 
-/// What makes one of a circle need, or hold, the next.
-fn step<R: Files + AllocGlobal + Clone + Drop>(
-    sources: &Sources<'_, R>,
-    entry: &Entry<'_>,
-    to: &str,
-) -> Hint {
-    let alloc = sources.alloc;
-    if let Some(place) = given_at(sources, entry, to)? {
-        return Ok(Some(format!(in alloc; "{place} names {to}")?));
-    }
-    match step_by_bundle(sources, entry, to)? {
-        Some(hint) => Ok(Some(hint)),
-        None => {
-            let path = entry.path.as_str();
-            let hint = format!(in alloc; "{path}/dependencies names what holds {to}")?;
-            Ok(Some(hint))
+/// Adds the bundle that a service needs and that holds another.
+fn add_holder<R: Files>(search: &mut Search<'_, R>, entry: &Entry<'_, '_>, to: &str) {
+    search.said.add_file(entry, "dependencies");
+    let list = search.file(entry, "dependencies");
+    match holder_of(search, text_of(&list), to, MAX_DEPTH) {
+        Some((number, bundle)) => {
+            search.said.add(":");
+            search.said.add_number(number);
+            search.said.add(" names the bundle ");
+            search.said.add(bundle);
+            search.said.add(", which holds ");
         }
+        None => search.said.add(" names what holds "),
     }
+    drop(list);
 }
 
-/// The bundle that a service needs and that holds the next.
-fn step_by_bundle<R: Files + AllocGlobal + Clone + Drop>(
-    sources: &Sources<'_, R>,
-    entry: &Entry<'_>,
-    to: &str,
-) -> Hint {
-    let alloc = sources.alloc;
-    let Some(text) = sources.text(entry, "dependencies")? else {
-        return Ok(None);
-    };
-    for (_, bundle) in lines_in(alloc, text.as_str())? {
-        if holds(sources, bundle, to, MAX_DEPTH)? {
-            let Some(place) = place_of(sources, entry, "dependencies", bundle)? else {
-                return Ok(None);
-            };
-            let hint = format!(in alloc; "{place} names the bundle {bundle}, which holds {to}")?;
-            return Ok(Some(hint));
-        }
-    }
-    Ok(None)
-}
-
-/// Whether a bundle holds a service, through so many bundles in bundles at most.
-fn holds<R: Files + AllocGlobal + Clone + Drop>(
-    sources: &Sources<'_, R>,
-    bundle: &str,
+/// The first name of a list that is a bundle's which holds a service, through so many bundles in
+/// bundles at most, and the number of its line.
+fn holder_of<'l, R: Files>(
+    search: &mut Search<'_, R>,
+    list: &'l str,
     service: &str,
     depth: usize,
-) -> Result<bool, NoMem> {
+) -> Option<(usize, &'l str)> {
     if depth == 0 {
-        return Ok(false);
+        return None;
     }
-    let Some(entry) = sources.entry(bundle)? else {
-        return Ok(false);
-    };
-    if entry.kind != Some(Kind::Bundle) {
-        return Ok(false);
-    }
-    let Some(text) = sources.text(&entry, "contents")? else {
-        return Ok(false);
-    };
-    for (_, name) in lines_in(sources.alloc, text.as_str())? {
-        if name == service || holds(sources, name, service, depth - 1)? {
-            return Ok(true);
+    let mut number = 0usize;
+    for line in list.split('\n') {
+        number = number.saturating_add(1);
+        let name = name_on(line);
+        let contents = contents_of(search, name);
+        let inner = text_of(&contents);
+        let holds = line_of(inner, service).is_some()
+            || holder_of(search, inner, service, depth - 1).is_some();
+        drop(contents);
+        if holds {
+            return Some((number, name));
         }
     }
-    Ok(false)
+    None
+}
+
+/// What the file `contents` of a bundle holds; nothing where a name is none of a bundle.
+fn contents_of<R: Files>(search: &mut Search<'_, R>, name: &str) -> Vec<u8> {
+    match search.entry(name) {
+        Some(entry) if entry.kind == Some(Kind::Bundle) => search.file(&entry, "contents"),
+        _ => Vec::new(search.said.alloc),
+    }
 }

@@ -1,7 +1,8 @@
 //! What helps where a text is no database, or no session's, or a name is not in a database.
-use crate::entries::Hint;
-use crate::places::{line_at, offset_of};
-use crate::slips::nearest;
+use crate::listed::{first_word, text_of};
+use crate::places::{cut_at, line_at};
+use crate::said::{Hint, Said};
+use crate::slips::is_one_edit;
 use rc_names::NoMem;
 use std::alloc::Global;
 
@@ -36,8 +37,7 @@ pub fn database_hint(alloc: Global, path: &str, bytes: &[u8], word: &str, rest: 
         "Cyclic" => ": a service needs itself along a path",
         _ => return Ok(None),
     };
-    let hint = format!(in alloc; "{path}{what}: undorc compile makes it anew")?;
-    Ok(Some(hint))
+    hint_of(alloc, path, what, ": undorc compile makes it anew")
 }
 
 /// What helps behind a refusal of the text that a session was to go on with.
@@ -52,7 +52,7 @@ pub fn live_hint(alloc: Global, path: &str, bytes: &[u8], word: &str, rest: &str
         "OverBound" => ": there are more states than its line 'bound' says",
         _ => return Ok(None),
     };
-    Ok(Some(format!(in alloc; "{path}{what}{rest}")?))
+    hint_of(alloc, path, what, rest)
 }
 
 /// The line that is not due.
@@ -60,18 +60,33 @@ fn bad_line(alloc: Global, path: &str, bytes: &[u8], offset: &str, form: &Form) 
     let Ok(offset) = offset.parse::<usize>() else {
         return Ok(None);
     };
-    let name = form.name;
-    let help = form.help;
-    if bytes.is_empty() {
-        let hint = format!(in alloc; "{path}: an empty file is no {name}: {help}")?;
-        return Ok(Some(hint));
+    let mut said = Said::new(alloc);
+    said.add(path);
+    if bytes.starts_with(form.front) {
+        said.add(":");
+        said.add_number(line_at(bytes, offset));
+        said.add(": ");
+        said.add(not_due(bytes, offset));
+    } else {
+        said.add(if bytes.is_empty() {
+            ": an empty file is no "
+        } else {
+            " is no "
+        });
+        said.add(form.name);
+        said.add(": ");
+        said.add(form.help);
     }
-    if !bytes.starts_with(form.front) {
-        return Ok(Some(format!(in alloc; "{path} is no {name}: {help}")?));
-    }
-    let number = line_at(bytes, offset);
-    let what = not_due(bytes, offset);
-    Ok(Some(format!(in alloc; "{path}:{number}: {what}")?))
+    said.hint()
+}
+
+/// A hint of these texts in a row.
+fn hint_of(alloc: Global, front: &str, middle: &str, back: &str) -> Hint {
+    let mut said = Said::new(alloc);
+    said.add(front);
+    said.add(middle);
+    said.add(back);
+    said.hint()
 }
 
 /// What is wrong with the line that begins at an offset.
@@ -83,7 +98,7 @@ fn not_due(bytes: &[u8], offset: usize) -> &'static str {
     if bytes.get(..offset).unwrap_or(&[]).ends_with(b"\nend\n") {
         return "nothing may stand behind the line 'end'";
     }
-    let (line, _) = split_line(rest);
+    let (line, _) = cut_at(rest, b'\n');
     if line.ends_with(b"\r") {
         return "this line has not the form that is due (a Windows line end?)";
     }
@@ -92,33 +107,27 @@ fn not_due(bytes: &[u8], offset: usize) -> &'static str {
 
 /// The name of a database that may have been meant.
 pub fn near_hint(alloc: Global, database: &[u8], name: &str) -> Hint {
-    let names = names_in(alloc, database)?;
-    match nearest(&names, name) {
-        Some(near) => {
-            let hint = format!(in alloc; "nothing is named {name}; is {near} meant?")?;
-            Ok(Some(hint))
-        }
-        None => Ok(None),
-    }
-}
-
-/// The names of the services and bundles of a database at the front of a text.
-fn names_in(alloc: Global, bytes: &[u8]) -> Result<Vec<String>, NoMem> {
-    let mut names = Vec::new(alloc);
-    let mut rest = bytes;
-    for _ in 0..bytes.len() {
+    let mut rest = database;
+    for _ in 0..database.len() {
         let (line, behind) = next_line(rest);
         rest = behind;
-        match line.split_once(' ') {
-            Some(("service" | "bundle", words)) => {
-                let name = words.split(' ').next().unwrap_or("");
-                names.push(String::from_str(alloc, name)?)?;
+        if line == "end" {
+            return Ok(None);
+        }
+        if let Some(("service" | "bundle", words)) = line.split_once(' ') {
+            let near = first_word(words);
+            if is_one_edit(name.as_bytes(), near.as_bytes()) {
+                let mut said = Said::new(alloc);
+                said.add("nothing is named ");
+                said.add(name);
+                said.add("; is ");
+                said.add(near);
+                said.add(" meant?");
+                return said.hint();
             }
-            None if line == "end" => return Ok(names),
-            _ => {}
         }
     }
-    Ok(names)
+    Ok(None)
 }
 
 /// What stands behind the database at the front of a text.
@@ -137,32 +146,53 @@ pub fn behind_end(bytes: &[u8]) -> &[u8] {
 /// A service that is up, a name a line, and one that it needs and that is not among them.
 pub fn lacking_hint<'a>(alloc: Global, database: &'a [u8], up: &'a [u8]) -> Hint {
     let mut listed = Vec::new(alloc);
-    for name in std::str::from_utf8(up).unwrap_or("").split('\n') {
-        listed.push(name)?;
+    let sorted = add_sorted(text_of(up), &mut listed);
+    let lacking = lacking_of(database, &listed);
+    drop(listed);
+    sorted?;
+    match lacking {
+        Some((service, need)) => {
+            let mut said = Said::new(alloc);
+            said.add(service);
+            said.add(" is up and needs ");
+            said.add(need);
+            said.add(", which is not among those listed");
+            said.hint()
+        }
+        None => Ok(None),
     }
-    listed.sort()?;
+}
+
+/// Adds the lines of a text, in byte order.
+fn add_sorted<'a>(text: &'a str, lines: &mut Vec<&'a str>) -> Result<(), NoMem> {
+    for line in text.split('\n') {
+        lines.push(line)?;
+    }
+    lines.sort()?;
+    Ok(())
+}
+
+/// The first service of a database that is listed, and its first need that is not. The list ascends.
+fn lacking_of<'a>(database: &'a [u8], listed: &[&'a str]) -> Option<(&'a str, &'a str)> {
     let mut rest = database;
     for _ in 0..database.len() {
         let (line, behind) = next_line(rest);
         rest = behind;
-        let Some(("service", words)) = line.split_once(' ') else {
-            continue;
-        };
-        let service = words.split(' ').next().unwrap_or("");
         let (needs, _) = next_line(rest);
-        let Some((_, needs)) = needs.split_once(' ') else {
+        let (Some(("service", words)), Some((_, needs))) = (
+            line.split_once(' '),
+            needs.split_once(' '),
+        ) else {
             continue;
         };
+        let service = first_word(words);
         if listed.binary_search(&service).is_ok() {
-            if let Some(need) = first_missing(&listed, needs) {
-                let hint = format!(in alloc;
-                    "{service} is up and needs {need}, which is not among those listed"
-                )?;
-                return Ok(Some(hint));
+            if let Some(need) = first_missing(listed, needs) {
+                return Some((service, need));
             }
         }
     }
-    Ok(None)
+    None
 }
 
 /// The first of these words that is not listed. The list ascends.
@@ -177,7 +207,7 @@ fn first_missing<'a>(listed: &[&'a str], words: &'a str) -> Option<&'a str> {
 
 /// The line in front, and what stands behind it and behind the text that it announces.
 fn next_line(bytes: &[u8]) -> (&str, &[u8]) {
-    let (line, rest) = split_line(bytes);
+    let (line, rest) = cut_at(bytes, b'\n');
     let line = std::str::from_utf8(line).unwrap_or("");
     let Some(("up" | "down", length)) = line.split_once(' ') else {
         return (line, rest);
@@ -187,16 +217,6 @@ fn next_line(bytes: &[u8]) -> (&str, &[u8]) {
     };
     match rest.get(length..) {
         Some([_, behind @ ..]) => (line, behind),
-        _ => (line, &[]),
-    }
-}
-
-/// What stands before the first newline, and what behind.
-fn split_line(bytes: &[u8]) -> (&[u8], &[u8]) {
-    let end = offset_of(bytes, b'\n').unwrap_or(bytes.len());
-    let line = bytes.get(..end).unwrap_or(bytes);
-    match bytes.get(end..) {
-        Some([_, rest @ ..]) => (line, rest),
         _ => (line, &[]),
     }
 }

@@ -1,179 +1,102 @@
-//! Source directories, read again.
-use rc_names::{Kind, NoMem};
-use rc_tree::{FolderTree, Tree};
+//! Source directories, and the entries in them.
+use crate::search::Search;
+use rc_names::Kind;
 use std::alloc::Global;
-use std::fs;
-use std::io::Read;
 use std::rt::Files;
-
-/// What may help behind a fault, or nothing; only memory can be short.
-pub(crate) type Hint = Result<Option<String>, NoMem>;
 
 /// Source directories as they were named, which can be read again.
 #[derive(Drop)]
 pub struct Sources<'a, R> {
-    pub(crate) rt: &'a R,
-    pub(crate) alloc: Global,
-    pub(crate) roots: &'a [String],
+    rt: &'a R,
+    alloc: Global,
+    roots: &'a [String],
 }
 
-/// A directory in one of them, by its name.
-#[derive(Drop)]
-pub(crate) struct Entry<'a> {
-    pub root: &'a str,
-    pub name: String,
-    pub path: String,
-    pub kind: Option<Kind>,
-}
-
-impl Entry<'_> {
-    /// Whether a file or a folder of this name is looked at.
-    pub(crate) fn reads(&self, file: &str) -> bool {
-        match file {
-            "type" => true,
-            "up" | "down" => self.kind == Some(Kind::Oneshot),
-            "run" => self.kind == Some(Kind::Longrun),
-            "contents" | "contents.d" => self.kind == Some(Kind::Bundle),
-            "timeout-up"
-            | "timeout-down"
-            | "flag-essential"
-            | "dependencies"
-            | "dependencies.d"
-            | "producer-for"
-            | "consumer-for"
-            | "pipeline-name" => { matches!(&self.kind, Some(Kind::Oneshot | Kind::Longrun)) }
-            _ => false,
-        }
-    }
-}
-
-impl<'a, R: Files + AllocGlobal + Clone + Drop> Sources<'a, R> {
+impl<'a, R: Files> Sources<'a, R> {
     pub fn new(rt: &'a R, alloc: Global, roots: &'a [String]) -> Sources<'a, R> {
         Sources { rt, alloc, roots }
     }
 
-    /// The entry of this name, in the first source directory that has it.
-    pub(crate) fn entry(&self, name: &str) -> Result<Option<Entry<'a>>, NoMem> {
-        for root in self.roots {
-            let path = path_in(self.alloc, root.as_str(), name)?;
-            if is_directory(self.rt, path.as_str()) {
-                let kind = kind_at(self.rt, self.alloc, path.as_str())?;
-                let name = String::from_str(self.alloc, name)?;
-                let root = root.as_str();
-                return Ok(Some(Entry {
-                    root,
-                    name,
-                    path,
-                    kind,
-                }));
-            }
-        }
-        Ok(None)
-    }
-
-    /// The bytes of a file of an entry, where they can be read.
-    pub(crate) fn bytes(&self, entry: &Entry<'_>, file: &str) -> Result<Option<Vec<u8>>, NoMem> {
-        let mut tree = FolderTree::open(self.rt.clone()?, self.alloc, entry.root)?;
-        let bytes = tree.bytes(self.alloc, entry.name.as_str(), file);
-        drop(tree);
-        Ok(bytes.unwrap_or(None))
-    }
-
-    /// The text of a file of an entry, where it can be read and is one.
-    pub(crate) fn text(&self, entry: &Entry<'_>, file: &str) -> Result<Option<String>, NoMem> {
-        match self.bytes(entry, file)? {
-            Some(bytes) => Ok(String::from_utf8(bytes).ok()),
-            None => Ok(None),
-        }
-    }
-
-    /// The names in a folder of an entry, where they can be read.
-    pub(crate) fn listing(&self, entry: &Entry<'_>, folder: &str) -> Result<Vec<String>, NoMem> {
-        let path = path_in(self.alloc, entry.path.as_str(), folder)?;
-        names_at(self.rt, self.alloc, path.as_str())
-    }
-
-    /// The names of the entries, where they can be read.
-    pub(crate) fn names(&self) -> Result<Vec<String>, NoMem> {
-        let mut names = Vec::new(self.alloc);
-        for root in self.roots {
-            let mut tree = FolderTree::open(self.rt.clone()?, self.alloc, root.as_str())?;
-            let found = tree.entries(self.alloc);
-            drop(tree);
-            for name in found.unwrap_or(Vec::new(self.alloc)) {
-                names.push(name)?;
-            }
-        }
-        Ok(names)
+    /// A search in them, of which nothing is said yet.
+    pub(crate) fn search(&self) -> Search<'a, R> {
+        Search::new(self.rt, self.alloc, self.roots)
     }
 }
 
-/// The kind that the file `type` of a directory gives, where it gives one.
-fn kind_at<R: Files>(rt: &R, alloc: Global, path: &str) -> Result<Option<Kind>, NoMem> {
-    let path = path_in(alloc, path, "type")?;
-    let mut bytes = [0u8; 16];
-    let Some(count) = front_of(rt, path.as_str(), &mut bytes) else {
-        return Ok(None);
-    };
-    let text = bytes.get(..count).unwrap_or(&[]);
-    Ok(match text.strip_suffix(b"\n").unwrap_or(text) {
+/// A directory in a source directory. That is given as it was named, and without a slash at its end.
+#[derive(Clone, Copy)]
+pub(crate) struct Entry<'a, 'n> {
+    pub named: &'a str,
+    pub root: &'a str,
+    pub name: &'n str,
+    pub kind: Option<Kind>,
+}
+
+impl Entry<'_, '_> {
+    /// The files that are read of it, in the order in which they are, and then its folder of names.
+    pub(crate) fn files(&self) -> &'static [&'static str] {
+        match self.kind {
+            None => &["type"],
+            Some(Kind::Bundle) => &["type", "contents", "contents.d"],
+            Some(Kind::Longrun) => {
+                &[
+                    "type",
+                    "timeout-up",
+                    "timeout-down",
+                    "dependencies",
+                    "producer-for",
+                    "consumer-for",
+                    "pipeline-name",
+                    "dependencies.d",
+                ]
+            }
+            Some(Kind::Oneshot) => {
+                &[
+                    "type",
+                    "up",
+                    "down",
+                    "timeout-up",
+                    "timeout-down",
+                    "dependencies",
+                    "producer-for",
+                    "consumer-for",
+                    "pipeline-name",
+                    "dependencies.d",
+                ]
+            }
+        }
+    }
+}
+
+impl Entry<'_, '_> {
+    /// Whether a file of this name, or a folder, is read; or is a flag that it may have.
+    pub(crate) fn reads(&self, file: &str) -> bool {
+        if file == "flag-essential" {
+            return matches!(&self.kind, Some(Kind::Oneshot | Kind::Longrun));
+        }
+        for read in self.files() {
+            if *read == file {
+                return true;
+            }
+        }
+        false
+    }
+}
+
+/// The kind that the bytes of a file `type` give, where they give one.
+pub(crate) fn kind_of(bytes: &[u8]) -> Option<Kind> {
+    match bytes.strip_suffix(b"\n").unwrap_or(bytes) {
         b"oneshot" => Some(Kind::Oneshot),
         b"longrun" => Some(Kind::Longrun),
         b"bundle" => Some(Kind::Bundle),
         _ => None,
-    })
-}
-
-/// How many bytes stand at the front of a plain file, as far as there is room for them.
-fn front_of<R: Files>(rt: &R, path: &str, bytes: &mut [u8]) -> Option<usize> {
-    if !rt.metadata(path).ok()?.is_file() {
-        return None;
     }
-    let mut file = fs::open(rt, path).ok()?;
-    file.read(bytes).ok()
 }
 
-/// The path of what has this name in a directory.
-pub(crate) fn path_in(alloc: Global, directory: &str, name: &str) -> Result<String, NoMem> {
-    let directory = match directory.strip_suffix('/') {
+/// A directory's path without a slash at its end.
+pub(crate) fn without_slash(path: &str) -> &str {
+    match path.strip_suffix('/') {
         Some(front) => front,
-        None => directory,
-    };
-    format!(in alloc; "{directory}/{name}")
-}
-
-/// Whether a directory stands there.
-pub(crate) fn is_directory<R: Files>(rt: &R, path: &str) -> bool {
-    match rt.metadata(path) {
-        Ok(found) => found.is_dir(),
-        Err(_) => false,
+        None => path,
     }
-}
-
-/// Whether a source directory has a file `type` of its own, as an entry has.
-pub(crate) fn is_entry<R: Files>(rt: &R, alloc: Global, root: &str) -> Result<bool, NoMem> {
-    let path = path_in(alloc, root, "type")?;
-    match rt.metadata(path.as_str()) {
-        Ok(found) => Ok(found.is_file()),
-        Err(_) => Ok(false),
-    }
-}
-
-/// The names in a directory, as far as they can be read.
-pub(crate) fn names_at<R: Files + AllocGlobal + Clone + Drop>(
-    rt: &R,
-    alloc: Global,
-    path: &str,
-) -> Result<Vec<String>, NoMem> {
-    let mut names = Vec::new(alloc);
-    let Ok(entries) = fs::read_dir(rt, path) else {
-        return Ok(names);
-    };
-    for entry in entries {
-        let Ok(entry) = entry else {
-            return Ok(names);
-        };
-        names.push(String::from_str(alloc, entry.file_name())?)?;
-    }
-    Ok(names)
 }

@@ -1,174 +1,170 @@
 //! What helps where a file of an entry is not what it is to be.
-use crate::entries::{Entry, Hint, Sources, is_directory, is_entry, path_in};
-use crate::listed::{bad_line, second_line};
-use crate::name_flaws::wrong_name;
+use crate::entries::Entry;
+use crate::listed::{name_on, text_of};
 use crate::places::{line_at, offset_of};
-use crate::slips::nearest;
-use rc_names::NoMem;
+use crate::search::{Found, MAX_FILE, Search};
+use std::fs;
 use std::io::ErrorKind;
 use std::rt::Files;
-use std::{fs, io};
 
-/// The files that may be read of an entry, in the order in which they are.
-const FILES: [&str; 10] = [
-    "type",
-    "up",
-    "down",
-    "timeout-up",
-    "timeout-down",
-    "dependencies",
-    "producer-for",
-    "consumer-for",
-    "pipeline-name",
-    "contents",
-];
-
-const LISTS: [&str; 5] = [
-    "dependencies",
-    "producer-for",
-    "consumer-for",
-    "pipeline-name",
-    "contents",
-];
-
-const FOLDERS: [&str; 2] = ["dependencies.d", "contents.d"];
-
-/// Where a text stands that is no name.
-pub(crate) fn bad_name<R: Files + AllocGlobal + Clone + Drop>(
-    sources: &Sources<'_, R>,
-    entry: &Entry<'_>,
-) -> Hint {
-    let alloc = sources.alloc;
-    if let Some(wrong) = wrong_name(alloc, entry.name.as_bytes())? {
-        let path = entry.path.as_str();
-        return Ok(Some(format!(in alloc; "{path:?}: {wrong}")?));
-    }
-    for file in LISTS {
-        if !entry.reads(file) {
-            continue;
+/// Adds the first file of an entry that is not what it is to be, as the refusal's word says.
+pub(crate) fn add_flaw<R: Files>(search: &mut Search<'_, R>, entry: &Entry<'_, '_>, word: &str) {
+    for file in entry.files() {
+        if !search.said.is_empty() {
+            return;
         }
-        if let Some(hint) = bad_line(sources, entry, file)? {
-            return Ok(Some(hint));
+        let directory = search.said.path(entry.root, entry.name);
+        let path = search.said.path(directory.as_str(), file);
+        drop(directory);
+        let is_folder = file.ends_with(".d");
+        match word {
+            "Io" => add_unread(search, path.as_str(), is_folder),
+            "TooLong" => add_too_long(search, path.as_str()),
+            "BadName" if is_folder => add_bad_listing(search, path.as_str()),
+            _ => {
+                if let Some(bytes) = search.bytes(path.as_str()) {
+                    add_wrong_text(search, path.as_str(), file, word, &bytes);
+                    drop(bytes);
+                }
+            }
         }
-    }
-    for folder in FOLDERS {
-        if !entry.reads(folder) {
-            continue;
-        }
-        if let Some(hint) = bad_listing(sources, entry, folder)? {
-            return Ok(Some(hint));
-        }
-    }
-    match second_line(sources, entry, "producer-for")? {
-        Some(hint) => Ok(Some(hint)),
-        None => second_line(sources, entry, "pipeline-name"),
+        drop(path);
     }
 }
 
-/// A name in a folder of names that is none.
-fn bad_listing<R: Files + AllocGlobal + Clone + Drop>(
-    sources: &Sources<'_, R>,
-    entry: &Entry<'_>,
-    folder: &str,
-) -> Hint {
-    let alloc = sources.alloc;
-    let path = entry.path.as_str();
-    for name in sources.listing(entry, folder)? {
+/// Adds why something can't be read, if it can't. What is missing is no fault.
+fn add_unread<R: Files>(search: &mut Search<'_, R>, path: &str, is_folder: bool) {
+    let found = search.at(path);
+    let why = match found {
+        Found::Directory if !is_folder => "is a directory, where a file is due",
+        Found::Other if !is_folder => "is a pipe, a socket or a device, where a file is due",
+        _ => match opened(search.rt, path, is_folder) {
+            None | Some(ErrorKind::NotFound | ErrorKind::FilesystemLoop) => return,
+            Some(kind) => word_of(kind),
+        },
+    };
+    search.said.add(path);
+    search.said.add(": ");
+    search.said.add(why);
+}
+
+/// How a file, or a folder, refuses to be opened.
+fn opened<R: Files>(rt: &R, path: &str, is_folder: bool) -> Option<ErrorKind> {
+    if is_folder {
+        return match rt.open_dir(path) {
+            Ok(_) => None,
+            Err(error) => Some(error.kind()),
+        };
+    }
+    match fs::open(rt, path) {
+        Ok(_) => None,
+        Err(error) => Some(error.kind()),
+    }
+}
+
+/// Adds that a file is too long, if it is.
+fn add_too_long<R: Files>(search: &mut Search<'_, R>, path: &str) {
+    if let Found::File(length) = search.at(path) {
+        if length > MAX_FILE as u64 {
+            search.said.add(path);
+            search.said.add(" has more than 65536 bytes");
+        }
+    }
+}
+
+/// Adds the first name in a folder of names that is none.
+fn add_bad_listing<R: Files>(search: &mut Search<'_, R>, path: &str) {
+    let mut names = Vec::new(search.said.alloc);
+    search.add_names(path, false, &mut names);
+    for name in &names {
+        let name = name.as_str();
         if name.starts_with('.') {
             continue;
         }
-        if let Some(wrong) = wrong_name(alloc, name.as_bytes())? {
-            return Ok(Some(format!(in alloc; "{path}/{folder}/{name:?}: {wrong}")?));
+        if let Some(wrong) = search.said.wrong(name) {
+            search.said.add(path);
+            search.said.add("/");
+            search.said.add_quoted(name);
+            search.said.add_wrong(wrong);
+            break;
         }
     }
-    Ok(None)
+    drop(names);
 }
 
-/// What stands in the file `type`.
-pub(crate) fn bad_type<R: Files + AllocGlobal + Clone + Drop>(
-    sources: &Sources<'_, R>,
-    entry: &Entry<'_>,
-) -> Hint {
-    let Some(text) = sources.text(entry, "type")? else {
-        return Ok(None);
-    };
-    let path = entry.path.as_str();
-    let alloc = sources.alloc;
-    let windows = windows_end(text.as_str());
-    let hint = format!(in alloc;
-        "{path}/type:1: one of oneshot, longrun and bundle may stand here, not {text:?}{windows}"
-    )?;
-    Ok(Some(hint))
-}
-
-/// A guess where a text has a carriage return.
-fn windows_end(text: &str) -> &'static str {
-    if text.contains('\r') {
-        " (a Windows line end?)"
-    } else {
-        ""
-    }
-}
-
-/// What the directory has in place of a file `type`.
-pub(crate) fn no_type<R: Files + AllocGlobal + Clone + Drop>(
-    sources: &Sources<'_, R>,
-    entry: &Entry<'_>,
-) -> Hint {
-    let alloc = sources.alloc;
-    let path = entry.path.as_str();
-    if is_entry(sources.rt, alloc, entry.root)? {
-        let root = entry.root;
-        let hint = format!(in alloc; "{root} looks like an entry: name the directory above it")?;
-        return Ok(Some(hint));
-    }
-    let names = sources.listing(entry, "")?;
-    match nearest(&names, "type") {
-        Some(other) => {
-            let hint = format!(in alloc; "{path}/type is missing; {path}/{other} stands there")?;
-            Ok(Some(hint))
-        }
-        None => {
-            let hint = format!(in alloc;
-                "{path}/type is missing: it holds oneshot, longrun or bundle"
-            )?;
-            Ok(Some(hint))
-        }
-    }
-}
-
-/// What is said of a file that is missing.
-pub(crate) fn missing<R: Files + AllocGlobal + Clone + Drop>(
-    sources: &Sources<'_, R>,
-    entry: &Entry<'_>,
+/// Adds what is wrong in the bytes of a file, as the refusal's word says.
+fn add_wrong_text<R: Files>(
+    search: &mut Search<'_, R>,
+    path: &str,
     file: &str,
-    what: &str,
-) -> Hint {
-    let path = entry.path.as_str();
-    let alloc = sources.alloc;
-    Ok(Some(format!(in alloc; "{path}/{file} is missing: {what}")?))
+    word: &str,
+    bytes: &[u8],
+) {
+    let text = text_of(bytes);
+    match word {
+        "NotText" => add_bad_byte(search, path, bytes),
+        "BadName" => add_bad_line(search, path, file, text),
+        "BadType" if file == "type" => {
+            add_line(
+                search,
+                path,
+                ":1: one of oneshot, longrun and bundle may stand here",
+                text,
+            );
+        }
+        "BadTimeout" if file.starts_with("timeout-") && !is_limit(text) => {
+            add_line(
+                search,
+                path,
+                ":1: milliseconds may stand here, up to 4294967295",
+                text,
+            );
+        }
+        _ => {}
+    }
 }
 
-/// The limit that is none.
-pub(crate) fn bad_timeout<R: Files + AllocGlobal + Clone + Drop>(
-    sources: &Sources<'_, R>,
-    entry: &Entry<'_>,
-) -> Hint {
-    let alloc = sources.alloc;
-    let path = entry.path.as_str();
-    for file in ["timeout-up", "timeout-down"] {
-        let Some(text) = sources.text(entry, file)? else {
+/// Adds the first line of a list that gives something else than a name.
+fn add_bad_line<R: Files>(search: &mut Search<'_, R>, path: &str, file: &str, list: &str) {
+    let mut number = 0usize;
+    if ![
+        "dependencies",
+        "producer-for",
+        "consumer-for",
+        "pipeline-name",
+        "contents",
+    ]
+    .contains(&file)
+    {
+        return;
+    }
+    for line in list.split('\n') {
+        number = number.saturating_add(1);
+        let name = name_on(line);
+        if name.is_empty() {
             continue;
-        };
-        if !is_limit(text.as_str()) {
-            let windows = windows_end(text.as_str());
-            let hint = format!(in alloc;
-                "{path}/{file}:1: milliseconds may stand here, up to 4294967295, not {text:?}{windows}"
-            )?;
-            return Ok(Some(hint));
+        }
+        if let Some(wrong) = search.said.wrong(name) {
+            search.said.add(path);
+            search.said.add(":");
+            search.said.add_number(number);
+            search.said.add_wrong(wrong);
+            search.said.add(": ");
+            search.said.add_quoted(name);
+            return;
         }
     }
-    Ok(None)
+}
+
+/// Adds what may stand in a file of one line, and what does.
+fn add_line<R: Files>(search: &mut Search<'_, R>, path: &str, due: &str, text: &str) {
+    search.said.add(path);
+    search.said.add(due);
+    search.said.add(", not ");
+    search.said.add_quoted(text);
+    if text.contains('\r') {
+        search.said.add(" (a Windows line end?)");
+    }
 }
 
 /// Whether a text is a limit, with or without a newline at its end.
@@ -180,148 +176,34 @@ fn is_limit(text: &str) -> bool {
     digits.len() <= 10 && !digits.starts_with('+') && digits.parse::<u32>().is_ok()
 }
 
-/// Where a file has bytes that are no text.
-pub(crate) fn no_text<R: Files + AllocGlobal + Clone + Drop>(
-    sources: &Sources<'_, R>,
-    entry: &Entry<'_>,
-) -> Hint {
-    let alloc = sources.alloc;
-    let path = entry.path.as_str();
-    for file in FILES {
-        if !entry.reads(file) {
-            continue;
-        }
-        if let Some(bytes) = sources.bytes(entry, file)? {
-            if let Some((number, what)) = bad_byte(&bytes) {
-                return Ok(Some(format!(in alloc; "{path}/{file}:{number}: {what}")?));
-            }
-        }
-    }
-    Ok(None)
+/// Adds the line of the first byte that makes bytes no text, and what it is.
+fn add_bad_byte<R: Files>(search: &mut Search<'_, R>, path: &str, bytes: &[u8]) {
+    let (offset, said) = match std::str::from_utf8(bytes) {
+        Err(fault) => (
+            fault.valid_up_to(),
+            ": the text is to be UTF-8, and here it is not",
+        ),
+        Ok(_) => match offset_of(bytes, 0) {
+            Some(offset) => (offset, ": byte 0 may stand in no text"),
+            None => return,
+        },
+    };
+    search.said.add(path);
+    search.said.add(":");
+    search.said.add_number(line_at(bytes, offset));
+    search.said.add(said);
 }
 
-/// The line of the first byte that makes bytes no text, and what it is.
-fn bad_byte(bytes: &[u8]) -> Option<(usize, &'static str)> {
-    if let Err(fault) = std::str::from_utf8(bytes) {
-        let what = "the text is to be UTF-8, and here it is not";
-        return Some((line_at(bytes, fault.valid_up_to()), what));
-    }
-    let offset = offset_of(bytes, 0)?;
-    Some((line_at(bytes, offset), "byte 0 may stand in no text"))
-}
-
-/// Which file is too long.
-pub(crate) fn too_long<R: Files + AllocGlobal + Clone + Drop>(
-    sources: &Sources<'_, R>,
-    entry: &Entry<'_>,
-) -> Hint {
-    let alloc = sources.alloc;
-    let path = entry.path.as_str();
-    for file in FILES {
-        if !entry.reads(file) {
-            continue;
+/// Adds which source directory can't be listed, and why.
+pub(crate) fn add_root<R: Files>(search: &mut Search<'_, R>) {
+    for root in search.roots {
+        let root = root.as_str();
+        if let Some(kind) = opened(search.rt, root, true) {
+            search.said.add(root);
+            search.said.add(": ");
+            search.said.add(word_of(kind));
+            return;
         }
-        let place = path_in(alloc, path, file)?;
-        if let Ok(found) = sources.rt.metadata(place.as_str()) {
-            if found.len() > 65536 {
-                return Ok(Some(format!(in alloc; "{place} has more than 65536 bytes")?));
-            }
-        }
-    }
-    Ok(None)
-}
-
-/// The two directories of one name.
-pub(crate) fn twice<R: Files + AllocGlobal + Clone + Drop>(
-    sources: &Sources<'_, R>,
-    entry: &Entry<'_>,
-) -> Hint {
-    let alloc = sources.alloc;
-    let path = entry.path.as_str();
-    let mut seen = false;
-    for root in sources.roots {
-        let other = path_in(alloc, root.as_str(), entry.name.as_str())?;
-        if is_directory(sources.rt, other.as_str()) {
-            if seen {
-                return Ok(Some(format!(in alloc; "{path} and {other} have one name")?));
-            }
-            seen = true;
-        }
-    }
-    Ok(None)
-}
-
-/// What can't be read of an entry, and why.
-pub(crate) fn unread_in<R: Files + AllocGlobal + Clone + Drop>(
-    sources: &Sources<'_, R>,
-    entry: &Entry<'_>,
-) -> Hint {
-    let alloc = sources.alloc;
-    for file in FILES {
-        if !entry.reads(file) {
-            continue;
-        }
-        let path = path_in(alloc, entry.path.as_str(), file)?;
-        if let Some(word) = no_file(sources.rt, path.as_str()) {
-            return Ok(Some(format!(in alloc; "{path}: {word}")?));
-        }
-    }
-    for folder in FOLDERS {
-        if !entry.reads(folder) {
-            continue;
-        }
-        let path = path_in(alloc, entry.path.as_str(), folder)?;
-        if let Some(word) = no_folder(sources.rt, path.as_str()) {
-            return Ok(Some(format!(in alloc; "{path}: {word}")?));
-        }
-    }
-    Ok(None)
-}
-
-/// Which source directory can't be listed, and why.
-pub(crate) fn unread_root<R: Files + AllocGlobal + Clone + Drop>(sources: &Sources<'_, R>) -> Hint {
-    let alloc = sources.alloc;
-    for root in sources.roots {
-        if let Err(error) = fs::read_dir(sources.rt, root.as_str()) {
-            let word = word_of(error.kind());
-            return Ok(Some(format!(in alloc; "{root}: {word}")?));
-        }
-    }
-    Ok(None)
-}
-
-/// Why something can't be read as a file. What is missing is no fault.
-fn no_file<R: Files>(rt: &R, path: &str) -> Option<&'static str> {
-    match rt.metadata(path) {
-        Ok(found) => {
-            if found.is_dir() {
-                return Some("is a directory, where a file is due");
-            }
-            if !found.is_file() {
-                return Some("is a pipe, a socket or a device, where a file is due");
-            }
-        }
-        Err(error) => return unless_missing(&error),
-    }
-    match fs::open(rt, path) {
-        Ok(_) => None,
-        Err(error) => unless_missing(&error),
-    }
-}
-
-/// Why something can't be listed as a folder. What is missing is no fault.
-fn no_folder<R: Files>(rt: &R, path: &str) -> Option<&'static str> {
-    match rt.open_dir(path) {
-        Ok(_) => None,
-        Err(error) => unless_missing(&error),
-    }
-}
-
-/// The system's word for an error, but for what is missing.
-fn unless_missing(error: &io::Error) -> Option<&'static str> {
-    match error.kind() {
-        ErrorKind::NotFound | ErrorKind::FilesystemLoop => None,
-        kind => Some(word_of(kind)),
     }
 }
 

@@ -6,6 +6,7 @@
 mod chains;
 mod databases;
 mod entries;
+mod entry_flaws;
 mod fault_lines;
 mod file_flaws;
 mod listed;
@@ -13,6 +14,8 @@ mod name_flaws;
 mod pipes;
 mod places;
 mod refusals;
+mod said;
+mod search;
 mod slips;
 mod unread;
 

@@ -1,87 +1,49 @@
 //! Files that list names, line by line.
-use crate::entries::{Entry, Hint, Sources};
-use crate::name_flaws::wrong_name;
-use rc_names::NoMem;
-use std::alloc::Global;
-use std::rt::Files;
 
-/// A line that gives a name, without the spaces and tabs at its ends, and its number, from 1.
-pub(crate) type Listed<'a> = (usize, &'a str);
+/// The text of a file; none where its bytes are none.
+pub(crate) fn text_of(bytes: &[u8]) -> &str {
+    std::str::from_utf8(bytes).unwrap_or("")
+}
 
-/// The lines of a text that give names, in their order.
-pub(crate) fn lines_in(alloc: Global, text: &str) -> Result<Vec<Listed<'_>>, NoMem> {
-    let mut lines = Vec::new(alloc);
+/// The name that a line gives, without the spaces and tabs at its ends; nothing where it gives none.
+pub(crate) fn name_on(line: &str) -> &str {
+    let name = line.trim_matches([' ', '\t']);
+    if name.starts_with('#') { "" } else { name }
+}
+
+/// The number of the line that gives a name, from 1.
+pub(crate) fn line_of(list: &str, name: &str) -> Option<usize> {
     let mut number = 0usize;
-    for line in text.split('\n') {
+    for line in list.split('\n') {
         number = number.saturating_add(1);
-        let line = line.trim_matches([' ', '\t']);
-        if !line.is_empty() && !line.starts_with('#') {
-            lines.push((number, line))?;
+        if name_on(line) == name {
+            return Some(number);
         }
     }
-    Ok(lines)
+    None
 }
 
-/// The first line of a file of an entry that gives something else than a name.
-pub(crate) fn bad_line<R: Files + AllocGlobal + Clone + Drop>(
-    sources: &Sources<'_, R>,
-    entry: &Entry<'_>,
-    file: &str,
-) -> Hint {
-    let alloc = sources.alloc;
-    let path = entry.path.as_str();
-    let Some(text) = sources.text(entry, file)? else {
-        return Ok(None);
-    };
-    for (number, line) in lines_in(alloc, text.as_str())? {
-        if let Some(wrong) = wrong_name(alloc, line.as_bytes())? {
-            let hint = format!(in alloc; "{path}/{file}:{number}: {wrong}: {line:?}")?;
-            return Ok(Some(hint));
+/// The name at a place of a list, from 0, and the number of its line, from 1.
+pub(crate) fn name_at(list: &str, place: usize) -> Option<(usize, &str)> {
+    let mut number = 0usize;
+    let mut before = place;
+    for line in list.split('\n') {
+        number = number.saturating_add(1);
+        let name = name_on(line);
+        if !name.is_empty() {
+            if before == 0 {
+                return Some((number, name));
+            }
+            before -= 1;
         }
     }
-    Ok(None)
+    None
 }
 
-/// The second name of a file that is to hold one.
-pub(crate) fn second_line<R: Files + AllocGlobal + Clone + Drop>(
-    sources: &Sources<'_, R>,
-    entry: &Entry<'_>,
-    file: &str,
-) -> Hint {
-    let alloc = sources.alloc;
-    let path = entry.path.as_str();
-    let Some(text) = sources.text(entry, file)? else {
-        return Ok(None);
-    };
-    match lines_in(alloc, text.as_str())?.get(1) {
-        Some((number, line)) => {
-            let number = *number;
-            let line = *line;
-            let hint = format!(in alloc;
-                "{path}/{file}:{number}: one name may stand here, not a second: {line:?}"
-            )?;
-            Ok(Some(hint))
-        }
-        None => Ok(None),
+/// What stands before the first space, or all of it.
+pub(crate) fn first_word(words: &str) -> &str {
+    match words.split_once(' ') {
+        Some((word, _)) => word,
+        None => words,
     }
-}
-
-/// Where a file of an entry gives a name: its path with the number of the line.
-pub(crate) fn place_of<R: Files + AllocGlobal + Clone + Drop>(
-    sources: &Sources<'_, R>,
-    entry: &Entry<'_>,
-    file: &str,
-    name: &str,
-) -> Hint {
-    let alloc = sources.alloc;
-    let path = entry.path.as_str();
-    let Some(text) = sources.text(entry, file)? else {
-        return Ok(None);
-    };
-    for (number, line) in lines_in(alloc, text.as_str())? {
-        if line == name {
-            return Ok(Some(format!(in alloc; "{path}/{file}:{number}")?));
-        }
-    }
-    Ok(None)
 }

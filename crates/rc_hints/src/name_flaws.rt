@@ -7,7 +7,7 @@ use std::alloc::Global;
 use std::fmt;
 
 /// What is wrong with a text that is to be a name.
-#[derive(Clone, Copy, PartialEq, Eq, Debug)]
+#[derive(Clone, Copy)]
 pub enum WrongName {
     NoText,
     Empty,

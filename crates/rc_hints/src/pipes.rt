@@ -1,125 +1,90 @@
 //! What helps where pipelines do not fit together.
-use crate::entries::{Entry, Hint, Sources};
-use crate::listed::{lines_in, place_of};
+use crate::entries::Entry;
+use crate::listed::{name_at, name_on, text_of};
+use crate::search::Search;
 use rc_names::Kind;
 use std::rt::Files;
 
-const SIDES: [(&str, &str); 2] = [
-    ("producer-for", "consumer-for"),
-    ("consumer-for", "producer-for"),
-];
-
-/// The side of a pipe that is no longrun.
-pub(crate) fn pipe_type<R: Files + AllocGlobal + Clone + Drop>(
-    sources: &Sources<'_, R>,
-    entry: &Entry<'_>,
-) -> Hint {
-    let alloc = sources.alloc;
-    let path = entry.path.as_str();
-    if entry.kind != Some(Kind::Longrun) {
-        let hint = format!(in alloc;
-            "{path}/type: only a longrun may have producer-for or consumer-for"
-        )?;
-        return Ok(Some(hint));
+/// Adds which side of a pipe is no longrun, or which neighbour does not name the service from its
+/// side.
+pub(crate) fn add_neighbour<R: Files>(
+    search: &mut Search<'_, R>,
+    entry: &Entry<'_, '_>,
+    word: &str,
+) {
+    if word == "PipelineMismatch" {
+        add_unfit(search, entry, "producer-for", "consumer-for");
+        add_unfit(search, entry, "consumer-for", "producer-for");
+    } else if entry.kind == Some(Kind::Longrun) {
+        add_unfit(search, entry, "producer-for", "type");
+        add_unfit(search, entry, "consumer-for", "type");
+    } else {
+        search.said.add_file(entry, "type");
+        search
+            .said
+            .add(": only a longrun may have producer-for or consumer-for");
     }
-    for (file, _) in SIDES {
-        if let Some(hint) = other_type(sources, entry, file)? {
-            return Ok(Some(hint));
-        }
-    }
-    Ok(None)
 }
 
-/// The first name in a file that is no longrun's.
-fn other_type<R: Files + AllocGlobal + Clone + Drop>(
-    sources: &Sources<'_, R>,
-    entry: &Entry<'_>,
-    file: &str,
-) -> Hint {
-    let alloc = sources.alloc;
-    let Some(text) = sources.text(entry, file)? else {
-        return Ok(None);
-    };
-    for (_, name) in lines_in(alloc, text.as_str())? {
-        let Some(other) = sources.entry(name)? else {
+/// Adds the first name of a file that does not fit, unless something was said before.
+fn add_unfit<R: Files>(search: &mut Search<'_, R>, entry: &Entry<'_, '_>, file: &str, back: &str) {
+    if !search.said.is_empty() {
+        return;
+    }
+    let list = search.file(entry, file);
+    for line in text_of(&list).split('\n') {
+        let Some(other) = search.entry(name_on(line)) else {
             continue;
         };
-        if other.kind != Some(Kind::Longrun) {
-            let path = other.path.as_str();
-            let own = entry.path.as_str();
-            let hint = format!(in alloc;
-                "{own}/{file} names {name}, and {path}/type is no longrun"
-            )?;
-            return Ok(Some(hint));
+        if !fits(search, entry, &other, back) {
+            search.said.add_file(entry, file);
+            search.said.add(" names ");
+            search.said.add(other.name);
+            search.said.add(", and ");
+            search.said.add_file(&other, back);
+            if back == "type" {
+                search.said.add(" is no longrun");
+            } else {
+                search.said.add(" does not name ");
+                search.said.add(entry.name);
+            }
+            break;
         }
     }
-    Ok(None)
+    drop(list);
 }
 
-/// The neighbour that does not name the service from its side.
-pub(crate) fn pipe_mismatch<R: Files + AllocGlobal + Clone + Drop>(
-    sources: &Sources<'_, R>,
-    entry: &Entry<'_>,
-) -> Hint {
-    for (file, back) in SIDES {
-        if let Some(hint) = unanswered(sources, entry, file, back)? {
-            return Ok(Some(hint));
-        }
-    }
-    Ok(None)
-}
-
-/// The first name in a file whose entry does not name this one in its own.
-fn unanswered<R: Files + AllocGlobal + Clone + Drop>(
-    sources: &Sources<'_, R>,
-    entry: &Entry<'_>,
-    file: &str,
+/// Whether a neighbour is a longrun, where it is asked for its type, or else names an entry in a file
+/// of its own.
+fn fits<R: Files>(
+    search: &mut Search<'_, R>,
+    entry: &Entry<'_, '_>,
+    other: &Entry<'_, '_>,
     back: &str,
-) -> Hint {
-    let alloc = sources.alloc;
-    let Some(text) = sources.text(entry, file)? else {
-        return Ok(None);
-    };
-    for (_, name) in lines_in(alloc, text.as_str())? {
-        let Some(other) = sources.entry(name)? else {
-            continue;
-        };
-        if place_of(sources, &other, back, entry.name.as_str())?.is_none() {
-            let path = other.path.as_str();
-            let own = entry.path.as_str();
-            let service = entry.name.as_str();
-            let hint = format!(in alloc;
-                "{own}/{file} names {name}, and {path}/{back} does not name {service}"
-            )?;
-            return Ok(Some(hint));
-        }
+) -> bool {
+    if back == "type" {
+        return other.kind == Some(Kind::Longrun);
     }
-    Ok(None)
+    search.line_of(other, back, entry.name).is_some()
 }
 
-/// Whose name a pipeline's bundle has.
-pub(crate) fn pipe_name<R: Files + AllocGlobal + Clone + Drop>(
-    sources: &Sources<'_, R>,
-    entry: &Entry<'_>,
-) -> Hint {
-    let alloc = sources.alloc;
-    let path = entry.path.as_str();
-    let Some(text) = sources.text(entry, "pipeline-name")? else {
-        return Ok(None);
-    };
-    let lines = lines_in(alloc, text.as_str())?;
-    let Some((_, name)) = lines.first() else {
-        return Ok(None);
-    };
-    let name = *name;
-    match sources.entry(name)? {
-        Some(other) => {
-            let place = other.path.as_str();
-            Ok(Some(format!(in alloc; "{path}/pipeline-name: {place} has this name")?))
-        }
-        None => {
-            let hint = format!(in alloc; "{path}/pipeline-name: another pipeline is named {name}")?;
-            Ok(Some(hint))
+/// Adds whose name a pipeline's bundle has.
+pub(crate) fn add_taken<R: Files>(search: &mut Search<'_, R>, entry: &Entry<'_, '_>) {
+    let list = search.file(entry, "pipeline-name");
+    if let Some((_, name)) = name_at(text_of(&list), 0) {
+        search.said.add_file(entry, "pipeline-name: ");
+        match search.entry(name) {
+            Some(other) => {
+                search.said.add(other.root);
+                search.said.add("/");
+                search.said.add(name);
+                search.said.add(" has this name");
+            }
+            None => {
+                search.said.add("another pipeline is named ");
+                search.said.add(name);
+            }
         }
     }
+    drop(list);
 }

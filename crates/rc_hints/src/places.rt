@@ -22,3 +22,13 @@ pub(crate) fn offset_of(text: &[u8], byte: u8) -> Option<usize> {
     }
     None
 }
+
+/// What stands before the first such byte, and what behind.
+pub(crate) fn cut_at(bytes: &[u8], byte: u8) -> (&[u8], &[u8]) {
+    let end = offset_of(bytes, byte).unwrap_or(bytes.len());
+    let front = bytes.get(..end).unwrap_or(bytes);
+    match bytes.get(end..) {
+        Some([_, rest @ ..]) => (front, rest),
+        _ => (front, &[]),
+    }
+}

@@ -1,6 +1,8 @@
 //! What helps behind each refusal of `compile`.
-use crate::entries::{Entry, Hint, Sources};
-use crate::{chains, file_flaws, pipes};
+use crate::entries::{Entry, Sources};
+use crate::said::Hint;
+use crate::search::Search;
+use crate::{chains, entry_flaws, file_flaws, pipes};
 use std::rt::Files;
 
 /// What helps behind what `compile` told: the refusal's word and the names behind it.
@@ -9,40 +11,34 @@ pub fn compile_hint<R: Files + AllocGlobal + Clone + Drop>(
     word: &str,
     names: &str,
 ) -> Hint {
+    let mut search = sources.search();
     match word {
-        "Io" if names.is_empty() => file_flaws::unread_root(sources),
-        "Cycle" | "BundleCycle" => chains::circle(sources, names),
-        "UnknownIn" => match names.split_once(' ') {
-            Some((name, other)) => chains::unknown_in(sources, name, other),
-            None => Ok(None),
-        },
-        _ => match sources.entry(names)? {
-            Some(entry) => entry_hint(sources, &entry, word),
-            None => Ok(None),
-        },
+        "Io" if names.is_empty() => file_flaws::add_root(&mut search),
+        "Cycle" | "BundleCycle" => chains::add_circle(&mut search, names),
+        "UnknownIn" => chains::add_unknown(&mut search, names),
+        _ => {
+            if let Some(entry) = search.entry(names) {
+                add_of_entry(&mut search, &entry, word);
+            }
+        }
     }
+    search.said.hint()
 }
 
-/// What helps behind a refusal of a file of an entry.
-fn entry_hint<R: Files + AllocGlobal + Clone + Drop>(
-    sources: &Sources<'_, R>,
-    entry: &Entry<'_>,
-    word: &str,
-) -> Hint {
+/// Adds what helps behind a refusal of an entry.
+fn add_of_entry<R: Files>(search: &mut Search<'_, R>, entry: &Entry<'_, '_>, word: &str) {
     match word {
-        "Io" => file_flaws::unread_in(sources, entry),
-        "NotText" => file_flaws::no_text(sources, entry),
-        "TooLong" => file_flaws::too_long(sources, entry),
-        "BadName" => file_flaws::bad_name(sources, entry),
-        "Twice" => file_flaws::twice(sources, entry),
-        "NoType" => file_flaws::no_type(sources, entry),
-        "BadType" => file_flaws::bad_type(sources, entry),
-        "NoUp" => file_flaws::missing(sources, entry, "up", "what a oneshot runs to come up"),
-        "NoRun" => file_flaws::missing(sources, entry, "run", "what a longrun runs"),
-        "BadTimeout" => file_flaws::bad_timeout(sources, entry),
-        "PipelineType" => pipes::pipe_type(sources, entry),
-        "PipelineMismatch" => pipes::pipe_mismatch(sources, entry),
-        "PipelineName" => pipes::pipe_name(sources, entry),
-        _ => Ok(None),
+        "BadName" => entry_flaws::add_bad_name(search, entry),
+        "Twice" => entry_flaws::add_twice(search, entry),
+        "NoType" => entry_flaws::add_no_type(search, entry),
+        "NoUp" => search
+            .said
+            .add_file(entry, "up is missing: what a oneshot runs to come up"),
+        "NoRun" => search
+            .said
+            .add_file(entry, "run is missing: what a longrun runs"),
+        "PipelineType" | "PipelineMismatch" => pipes::add_neighbour(search, entry, word),
+        "PipelineName" => pipes::add_taken(search, entry),
+        _ => file_flaws::add_flaw(search, entry, word),
     }
 }

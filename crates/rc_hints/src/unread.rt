@@ -1,37 +1,53 @@
 //! What a person may think is looked at, and is not.
-use crate::entries::{Entry, Hint, Sources, is_directory, is_entry, names_at, path_in};
+use crate::entries::{Entry, Sources, without_slash};
+use crate::entry_flaws::add_mistaken;
 use crate::places::{line_at, offset_of};
+use crate::said::Hint;
+use crate::search::Search;
 use rc_names::{Kind, NoMem};
+use std::alloc::Global;
 use std::rt::Files;
+
+/// The files that supervisors look at.
+const SUPERVISED: [&str; 22] = [
+    "run",
+    "finish",
+    "notification-fd",
+    "data",
+    "env",
+    "log",
+    "down",
+    "event",
+    "supervise",
+    "nosetsid",
+    "check",
+    "conf",
+    "control",
+    "lock",
+    "timeout-kill",
+    "timeout-finish",
+    "max-death-tally",
+    "down-signal",
+    "lock-fd",
+    "instance",
+    "instances",
+    "template",
+];
 
 /// A note about a source directory that has no entry, and looks like one itself.
 pub fn looks_like_entry<R: Files + AllocGlobal + Clone + Drop>(sources: &Sources<'_, R>) -> Hint {
-    let alloc = sources.alloc;
-    for root in sources.roots {
+    let mut search = sources.search();
+    for root in search.roots {
         let root = root.as_str();
-        if is_entry(sources.rt, alloc, root)? && !has_entry(sources, root)? {
-            let note = format!(in alloc;
-                "{root} looks like an entry: name the directory above it"
-            )?;
-            return Ok(Some(note));
+        let mut names = Vec::new(search.said.alloc);
+        search.add_names(without_slash(root), true, &mut names);
+        let has_entry = !names.is_empty();
+        drop(names);
+        if !has_entry && add_mistaken(&mut search, root) {
+            break;
         }
     }
-    Ok(None)
-}
-
-/// Whether a source directory has a directory that begins with no dot.
-fn has_entry<R: Files + AllocGlobal + Clone + Drop>(
-    sources: &Sources<'_, R>,
-    root: &str,
-) -> Result<bool, NoMem> {
-    let alloc = sources.alloc;
-    for name in names_at(sources.rt, alloc, root)? {
-        let path = path_in(alloc, root, name.as_str())?;
-        if !name.starts_with('.') && is_directory(sources.rt, path.as_str()) {
-            return Ok(true);
-        }
-    }
-    Ok(false)
+    search.said.hint()
 }
 
 /// Notes about the entries: which files are not looked at, which texts have a carriage return, and
@@ -39,110 +55,79 @@ fn has_entry<R: Files + AllocGlobal + Clone + Drop>(
 pub fn unread_files<R: Files + AllocGlobal + Clone + Drop>(
     sources: &Sources<'_, R>,
 ) -> Result<Vec<String>, NoMem> {
-    let mut notes = Vec::new(sources.alloc);
-    let mut names = sources.names()?;
-    names.sort()?;
-    for name in &names {
-        if let Some(entry) = sources.entry(name.as_str())? {
-            add_notes(sources, &entry, &mut notes)?;
+    let mut search = sources.search();
+    add_all(&mut search);
+    let alloc = search.said.alloc;
+    match search.said.hint()? {
+        Some(notes) => {
+            let listed = notes_in(alloc, notes.as_str());
+            drop(notes);
+            listed
         }
+        None => Ok(Vec::new(alloc)),
+    }
+}
+
+/// The notes of a text, each with a byte 0 behind it.
+fn notes_in(alloc: Global, text: &str) -> Result<Vec<String>, NoMem> {
+    let mut notes = Vec::new(alloc);
+    for note in text.split_terminator('\0') {
+        notes.push(String::from_str(alloc, note)?)?;
     }
     Ok(notes)
 }
 
+/// Adds the notes about all entries, in byte order, each with a byte 0 behind it.
+fn add_all<R: Files>(search: &mut Search<'_, R>) {
+    let mut names = search.entries();
+    let sorted = names.sort();
+    search.said.note(sorted);
+    for name in &names {
+        if let Some(entry) = search.entry(name.as_str()) {
+            add_notes(search, &entry);
+        }
+    }
+    drop(names);
+}
+
 /// Adds the notes about one entry.
-fn add_notes<R: Files + AllocGlobal + Clone + Drop>(
-    sources: &Sources<'_, R>,
-    entry: &Entry<'_>,
-    notes: &mut Vec<String>,
-) -> Result<(), NoMem> {
-    let mut files = sources.listing(entry, "")?;
-    files.sort()?;
+fn add_notes<R: Files>(search: &mut Search<'_, R>, entry: &Entry<'_, '_>) {
+    let mut files = Vec::new(search.said.alloc);
+    search.add_files(entry, &mut files);
+    let sorted = files.sort();
+    search.said.note(sorted);
     let mut is_empty = entry.kind == Some(Kind::Bundle);
     for file in &files {
-        if file.as_str() == "contents" || file.as_str() == "contents.d" {
+        let file = file.as_str();
+        if file == "contents" || file == "contents.d" {
             is_empty = false;
         }
-        if let Some(note) = note_of(sources, entry, file.as_str())? {
-            notes.push(note)?;
-        }
+        add_note(search, entry, file);
     }
+    drop(files);
     if is_empty {
-        let alloc = sources.alloc;
-        let path = entry.path.as_str();
-        notes.push(format!(in alloc; "{path} is a bundle without contents")?)?;
+        search.said.add(entry.root);
+        search.said.add("/");
+        search.said.add(entry.name);
+        search.said.add(" is a bundle without contents\0");
     }
-    Ok(())
 }
 
-/// The note about a file of an entry, if there is something to say.
-fn note_of<R: Files + AllocGlobal + Clone + Drop>(
-    sources: &Sources<'_, R>,
-    entry: &Entry<'_>,
-    file: &str,
-) -> Hint {
-    let alloc = sources.alloc;
-    let path = entry.path.as_str();
-    if !entry.reads(file) {
-        if is_of_supervisors(file) || file.starts_with('.') {
-            return Ok(None);
+/// Adds the note about a file of an entry, if there is something to say.
+fn add_note<R: Files>(search: &mut Search<'_, R>, entry: &Entry<'_, '_>, file: &str) {
+    if entry.reads(file) {
+        let bytes = search.file(entry, file);
+        if let Some(offset) = offset_of(&bytes, b'\r') {
+            search.said.add_file(entry, file);
+            search.said.add(":");
+            search.said.add_number(line_at(&bytes, offset));
+            search
+                .said
+                .add(" has a carriage return (a Windows line end?)\0");
         }
-        return Ok(Some(format!(in alloc; "{path}/{file} is not looked at")?));
-    }
-    if file == "run" {
-        return Ok(None);
-    }
-    match carriage_return(sources, entry, file)? {
-        Some(number) => {
-            let note = format!(in alloc;
-                "{path}/{file}:{number} has a carriage return (a Windows line end?)"
-            )?;
-            Ok(Some(note))
-        }
-        None => Ok(None),
-    }
-}
-
-/// The line of the first carriage return in a file.
-fn carriage_return<R: Files + AllocGlobal + Clone + Drop>(
-    sources: &Sources<'_, R>,
-    entry: &Entry<'_>,
-    file: &str,
-) -> Result<Option<usize>, NoMem> {
-    let Some(bytes) = sources.bytes(entry, file)? else {
-        return Ok(None);
-    };
-    match offset_of(&bytes, b'\r') {
-        Some(offset) => Ok(Some(line_at(&bytes, offset))),
-        None => Ok(None),
-    }
-}
-
-/// Whether a file is one that supervisors look at.
-fn is_of_supervisors(file: &str) -> bool {
-    match file {
-        "run"
-        | "finish"
-        | "notification-fd"
-        | "data"
-        | "env"
-        | "log"
-        | "down"
-        | "event"
-        | "supervise"
-        | "nosetsid"
-        | "check"
-        | "conf"
-        | "control"
-        | "lock"
-        | "timeout-kill"
-        | "timeout-finish"
-        | "max-death-tally"
-        | "down-signal"
-        | "lock-fd"
-        | "instance"
-        | "instances"
-        | "template" => true,
-        _ => false,
+        drop(bytes);
+    } else if !SUPERVISED.contains(&file) && !file.starts_with('.') {
+        search.said.add_file(entry, file);
+        search.said.add(" is not looked at\0");
     }
 }

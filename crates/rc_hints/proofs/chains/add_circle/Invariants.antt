@@ -1,6 +1,6 @@
 use denote.Text.{Utf8}
 use denote.Shadow.{shadow}
-use Rattle.rc_hints.proofs.chains.circle.Given as goal
+use Rattle.rc_hints.proofs.chains.add_circle.Given as goal
 
 -- the names have an end, and the one before is text
 abbrev pub invariant-loop-name : goal.invariant-loop-name
