@@ -1,7 +1,7 @@
 #!/bin/sh
 # Proves what the program stands on, as many crates side by side as processors and memory allow, and
 # builds the program. A crate begins once all that it stands on is proved, and of those that may begin
-# first the one with the most to prove behind it. A line tells when each begins and when it has ended.
+# first the one with the most to prove after it. A line tells when each begins and when it has ended.
 set -eu
 cd "$(dirname "$0")/.."
 mkdir -p crates/undorc/out
@@ -35,7 +35,7 @@ lanes=$(nproc)
 [ "${memory:-0}" -lt 1 ] || [ "$memory" -ge "$lanes" ] || lanes=$memory
 lanes=${JOBS:-$lanes}
 
-# The program's crates, those with the most lines behind them first: each with the crates of the
+# The program's crates, those with the most lines after them first: each with the crates of the
 # repository that it names.
 for folder in crates/*; do
     echo "$(basename "$folder") $(find "$folder" -name out -prune -o -type f -exec cat {} + | wc -l)"

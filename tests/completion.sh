@@ -12,7 +12,7 @@ printf '%b' "$sample" > base
 mkdir bin empty
 ln -s "$program" bin/undorc
 cat > ask.bash <<'END'
-# What is offered behind the line, one a line.
+# What is offered after the line, one a line.
 . "$1"
 COMP_LINE=$2 COMP_POINT=${#2} COMP_WORDBREAKS=$3
 _undorc
@@ -21,7 +21,7 @@ END
 printf 'source $argv[1]\ncomplete -C $argv[2]\n' > ask.fish
 breaks=
 
-# offered SHELL LINE: what is offered behind a line, one a line, in `found`.
+# offered SHELL LINE: what is offered after a line, one a line, in `found`.
 offered() {
     (
         cd empty
@@ -35,7 +35,7 @@ offered() {
     [ -s found ] || echo nothing > found
 }
 
-# offers LINE WORD..: what each shell offers behind a line.
+# offers LINE WORD..: what each shell offers after a line.
 offers() {
     line=$1
     shift
@@ -74,7 +74,7 @@ for shell in $shells; do
         offered "$shell" "undorc $command -"
         equals "$shell, the options of $command"
     done < own
-    # The value of an option begins with no dash; behind an option without one options may follow.
+    # The value of an option begins with no dash; after an option without one options may follow.
     [ "$shell" = bash ] || continue
     while read -r command option; do
         case $option in *=) echo nothing > wanted ;; *) options_of "$command" > wanted ;; esac

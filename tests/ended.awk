@@ -5,12 +5,12 @@
 #   awk -v runs=NUMBER -v faults=WORD,WORD.. [-v OPTION=1].. -f tests/ended.awk
 # FAULTS are those that a run may end with. The options:
 #   alone    nothing is written where a run ends with a fault
-#   answers  it is a session: what is written ends behind an answer, but where writing has failed
+#   answers  it is a session: what is written ends after an answer, but where writing has failed
 #   scripts  what its scripts noted is looked at
 #   kept     the file of the session is looked at
 #   fresh    there was none
 #   lost     of a script that is told as not started nobody knows whether it ran
-# What a whole run writes stands in `whole.none`, and the file of its session behind so many commands in
+# What a whole run writes stands in `whole.none`, and the file of its session after so many commands in
 # `text.none.NUMBER`; in place of `none` stand the transitions that can't be started, as `-x` takes them.
 
 # The text of a file, or nothing where there is none.

@@ -21,13 +21,13 @@ with() {
     printf '%s' "$sample" | sed "s/$1/$2/"
 }
 
-# firsts FILE: what was told, without the lines that stand behind a fault or behind the refusal of a name, and help; they
+# firsts FILE: what was told, without the lines that stand after a fault or after the refusal of a name, and help; they
 # begin with two spaces.
 firsts() {
     sed -e '/^  nothing is named /d' -e '/^  options stand /d' -e '/^undorc: /,$ { /^  /d; }' "$1"
 }
 
-# judge WHAT STATUS: the files `status`, `out` and `err` against what is wanted, without what helps behind a fault.
+# judge WHAT STATUS: the files `status`, `out` and `err` against what is wanted, without what helps after a fault.
 judge() {
     read -r ended < status
     firsts err > err.firsts
@@ -176,7 +176,7 @@ begins_at() {
 }
 
 # expects KEY: what numbered sessions on the database `base` are to come to, where the transitions KEY
-# can't be started: the answers to the lines `in`, and the file behind each line.
+# can't be started: the answers to the lines `in`, and the file after each line.
 expects() {
     many=0
     cp text.none.0 live

@@ -19,7 +19,7 @@ room=$(mktemp -d)
 trap 'rm -rf "$room"' EXIT
 cc -O2 -pthread -o "$room/plain" tests/plain.c
 
-# least RUNS TIMES INPUT COMMAND..: the least processor time of one of so many runs, one behind
+# least RUNS TIMES INPUT COMMAND..: the least processor time of one of so many runs, one after
 # another, in seconds, and the peak memory in kilobytes. What the last one wrote is left in `out`.
 least() {
     batches=$1

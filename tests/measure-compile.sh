@@ -1,7 +1,7 @@
 #!/bin/sh
 # measure-compile.sh [PROGRAM [ROUNDS]]: how much processor time `undorc compile` takes on 4,096 services as directories,
 # as a multiple of `ninja -n` and of `make -n` on the same graph as one file each, and the most memory that each of them
-# takes. A round runs each of the three ten times, one behind another, and each time is the least of ROUNDS rounds (5
+# takes. A round runs each of the three ten times, one after another, and each time is the least of ROUNDS rounds (5
 # without ROUNDS), since other work disturbs them. tests/graph.sh has the graphs.
 set -eu
 cd "$(dirname "$0")/.."

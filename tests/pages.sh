@@ -36,7 +36,7 @@ holds() {
     cat missed
 }
 
-# The commands of the program, and of each its options: lines `COMMAND OPTION`, with `=` behind an
+# The commands of the program, and of each its options: lines `COMMAND OPTION`, with `=` after an
 # option that has a value.
 "$program" -h 2> said || true
 sed -n '/^Commands:/,/^$/s/^  \([a-z][a-z]*\)  .*/\1/p' said > commands

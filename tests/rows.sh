@@ -14,13 +14,13 @@
 #   = N          the status with which it ends, where that is not 0
 #   @ WORDS      in place of $: a session with these words on the database that `<< NAME` in front of it gives, in three
 #                ways: with the database in front of its lines; with -b NAME -w 64; and with -b NAME -w 1 through two
-#                pipes, where the answer to a line, the > behind it, is read before the next line is written
+#                pipes, where the answer to a line, the > after it, is read before the next line is written
 #   : PATH TEXT  a file of this text and of the input lines below, or a folder, where PATH ends in /; it is there for the
 #                row, or for all rows that follow where it stands in a paragraph without a title
 #   ## REMARK    a remark
 #
 # Escapes are printf's of %b: \t, \0377, \\ for a backslash. Each line ends in a newline, unless \c is its end; the text of
-# a file that stands behind its path does not. Whatever is no such line, and a row without a title or a run, has failed.
+# a file that stands after its path does not. Whatever is no such line, and a row without a title or a run, has failed.
 set -eu
 here=$(realpath "$(dirname "$0")")
 program=$(realpath "$1")

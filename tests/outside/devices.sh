@@ -178,7 +178,8 @@ for word in good cut; do
     [ "$made" -eq $(((size + 6) / 7 + 1)) ] || unlike=$((unlike + 1))
 done
 
-# Where a write fails or is interrupted, a front of the answers is written, a call longer each time.
+# Where a write fails or is interrupted, a prefix of the answers is written, longer by a call each
+# time.
 for word in good cut; do
     made=-1 ended=1 before=-1
     while [ "$ended" -ne 0 ] && [ "$made" -le "$(wc -c < whole)" ]; do
@@ -245,7 +246,7 @@ for workers in 1 2 3 64; do
 done
 
 # failing WORDS..: one after another each call fails by which files are read, and none before or
-# behind it. Then nothing is written, and what is told is in `told`; or the run is the whole one, as
+# after it. Then nothing is written, and what is told is in `told`; or the run is the whole one, as
 # where a listing fails that only spares calls.
 failing() {
     made=-1 well=0

@@ -1,7 +1,7 @@
 # Sessions that are drawn, and what a plain program says that they come to. tests/program.sh reads
 # this file.
 
-# Each session is replayed up to each of its commands, with the failures, stops and spoiled events
+# Each session is replayed up to each of its commands, with the failures, stops and altered events
 # of their runs: the answers, what is live then and the whole journal are as wanted.
 mkdir drawn
 cd drawn

@@ -40,7 +40,7 @@ wants 'web\n' ''
 judge 'undorc db contents site -b base, without an input' 0
 
 # leaves STATUS FAULT WORDS..: a command that is refused before its own input, with the database in a file, leaves the input
-# as it is: the shell reads it behind. It ends at once where the input is open and nothing comes of it.
+# as it is: the shell reads it afterwards. It ends at once where the input is open and nothing comes of it.
 printf 'undorc-db 1\nservices' > short
 printf '%b' "$(with 'needs net' 'needs nat')" > dangling
 printf '%b' "$sample# note\n" > longer
@@ -83,7 +83,7 @@ many() {
     head -c "$1" /dev/zero | tr '\0' "$2"
 }
 
-# line_of STATUS OUTPUT FAULT WHAT: lines at their bound, which is counted without the newline, are those in `text`, behind
+# line_of STATUS OUTPUT FAULT WHAT: lines at their bound, which is counted without the newline, are those in `text`, after
 # the database and with the database in a file.
 line_of() {
     for words in '' '-b base'; do

@@ -59,7 +59,7 @@ printf '%s\n' 'change log' 'take 1 log' 'done 1 log ok' 'change net' 'take 1 roo
 at_once replay -b base
 
 # Sessions that start nothing: lines of all kinds, refused ones among them. On file is the session
-# behind the lines that were answered, or behind one more.
+# after the lines that were answered, or after one more.
 no_thread='111 undorc: NoThread\n'
 printf '%s\n' '-u change web' 'add -f both log net' undo > in
 begins_at session -b base -x down:log
@@ -70,8 +70,8 @@ ARMED=1 file=link
 sweep 200 "$ample$memory$no_thread" '-v answers=1 -v kept=1' session -b base -w 2 -x none
 
 # Scripts. One for whose start there is no memory is told as not started, and all that goes on is as
-# where it fails in another way. Else no script of a line runs that is refused for want of memory
-# before it begins, and each of a line that is refused behind that; none runs twice.
+# where it fails in another way. Else no script of a line runs that is refused as out of memory
+# before it begins, and each of a line that is refused after that; none runs twice.
 three_scripts
 rm text.* whole.*
 : > in

@@ -1,10 +1,10 @@
-# What stands behind a fault: the mistakes of a newcomer, each with its first line, which scripts read, and with words
-# that must stand behind it, for people. tests/program.sh reads this file.
+# What stands after a fault: the mistakes of a newcomer, each with its first line, which scripts read, and with words
+# that must stand after it, for people. tests/program.sh reads this file.
 mkdir messages
 cd messages
 
 # helps STATUS FIRST WORDS.. -- RUN..: a run without an input, which is refused with this line alone in front, and each of
-# these texts behind it, in a line that begins with two spaces.
+# these texts after it, in a line that begins with two spaces.
 helps() {
     wanted=$1
     wants '' "$2"
@@ -247,7 +247,7 @@ helps 1 'undorc: NotAtomic\n' 'a bundle' -- db -b db timeout all
 helps 1 'undorc: PruneNeedsUp\n' '-p goes with' -- plan -b db -d -p web
 
 # Of what is read: which service lacks which need, and a name of a database on standard input.
-# reads INPUT HELPS..: the run of `helps` behind this, on an input
+# reads INPUT HELPS..: the run of `helps` after this, on an input
 reads() {
     printf '%b' "$1" > given
 }
@@ -261,7 +261,7 @@ sed '3s/$/ /' whole > given
 helps 1 "undorc: Bad $(sed -n '1,2p' whole | wc -c)\\n" 'standard input:3: this line has not the form' -- db check
 rm given
 
-# The answer that refuses a name is as ever, and what helps is told behind it.
+# The answer that refuses a name is as ever, and what helps is told after it.
 # answers STATUS ANSWERS HELP INPUT WORDS..
 answers() {
     wanted=$1 help=$3

@@ -171,7 +171,7 @@ echo "$PWD x /bin/sh 0" > left.wanted
 cp told left
 same 'directory, environment and words of a script'
 
-# The runner's words, behind which the text is one more; without one, or where it can't be started, nothing is.
+# The runner's words, after which the text is one more; without one, or where it can't be started, nothing is.
 begin_tree
 oneshot one 'first  line
 second'
@@ -207,7 +207,7 @@ tells 'raised one\nok\nlowered one\nok\n' 'up one: started\nup one: ok\ndown one
 down one 'exit 5'
 tells 'raised one\nok\nfailed one\nok\n' 'up one: started\nup one: ok\ndown one: started\ndown one: failed 5\n' 'change one\nundo\n'
 
-# The shell goes on behind a line that fails, but for its last one; with -e it does not.
+# The shell goes on after a line that fails, but for its last one; with -e it does not.
 begin_tree
 oneshot one 'false
 true'

@@ -4,7 +4,7 @@
 mkdir bin try said
 ln -s "$program" bin/undorc
 
-# A command is a line that begins with `$ `, with its text up to a line END; the lines behind it are what it prints.
+# A command is a line that begins with `$ `, with its text up to a line END; the lines after it are what it prints.
 awk '
 function ends() { print "} > \"$said/got." number "\" 2>&1 || echo \"status $?\" >> \"$said/got." number "\"" }
 /^```/ { inside = !inside; next }

@@ -85,7 +85,7 @@ agrees() {
     echo "$different (after $turn looks)"
 }
 
-# does STATUS ANSWER COMMAND..: the command ends so and answers so, and behind it the supervisor says what live says
+# does STATUS ANSWER COMMAND..: the command ends so and answers so, and after it the supervisor says what live says
 does() {
     ends_with=$1
     wants "$2" ''
