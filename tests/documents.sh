@@ -58,8 +58,12 @@ for file in "$top"/crates/*/specs/*.antt; do
         -e "s/^  ([A-Z][A-Za-z]*) :.*/${crate##*/} ${module%.antt} \1/p" "$file"
 done > defined
 cat "$top"/crates/*/src/*.rt |
-    grep -o -E '(fn|struct|enum|trait|type|ensures|ghost invariant|ghost) [A-Za-z_]+' | sed 's/.* //' > called
+    grep -o -E '((fn|struct|enum|trait|type|mod|ensures|ghost invariant|ghost) [A-Za-z_]+|^ +[A-Z][A-Za-z]*[(,])' |
+    sed -e 's/[(,]$//' -e 's/.* //' > called
 sed 's/.* //' defined >> called
+cat called crates > found
+grep -o '`[A-Za-z_:]*`' "$top/docs/ARCHITECTURE.md" | tr -d '`' | sed 's/.*:://' | grep -E '^.{4,}$' > wanted
+holds 'the sources, of the names in docs/ARCHITECTURE.md,'
 # Those of docs/MODEL.md: after a module, up to the next semicolon, stand its definitions. The crate is the one that was named
 # last in the paragraph, else one of those of the heading.
 awk '
