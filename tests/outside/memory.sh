@@ -49,7 +49,7 @@ at_once() {
 : > in
 at_once compile "$samples/source"
 at_once db -b base all-dependencies web
-for words in 'list all' 'contents site' 'pipeline log' 'atomics site web' 'dependencies -d log' 'script net' dot; do
+for words in 'contents site' 'script net' dot; do
     # shellcheck disable=SC2086
     at_once db -b base $words
 done
@@ -87,33 +87,6 @@ expects none
 kept='' ARMED=0
 sweep 200 "$ample$memory" '-v answers=1 -v kept=1 -v fresh=1' session -b base
 
-# One-shot commands on a file: as a session of the one line, or, of those that only show something, as
-# what they write where nothing is refused, with the file left alone.
-one_shot() {
-    line=$1
-    shift
-    printf '%s\n' "$line" > in
-    expects none
-    : > in
-    if [ -z "$line" ]; then
-        "$program" "$@" -b base -l text.none.0 > whole.none
-        cp text.none.0 text.none.1
-    fi
-    sweep 100 "$ample$memory" '-v answers=1 -v kept=1' "$@" -b base
-}
-printf '%s\n' 'change a c' 'change b' undo > in
-rm text.* whole.*
-begins_at session -b base -x none
-one_shot 'change b' change b -x none
-one_shot undo undo -x none
-one_shot redo redo -x none
-one_shot '' change -n b
-one_shot '' undo -n
-one_shot '' redo -n
-one_shot '' live
-one_shot '' journal
-kept=''
-
 # Each start of a thread is refused. Nothing of the change was moved then, whatever was started before.
 # Of the workers, of whom no more work than the three services that move, one is no thread of its own.
 printf '%s\n' 'change b c' undo > in
@@ -136,6 +109,28 @@ sort -u said > out
 echo 0 > status
 wants "$ample$no_thread" ''
 judge 'a session of scripts, with each start of a thread refused' 0
+# One-shot commands on a file: as a session of the one line, or, of those that only show something and
+# have no line, as what they write where nothing is refused, with the file left alone.
+one_shot() {
+    shown=$1
+    shift
+    printf '%s\n' "$shown" > in
+    expects none
+    : > in
+    if [ -z "$shown" ]; then
+        "$program" "$@" -b base -l text.none.0 > whole.none
+        cp text.none.0 text.none.1
+    fi
+    sweep 100 "$ample$memory" '-v answers=1 -v kept=1' "$@" -b base
+}
+rm text.* whole.*
+printf '%s\n' 'change a c' 'change b' undo > in
+begins_at session -b base -x none
+one_shot 'change b' change b -x none
+one_shot undo undo -x none -w 1
+one_shot '' undo -n
+one_shot '' redo -n
+one_shot '' journal
 unset GROWTH GROWTHS THREAD ARMED COUNTS
 cd ..
 rm -r memory

@@ -9,13 +9,16 @@ mod begun;
 mod calls;
 mod rows;
 mod steps;
+mod tables;
 mod values;
 mod workers;
 
 use crate::calls::made;
 use crate::rows::{How, ROWS, Row};
 use crate::steps::{Kind, steps_of};
+use crate::tables::altered;
 use rc_board::Fault;
+use rc_db::Db;
 use rc_livetext::write_live;
 use rc_session::{Session, Step};
 use rc_set::NoMem;
@@ -60,7 +63,10 @@ fn show_on<R: Print + AllocGlobal + Threads + Wait + Sync>(
     let (what, before, how, kinds) = row;
     set_up(rt.alloc(), session, before)?;
     let steps = steps_of(rt.alloc(), kinds)?;
-    let shown = show_call(rt, session, what, *how, &steps);
+    let shown = match how {
+        How::Table => show_table(rt, session.db(), what, steps.first()),
+        _ => show_call(rt, session, what, *how, &steps),
+    };
     drop(steps);
     shown
 }
@@ -93,6 +99,29 @@ fn show_call<R: Print + AllocGlobal + Threads + Wait + Sync>(
     let came = made(rt, session, how, steps, &text);
     show_came(rt, came)?;
     show_session(rt, session, &text)
+}
+
+/// An edit of a table that is given outright, what it came to, and whether the table is as it was.
+fn show_table(
+    rt: &(impl Print + AllocGlobal),
+    db: &Db,
+    what: &str,
+    step: Option<&Step>,
+) -> io::Result<()> {
+    let mut table = db.table().copy(rt.alloc())?;
+    let _ = print!(rt; "{what}: ");
+    let came = altered(rt.alloc(), &mut table, db, step);
+    let is_same = table.same(db.table());
+    drop(table);
+    show_came(rt, came)?;
+    println!(rt;
+        "{}",
+        if is_same {
+            "as before"
+        } else {
+            "now another table"
+        }
+    )
 }
 
 fn show_came(rt: &impl Print, came: Result<(), Fault>) -> io::Result<()> {

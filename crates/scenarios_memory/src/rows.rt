@@ -19,6 +19,8 @@ pub(crate) enum How {
     Edit,
     /// As a plan alone.
     Dry,
+    /// On a copy of the database's bundles.
+    Table,
     /// All steps, one after the other.
     Play,
     /// By so many workers, with a gate.
@@ -29,7 +31,7 @@ pub(crate) type Row = (&'static str, &'static [Kind], How, &'static [Kind]);
 
 const NONE: &[Kind] = &[];
 
-pub(crate) static ROWS: [Row; 36] = [
+pub(crate) static ROWS: [Row; 38] = [
     ("Set::empty", NONE, How::Value(Value::SetEmpty), NONE),
     ("Set::copy", &[Kind::Up], How::Value(Value::SetCopy), NONE),
     ("Set::ids", &[Kind::Up], How::Value(Value::SetIds), NONE),
@@ -96,8 +98,15 @@ pub(crate) static ROWS: [Row; 36] = [
         How::Value(Value::ReadLive),
         NONE,
     ),
+    ("rc_bundle::add", NONE, How::Table, &[Kind::Add]),
+    ("rc_bundle::delete", NONE, How::Table, &[Kind::Delete]),
     ("Pad::new", NONE, How::Value(Value::PadNew), NONE),
-    ("Session::begin of a change", NONE, How::Abandon, &[Kind::Up]),
+    (
+        "Session::begin of a change",
+        NONE,
+        How::Abandon,
+        &[Kind::Up],
+    ),
     (
         "Session::begin of an undo",
         &[Kind::Up],
