@@ -281,3 +281,7 @@ echo root > in
 printf '%b' "$plan" > whole
 wants 'undorc: Io\n' ''
 failing plan -b base web
+: > in
+cp "$samples/sample.dot" whole
+wants 'undorc: Io\n' ''
+failing db -b base dot

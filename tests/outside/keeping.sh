@@ -11,7 +11,7 @@ begins_at session -b base
 printf '%s\n' 'change b c' undo 'add both a c' 'delete both other' > in
 expects none
 
-# failing LEAST ENDS DEVICE WORDS OPTIONS: sessions whose DEVICE does what WORDS say at one call after the
+# failing LEAST ENDS DEVICE WORDS OPTIONS: runs of `command` whose DEVICE does what WORDS say at one call after the
 # other, until none is left. ENDS are the lines of how they end. What one leaves beside its file where
 # all calls fail, that of removing it among them, the next one removes.
 failing() {
@@ -20,7 +20,8 @@ failing() {
     while [ "$well" -lt 4 ] && [ "$number" -lt 500 ]; do
         eval "$device=\"$words $number\""
         number=$((number + 1))
-        numbered session -b base -v -w 2
+        # shellcheck disable=SC2086
+        numbered $command
         read -r ended < "status.$number"
         well=$((well + 1))
         if [ "$ended" -ne 0 ] || grep -q ': not started$' "err.$number"; then well=0; fi
@@ -35,8 +36,9 @@ failing() {
     : > err
     echo 0 > status
     wants "0\\n$ends" ''
-    judge "a session whose $device are '$words'" 0
+    judge "undorc $command, whose $device are '$words'" 0
 }
+command='session -b base -v -w 2'
 
 # Files, each call alone and with all that follow. A script that can't be handed /dev/null is not
 # started.
@@ -63,6 +65,29 @@ done
 # knows whether it ran.
 failing 12 '' STARTS once '-v lost=1'
 failing 12 '' STARTS good '-v lost=1'
+
+# One-shot commands on the same file: a session of the one line says what they are to come to, or of those
+# that have none what they write where nothing fails.
+one_shot() {
+    command=$1 shown=$2
+    printf '%s\n' "$shown" > in
+    expects none
+    if [ -z "$shown" ]; then
+        # shellcheck disable=SC2086
+        "$program" $command -l text.none.0 > whole.none
+        cp text.none.0 text.none.1
+    fi
+    failing "$3" "$io" FILES once '-v faults=Io -v scripts='
+    failing "$3" "$io" FILES good '-v faults=Io -v scripts='
+    failing 3 '111 undorc: Write\n' WRITES 'piece 5 good' '-v faults=Write -v scripts='
+}
+printf '%s\n' 'change a c' 'change b' undo > in
+rm text.* whole.*
+begins_at session -b base -x none
+one_shot 'change b -b base -x none' 'change b' 20
+one_shot 'undo -b base -x none -w 1' undo 20
+one_shot 'undo -n -b base' '' 5
+one_shot 'redo -n -b base' '' 5
 unset READS WRITES FILES STARTS
 cd ..
 rm -r keeping
