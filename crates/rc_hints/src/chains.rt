@@ -4,7 +4,6 @@ use crate::listed::{first_word, line_of, name_on, text_of};
 use crate::search::{Found, Search};
 use crate::slips::nearest;
 use rc_names::Kind;
-use std::rt::Files;
 
 /// The most steps of a circle that are explained.
 const MAX_STEPS: usize = 20;
@@ -12,7 +11,7 @@ const MAX_STEPS: usize = 20;
 const MAX_DEPTH: usize = 4;
 
 /// Adds where an entry gives a name that is nobody's: both stand behind the refusal's word.
-pub(crate) fn add_unknown<R: Files>(search: &mut Search<'_, R>, names: &str) {
+pub(crate) fn add_unknown(search: &mut Search<'_>, names: &str) {
     let Some((name, other)) = names.split_once(' ') else {
         return;
     };
@@ -22,19 +21,16 @@ pub(crate) fn add_unknown<R: Files>(search: &mut Search<'_, R>, names: &str) {
     if !add_place(search, &entry, other) {
         return;
     }
-    search.said.add(": nothing is named ");
-    search.said.add(other);
+    search.said.add_row(": nothing is named ", other, "");
     let names = search.entries();
     if let Some(near) = nearest(&names, other) {
-        search.said.add("; is ");
-        search.said.add(near);
-        search.said.add(" meant?");
+        search.said.add_row("; is ", near, " meant?");
     }
     drop(names);
 }
 
 /// Adds where an entry gives a name, in a file, by its line, or in a folder, and says whether it does.
-fn add_place<R: Files>(search: &mut Search<'_, R>, entry: &Entry<'_, '_>, name: &str) -> bool {
+fn add_place(search: &mut Search<'_>, entry: &Entry<'_, '_>, name: &str) -> bool {
     if entry.kind == Some(Kind::Bundle) {
         return add_line(search, entry, "contents", name)
             || add_in(search, entry, "contents.d", name);
@@ -46,16 +42,10 @@ fn add_place<R: Files>(search: &mut Search<'_, R>, entry: &Entry<'_, '_>, name: 
 }
 
 /// Adds the line in which a file of an entry gives a name, and says whether it does.
-fn add_line<R: Files>(
-    search: &mut Search<'_, R>,
-    entry: &Entry<'_, '_>,
-    file: &str,
-    name: &str,
-) -> bool {
+fn add_line(search: &mut Search<'_>, entry: &Entry<'_, '_>, file: &str, name: &str) -> bool {
     match search.line_of(entry, file, name) {
         Some(number) => {
             search.said.add_file(entry, file);
-            search.said.add(":");
             search.said.add_number(number);
             true
         }
@@ -64,26 +54,20 @@ fn add_line<R: Files>(
 }
 
 /// Adds the path of a name in a folder of an entry, and says whether it stands there.
-fn add_in<R: Files>(
-    search: &mut Search<'_, R>,
-    entry: &Entry<'_, '_>,
-    folder: &str,
-    name: &str,
-) -> bool {
-    let place = search.said.path(folder, name);
-    let path = search.said.path(entry.root, entry.name);
-    let found = search.found(path.as_str(), place.as_str());
-    drop(path);
-    let is_there = !matches!(found, Found::Nothing);
+fn add_in(search: &mut Search<'_>, entry: &Entry<'_, '_>, folder: &str, name: &str) -> bool {
+    let folder = search.said.file_path(entry, folder);
+    let path = search.said.path(folder.as_str(), name);
+    drop(folder);
+    let is_there = !matches!(search.at(path.as_str()), Found::Nothing);
     if is_there {
-        search.said.add_file(entry, place.as_str());
+        search.said.add(path.as_str());
     }
-    drop(place);
+    drop(path);
     is_there
 }
 
 /// Adds the steps of a circle, and which file makes each.
-pub(crate) fn add_circle<R: Files>(search: &mut Search<'_, R>, names: &str) {
+pub(crate) fn add_circle(search: &mut Search<'_>, names: &str) {
     let mut left = MAX_STEPS;
     let mut from = "";
     for name in names.split(' ') {
@@ -100,7 +84,7 @@ pub(crate) fn add_circle<R: Files>(search: &mut Search<'_, R>, names: &str) {
 }
 
 /// Adds what makes one of a circle need, or hold, the next, on a line of its own.
-fn add_step<R: Files>(search: &mut Search<'_, R>, from: &str, to: &str) {
+fn add_step(search: &mut Search<'_>, from: &str, to: &str) {
     let Some(entry) = search.entry(from) else {
         return;
     };
@@ -116,16 +100,15 @@ fn add_step<R: Files>(search: &mut Search<'_, R>, from: &str, to: &str) {
 }
 
 /// Adds the bundle that a service needs and that holds another.
-fn add_holder<R: Files>(search: &mut Search<'_, R>, entry: &Entry<'_, '_>, to: &str) {
+fn add_holder(search: &mut Search<'_>, entry: &Entry<'_, '_>, to: &str) {
     search.said.add_file(entry, "dependencies");
     let list = search.file(entry, "dependencies");
     match holder_of(search, text_of(&list), to, MAX_DEPTH) {
         Some((number, bundle)) => {
-            search.said.add(":");
             search.said.add_number(number);
-            search.said.add(" names the bundle ");
-            search.said.add(bundle);
-            search.said.add(", which holds ");
+            search
+                .said
+                .add_row(" names the bundle ", bundle, ", which holds ");
         }
         None => search.said.add(" names what holds "),
     }
@@ -134,8 +117,8 @@ fn add_holder<R: Files>(search: &mut Search<'_, R>, entry: &Entry<'_, '_>, to: &
 
 /// The first name of a list that is a bundle's which holds a service, through so many bundles in
 /// bundles at most, and the number of its line.
-fn holder_of<'l, R: Files>(
-    search: &mut Search<'_, R>,
+fn holder_of<'l>(
+    search: &mut Search<'_>,
     list: &'l str,
     service: &str,
     depth: usize,
@@ -160,7 +143,7 @@ fn holder_of<'l, R: Files>(
 }
 
 /// What the file `contents` of a bundle holds; nothing where a name is none of a bundle.
-fn contents_of<R: Files>(search: &mut Search<'_, R>, name: &str) -> Vec<u8> {
+fn contents_of(search: &mut Search<'_>, name: &str) -> Vec<u8> {
     match search.entry(name) {
         Some(entry) if entry.kind == Some(Kind::Bundle) => search.file(&entry, "contents"),
         _ => Vec::new(search.said.alloc),

@@ -63,19 +63,16 @@ fn bad_line(alloc: Global, path: &str, bytes: &[u8], offset: &str, form: &Form) 
     let mut said = Said::new(alloc);
     said.add(path);
     if bytes.starts_with(form.front) {
-        said.add(":");
         said.add_number(line_at(bytes, offset));
-        said.add(": ");
-        said.add(not_due(bytes, offset));
+        said.add_row(": ", not_due(bytes, offset), "");
     } else {
-        said.add(if bytes.is_empty() {
+        let what = if bytes.is_empty() {
             ": an empty file is no "
         } else {
             " is no "
-        });
-        said.add(form.name);
-        said.add(": ");
-        said.add(form.help);
+        };
+        said.add(what);
+        said.add_row(form.name, ": ", form.help);
     }
     said.hint()
 }
@@ -83,9 +80,7 @@ fn bad_line(alloc: Global, path: &str, bytes: &[u8], offset: &str, form: &Form) 
 /// A hint of these texts in a row.
 fn hint_of(alloc: Global, front: &str, middle: &str, back: &str) -> Hint {
     let mut said = Said::new(alloc);
-    said.add(front);
-    said.add(middle);
-    said.add(back);
+    said.add_row(front, middle, back);
     said.hint()
 }
 
@@ -118,11 +113,8 @@ pub fn near_hint(alloc: Global, database: &[u8], name: &str) -> Hint {
             let near = first_word(words);
             if is_one_edit(name.as_bytes(), near.as_bytes()) {
                 let mut said = Said::new(alloc);
-                said.add("nothing is named ");
-                said.add(name);
-                said.add("; is ");
-                said.add(near);
-                said.add(" meant?");
+                said.add_row("nothing is named ", name, "; is ");
+                said.add_row(near, " meant?", "");
                 return said.hint();
             }
         }
@@ -153,9 +145,7 @@ pub fn lacking_hint<'a>(alloc: Global, database: &'a [u8], up: &'a [u8]) -> Hint
     match lacking {
         Some((service, need)) => {
             let mut said = Said::new(alloc);
-            said.add(service);
-            said.add(" is up and needs ");
-            said.add(need);
+            said.add_row(service, " is up and needs ", need);
             said.add(", which is not among those listed");
             said.hint()
         }

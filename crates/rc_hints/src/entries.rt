@@ -2,23 +2,22 @@
 use crate::search::Search;
 use rc_names::Kind;
 use std::alloc::Global;
-use std::rt::Files;
 
 /// Source directories as they were named, which can be read again.
 #[derive(Drop)]
-pub struct Sources<'a, R> {
-    rt: &'a R,
+pub struct Sources<'a> {
+    rt: &'a HostRuntime,
     alloc: Global,
     roots: &'a [String],
 }
 
-impl<'a, R: Files> Sources<'a, R> {
-    pub fn new(rt: &'a R, alloc: Global, roots: &'a [String]) -> Sources<'a, R> {
+impl<'a> Sources<'a> {
+    pub fn new(rt: &'a HostRuntime, alloc: Global, roots: &'a [String]) -> Sources<'a> {
         Sources { rt, alloc, roots }
     }
 
     /// A search in them, of which nothing is said yet.
-    pub(crate) fn search(&self) -> Search<'a, R> {
+    pub(crate) fn search(&self) -> Search<'a> {
         Search::new(self.rt, self.alloc, self.roots)
     }
 }

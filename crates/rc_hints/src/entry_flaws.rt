@@ -4,11 +4,10 @@ use crate::file_flaws::add_flaw;
 use crate::listed::{name_at, text_of};
 use crate::search::{Found, Search};
 use crate::slips::nearest;
-use std::rt::Files;
 
 /// Adds where a text stands that is no name: the entry's own, in its lists, in its folder, or as the
 /// second of a file that holds one.
-pub(crate) fn add_bad_name<R: Files>(search: &mut Search<'_, R>, entry: &Entry<'_, '_>) {
+pub(crate) fn add_bad_name(search: &mut Search<'_>, entry: &Entry<'_, '_>) {
     if let Some(wrong) = search.said.wrong(entry.name) {
         let path = search.said.path(entry.root, entry.name);
         search.said.add_quoted(path.as_str());
@@ -22,14 +21,13 @@ pub(crate) fn add_bad_name<R: Files>(search: &mut Search<'_, R>, entry: &Entry<'
 }
 
 /// Adds the second name of a file that is to hold one, unless something was said before.
-fn add_second<R: Files>(search: &mut Search<'_, R>, entry: &Entry<'_, '_>, file: &str) {
+fn add_second(search: &mut Search<'_>, entry: &Entry<'_, '_>, file: &str) {
     if !search.said.is_empty() {
         return;
     }
     let list = search.file(entry, file);
     if let Some((number, name)) = name_at(text_of(&list), 1) {
         search.said.add_file(entry, file);
-        search.said.add(":");
         search.said.add_number(number);
         search.said.add(": one name may stand here, not a second: ");
         search.said.add_quoted(name);
@@ -38,19 +36,15 @@ fn add_second<R: Files>(search: &mut Search<'_, R>, entry: &Entry<'_, '_>, file:
 }
 
 /// Adds the two directories of one name.
-pub(crate) fn add_twice<R: Files>(search: &mut Search<'_, R>, entry: &Entry<'_, '_>) {
+pub(crate) fn add_twice(search: &mut Search<'_>, entry: &Entry<'_, '_>) {
     let mut seen = false;
     for root in search.roots {
         let root = without_slash(root.as_str());
         if let Found::Directory = search.found(root, entry.name) {
             if seen {
-                search.said.add(entry.root);
-                search.said.add("/");
-                search.said.add(entry.name);
+                search.said.add_row(entry.root, "/", entry.name);
                 search.said.add(" and ");
-                search.said.add(root);
-                search.said.add("/");
-                search.said.add(entry.name);
+                search.said.add_row(root, "/", entry.name);
                 search.said.add(" have one name");
                 return;
             }
@@ -60,7 +54,7 @@ pub(crate) fn add_twice<R: Files>(search: &mut Search<'_, R>, entry: &Entry<'_, 
 }
 
 /// Adds what an entry has in place of a file `type`.
-pub(crate) fn add_no_type<R: Files>(search: &mut Search<'_, R>, entry: &Entry<'_, '_>) {
+pub(crate) fn add_no_type(search: &mut Search<'_>, entry: &Entry<'_, '_>) {
     if add_mistaken(search, entry.named) {
         return;
     }
@@ -80,7 +74,7 @@ pub(crate) fn add_no_type<R: Files>(search: &mut Search<'_, R>, entry: &Entry<'_
 
 /// Adds that a source directory looks like an entry, where it has a file `type` of its own, and says
 /// whether it does.
-pub(crate) fn add_mistaken<R: Files>(search: &mut Search<'_, R>, root: &str) -> bool {
+pub(crate) fn add_mistaken(search: &mut Search<'_>, root: &str) -> bool {
     match search.found(without_slash(root), "type") {
         Found::File(_) => {
             search.said.add(root);

@@ -3,19 +3,16 @@ use crate::entries::Entry;
 use crate::listed::{name_on, text_of};
 use crate::places::{line_at, offset_of};
 use crate::search::{Found, MAX_FILE, Search};
-use std::fs;
+use std::fs::{self, Files};
 use std::io::ErrorKind;
-use std::rt::Files;
 
 /// Adds the first file of an entry that is not what it is to be, as the refusal's word says.
-pub(crate) fn add_flaw<R: Files>(search: &mut Search<'_, R>, entry: &Entry<'_, '_>, word: &str) {
+pub(crate) fn add_flaw(search: &mut Search<'_>, entry: &Entry<'_, '_>, word: &str) {
     for file in entry.files() {
         if !search.said.is_empty() {
             return;
         }
-        let directory = search.said.path(entry.root, entry.name);
-        let path = search.said.path(directory.as_str(), file);
-        drop(directory);
+        let path = search.said.file_path(entry, file);
         let is_folder = file.ends_with(".d");
         match word {
             "Io" => add_unread(search, path.as_str(), is_folder),
@@ -33,7 +30,7 @@ pub(crate) fn add_flaw<R: Files>(search: &mut Search<'_, R>, entry: &Entry<'_, '
 }
 
 /// Adds why something can't be read, if it can't. What is missing is no fault.
-fn add_unread<R: Files>(search: &mut Search<'_, R>, path: &str, is_folder: bool) {
+fn add_unread(search: &mut Search<'_>, path: &str, is_folder: bool) {
     let found = search.at(path);
     let why = match found {
         Found::Directory if !is_folder => "is a directory, where a file is due",
@@ -43,13 +40,11 @@ fn add_unread<R: Files>(search: &mut Search<'_, R>, path: &str, is_folder: bool)
             Some(kind) => word_of(kind),
         },
     };
-    search.said.add(path);
-    search.said.add(": ");
-    search.said.add(why);
+    search.said.add_row(path, ": ", why);
 }
 
 /// How a file, or a folder, refuses to be opened.
-fn opened<R: Files>(rt: &R, path: &str, is_folder: bool) -> Option<ErrorKind> {
+fn opened(rt: &HostRuntime, path: &str, is_folder: bool) -> Option<ErrorKind> {
     if is_folder {
         return match rt.open_dir(path) {
             Ok(_) => None,
@@ -63,17 +58,16 @@ fn opened<R: Files>(rt: &R, path: &str, is_folder: bool) -> Option<ErrorKind> {
 }
 
 /// Adds that a file is too long, if it is.
-fn add_too_long<R: Files>(search: &mut Search<'_, R>, path: &str) {
+fn add_too_long(search: &mut Search<'_>, path: &str) {
     if let Found::File(length) = search.at(path) {
         if length > MAX_FILE as u64 {
-            search.said.add(path);
-            search.said.add(" has more than 65536 bytes");
+            search.said.add_row(path, " has more than 65536 bytes", "");
         }
     }
 }
 
 /// Adds the first name in a folder of names that is none.
-fn add_bad_listing<R: Files>(search: &mut Search<'_, R>, path: &str) {
+fn add_bad_listing(search: &mut Search<'_>, path: &str) {
     let mut names = Vec::new(search.said.alloc);
     search.add_names(path, false, &mut names);
     for name in &names {
@@ -82,8 +76,7 @@ fn add_bad_listing<R: Files>(search: &mut Search<'_, R>, path: &str) {
             continue;
         }
         if let Some(wrong) = search.said.wrong(name) {
-            search.said.add(path);
-            search.said.add("/");
+            search.said.add_row(path, "/", "");
             search.said.add_quoted(name);
             search.said.add_wrong(wrong);
             break;
@@ -93,13 +86,7 @@ fn add_bad_listing<R: Files>(search: &mut Search<'_, R>, path: &str) {
 }
 
 /// Adds what is wrong in the bytes of a file, as the refusal's word says.
-fn add_wrong_text<R: Files>(
-    search: &mut Search<'_, R>,
-    path: &str,
-    file: &str,
-    word: &str,
-    bytes: &[u8],
-) {
+fn add_wrong_text(search: &mut Search<'_>, path: &str, file: &str, word: &str, bytes: &[u8]) {
     let text = text_of(bytes);
     match word {
         "NotText" => add_bad_byte(search, path, bytes),
@@ -125,7 +112,7 @@ fn add_wrong_text<R: Files>(
 }
 
 /// Adds the first line of a list that gives something else than a name.
-fn add_bad_line<R: Files>(search: &mut Search<'_, R>, path: &str, file: &str, list: &str) {
+fn add_bad_line(search: &mut Search<'_>, path: &str, file: &str, list: &str) {
     let mut number = 0usize;
     if ![
         "dependencies",
@@ -146,7 +133,6 @@ fn add_bad_line<R: Files>(search: &mut Search<'_, R>, path: &str, file: &str, li
         }
         if let Some(wrong) = search.said.wrong(name) {
             search.said.add(path);
-            search.said.add(":");
             search.said.add_number(number);
             search.said.add_wrong(wrong);
             search.said.add(": ");
@@ -157,10 +143,8 @@ fn add_bad_line<R: Files>(search: &mut Search<'_, R>, path: &str, file: &str, li
 }
 
 /// Adds what may stand in a file of one line, and what does.
-fn add_line<R: Files>(search: &mut Search<'_, R>, path: &str, due: &str, text: &str) {
-    search.said.add(path);
-    search.said.add(due);
-    search.said.add(", not ");
+fn add_line(search: &mut Search<'_>, path: &str, due: &str, text: &str) {
+    search.said.add_row(path, due, ", not ");
     search.said.add_quoted(text);
     if text.contains('\r') {
         search.said.add(" (a Windows line end?)");
@@ -177,7 +161,7 @@ fn is_limit(text: &str) -> bool {
 }
 
 /// Adds the line of the first byte that makes bytes no text, and what it is.
-fn add_bad_byte<R: Files>(search: &mut Search<'_, R>, path: &str, bytes: &[u8]) {
+fn add_bad_byte(search: &mut Search<'_>, path: &str, bytes: &[u8]) {
     let (offset, said) = match std::str::from_utf8(bytes) {
         Err(fault) => (
             fault.valid_up_to(),
@@ -189,19 +173,16 @@ fn add_bad_byte<R: Files>(search: &mut Search<'_, R>, path: &str, bytes: &[u8]) 
         },
     };
     search.said.add(path);
-    search.said.add(":");
     search.said.add_number(line_at(bytes, offset));
     search.said.add(said);
 }
 
 /// Adds which source directory can't be listed, and why.
-pub(crate) fn add_root<R: Files>(search: &mut Search<'_, R>) {
+pub(crate) fn add_root(search: &mut Search<'_>) {
     for root in search.roots {
         let root = root.as_str();
         if let Some(kind) = opened(search.rt, root, true) {
-            search.said.add(root);
-            search.said.add(": ");
-            search.said.add(word_of(kind));
+            search.said.add_row(root, ": ", word_of(kind));
             return;
         }
     }

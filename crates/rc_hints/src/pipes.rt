@@ -3,15 +3,10 @@ use crate::entries::Entry;
 use crate::listed::{name_at, name_on, text_of};
 use crate::search::Search;
 use rc_names::Kind;
-use std::rt::Files;
 
 /// Adds which side of a pipe is no longrun, or which neighbour does not name the service from its
 /// side.
-pub(crate) fn add_neighbour<R: Files>(
-    search: &mut Search<'_, R>,
-    entry: &Entry<'_, '_>,
-    word: &str,
-) {
+pub(crate) fn add_neighbour(search: &mut Search<'_>, entry: &Entry<'_, '_>, word: &str) {
     if word == "PipelineMismatch" {
         add_unfit(search, entry, "producer-for", "consumer-for");
         add_unfit(search, entry, "consumer-for", "producer-for");
@@ -27,7 +22,7 @@ pub(crate) fn add_neighbour<R: Files>(
 }
 
 /// Adds the first name of a file that does not fit, unless something was said before.
-fn add_unfit<R: Files>(search: &mut Search<'_, R>, entry: &Entry<'_, '_>, file: &str, back: &str) {
+fn add_unfit(search: &mut Search<'_>, entry: &Entry<'_, '_>, file: &str, back: &str) {
     if !search.said.is_empty() {
         return;
     }
@@ -38,15 +33,12 @@ fn add_unfit<R: Files>(search: &mut Search<'_, R>, entry: &Entry<'_, '_>, file: 
         };
         if !fits(search, entry, &other, back) {
             search.said.add_file(entry, file);
-            search.said.add(" names ");
-            search.said.add(other.name);
-            search.said.add(", and ");
+            search.said.add_row(" names ", other.name, ", and ");
             search.said.add_file(&other, back);
             if back == "type" {
                 search.said.add(" is no longrun");
             } else {
-                search.said.add(" does not name ");
-                search.said.add(entry.name);
+                search.said.add_row(" does not name ", entry.name, "");
             }
             break;
         }
@@ -56,12 +48,7 @@ fn add_unfit<R: Files>(search: &mut Search<'_, R>, entry: &Entry<'_, '_>, file: 
 
 /// Whether a neighbour is a longrun, where it is asked for its type, or else names an entry in a file
 /// of its own.
-fn fits<R: Files>(
-    search: &mut Search<'_, R>,
-    entry: &Entry<'_, '_>,
-    other: &Entry<'_, '_>,
-    back: &str,
-) -> bool {
+fn fits(search: &mut Search<'_>, entry: &Entry<'_, '_>, other: &Entry<'_, '_>, back: &str) -> bool {
     if back == "type" {
         return other.kind == Some(Kind::Longrun);
     }
@@ -69,20 +56,17 @@ fn fits<R: Files>(
 }
 
 /// Adds whose name a pipeline's bundle has.
-pub(crate) fn add_taken<R: Files>(search: &mut Search<'_, R>, entry: &Entry<'_, '_>) {
+pub(crate) fn add_taken(search: &mut Search<'_>, entry: &Entry<'_, '_>) {
     let list = search.file(entry, "pipeline-name");
     if let Some((_, name)) = name_at(text_of(&list), 0) {
         search.said.add_file(entry, "pipeline-name: ");
         match search.entry(name) {
             Some(other) => {
-                search.said.add(other.root);
-                search.said.add("/");
-                search.said.add(name);
+                search.said.add_row(other.root, "/", name);
                 search.said.add(" has this name");
             }
             None => {
-                search.said.add("another pipeline is named ");
-                search.said.add(name);
+                search.said.add_row("another pipeline is named ", name, "");
             }
         }
     }

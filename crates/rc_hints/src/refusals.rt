@@ -3,14 +3,9 @@ use crate::entries::{Entry, Sources};
 use crate::said::Hint;
 use crate::search::Search;
 use crate::{chains, entry_flaws, file_flaws, pipes};
-use std::rt::Files;
 
 /// What helps behind what `compile` told: the refusal's word and the names behind it.
-pub fn compile_hint<R: Files + AllocGlobal + Clone + Drop>(
-    sources: &Sources<'_, R>,
-    word: &str,
-    names: &str,
-) -> Hint {
+pub fn compile_hint(sources: &Sources<'_>, word: &str, names: &str) -> Hint {
     let mut search = sources.search();
     match word {
         "Io" if names.is_empty() => file_flaws::add_root(&mut search),
@@ -26,7 +21,7 @@ pub fn compile_hint<R: Files + AllocGlobal + Clone + Drop>(
 }
 
 /// Adds what helps behind a refusal of an entry.
-fn add_of_entry<R: Files>(search: &mut Search<'_, R>, entry: &Entry<'_, '_>, word: &str) {
+fn add_of_entry(search: &mut Search<'_>, entry: &Entry<'_, '_>, word: &str) {
     match word {
         "BadName" => entry_flaws::add_bad_name(search, entry),
         "Twice" => entry_flaws::add_twice(search, entry),

@@ -48,18 +48,23 @@ impl Said {
         self.note(added);
     }
 
+    /// Adds three texts.
+    pub(crate) fn add_row(&mut self, first: &str, second: &str, third: &str) {
+        self.add(first);
+        self.add(second);
+        self.add(third);
+    }
+
     /// Adds the path of a file of an entry.
     pub(crate) fn add_file(&mut self, entry: &Entry<'_, '_>, file: &str) {
-        self.add(entry.root);
-        self.add("/");
-        self.add(entry.name);
+        self.add_row(entry.root, "/", entry.name);
         self.add("/");
         self.add(file);
     }
 
-    /// Adds the number of a line.
+    /// Adds a colon, and the number of a line.
     pub(crate) fn add_number(&mut self, number: usize) {
-        let added = write!(self.text, "{number}");
+        let added = write!(self.text, ":{number}");
         self.note(added);
     }
 
@@ -102,6 +107,14 @@ impl Said {
         self.note(front);
         self.note(slash);
         self.note(back);
+        path
+    }
+
+    /// The path of a file of an entry.
+    pub(crate) fn file_path(&mut self, entry: &Entry<'_, '_>, file: &str) -> String {
+        let directory = self.path(entry.root, entry.name);
+        let path = self.path(directory.as_str(), file);
+        drop(directory);
         path
     }
 }

@@ -3,19 +3,18 @@ use crate::entries::{Entry, kind_of, without_slash};
 use crate::listed::{line_of, text_of};
 use crate::places::cut_at;
 use crate::said::Said;
-use rc_names::{Kind, NoMem};
+use rc_names::NoMem;
 use std::alloc::Global;
-use std::fs;
+use std::fs::{self, Files};
 use std::io::Read;
-use std::rt::Files;
 
 /// The most bytes that a file may have.
 pub(crate) const MAX_FILE: usize = 65536;
 
 /// Source directories, and what is said of what stands in them.
 #[derive(Drop)]
-pub(crate) struct Search<'a, R> {
-    pub rt: &'a R,
+pub(crate) struct Search<'a> {
+    pub rt: &'a HostRuntime,
     pub roots: &'a [String],
     pub said: Said,
 }
@@ -30,9 +29,9 @@ pub(crate) enum Found {
     Other,
 }
 
-impl<'a, R: Files> Search<'a, R> {
+impl<'a> Search<'a> {
     /// Nothing is said yet.
-    pub(crate) fn new(rt: &'a R, alloc: Global, roots: &'a [String]) -> Search<'a, R> {
+    pub(crate) fn new(rt: &'a HostRuntime, alloc: Global, roots: &'a [String]) -> Search<'a> {
         Search {
             rt,
             roots,
@@ -67,39 +66,24 @@ impl<'a, R: Files> Search<'a, R> {
             let named = named.as_str();
             let root = without_slash(named);
             if let Found::Directory = self.found(root, name) {
-                let kind = self.kind(root, name);
-                return Some(Entry {
+                let mut entry = Entry {
                     named,
                     root,
                     name,
-                    kind,
-                });
+                    kind: None,
+                };
+                let bytes = self.file(&entry, "type");
+                entry.kind = kind_of(&bytes);
+                drop(bytes);
+                return Some(entry);
             }
         }
         None
     }
 
-    /// The kind that the file `type` of a directory in a source directory gives.
-    fn kind(&mut self, root: &str, name: &str) -> Option<Kind> {
-        let path = self.said.path(root, name);
-        let bytes = self.file_in(path.as_str(), "type");
-        drop(path);
-        let kind = kind_of(&bytes);
-        drop(bytes);
-        kind
-    }
-
     /// The bytes of a file of an entry; none where they can't be read.
     pub(crate) fn file(&mut self, entry: &Entry<'_, '_>, file: &str) -> Vec<u8> {
-        let path = self.said.path(entry.root, entry.name);
-        let bytes = self.file_in(path.as_str(), file);
-        drop(path);
-        bytes
-    }
-
-    /// The bytes of a file in a directory; none where they can't be read.
-    fn file_in(&mut self, directory: &str, file: &str) -> Vec<u8> {
-        let path = self.said.path(directory, file);
+        let path = self.said.file_path(entry, file);
         let bytes = self.bytes(path.as_str());
         drop(path);
         match bytes {

@@ -6,7 +6,6 @@ use crate::said::Hint;
 use crate::search::Search;
 use rc_names::{Kind, NoMem};
 use std::alloc::Global;
-use std::rt::Files;
 
 /// The files that supervisors look at.
 const SUPERVISED: [&str; 22] = [
@@ -35,7 +34,7 @@ const SUPERVISED: [&str; 22] = [
 ];
 
 /// A note about a source directory that has no entry, and looks like one itself.
-pub fn looks_like_entry<R: Files + AllocGlobal + Clone + Drop>(sources: &Sources<'_, R>) -> Hint {
+pub fn looks_like_entry(sources: &Sources<'_>) -> Hint {
     let mut search = sources.search();
     for root in search.roots {
         let root = root.as_str();
@@ -52,9 +51,7 @@ pub fn looks_like_entry<R: Files + AllocGlobal + Clone + Drop>(sources: &Sources
 
 /// Notes about the entries: which files are not looked at, which texts have a carriage return, and
 /// which bundles have no contents.
-pub fn unread_files<R: Files + AllocGlobal + Clone + Drop>(
-    sources: &Sources<'_, R>,
-) -> Result<Vec<String>, NoMem> {
+pub fn unread_files(sources: &Sources<'_>) -> Result<Vec<String>, NoMem> {
     let mut search = sources.search();
     add_all(&mut search);
     let alloc = search.said.alloc;
@@ -78,7 +75,7 @@ fn notes_in(alloc: Global, text: &str) -> Result<Vec<String>, NoMem> {
 }
 
 /// Adds the notes about all entries, in byte order, each with a byte 0 behind it.
-fn add_all<R: Files>(search: &mut Search<'_, R>) {
+fn add_all(search: &mut Search<'_>) {
     let mut names = search.entries();
     let sorted = names.sort();
     search.said.note(sorted);
@@ -91,7 +88,7 @@ fn add_all<R: Files>(search: &mut Search<'_, R>) {
 }
 
 /// Adds the notes about one entry.
-fn add_notes<R: Files>(search: &mut Search<'_, R>, entry: &Entry<'_, '_>) {
+fn add_notes(search: &mut Search<'_>, entry: &Entry<'_, '_>) {
     let mut files = Vec::new(search.said.alloc);
     search.add_files(entry, &mut files);
     let sorted = files.sort();
@@ -106,20 +103,17 @@ fn add_notes<R: Files>(search: &mut Search<'_, R>, entry: &Entry<'_, '_>) {
     }
     drop(files);
     if is_empty {
-        search.said.add(entry.root);
-        search.said.add("/");
-        search.said.add(entry.name);
+        search.said.add_row(entry.root, "/", entry.name);
         search.said.add(" is a bundle without contents\0");
     }
 }
 
 /// Adds the note about a file of an entry, if there is something to say.
-fn add_note<R: Files>(search: &mut Search<'_, R>, entry: &Entry<'_, '_>, file: &str) {
+fn add_note(search: &mut Search<'_>, entry: &Entry<'_, '_>, file: &str) {
     if entry.reads(file) {
         let bytes = search.file(entry, file);
         if let Some(offset) = offset_of(&bytes, b'\r') {
             search.said.add_file(entry, file);
-            search.said.add(":");
             search.said.add_number(line_at(&bytes, offset));
             search
                 .said

@@ -2,4 +2,4 @@ use Rattle.rc_hints.proofs.chains.+holder_of.Given as goal
 
 -- one bundle less may be looked into
 abbrev pub decreases-holder_of : goal.decreases-holder_of
-decreases-holder_of g l = l.depth
+decreases-holder_of l = l.depth

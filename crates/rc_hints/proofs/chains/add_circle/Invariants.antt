@@ -4,7 +4,7 @@ use Rattle.rc_hints.proofs.chains.add_circle.Given as goal
 
 -- the names have an end, and the one before is text
 abbrev pub invariant-loop-name : goal.invariant-loop-name
-invariant-loop-name g l =
-    (goal.iterator-loop-name g).can_next l.name-iterator ×
-    (goal.iterator-loop-name g).is_finite l.name-iterator ×
+invariant-loop-name l =
+    goal.iterator-loop-name.can_next l.name-iterator ×
+    goal.iterator-loop-name.is_finite l.name-iterator ×
     shadow (Utf8 l.from)
