@@ -18,7 +18,8 @@ use Rattle.rc_asked.specs.DbAsked.{AsksIn, AsksNothing}
 use Rattle.rc_asked.specs.OnceAsked.{AsksWhatIn, HasNoEvents, OnceAsk, OnceSaying, Said, WantsDryRedo, WantsDryUndo, once_command, once_saying_of}
 use Rattle.rc_asked.specs.Query.{DbAsk}
 use Rattle.rc_asked.specs.SessionAsked.{AsksNoSession, AsksSessionIn, IsBoundIn, IsCrewIn, SessionAsk}
-use Rattle.rc_asked.specs.Task.{AsksEntered, AsksNamed, AsksNoTask, AsksTask, AsksTaskIn, HasBound, HasWorkers, IsEventless, OfCompile, OfDb, OfOnce, OfPlan, OfReplay, OfSession, OfVersion, TaskAsk, command_of, file_in, task_ask_of}
+use Rattle.rc_asked.specs.Task.{AsksEntered, AsksNamed, AsksNoTask, AsksTask, AsksTaskIn, HasBound, HasWorkers, IsEventless, OfCompile, OfDb, OfOnce, OfPlan, OfReplay, OfSession, OfUpdate, OfVersion, TaskAsk, command_of, file_in, task_ask_of}
+use Rattle.rc_asked.specs.UpdateAsked.{AsksUpdateIn, UpdateAsk}
 use Rattle.rc_asked.specs.declared.task.Task.{Task}
 use Rattle.rc_asked.specs.declared.task.Task.TheVariants as task
 
@@ -78,6 +79,7 @@ asked_workers entered (task.Plan request file) asks = tt
 asked_workers entered (task.Replay file) asks = tt
 asked_workers entered (task.Session request file) asks = workers_in (first_of (codes "workers") asks.0) request.workers asks.2.0.workers
 asked_workers entered (task.Once request file) asks = workers_in (first_of (codes "workers") asks.0) request.session.workers asks.2.0.1.workers
+asked_workers entered (task.Update request file) asks = workers_in (first_of (codes "workers") asks.0) request.session.workers asks.2.0.session.workers
 asked_workers entered task.Version asks = tt
 
 -- and a bound
@@ -92,6 +94,7 @@ asked_bound entered (task.Plan request file) asks = tt
 asked_bound entered (task.Replay file) asks = tt
 asked_bound entered (task.Session request file) asks = bound_in (first_of (codes "bound") asks.0) request.bound asks.2.0.bound
 asked_bound entered (task.Once request file) asks = bound_in (first_of (codes "bound") asks.0) request.session.bound asks.2.0.1.bound
+asked_bound entered (task.Update request file) asks = bound_in (first_of (codes "bound") asks.0) request.session.bound asks.2.0.session.bound
 asked_bound entered task.Version asks = tt
 
 -- and brings no events
@@ -182,6 +185,7 @@ db_none rows none (OfPlan ask file) asks = apart (codes "db") (codes "plan") ref
 db_none rows none (OfReplay file) asks = apart (codes "db") (codes "replay") refl asks.0
 db_none rows none (OfSession ask file) asks = apart (codes "db") (codes "session") refl asks.0
 db_none rows none (OfOnce ask file) asks = once_apart (codes "db") refl refl refl refl refl refl ask.what asks.0
+db_none rows none (OfUpdate ask file) asks = apart (codes "db") (codes "update") refl asks.0
 db_none rows none OfVersion asks = apart (codes "db") (codes "version") refl asks.0
 
 pub plan_none : (rows : List Row) → ask_in rows ≡ None → (ask : TaskAsk) → AsksNamed (codes "plan") rows ask → ⊥
@@ -191,6 +195,7 @@ plan_none rows none (OfPlan ask file) asks = let both : None ≡ Some ask = sym 
 plan_none rows none (OfReplay file) asks = apart (codes "plan") (codes "replay") refl asks.0
 plan_none rows none (OfSession ask file) asks = apart (codes "plan") (codes "session") refl asks.0
 plan_none rows none (OfOnce ask file) asks = once_apart (codes "plan") refl refl refl refl refl refl ask.what asks.0
+plan_none rows none (OfUpdate ask file) asks = apart (codes "plan") (codes "update") refl asks.0
 plan_none rows none OfVersion asks = apart (codes "plan") (codes "version") refl asks.0
 
 pub session_none : (rows : List Row) → ((ask : SessionAsk) → AsksSessionIn rows ask → ⊥) → (ask : TaskAsk) → AsksNamed (codes "session") rows ask → ⊥
@@ -200,20 +205,32 @@ session_none rows none (OfPlan ask file) asks = apart (codes "session") (codes "
 session_none rows none (OfReplay file) asks = apart (codes "session") (codes "replay") refl asks.0
 session_none rows none (OfSession ask file) asks = none ask asks.1.0
 session_none rows none (OfOnce ask file) asks = once_apart (codes "session") refl refl refl refl refl refl ask.what asks.0
+session_none rows none (OfUpdate ask file) asks = apart (codes "session") (codes "update") refl asks.0
 session_none rows none OfVersion asks = apart (codes "session") (codes "version") refl asks.0
+
+pub update_none : (rows : List Row) → ((ask : UpdateAsk) → AsksUpdateIn rows ask → ⊥) → (ask : TaskAsk) → AsksNamed (codes "update") rows ask → ⊥
+update_none rows none (OfCompile ask) asks = apart (codes "update") (codes "compile") refl asks.0
+update_none rows none (OfDb ask file) asks = apart (codes "update") (codes "db") refl asks.0
+update_none rows none (OfPlan ask file) asks = apart (codes "update") (codes "plan") refl asks.0
+update_none rows none (OfReplay file) asks = apart (codes "update") (codes "replay") refl asks.0
+update_none rows none (OfSession ask file) asks = apart (codes "update") (codes "session") refl asks.0
+update_none rows none (OfOnce ask file) asks = once_apart (codes "update") refl refl refl refl refl refl ask.what asks.0
+update_none rows none (OfUpdate ask file) asks = none ask asks.1.0
+update_none rows none OfVersion asks = apart (codes "update") (codes "version") refl asks.0
 
 -- matches that ask for no session of one line ask nothing, where their command has none of the other names
 pub others_none : (name : Text) (rows : List Row) → (name ≡ codes "compile" → ⊥) → (name ≡ codes "db" → ⊥)
-    → (name ≡ codes "plan" → ⊥) → (name ≡ codes "replay" → ⊥) → (name ≡ codes "session" → ⊥) → (name ≡ codes "version" → ⊥)
+    → (name ≡ codes "plan" → ⊥) → (name ≡ codes "replay" → ⊥) → (name ≡ codes "session" → ⊥) → (name ≡ codes "update" → ⊥) → (name ≡ codes "version" → ⊥)
     → ((ask : OnceAsk) (file : Option Text) → AsksNamed name rows (OfOnce ask file) → ⊥)
     → (ask : TaskAsk) → AsksNamed name rows ask → ⊥
-others_none name rows compile db plan replay session version none (OfCompile ask) asks = compile asks.0
-others_none name rows compile db plan replay session version none (OfDb ask file) asks = db asks.0
-others_none name rows compile db plan replay session version none (OfPlan ask file) asks = plan asks.0
-others_none name rows compile db plan replay session version none (OfReplay file) asks = replay asks.0
-others_none name rows compile db plan replay session version none (OfSession ask file) asks = session asks.0
-others_none name rows compile db plan replay session version none (OfOnce ask file) asks = none ask file asks
-others_none name rows compile db plan replay session version none OfVersion asks = version asks.0
+others_none name rows compile db plan replay session update version none (OfCompile ask) asks = compile asks.0
+others_none name rows compile db plan replay session update version none (OfDb ask file) asks = db asks.0
+others_none name rows compile db plan replay session update version none (OfPlan ask file) asks = plan asks.0
+others_none name rows compile db plan replay session update version none (OfReplay file) asks = replay asks.0
+others_none name rows compile db plan replay session update version none (OfSession ask file) asks = session asks.0
+others_none name rows compile db plan replay session update version none (OfOnce ask file) asks = none ask file asks
+others_none name rows compile db plan replay session update version none (OfUpdate ask file) asks = update asks.0
+others_none name rows compile db plan replay session update version none OfVersion asks = version asks.0
 
 -- what a task of another command says of a command
 pub plan_other : (words : List Text) (task other : Task) → task ≡ other → bytes_eq (command_of (task_ask_of other)) (codes "plan") ≡ false → AsksTask words (task_ask_of task) → plan_asked words ≡ None

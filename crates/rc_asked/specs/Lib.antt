@@ -3,6 +3,7 @@ pub mod Query
 pub mod DbAsked
 pub mod SessionAsked
 pub mod OnceAsked
+pub mod UpdateAsked
 pub mod CompileAsked
 pub mod Limits
 pub mod ReplayAsked

@@ -9,6 +9,7 @@ use Rattle.rc_asked.specs.OnceAsked.{AsksOnceIn, HasNoEvents, OnceAsk, once_ask_
 use Rattle.rc_asked.specs.DbAsked.{AsksIn}
 use Rattle.rc_asked.specs.Query.{DbAsk, db_ask_of}
 use Rattle.rc_asked.specs.SessionAsked.{AsksSessionIn, SessionAsk, session_ask_of}
+use Rattle.rc_asked.specs.UpdateAsked.{AsksUpdateIn, UpdateAsk, update_ask_of}
 use Rattle.rc_asked.specs.declared.task.Task.{Task}
 use Rattle.rc_asked.specs.declared.task.Task.TheVariants as task
 
@@ -20,6 +21,7 @@ pub data TaskAsk : Type 0 where
   OfReplay : Option Text → TaskAsk
   OfSession : SessionAsk → Option Text → TaskAsk
   OfOnce : OnceAsk → Option Text → TaskAsk
+  OfUpdate : UpdateAsk → Option Text → TaskAsk
   OfVersion : TaskAsk
 
 -- the command that is asked
@@ -30,6 +32,7 @@ command_of (OfPlan ask file) = codes "plan"
 command_of (OfReplay file) = codes "replay"
 command_of (OfSession ask file) = codes "session"
 command_of (OfOnce ask file) = once_command ask.what
+command_of (OfUpdate ask file) = codes "update"
 command_of OfVersion = codes "version"
 
 -- the file of `-b` in the matches of a command
@@ -44,6 +47,7 @@ AsksTaskIn rows (OfPlan ask file) = (ask_in rows ≡ Some ask) × (file ≡ file
 AsksTaskIn rows (OfReplay file) = file ≡ file_in rows
 AsksTaskIn rows (OfSession ask file) = AsksSessionIn rows ask × (file ≡ file_in rows)
 AsksTaskIn rows (OfOnce ask file) = AsksOnceIn rows ask × (file ≡ file_in rows)
+AsksTaskIn rows (OfUpdate ask file) = AsksUpdateIn rows ask × (file ≡ file_in rows)
 AsksTaskIn rows OfVersion = Unit {0}
 
 -- the matches of the command of this name ask this
@@ -70,18 +74,22 @@ task_ask_of (task.Plan request file) = OfPlan (ask_of request) (option_map (λ f
 task_ask_of (task.Replay file) = OfReplay (option_map (λ f. f.now) file)
 task_ask_of (task.Session request file) = OfSession (session_ask_of request) (option_map (λ f. f.now) file)
 task_ask_of (task.Once request file) = OfOnce (once_ask_of request) (option_map (λ f. f.now) file)
+task_ask_of (task.Update request file) = OfUpdate (update_ask_of request) (option_map (λ f. f.now) file)
 task_ask_of task.Version = OfVersion
 
 -- a session has a bound on how many states there are, of at least 3
 abbrev pub HasBound : Task → Type 0
 HasBound (task.Session request file) = 3 ≤ request.bound
 HasBound (task.Once request file) = 3 ≤ request.session.bound
+HasBound (task.Update request file) = 3 ≤ request.session.bound
 HasBound other = Unit {0}
 
 -- a session has workers, 64 at most
 abbrev pub HasWorkers : Task → Type 0
 HasWorkers (task.Session request file) = (1 ≤ request.workers) × (request.workers ≤ 64)
 HasWorkers (task.Once request file) =
+    (1 ≤ request.session.workers) × (request.session.workers ≤ 64)
+HasWorkers (task.Update request file) =
     (1 ≤ request.session.workers) × (request.session.workers ≤ 64)
 HasWorkers other = Unit {0}
 

@@ -29,6 +29,8 @@ pub enum WordsFault {
     Query,
     /// They name the file of a session, and ask for no picture.
     Live,
+    /// They name no file that an update wants.
+    Files,
     /// Their number of workers is none from 1 to 64.
     Workers,
     /// Their bound on how many states there are is none of at least 3.
@@ -60,6 +62,7 @@ pub fn plan_asked(alloc: Global, words: &[String]) -> Result<Request, WordsFault
         Ok(Task::Replay(_)) => Err(WordsFault::OtherCommand),
         Ok(Task::Session(..)) => Err(WordsFault::OtherCommand),
         Ok(Task::Once(..)) => Err(WordsFault::OtherCommand),
+        Ok(Task::Update(..)) => Err(WordsFault::OtherCommand),
         Ok(Task::Version) => Err(WordsFault::OtherCommand),
         Err(fault) => Err(fault),
     }
@@ -125,6 +128,13 @@ pub fn tell_words<F: Write>(faults: &mut F, fault: &WordsFault) -> u8
         }
         WordsFault::Live => {
             tell(faults, b"-l of db goes with the query dot alone");
+            WRONG_LINE
+        }
+        WordsFault::Files => {
+            tell(
+                faults,
+                b"update wants -b and -l, or UNDORC_DB and UNDORC_LIVE, and -B",
+            );
             WRONG_LINE
         }
         WordsFault::Workers => {

@@ -31,6 +31,7 @@ pub fn db_asked<'a>(alloc: Global, words: &'a [String]) -> Result<DbRequest<'a>,
         Ok(Task::Replay(_)) => Err(WordsFault::OtherCommand),
         Ok(Task::Session(..)) => Err(WordsFault::OtherCommand),
         Ok(Task::Once(..)) => Err(WordsFault::OtherCommand),
+        Ok(Task::Update(..)) => Err(WordsFault::OtherCommand),
         Ok(Task::Version) => Err(WordsFault::OtherCommand),
         Err(fault) => Err(fault),
     }

@@ -13,6 +13,7 @@ mod session_words;
 mod task;
 mod texts;
 mod transitions;
+mod update_words;
 
 pub use crate::asked::{WordsFault, plan_asked, tell_words};
 pub use crate::compile_words::CompileRequest;
@@ -24,3 +25,4 @@ pub use crate::replay_words::replay_asked;
 pub use crate::session_words::{SessionRequest, session_asked};
 pub use crate::task::{Task, task_of};
 pub use crate::transitions::{ListFault, Transition, transitions_of};
+pub use crate::update_words::UpdateRequest;

@@ -20,6 +20,7 @@ pub fn replay_asked(alloc: Global, words: &[String]) -> Result<(), WordsFault>
         Ok(Task::Plan(..)) => Err(WordsFault::OtherCommand),
         Ok(Task::Session(..)) => Err(WordsFault::OtherCommand),
         Ok(Task::Once(..)) => Err(WordsFault::OtherCommand),
+        Ok(Task::Update(..)) => Err(WordsFault::OtherCommand),
         Ok(Task::Version) => Err(WordsFault::OtherCommand),
         Err(fault) => Err(fault),
     }

@@ -53,6 +53,7 @@ pub fn session_asked<'a>(
         Ok(Task::Plan(..)) => Err(WordsFault::OtherCommand),
         Ok(Task::Replay(_)) => Err(WordsFault::OtherCommand),
         Ok(Task::Once(..)) => Err(WordsFault::OtherCommand),
+        Ok(Task::Update(..)) => Err(WordsFault::OtherCommand),
         Ok(Task::Version) => Err(WordsFault::OtherCommand),
         Err(fault) => Err(fault),
     }

@@ -12,6 +12,7 @@ use crate::db_words::db_in;
 use crate::once_words::{OnceRequest, once_in};
 use crate::query::DbRequest;
 use crate::session_words::{SessionRequest, session_in};
+use crate::update_words::{UpdateRequest, update_in};
 use clap::ArgMatches;
 use rc_command::{entered, is_memory, matches_of};
 use rc_select::Request;
@@ -32,6 +33,8 @@ pub enum Task<'a> {
     Session(SessionRequest<'a>, Option<&'a str>),
     /// A session of one line.
     Once(OnceRequest<'a>, Option<&'a str>),
+    /// What is live, carried over from the database of `-b` to another.
+    Update(UpdateRequest<'a>, Option<&'a str>),
     /// Which version this is.
     Version,
 }
@@ -85,6 +88,7 @@ fn task_named<'a>(
         "plan" => plan_task(alloc, matches),
         "replay" => Ok(Task::Replay(matches.get_str("base"))),
         "session" => session_task(alloc, matches),
+        "update" => update_task(alloc, matches),
         "version" => Ok(Task::Version),
         _ => once_task(alloc, name, matches),
     }
@@ -127,6 +131,17 @@ fn session_task<'a>(alloc: Global, matches: &ArgMatches<'a>) -> Result<Task<'a>,
 {
     match session_in(alloc, matches) {
         Ok(request) => Ok(Task::Session(request, matches.get_str("base"))),
+        Err(fault) => Err(fault),
+    }
+}
+
+// What the matches of `update` ask.
+fn update_task<'a>(alloc: Global, matches: &ArgMatches<'a>) -> Result<Task<'a>, WordsFault>
+    ensures asked { IfOk result (λ task. AsksNamed (codes "update") (rows_of (found_of matches.now)) (task_ask_of task)) }
+    ensures wrong { IfErr result (λ fault. fault ≢ Memory → (ask : TaskAsk) → AsksNamed (codes "update") (rows_of (found_of matches.now)) ask → ⊥) }
+{
+    match update_in(alloc, matches) {
+        Ok(request) => Ok(Task::Update(request, matches.get_str("base"))),
         Err(fault) => Err(fault),
     }
 }

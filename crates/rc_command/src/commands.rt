@@ -4,10 +4,10 @@ ghost use Rattle.clap.specs.Words.{App};
 ghost use Rattle.rc_command.specs.Commands.{IsOwn, Reads, rule_in, bare, bare_program, with_arg, with_command};
 ghost use Rattle.rc_command.specs.Commands.{asking_program, changing_program, program};
 ghost use Rattle.rc_command.specs.Commands.{change_command, compile_command, db_command, plan_command};
-ghost use Rattle.rc_command.specs.Commands.{replay_command, session_command, show_command, step_command};
-ghost use Rattle.rc_command.specs.Commands.{base_option, flag, option, query_word, source_list, word_list};
+ghost use Rattle.rc_command.specs.Commands.{replay_command, session_command, show_command, step_command, update_command};
+ghost use Rattle.rc_command.specs.Commands.{base_option, flag, new_option, option, query_word, source_list, word_list};
 ghost use Rattle.rc_command.specs.Commands.{with_crew, with_live, with_making, with_names, with_once, with_programs};
-ghost use Rattle.rc_command.specs.Commands.{with_session, with_shown, with_watch, with_ways};
+ghost use Rattle.rc_command.specs.Commands.{with_session, with_shown, with_update, with_watch, with_ways};
 
 use clap::{Arg, ArgAction, Command};
 use std::alloc::{AllocError, Global};
@@ -18,6 +18,7 @@ pub(crate) fn undorc_command<'a>(alloc: Global) -> Result<Command<'a>, AllocErro
     ensures { Reads result program }
 {
     let command = changing_command(alloc);
+    let command = with_command(command, update_command(alloc));
     let about = "Prints what is up";
     let command = with_command(command, show_command(alloc, "live", about));
     let about = "Prints what the changes raised and lowered, and which of them are undone";
@@ -236,6 +237,38 @@ fn step_command<'a>(alloc: Global, name: &'a str, about: &'a str) -> Result<Comm
     ensures { Reads result (step_command name.entry.now) }
 {
     with_once(alloc, bare(alloc, name, about))
+}
+
+#[tactic(auto, unfolding(crate::specs::Commands::update_command))]
+fn update_command<'a>(alloc: Global) -> Result<Command<'a>, AllocError>
+    ensures { Reads result update_command }
+{
+    let command = bare(
+        alloc,
+        "update",
+        "Carries what is up over to another database, whose journal begins anew",
+    );
+    let command = with_session(alloc, command);
+    with_update(alloc, command)
+}
+
+// The command with the options of an update.
+fn with_update<'a>(
+    alloc: Global,
+    command: Result<Command<'a>, AllocError>,
+) -> Result<Command<'a>, AllocError>
+    ensures { (app : App) → Reads command.entry app → Reads result (with_update app) }
+{
+    let command = with_arg(command, new_argument(alloc));
+    with_arg(
+        command,
+        flag(
+            alloc,
+            "dry",
+            'n',
+            "Print what would be lowered and raised, and move nothing",
+        ),
+    )
 }
 
 // A command that shows where a session stands.
@@ -504,6 +537,19 @@ fn base_argument<'a>(alloc: Global) -> Arg<'a>
         "FILE",
         "Read the database from this file, and not from the front of the input",
     )
+}
+
+#[tactic(auto, unfolding(crate::specs::Commands::rule_in, crate::specs::Commands::IsOwn, crate::specs::Commands::new_option))]
+fn new_argument<'a>(alloc: Global) -> Arg<'a>
+    ensures rule { rule_in result ≡ new_option }
+    ensures local { IsOwn result }
+{
+    Arg::new(alloc, "new")
+        .short('B')
+        .value_name("FILE")
+        .action(ArgAction::Set)
+        .required(true)
+        .help("Carry what is up over to the database of this file")
 }
 
 #[tactic(auto, unfolding(crate::specs::Commands::rule_in, crate::specs::Commands::IsOwn, crate::specs::Commands::word_list))]

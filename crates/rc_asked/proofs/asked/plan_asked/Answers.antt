@@ -17,6 +17,9 @@ returns-in-Ok-Session-clause-wrong c = λ _. plan_other _ _ _ c.in-Ok-Session.fi
 pub returns-in-Ok-Once-clause-wrong : goal.returns-in-Ok-Once-clause-wrong
 returns-in-Ok-Once-clause-wrong c = λ _. plan_other _ _ _ c.in-Ok-Once.field-0-is (once_other (codes "plan") refl refl refl refl refl refl _) c.in-Ok-Once.ensures.asked
 
+pub returns-in-Ok-Update-clause-wrong : goal.returns-in-Ok-Update-clause-wrong
+returns-in-Ok-Update-clause-wrong c = λ _. plan_other _ _ _ c.in-Ok-Update.field-0-is refl c.in-Ok-Update.ensures.asked
+
 pub returns-in-Ok-Version-clause-wrong : goal.returns-in-Ok-Version-clause-wrong
 returns-in-Ok-Version-clause-wrong c = λ _. plan_other _ _ _ c.in-Ok-Version.field-0-is refl c.in-Ok-Version.ensures.asked
 

@@ -1,0 +1,43 @@
+//! What the words ask of `update`.
+ghost use Rattle.std.specs.Prelude.{◌≢◌, IfErr, IfOk};
+ghost use Rattle.clap.specs.Words.{found_of, rows_of};
+ghost use Rattle.rc_asked.specs.UpdateAsked.{AsksUpdateIn, UpdateAsk, update_ask_of};
+ghost use Rattle.rc_asked.specs.declared.asked.WordsFault.TheVariants.{Memory};
+
+use crate::asked::WordsFault;
+use crate::session_words::{SessionRequest, session_in};
+use clap::ArgMatches;
+use rc_command::is_on;
+use std::alloc::Global;
+
+/// What the words ask of `update`.
+#[derive(Drop)]
+pub struct UpdateRequest<'a> {
+    /// What is asked of the sessions that it makes: its file is that of what is live.
+    pub session: SessionRequest<'a>,
+    /// The file of the new database.
+    pub new: &'a str,
+    /// Whether it is shown, and not done.
+    pub dry: bool,
+}
+
+/// What the matches of `update` ask.
+pub(crate) fn update_in<'a>(
+    alloc: Global,
+    matches: &ArgMatches<'a>,
+) -> Result<UpdateRequest<'a>, WordsFault>
+    ensures asked { IfOk result (λ request.
+        AsksUpdateIn (rows_of (found_of matches.now)) (update_ask_of request)) }
+    ensures wrong { IfErr result (λ fault. fault ≢ Memory → (ask : UpdateAsk) →
+        AsksUpdateIn (rows_of (found_of matches.now)) ask → ⊥) }
+{
+    let Some(new) = matches.get_str("new") else {
+        return Err(WordsFault::Files);
+    };
+    let session = session_in(alloc, matches)?;
+    Ok(UpdateRequest {
+        session,
+        new,
+        dry: is_on(matches, "dry"),
+    })
+}
