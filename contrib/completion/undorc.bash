@@ -37,6 +37,7 @@ _undorc_options() {
         session) echo "-b -l -W -n $making" ;;
         change) echo "-b -l -W -t -n -u -d -D -p -a $making" ;;
         undo | redo) echo "-b -l -W -t -n $making" ;;
+        update) echo "-b -B -l -W -n $making" ;;
         live | journal) echo -b -l -W ;;
     esac
 }
@@ -45,7 +46,7 @@ _undorc_options() {
 _undorc_has_value() {
     case $1$2 in
         session-n) return 0 ;;
-        *-[blorcxTtw]) return 0 ;;
+        *-[bBlorcxTtw]) return 0 ;;
     esac
     return 1
 }
@@ -114,7 +115,7 @@ _undorc_failing() {
 # Offers the value of an option.
 _undorc_value() {
     case $1 in
-        -b | -l | -o)
+        -b | -B | -l | -o)
             compopt -o filenames 2> /dev/null
             mapfile -t COMPREPLY < <(compgen -f -- "${words[-1]}")
             ;;
@@ -157,8 +158,8 @@ _undorc_words() {
 }
 
 _undorc_commands() {
-    _undorc_offer < <(printf '%s\n' compile db plan replay session change undo redo live journal \
-        version help)
+    _undorc_offer < <(printf '%s\n' compile db plan replay session change undo redo update live \
+        journal version help)
 }
 
 # Takes from the front what bash does not count to the word: up to the last character at which it

@@ -18,7 +18,7 @@ function __undorc_words
     for word in $words[3..-1]
         if set -q skip[1]
             set -e skip[1]
-        else if string match -q -r -- '^-[blorcxTtw]$' $word
+        else if string match -q -r -- '^-[bBlorcxTtw]$' $word
             set skip yes
         else if not string match -q -- '-*' $word
             echo -- $word
@@ -89,14 +89,15 @@ complete -c undorc -n __undorc_is -a session -d 'Do what lines say, and answer t
 complete -c undorc -n __undorc_is -a change -d 'Raise or lower services with all that this needs'
 complete -c undorc -n __undorc_is -a undo -d 'Take the last change back'
 complete -c undorc -n __undorc_is -a redo -d 'Make the change again that was undone last'
+complete -c undorc -n __undorc_is -a update -d 'Carry what is up over to another database'
 complete -c undorc -n __undorc_is -a live -d 'Print what is up'
 complete -c undorc -n __undorc_is -a journal -d 'Print what the changes did'
 complete -c undorc -n __undorc_is -a version -d 'Print the version'
 complete -c undorc -n __undorc_is -a help -d 'Print help'
 
-set -l based db plan replay session change undo redo live journal
-set -l lived session change undo redo live journal
-set -l makes session change undo redo
+set -l based db plan replay session change undo redo update live journal
+set -l lived session change undo redo update live journal
+set -l makes session change undo redo update
 set -l once change undo redo
 set -l ways plan change
 
@@ -123,4 +124,6 @@ complete -c undorc -n '__undorc_is compile' -a '(__fish_complete_directories)' -
 complete -c undorc -n '__undorc_is db' -s d -d 'Ask for what needs the names, or for the way down'
 complete -c undorc -n '__undorc_is db' -s l -r -F -d 'With dot: fill what is up in this session'
 complete -c undorc -n '__undorc_is db' -a '(__undorc_query)'
+complete -c undorc -n '__undorc_is update' -s B -r -F -d 'Carry over to this database'
+complete -c undorc -n '__undorc_is update' -s n -d 'Print what would be done, and move nothing'
 complete -c undorc -n '__undorc_is session' -s n -x -d 'Keep so many states of a new session'

@@ -1,1 +1,3 @@
 pub mod OnceLemmas
+pub mod UpdateLemmas
+pub mod SparingLemmas

@@ -231,7 +231,7 @@ fault_with (Ok a) reader writer keeper more kept f h fails = tt
 fault_with (Err fault) reader writer keeper more kept f h fails = fault_wider fault reader writer keeper more writer kept f (λ w. w) h fails
 
 -- what one line comes to is the same by another word for how commands are done
-once_on : (P Q : EndsIn) (ending : Ending) (d : Database) (here : Line) (what : OnceSaying) (text : List ℕ) (new : Line) → ((command : Command) → P ending d here command text new → Q ending d here command text new)
+pub once_on : (P Q : EndsIn) (ending : Ending) (d : Database) (here : Line) (what : OnceSaying) (text : List ℕ) (new : Line) → ((command : Command) → P ending d here command text new → Q ending d here command text new)
     → EndsOnce P ending d here what text new → EndsOnce Q ending d here what text new
 once_on P Q ending d here (Said saying) text new on ends = ends_on P Q ending d here saying text new on ends
 once_on P Q ending d here WantsDryUndo text new on ends = ends
@@ -272,7 +272,7 @@ by_programs of d workers runner controller limit scripts ending here command tex
     subst (λ (g : Scripts). IsDoneAs workers (MayAnswer g) (λ m. Unit {0}) ending d here command text new) is done
 
 -- and so is what came before a fault
-line_as : (fault : ServeFault) (kept : Keeping) (P Q : EndsIn) (d : Database) (here : Line) (what : OnceSaying) (written gained : Option (List ℕ))
+pub line_as : (fault : ServeFault) (kept : Keeping) (P Q : EndsIn) (d : Database) (here : Line) (what : OnceSaying) (written gained : Option (List ℕ))
     → ((ending : Ending) (here : Line) (command : Command) (text : List ℕ) (new : Line) → P ending d here command text new → Q ending d here command text new)
     → StopsLine fault kept P d here what written gained → StopsLine fault kept Q d here what written gained
 line_as fault kept P Q d here what written gained on (inl none) = inl none
@@ -309,7 +309,7 @@ gated_on (Failed fault) filing P d workers making what written gained reader wri
   ],
 )
 
-file_fault : (ask : SessionAsk) (file : LiveFile) (reader writer failed : Type 0) (f : ServeFault) → IsOfFile f → ((f ≡ Io) → (ask.live ≢ None) × IsUnread file) → IsServeFault reader writer (CannotKeep ask file failed) f
+pub file_fault : (ask : SessionAsk) (file : LiveFile) (reader writer failed : Type 0) (f : ServeFault) → IsOfFile f → ((f ≡ Io) → (ask.live ≢ None) × IsUnread file) → IsServeFault reader writer (CannotKeep ask file failed) f
 file_fault ask file reader writer failed Read u io = absurd u
 file_fault ask file reader writer failed Write u io = absurd u
 file_fault ask file reader writer failed TooLong u io = absurd u

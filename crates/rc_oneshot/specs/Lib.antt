@@ -1,2 +1,4 @@
 pub mod Once
 pub mod OnceEnds
+pub mod Updating
+pub mod UpdateEnds

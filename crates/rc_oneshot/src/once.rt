@@ -112,8 +112,8 @@ pub fn once_as_asked<T: Threads + Wait + Sync, R: Read, W: Write, F: Write, S: S
     }
 }
 
-// The status of a line that was answered.
-fn status_of(ending: Ending) -> u8
+/// The status of a line that was answered.
+pub(crate) fn status_of(ending: Ending) -> u8
     ensures statuses { (result ≡ 0) ⊎ (result ≡ 1) ⊎ (result ≡ 2) }
     ensures done { result ≡ 0 → ending ≡ Done }
     ensures refused { result ≡ 1 → ending ≡ Refused }

@@ -296,8 +296,8 @@ fn serve_once<T: Threads + Wait + Sync, W: Write, G: Gate, S: Store>(
     }
 }
 
-// Does what a line says. A command alone is kept.
-fn line_once<T: Threads + Wait + Sync, W: Write, G: Gate, S: Store>(
+/// Does what a line says. A command alone is kept.
+pub(crate) fn line_once<T: Threads + Wait + Sync, W: Write, G: Gate, S: Store>(
     rt: &T,
     alloc: Global,
     session: &mut Session,
@@ -328,6 +328,7 @@ fn line_once<T: Threads + Wait + Sync, W: Write, G: Gate, S: Store>(
         (W.contents (inner_of writer.old)) (W.contents (inner_of writer.new)) session.old) }
     ensures fault { IfErr result (IsServeFault ⊥ (HasFailed writer.new)
         (((session_ask_of request.now).live ≢ None) × S.failed (store_of keeper.new))) }
+    ensures sound { OnOk result (HasFailed writer.new → ⊥) }
 {
     if is_kept(request, said) {
         return keep_once(
@@ -388,6 +389,7 @@ fn keep_once<T: Threads + Wait + Sync, W: Write, G: Gate, S: Store>(
         (W.contents (inner_of writer.old)) (W.contents (inner_of writer.new)) session.old) }
     ensures fault { IfErr result (IsServeFault ⊥ (HasFailed writer.new)
         (S.failed (store_of keeper.new))) }
+    ensures sound { OnOk result (HasFailed writer.new → ⊥) }
 {
     match keeper.keep(alloc, session) {
         Ok(()) => answer_once(rt, alloc, session, keeper, gate, workers, said, writer),

@@ -61,7 +61,7 @@ impl<'a> Seen<'a> {
     }
 
     /// Whether a database stands there.
-    fn is_good(&self, rt: &HostRuntime) -> bool {
+    pub fn is_good(&self, rt: &HostRuntime) -> bool {
         let request = DbRequest {
             query: Query::Check,
             way: Way::Raise,

@@ -11,6 +11,7 @@ mod own_name;
 mod replaced_file;
 mod sessions;
 mod terminal;
+mod updates;
 mod usual;
 
 use crate::asking::{db, plan, replay};
@@ -18,6 +19,7 @@ use crate::compiling::compile;
 use crate::hints::tell_failure;
 use crate::own_name::OwnName;
 use crate::sessions::{once, session};
+use crate::updates::update;
 use crate::usual::{Usual, usual_at};
 use rc_asked::{Task, task_of, tell_words};
 use std::env;
@@ -61,6 +63,7 @@ fn run<'a, T: Threads + Wait + Sync>(
         Ok(Task::Replay(file)) => replay(rt, usual.base_or(file)),
         Ok(Task::Session(request, file)) => session(rt, threads, request, file, usual),
         Ok(Task::Once(request, file)) => once(rt, threads, request, file, usual),
+        Ok(Task::Update(request, file)) => update(rt, threads, request, file, usual),
         Ok(Task::Version) => version(rt),
         Err(fault) => tell_words(&mut rt.stderr(), &fault),
     }

@@ -148,7 +148,7 @@ fn once_input(file: Option<&str>) -> Option<&'static str> {
 }
 
 /// The lock of the file of `-l`, where one is named. It is held until it is dropped.
-fn lock_at(
+pub fn lock_at(
     rt: &HostRuntime,
     file: Option<&str>,
     waits: bool,
@@ -160,7 +160,7 @@ fn lock_at(
 }
 
 /// Tells why a lock was not taken, and answers the status.
-fn tell_lock(rt: &HostRuntime, file: Option<&str>, fault: &LockFault) -> u8 {
+pub fn tell_lock(rt: &HostRuntime, file: Option<&str>, fault: &LockFault) -> u8 {
     match fault {
         LockFault::Busy => tell_failure(rt, "undorc: Busy"),
         LockFault::Failed(error) => tell_file(rt, file.unwrap_or(""), error),
@@ -184,7 +184,7 @@ pub fn live_at(rt: &HostRuntime, file: Option<&str>) -> io::Result<Option<Vec<u8
 }
 
 /// What stood in the file of `-l`.
-fn live_file(read: &io::Result<Option<Vec<u8>>>) -> LiveFile<'_> {
+pub fn live_file(read: &io::Result<Option<Vec<u8>>>) -> LiveFile<'_> {
     match read {
         Ok(Some(bytes)) => LiveFile::Text(bytes),
         Ok(None) => LiveFile::Missing,

@@ -1,0 +1,109 @@
+//! `update`: what is live is carried over to another database, and kept in the file of `-l`.
+ghost use Rattle.std.specs.Prelude.{◌≤◌};
+ghost use Rattle.rc_board.specs.Crew.{IsCrew};
+
+use crate::hints::{Seen, behind_session, tell_file};
+use crate::live_store::LiveStore;
+use crate::sessions::{live_at, live_file, lock_at, tell_lock};
+use crate::usual::Usual;
+use rc_asked::{UpdateRequest, WordsFault, tell_words};
+use rc_hints::Told;
+use rc_oneshot::update_as_asked;
+use rc_sessions::TextKeeper;
+use rc_streams::Noted;
+use std::fs;
+use std::sync::Wait;
+use std::thread::Threads;
+
+/// Carries out an update, or shows it, and answers the status.
+pub fn update<'a, T: Threads + Wait + Sync>(
+    rt: &'a HostRuntime,
+    threads: &T,
+    request: UpdateRequest<'a>,
+    file: Option<&'a str>,
+    usual: &'a Usual,
+) -> u8
+    requires crew { IsCrew request.session.workers }
+    requires bound { 3 ≤ request.session.bound }
+{
+    let named = usual.live_or(request.session.live);
+    let (Some(file), Some(live)) = (usual.base_or(file), named) else {
+        return tell_words(&mut rt.stderr(), &WordsFault::Files);
+    };
+    let mut session = request.session;
+    session.live = named;
+    let request = UpdateRequest {
+        session,
+        new: request.new,
+        dry: request.dry,
+    };
+    update_at(rt, threads, &request, file, live)
+}
+
+/// The same with the file of the old database, and that of what is live.
+fn update_at<T: Threads + Wait + Sync>(
+    rt: &HostRuntime,
+    threads: &T,
+    request: &UpdateRequest<'_>,
+    file: &str,
+    live: &str,
+) -> u8
+    requires crew { IsCrew request.now.session.workers }
+    requires bound { 3 ≤ request.now.session.bound }
+{
+    let old = match fs::read(rt, file) {
+        Ok(old) => old,
+        Err(error) => return tell_file(rt, file, &error),
+    };
+    let new = match fs::read(rt, request.new) {
+        Ok(new) => new,
+        Err(error) => return tell_file(rt, request.new, &error),
+    };
+    let kept = if request.dry { None } else { Some(live) };
+    let lock = match lock_at(rt, kept, request.session.waits) {
+        Ok(lock) => lock,
+        Err(fault) => return tell_lock(rt, Some(live), &fault),
+    };
+    let text = live_at(rt, Some(live));
+    let mut told = Told::new(rt.alloc(), rt.stderr());
+    let status = update_as_asked(
+        threads,
+        rt,
+        rt.alloc(),
+        request,
+        &old,
+        &new,
+        live_file(&text),
+        &mut TextKeeper::new(LiveStore::new(rt, live)),
+        &mut Noted::new(rt.stdout()),
+        &mut told,
+    );
+    drop(lock);
+    let seen = seen_of(rt, file, &old, request.new, &new);
+    behind_session(rt, Some(live), &text, &seen, &told);
+    status
+}
+
+/// The database of which a fault may be: the old one, and where that is right the new one.
+fn seen_of<'a>(
+    rt: &HostRuntime,
+    file: &'a str,
+    old: &'a [u8],
+    new_file: &'a str,
+    new: &'a [u8],
+) -> Seen<'a> {
+    let seen = Seen {
+        file: Some(file),
+        base: Some(old),
+        input: &[],
+    };
+    let other = Seen {
+        file: Some(new_file),
+        base: Some(new),
+        input: &[],
+    };
+    if seen.is_good(rt) && !other.is_good(rt) {
+        return other;
+    }
+    seen
+}

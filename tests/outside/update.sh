@@ -1,0 +1,375 @@
+# `update`: what is lowered, what is raised, what is never moved, what is kept, and how it ends. tests/program.sh reads
+# this file.
+mkdir updates
+cd updates
+: > in
+
+# service NAME NEEDS..: a oneshot in the folder `tree` whose scripts note what they do in `log`
+service() {
+    mkdir -p "tree/$1"
+    echo oneshot > "tree/$1/type"
+    echo "echo up $1 >> log" > "tree/$1/up"
+    echo "echo down $1 >> log" > "tree/$1/down"
+    name=$1
+    shift
+    printf '%s\n' "$@" > "tree/$name/dependencies"
+}
+# compiled FILE: the database of `tree`
+compiled() { "$program" compile tree > "$1"; }
+# old_tree: the tree of the old database
+old_tree() {
+    rm -rf tree
+    service a
+    service b a
+    service c b
+    service d
+    service e d
+    service f
+}
+# fresh: what is live before an update: all but `f`
+fresh() {
+    cp live.old live
+    : > log
+}
+# same WHAT FILE FILE: two files are one
+same() {
+    passed=$((passed + 1))
+    if ! cmp -s "$2" "$3"; then
+        passed=$((passed - 1))
+        failed=$((failed + 1))
+        echo "FAILED: $1:"
+        diff -a -u "$2" "$3" || true
+    fi
+}
+# moved LINES: the scripts that were run, in any order
+moved() {
+    printf '%b' "$1" > log.wanted
+    sort log > log.sorted
+    same "the scripts of undorc $words" log.wanted log.sorted
+}
+# kept LIVE JOURNAL: what the file says by the new database
+kept() {
+    expect 0 "live$1\nok\n" '' '' live -b new -l live
+    expect 0 "$2\nok\n" '' '' journal -b new -l live
+}
+# update STATUS OUTPUT FAULT WORDS..: an update to the database `new`, of what is live in `live`
+update() {
+    words="update $*"
+    ends=$1 output=$2 fault=$3
+    shift 3
+    expect "$ends" "$output" "$fault" '' update -b old -B new -l live "$@"
+}
+# carries LOWERED RAISED LOG LIVE JOURNAL: an update by scripts, what is shown of it before, and the same by a table
+carries() {
+    fresh
+    lower='' raise=''
+    [ -z "$1" ] || lower="lower$1\\n"
+    [ -z "$2" ] || raise="raise$2\\n"
+    update 0 "${lower}ok\n${raise}ok\n" '' -n
+    same "what update -n leaves" live.old live
+    [ -z "$1" ] || lower="lowered$1\\n"
+    [ -z "$2" ] || raise="raised$2\\n"
+    update 0 "${lower}ok\n${raise}ok\n" '' -x none
+    moved ''
+    kept "$4" "$5"
+    fresh
+    update 0 "${lower}ok\n${raise}ok\n" ''
+    moved "$3"
+    kept "$4" "$5"
+    cp live live.done
+    expect 0 'ok\nok\n' '' '' update -b new -B new -l live
+}
+old_tree
+compiled old
+expect 0 'raised a b c d e\nok\n' '' '' change c e -b old -l live.old
+all='at 0 of 1'
+
+# The same database: nothing moves, and the journal begins anew.
+cp old new
+carries '' '' '' ' a b c d e' "$all"
+
+# What is said of a service is altered: its way up, its way down, its limits, whether it is essential. What needs it goes
+# with it, what it needs does not.
+lines='down b\ndown c\nup b\nup c\n'
+back='at 1 of 2\n0 +b +c'
+for file in up down timeout-up timeout-down flag-essential; do
+    old_tree
+    case $file in
+        up | down) echo "echo $file b >> log; :" > "tree/b/$file" ;;
+        *) echo 1000 > "tree/b/$file" ;;
+    esac
+    compiled new
+    carries ' b c' ' b c' "$lines" ' a b c d e' "$back"
+done
+
+# It needs more, less, or another.
+old_tree
+service b a d
+compiled new
+carries ' b c' ' b c' "$lines" ' a b c d e' "$back"
+old_tree
+service b
+compiled new
+carries ' b c' ' b c' "$lines" ' a b c d e' "$back"
+old_tree
+service b d
+compiled new
+carries ' b c' ' b c' "$lines" ' a b c d e' "$back"
+
+# It needs what was down, and what is new; that comes up with it.
+old_tree
+service b a f
+compiled new
+carries ' b c' ' b c f' 'down b\ndown c\nup b\nup c\nup f\n' ' a b c d e f' 'at 1 of 2\n0 +b +c +f'
+old_tree
+service b a z
+service z
+compiled new
+carries ' b c' ' b c z' 'down b\ndown c\nup b\nup c\nup z\n' ' a b c d e z' 'at 1 of 2\n0 +b +c +z'
+
+# What is new, or was down, and is needed by nothing that was up stays down, however it is altered.
+old_tree
+service f a
+service z
+compiled new
+carries '' '' '' ' a b c d e' "$all"
+
+# It is gone, and so is what needs it; or what needs it needs it no more; or all is gone.
+old_tree
+rm -r tree/c
+compiled new
+carries ' c' '' 'down c\n' ' a b d e' "$all"
+old_tree
+rm -r tree/b tree/c
+compiled new
+carries ' b c' '' 'down b\ndown c\n' ' a d e' "$all"
+old_tree
+rm -r tree/b
+service c a
+compiled new
+carries ' b c' ' c' 'down b\ndown c\nup c\n' ' a c d e' 'at 1 of 2\n0 +c'
+old_tree
+rm -r tree/a tree/b tree/c tree/d tree/e
+compiled new
+carries ' a b c d e' '' 'down a\ndown b\ndown c\ndown d\ndown e\n' '' "$all"
+
+# Another service takes a name's place: it is the name that counts.
+old_tree
+rm -r tree/a
+service b
+compiled new
+carries ' a b c' ' b c' 'down a\ndown b\ndown c\nup b\nup c\n' ' b c d e' "$back"
+
+# A service becomes a bundle; a bundle that was added to the session is gone.
+old_tree
+rm -r tree/c
+mkdir tree/c
+echo bundle > tree/c/type
+echo b > tree/c/contents
+compiled new
+carries ' c' '' 'down c\n' ' a b d e' "$all"
+fresh
+printf 'add mine a\n' | "$program" session -b old -x none -l live > out
+update 0 'lowered c\nok\nok\n' '' -x none
+printf 'bundles\n' | "$program" session -b new -x none -l live > out
+wants 'bundle c b\nok\n' ''
+: > err
+echo 0 > status
+judge 'the bundles behind an update are those of the new database' 0
+
+# An essential service that is altered is lowered, too.
+old_tree
+touch tree/a/flag-essential
+compiled old
+old_tree
+compiled new
+carries ' a b c' ' a b c' 'down a\ndown b\ndown c\nup a\nup b\nup c\n' ' a b c d e' 'at 1 of 2\n0 +a +b +c'
+old_tree
+compiled old
+
+# A longrun in a oneshot's place, by the controller and the runner that are named.
+old_tree
+rm -r tree/b
+mkdir tree/b
+echo longrun > tree/b/type
+echo run > tree/b/run
+echo a > tree/b/dependencies
+compiled new
+printf '#!/bin/sh\necho "$1 $2, by the controller" >> log\n' > controller
+chmod 755 controller
+fresh
+update 0 'lowered b c\nok\nraised b c\nok\n' '' -c ./controller
+moved 'down b\ndown c\nup b, by the controller\nup c\n'
+kept ' a b c d e' "$back"
+fresh
+update 2 'lowered b c\nok\nfailed b\nblocked c\nok\n' ''
+moved 'down b\ndown c\n'
+kept ' a d e' "$all"
+
+# Nothing is live: in a file that is not there, and in one of a state of nothing.
+rm -f nothing
+expect 0 'ok\nok\n' '' '' update -b old -B new -l nothing
+expect 0 'live\nok\n' '' '' live -b new -l nothing
+rm -f nothing
+expect 0 'ok\nok\n' '' '' update -n -b old -B new -l nothing
+[ ! -e nothing ] || cp nothing live
+same 'update -n makes no file' live live
+
+# The bound of the old line is that of the new one.
+rm -f live
+printf 'change c e\n' | "$program" session -b old -x none -l live -n 7 > out
+update 0 'lowered b c\nok\nraised b c\nok\n' '' -x none
+grep '^bound' live > out
+wants 'bound 7\n' ''
+: > err
+echo 0 > status
+judge 'the bound is carried over' 0
+
+# What fails on its way down is not lowered, nor what it needs: the old database stands, and nothing is raised by the new.
+old_tree
+service b a d
+rm -r tree/e
+compiled new
+fresh
+update 2 'lowered c e\nfailed b\nok\n' '' -x down:b
+expect 0 'live a b d\nok\n' '' '' live -b old -l live
+expect 1 '' 'undorc: OtherDb\n' '' live -b new -l live
+expect 0 'at 2 of 3\n0 +a +b +c +d +e\n1 -c -e\nok\n' '' '' journal -b old -l live
+# The same command again lowers the rest; an undo first brings back what the first one lowered.
+cp live live.half
+update 0 'lowered b\nok\nraised b\nok\n' '' -x none
+kept ' a b d' 'at 1 of 2\n0 +b'
+cp live.half live
+expect 0 'raised c e\nok\n' '' '' undo -b old -x none -l live
+update 0 'lowered b c e\nok\nraised b c\nok\n' '' -x none
+kept ' a b c d' "$back"
+fresh
+update 2 'lowered e\nfailed c\nblocked b\nok\n' '' -x down:c
+expect 0 'live a b c d\nok\n' '' '' live -b old -l live
+
+# What fails on its way up is not up in the new database, whose journal goes on from there.
+fresh
+update 2 'lowered b c e\nok\nfailed b\nblocked c\nok\n' '' -x up:b
+kept ' a d' "$all"
+expect 0 'raised b c\nok\n' '' '' change c -b new -x none -l live
+fresh
+update 2 'lowered b c e\nok\nraised b\nfailed c\nok\n' '' -x up:c
+kept ' a b d' 'at 1 of 2\n0 +b'
+expect 0 'lowered b\nok\n' '' '' undo -b new -x none -l live
+fresh
+update 2 'lowered b c e\nok\nraised b\nfailed c\nok\n' '' -x up:c,down:f,down:a,up:a
+kept ' a b d' 'at 1 of 2\n0 +b'
+
+# What is refused: nothing is moved, and nothing written.
+refused() {
+    fresh
+    status=$1 fault=$2
+    shift 2
+    expect "$status" '' "$fault" '' update -l live "$@"
+    moved ''
+    same "what a refused update leaves" live.old live
+}
+words=refused
+refused 1 'undorc: Unknown e\n' -b old -B new -x up:e
+refused 1 'undorc: Unknown z\n' -b old -B new -x up:e,down:z
+refused 1 'undorc: Unknown z\n' -b old -B new -x down:z
+refused 1 'undorc: Bad 0\n' -b log -B new
+refused 1 'undorc: Bad 0\n' -b old -B log
+refused 1 'undorc: Bad 0\n' -b live -B log
+refused 1 'undorc: OtherDb\n' -b new -B old
+refused 111 'undorc: Io\n' -b nowhere -B new
+refused 111 'undorc: Io\n' -b old -B nowhere
+refused 111 'undorc: Io\n' -b . -B new
+refused 1 'undorc: Unknown e\n' -n -b old -B new -x up:e
+echo notes > notes
+expect 1 '' 'undorc: Bad 0\n' '' update -b old -B new -l notes
+expect 111 '' 'undorc: Io\n' '' update -b old -B new -l .
+expect 111 '' 'undorc: Io\n' '' update -b old -B new -l nowhere/live
+
+# Wrong lines.
+wrong update -b old -l live
+wrong update -B new -l live
+wrong update -b old -B new
+wrong update -b old -B new -l live a
+wrong update -b old -B new -l live -w 0
+wrong update -b old -B new -l live -w 65
+wrong update -b old -B new -l live -T x
+wrong update -b old -B new -l live -x a
+wrong update -b old -B new -l live -u
+wrong update -b old -B new -B new -l live
+wrong update
+
+# The files that the environment names.
+fresh
+UNDORC_DB=old UNDORC_LIVE=live
+export UNDORC_DB UNDORC_LIVE
+expect 0 'lower b c e\nok\nraise b c\nok\n' '' '' update -B new -n
+expect 0 'lowered b c e\nok\nraised b c\nok\n' '' '' update -B new -x none
+unset UNDORC_DB UNDORC_LIVE
+kept ' a b c d' "$back"
+
+# Each transition is told with -v, in the order of both steps.
+fresh
+wants 'lowered b c e\nok\nraised b c\nok\n' 'down c: ok\ndown b: ok\ndown e: ok\nup b: ok\nup c: ok\n'
+runs update -b old -B new -l live -x none -v -w 1
+timeless err
+judge 'update -v' 0
+
+# An output that is full: nothing of the second step is done.
+fresh
+wants '' 'undorc: Write\n'
+echo 0 > status
+: > out
+"$program" update -b old -B new -x none -l live > /dev/full 2> err || echo $? > status
+judge 'an update whose output is full' 111
+expect 0 'live a d\nok\n' '' '' live -b old -l live
+
+# Its lock: who holds it hinders an update, and not one that is only shown.
+fresh
+mkfifo gate
+service slow
+echo 'read -r x < gate' > tree/slow/up
+compiled other
+{ "$program" change slow -b other -l other.live > other.out 2>&1 || true; } &
+until [ -e other.live ]; do sleep 0.05; done
+cp other.live other.before
+expect 111 '' 'undorc: Busy\n' '' update -b other -B new -l other.live -x none
+expect 0 'ok\nok\n' '' '' update -b other -B new -l other.live -n
+same 'what an update that is hindered leaves' other.before other.live
+{ "$program" update -b other -B new -l other.live -W > waited.out 2> waited.err; echo $? > waited; } &
+echo > gate
+wait
+printf 'lowered slow\nok\nok\n' > wanted
+same 'an update that waits' wanted waited.out
+expect 0 'live\nok\n' '' '' live -b new -l other.live
+
+# Killed at any moment it leaves the old file or the new one.
+old_tree
+for name in a b c d e; do
+    echo 'sleep 0.02' > "tree/$name/up"
+    echo 'sleep 0.02' > "tree/$name/down"
+done
+compiled slow
+"$program" change c e -b slow -x none -l slow.live > out
+old_tree
+compiled new
+passed=$((passed + 1))
+for tenths in 00 01 02 03 04 05 06 07 08 09 10 11 12 13 14 15 16 17 18 19 20 21; do
+    cp slow.live live
+    "$program" update -b slow -B new -l live -w 1 > out 2> err &
+    updating=$!
+    sleep "0.$tenths"
+    kill -9 "$updating" 2> /dev/null || true
+    wait "$updating" 2> /dev/null || true
+    if ! "$program" live -b slow -l live > out 2> err && ! "$program" live -b new -l live > out 2> err; then
+        cat err
+        echo broken
+    fi
+done > broken
+if [ -s broken ]; then
+    passed=$((passed - 1))
+    failed=$((failed + 1))
+    echo 'FAILED: a killed update leaves neither file:'
+    cat broken
+fi
+cd ..
