@@ -32,7 +32,12 @@ pub(crate) type Row = (&'static str, &'static [Kind], How, &'static [Kind]);
 const NONE: &[Kind] = &[];
 
 pub(crate) static ROWS: [Row; 38] = [
-    ("Set::empty", NONE, How::Value(Value::SetEmpty), NONE),
+    (
+        "Set::empty, join, same, len and without",
+        &[Kind::Up],
+        How::Value(Value::SetEmpty),
+        NONE,
+    ),
     ("Set::copy", &[Kind::Up], How::Value(Value::SetCopy), NONE),
     ("Set::ids", &[Kind::Up], How::Value(Value::SetIds), NONE),
     ("Name::read", NONE, How::Value(Value::NameRead), NONE),

@@ -63,7 +63,13 @@ pub(crate) fn told_of(
 
 fn is_set(alloc: Global, set: &Set, value: Value) -> Result<bool, NoMem> {
     match value {
-        Value::SetEmpty => Ok(Set::empty(alloc, 5)?.is_empty()),
+        Value::SetEmpty => {
+            let mut made = Set::empty(alloc, set.bound())?;
+            made.join(set);
+            let is_same = made.same(set) && made.len() == set.len();
+            made.without(set);
+            Ok(is_same && made.is_empty())
+        }
         Value::SetCopy => Ok(set.copy(alloc)?.same(set)),
         _ => has_ids(alloc, set, &[0, 1, 2, 3, 4]),
     }
