@@ -93,5 +93,23 @@ if [ "$supervisor" = s6 ]; then
     mv elsewhere scan/spare
 fi
 
+# An update moves what is altered and what needs it: the others are the processes that they were.
+# numbers: the process numbers of the longruns that are not altered
+numbers() { for name in app log slow spare; do number "$name"; done; }
+numbers > numbers.before
+echo 30000 > services/web/timeout-up
+"$program" compile -o new services
+"$folder/manage" update -B "$room/new" -n > out 2> err
+wants 'lower web\nok\nraise web\nok\n' ''
+echo 0 > status
+judges 'an update that is shown' 0
+"$folder/manage" update -B "$room/new" > out 2> told || echo $? > status
+wants 'lowered web\nok\nraised web\nok\n' ''
+judges 'an update' 0
+mv new db
+numbers > numbers.after
+holds 'an update leaves the processes alone that it does not name' cmp -s numbers.before numbers.after
+does 0 'ok\n' "$folder/manage" change web
+
 does 0 'lowered app log net root slow spare web\nok\n' "$folder/shutdown"
 does 0 'ok\n' "$folder/shutdown"
