@@ -7,7 +7,7 @@ use Rattle.clap.specs.declared.ArgMatches.{ArgMatches}
 use Rattle.rc_select.specs.declared.request.Mode.{Mode}
 use Rattle.rc_select.specs.Ask.{Ask}
 use Rattle.rc_session.specs.Commands.{Add, Change, Delete, Redo, Undo}
-use Rattle.rc_lines.specs.Says.{SaysBundles, SaysDry, SaysJournal, SaysLive, SaysNothing, SaysStep, SaysWrong}
+use Rattle.rc_script.specs.Says.{SaysBundles, SaysDry, SaysJournal, SaysLive, SaysNothing, SaysStep, SaysWrong}
 use Rattle.rc_command.specs.Words.{is_on, words_in}
 use Rattle.rc_asked.specs.Asked.{ask_in, mode_of}
 use Rattle.rc_asked.specs.Limits.{IsLimitIn}

@@ -9,7 +9,7 @@ use Rattle.clap.specs.declared.ArgMatches.{ArgMatches}
 use Rattle.clap.proofs.WalkLemmas.{first_value-rows}
 use Rattle.rc_select.specs.Ask.{Ask}
 use Rattle.rc_session.specs.Commands.{Add, Change, Delete, Redo, Undo}
-use Rattle.rc_lines.specs.Says.{SaysBundles, SaysDry, SaysJournal, SaysLive, SaysNothing, SaysStep, SaysWrong}
+use Rattle.rc_script.specs.Says.{SaysBundles, SaysDry, SaysJournal, SaysLive, SaysNothing, SaysStep, SaysWrong}
 use Rattle.rc_command.specs.Commands.{program}
 use Rattle.rc_command.specs.Words.{has_fault, rows_for, rows_named}
 use Rattle.rc_command.proofs.WordsLemmas.{rows_right, rows_wrong}

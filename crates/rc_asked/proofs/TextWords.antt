@@ -8,7 +8,7 @@ use Rattle.std.proofs.lemmas.List.Sums.{fails_before_first, passes_at_first}
 use Rattle.std.proofs.lemmas.Str.{IsUtf8-drop, IsUtf8-take, IsCharBoundary-after_ascii, IsCharBoundary-before_ascii}
 use Rattle.std.specs.List.{position_or_len, slice_split}
 use Rattle.std.specs.Str.{IsUtf8}
-use Rattle.rc_lines.specs.Words.{is_blank, words_in}
+use Rattle.rc_script.specs.Words.{is_blank, words_in}
 
 -- a blank is ASCII
 blank_low : (b : ℕ) → is_blank b ≡ true → b < 128

@@ -1,7 +1,7 @@
 -- How the transitions of a session are made, by its options.
 use Rattle.std.specs.Prelude.{◌≡◌, ℕ, List, Option, None, Some, [], codes, unwrap_or}
 use Rattle.clap.specs.Words.{Row, Text, first_of}
-use Rattle.rc_lines.specs.Words.{words_in as spaced}
+use Rattle.rc_script.specs.Words.{words_in as spaced}
 use Rattle.rc_asked.specs.Listed.{Listed, SpellsList}
 use Rattle.rc_asked.specs.Limits.{IsLimitIn}
 

@@ -10,7 +10,7 @@ use crate::limits::limit_of;
 use crate::session_words::{SessionRequest, session_in};
 use clap::ArgMatches;
 use rc_command::is_on;
-use rc_lines::SessionLine;
+use rc_script::SessionLine;
 use rc_session::Step;
 use std::alloc::Global;
 

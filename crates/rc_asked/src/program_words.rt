@@ -5,14 +5,14 @@ ghost use Rattle.rc_asked.specs.Limits.{IsLimitIn};
 ghost use Rattle.rc_asked.specs.Making.{making_ask_of};
 ghost use Rattle.rc_asked.specs.Programs.{MakesBy, MakesIn, MakingAsk, controller_in, runner_in};
 ghost use Rattle.rc_asked.specs.declared.asked.WordsFault.TheVariants.{Memory};
-ghost use Rattle.rc_lines.specs.Words.{words_in as spaced};
+ghost use Rattle.rc_script.specs.Words.{words_in as spaced};
 
 use crate::asked::WordsFault;
 use crate::limits::limit_of;
 use crate::texts::strings_of;
 use crate::transitions::{ListFault, Transition, transitions_of};
 use clap::ArgMatches;
-use rc_lines::{texts_of, words_of};
+use rc_script::{texts_of, words_of};
 use std::alloc::Global;
 
 /// The runner, where none is named.

@@ -12,7 +12,7 @@ use Rattle.rc_runner.specs.Shell.{MayAnswer, Scripts, scripts_of}
 use Rattle.rc_session.specs.Commands.{Command, Redo, Undo, events_of}
 use Rattle.rc_session.specs.Holding.{Holding}
 use Rattle.rc_streams.specs.Input.{AppendsFront, fault_line}
-use Rattle.rc_lines.specs.Says.{Saying, SaysNothing, SaysWrong, SaysStep, SaysDry, SaysLive, SaysBundles, SaysJournal}
+use Rattle.rc_script.specs.Says.{Saying, SaysNothing, SaysWrong, SaysStep, SaysDry, SaysLive, SaysBundles, SaysJournal}
 use Rattle.rc_serve.specs.declared.ending.Ending.{Ending}
 use Rattle.rc_serve.specs.declared.ending.Ending.TheVariants.{Done, Refused}
 use Rattle.rc_serve.specs.declared.fault.ServeFault.{ServeFault}

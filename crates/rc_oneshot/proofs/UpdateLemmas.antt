@@ -18,7 +18,7 @@ use Rattle.rc_serve.specs.Faults.{IsServeFault}
 use Rattle.rc_serve.specs.Keeping.{Keeping}
 use Rattle.rc_asked.specs.OnceAsked.{HasNoEvents, OnceSaying, Said}
 use Rattle.rc_asked.specs.UpdateAsked.{UpdateAsk}
-use Rattle.rc_lines.specs.Says.{Saying}
+use Rattle.rc_script.specs.Says.{Saying}
 use Rattle.rc_select.specs.Ask.{Ask}
 use Rattle.rc_asked.specs.Listed.{Listed}
 use Rattle.rc_asked.specs.Programs.{ByTable, MakingAsk}

@@ -7,7 +7,7 @@ use Rattle.rc_db.specs.Database.{Database}
 use Rattle.rc_line.specs.Line.{Line}
 use Rattle.rc_session.specs.Commands.{Command, Redo, Undo}
 use Rattle.rc_session.specs.Holding.{Holding}
-use Rattle.rc_lines.specs.Says.{Saying, SaysStep}
+use Rattle.rc_script.specs.Says.{Saying, SaysStep}
 use Rattle.rc_runner.specs.Failing.{outcome_in}
 use Rattle.rc_runner.specs.Moments.{IsMomentOf}
 use Rattle.rc_runner.specs.Shell.{MayAnswer, scripts_of}

@@ -11,7 +11,7 @@ use Rattle.rc_select.specs.declared.request.Mode.{Mode}
 use Rattle.rc_select.specs.declared.request.Mode.TheVariants.{DownAll, Up}
 use Rattle.rc_session.specs.Commands.{Change}
 use Rattle.rc_session.specs.Holding.{Holding}
-use Rattle.rc_lines.specs.Says.{Saying, SaysDry, SaysStep}
+use Rattle.rc_script.specs.Says.{Saying, SaysDry, SaysStep}
 use Rattle.rc_serve.specs.declared.ending.Ending.{Ending}
 use Rattle.rc_serve.specs.declared.ending.Ending.TheVariants.{Done, Refused, Hindered}
 use Rattle.rc_serve.specs.Ending.{EndsIn}

@@ -5,7 +5,7 @@ ghost use Rattle.std.specs.Io.KnownBytes.{Appends};
 ghost use Rattle.rc_board.specs.Crew.{IsCrew};
 ghost use Rattle.rc_streams.specs.Noting.{HasFailed, inner_of};
 ghost use Rattle.rc_session.specs.Commands.{Command, events_of};
-ghost use Rattle.rc_lines.specs.Says.{SaysStep, saying_of};
+ghost use Rattle.rc_script.specs.Says.{SaysStep, saying_of};
 ghost use Rattle.rc_serve.specs.Ending.{ArrivesSaying, Ends, IsDoneAs};
 ghost use Rattle.rc_serve.specs.Faults.{IsServeFault};
 ghost use Rattle.rc_serve.specs.declared.ending.Ending.TheVariants.{Done};
@@ -23,8 +23,8 @@ ghost use Rattle.rc_oneshot.specs.OnceEnds.{EndsGatedOnce, EndsOnceOn, StopsServ
 use rc_asked::{Making, Once, OnceRequest, Programs, SessionRequest, Transition};
 use rc_board::Gate;
 use rc_db::Db;
-use rc_lines::SessionLine;
 use rc_runner::Telling;
+use rc_script::SessionLine;
 use rc_serve::{Ending, Keeper, ServeFault, Unkept, answer_once, show_redo, show_undo};
 use rc_session::Session;
 use rc_sessions::{LiveFile, SessionFault, Store, TextKeeper, begin, gate_by_programs, gate_of};

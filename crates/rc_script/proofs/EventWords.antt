@@ -3,8 +3,8 @@ use Rattle.std.proofs.Common.{◌≡◌, ◌∙◌, ◌<◌, ◌==◌, ◌||◌,
 use Rattle.std.specs.Result.{result_ok}
 use Rattle.std.specs.Str.Parse.{ParsesUnsigned, digits_value}
 use Rattle.rc_core.specs.declared.event.Event.{Event}
-use Rattle.rc_lines.specs.Words.{is_digits}
-use Rattle.rc_lines.proofs.Numbers.{halves, parsed_digits, past}
+use Rattle.rc_script.specs.Words.{is_digits}
+use Rattle.rc_script.proofs.Digits.{halves, parsed_digits, past}
 use Rattle.rc_script.specs.Numbers.{is_plain, number_in}
 use Rattle.rc_script.specs.Events.{event_in}
 

@@ -1,3 +1,7 @@
+mod Digits
 mod EventWords
+mod Fronts
 mod Places
 mod Reading
+mod Sayings
+mod Texts

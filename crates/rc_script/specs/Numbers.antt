@@ -2,7 +2,7 @@
 use Rattle.std.specs.Prelude.{◌==◌, ◌||◌, ◌&&◌, ◌^◌, codes, not, ℕ, Bool, List, Option, None, Some, length, slice_index, nat_lt, if◌then◌else◌}
 use Rattle.std.specs.Str.{bytes_eq}
 use Rattle.std.specs.Str.Parse.{digits_value}
-use Rattle.rc_lines.specs.Words.{is_digits}
+use Rattle.rc_script.specs.Words.{is_digits}
 
 -- digits with no zero in front of others
 abbrev pub is_plain : List ℕ → Bool

@@ -4,8 +4,8 @@ use Rattle.std.specs.List.{slice_split}
 use Rattle.std.specs.Str.{IsUtf8}
 use Rattle.rc_core.specs.declared.event.Event.{Event}
 use Rattle.rc_session.specs.Commands.{Command, Change, Undo, Redo, Add, Delete}
-use Rattle.rc_lines.specs.Words.{words_in}
-use Rattle.rc_lines.specs.Says.{Saying, SaysNothing, SaysWrong, SaysStep, Says}
+use Rattle.rc_script.specs.Words.{words_in}
+use Rattle.rc_script.specs.Says.{Saying, SaysNothing, SaysWrong, SaysStep, Says}
 use Rattle.rc_script.specs.Events.{event_in}
 use Rattle.rc_script.specs.declared.script.ScriptFault.{ScriptFault}
 use Rattle.rc_script.specs.declared.script.ScriptFault.TheVariants.{BadLine, Memory}

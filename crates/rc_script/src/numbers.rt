@@ -2,7 +2,7 @@
 ghost use Rattle.std.specs.Prelude.{◌≡◌};
 ghost use Rattle.rc_script.specs.Numbers.{is_plain, number_in, status_in};
 
-use rc_lines::is_digits;
+use crate::words::is_digits;
 
 /// The number of 8 bits that a word gives.
 pub(crate) fn byte_in(word: &str) -> Option<u8>

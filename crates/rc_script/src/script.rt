@@ -1,13 +1,14 @@
 //! A script, from bytes to commands with their events.
 ghost use Rattle.std.specs.Prelude.{◌≡◌, None, Some, IfOk, IfErr, MatchBool, map, option_map};
 ghost use Rattle.rc_session.specs.Commands.{command_of};
-ghost use Rattle.rc_lines.specs.Says.{SaysWrong};
+ghost use Rattle.rc_script.specs.Says.{SaysWrong};
 ghost use Rattle.rc_script.specs.Script.{IsItemSaying, event_item, IsScript, IsScriptFault, AddsLine, CannotAdd, lines_in, taking, with_event};
 ghost use Rattle.rc_script.specs.declared.script.ScriptFault.TheVariants.{Memory};
 
 use crate::events::event_in;
+use crate::line::{SessionLine, read_line};
+use crate::words::{texts_of, words_of};
 use rc_core::Event;
-use rc_lines::{SessionLine, read_line, texts_of, words_of};
 use rc_names::{Names, NoMem};
 use rc_session::Step;
 use std::alloc::{AllocError, Global};

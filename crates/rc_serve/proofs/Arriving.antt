@@ -22,7 +22,7 @@ use Rattle.rc_session.specs.Doing.{Does, IsLineOf, Runs}
 use Rattle.rc_session.specs.Report.{IsTold, Told}
 use Rattle.rc_session.proofs.Courses.{task_is_course}
 use Rattle.rc_session.proofs.Promising.{moved_live}
-use Rattle.rc_lines.specs.Says.{Saying, SaysNothing, SaysWrong, SaysStep, SaysDry, SaysLive, SaysBundles, SaysJournal}
+use Rattle.rc_script.specs.Says.{Saying, SaysNothing, SaysWrong, SaysStep, SaysDry, SaysLive, SaysBundles, SaysJournal}
 use Rattle.rc_serve.specs.declared.ending.Ending.{Ending}
 use Rattle.rc_serve.specs.declared.ending.Ending.TheVariants.{Done, Refused, Hindered}
 use Rattle.rc_serve.specs.Ending.{Arrives, ArrivesSaying, Ends, IsDoneAs, ending_by, ending_of}

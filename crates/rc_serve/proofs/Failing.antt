@@ -27,7 +27,7 @@ use Rattle.rc_session.proofs.Lists.{one_list}
 use Rattle.rc_session.proofs.Telling.{lists_none}
 use Rattle.rc_board.specs.Made.{IsSaid, AreMade, way_from}
 use Rattle.rc_answers.specs.ReportText.{report_text}
-use Rattle.rc_lines.specs.Says.{Saying, SaysNothing, SaysWrong, SaysStep, SaysDry, SaysLive, SaysBundles, SaysJournal}
+use Rattle.rc_script.specs.Says.{Saying, SaysNothing, SaysWrong, SaysStep, SaysDry, SaysLive, SaysBundles, SaysJournal}
 use Rattle.rc_serve.specs.declared.fault.ServeFault.{ServeFault}
 use Rattle.rc_serve.specs.declared.keeper.KeepFault.{KeepFault}
 use Rattle.rc_serve.specs.Meeting.{IsDoneBy, Meets}

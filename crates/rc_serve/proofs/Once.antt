@@ -27,7 +27,7 @@ use Rattle.rc_answers.specs.Names.{ok_line}
 use Rattle.rc_answers.specs.AnswerText.{answer_text}
 use Rattle.rc_answers.specs.ReportText.{report_text}
 use Rattle.rc_answers.specs.JournalText.{AreEntryLines, IsEntryLine, alteration_text, place_line, signs}
-use Rattle.rc_lines.specs.Says.{Saying, SaysNothing, SaysWrong, SaysStep, SaysDry, SaysLive, SaysBundles, SaysJournal, Says}
+use Rattle.rc_script.specs.Says.{Saying, SaysNothing, SaysWrong, SaysStep, SaysDry, SaysLive, SaysBundles, SaysJournal, Says}
 use Rattle.rc_streams.specs.Taking.{IsLine, IsOneLine}
 use Rattle.rc_serve.proofs.Moved.{one_move}
 use Rattle.rc_serve.specs.Meeting.{IsEdited, IsJournal, IsPlanned, IsRefused, Meets, MeetsCommand, MeetsDry}

@@ -11,7 +11,7 @@ use Rattle.rc_session.specs.Holding.{Holding}
 use Rattle.rc_session.specs.Report.{Told}
 use Rattle.rc_session.specs.Plays.{Plays}
 use Rattle.rc_session.proofs.Promising.{all_along}
-use Rattle.rc_lines.specs.Says.{Saying, SaysNothing, SaysWrong, SaysStep, SaysDry, SaysLive, SaysBundles, SaysJournal, Says}
+use Rattle.rc_script.specs.Says.{Saying, SaysNothing, SaysWrong, SaysStep, SaysDry, SaysLive, SaysBundles, SaysJournal, Says}
 use Rattle.rc_serve.specs.declared.fault.ServeFault.{ServeFault}
 use Rattle.rc_serve.specs.declared.keeper.KeepFault.{KeepFault}
 use Rattle.rc_serve.specs.declared.fault.ServeFault.TheVariants.{Workers}

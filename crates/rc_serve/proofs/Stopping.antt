@@ -4,7 +4,7 @@ use Rattle.std.proofs.KnownBytes.{Appends-nil}
 use Rattle.rc_session.specs.Holding.{Holding}
 use Rattle.rc_streams.specs.Input.{AppendsFront}
 use Rattle.rc_streams.specs.declared.input.Failure.{Failure}
-use Rattle.rc_lines.specs.Says.{Saying}
+use Rattle.rc_script.specs.Says.{Saying}
 use Rattle.rc_serve.specs.declared.fault.ServeFault.{ServeFault}
 use Rattle.rc_serve.specs.declared.fault.ServeFault.TheVariants.{Read, Write, TooLong, Memory, NoThread, Strange, Workers, Io}
 use Rattle.rc_serve.specs.declared.keeper.KeepFault.{KeepFault}

@@ -20,7 +20,7 @@ use Rattle.rc_board.specs.Made.{AreMade}
 use Rattle.rc_answers.specs.Names.{ok_line}
 use Rattle.rc_answers.specs.PlanText.{IsPlanText}
 use Rattle.rc_answers.specs.ReportText.{report_text}
-use Rattle.rc_lines.specs.Says.{Saying, SaysStep, SaysDry, SaysWrong}
+use Rattle.rc_script.specs.Says.{Saying, SaysStep, SaysDry, SaysWrong}
 use Rattle.rc_serve.specs.declared.ending.Ending.{Ending}
 use Rattle.rc_serve.specs.declared.ending.Ending.TheVariants.{Done, Refused, Hindered}
 use Rattle.rc_serve.specs.declared.fault.ServeFault.{ServeFault}

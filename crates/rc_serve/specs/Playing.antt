@@ -12,7 +12,7 @@ use Rattle.rc_session.specs.Doing.{Does}
 use Rattle.rc_session.specs.Plays.{Plays}
 use Rattle.rc_session.specs.Promise.{HoldsAllAlong}
 use Rattle.rc_answers.specs.ReportText.{report_text}
-use Rattle.rc_lines.specs.Says.{Saying, SaysStep, Says}
+use Rattle.rc_script.specs.Says.{Saying, SaysStep, Says}
 use Rattle.rc_serve.specs.Meeting.{Doing}
 use Rattle.rc_serve.specs.Serving.{AreLines}
 

@@ -17,7 +17,7 @@ use Rattle.rc_session.specs.Holding.{Holding}
 use Rattle.rc_session.specs.Report.{Told}
 use Rattle.rc_session.specs.Task.{IsTask, MovesTo}
 use Rattle.rc_answers.specs.ReportText.{report_text}
-use Rattle.rc_lines.specs.Says.{Saying, SaysStep, Says}
+use Rattle.rc_script.specs.Says.{Saying, SaysStep, Says}
 use Rattle.rc_serve.specs.declared.fault.ServeFault.{ServeFault}
 use Rattle.rc_serve.specs.Meeting.{Doing, IsEdited}
 use Rattle.rc_serve.specs.Serving.{AreLines, Serves, ServesAll, ServesFront}

@@ -4,7 +4,7 @@ ghost use Rattle.rc_graph.specs.declared.Way.{Way};
 ghost use Rattle.rc_db.specs.Database.{Database, IsDatabase};
 ghost use Rattle.rc_line.specs.Line.{Line};
 ghost use Rattle.rc_session.specs.Doing.{IsLineOf};
-ghost use Rattle.rc_lines.specs.Says.{Saying, Says};
+ghost use Rattle.rc_script.specs.Says.{Saying, Says};
 ghost use Rattle.rc_serve.specs.Ending.{Ends, IsDoneAs};
 ghost use Rattle.rc_serve.specs.Meeting.{IsDoneBy};
 ghost use Rattle.rc_serve.specs.Playing.{ArePlayed, IsDone};
@@ -13,7 +13,7 @@ ghost use Rattle.rc_serve.specs.SessionText.{SessionText};
 ghost use Rattle.rc_serve.specs.declared.ending.Ending.{Ending};
 
 use rc_board::Gate;
-use rc_lines::laws::lines_say_one_thing;
+use rc_script::laws::lines_say_one_thing;
 
 /// Where certain transitions fail, an input has one text, and leads to one line of states: it hangs
 /// neither on the number of workers nor on who was quicker.

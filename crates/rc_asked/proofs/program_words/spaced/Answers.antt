@@ -1,7 +1,7 @@
 use Rattle.std.proofs.Common.{◌≡◌, ◌∙◌, ℕ, List, map, ap, sym, subst, All}
 use denote.Ref.{Bor}
 use Rattle.std.specs.Str.{IsUtf8}
-use Rattle.rc_lines.specs.Words.{words_in}
+use Rattle.rc_script.specs.Words.{words_in}
 use Rattle.rc_asked.proofs.TextWords.{words_texts}
 use Rattle.rc_asked.proofs.program_words.spaced.Goals as goal
 

@@ -1,5 +1,5 @@
 use Rattle.rc_streams.specs.Noting.{inner_of}
-use Rattle.rc_lines.specs.Says.{saying_of}
+use Rattle.rc_script.specs.Says.{saying_of}
 use Rattle.rc_serve.specs.Ending.{IsDoneAs}
 use Rattle.rc_asked.specs.OnceAsked.{Said}
 use Rattle.rc_sessions.specs.Storing.{HoldsText, store_of}

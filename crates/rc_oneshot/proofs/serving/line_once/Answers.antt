@@ -1,6 +1,6 @@
 use Rattle.std.proofs.Common.{◌≡◌, ◌∙◌, true, false, refl, sym}
 use Rattle.rc_streams.specs.Noting.{inner_of}
-use Rattle.rc_lines.specs.Says.{saying_of}
+use Rattle.rc_script.specs.Says.{saying_of}
 use Rattle.rc_asked.specs.SessionAsked.{session_ask_of}
 use Rattle.rc_serve.specs.Ending.{IsDoneAs}
 use Rattle.rc_sessions.specs.Storing.{store_of}

@@ -4,7 +4,7 @@ use Rattle.rc_set.specs.Set.{Has}
 use Rattle.rc_graph.specs.Closure.{IsClosed}
 use Rattle.rc_db.specs.Database.{Database}
 use Rattle.rc_streams.specs.Noting.{inner_of}
-use Rattle.rc_lines.specs.Says.{saying_of}
+use Rattle.rc_script.specs.Says.{saying_of}
 use Rattle.rc_asked.specs.OnceAsked.{Said}
 use Rattle.rc_asked.specs.SessionAsked.{session_ask_of}
 use Rattle.rc_serve.specs.Ending.{IsDoneAs}

@@ -2,7 +2,7 @@ use Rattle.std.proofs.Common.{◌≡◌, ◌∙◌, ◌∷◌, ◌++◌, [], Lis
 use Rattle.std.proofs.lemmas.List.{map-append}
 use Rattle.rc_session.specs.Commands.{Command, command_of}
 use Rattle.rc_session.specs.declared.step.Step.{Step}
-use Rattle.rc_lines.specs.Says.{SaysStep}
+use Rattle.rc_script.specs.Says.{SaysStep}
 use Rattle.rc_script.specs.Script.{Starts}
 use Rattle.rc_script.proofs.Reading.{event_adds}
 use Rattle.rc_script.proofs.script.add_line.Goals as goal

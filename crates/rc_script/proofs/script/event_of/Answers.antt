@@ -1,7 +1,7 @@
 use Rattle.std.proofs.Common.{◌≡◌, ◌∙◌, ℕ, List, All, inl, inr, map, refl, sym, ap, subst}
 use denote.Ref.{Bor}
 use Rattle.std.specs.Str.{IsUtf8}
-use Rattle.rc_lines.specs.Words.{words_in}
+use Rattle.rc_script.specs.Words.{words_in}
 use Rattle.rc_script.specs.Events.{event_in}
 use Rattle.rc_script.specs.Script.{event_item}
 use Rattle.rc_script.proofs.script.event_of.Goals as goal

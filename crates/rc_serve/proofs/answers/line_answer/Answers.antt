@@ -1,5 +1,5 @@
 use Rattle.std.proofs.Common.{inl, inr, refl, subst}
-use Rattle.rc_lines.specs.Says.{Saying, Says, saying_of}
+use Rattle.rc_script.specs.Says.{Saying, Says, saying_of}
 use Rattle.rc_serve.specs.Meeting.{IsDoneBy, WantsWork}
 use Rattle.rc_serve.specs.Serving.{BytesWantWork}
 use Rattle.rc_serve.proofs.Keeping.{ends_line_as, kept_none}

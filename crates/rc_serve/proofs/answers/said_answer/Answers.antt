@@ -1,6 +1,6 @@
 use Rattle.std.proofs.Common.{[], ap, refl}
 use Rattle.rc_session.specs.Commands.{command_of, with_events}
-use Rattle.rc_lines.specs.Says.{saying_of}
+use Rattle.rc_script.specs.Says.{saying_of}
 use Rattle.rc_board.specs.Working.{HasWork}
 use Rattle.rc_serve.specs.Ending.{IsDoneAs, IsEditedAs}
 use Rattle.rc_serve.specs.Meeting.{IsDoneBy, WantsWork}

@@ -1,4 +1,0 @@
-mod Fronts
-pub mod Numbers
-mod Sayings
-pub mod Texts

@@ -1,0 +1,14 @@
+//! What the definitions of session lines say by themselves: each a clause of a function that does nothing.
+ghost use Rattle.std.specs.Prelude.{◌≡◌, ℕ, List, []};
+ghost use Rattle.rc_session.specs.Commands.{Command, events_of};
+ghost use Rattle.rc_script.specs.Says.{Saying, SaysStep, Says};
+
+/// A line says one thing.
+pub fn lines_say_one_thing()
+    ensures { (line : List ℕ) (a b : Saying) → Says line a → Says line b → a ≡ b }
+{}
+
+/// A command that a line gives has no events.
+pub fn lines_give_no_events()
+    ensures { (line : List ℕ) (command : Command) → Says line (SaysStep command) → events_of command ≡ [] }
+{}

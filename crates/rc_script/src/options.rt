@@ -1,0 +1,248 @@
+//! The options in front of the word that says what a line does.
+ghost use Rattle.std.specs.Prelude.{◌≡◌, ◌<◌, false, true, ◌∷◌, None, map, option_map, length, slice_index, IfOk, MatchBool, MatchOption, string_bytes};
+ghost use Rattle.rc_select.specs.Ask.{ask_of};
+ghost use Rattle.rc_script.specs.Options.{IsOption, has_option, choice_of, choices_of, word_choices, front_of, none_chosen, with_choice, with_choices, mode_of, asked, only_limit};
+
+use crate::words::limit_of;
+use rc_names::NoMem;
+use rc_select::{Mode, Request};
+use std::alloc::Global;
+
+/// What one letter or one limit in front of a line chooses.
+#[derive(Clone, Copy, PartialEq, Eq, Debug)]
+pub(crate) enum Choice {
+    /// Bring up; so it is without a way.
+    Up,
+    /// Bring down, but for what essential services hold up.
+    Down,
+    /// Bring down.
+    DownAll,
+    /// Lower what is not named.
+    Prune,
+    /// Name all that is up too.
+    All,
+    /// A limit in milliseconds, 0 for none.
+    Limit(u32),
+}
+
+/// What the choices in front of a line come to.
+#[derive(Clone, Copy, Debug)]
+pub(crate) struct Chosen {
+    up: bool,
+    down: bool,
+    down_all: bool,
+    prune: bool,
+    all: bool,
+    limit: u32,
+}
+
+impl Chosen {
+    /// Nothing chosen.
+    fn none() -> Chosen
+        ensures { result ≡ none_chosen }
+    {
+        Chosen {
+            up: false,
+            down: false,
+            down_all: false,
+            prune: false,
+            all: false,
+            limit: 0,
+        }
+    }
+
+    /// One choice more.
+    fn with(mut self, choice: Choice) -> Chosen
+        ensures { result ≡ with_choice self choice }
+    {
+        match choice {
+            Choice::Up => self.up = true,
+            Choice::Down => self.down = true,
+            Choice::DownAll => self.down_all = true,
+            Choice::Prune => self.prune = true,
+            Choice::All => self.all = true,
+            Choice::Limit(limit) => self.limit = limit,
+        }
+        self
+    }
+}
+
+/// The choices in front of a line, and the words behind them, where the choices are well formed.
+pub(crate) fn front_of<'a, 'b>(
+    alloc: Global,
+    words: &'b [&'a str],
+) -> Result<Option<(Vec<Choice>, &'b [&'a str])>, NoMem>
+    ensures { IfOk result (λ front. option_map
+        (λ f. record { choices = f.0.items; words = map (λ word. word.now) f.1.now }) front
+        ≡ front_of false (map (λ word. word.now) words.entry.now)) }
+{
+    let mut choices = Vec::new(alloc);
+    let mut start = 0;
+    while has_option(&words[start..]) {
+        match add_option(alloc, &mut choices, &words[start..])? {
+            Some(count) => start += count,
+            None => return Ok(None),
+        }
+    }
+    Ok(Some((choices, &words[start..])))
+}
+
+/// Whether words begin with an option.
+fn has_option(words: &[&str]) -> bool
+    ensures { result ≡ has_option (map (λ word. word.now) words.now) }
+{
+    match words {
+        [] => false,
+        [first, ..] => first.as_bytes().first() == Some(&b'-'),
+    }
+}
+
+/// Adds what the option at the front chooses, where it is well formed, and answers how many words it takes.
+fn add_option(
+    alloc: Global,
+    choices: &mut Vec<Choice>,
+    words: &[&str],
+) -> Result<Option<usize>, NoMem>
+    requires { has_option (map (λ word. word.now) words.now) ≡ true }
+    ensures { IfOk result (λ count. MatchOption count
+        (front_of false (map (λ word. word.now) words.now) ≡ None)
+        (IsOption false choices.old.items choices.new.items (map (λ word. word.now) words.now))) }
+{
+    if words[0] == "-t" {
+        return match add_limit(choices, &words[1..])? {
+            true => Ok(Some(2)),
+            false => Ok(None),
+        };
+    }
+    match letters_of(alloc, words[0])? {
+        Some(letters) => {
+            choices.extend_from_slice(&letters)?;
+            Ok(Some(1))
+        }
+        None => Ok(None),
+    }
+}
+
+/// Adds the limit that the first word gives, where it gives one.
+fn add_limit(choices: &mut Vec<Choice>, words: &[&str]) -> Result<bool, NoMem>
+    ensures { IfOk result (λ added. MatchBool added
+        (IsOption true choices.old.items choices.new.items (map (λ word. word.now) words.now) 1)
+        (front_of true (map (λ word. word.now) words.now) ≡ None)) }
+{
+    let Some(number) = words.first() else {
+        return Ok(false);
+    };
+    match limit_of(number) {
+        Some(limit) => {
+            choices.push(Choice::Limit(limit))?;
+            Ok(true)
+        }
+        None => Ok(false),
+    }
+}
+
+/// What the letters of a word behind its dash choose, where each chooses something.
+fn letters_of(alloc: Global, word: &str) -> Result<Option<Vec<Choice>>, NoMem>
+    requires { 0 < length word.now }
+    ensures { IfOk result (λ choices. option_map (λ choices. choices.items) choices ≡ word_choices word.now) }
+{
+    let letters = &word.as_bytes()[1..];
+    if letters.is_empty() {
+        return Ok(None);
+    }
+    choices_of(alloc, letters)
+}
+
+/// What letters choose, where each chooses something.
+fn choices_of(alloc: Global, letters: &[u8]) -> Result<Option<Vec<Choice>>, NoMem>
+    ensures { IfOk result (λ choices. option_map (λ choices. choices.items) choices ≡ choices_of letters.now) }
+{
+    let mut choices = Vec::new(alloc);
+    for letter in letters {
+        match choice_of(*letter) {
+            Some(choice) => choices.push(choice)?,
+            None => return Ok(None),
+        }
+    }
+    Ok(Some(choices))
+}
+
+/// What a letter chooses.
+fn choice_of(letter: u8) -> Option<Choice>
+    ensures { result ≡ choice_of letter }
+{
+    match letter {
+        b'u' => Some(Choice::Up),
+        b'd' => Some(Choice::Down),
+        b'D' => Some(Choice::DownAll),
+        b'p' => Some(Choice::Prune),
+        b'a' => Some(Choice::All),
+        _ => None,
+    }
+}
+
+/// What a change with these choices asks of these words.
+pub(crate) fn request_of(
+    alloc: Global,
+    choices: &[Choice],
+    words: &[&str],
+) -> Result<Option<Request>, NoMem>
+    ensures { IfOk result (λ request. option_map ask_of request ≡ asked choices.now (map (λ word. word.now) words.now)) }
+{
+    let chosen = chosen_by(choices);
+    match mode_of(chosen.up, chosen.down, chosen.down_all) {
+        Some(mode) => Ok(Some(Request {
+            mode,
+            prune: chosen.prune,
+            all: chosen.all,
+            names: strings_of(alloc, words)?,
+            limit: chosen.limit,
+        })),
+        None => Ok(None),
+    }
+}
+
+/// What choices come to.
+fn chosen_by(choices: &[Choice]) -> Chosen
+    ensures { result ≡ with_choices none_chosen choices.now }
+{
+    let mut chosen = Chosen::none();
+    for choice in choices {
+        chosen = chosen.with(*choice);
+    }
+    chosen
+}
+
+/// The mode of the three ways, of which one at most may be chosen; up where none is.
+pub fn mode_of(up: bool, down: bool, down_all: bool) -> Option<Mode>
+    ensures { result ≡ mode_of up down down_all }
+{
+    match (up, down, down_all) {
+        (_, false, false) => Some(Mode::Up),
+        (false, true, false) => Some(Mode::Down),
+        (false, false, true) => Some(Mode::DownAll),
+        _ => None,
+    }
+}
+
+/// The limit of a line that may have one alone, 0 where it has none.
+pub(crate) fn only_limit(choices: &[Choice]) -> Option<u32>
+    ensures { result ≡ only_limit choices.now }
+{
+    match choices {
+        [] => Some(0),
+        [Choice::Limit(limit)] => Some(*limit),
+        _ => None,
+    }
+}
+
+/// The words, each kept.
+pub(crate) fn strings_of(alloc: Global, words: &[&str]) -> Result<Vec<String>, NoMem>
+    ensures { IfOk result (λ strings. map string_bytes strings.items ≡ map (λ word. word.now) words.now) }
+{
+    let mut strings = Vec::new(alloc);
+    for word in words {
+        strings.push(String::from_str(alloc, word)?)?;
+    }
+    Ok(strings)
+}
