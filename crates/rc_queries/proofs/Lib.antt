@@ -3,3 +3,4 @@ pub mod NamedLemmas
 pub mod PlanLemmas
 pub mod DbLemmas
 pub mod OpenedLemmas
+mod Telling

@@ -7,7 +7,7 @@ use Rattle.rc_dbtext.specs.declared.fault.TextFault.TheVariants as text
 use Rattle.rc_script.specs.Script.{IsBadLine}
 use Rattle.rc_script.specs.declared.script.ScriptFault.{ScriptFault}
 use Rattle.rc_script.specs.declared.script.ScriptFault.TheVariants as script
-use Rattle.rc_replay.specs.Replay.{IsReplay}
+use Rattle.rc_queries.specs.Played.{IsReplay}
 use Rattle.rc_streams.specs.Input.{AppendsFront, fault_line}
 use Rattle.rc_base.specs.Base.{IsTextFault, Spells}
 use Rattle.rc_base.specs.TextFaultWord.{text_word}

@@ -6,6 +6,7 @@ mod db_answer;
 mod db_fault;
 mod named;
 mod plan;
+mod played;
 mod replay;
 
 pub use crate::db::{db_as_asked, db_run};

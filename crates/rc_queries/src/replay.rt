@@ -10,11 +10,12 @@ ghost use Rattle.rc_queries.specs.Replay.{IsReplayFor, IsScriptAs, IsTextAs, Tel
 ghost use Rattle.rc_command.specs.Words.{rows_for};
 ghost use Rattle.rc_queries.specs.declared.replay.ReplayFault.TheVariants.{Memory};
 
+use crate::played::replay_text;
 use rc_asked::{replay_asked, tell_words};
 use rc_base::{OpenFault, Opened, open, text_word};
 use rc_db::NoMem;
 use rc_dbtext::TextFault;
-use rc_replay::{ScriptFault, replay_text};
+use rc_script::ScriptFault;
 use rc_streams::ending::{REFUSED, fail, write_answer};
 use rc_streams::{Failure, MAX_INPUT, Noted, tell};
 use std::alloc::{AllocError, Global};

@@ -4,7 +4,7 @@ ghost use Rattle.rc_session.specs.Commands.{command_of};
 ghost use Rattle.rc_session.specs.Report.{answer_of};
 ghost use Rattle.rc_script.specs.Script.{IsScriptFault};
 ghost use Rattle.rc_answers.specs.AnswerText.{answers_text};
-ghost use Rattle.rc_replay.specs.Replay.{IsTold, IsPlayed, IsReplay};
+ghost use Rattle.rc_queries.specs.Played.{IsTold, IsPlayed, IsReplay};
 
 use rc_answers::{answer_text, journal_text, live_text};
 use rc_db::Db;
@@ -14,7 +14,7 @@ use rc_session::{Refusal, Report, Session, Step};
 use std::alloc::Global;
 
 /// The answers to the commands of a script, carried out on a database from nothing, then what is live, then the journal.
-pub fn replay_text(alloc: Global, db: Db, script: &[u8]) -> Result<Vec<u8>, ScriptFault>
+pub(crate) fn replay_text(alloc: Global, db: Db, script: &[u8]) -> Result<Vec<u8>, ScriptFault>
     ensures text { IfOk result (λ text. IsReplay db script.now text.items) }
     ensures fault { IfErr result (IsScriptFault db.names script.now) }
 {
