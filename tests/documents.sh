@@ -22,8 +22,8 @@ equals 'the table of docs/ARCHITECTURE.md'
 cp testing wanted
 grep '^Tests stand at the top' "$top/docs/ARCHITECTURE.md" | grep -o '`[a-z_]*`' | tr -d '`' > found
 equals 'the tests of docs/ARCHITECTURE.md'
-# What only offers what others prove, and the program itself, promise nothing of their own.
-grep -v -x -e rc_cli -e undorc product > wanted
+# The program itself promises nothing of its own.
+grep -v -x undorc product > wanted
 firsts_of "$top/docs/PROOF.md" > found
 equals 'the crates of docs/PROOF.md'
 # A heading of docs/MODEL.md may name a crate that is none any more, and each crate with definitions is named there.

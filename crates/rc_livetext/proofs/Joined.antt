@@ -9,7 +9,7 @@ use Rattle.rc_line.specs.State.{State}
 use Rattle.rc_line.specs.Line.{Line, IsLine, DifferInTurn, states, cursor}
 use Rattle.rc_session.specs.Doing.{IsStateOf, IsLineOf}
 use Rattle.rc_textform.specs.Words.{BundleText}
-use Rattle.rc_liveform.specs.Text.{LiveText, StateText}
+use Rattle.rc_livetext.specs.Text.{LiveText, StateText}
 use Rattle.rc_dbtext.proofs.Naming.{member_mapped}
 use Rattle.rc_livetext.specs.declared.fault.LiveFault.{LiveFault}
 use Rattle.rc_livetext.specs.declared.fault.LiveFault.TheVariants.{Bad, Version, Unknown, NotClosed, SameState, OtherDb, Memory, OverBound}

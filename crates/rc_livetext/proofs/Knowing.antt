@@ -9,7 +9,7 @@ use Rattle.rc_db.proofs.Places.{take_next}
 use Rattle.std.proofs.lemmas.List.Elements.{All-append, All-cons, All-head, All-tail}
 use Rattle.rc_textform.specs.Words.{BundleText}
 use Rattle.rc_dbtext.specs.Parts.{AreBundlesComplete, AreKnown, IsApart, IsKnown}
-use Rattle.rc_liveform.specs.Text.{LiveText, StateText}
+use Rattle.rc_livetext.specs.Text.{LiveText, StateText}
 use Rattle.rc_livetext.specs.Meaning.{IsKnownState, all_states}
 use Rattle.rc_livetext.specs.Parts.{IsKnownHere}
 use Rattle.rc_livetext.proofs.Texts.{front, rear}

@@ -9,10 +9,10 @@ use Rattle.rc_line.specs.State.{State}
 use Rattle.rc_line.specs.Line.{Line, states}
 use Rattle.rc_session.specs.Doing.{IsStateOf, IsLineOf}
 use Rattle.rc_textform.specs.Words.{BundleText}
-use Rattle.rc_liveform.specs.declared.fault.FormFault.{FormFault}
-use Rattle.rc_liveform.specs.declared.fault.FormFault.TheVariants as form
-use Rattle.rc_liveform.specs.Text.{LiveText, StateText, IsBound, IsLiveText, live_text}
-use Rattle.rc_liveform.specs.Refusals.{BeginsWith, IsRefused}
+use Rattle.rc_livetext.specs.declared.form_fault.FormFault.{FormFault}
+use Rattle.rc_livetext.specs.declared.form_fault.FormFault.TheVariants as form
+use Rattle.rc_livetext.specs.Text.{LiveText, StateText, IsBound, IsLiveText, live_text}
+use Rattle.rc_livetext.specs.Refusals.{BeginsWith, IsRefused}
 use Rattle.rc_livetext.specs.declared.fault.LiveFault.{LiveFault}
 use Rattle.rc_livetext.specs.declared.fault.LiveFault.TheVariants.{Bad, Version, Unknown, NotClosed, SameState, OtherDb, Memory, OverBound}
 use Rattle.rc_livetext.specs.Meaning.{IsClosedState, IsKnownState, IsOver, PassesServices, TextsDiffer, all_states, most_states}

@@ -1,3 +1,14 @@
+pub mod LineWords
+pub mod ManyLines
+pub mod Structure
+pub mod OneText
+pub mod Follows
+pub mod PartLemmas
+pub mod Adding
+pub mod Missing
+pub mod Heading
+pub mod StateLines
+pub mod Whole
 mod Texts
 mod OneFault
 mod Naming

@@ -3,10 +3,10 @@ use Rattle.std.proofs.Common.{◌≡◌, ◌≢◌, ◌∙◌, ◌+◌, ◌<◌,
 use Rattle.std.proofs.lemmas.List.Elements.{All-head, All-tail}
 use Rattle.std.proofs.lemmas.Option.{slice_get_within, get_or_from_slice_get}
 use Rattle.rc_db.specs.Database.{Database}
-use Rattle.rc_liveform.specs.declared.fault.FormFault.{FormFault}
-use Rattle.rc_liveform.specs.declared.fault.FormFault.TheVariants as form
-use Rattle.rc_liveform.specs.Text.{LiveText, IsLiveText, live_text}
-use Rattle.rc_liveform.specs.Refusals.{BeginsWith, IsRefused}
+use Rattle.rc_livetext.specs.declared.form_fault.FormFault.{FormFault}
+use Rattle.rc_livetext.specs.declared.form_fault.FormFault.TheVariants as form
+use Rattle.rc_livetext.specs.Text.{LiveText, IsLiveText, live_text}
+use Rattle.rc_livetext.specs.Refusals.{BeginsWith, IsRefused}
 use Rattle.rc_livetext.specs.declared.fault.LiveFault.{LiveFault}
 use Rattle.rc_livetext.specs.declared.fault.LiveFault.TheVariants.{Bad, Version, Unknown, NotClosed, SameState, OtherDb, Memory, OverBound}
 use Rattle.rc_livetext.specs.Meaning.{IsClosedState, IsFirstNot, all_states}

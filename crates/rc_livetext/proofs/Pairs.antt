@@ -6,7 +6,7 @@ use Rattle.std.proofs.lemmas.List.Elements.{All-push}
 use Rattle.rc_db.specs.Bundles.{Bundles}
 use Rattle.rc_line.specs.State.{State, states_of}
 use Rattle.rc_line.specs.Line.{DifferInTurn}
-use Rattle.rc_liveform.specs.Text.{StateText}
+use Rattle.rc_livetext.specs.Text.{StateText}
 use Rattle.rc_livetext.specs.Parts.{state_texts}
 use Rattle.rc_livetext.specs.Spelling.{state_text}
 

@@ -3,8 +3,8 @@ use Rattle.std.proofs.Common.{◌≡◌, ◌∙◌, inl, inr, ℕ, List, [], Opt
 use Rattle.std.proofs.lemmas.List.{append-nil}
 use Rattle.rc_db.specs.Database.{Database}
 use Rattle.rc_line.specs.Line.{Line}
-use Rattle.rc_liveform.specs.Text.{LiveText, live_text}
-use Rattle.rc_liveform.specs.Refusals.{BeginsWith}
+use Rattle.rc_livetext.specs.Text.{LiveText, live_text}
+use Rattle.rc_livetext.specs.Refusals.{BeginsWith}
 use Rattle.rc_livetext.specs.declared.fault.LiveFault.{LiveFault}
 use Rattle.rc_livetext.specs.declared.fault.LiveFault.TheVariants.{Bad, Version, Unknown, NotClosed, SameState, OtherDb, Memory, OverBound}
 use Rattle.rc_livetext.specs.LiveFaults.{IsLiveFault, IsMeaningFault}

@@ -15,7 +15,7 @@ use Rattle.rc_dbtext.specs.Spelling.{bundle_text, members, name_at}
 use Rattle.rc_dbtext.proofs.Naming.{names_ascend}
 use Rattle.rc_dbtext.proofs.Bundling.{members_ascend}
 use Rattle.rc_dbtext.proofs.Unique.{flags_once, head_once, ids_once, members_low, tables_once, tail_once}
-use Rattle.rc_liveform.specs.Text.{LiveText, StateText, IsLiveText, IsStateText, IsBundleText, AreAscending, IsBound, live_text}
+use Rattle.rc_livetext.specs.Text.{LiveText, StateText, IsLiveText, IsStateText, IsBundleText, AreAscending, IsBound, live_text}
 use Rattle.rc_livetext.specs.Meaning.{TextsDiffer}
 use Rattle.rc_livetext.specs.Parts.{IsWithin}
 use Rattle.rc_livetext.specs.Spelling.{state_text, text_with, text_of, old_text_of, spelling, old_spelling, Spells}

@@ -11,8 +11,8 @@ use Rattle.rc_line.specs.State.{State}
 use Rattle.rc_textform.specs.Form.{spells}
 use Rattle.rc_db.specs.Database.{Database}
 use Rattle.rc_line.specs.Line.{Line, states, cursor}
-use Rattle.rc_liveform.specs.Text as form
-use Rattle.rc_liveform.specs.Text.{OfBundle, Last, spell, state_lines, head_lines}
+use Rattle.rc_livetext.specs.Text as form
+use Rattle.rc_livetext.specs.Text.{OfBundle, Last, spell, state_lines, head_lines}
 use Rattle.rc_dbtext.specs.Spelling.{bundle_text}
 use Rattle.rc_livetext.specs.Spelling.{state_text, spelling}
 use Rattle.rc_livetext.specs.Written.{bundle_bytes, state_bytes}

@@ -1,3 +1,9 @@
+pub mod Text
+pub mod Refusals
+pub mod Following
+pub mod Saying
+pub mod FormText
+pub mod Held
 pub mod Spelling
 pub mod Meaning
 pub mod LiveFaults

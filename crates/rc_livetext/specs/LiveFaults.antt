@@ -1,9 +1,9 @@
 -- When bytes are refused that are to be a live text.
 use Rattle.std.specs.Prelude.{◌≡◌, ◌≢◌, ◌+◌, ◌⊎◌, ℕ, List, [], length, All}
 use Rattle.rc_db.specs.Database.{Database}
-use Rattle.rc_liveform.specs.declared.fault.FormFault.TheVariants as form
-use Rattle.rc_liveform.specs.Text.{LiveText, live_text}
-use Rattle.rc_liveform.specs.Refusals.{BeginsWith, IsRefused}
+use Rattle.rc_livetext.specs.declared.form_fault.FormFault.TheVariants as form
+use Rattle.rc_livetext.specs.Text.{LiveText, live_text}
+use Rattle.rc_livetext.specs.Refusals.{BeginsWith, IsRefused}
 use Rattle.rc_livetext.specs.declared.fault.LiveFault.{LiveFault}
 use Rattle.rc_livetext.specs.declared.fault.LiveFault.TheVariants.{Bad, Version, Unknown, NotClosed}
 use Rattle.rc_livetext.specs.declared.fault.LiveFault.TheVariants.{SameState, OtherDb, Memory}

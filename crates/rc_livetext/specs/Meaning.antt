@@ -4,7 +4,7 @@ use Rattle.std.specs.Prelude.{Option, Some, None, slice_get}
 use Rattle.rc_names.specs.Names.{IsNamed}
 use Rattle.rc_graph.specs.Closure.{IsClosed}
 use Rattle.rc_db.specs.Database.{Database}
-use Rattle.rc_liveform.specs.Text.{LiveText, StateText}
+use Rattle.rc_livetext.specs.Text.{LiveText, StateText}
 
 -- the states of a text, from the oldest to the newest
 abbrev pub all_states : LiveText → List StateText

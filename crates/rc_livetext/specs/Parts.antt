@@ -7,7 +7,7 @@ use Rattle.rc_db.specs.Bundles.{Bundles, AreBelow}
 use Rattle.rc_db.specs.Database.{Database}
 use Rattle.rc_line.specs.State.{State, states_of}
 use Rattle.rc_line.specs.Line.{Line, DifferInTurn}
-use Rattle.rc_liveform.specs.Text.{LiveText, StateText}
+use Rattle.rc_livetext.specs.Text.{LiveText, StateText}
 use Rattle.rc_livetext.specs.declared.fault.LiveFault.{LiveFault}
 use Rattle.rc_livetext.specs.declared.fault.LiveFault.TheVariants.{NotClosed, SameState, OverBound}
 use Rattle.rc_livetext.specs.Meaning.{IsFirstNot, IsKnownState, most_states}

@@ -3,7 +3,7 @@ use Rattle.rc_db.specs.Database.{Database}
 use Rattle.rc_line.specs.State.{State}
 use Rattle.rc_line.specs.Line.{Line, states}
 use Rattle.rc_dbtext.specs.Spelling.{bundle_text, members, name_at}
-use Rattle.rc_liveform.specs.Text.{LiveText, StateText, live_text}
+use Rattle.rc_livetext.specs.Text.{LiveText, StateText, live_text}
 
 -- a state by the names of the services that are up, and its bundles
 abbrev pub state_text : List (List ℕ) → State → StateText

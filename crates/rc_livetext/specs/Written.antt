@@ -4,7 +4,7 @@ use Rattle.rc_db.specs.Bundles.{Bundles}
 use Rattle.rc_line.specs.State.{State}
 use Rattle.rc_textform.specs.Form.{spells}
 use Rattle.rc_dbtext.specs.Spelling.{bundle_text}
-use Rattle.rc_liveform.specs.Text.{OfBundle, spell, state_lines}
+use Rattle.rc_livetext.specs.Text.{OfBundle, spell, state_lines}
 use Rattle.rc_livetext.specs.Spelling.{state_text}
 
 -- the lines of bundles

@@ -3,8 +3,9 @@ ghost use Rattle.std.specs.Prelude.{◌≡◌, ◌↔◌, All, IsTrue};
 ghost use Rattle.rc_livetext.specs.Meaning.{IsKnownState, all_states};
 ghost use Rattle.rc_livetext.specs.Parts.{IsKnownHere};
 
+use crate::form_states::StateForm;
+use crate::forms::LiveForm;
 use rc_dbtext::{are_known, bundles_are_complete};
-use rc_liveform::{LiveForm, StateForm};
 use rc_names::{Name, Names};
 
 /// Whether these are the names of the services, in their order.

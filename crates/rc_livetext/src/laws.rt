@@ -3,13 +3,13 @@ ghost use Rattle.std.specs.Prelude.{◌≡◌, ◌≢◌, ◌++◌, ℕ, List, [
 ghost use Rattle.rc_db.specs.Database.{Database, IsDatabase};
 ghost use Rattle.rc_line.specs.Line.{Line};
 ghost use Rattle.rc_session.specs.Doing.{IsLineOf};
-ghost use Rattle.rc_liveform.specs.Text.{IsLiveText};
+ghost use Rattle.rc_livetext.specs.Text.{IsLiveText};
 ghost use Rattle.rc_livetext.specs.Spelling.{spelling, old_spelling, Spells, text_of, old_text_of};
 ghost use Rattle.rc_livetext.specs.LiveFaults.{IsLiveFault};
 ghost use Rattle.rc_livetext.specs.declared.fault.LiveFault.{LiveFault};
 ghost use Rattle.rc_livetext.specs.declared.fault.LiveFault.TheVariants.{Memory};
 
-use rc_liveform::laws::{refusals_are_one, text_is_not_refused, text_is_unique};
+use crate::form_laws::{refusals_are_one, text_is_not_refused, text_is_unique};
 
 /// Each line of a database can be spelled, in both forms.
 pub fn lines_are_texts()

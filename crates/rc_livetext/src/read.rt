@@ -3,20 +3,21 @@ ghost use Rattle.std.specs.Prelude.{◌≡◌, false, [], length, All, IfOk, IfE
 ghost use Rattle.rc_db.specs.Database.{Database};
 ghost use Rattle.rc_line.specs.Line.{states};
 ghost use Rattle.rc_session.specs.Doing.{IsLineOf};
-ghost use Rattle.rc_liveform.specs.Text.{IsLiveText};
-ghost use Rattle.rc_liveform.specs.Refusals.{BeginsWith, IsRefused};
+ghost use Rattle.rc_livetext.specs.Text.{IsLiveText};
+ghost use Rattle.rc_livetext.specs.Refusals.{BeginsWith, IsRefused};
 ghost use Rattle.rc_livetext.specs.Meaning.{PassesNames, all_states};
 ghost use Rattle.rc_livetext.specs.Parts.{IsTextOf};
 ghost use Rattle.rc_livetext.specs.Spelling.{Spells};
 ghost use Rattle.rc_livetext.specs.LiveFaults.{IsLiveFault, IsMeaningFault};
 
 use crate::fault::LiveFault;
+use crate::form_fault::FormFault;
+use crate::forms::{LiveForm, read_form};
 use crate::known::{are_services, states_are_known};
 use crate::making::bound_of_line;
 use crate::states::states_in;
 use rc_db::Db;
 use rc_line::Line;
-use rc_liveform::{FormFault, LiveForm, read_form};
 use std::alloc::Global;
 
 /// The line whose text the bytes are, and how many states it has.

@@ -1,14 +1,15 @@
 //! The states of a line, made of what a text says.
 ghost use Rattle.std.specs.Prelude.{◌≡◌, ◌++◌, ◌∷◌, [], length, map, All, IfOk, OnOk};
 ghost use Rattle.rc_line.specs.State.{states_of};
-ghost use Rattle.rc_liveform.specs.Text.{IsLiveText, IsStateText};
+ghost use Rattle.rc_livetext.specs.Text.{IsLiveText, IsStateText};
 ghost use Rattle.rc_livetext.specs.Meaning.{IsKnownState, all_states};
 ghost use Rattle.rc_livetext.specs.Parts.{IsWithin, state_texts};
 ghost use Rattle.rc_livetext.specs.Spelling.{state_text};
 
+use crate::form_states::StateForm;
+use crate::forms::LiveForm;
 use rc_db::{NoMem, Table};
 use rc_dbtext::{set_of, table_of};
-use rc_liveform::{LiveForm, StateForm};
 use rc_names::Names;
 use rc_set::Set;
 use std::alloc::{AllocError, Global};

@@ -4,3 +4,4 @@ pub mod Target
 pub mod Ask
 pub mod PlanFaults
 pub mod Sides
+pub mod Carrying

@@ -1,8 +1,8 @@
 //! What an update carries over from one database to another.
 
 use rc_db::Db;
+use rc_select::{Update, carry};
 use rc_set::NoMem;
-use rc_update::{Update, carry};
 use samples::{BUNDLES, DB, LOG, NET, ROOT, SERVICES, WEB, db_of, has_ids, sample, set_of};
 use std::alloc::Global;
 use std::test::Fail;

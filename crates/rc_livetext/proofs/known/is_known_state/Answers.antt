@@ -1,6 +1,6 @@
 use Rattle.std.proofs.Common.{◌∙◌, sym, ap}
 use Rattle.std.proofs.lemmas.Bool.{false≢true}
-use Rattle.rc_liveform.specs.Text.{StateText}
+use Rattle.rc_livetext.specs.Text.{StateText}
 use Rattle.rc_livetext.proofs.Knowing.{known_bundles, known_from, known_live}
 use Rattle.rc_livetext.proofs.known.is_known_state.Goals as goal
 

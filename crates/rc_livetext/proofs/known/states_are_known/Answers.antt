@@ -1,6 +1,6 @@
 use Rattle.std.proofs.Common.{◌≡◌, ◌∙◌, sym, ap}
 use Rattle.std.proofs.lemmas.Bool.{false≢true}
-use Rattle.rc_liveform.specs.Text.{LiveText}
+use Rattle.rc_livetext.specs.Text.{LiveText}
 use Rattle.rc_livetext.proofs.Knowing.{all_from, known_after, known_before, known_current}
 use Rattle.rc_livetext.proofs.known.states_are_known.Goals as goal
 use Rattle.rc_livetext.proofs.known.states_are_known.Goals.{then-all_known, else-all_known}

@@ -2,7 +2,7 @@ use Rattle.std.proofs.Common.{◌≡◌, ◌∙◌, ℕ, Bool, Option, List, All
 use Rattle.rc_db.specs.Bundles.{Bundles}
 use Rattle.rc_db.specs.Database.{Database}
 use Rattle.rc_line.specs.State.{states_of}
-use Rattle.rc_liveform.specs.Text.{LiveText}
+use Rattle.rc_livetext.specs.Text.{LiveText}
 use Rattle.rc_livetext.specs.declared.fault.LiveFault.{LiveFault}
 use Rattle.rc_livetext.specs.Meaning.{IsKnownState, all_states}
 use Rattle.rc_livetext.specs.Parts.{IsWithin, MakeLine, MakeNone, state_texts}

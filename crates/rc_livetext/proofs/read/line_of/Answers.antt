@@ -1,6 +1,6 @@
 use Rattle.std.proofs.Common.{◌≡◌, ◌∙◌, ℕ, List, All, refl, sym, ap, subst}
 use Rattle.std.proofs.lemmas.Bool.{false≢true}
-use Rattle.rc_liveform.specs.Text.{LiveText}
+use Rattle.rc_livetext.specs.Text.{LiveText}
 use Rattle.rc_livetext.specs.Meaning.{IsKnownState, all_states}
 use Rattle.rc_livetext.proofs.read.line_of.Goals as goal
 

@@ -1,6 +1,6 @@
 use Rattle.std.proofs.Common.{◌∙◌, All, sym, ap, subst}
 use Rattle.std.proofs.lemmas.List.Elements.{All-head, All-tail}
-use Rattle.rc_liveform.specs.Text.{IsStateText, LiveText, StateText}
+use Rattle.rc_livetext.specs.Text.{IsStateText, LiveText, StateText}
 use Rattle.rc_livetext.specs.Meaning.{IsKnownState}
 use Rattle.rc_livetext.proofs.Texts.{front, rear}
 use Rattle.rc_livetext.proofs.states.push_all.Goals as goal

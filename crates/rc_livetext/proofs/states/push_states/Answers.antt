@@ -1,6 +1,6 @@
 use Rattle.std.proofs.Common.{◌∙◌, ◌++◌, List, sym, ap, subst}
 use Rattle.std.proofs.lemmas.List.{append-nil, take_all}
-use Rattle.rc_liveform.specs.Text.{IsStateText, StateText}
+use Rattle.rc_livetext.specs.Text.{IsStateText, StateText}
 use Rattle.rc_livetext.specs.Meaning.{IsKnownState}
 use Rattle.rc_livetext.specs.Parts.{state_texts}
 use Rattle.rc_livetext.proofs.Pairs.{taken_one}

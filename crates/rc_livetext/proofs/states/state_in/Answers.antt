@@ -1,6 +1,6 @@
 use Rattle.std.proofs.Common.{◌≡◌, ◌∙◌, List, All, Contains, sym, ap, subst}
 use Rattle.rc_textform.specs.Words.{BundleText}
-use Rattle.rc_liveform.specs.Text.{StateText}
+use Rattle.rc_livetext.specs.Text.{StateText}
 use Rattle.rc_livetext.proofs.states.state_in.Goals as goal
 
 pub set_of-requires-clause-known : goal.set_of-requires-clause-known

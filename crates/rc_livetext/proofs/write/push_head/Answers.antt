@@ -1,5 +1,5 @@
 use Rattle.std.proofs.Common.{◌∙◌, ◌++◌, ℕ, List, true, ap}
-use Rattle.rc_liveform.specs.Text.{First, OfServices, OfBound, spell}
+use Rattle.rc_livetext.specs.Text.{First, OfServices, OfBound, spell}
 use Rattle.rc_livetext.proofs.LineLemmas.{three_parts}
 use Rattle.rc_livetext.proofs.write.push_head.Goals as goal
 

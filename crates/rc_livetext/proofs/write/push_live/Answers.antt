@@ -2,7 +2,7 @@ use Rattle.std.proofs.Common.{◌∙◌, [], ◌∷◌, ◌++◌, ℕ, List, ap,
 use Rattle.rc_dbtext.specs.Lines.{spaced}
 use Rattle.rc_dbtext.specs.Spelling.{members, name_at}
 use Rattle.rc_dbtext.proofs.LineLemmas.{line_of}
-use Rattle.rc_liveform.specs.Text.{state_word}
+use Rattle.rc_livetext.specs.Text.{state_word}
 use Rattle.rc_livetext.proofs.write.push_live.Goals as goal
 
 pub returns : goal.returns

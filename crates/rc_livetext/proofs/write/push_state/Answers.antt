@@ -1,6 +1,6 @@
 use Rattle.std.proofs.Common.{◌∙◌, ◌++◌, ℕ, List, ap, map, append_assoc}
 use Rattle.rc_dbtext.specs.Spelling.{members, name_at}
-use Rattle.rc_liveform.specs.Text.{OfState, spell}
+use Rattle.rc_livetext.specs.Text.{OfState, spell}
 use Rattle.rc_livetext.specs.Written.{bundle_bytes}
 use Rattle.rc_livetext.proofs.write.push_state.Goals as goal
 

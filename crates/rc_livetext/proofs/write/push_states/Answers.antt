@@ -2,7 +2,7 @@ use Rattle.std.proofs.Common.{◌∙◌, ◌+◌, ◌==◌, ◌++◌, ℕ, List,
 use Rattle.rc_line.specs.State.{State}
 use Rattle.rc_line.specs.Line.{states, cursor}
 use Rattle.rc_textform.specs.Form.{spells}
-use Rattle.rc_liveform.specs.Text.{spell, state_lines}
+use Rattle.rc_livetext.specs.Text.{spell, state_lines}
 use Rattle.rc_livetext.specs.Spelling.{state_text}
 use Rattle.rc_livetext.specs.Written.{state_bytes}
 use Rattle.rc_livetext.proofs.Writing.{grown, states_first, states_next, states_all}

@@ -4,7 +4,7 @@ use Rattle.rc_db.specs.Database.{Database}
 use Rattle.rc_line.specs.Line.{Line, states, cursor}
 use Rattle.rc_line.specs.Opening.{Journal}
 use Rattle.rc_textform.specs.Form.{spells}
-use Rattle.rc_liveform.specs.Text.{Last, head_lines, spell}
+use Rattle.rc_livetext.specs.Text.{Last, head_lines, spell}
 use Rattle.rc_livetext.specs.Written.{state_bytes}
 use Rattle.rc_livetext.proofs.Writing.{line_written}
 use Rattle.rc_livetext.proofs.write.write_live.Goals as goal

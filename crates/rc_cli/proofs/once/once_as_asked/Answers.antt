@@ -1,0 +1,28 @@
+use Rattle.std.proofs.Common.{inl, inr, refl}
+use Rattle.rc_streams.specs.Noting.{inner_of}
+use Rattle.rc_base.specs.Base.{bytes_of}
+use Rattle.rc_asked.specs.OnceAsked.{once_ask_of}
+use Rattle.rc_sessions.specs.Storing.{store_of}
+use Rattle.rc_cli.proofs.OnceLemmas.{failure_once, refusal_once}
+use Rattle.rc_cli.proofs.once.once_as_asked.Goals as goal
+
+pub returns-in-Ok-clause-done : goal.returns-in-Ok-clause-done
+returns-in-Ok-clause-done g c told = rw (c.status_of.ensures.done told) at c.in-Ok.ensures.done
+
+pub returns-in-Ok-clause-hindered : goal.returns-in-Ok-clause-hindered
+returns-in-Ok-clause-hindered g c told = rw (c.status_of.ensures.hindered told) at c.in-Ok.ensures.done
+
+pub returns-in-Ok-clause-refused : goal.returns-in-Ok-clause-refused
+returns-in-Ok-clause-refused g c told = inl (rw (c.status_of.ensures.refused told) at c.in-Ok.ensures.done, refl)
+
+pub returns-in-Err-clause-refused : goal.returns-in-Err-clause-refused
+returns-in-Err-clause-refused g c told =
+    let line = c.tell_session_fault.ensures.refused told in
+    let holds = refusal_once c.in-Err.fault (bytes_of c.args.base) (once_ask_of c.args.request.now) c.args.live (g.S.Store.holds (store_of c.args.keeper.now)) (g.S.Store.holds (store_of c.run_asked.new.keeper)) (g.R.Read.remaining (inner_of c.args.reader.now)) (g.R.Read.remaining (inner_of c.run_asked.new.reader)) (g.W.Write.contents (inner_of c.args.writer.now)) (g.W.Write.contents (inner_of c.run_asked.new.writer)) _ _ _ line.0 c.in-Err.ensures.ended in
+    inr ((c.in-Err.fault, holds.0, line.1), holds.1, holds.2)
+
+pub returns-in-Err-clause-failed : goal.returns-in-Err-clause-failed
+returns-in-Err-clause-failed g c told =
+    let line = c.tell_session_fault.ensures.failed told in
+    let holds = failure_once c.in-Err.fault line.0 (bytes_of c.args.base) (once_ask_of c.args.request.now) c.args.live (g.S.Store.holds (store_of c.args.keeper.now)) (g.S.Store.holds (store_of c.run_asked.new.keeper)) (g.R.Read.remaining (inner_of c.args.reader.now)) (g.R.Read.remaining (inner_of c.run_asked.new.reader)) (g.W.Write.contents (inner_of c.args.writer.now)) (g.W.Write.contents (inner_of c.run_asked.new.writer)) _ _ _ line.1 c.in-Err.ensures.ended in
+    (line.0, holds.0, line.2, holds.1)

@@ -1,0 +1,124 @@
+-- The two steps of an update: one by the old database, and one by the new.
+use Rattle.std.specs.Prelude.{◌≡◌, ◌≢◌, ◌⊎◌, ◌∷◌, ℕ, Bool, List, [], Option, false, true, length}
+use Rattle.rc_graph.specs.declared.Way.{Way}
+use Rattle.rc_graph.specs.declared.Way.TheVariants.{Lower, Raise}
+use Rattle.clap.specs.Words.{Text as Path}
+use Rattle.rc_set.specs.Set.{Has, Holds}
+use Rattle.rc_db.specs.Database.{Database}
+use Rattle.rc_line.specs.Line.{Line}
+use Rattle.rc_select.specs.Ask.{Ask}
+use Rattle.rc_select.specs.declared.request.Mode.{Mode}
+use Rattle.rc_select.specs.declared.request.Mode.TheVariants.{DownAll, Up}
+use Rattle.rc_session.specs.Commands.{Change}
+use Rattle.rc_session.specs.Holding.{Holding}
+use Rattle.rc_script.specs.Says.{Saying, SaysDry, SaysStep}
+use Rattle.rc_serve.specs.declared.ending.Ending.{Ending}
+use Rattle.rc_serve.specs.declared.ending.Ending.TheVariants.{Done, Refused, Hindered}
+use Rattle.rc_serve.specs.Ending.{EndsIn}
+use Rattle.rc_asked.specs.Listed.{Listed}
+use Rattle.rc_asked.specs.OnceAsked.{OnceSaying, Said}
+use Rattle.rc_asked.specs.Programs.{ByPrograms, ByTable, MakingAsk}
+use Rattle.rc_sessions.specs.Serving.{session_on}
+use Rattle.rc_select.specs.Carrying.{AreNamesOf, Carried, IsAlteredUp, StaysUp}
+use Rattle.rc_cli.specs.Once.{ServesOnce}
+
+-- of transitions that are listed those of one way
+abbrev pub listed_by : Way → Way → Listed → List Listed → List Listed
+listed_by Raise Raise one more = one ∷ more
+listed_by Raise Lower one more = more
+listed_by Lower Raise one more = more
+listed_by Lower Lower one more = one ∷ more
+
+abbrev pub listed_on : Way → List Listed → List Listed
+listed_on way [] = []
+listed_on way (one ∷ more) = listed_by way one.way one (listed_on way more)
+
+-- how the transitions of one way are made: by a table of those of this way, or by the programs
+abbrev pub making_on : Way → MakingAsk → MakingAsk
+making_on way (ByTable failing) = ByTable (listed_on way failing)
+making_on way (ByPrograms runner controller limit) = ByPrograms runner controller limit
+
+-- what the change of these names asks: no limit, and nothing beyond the names
+abbrev pub step_ask : Mode → List (List ℕ) → Ask
+step_ask mode names =
+    record { mode = mode; prune = false; all = false; words = names; limit = 0 }
+
+-- the change of these names, or where it is only shown its plan
+abbrev pub step_by : (dry : Bool) → Ask → Saying
+step_by true ask = SaysDry ask
+step_by false ask = SaysStep (Change ask [])
+
+-- the first step lowers these names with all that needs them, and the second one raises those
+-- names with all that they need
+abbrev pub lowering : (dry : Bool) → List (List ℕ) → OnceSaying
+lowering dry names = Said (step_by dry (step_ask DownAll names))
+
+abbrev pub raising : (dry : Bool) → List (List ℕ) → OnceSaying
+raising dry names = Said (step_by dry (step_ask Up names))
+
+-- the line with which a database begins where these services are live: one state, and its bundles
+abbrev pub carried_line : Database → List Bool → ℕ → Line
+carried_line d live bound = record {
+  before = [];
+  current = record { live = live; table = d.table };
+  after = [];
+  bound = bound;
+}
+
+-- the names that are lowered, the services of the new database that stay live, and the names that
+-- are raised
+pub record Parts : Type 0 where
+  pub lower : List (List ℕ)
+  pub kept : List Bool
+  pub raise : List (List ℕ)
+
+-- what an update does where these services are live: what is altered or gone is lowered, what
+-- neither is that nor needs it stays, and what is still there is raised
+pub record IsUpdate (old new : Database) (live : List Bool) (parts : Parts) : Type 0 where
+  pub lower : AreNamesOf old (IsAlteredUp old new (Has live)) parts.lower
+  pub kept : Holds parts.kept (Carried old new (StaysUp old new (Has live)))
+  pub bound : length parts.kept ≡ length new.names
+  pub raise : AreNamesOf new (Carried old new (Has live)) parts.raise
+
+-- one line was served, and then, where all of it was done, another one on another session
+pub record ServesBoth (path : Option Path) (was is : Option (List ℕ)) (As At : EndsIn)
+    (ending : Ending) (what then : OnceSaying) (written gained : Option (List ℕ))
+    (from to : Holding) : Type 0 where
+  pub middle : Holding
+  pub after : Holding
+  pub held : Option (List ℕ)
+  pub shown : Option (List ℕ)
+  pub first : ServesOnce path was held As Done what written shown from middle
+  pub second : ServesOnce path held is At ending then shown gained to after
+
+-- how two lines end of which the first is done
+abbrev pub ending_behind : Ending → Ending
+ending_behind Done = Done
+ending_behind Refused = Hindered
+ending_behind Hindered = Hindered
+
+-- how two lines end: done where both are; where the first one is refused or hindered it ends so,
+-- with nothing of the second; where the second one is, it is hindered
+abbrev pub EndsBoth : Ending → Option Path → (was is : Option (List ℕ)) → (As At : EndsIn)
+    → (what then : OnceSaying) → (written gained : Option (List ℕ)) → (from to : Holding) → Type 0
+EndsBoth Done path was is As At what then written gained from to =
+    ServesBoth path was is As At Done what then written gained from to
+EndsBoth Refused path was is As At what then written gained from to =
+    (after : Holding) × ServesOnce path was is As Refused what written gained from after
+EndsBoth Hindered path was is As At what then written gained from to =
+    ((after : Holding) × ServesOnce path was is As Hindered what written gained from after)
+    ⊎ ((ending : Ending) × (ending ≢ Done)
+    × ServesBoth path was is As At ending what then written gained from to)
+
+-- the session of the new database, with what stays live of the old one
+abbrev pub session_with : Database → Parts → Holding → Holding
+session_with new parts from = session_on new (carried_line new parts.kept from.line.bound)
+
+-- an update from where a session stands ends so
+pub record EndsUpdate (ending : Ending) (path : Option Path) (was is : Option (List ℕ))
+    (As At : EndsIn) (dry : Bool) (written gained : Option (List ℕ)) (from : Holding)
+    (new : Database) : Type 0 where
+  pub parts : Parts
+  pub update : IsUpdate from.database new from.line.current.live parts
+  pub ends : EndsBoth ending path was is As At (lowering dry parts.lower)
+      (raising dry parts.raise) written gained from (session_with new parts from)

@@ -1,0 +1,40 @@
+//! Laws of the definitions. The functions do nothing when they run.
+ghost use Rattle.std.specs.Prelude.{ℕ, List, Bool};
+ghost use Rattle.rc_set.specs.Set.{Has, Holds};
+ghost use Rattle.rc_graph.specs.Closure.{UpFrom};
+ghost use Rattle.rc_db.specs.Database.{Database, IsDatabase};
+ghost use Rattle.rc_line.specs.Line.{Line};
+ghost use Rattle.rc_select.specs.Ask.{IsPlanOf};
+ghost use Rattle.rc_select.specs.PlanSets.{PlanSets};
+ghost use Rattle.rc_select.specs.declared.request.Mode.TheVariants.{DownAll, Up};
+ghost use Rattle.rc_session.specs.Doing.{IsLineOf};
+ghost use Rattle.rc_select.specs.Carrying.{Carried, StaysUp};
+ghost use Rattle.rc_cli.specs.Updating.{IsUpdate, Parts, step_ask};
+
+/// The first step of an update lowers exactly what is live and does not stay, and moves nothing
+/// else: a service that is neither altered nor gone, and needs nothing that is, is never moved.
+pub fn lowering_spares_the_rest()
+    ensures lowers { (old new : Database) (line : Line) (parts : Parts) (plan : PlanSets) →
+        IsDatabase old → IsLineOf old line → IsUpdate old new line.current.live parts →
+        IsPlanOf old line.current.table line.current.live (step_ask DownAll parts.lower) plan →
+        Holds plan.lower (λ s. Has line.current.live s
+        × (StaysUp old new (Has line.current.live) s → ⊥)) }
+    ensures alone { (old new : Database) (line : Line) (parts : Parts) (plan : PlanSets) →
+        IsDatabase old → IsLineOf old line → IsUpdate old new line.current.live parts →
+        IsPlanOf old line.current.table line.current.live (step_ask DownAll parts.lower) plan →
+        (s : ℕ) → Has plan.raise s → ⊥ }
+{}
+
+/// The second step raises what was live and is still there, with all that it needs, so far as it
+/// did not stay live, and moves nothing else.
+pub fn raising_spares_the_rest()
+    ensures raises { (old new : Database) (live : List Bool) (parts : Parts) (plan : PlanSets) →
+        IsDatabase new → IsUpdate old new live parts →
+        IsPlanOf new new.table parts.kept (step_ask Up parts.raise) plan →
+        Holds plan.raise (λ s. UpFrom new.needs (Carried old new (Has live)) s
+        × (Has parts.kept s → ⊥)) }
+    ensures alone { (old new : Database) (live : List Bool) (parts : Parts) (plan : PlanSets) →
+        IsDatabase new → IsUpdate old new live parts →
+        IsPlanOf new new.table parts.kept (step_ask Up parts.raise) plan →
+        (s : ℕ) → Has plan.lower s → ⊥ }
+{}

@@ -1,0 +1,11 @@
+use Rattle.std.proofs.lemmas.Result.{err_from_is_err_and}
+use Rattle.rc_livetext.specs.Text.{OfServices}
+use Rattle.rc_livetext.proofs.Missing.{missing_one}
+use Rattle.rc_livetext.proofs.heads.services_line.Goals as goal
+
+pub returns-in_err-line-clause-fault : goal.returns-in_err-line-clause-fault
+returns-in_err-line-clause-fault c =
+    let p = err_from_is_err_and c.from_residual.result c.from_residual.ensures.1 in
+    rw (p.1, p.2)
+    (missing_one OfServices (λ value is. is) c.args.bytes.now c.in_err-line.field-0.0
+    c.in_err-line.ensures.fault)

@@ -1,0 +1,11 @@
+use Rattle.std.proofs.Common.{◌∙◌, sym}
+use Rattle.rc_textform.proofs.WordLines.{words_once}
+use Rattle.rc_livetext.specs.Text.{words}
+use Rattle.rc_livetext.proofs.LineWords.{plain_line}
+use Rattle.rc_livetext.proofs.lines.line_of.Goals as goal
+
+pub returns : goal.returns
+returns c = λ l tail is same.
+    let read = rw c.in-Some.is at c.in_ok-words.ensures in
+    let none = rw (c.in-None.is, c.as_slice.ensures.value) at c.in_ok-line.ensures in
+    none l is (words_once _ (words l) c.in-Some.rest.now tail read.0 (plain_line l is) (sym read.1 ∙ same)).0

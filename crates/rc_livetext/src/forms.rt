@@ -1,0 +1,57 @@
+//! What a live text says, read front to back.
+ghost use Rattle.std.specs.Prelude.{IfOk, IfErr};
+ghost use Rattle.rc_livetext.specs.Refusals.{BeginsWith, IsRefused};
+
+use crate::form_fault::FormFault;
+use crate::form_states::{StateForm, bundles_at, states_to_current, states_to_last};
+use crate::heads::head;
+use rc_names::Name;
+use std::alloc::Global;
+use std::marker::Model;
+
+/// A line of states as its text gives it.
+#[derive(Debug, Drop)]
+pub struct LiveForm {
+    pub services: Vec<Name>,
+    /// How many states there may be, where the text says so.
+    pub bound: Option<u32>,
+    pub before: Vec<StateForm>,
+    pub current: StateForm,
+    pub after: Vec<StateForm>,
+}
+
+impl Model for LiveForm {
+    ghost use Rattle.rc_livetext.specs.Text.{LiveText};
+
+    ghost Value = { LiveText };
+
+    ghost view = { λ f. record {
+      services = f.services.items;
+      bound = f.bound;
+      before = f.before.items;
+      current = f.current;
+      after = f.after.items;
+    } };
+}
+
+/// What the text at the front says, and what follows it.
+pub fn read_form(alloc: Global, bytes: &[u8]) -> Result<(LiveForm, &[u8]), FormFault>
+    ensures ok { IfOk result (λ read. BeginsWith bytes.now read.0 read.1.now) }
+    ensures fault { IfErr result (IsRefused bytes.now) }
+{
+    let (services, bound, rest) = head(alloc, bytes)?;
+    let (before, live, rest) = states_to_current(alloc, rest)?;
+    let (bundles, rest) = bundles_at(alloc, rest)?;
+    let (after, rest) = states_to_last(alloc, rest)?;
+    let current = StateForm { live, bundles };
+    Ok((
+        LiveForm {
+            services,
+            bound,
+            before,
+            current,
+            after,
+        },
+        rest,
+    ))
+}

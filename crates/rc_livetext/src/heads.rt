@@ -1,0 +1,89 @@
+//! The head of a live text: its version, its services and its bound.
+ghost use Rattle.std.specs.Prelude.{◌≡◌, ◌++◌, true, IfOk, IfErr, IfSome, is_some};
+ghost use Rattle.rc_textform.specs.Form.{spells};
+ghost use Rattle.rc_livetext.specs.Text as text;
+ghost use Rattle.rc_livetext.specs.Text.{AreAscending, IsBound, head_lines, spell};
+ghost use Rattle.rc_livetext.specs.Held.{IsMissing};
+ghost use Rattle.rc_livetext.specs.Saying.{IsSaid};
+ghost use Rattle.rc_livetext.specs.FormText.{line_text};
+ghost use Rattle.rc_livetext.specs.Refusals.{IsRefused};
+
+use crate::form_fault::FormFault;
+use crate::lines::{LineForm, line_of, version_of};
+use rc_names::Name;
+use rc_textform::number_line;
+use std::alloc::Global;
+
+/// The names of all services, how many states there may be, and what follows.
+pub(crate) fn head(
+    alloc: Global,
+    bytes: &[u8],
+) -> Result<(Vec<Name>, Option<u32>, &[u8]), FormFault>
+    ensures ok { IfOk result (λ read. AreAscending read.0.items × IfSome read.1 IsBound
+        × (bytes.now ≡ spells spell (head_lines read.0.items read.1) ++ read.2.now)) }
+    ensures fault { IfErr result (IsRefused bytes.now) }
+{
+    let (bounded, rest) = first_line(alloc, bytes)?;
+    let (services, rest) = services_line(alloc, rest)?;
+    if !bounded {
+        return Ok((services, None, rest));
+    }
+    let (bound, rest) = bound_line(alloc, rest)?;
+    Ok((services, Some(bound), rest))
+}
+
+// Whether the text has a bound, and what follows its first line.
+fn first_line(alloc: Global, bytes: &[u8]) -> Result<(bool, &[u8]), FormFault>
+    ensures ok { IfOk result (λ read. bytes.now ≡ spell (text.First read.0) ++ read.1.now) }
+    ensures fault { IfErr result (IsRefused bytes.now) }
+{
+    let Ok(read) = number_line(alloc, bytes, b"undorc-live") else {
+        return Err(FormFault::Memory);
+    };
+    let Some((number, rest)) = read else {
+        return Err(FormFault::Bad(bytes.len()));
+    };
+    match version_of(number) {
+        Some(bounded) => Ok((bounded, rest)),
+        None => Err(FormFault::Version),
+    }
+}
+
+// The names of all services, and what follows their line.
+fn services_line(alloc: Global, bytes: &[u8]) -> Result<(Vec<Name>, &[u8]), FormFault>
+    ensures ok { IfOk result (λ read. AreAscending read.0.items
+        × (bytes.now ≡ spell (text.OfServices read.0.items) ++ read.1.now)) }
+    ensures fault { IfErr result (IsMissing AreAscending text.OfServices bytes.now) }
+{
+    let (line, rest) = next_line(alloc, bytes)?;
+    match line {
+        LineForm::Services(names) => Ok((names, rest)),
+        _ => Err(FormFault::Bad(bytes.len())),
+    }
+}
+
+// How many states there may be, and what follows that line.
+fn bound_line(alloc: Global, bytes: &[u8]) -> Result<(u32, &[u8]), FormFault>
+    ensures ok { IfOk result (λ read. IsBound read.0
+        × (bytes.now ≡ spell (text.OfBound read.0) ++ read.1.now)) }
+    ensures fault { IfErr result (IsMissing IsBound text.OfBound bytes.now) }
+{
+    let (line, rest) = next_line(alloc, bytes)?;
+    match line {
+        LineForm::Bound(bound) => Ok((bound, rest)),
+        _ => Err(FormFault::Bad(bytes.len())),
+    }
+}
+
+/// The line in front, whatever it says, and what follows it.
+pub(crate) fn next_line(alloc: Global, bytes: &[u8]) -> Result<(LineForm, &[u8]), FormFault>
+    ensures ok { IfOk result (λ read. IsSaid (line_text read.0)
+        × (bytes.now ≡ spell (line_text read.0) ++ read.1.now)) }
+    ensures fault { IfErr result (IsMissing IsSaid (λ l. l) bytes.now) }
+{
+    match line_of(alloc, bytes) {
+        Ok(Some((line, rest))) => Ok((line, rest)),
+        Ok(None) => Err(FormFault::Bad(bytes.len())),
+        Err(_) => Err(FormFault::Memory),
+    }
+}

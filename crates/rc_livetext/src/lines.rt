@@ -1,0 +1,191 @@
+//! The lines of a live text, each by what it says, wherever it stands.
+ghost use Rattle.std.specs.Prelude.{◌≡◌, ◌↔◌, ℕ, List, [], ◌∷◌, ◌++◌, Bool, map, codes};
+ghost use Rattle.std.specs.Prelude.{IfOk, MatchOption};
+ghost use Rattle.std.specs.Fmt.{decimal};
+ghost use Rattle.rc_livetext.specs.Text as text;
+ghost use Rattle.rc_livetext.specs.Text.{AreAscending, IsBound, version_word, spell};
+ghost use Rattle.rc_livetext.specs.Saying.{IsSaid, Says, SaysNone};
+ghost use Rattle.rc_livetext.specs.FormText.{line_text};
+
+use rc_names::Name;
+use rc_textform::{BundleForm, ascend, is, name_of, names_of, number_of, words_of};
+use std::alloc::{AllocError, Global};
+
+/// A line by what it says.
+#[derive(Debug, Drop)]
+pub enum LineForm {
+    First(bool),
+    Services(Vec<Name>),
+    Bound(u32),
+    State(bool, Vec<Name>),
+    Bundle(BundleForm),
+    Last,
+}
+
+/// The line in front, and what follows it. None: no line of a live text stands there.
+pub(crate) fn line_of(alloc: Global, bytes: &[u8]) -> Result<Option<(LineForm, &[u8])>, AllocError>
+    ensures { IfOk result (λ read. MatchOption read
+        ((l : text.Line) (tail : List ℕ) → IsSaid l → bytes.now ≡ spell l ++ tail → ⊥)
+        (λ read. IsSaid (line_text read.0)
+        × (bytes.now ≡ spell (line_text read.0) ++ read.1.now))) }
+{
+    let Some((words, rest)) = words_of(alloc, bytes)? else {
+        return Ok(None);
+    };
+    match said(alloc, words.as_slice())? {
+        Some(line) => Ok(Some((line, rest))),
+        None => Ok(None),
+    }
+}
+
+// The line of these words, if they are one's.
+fn said(alloc: Global, words: &[&[u8]]) -> Result<Option<LineForm>, AllocError>
+    ensures { IfOk result (λ line. MatchOption line
+        (SaysNone (map (λ word. word.now) words.now))
+        (λ line. Says (map (λ word. word.now) words.now) (line_text line))) }
+{
+    let Some((first, others)) = words.split_first() else {
+        return Ok(None);
+    };
+    if is(first, b"now") {
+        said_state(alloc, true, others)
+    } else if is(first, b"up") {
+        said_state(alloc, false, others)
+    } else if is(first, b"bundle") {
+        said_bundle(alloc, others)
+    } else if is(first, b"services") {
+        said_services(alloc, others)
+    } else {
+        Ok(said_plainly(first, others))
+    }
+}
+
+// The line of a state that has these names.
+fn said_state(
+    alloc: Global,
+    current: bool,
+    others: &[&[u8]],
+) -> Result<Option<LineForm>, AllocError>
+    ensures { IfOk result (λ line. MatchOption line
+        (SaysNone (text.state_word current ∷ map (λ word. word.now) others.now))
+        (λ line. Says (text.state_word current ∷ map (λ word. word.now) others.now)
+        (line_text line))) }
+{
+    match ascending(alloc, others)? {
+        Some(names) => Ok(Some(LineForm::State(current, names))),
+        None => Ok(None),
+    }
+}
+
+// The line of services that has these names.
+fn said_services(alloc: Global, others: &[&[u8]]) -> Result<Option<LineForm>, AllocError>
+    ensures { IfOk result (λ line. MatchOption line
+        (SaysNone (codes "services" ∷ map (λ word. word.now) others.now))
+        (λ line. Says (codes "services" ∷ map (λ word. word.now) others.now) (line_text line))) }
+{
+    match ascending(alloc, others)? {
+        Some(names) => Ok(Some(LineForm::Services(names))),
+        None => Ok(None),
+    }
+}
+
+// The line of a bundle that has these words.
+fn said_bundle(alloc: Global, others: &[&[u8]]) -> Result<Option<LineForm>, AllocError>
+    ensures { IfOk result (λ line. MatchOption line
+        (SaysNone (codes "bundle" ∷ map (λ word. word.now) others.now))
+        (λ line. Says (codes "bundle" ∷ map (λ word. word.now) others.now) (line_text line))) }
+{
+    let Some((name, members)) = others.split_first() else {
+        return Ok(None);
+    };
+    let Some(name) = name_of(alloc, name)? else {
+        return Ok(None);
+    };
+    match ascending(alloc, members)? {
+        Some(members) => Ok(Some(LineForm::Bundle(BundleForm { name, members }))),
+        None => Ok(None),
+    }
+}
+
+// The line of a first word and others, without names.
+fn said_plainly(first: &[u8], others: &[&[u8]]) -> Option<LineForm>
+    requires now { first.now ≡ codes "now" → ⊥ }
+    requires up { first.now ≡ codes "up" → ⊥ }
+    requires bundle { first.now ≡ codes "bundle" → ⊥ }
+    requires services { first.now ≡ codes "services" → ⊥ }
+    ensures { MatchOption result (SaysNone (first.now ∷ map (λ word. word.now) others.now))
+        (λ line. Says (first.now ∷ map (λ word. word.now) others.now) (line_text line)) }
+{
+    match others {
+        [] => {
+            if is(first, b"end") {
+                Some(LineForm::Last)
+            } else {
+                None
+            }
+        }
+        [other] => said_of_two(first, other),
+        _ => None,
+    }
+}
+
+// The line of two words, without names.
+fn said_of_two(first: &[u8], other: &[u8]) -> Option<LineForm>
+    requires now { first.now ≡ codes "now" → ⊥ }
+    requires up { first.now ≡ codes "up" → ⊥ }
+    requires bundle { first.now ≡ codes "bundle" → ⊥ }
+    requires services { first.now ≡ codes "services" → ⊥ }
+    ensures { MatchOption result (SaysNone (first.now ∷ other.now ∷ []))
+        (λ line. Says (first.now ∷ other.now ∷ []) (line_text line)) }
+{
+    if is(first, b"bound") {
+        let bound = bound_of(other)?;
+        Some(LineForm::Bound(bound))
+    } else if is(first, b"undorc-live") {
+        let bounded = version_of(other)?;
+        Some(LineForm::First(bounded))
+    } else {
+        None
+    }
+}
+
+// The bound that a word says.
+fn bound_of(word: &[u8]) -> Option<u32>
+    ensures { MatchOption result ((n : ℕ) → IsBound n → word.now ≡ decimal n → ⊥)
+        (λ n. IsBound n × (word.now ≡ decimal n)) }
+{
+    let bound = number_of(word, u32::MAX)?;
+    let is_enough = bound >= 3;
+    if is_enough { Some(bound) } else { None }
+}
+
+/// Whether the version that a word says has a bound.
+pub(crate) fn version_of(word: &[u8]) -> Option<bool>
+    ensures { MatchOption result ((bounded : Bool) → word.now ≡ version_word bounded → ⊥)
+        (λ bounded. word.now ≡ version_word bounded) }
+{
+    if is(word, b"2") {
+        Some(true)
+    } else if is(word, b"1") {
+        Some(false)
+    } else {
+        None
+    }
+}
+
+// The words as names that ascend, if they are such.
+fn ascending(alloc: Global, words: &[&[u8]]) -> Result<Option<Vec<Name>>, AllocError>
+    ensures { IfOk result (λ names. MatchOption names
+        (AreAscending (map (λ word. word.now) words.now) → ⊥)
+        (λ names. (names.items ≡ map (λ word. word.now) words.now)
+        × AreAscending (map (λ word. word.now) words.now))) }
+{
+    let Some(names) = names_of(alloc, words)? else {
+        return Ok(None);
+    };
+    if ascend(names.as_slice()) {
+        Ok(Some(names))
+    } else {
+        Ok(None)
+    }
+}

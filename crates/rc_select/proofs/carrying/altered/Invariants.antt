@@ -1,0 +1,12 @@
+use Rattle.std.proofs.Common.{◌≡◌, ◌<◌, ℕ, length}
+use Rattle.rc_set.specs.Set.{Has, Holds}
+use Rattle.rc_select.specs.Carrying.{IsAlteredUp, IsUnaltered}
+use Rattle.rc_select.proofs.carrying.altered.Given as goal
+
+-- the set has those passed that are up, and altered or gone
+abbrev pub invariant-loop-id : goal.invariant-loop-id
+invariant-loop-id l = record {
+  bound : length l.set ≡ length l.old.names;
+  members : Holds l.set (λ s. (s < l.id) × IsAlteredUp l.old l.new (Has l.live) s);
+  spared : (s : ℕ) → s < l.id → Has l.live s → (Has l.set s → ⊥) → IsUnaltered l.old l.new s;
+}

@@ -1,0 +1,11 @@
+use Rattle.std.proofs.Common.{◌≡◌, ◌<◌, ℕ, length}
+use Rattle.rc_set.specs.Set.{Has, Holds}
+use Rattle.rc_select.specs.Carrying.{IsTwin}
+use Rattle.rc_select.proofs.carrying.carried.Given as goal
+
+-- the set has the twins of those passed
+abbrev pub invariant-loop-id : goal.invariant-loop-id
+invariant-loop-id l = record {
+  bound : length l.carried ≡ length l.new.names;
+  members : Holds l.carried (λ t. (s : ℕ) × (s < l.id) × Has l.set s × IsTwin l.old l.new s t);
+}

@@ -1,3 +1,0 @@
-pub mod CarryingLemmas
-pub mod NeedsLemmas
-pub mod SameLemmas
