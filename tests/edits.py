@@ -8,16 +8,18 @@ makes a body wrong. Its lines are 'refuses: FUNCTION', the function whose proof 
 below the crate; 'file: src/..'; and pairs 'old: TEXT' and 'new: TEXT', of which each old text stands
 in the file once.
 
-Most of what an edit costs is to load what its crate stands on, so many are tried in one run of the
-prover, in copies of their crates with names of their own: in one copy those that name different
-functions, in a further one those that name one of them again. A run proves the named functions alone:
-in the copies all others have a hole for a proof, so that they stand for their contracts. An edit is
-refused where a goal of its function's own is open. One that is not is tried once more by itself, with
-each proof as it is.
+Many are tried in one run of the prover, in copies of their crates with names of their own. A run proves
+the named functions alone: in the copies all others have a hole for a proof, so that they stand for their
+contracts, and no body. A further edit of one function stands beside the first in a function of its own,
+with the same contract and the same proof files, or, where it changes more than that, in a further copy.
+An edit is refused where a goal of its function's own is open. One that is not is tried once more by
+itself, with each proof as it is. A copy that cannot be read is named, with the error, and the others go
+on without it.
 
 The last line is 'N passed, M failed'.
 """
 
+import itertools
 import os
 import pathlib
 import re
@@ -30,8 +32,8 @@ from dataclasses import dataclass, field
 
 TOP = pathlib.Path(__file__).resolve().parent.parent
 KIT = pathlib.Path(subprocess.check_output(["rt", "doc"], text=True).strip()).parent
-# So many copies are tried in one run, which takes up to 3 GB.
-COPIES = 8
+# So many edits are tried in one run, which takes up to 3 GB.
+EDITS = 60
 RUN_BYTES = 3_000_000_000
 # Errors that only miss a name that the edit took away show nothing of a contract.
 MISSING = re.compile(
@@ -91,12 +93,13 @@ def read_edit(path):
 
 @dataclass
 class Copy:
-    """A copy of a crate's texts under a name of its own, with edits of different functions."""
+    """A copy of a crate's texts under a name of its own, with edits, and the function of the copy that each is to fail."""
 
     crate: str
     name: str
     folder: pathlib.Path
     edits: list[Edit] = field(default_factory=list)
+    functions: list[str] = field(default_factory=list)
 
     def make(self):
         """Copies the texts, in which the crate names itself."""
@@ -109,54 +112,132 @@ class Copy:
                     to.write_text(own.sub(f"Rattle.{self.name}", file.read_text()))
 
     def takes(self, edit):
-        """Puts the edit in, if there is none of its function and it still applies."""
-        if any(it.function == edit.function or it.is_of_constant() for it in self.edits):
+        """Puts the edit in, where it still applies: a further one of a function in a function of its own beside that."""
+        if self.edits and any(it.is_of_constant() for it in [*self.edits, edit]):
             return False
-        if self.edits and edit.is_of_constant():
+        function = edit.function
+        if any(it.function == function for it in self.edits):
+            function = self.takes_beside(edit)
+        else:
+            try:
+                texts = edit.apply(self.folder)
+            except ValueError:
+                return False
+            for file, text in texts.items():
+                (self.folder / file).write_text(text)
+        if function is None:
             return False
-        try:
-            texts = edit.apply(self.folder)
-        except ValueError:
-            return False
-        for file, text in texts.items():
-            (self.folder / file).write_text(text)
         self.edits.append(edit)
+        self.functions.append(function)
         return True
 
-    def leave_out_proofs(self):
-        """Gives each function but the edited ones a hole for a proof."""
-        edited = {it.function for it in self.edits}
-        for path in functions_in(self.folder):
-            if path in edited:
+    def takes_beside(self, edit):
+        """Puts the edit into a function of another name, with the same contract and the same proof files; gives its path."""
+        plain = self.found(edit.function, TOP / "crates" / self.crate)
+        edited = self.found(edit.function, self.folder)
+        proof = self.folder / "proofs" / edit.function.replace("::", "/")
+        if plain is None or edited is None or (proof / "Proof.antt").exists():
+            return None
+        text = "\n".join(plain.file.read_text().splitlines()[plain.begin : plain.end])
+        for file, old, new in edit.changes:
+            if file != f"src/{edited.file.relative_to(self.folder / 'src')}" or text.count(old) != 1:
+                return None
+            text = text.replace(old, new)
+        path = f"{edit.function}_{1 + sum(it.function == edit.function for it in self.edits)}"
+        old, new = edit.function.split("::")[-1], path.split("::")[-1]
+        text = re.sub(rf"\bfn {old}\b", f"fn {new}", text, count=1)
+        text = re.sub(rf"\bRattle\.{self.crate}\b", f"Rattle.{self.name}", text)
+        lines = edited.file.read_text().splitlines()
+        lines[edited.end : edited.end] = ["", *text.splitlines()]
+        edited.file.write_text("\n".join(lines) + "\n")
+        own = f"Rattle.{self.name}.proofs.{edit.function.replace('::', '.')}."
+        for file in proof.glob("*.antt"):
+            to = self.folder / "proofs" / path.replace("::", "/") / file.name
+            to.parent.mkdir(exist_ok=True)
+            to.write_text(file.read_text().replace(own, f"Rattle.{self.name}.proofs.{path.replace('::', '.')}."))
+        return path
+
+    def found(self, path, folder):
+        """A function of the copy, or of the crate, from its comment and attributes on."""
+        for it in functions_in(folder):
+            if it.path == path:
+                lines = it.file.read_text().splitlines()
+                while lines[it.begin - 1].strip() and not lines[it.begin - 1].endswith("{"):
+                    it.begin -= 1
+                return it
+        return None
+
+    def leave_out_others(self):
+        """Gives each function but the edited ones a hole for a proof, and no body: so it calls no others, and costs little."""
+        for it in reversed([*functions_in(self.folder)]):
+            if it.path in self.functions:
                 continue
-            proof = self.folder / "proofs" / path.replace("::", "/")
+            lines = it.file.read_text().splitlines()
+            margin = re.match(" *", lines[it.begin])[0]
+            opens = [at for at in range(it.begin, it.end) if re.fullmatch(margin + r"(\S.*)?\{", lines[at])]
+            # The value of a constant may come from a `const fn`.
+            if opens and not re.search(r"\bconst fn\b", lines[it.begin]):
+                lines[opens[0] + 1 : it.end - 1] = [f"{margin}    unreachable!()"]
+                it.file.write_text("\n".join(lines) + "\n")
+            proof = self.folder / "proofs" / it.path.replace("::", "/")
             for file in ("Invariants.antt", "Answers.antt"):
                 (proof / file).unlink(missing_ok=True)
             proof.mkdir(parents=True, exist_ok=True)
-            module, function = path.replace("::", "."), path.split("::")[-1]
+            module, function = it.path.replace("::", "."), it.path.split("::")[-1]
             (proof / "Proof.antt").write_text(
                 f"use Rattle.{self.name}.proofs.{module}.Statement.{{statement}}\n\n"
                 f"pub {function}_spec : {{M : Type 1}} → statement M\n{function}_spec = ?\n"
             )
 
 
+@dataclass
+class Function:
+    """A function or inherent method of a crate that is in no cycle of calls: its path, and the lines that it takes in its file."""
+
+    path: str
+    file: pathlib.Path
+    begin: int
+    end: int
+
+
 def functions_in(folder):
-    """The paths of the functions and inherent methods of a crate that are in no cycle of calls."""
+    """The functions and inherent methods of a crate that are in no cycle of calls."""
+    files, homes = {}, {}
     for file in sorted((folder / "src").rglob("*.rt")):
-        at = [it for it in file.relative_to(folder / "src").with_suffix("").parts if it not in ("lib", "main", "mod")]
-        inside, skipped = [], False
-        for line in file.read_text().splitlines():
+        at = file.relative_to(folder / "src").with_suffix("").parts
+        files[file] = "::".join(it for it in at if it not in ("lib", "main", "mod")), file.read_text().splitlines()
+    for at, lines in files.values():
+        for line in lines:
+            if found := re.match(r"(?:pub(?:\([a-z]+\))? )?(?:struct|enum) (\w+)", line):
+                homes.setdefault(found[1], []).append(at)
+    for file, (at, lines) in files.items():
+        inside, skipped = None, False
+        for begin, line in enumerate(lines):
             if re.match(r"#\[(cycle|test|cfg\(test\))", line.strip()):
                 skipped = True
-            elif block := re.match(r"(?:impl|(?:pub )?trait)\b(.*)\{", line):
-                plain = re.fullmatch(r"(?:<[^>]*>)?\s*(\w+)(?:<[^>]*>)?\s*", block[1])
-                inside = [plain[1]] if plain and line.startswith("impl") else None
+            elif found := re.fullmatch(r"impl(?:<[^>]*>)? (\w+)(?:<[^>]*>)? \{", line):
+                inside = path_of(homes.get(found[1], []), at, found[1])
             elif line.startswith("}"):
-                inside = []
-            elif found := re.match(r"(?:    )?(?:pub(?:\([a-z]+\))? )?fn (\w+)", line):
-                if not skipped and inside is not None:
-                    yield "::".join([*at, *inside, found[1]])
+                inside = None
+            elif found := re.match(r"(    )?(?:pub(?:\([a-z]+\))? )?(?:const )?fn (\w+)", line):
+                margin, name = found[1] or "", found[2]
+                home = inside if margin else at
+                end = next((it for it in range(begin, len(lines)) if lines[it] in (margin + "}", margin + "{}")), begin)
+                if not skipped and home is not None and not calls_itself(lines[begin + 1 : end], margin, name):
+                    yield Function(f"{home}::{name}" if home else name, file, begin, end + 1)
                 skipped = False
+
+
+def path_of(homes, at, name):
+    """The path of a type that a module names, where its methods stand: of its own, or else of the only one of that name."""
+    home = at if at in homes else homes[0] if len(homes) == 1 else None
+    return None if home is None else f"{home}::{name}" if home else name
+
+
+def calls_itself(lines, margin, name):
+    """Whether the function with these lines may call itself: its proof then has another name."""
+    at = r"\b(self\.|Self::)" if margin else r"(?<![.:\w])(self::)?"
+    return re.search(rf"{at}{name}(::<[^>]*>)?\(", "\n".join(lines)) is not None
 
 
 class Crates:
@@ -204,7 +285,7 @@ def check(crates, copies, room, has_holes):
     (root / "src").mkdir(parents=True, exist_ok=True)
     (root / "src" / "lib.rt").write_text("//! Nothing: what is tried stands in its libraries.\n")
     words = [KIT / "bin" / "rattle", "check", "--crate-name", "nothing", "src/lib.rt", "--jobs", "1"]
-    words += [f"--only={copy.name}::{edit.function}" for copy in copies for edit in copy.edits]
+    words += [f"--only={copy.name}::{function}" for copy in copies for function in copy.functions]
     words += crates.words(copies) + ["--allow-holes"] * has_holes
     words += ["--antt-project", KIT / "rattle" / "logic" / "antt-project.json"]
     words += ["--logic-built", KIT / "logic_built"]
@@ -212,21 +293,31 @@ def check(crates, copies, room, has_holes):
     return done.stdout + done.stderr
 
 
-def open_goal(copy, edit, said):
+def verdict_of(copy, function, said):
+    """What a run says of a function; None where it came to no proof of it."""
+    head = f"fn {copy.name}::{function}: "
+    return next((it.removeprefix(head) for it in said.splitlines() if it.startswith(head)), None)
+
+
+def errors_in(said):
+    """The lines of a run that say why it came to no proof."""
+    lines = [it for it in said.splitlines() if re.match(r"rattle|antt|error|\S+: error", it)]
+    return lines or ["it ended with nothing said"]
+
+
+def open_goal(copy, function, said):
     """The first open goal of the function's own, or why there is none, and whether there is one."""
-    head = f"fn {copy.name}::{edit.function}: "
-    verdict = next((it.removeprefix(head) for it in said.splitlines() if it.startswith(head)), None)
+    verdict = verdict_of(copy, function, said)
     if verdict is None:
-        why = next((it for it in said.splitlines() if re.match(r"rattle|error|.*: error", it)), "nothing was said")
-        return False, f"no proof was tried: {why}"
+        return False, f"no proof was tried: {errors_in(said)[0]}"
     if verdict.startswith("no proof: expected answers in"):
         return True, verdict.partition("; ")[2]
     if verdict.startswith("not proved"):
-        own = f"{copy.folder}/proofs/{edit.function.replace('::', '/')}/"
+        own = f"{copy.folder}/proofs/{function.replace('::', '/')}/"
         for line in said.splitlines():
             if re.match(re.escape(own) + r"[A-Za-z]*\.antt:[0-9:]*: error", line) and not MISSING.search(line):
                 return True, line.removeprefix(f"{copy.folder}/")
-    return False, f"no goal of {edit.function}'s own is open: it is {verdict}"
+    return False, f"no goal of {function}'s own is open: it is {verdict}"
 
 
 class Trial:
@@ -237,6 +328,7 @@ class Trial:
         self.room = room
         self.passed = self.failed = 0
         self.copies = []
+        self.numbers = itertools.count()
         for name in names:
             missing = [it for it in self.crates.below(name) if not self.crates.lib(it).is_dir()]
             for path in sorted((TOP / "crates" / name / "edits").iterdir()):
@@ -266,6 +358,9 @@ class Trial:
             raise ValueError("it does not apply where the crate names itself")
         self.copies.append(copy)
 
+    def tell(self, text):
+        print(" ".join(str(text).split()[:50]), flush=True)
+
     def fail(self, crate, name, why):
         print(f"{crate}/{name}: FAILED: {' '.join(str(why).split()[:25])}", flush=True)
         self.failed += 1
@@ -275,20 +370,32 @@ class Trial:
         print(f"{edit.crate}/{edit.name}: refused, as it must be: {edit.function}: {goal}", flush=True)
         self.passed += 1
 
-    def try_together(self, number):
-        """One run with every so many copies; gives the edits that were not refused."""
-        copies = self.batches[number]
-        for copy in copies:
-            copy.leave_out_proofs()
+    def try_together(self, copies):
+        """One run with these copies; gives the edits that were not refused."""
+        number = next(self.numbers)
         said = check(self.crates, copies, self.room / f"run_{number}", True)
         left = []
         for copy in copies:
-            for edit in copy.edits:
-                is_open, what = open_goal(copy, edit, said)
+            for edit, function in zip(copy.edits, copy.functions):
+                is_open, what = open_goal(copy, function, said)
                 if is_open:
                     self.refused(edit, what)
-                else:
+                elif verdict_of(copy, function, said) is not None or len(copies) == 1:
+                    self.tell(f"{edit.crate}/{edit.name}: is tried once more alone: {what}")
                     left.append(edit)
+        silent = [it for it in copies if all(verdict_of(it, function, said) is None for function in it.functions)]
+        if not silent or len(copies) == 1:
+            return left
+        # One copy that cannot be read costs the others their verdicts: they go on without it.
+        errors = errors_in(said)
+        blamed = [it for it in silent if any(it.name in line for line in errors)]
+        why = next((line for line in errors if any(it.name in line for it in blamed)), errors[0])
+        self.tell(f"no proof was tried in {', '.join(it.name for it in blamed or silent)}: {why}")
+        parts = [[it] for it in blamed] + [[it for it in silent if it not in blamed]]
+        if not blamed:
+            parts = [silent[::2], silent[1::2]]
+        for part in parts:
+            left += self.try_together(part) if part else []
         return left
 
     def try_alone(self, edit, number):
@@ -298,17 +405,29 @@ class Trial:
         copy.make()
         copy.takes(edit)
         said = check(self.crates, [copy], self.room / f"alone_{number}", False)
-        is_open, what = open_goal(copy, edit, said)
+        is_open, what = open_goal(copy, edit.function, said)
         if is_open:
             self.refused(edit, what)
         else:
             self.fail(edit.crate, edit.name, what)
 
+    def batches(self, lanes):
+        """The copies by runs: as few as may be, but one for each lane, each with crates that stand on much the same."""
+        order = [*self.crates.uses]
+        copies = sorted(self.copies, key=lambda it: order.index(it.crate))
+        total = sum(len(it.edits) for it in copies)
+        count = min(len(copies), -(-total // EDITS) if total > EDITS * lanes else lanes)
+        batches, done = [[] for _ in range(count)], 0
+        for copy in copies:
+            batches[done * count // total].append(copy)
+            done += len(copy.edits)
+        return [it for it in reversed(batches) if it]
+
     def run(self, lanes):
-        count = -(-len(self.copies) // COPIES)
-        self.batches = [self.copies[it::count] for it in range(count)]
+        for copy in self.copies:
+            copy.leave_out_others()
         with ThreadPoolExecutor(lanes) as pool:
-            left = [edit for some in pool.map(self.try_together, range(count)) for edit in some]
+            left = [edit for some in pool.map(self.try_together, self.batches(lanes)) for edit in some]
             list(pool.map(self.try_alone, left, range(len(left))))
 
 
