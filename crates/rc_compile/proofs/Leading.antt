@@ -2,19 +2,21 @@ use Rattle.std.proofs.Common.{◌≡◌, ℕ, inl, List, Contains, arith, refl}
 use Rattle.rc_source.specs.Meaning.{Meaning}
 use Rattle.rc_compile.specs.declared.CompileFault.{CompileFault}
 use Rattle.rc_compile.specs.declared.CompileFault.TheVariants as fault
+use Rattle.rc_compile.specs.declared.scan.EntryFlaw.TheVariants as flaw
 use Rattle.rc_holds.specs.Pipelines.{IsDefined, IsService, IsLongrun, WritesTo, InPipelineOf}
 use Rattle.rc_holds.specs.Standing.{HoldsName, StandsFor, NeedsNamed}
 use Rattle.rc_holds.proofs.Stands.{step_leads}
-use Rattle.rc_compile.specs.CompileFaults.{TooMany, AreFree, IsCompileFault}
+use Rattle.rc_compile.specs.CompileFaults.{Flaw, TooMany, OfEntry, BundleCycle, Cycle, HaveNoFlaw, IsCompileFault}
 
-pub not_refused : (ms : List Meaning) (f : CompileFault) → AreFree ms 7 → IsCompileFault ms f → f ≡ fault.Memory
-not_refused ms fault.TooMany free h = absurd (free 0 TooMany (omega arith) h)
-not_refused ms (fault.UnknownIn s name) free h = absurd (free 1 TooMany (omega arith) (s, name, h.2.0))
-not_refused ms (fault.BundleCycle names) free h = absurd (free 2 TooMany (omega arith) (names.items, h.1))
-not_refused ms (fault.PipelineType s) free h = absurd (free 3 TooMany (omega arith) (s, h.1.0))
-not_refused ms (fault.PipelineMismatch s) free h = absurd (free 4 TooMany (omega arith) (s, h.1.0))
-not_refused ms (fault.PipelineName s) free h = absurd (free 5 TooMany (omega arith) (s, h.1.0))
-not_refused ms (fault.Cycle names) free h = absurd (free 6 TooMany (omega arith) (names.items, h.1))
+pub not_refused : (ms : List Meaning) (f : CompileFault) → HaveNoFlaw ms → IsCompileFault ms f → f ≡ fault.Memory
+unfolding IsCompileFault
+not_refused ms fault.TooMany free h = absurd (free TooMany h.1)
+not_refused ms (fault.UnknownIn s name) free h = absurd (free (OfEntry flaw.Unknown) (s, h.0.1.0))
+not_refused ms (fault.BundleCycle names) free h = absurd (free BundleCycle (names.items, h.1))
+not_refused ms (fault.PipelineType s) free h = absurd (free (OfEntry flaw.PipelineType) (s, h.1.0))
+not_refused ms (fault.PipelineMismatch s) free h = absurd (free (OfEntry flaw.PipelineMismatch) (s, h.1.0))
+not_refused ms (fault.PipelineName s) free h = absurd (free (OfEntry flaw.PipelineName) (s, h.1.0))
+not_refused ms (fault.Cycle names) free h = absurd (free Cycle (names.items, h.1))
 not_refused ms fault.Memory free h = refl
 
 pub through : (ms : List Meaning) (name inner s : List ℕ) → HoldsName ms name inner → StandsFor ms inner s → StandsFor ms name s

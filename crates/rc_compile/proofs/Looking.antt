@@ -8,7 +8,7 @@ use Rattle.rc_source.proofs.Members.{only, Contains-here, Contains-nil}
 use Rattle.rc_holds.specs.Mirror.{HasListed, Mirrors}
 use Rattle.rc_holds.specs.declared.rows.Listed.TheVariants.{Producer}
 use Rattle.rc_holds.specs.Pipelines.{WritesTo}
-use Rattle.rc_compile.specs.Told.{HasPair}
+use Rattle.rc_compile.specs.Book.{HasPair}
 
 -- what an option lists
 pub option_listed : (o : Option (List ℕ)) (x : List ℕ) → Contains (option_to_list o) x ↔ (o ≡ Some x)

@@ -10,7 +10,7 @@ use Rattle.rc_source.specs.Meaning.{Meaning}
 use Rattle.rc_holds.specs.Standing.{IsBundle}
 use Rattle.rc_compile.specs.declared.tables.Which.TheVariants.{Bundles}
 use Rattle.rc_compile.specs.Given.{Gives}
-use Rattle.rc_compile.specs.Told.{GivesAt, HasNamed, IsShared}
+use Rattle.rc_compile.specs.Book.{GivesAt, HasNamed, IsShared}
 use Rattle.rc_compile.proofs.Givens.{IsBelow, one_given, given_is}
 
 pub holds_as : (set : List Bool) (P Q : ℕ → Type 0) → Holds set P → ((s : ℕ) → P s ↔ Q s) → Holds set Q

@@ -1,4 +1,4 @@
--- What the tables show of an entry is what is told of it.
+-- The tables show a flaw of an entry where it has it.
 use Rattle.std.proofs.Common.{◌≡◌, ◌≢◌, ◌∙◌, ◌<◌, ◌⊎◌, ◌↔◌, ⊎_elim, inl, inr, ℕ, List, slice_get, Contains, Some, refl, sym, ap, subst, arith}
 use Rattle.std.proofs.lemmas.Bool.{cases_lt}
 use Rattle.std.proofs.lemmas.Option.{same_Some}
@@ -11,13 +11,13 @@ use Rattle.rc_holds.specs.Pipelines.{IsService, IsLongrun, WritesTo, ReadsFrom, 
 use Rattle.rc_holds.specs.Standing.{IsKnown}
 use Rattle.rc_holds.proofs.Meanings.{only_one, longrun_is_service}
 use Rattle.rc_compile.specs.declared.book.Book.{Book}
-use Rattle.rc_compile.specs.declared.scan.Told.{Told}
-use Rattle.rc_compile.specs.declared.scan.Told.TheVariants.{Unknown, WrongType, NoMatch, TakenName}
+use Rattle.rc_compile.specs.declared.scan.EntryFlaw.{EntryFlaw}
+use Rattle.rc_compile.specs.declared.scan.EntryFlaw.TheVariants.{Unknown, PipelineType, PipelineMismatch, PipelineName}
 use Rattle.rc_compile.specs.declared.tables.Which.TheVariants.{Bundles}
 use Rattle.rc_compile.specs.Given.{Gives}
 use Rattle.rc_compile.specs.Pipes.{HasWrongType, HasNoMatch, HasTakenName}
-use Rattle.rc_compile.specs.CompileFaults.{Mentions, HasUnknown}
-use Rattle.rc_compile.specs.Told.{HasTold, IsBook, IsShared, Shows, HasNamed, JoinsOther, IsUnmatched, IsTaken}
+use Rattle.rc_compile.specs.CompileFaults.{HasEntryFlaw, HasUnknown, Mentions}
+use Rattle.rc_compile.specs.Book.{IsBook, IsShared, Shows, HasNamed, JoinsOther, IsUnmatched, IsTaken}
 use Rattle.rc_compile.proofs.Defined.{apart, writer_is_service, reader_is_service, bundle_or_not}
 
 pub same_least : (P Q : List ℕ → Type 0) → ((x : List ℕ) → P x ↔ Q x) → (x : List ℕ) → IsLeast P x → IsLeast Q x
@@ -169,29 +169,29 @@ module _ (ms : List Meaning) (book : Book) (are : AreMeanings ms) (is : IsBook m
                 cases,
           )
 
-  -- what the tables show of an entry is what is told of it
-  pub shows_same : (told : Told) (m : Meaning) → Contains ms m → Shows book told m ↔ HasTold ms told m.name
+  -- the tables show a flaw of an entry where it has it
+  pub shows_same : (flaw : EntryFlaw) (m : Meaning) → Contains ms m → Shows book flaw m ↔ HasEntryFlaw ms flaw m.name
   shows_same Unknown m within = (
     λ (name, mentions, not). (name, (unknown_same m within name).0 (mentions, not)),
     λ (name, unknown). let both = (unknown_same m within name).1 unknown in (name, both.0, both.1),
   )
-  shows_same WrongType m within = type_same m within
-  shows_same NoMatch m within = match_same m within
-  shows_same TakenName m within = taken_same m within
+  shows_same PipelineType m within = type_same m within
+  shows_same PipelineMismatch m within = match_same m within
+  shows_same PipelineName m within = taken_same m within
 
-  -- what is told is told of an entry
-  entry_of : (told : Told) (s : List ℕ) → HasTold ms told s → (m : Meaning) × Contains ms m × (m.name ≡ s)
+  -- what has a flaw is an entry
+  entry_of : (flaw : EntryFlaw) (s : List ℕ) → HasEntryFlaw ms flaw s → (m : Meaning) × Contains ms m × (m.name ≡ s)
   entry_of Unknown s (name, ((m, there, named, mentions), not)) = (m, there, named)
-  entry_of WrongType s (t, inl (m, there, named, w), not) = (m, there, named)
-  entry_of WrongType s (t, inr (m, there, named, r), not) = (m, there, named)
-  entry_of NoMatch s (t, inl ((m, there, named, w), not)) = (m, there, named)
-  entry_of NoMatch s (t, inr ((m, there, named, r), not)) = (m, there, named)
-  entry_of TakenName s (name, (m, there, named, names), taken) = (m, there, named)
+  entry_of PipelineType s (t, inl (m, there, named, w), not) = (m, there, named)
+  entry_of PipelineType s (t, inr (m, there, named, r), not) = (m, there, named)
+  entry_of PipelineMismatch s (t, inl ((m, there, named, w), not)) = (m, there, named)
+  entry_of PipelineMismatch s (t, inr ((m, there, named, r), not)) = (m, there, named)
+  entry_of PipelineName s (name, (m, there, named, names), taken) = (m, there, named)
 
   -- the names of the entries that show a flaw
-  pub flawed_same : (told : Told) (s : List ℕ) → ((m : Meaning) × Contains ms m × ((m.name ≡ s) × Shows book told m)) ↔ HasTold ms told s
-  flawed_same told s = (
-    λ (m, there, (named, shows)). subst (HasTold ms told) named ((shows_same told m there).0 shows),
-    λ has. let entry = entry_of told s has in
-        (entry.0, entry.1, (entry.2, (shows_same told entry.0 entry.1).1 (subst (HasTold ms told) (sym entry.2) has))),
+  pub flawed_same : (flaw : EntryFlaw) (s : List ℕ) → ((m : Meaning) × Contains ms m × ((m.name ≡ s) × Shows book flaw m)) ↔ HasEntryFlaw ms flaw s
+  flawed_same flaw s = (
+    λ (m, there, (named, shows)). subst (HasEntryFlaw ms flaw) named ((shows_same flaw m there).0 shows),
+    λ has. let entry = entry_of flaw s has in
+        (entry.0, entry.1, (entry.2, (shows_same flaw entry.0 entry.1).1 (subst (HasEntryFlaw ms flaw) (sym entry.2) has))),
   )

@@ -1,34 +1,35 @@
--- What the stages of compiling leave, flaw by flaw.
-use Rattle.std.proofs.Common.{◌≡◌, ◌∙◌, ℕ, ◌+◌, List, [], ◌∷◌, ◌++◌, take, slice_get, All, Option, Some, None, IfNone, sym, ap, subst, arith}
-use Rattle.std.proofs.lemmas.List.{take_more}
-use Rattle.std.proofs.lemmas.List.Elements.{All-push}
-use Rattle.std.proofs.lemmas.Option.{slice_get_within, get_or_from_slice_get}
+-- What is left where no flaw stands before the last.
+use Rattle.std.proofs.Common.{List, arith}
 use Rattle.rc_source.specs.Meaning.{Meaning}
-use Rattle.rc_compile.specs.declared.scan.Told.{Told}
-use Rattle.rc_compile.specs.Told.{HasTold}
-use Rattle.rc_compile.specs.Pipes.{HasWrongType, HasNoMatch, HasTakenName}
-use Rattle.rc_compile.specs.CompileFaults.{Flaw, TooMany, flaws, HaveFlaw, AreFree}
+use Rattle.rc_compile.specs.declared.scan.EntryFlaw.TheVariants.{PipelineType, PipelineMismatch, PipelineName}
+use Rattle.rc_compile.specs.CompileFaults.{Flaw, OfEntry, Cycle, flaws, HaveFlaw, HaveNoFlaw, NoneBefore, AreFreeBefore}
+
+module _ (Is : Flaw → Type 0) (before : NoneBefore Is Cycle flaws) where
+  type_right : Is (OfEntry PipelineType) → ⊥
+  type_right is = grind arith
+
+  sides_match : Is (OfEntry PipelineMismatch) → ⊥
+  sides_match is = grind arith
+
+  name_free : Is (OfEntry PipelineName) → ⊥
+  name_free is = grind arith
+
+  all_free : (Is Cycle → ⊥) → (flaw : Flaw) → Is flaw → ⊥
+  all_free last flaw is = grind arith
 
 module _ (ms : List Meaning) where
-  abbrev pub IsFree : Flaw → Type 0
-  IsFree flaw = HaveFlaw ms flaw → ⊥
+  pub no_type : AreFreeBefore ms Cycle → HaveFlaw ms (OfEntry PipelineType) → ⊥
+  unfolding AreFreeBefore
+  no_type before = type_right (HaveFlaw ms) before
 
-  -- one flaw more, the next in the order
-  pub one_more_free : (count : ℕ) (flaw : Flaw) → slice_get flaws count ≡ Some flaw → AreFree ms count → IsFree flaw → AreFree ms (count + 1)
-  one_more_free count flaw at free none =
-      let next = take_more flaws count flaw (slice_get_within flaws count flaw at) ∙ ap (λ (f : Flaw). take count flaws ++ f ∷ []) (get_or_from_slice_get flaws count flaw flaw at) in
-      subst (All IsFree) (sym next) (All-push IsFree (take count flaws) flaw free none)
+  pub no_mismatch : AreFreeBefore ms Cycle → HaveFlaw ms (OfEntry PipelineMismatch) → ⊥
+  unfolding AreFreeBefore
+  no_mismatch before = sides_match (HaveFlaw ms) before
 
-  -- where no entry is told none has the flaw
-  pub none_told : (told : Told) (found : Option (List ℕ)) → found ≡ None → IfNone found ((s : List ℕ) → HasTold ms told s → ⊥) → ((s : List ℕ) × HasTold ms told s) → ⊥
-  none_told told found is none (s, has) = subst (λ o. IfNone o ((s : List ℕ) → HasTold ms told s → ⊥)) is none s has
+  pub no_taken : AreFreeBefore ms Cycle → HaveFlaw ms (OfEntry PipelineName) → ⊥
+  unfolding AreFreeBefore
+  no_taken before = name_free (HaveFlaw ms) before
 
-  -- definitions that have passed all tests but one
-  pub no_type : AreFree ms 6 → (s : List ℕ) → HasWrongType ms s → ⊥
-  no_type free s has = free 3 TooMany (omega arith) (s, has)
-
-  pub no_mismatch : AreFree ms 6 → (s : List ℕ) → HasNoMatch ms s → ⊥
-  no_mismatch free s has = free 4 TooMany (omega arith) (s, has)
-
-  pub no_taken : AreFree ms 6 → (s : List ℕ) → HasTakenName ms s → ⊥
-  no_taken free s has = free 5 TooMany (omega arith) (s, has)
+  pub no_flaw : AreFreeBefore ms Cycle → (HaveFlaw ms Cycle → ⊥) → HaveNoFlaw ms
+  unfolding AreFreeBefore
+  no_flaw before last = all_free (HaveFlaw ms) before last

@@ -2,5 +2,5 @@ pub mod Pipes
 pub mod Given
 pub mod Compiled
 pub mod CompileFaults
-pub mod Told
+pub mod Book
 pub mod Placed

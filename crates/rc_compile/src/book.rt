@@ -4,8 +4,8 @@ ghost use Rattle.rc_source.specs.Meaning.{AreMeanings};
 ghost use Rattle.rc_source.specs.Said.{meaning_of};
 ghost use Rattle.rc_holds.specs.Pipelines.{IsService};
 ghost use Rattle.rc_holds.specs.Standing.{IsBundle};
-ghost use Rattle.rc_compile.specs.CompileFaults.{AreFree, IsCompileFault};
-ghost use Rattle.rc_compile.specs.Told.{IsBook};
+ghost use Rattle.rc_compile.specs.CompileFaults.{HaveFlaw, IsCompileFault, TooMany};
+ghost use Rattle.rc_compile.specs.Book.{IsBook};
 
 use crate::CompileFault;
 use crate::pipes::{longruns_of, matched_of, shared_of};
@@ -34,10 +34,11 @@ pub(crate) struct Book {
 }
 
 // The tables and lists of definitions.
+#[tactic(auto, unfolding(crate::specs::CompileFaults::AreFreeBefore, crate::specs::CompileFaults::IsCompileFault))]
 pub(crate) fn book_of(alloc: Global, definitions: &[Definition]) -> Result<Book, CompileFault>
     requires { AreMeanings (map meaning_of definitions.now) }
     ensures book { IfOk result (IsBook (map meaning_of definitions.now)) }
-    ensures free { OnOk result (AreFree (map meaning_of definitions.now) 1) }
+    ensures few { OnOk result (HaveFlaw (map meaning_of definitions.now) TooMany → ⊥) }
     ensures fault { IfErr result (IsCompileFault (map meaning_of definitions.now)) }
 {
     let Some(services) = names_of(alloc, definitions, Which::Services)? else {

@@ -6,8 +6,8 @@ ghost use Rattle.rc_source.specs.Said.{meaning_of};
 ghost use Rattle.rc_holds.specs.Mirror.{Mirrors};
 ghost use Rattle.rc_holds.specs.Standing.{HasContent};
 ghost use Rattle.rc_compile.specs.Compiled.{IsDatabaseOf};
-ghost use Rattle.rc_compile.specs.CompileFaults.{AreFree, IsCompileFault};
-ghost use Rattle.rc_compile.specs.Told.{IsBook};
+ghost use Rattle.rc_compile.specs.CompileFaults.{AreFreeBefore, Cycle, HaveNoFlaw, IsCompileFault};
+ghost use Rattle.rc_compile.specs.Book.{IsBook};
 
 use crate::CompileFault;
 use crate::book::Book;
@@ -20,6 +20,7 @@ use rc_source::Definition;
 use std::alloc::Global;
 
 // The database, unless services need one another in a circle.
+#[tactic(auto, unfolding(crate::specs::CompileFaults::IsCompileFault))]
 pub(crate) fn build(
     alloc: Global,
     definitions: &[Definition],
@@ -29,10 +30,10 @@ pub(crate) fn build(
     requires meanings { AreMeanings (map meaning_of definitions.now) }
     requires book { IsBook (map meaning_of definitions.now) book }
     requires contents { Mirrors (HasContent (map meaning_of definitions.now)) book.bundles book.bundles contents.now }
-    requires free { AreFree (map meaning_of definitions.now) 6 }
+    requires before { AreFreeBefore (map meaning_of definitions.now) Cycle }
     ensures db { IfOk result (IsDatabaseOf (map meaning_of definitions.now)) }
     ensures writable { IfOk result (λ db. IsWritable db) }
-    ensures free { OnOk result (AreFree (map meaning_of definitions.now) 7) }
+    ensures free { OnOk result (HaveNoFlaw (map meaning_of definitions.now)) }
     ensures fault { IfErr result (IsCompileFault (map meaning_of definitions.now)) }
 {
     let Ok(sets) = bundle_sets(alloc, definitions, &book.services, &book.bundles, contents) else {

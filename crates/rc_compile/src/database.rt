@@ -11,7 +11,7 @@ ghost use Rattle.rc_holds.specs.Standing.{NeedsNamed, StandsFor};
 ghost use Rattle.rc_compile.specs.Compiled.{IsDatabaseOf};
 ghost use Rattle.rc_compile.specs.Pipes.{HasTakenName, HasWrongType};
 ghost use Rattle.rc_compile.specs.Placed.{AreAsDefined};
-ghost use Rattle.rc_compile.specs.Told.{IsBook};
+ghost use Rattle.rc_compile.specs.Book.{IsBook};
 
 use crate::book::Book;
 use crate::join::join;

@@ -8,11 +8,11 @@ ghost use Rattle.rc_holds.specs.Along.{IsShownCycle};
 ghost use Rattle.rc_holds.specs.Pipelines.{IsDefined, IsService, IsLongrun, WritesTo, InPipelineOf};
 ghost use Rattle.rc_holds.specs.Standing.{HoldsName, StandsFor, NeedsNamed};
 ghost use Rattle.rc_compile.specs.Compiled.{IsDatabaseOf};
-ghost use Rattle.rc_compile.specs.CompileFaults.{AreFree, IsCompileFault};
+ghost use Rattle.rc_compile.specs.CompileFaults.{HaveNoFlaw, IsCompileFault};
 
 /// Definitions without a flaw are refused for want of memory alone.
 pub fn what_compiles_is_not_refused()
-    ensures { (ms : List Meaning) (fault : CompileFault) → AreFree ms 7 → IsCompileFault ms fault → fault ≡ CompileFault.Memory }
+    ensures { (ms : List Meaning) (fault : CompileFault) → HaveNoFlaw ms → IsCompileFault ms fault → fault ≡ CompileFault.Memory }
 {}
 
 /// A bundle stands for what the bundles in it stand for, and a need on it is a need on all of that.

@@ -6,7 +6,7 @@ ghost use Rattle.rc_source.specs.Meaning.{AreMeanings};
 ghost use Rattle.rc_source.specs.Said.{meaning_of};
 ghost use Rattle.rc_db.specs.Database.{IsWritable};
 ghost use Rattle.rc_compile.specs.Compiled.{IsDatabaseOf};
-ghost use Rattle.rc_compile.specs.CompileFaults.{AreFree, IsCompileFault};
+ghost use Rattle.rc_compile.specs.CompileFaults.{HaveNoFlaw, IsCompileFault};
 
 mod book;
 mod build;
@@ -72,11 +72,12 @@ impl From<AllocError> for CompileFault {
 }
 
 /// The database of definitions, as `read_all` gives them or a caller writes them.
+#[tactic(auto, unfolding(crate::specs::CompileFaults::AreFreeBefore))]
 pub fn compile(alloc: Global, definitions: &[Definition]) -> Result<Db, CompileFault>
     requires { AreMeanings (map meaning_of definitions.now) }
     ensures db { IfOk result (λ db. IsDatabaseOf (map meaning_of definitions.now) db) }
     ensures writable { IfOk result (λ db. IsWritable db) }
-    ensures free { OnOk result (AreFree (map meaning_of definitions.now) 7) }
+    ensures free { OnOk result (HaveNoFlaw (map meaning_of definitions.now)) }
     ensures fault { IfErr result (IsCompileFault (map meaning_of definitions.now)) }
 {
     let book = book_of(alloc, definitions)?;

@@ -5,7 +5,7 @@ ghost use Rattle.rc_holds.specs.Rows.{rows};
 ghost use Rattle.rc_source.specs.Meaning.{Meaning};
 ghost use Rattle.rc_source.specs.Said.{meaning_of};
 ghost use Rattle.rc_holds.specs.Standing.{IsBundle};
-ghost use Rattle.rc_compile.specs.Told.{HasNamed, HasPair, JoinsOther, IsLongrunAt, ArePairedAt, IsMatchedAt, IsUnmatched, IsTaken, IsShared, GivesAt};
+ghost use Rattle.rc_compile.specs.Book.{HasNamed, HasPair, JoinsOther, IsLongrunAt, ArePairedAt, IsMatchedAt, IsUnmatched, IsTaken, IsShared, GivesAt};
 
 use crate::tables::{Which, given};
 use rc_db::has_name;

@@ -1,11 +1,12 @@
-// What is told of one entry: the least that has the flaw.
-ghost use Rattle.std.specs.Prelude.{◌≡◌, ◌↔◌, ◌⊎◌, ℕ, List, length, map, Contains, IsTrue, IfOk, IfSome, IfNone, OnOk};
+// The tests of entries, one by one: a flaw is told of the least entry that has it.
+ghost use Rattle.std.specs.Prelude.{◌≡◌, ◌↔◌, ◌⊎◌, ℕ, List, length, map, Contains, IsTrue, IfOk, IfErr, IfSome, IfNone, OnOk};
 ghost use Rattle.rc_source.specs.Meaning.{Meaning, AreMeanings};
 ghost use Rattle.rc_source.specs.Said.{meaning_of};
 ghost use Rattle.rc_holds.specs.Along.{IsLeast};
-ghost use Rattle.rc_compile.specs.CompileFaults.{HasUnknown};
-ghost use Rattle.rc_compile.specs.Told.{HasTold, IsBook, Shows};
+ghost use Rattle.rc_compile.specs.Book.{IsBook, Shows};
+ghost use Rattle.rc_compile.specs.CompileFaults.{AreFreeBefore, HasEntryFlaw, HasUnknown, HaveFlaw, IsCompileFault, OfEntry};
 
+use crate::CompileFault;
 use crate::book::Book;
 use crate::least::least;
 use crate::pipes::{has_taken_name, is_unmatched, joins_other};
@@ -15,28 +16,56 @@ use rc_set::NoMem;
 use rc_source::Definition;
 use std::alloc::Global;
 
-// A flaw that is told of the least entry that has it.
+// What each entry is tested for.
 #[derive(Clone, Copy, PartialEq, Eq, Debug)]
-pub(crate) enum Told {
+pub(crate) enum EntryFlaw {
     Unknown,
-    WrongType,
-    NoMatch,
-    TakenName,
+    PipelineType,
+    PipelineMismatch,
+    PipelineName,
 }
 
-// The least entry that has a flaw, if there is one.
-pub(crate) fn least_flawed(
+// Tests that no entry has a flaw.
+#[tactic(auto, unfolding(crate::specs::CompileFaults::IsCompileFault))]
+pub(crate) fn test_entries(
     alloc: Global,
     definitions: &[Definition],
     book: &Book,
-    told: Told,
+    flaw: EntryFlaw,
+) -> Result<(), CompileFault>
+    requires meanings { AreMeanings (map meaning_of definitions.now) }
+    requires book { IsBook (map meaning_of definitions.now) book.now }
+    requires before { AreFreeBefore (map meaning_of definitions.now) (OfEntry flaw) }
+    ensures none { OnOk result (HaveFlaw (map meaning_of definitions.now) (OfEntry flaw) → ⊥) }
+    ensures fault { IfErr result (IsCompileFault (map meaning_of definitions.now)) }
+{
+    let Some(entry) = least_flawed(alloc, definitions, book, flaw)? else {
+        return Ok(());
+    };
+    match flaw {
+        EntryFlaw::Unknown => {
+            let name = least_unknown(alloc, definitions, book, &entry)?;
+            Err(CompileFault::UnknownIn(entry, name))
+        }
+        EntryFlaw::PipelineType => Err(CompileFault::PipelineType(entry)),
+        EntryFlaw::PipelineMismatch => Err(CompileFault::PipelineMismatch(entry)),
+        EntryFlaw::PipelineName => Err(CompileFault::PipelineName(entry)),
+    }
+}
+
+// The least entry that has a flaw, if there is one.
+fn least_flawed(
+    alloc: Global,
+    definitions: &[Definition],
+    book: &Book,
+    flaw: EntryFlaw,
 ) -> Result<Option<Name>, NoMem>
     requires meanings { AreMeanings (map meaning_of definitions.now) }
     requires book { IsBook (map meaning_of definitions.now) book.now }
-    ensures some { IfOk result (λ found. IfSome found (IsLeast (HasTold (map meaning_of definitions.now) told))) }
-    ensures none { IfOk result (λ found. IfNone found ((s : List ℕ) → HasTold (map meaning_of definitions.now) told s → ⊥)) }
+    ensures some { IfOk result (λ found. IfSome found (IsLeast (HasEntryFlaw (map meaning_of definitions.now) flaw))) }
+    ensures none { IfOk result (λ found. IfNone found ((s : List ℕ) → HasEntryFlaw (map meaning_of definitions.now) flaw s → ⊥)) }
 {
-    let names = flawed(alloc, definitions, book, told)?;
+    let names = flawed(alloc, definitions, book, flaw)?;
     least(alloc, &names)
 }
 
@@ -45,15 +74,15 @@ fn flawed(
     alloc: Global,
     definitions: &[Definition],
     book: &Book,
-    told: Told,
+    flaw: EntryFlaw,
 ) -> Result<Vec<Name>, NoMem>
     requires { IsBook (map meaning_of definitions.now) book.now }
     ensures { IfOk result (λ names. (s : List ℕ) → Contains names.items s
-        ↔ ((m : Meaning) × Contains (map meaning_of definitions.now) m × ((m.name ≡ s) × Shows book.now told m))) }
+        ↔ ((m : Meaning) × Contains (map meaning_of definitions.now) m × ((m.name ≡ s) × Shows book.now flaw m))) }
 {
     let mut names = Vec::new(alloc);
     for definition in definitions {
-        add_flawed(alloc, &mut names, book, definition, told)?;
+        add_flawed(alloc, &mut names, book, definition, flaw)?;
     }
     Ok(names)
 }
@@ -64,34 +93,44 @@ fn add_flawed(
     names: &mut Vec<Name>,
     book: &Book,
     definition: &Definition,
-    told: Told,
+    flaw: EntryFlaw,
 ) -> Result<(), NoMem>
     requires longruns { length book.now.longruns ≡ length book.now.services }
     requires marked { length book.now.shared ≡ length book.now.bundles }
     requires feeds { length book.now.feeds.items ≡ length book.now.services }
     requires matched { length book.now.matched ≡ length book.now.services }
     ensures { OnOk result ((s : List ℕ) → Contains names.new.items s
-        ↔ (Contains names.old.items s ⊎ ((definition.now.name ≡ s) × Shows book.now told (meaning_of definition.now)))) }
+        ↔ (Contains names.old.items s ⊎ ((definition.now.name ≡ s) × Shows book.now flaw (meaning_of definition.now)))) }
 {
-    if has_flaw(alloc, book, definition, told)? {
+    if has_flaw(alloc, book, definition, flaw)? {
         names.push(definition.name.copy(alloc)?)?;
     }
     Ok(())
 }
 
 // Whether a definition has a flaw.
-fn has_flaw(alloc: Global, book: &Book, definition: &Definition, told: Told) -> Result<bool, NoMem>
+fn has_flaw(
+    alloc: Global,
+    book: &Book,
+    definition: &Definition,
+    flaw: EntryFlaw,
+) -> Result<bool, NoMem>
     requires longruns { length book.now.longruns ≡ length book.now.services }
     requires marked { length book.now.shared ≡ length book.now.bundles }
     requires feeds { length book.now.feeds.items ≡ length book.now.services }
     requires matched { length book.now.matched ≡ length book.now.services }
-    ensures { IfOk result (λ flawed. IsTrue flawed ↔ Shows book.now told (meaning_of definition.now)) }
+    ensures { IfOk result (λ flawed. IsTrue flawed ↔ Shows book.now flaw (meaning_of definition.now)) }
 {
-    match told {
-        Told::Unknown => has_unknown(alloc, book, definition),
-        Told::WrongType => Ok(joins_other(&book.services, &book.longruns, definition)),
-        Told::NoMatch => Ok(is_unmatched(&book.services, &book.feeds, &book.matched, definition)),
-        Told::TakenName => Ok(has_taken_name(
+    match flaw {
+        EntryFlaw::Unknown => has_unknown(alloc, book, definition),
+        EntryFlaw::PipelineType => Ok(joins_other(&book.services, &book.longruns, definition)),
+        EntryFlaw::PipelineMismatch => Ok(is_unmatched(
+            &book.services,
+            &book.feeds,
+            &book.matched,
+            definition,
+        )),
+        EntryFlaw::PipelineName => Ok(has_taken_name(
             &book.services,
             &book.bundles,
             &book.shared,
@@ -102,14 +141,14 @@ fn has_flaw(alloc: Global, book: &Book, definition: &Definition, told: Told) -> 
 
 // Whether a definition has a name that stands for nothing.
 fn has_unknown(alloc: Global, book: &Book, definition: &Definition) -> Result<bool, NoMem>
-    ensures { IfOk result (λ flawed. IsTrue flawed ↔ Shows book.now Told.Unknown (meaning_of definition.now)) }
+    ensures { IfOk result (λ flawed. IsTrue flawed ↔ Shows book.now EntryFlaw.Unknown (meaning_of definition.now)) }
 {
     let unknown = unknown_in(alloc, &book.services, &book.bundles, definition)?;
     Ok(!unknown.is_empty())
 }
 
 // The least name that stands for nothing in an entry that has one.
-pub(crate) fn least_unknown(
+fn least_unknown(
     alloc: Global,
     definitions: &[Definition],
     book: &Book,
@@ -117,7 +156,7 @@ pub(crate) fn least_unknown(
 ) -> Result<Name, NoMem>
     requires book { IsBook (map meaning_of definitions.now) book.now }
     requires meanings { AreMeanings (map meaning_of definitions.now) }
-    requires told { HasTold (map meaning_of definitions.now) Told.Unknown entry.now }
+    requires flaw { HasEntryFlaw (map meaning_of definitions.now) EntryFlaw.Unknown entry.now }
     ensures { IfOk result (IsLeast (HasUnknown (map meaning_of definitions.now) entry.now)) }
 {
     for definition in definitions {

@@ -4,12 +4,13 @@ ghost use Rattle.rc_source.specs.Meaning.{AreMeanings};
 ghost use Rattle.rc_source.specs.Said.{meaning_of};
 ghost use Rattle.rc_holds.specs.Standing.{HasContent};
 ghost use Rattle.rc_holds.specs.Mirror.{Mirrors};
-ghost use Rattle.rc_compile.specs.CompileFaults.{AreFree, IsCompileFault};
-ghost use Rattle.rc_compile.specs.Told.{IsBook};
+ghost use Rattle.rc_compile.specs.declared.scan.EntryFlaw.TheVariants.{PipelineType, Unknown};
+ghost use Rattle.rc_compile.specs.Book.{IsBook};
+ghost use Rattle.rc_compile.specs.CompileFaults.{AreFreeBefore, Cycle, IsCompileFault, OfEntry};
 
 use crate::CompileFault;
 use crate::book::Book;
-use crate::scan::{Told, least_flawed, least_unknown};
+use crate::scan::{EntryFlaw, test_entries};
 use rc_graph::Graph;
 use rc_holds::{CycleFault, bundle_graph};
 use rc_source::Definition;
@@ -23,9 +24,9 @@ pub(crate) fn test_all(
 ) -> Result<Graph, CompileFault>
     requires meanings { AreMeanings (map meaning_of definitions.now) }
     requires book { IsBook (map meaning_of definitions.now) book.now }
-    requires free { AreFree (map meaning_of definitions.now) 1 }
+    requires before { AreFreeBefore (map meaning_of definitions.now) (OfEntry Unknown) }
     ensures graph { IfOk result (λ graph. Mirrors (HasContent (map meaning_of definitions.now)) book.now.bundles book.now.bundles graph) }
-    ensures free { OnOk result (AreFree (map meaning_of definitions.now) 6) }
+    ensures before { OnOk result (AreFreeBefore (map meaning_of definitions.now) Cycle) }
     ensures fault { IfErr result (IsCompileFault (map meaning_of definitions.now)) }
 {
     let graph = test_names(alloc, definitions, book)?;
@@ -34,18 +35,16 @@ pub(crate) fn test_all(
 }
 
 // Tests that each name stands for something and that no bundles hold one another in a circle.
+#[tactic(auto, unfolding(crate::specs::CompileFaults::AreFreeBefore, crate::specs::CompileFaults::IsCompileFault))]
 fn test_names(alloc: Global, definitions: &[Definition], book: &Book) -> Result<Graph, CompileFault>
     requires meanings { AreMeanings (map meaning_of definitions.now) }
     requires book { IsBook (map meaning_of definitions.now) book.now }
-    requires free { AreFree (map meaning_of definitions.now) 1 }
+    requires before { AreFreeBefore (map meaning_of definitions.now) (OfEntry Unknown) }
     ensures graph { IfOk result (λ graph. Mirrors (HasContent (map meaning_of definitions.now)) book.now.bundles book.now.bundles graph) }
-    ensures free { OnOk result (AreFree (map meaning_of definitions.now) 3) }
+    ensures before { OnOk result (AreFreeBefore (map meaning_of definitions.now) (OfEntry PipelineType)) }
     ensures fault { IfErr result (IsCompileFault (map meaning_of definitions.now)) }
 {
-    if let Some(name) = least_flawed(alloc, definitions, book, Told::Unknown)? {
-        let unknown = least_unknown(alloc, definitions, book, &name)?;
-        return Err(CompileFault::UnknownIn(name, unknown));
-    }
+    test_entries(alloc, definitions, book, EntryFlaw::Unknown)?;
     match bundle_graph(alloc, definitions, &book.bundles) {
         Ok(graph) => Ok(graph),
         Err(CycleFault::Cycle(names)) => Err(CompileFault::BundleCycle(names)),
@@ -54,21 +53,15 @@ fn test_names(alloc: Global, definitions: &[Definition], book: &Book) -> Result<
 }
 
 // Tests the pipes.
+#[tactic(auto, unfolding(crate::specs::CompileFaults::AreFreeBefore))]
 fn test_pipes(alloc: Global, definitions: &[Definition], book: &Book) -> Result<(), CompileFault>
     requires meanings { AreMeanings (map meaning_of definitions.now) }
     requires book { IsBook (map meaning_of definitions.now) book.now }
-    requires free { AreFree (map meaning_of definitions.now) 3 }
-    ensures free { OnOk result (AreFree (map meaning_of definitions.now) 6) }
+    requires before { AreFreeBefore (map meaning_of definitions.now) (OfEntry PipelineType) }
+    ensures before { OnOk result (AreFreeBefore (map meaning_of definitions.now) Cycle) }
     ensures fault { IfErr result (IsCompileFault (map meaning_of definitions.now)) }
 {
-    if let Some(name) = least_flawed(alloc, definitions, book, Told::WrongType)? {
-        return Err(CompileFault::PipelineType(name));
-    }
-    if let Some(name) = least_flawed(alloc, definitions, book, Told::NoMatch)? {
-        return Err(CompileFault::PipelineMismatch(name));
-    }
-    match least_flawed(alloc, definitions, book, Told::TakenName)? {
-        Some(name) => Err(CompileFault::PipelineName(name)),
-        None => Ok(()),
-    }
+    test_entries(alloc, definitions, book, EntryFlaw::PipelineType)?;
+    test_entries(alloc, definitions, book, EntryFlaw::PipelineMismatch)?;
+    test_entries(alloc, definitions, book, EntryFlaw::PipelineName)
 }

@@ -7,7 +7,7 @@ use Rattle.rc_source.specs.Meaning.{Meaning}
 use Rattle.rc_source.specs.Said.{meaning_of}
 use Rattle.rc_holds.specs.Mirror.{HasListed}
 use Rattle.rc_holds.specs.declared.rows.Listed.TheVariants.{Producer}
-use Rattle.rc_compile.specs.Told.{IsMatchedAt}
+use Rattle.rc_compile.specs.Book.{IsMatchedAt}
 use Rattle.rc_compile.proofs.Looking.{paired, writes_listed}
 use Rattle.rc_compile.proofs.book.listed.Goals as goal
 

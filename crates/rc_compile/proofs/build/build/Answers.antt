@@ -2,9 +2,8 @@ use Rattle.std.proofs.Common.{List, Bool, map, refl, sym, subst}
 use Rattle.rc_source.specs.Said.{meaning_of}
 use Rattle.rc_holds.specs.Standing.{StandsFor}
 use Rattle.rc_holds.specs.Sets.{AreSetsOf}
-use Rattle.rc_compile.specs.CompileFaults.{Cycle}
 use Rattle.rc_compile.proofs.Bridges.{are_piped, are_apart}
-use Rattle.rc_compile.proofs.Stages.{one_more_free, no_type, no_mismatch, no_taken}
+use Rattle.rc_compile.proofs.Stages.{no_flaw, no_mismatch, no_taken, no_type}
 use Rattle.rc_compile.proofs.build.build.Goals as goal
 
 pub bundle_sets-requires-clause-services : goal.bundle_sets-requires-clause-services
@@ -14,10 +13,15 @@ pub bundle_sets-requires-clause-bundles : goal.bundle_sets-requires-clause-bundl
 bundle_sets-requires-clause-bundles c = c.requires.book.bundle
 
 pub bundle_sets-requires-clause-piped : goal.bundle_sets-requires-clause-piped
-bundle_sets-requires-clause-piped c = let ms = map meaning_of c.args.definitions.now in are_piped ms (no_type ms c.requires.free) (no_mismatch ms c.requires.free)
+bundle_sets-requires-clause-piped c =
+    let ms = map meaning_of c.args.definitions.now in
+    let before = c.requires.before in
+    are_piped ms (λ s has. no_type ms before (s, has)) (λ s has. no_mismatch ms before (s, has))
 
 pub bundle_sets-requires-clause-apart : goal.bundle_sets-requires-clause-apart
-bundle_sets-requires-clause-apart c = let ms = map meaning_of c.args.definitions.now in are_apart ms c.requires.meanings (no_taken ms c.requires.free)
+bundle_sets-requires-clause-apart c =
+    let ms = map meaning_of c.args.definitions.now in
+    are_apart ms c.requires.meanings (λ s has. no_taken ms c.requires.before (s, has))
 
 pub graph_of-requires-clause-services : goal.graph_of-requires-clause-services
 graph_of-requires-clause-services c = c.requires.book.service
@@ -34,10 +38,10 @@ joined-db-requires-clause-sets c =
     let Of : List (List Bool) → Type 0 = AreSetsOf (StandsFor (map meaning_of c.args.definitions.now)) c.args.book.bundles c.args.book.services in subst Of (sym c.deref-2.ensures.value) c.in-Ok.ensures.sets
 
 pub joined-db-requires-clause-types : goal.joined-db-requires-clause-types
-joined-db-requires-clause-types c = no_type (map meaning_of c.args.definitions.now) c.requires.free
+joined-db-requires-clause-types c s has = no_type (map meaning_of c.args.definitions.now) c.requires.before (s, has)
 
 pub joined-db-requires-clause-taken : goal.joined-db-requires-clause-taken
-joined-db-requires-clause-taken c = no_taken (map meaning_of c.args.definitions.now) c.requires.free
+joined-db-requires-clause-taken c s has = no_taken (map meaning_of c.args.definitions.now) c.requires.before (s, has)
 
 pub returns-clause-free : goal.returns-clause-free
-returns-clause-free c = one_more_free (map meaning_of c.args.definitions.now) 6 Cycle refl c.requires.free (λ (names, ring). c.in-Ok-graph_of.ensures.free names ring)
+returns-clause-free c = no_flaw (map meaning_of c.args.definitions.now) c.requires.before (λ (names, ring). c.in-Ok-graph_of.ensures.free names ring)

@@ -1,7 +1,7 @@
 use Rattle.std.proofs.Common.{◌⊎◌, ℕ, List, subst}
 use Rattle.rc_set.specs.Set.{Has, Holds}
 use Rattle.rc_holds.specs.Rows.{rows}
-use Rattle.rc_compile.specs.Told.{ArePairedAt}
+use Rattle.rc_compile.specs.Book.{ArePairedAt}
 use Rattle.rc_compile.proofs.pipes.insert_matched.Goals as goal
 
 pub returns-clause-members : goal.returns-clause-members

@@ -1,6 +1,6 @@
 use Rattle.std.proofs.Common.{◌≡◌, ◌∙◌, ◌↔◌, ⊎_elim, inl, inr, ℕ, List, Contains, Option, Some, None, IsTrue, refl, sym, subst, true, true≢false}
 use Rattle.std.specs.Option.{is_some}
-use Rattle.rc_compile.specs.Told.{HasNamed}
+use Rattle.rc_compile.specs.Book.{HasNamed}
 use Rattle.rc_compile.proofs.Passing.{not_passed, passed_not}
 use Rattle.rc_compile.proofs.pipes.is_unmatched.Goals as goal
 

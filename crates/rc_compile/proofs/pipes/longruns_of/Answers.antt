@@ -3,7 +3,7 @@ use Rattle.std.proofs.lemmas.List.{length-map}
 use Rattle.rc_set.specs.Set.{Has}
 use Rattle.rc_db.proofs.Words.{mapped_at}
 use Rattle.rc_source.specs.Said.{meaning_of}
-use Rattle.rc_compile.specs.Told.{IsLongrunAt}
+use Rattle.rc_compile.specs.Book.{IsLongrunAt}
 use Rattle.rc_compile.proofs.Givens.{seen_none, seen_next, seen_whole}
 use Rattle.rc_compile.proofs.pipes.longruns_of.Goals as goal
 

@@ -1,7 +1,7 @@
 use Rattle.std.proofs.Common.{◌≡◌, length, map}
 use Rattle.rc_set.specs.Set.{Has}
 use Rattle.rc_source.specs.Said.{meaning_of}
-use Rattle.rc_compile.specs.Told.{IsLongrunAt}
+use Rattle.rc_compile.specs.Book.{IsLongrunAt}
 use Rattle.rc_compile.proofs.Givens.{SeenBelow}
 use Rattle.rc_compile.proofs.pipes.longruns_of.Given as goal
 

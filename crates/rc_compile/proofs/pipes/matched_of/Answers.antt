@@ -4,7 +4,7 @@ use Rattle.rc_set.specs.Set.{Has}
 use Rattle.rc_holds.specs.Rows.{rows}
 use Rattle.rc_db.proofs.Words.{mapped_at}
 use Rattle.rc_source.specs.Said.{meaning_of}
-use Rattle.rc_compile.specs.Told.{IsMatchedAt}
+use Rattle.rc_compile.specs.Book.{IsMatchedAt}
 use Rattle.rc_compile.proofs.Givens.{seen_none, seen_next, seen_whole}
 use Rattle.rc_compile.proofs.pipes.matched_of.Goals as goal
 

@@ -2,7 +2,7 @@ use Rattle.std.proofs.Common.{◌≡◌, length, map}
 use Rattle.rc_set.specs.Set.{Has}
 use Rattle.rc_holds.specs.Rows.{rows}
 use Rattle.rc_source.specs.Said.{meaning_of}
-use Rattle.rc_compile.specs.Told.{IsMatchedAt}
+use Rattle.rc_compile.specs.Book.{IsMatchedAt}
 use Rattle.rc_compile.proofs.Givens.{SeenBelow}
 use Rattle.rc_compile.proofs.pipes.matched_of.Given as goal
 

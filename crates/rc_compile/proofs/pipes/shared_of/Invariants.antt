@@ -1,7 +1,7 @@
 use Rattle.std.proofs.Common.{◌≡◌, length, map}
 use Rattle.rc_set.specs.Set.{Holds}
 use Rattle.rc_source.specs.Said.{meaning_of}
-use Rattle.rc_compile.specs.Told.{GivesAt}
+use Rattle.rc_compile.specs.Book.{GivesAt}
 use Rattle.rc_compile.proofs.Givens.{IsBelow}
 use Rattle.rc_compile.proofs.Sharing.{TwiceBelow}
 use Rattle.rc_compile.proofs.pipes.shared_of.Given as goal

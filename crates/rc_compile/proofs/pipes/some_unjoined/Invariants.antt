@@ -1,5 +1,5 @@
 use Rattle.std.proofs.Common.{IsTrue}
-use Rattle.rc_compile.specs.Told.{HasNamed}
+use Rattle.rc_compile.specs.Book.{HasNamed}
 use Rattle.rc_compile.proofs.Passing.{Passed}
 use Rattle.rc_compile.proofs.pipes.some_unjoined.Given as goal
 

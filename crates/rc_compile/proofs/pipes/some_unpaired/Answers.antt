@@ -1,7 +1,7 @@
 use Rattle.std.proofs.Common.{◌∙◌, refl, sym, true≢false, arith}
 use Rattle.rc_db.proofs.Places.{contains_at}
 use Rattle.rc_holds.specs.Rows.{rows}
-use Rattle.rc_compile.specs.Told.{HasPair}
+use Rattle.rc_compile.specs.Book.{HasPair}
 use Rattle.rc_compile.proofs.Passing.{stands, passed_next, passed_all}
 use Rattle.rc_compile.proofs.pipes.some_unpaired.Goals as goal
 

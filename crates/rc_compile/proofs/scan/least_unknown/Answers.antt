@@ -8,8 +8,8 @@ use Rattle.rc_source.specs.Said.{meaning_of}
 use Rattle.rc_source.proofs.Members.{Contains-nil}
 use Rattle.rc_holds.specs.Along.{IsLeast}
 use Rattle.rc_compile.specs.CompileFaults.{HasUnknown}
-use Rattle.rc_compile.specs.Told.{Shows}
-use Rattle.rc_compile.specs.declared.scan.Told.TheVariants.{Unknown}
+use Rattle.rc_compile.specs.Book.{Shows}
+use Rattle.rc_compile.specs.declared.scan.EntryFlaw.TheVariants.{Unknown}
 use Rattle.rc_compile.proofs.Givens.{all_below, below_next}
 use Rattle.rc_compile.proofs.Shown.{flawed_same, same_least, unknown_same}
 use Rattle.rc_compile.proofs.scan.least_unknown.Goals as goal
@@ -62,7 +62,7 @@ pub unreachable-requires : goal.unreachable-requires
 unreachable-requires c =
     let ms = map meaning_of c.args.definitions.now in
     let Flawed : Meaning → Type 0 = λ (x : Meaning). (x.name ≡ c.args.entry.now) × Shows c.args.book.now Unknown x in
-    let (m, there, both) = (flawed_same ms c.args.book.now c.requires.meanings c.requires.book Unknown c.args.entry.now).1 c.requires.told in
+    let (m, there, both) = (flawed_same ms c.args.book.now c.requires.meanings c.requires.book Unknown c.args.entry.now).1 c.requires.flaw in
     let (k, x, low, at, holds) = all_below Flawed ms m there both in
     let least : k < length ms = low in
     c.loop-definition.invariant (k, x, omega (arith, length-map c.args.definitions.now meaning_of), at, holds)

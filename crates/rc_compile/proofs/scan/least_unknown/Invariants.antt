@@ -1,7 +1,7 @@
 use Rattle.std.proofs.Common.{◌≡◌, map}
 use Rattle.rc_source.specs.Said.{meaning_of}
-use Rattle.rc_compile.specs.Told.{Shows}
-use Rattle.rc_compile.specs.declared.scan.Told.TheVariants.{Unknown}
+use Rattle.rc_compile.specs.Book.{Shows}
+use Rattle.rc_compile.specs.declared.scan.EntryFlaw.TheVariants.{Unknown}
 use Rattle.rc_compile.proofs.Givens.{IsBelow}
 use Rattle.rc_compile.proofs.scan.least_unknown.Given as goal
 

@@ -7,19 +7,11 @@ use Rattle.rc_source.specs.Meaning.{Meaning}
 use Rattle.rc_holds.specs.Pipelines.{IsService, WritesTo, NamesPipeline}
 use Rattle.rc_holds.specs.Standing.{IsBundle}
 use Rattle.rc_compile.specs.declared.book.Book.{Book}
-use Rattle.rc_compile.specs.declared.scan.Told.{Told}
-use Rattle.rc_compile.specs.declared.scan.Told.TheVariants.{Unknown, WrongType, NoMatch, TakenName}
+use Rattle.rc_compile.specs.declared.scan.EntryFlaw.{EntryFlaw}
+use Rattle.rc_compile.specs.declared.scan.EntryFlaw.TheVariants.{Unknown, PipelineType, PipelineMismatch, PipelineName}
 use Rattle.rc_compile.specs.declared.tables.Which.TheVariants.{Bundles}
 use Rattle.rc_compile.specs.Given.{Gives}
-use Rattle.rc_compile.specs.Pipes.{HasWrongType, HasNoMatch, HasTakenName}
-use Rattle.rc_compile.specs.CompileFaults.{Mentions, HasUnknown}
-
--- the entry has the flaw that is told of it
-abbrev pub HasTold : List Meaning → Told → List ℕ → Type 0
-HasTold ms Unknown s = (name : List ℕ) × HasUnknown ms s name
-HasTold ms WrongType s = HasWrongType ms s
-HasTold ms NoMatch s = HasNoMatch ms s
-HasTold ms TakenName s = HasTakenName ms s
+use Rattle.rc_compile.specs.CompileFaults.{Mentions}
 
 -- two entries give this name to a bundle
 abbrev pub IsShared : List Meaning → List ℕ → Type 0
@@ -75,8 +67,8 @@ pub record IsBook (ms : List Meaning) (book : Book) : Type 0 where
   pub matched : Holds book.matched (λ s. (m : Meaning) × Contains ms m × IsMatchedAt book.services (rows book.feeds.items) m s)
 
 -- by the tables, the entry has the flaw
-abbrev pub Shows : Book → Told → Meaning → Type 0
+abbrev pub Shows : Book → EntryFlaw → Meaning → Type 0
 Shows book Unknown m = (name : List ℕ) × Mentions m name × (Contains book.services name ⊎ Contains book.bundles name → ⊥)
-Shows book WrongType m = JoinsOther book.services book.longruns m
-Shows book NoMatch m = IsUnmatched book.services (rows book.feeds.items) book.matched m
-Shows book TakenName m = IsTaken book.services book.bundles book.shared m
+Shows book PipelineType m = JoinsOther book.services book.longruns m
+Shows book PipelineMismatch m = IsUnmatched book.services (rows book.feeds.items) book.matched m
+Shows book PipelineName m = IsTaken book.services book.bundles book.shared m
