@@ -28,12 +28,17 @@ pub(crate) fn played_alone<G: Gate, W: Watch>(
     ensures made { IfOk result
         (λ ended. AreMade 1 (G.answers gate.now) (G.gives gate.now) run.course.up ended.events) }
 {
-    let mut glance = glance_of(alloc, &run, watch.wants_looks())?;
+    let Ok(mut glance) = glance_of(alloc, &run, watch.wants_looks()) else {
+        drop(run);
+        return Err(Halt::Memory);
+    };
     let run = made_alone(run, deadline, gate, watch, &mut glance);
-    if run.settled() {
-        return Ok(run.finish());
+    drop(glance);
+    if !run.settled() {
+        drop(run);
+        return Err(Halt::Strange);
     }
-    Err(Halt::Strange)
+    Ok(run.finish())
 }
 
 /// Makes transitions until there are none to make.

@@ -15,7 +15,7 @@ use rc_set::NoMem;
 use std::alloc::Global;
 use std::sync::{Condvar, Mutex, Wait};
 use std::thread;
-use std::thread::{Promise, Scope, Threads};
+use std::thread::{Promise, PromisedHandle, Scope, Threads};
 
 /// What the workers share: the board, what tells those that wait of a change, and the moment from
 /// which the run is to be stopped.
@@ -152,22 +152,33 @@ fn start_rest<'s, E, G: Gate, W: Watch, R: Threads + Wait + Sync>(
         pads.push_reserved(work(rt, gate, watch, shared, worker, tools));
         return true;
     }
+    let Some(child) = started(scope, rt, gate, watch, shared, worker, tools) else {
+        set_start(rt, shared, Start::GivenUp);
+        return false;
+    };
+    let all = start_rest(scope, rt, gate, watch, shared, worker - 1, rest, pads);
+    pads.push_reserved(child.join(rt));
+    all
+}
+
+/// Starts a worker. None: it could not be started.
+fn started<'s, E, G: Gate, W: Watch, R: Threads + Wait + Sync>(
+    scope: &'s Scope<'s, E>,
+    rt: &'s R,
+    gate: &'s G,
+    watch: &'s W,
+    shared: &'s Shared,
+    worker: u8,
+    tools: Tools,
+) -> Option<PromisedHandle<Pad, Said<'s, G>>>
+    requires { tools.pad.notes ≡ [] }
+    ensures { IfSome result (λ child. child.promise.gate.now ≡ gate.entry.now) }
+{
     let body = move || -> Pad
         requires { tools.pad.notes ≡ [] }
         ensures { AreSaid (G.answers gate.entry.now) (G.gives gate.entry.now) result.notes }
     { work(rt, gate, watch, shared, worker, tools) };
-    match scope.spawn_with(Said { gate }, body) {
-        Ok(child) => {
-            let all = start_rest(scope, rt, gate, watch, shared, worker - 1, rest, pads);
-            let mine = child.join(rt);
-            pads.push_reserved(mine);
-            all
-        }
-        Err(_) => {
-            set_start(rt, shared, Start::GivenUp);
-            false
-        }
-    }
+    scope.spawn_with(Said { gate }, body).ok()
 }
 
 /// Opens the start, or gives it up.

@@ -126,5 +126,6 @@ pub fn gather(
     {
         return Some(run.finish());
     }
+    drop(run);
     None
 }

@@ -1,7 +1,7 @@
 //! A run that was begun, made by workers.
 
 ghost use Rattle.std.specs.Prelude.{◌≡◌, ◌<◌, ◌≤◌, ℕ, min, [], All, IfOk, IfErr, vec_len, vec_capacity};
-ghost use Rattle.rc_core.specs.Course.{IsCourse, IsPlanned, course_of};
+ghost use Rattle.rc_core.specs.Course.{IsCourse, IsPlanned, course_of, planned_count};
 ghost use Rattle.rc_core.specs.Settled.{IsSettled};
 ghost use Rattle.rc_board.specs.Crew.{IsCrew};
 ghost use Rattle.rc_board.specs.Halting.{MayHalt};
@@ -17,6 +17,7 @@ use crate::watch::Watch;
 use rc_core::{Ended, Run};
 use rc_graph::Graph;
 use rc_select::Plan;
+use rc_set::NoMem;
 use std::alloc::{AllocError, Global};
 use std::sync::{Condvar, Mutex, Wait};
 use std::thread::Threads;
@@ -74,11 +75,39 @@ pub(crate) fn played<R: Threads + Wait + Sync, G: Gate, W: Watch>(
     if crew == 1 {
         return played_alone(alloc, run, deadline, gate, watch);
     }
-    let tools = tools_of(alloc, &run, crew, watch.wants_looks())?;
-    let pads = Vec::with_capacity(alloc, crew as usize)?;
-    worked(
-        rt, graph, plan, deadline, gate, crew, watch, run, tools, pads,
-    )
+    match room_for(alloc, &run, crew, watch.wants_looks()) {
+        Ok(Room { tools, pads }) => worked(
+            rt, graph, plan, deadline, gate, crew, watch, run, tools, pads,
+        ),
+        Err(_) => {
+            drop(run);
+            Err(Halt::Memory)
+        }
+    }
+}
+
+/// What workers own, and room for the pads that they hand back.
+#[derive(Drop)]
+struct Room {
+    tools: Vec<Tools>,
+    pads: Vec<Pad>,
+}
+
+/// All room that the workers of a run will need.
+fn room_for(alloc: Global, run: &Run, workers: u8, looks: bool) -> Result<Room, NoMem>
+    requires fresh { run.now.events ≡ [] }
+    requires few { planned_count run.now.course ≤ 8192 }
+    ensures tools { IfOk result
+        (λ room. All (λ (tools : _). tools.pad.notes ≡ []) room.tools.items) }
+    ensures pads { IfOk result (λ room. (room.pads.items ≡ []) × (vec_len room.pads ≡ 0)
+        × (workers ≤ vec_capacity room.pads)) }
+{
+    let pads = Vec::with_capacity(alloc, workers as usize)?;
+    let Ok(tools) = tools_of(alloc, run, workers, looks) else {
+        drop(pads);
+        return Err(AllocError);
+    };
+    Ok(Room { tools, pads })
 }
 
 /// As many of these workers as there are services to move: no other would have anything to do.
@@ -132,6 +161,7 @@ fn worked<R: Threads + Wait + Sync, G: Gate, W: Watch>(
     } = shared;
     let board = board.into_inner();
     let Some(pads) = pads else {
+        drop(board);
         return Err(Halt::NoThread);
     };
     match gather(graph, plan, deadline, board, &pads) {

@@ -1,3 +1,4 @@
+pub mod Asked
 pub use Rattle.rc_tree.specs.Tree
 pub use Rattle.rc_tree.specs.Shown
 pub use Rattle.rc_tree.specs.TreeFaults

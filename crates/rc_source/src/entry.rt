@@ -3,7 +3,7 @@ ghost use Rattle.std.specs.Prelude.{◌≡◌, ◌≢◌, ◌≤◌, ◌∷◌, 
 ghost use Rattle.rc_names.specs.Name.{IsName};
 ghost use Rattle.rc_names.specs.declared.kind.Kind.TheVariants.{Oneshot, Longrun, Bundle};
 ghost use Rattle.rc_tree.specs.Tree.{Source, file_at};
-ghost use Rattle.rc_tree.specs.TreeFaults.{HasFailed};
+ghost use Rattle.rc_source.specs.Asked.{IsAsked};
 ghost use Rattle.rc_source.specs.Kinds.{Names, NameEach, limit_files, pipe_files, files_of_atomic, files_of_kind, kind_of};
 ghost use Rattle.rc_source.specs.Files.{FilePasses, StopsAtFile, FilesPass, StopsInFiles};
 ghost use Rattle.rc_source.specs.Tests.{files_of_entry};
@@ -48,10 +48,8 @@ fn limits_at<T: Tree>(alloc: Global, tree: &mut T, entry: &str) -> Result<Limits
     ensures limits { IfOk result AreLimits }
     ensures passes { OnOk result ((source : Source) → T.held tree.old ≡ Some source → FilesPass source entry.now limit_files) }
     ensures fault { IfErr result (λ flaw. flaw ≢ Flaw.Memory → (source : Source) → T.held tree.old ≡ Some source → StopsInFiles source entry.now limit_files flaw) }
-    ensures io { IfErr result (λ flaw. flaw ≡ Flaw.Io → HasFailed (T.failed tree.old) (T.failed tree.new)) }
-    ensures same { T.held tree.new ≡ T.held tree.old }
-    ensures count { T.failed tree.old ≤ T.failed tree.new }
-    ensures quiet { OnOk result (T.failed tree.new ≡ T.failed tree.old) }
+    ensures asked { IsAsked result (T.held tree.old) (T.held tree.new)
+        (T.failed tree.old) (T.failed tree.new) }
 {
     let up = file::limit_at(alloc, tree, entry, "timeout-up")?;
     let down = file::limit_at(alloc, tree, entry, "timeout-down")?;
@@ -70,10 +68,8 @@ fn joined_at<T: Tree>(
     ensures each { IfOk result (λ names. All IsName names.items) }
     ensures passes { OnOk result ((source : Source) → T.held tree.old ≡ Some source → FilesPass source entry.now ((file.now, Names) ∷ (folder.now, NameEach) ∷ [])) }
     ensures fault { IfErr result (λ flaw. flaw ≢ Flaw.Memory → (source : Source) → T.held tree.old ≡ Some source → StopsInFiles source entry.now ((file.now, Names) ∷ (folder.now, NameEach) ∷ []) flaw) }
-    ensures io { IfErr result (λ flaw. flaw ≡ Flaw.Io → HasFailed (T.failed tree.old) (T.failed tree.new)) }
-    ensures same { T.held tree.new ≡ T.held tree.old }
-    ensures count { T.failed tree.old ≤ T.failed tree.new }
-    ensures quiet { OnOk result (T.failed tree.new ≡ T.failed tree.old) }
+    ensures asked { IsAsked result (T.held tree.old) (T.held tree.new)
+        (T.failed tree.old) (T.failed tree.new) }
 {
     let mut set = BTreeSet::new(alloc);
     file::add_names_at(alloc, tree, entry, file, &mut set)?;
@@ -87,10 +83,8 @@ fn consumer_for_at<T: Tree>(alloc: Global, tree: &mut T, entry: &str) -> Result<
     ensures each { IfOk result (λ names. All IsName names.items) }
     ensures passes { OnOk result ((source : Source) → T.held tree.old ≡ Some source → FilePasses source entry.now (codes "consumer-for", Names)) }
     ensures fault { IfErr result (λ flaw. flaw ≢ Flaw.Memory → (source : Source) → T.held tree.old ≡ Some source → StopsAtFile source entry.now (codes "consumer-for", Names) flaw) }
-    ensures io { IfErr result (λ flaw. flaw ≡ Flaw.Io → HasFailed (T.failed tree.old) (T.failed tree.new)) }
-    ensures same { T.held tree.new ≡ T.held tree.old }
-    ensures count { T.failed tree.old ≤ T.failed tree.new }
-    ensures quiet { OnOk result (T.failed tree.new ≡ T.failed tree.old) }
+    ensures asked { IsAsked result (T.held tree.old) (T.held tree.new)
+        (T.failed tree.old) (T.failed tree.new) }
 {
     let mut set = BTreeSet::new(alloc);
     file::add_names_at(alloc, tree, entry, "consumer-for", &mut set)?;
@@ -103,10 +97,8 @@ fn pipes_at<T: Tree>(alloc: Global, tree: &mut T, entry: &str) -> Result<Pipes, 
     ensures pipes { IfOk result ArePipes }
     ensures passes { OnOk result ((source : Source) → T.held tree.old ≡ Some source → FilesPass source entry.now pipe_files) }
     ensures fault { IfErr result (λ flaw. flaw ≢ Flaw.Memory → (source : Source) → T.held tree.old ≡ Some source → StopsInFiles source entry.now pipe_files flaw) }
-    ensures io { IfErr result (λ flaw. flaw ≡ Flaw.Io → HasFailed (T.failed tree.old) (T.failed tree.new)) }
-    ensures same { T.held tree.new ≡ T.held tree.old }
-    ensures count { T.failed tree.old ≤ T.failed tree.new }
-    ensures quiet { OnOk result (T.failed tree.new ≡ T.failed tree.old) }
+    ensures asked { IsAsked result (T.held tree.old) (T.held tree.new)
+        (T.failed tree.old) (T.failed tree.new) }
 {
     let producer_for = file::one_name_at(alloc, tree, entry, "producer-for")?;
     let consumer_for = consumer_for_at(alloc, tree, entry)?;
@@ -124,10 +116,8 @@ fn service_at<T: Tree>(alloc: Global, tree: &mut T, entry: &str) -> Result<Servi
     ensures service { IfOk result IsSaid }
     ensures passes { OnOk result ((source : Source) → T.held tree.old ≡ Some source → FilesPass source entry.now files_of_atomic) }
     ensures fault { IfErr result (λ flaw. flaw ≢ Flaw.Memory → (source : Source) → T.held tree.old ≡ Some source → StopsInFiles source entry.now files_of_atomic flaw) }
-    ensures io { IfErr result (λ flaw. flaw ≡ Flaw.Io → HasFailed (T.failed tree.old) (T.failed tree.new)) }
-    ensures same { T.held tree.new ≡ T.held tree.old }
-    ensures count { T.failed tree.old ≤ T.failed tree.new }
-    ensures quiet { OnOk result (T.failed tree.new ≡ T.failed tree.old) }
+    ensures asked { IsAsked result (T.held tree.old) (T.held tree.new)
+        (T.failed tree.old) (T.failed tree.new) }
 {
     let limits = limits_at(alloc, tree, entry)?;
     let essential = file::flag_at(alloc, tree, entry)?;
@@ -232,10 +222,8 @@ fn oneshot_at<T: Tree>(alloc: Global, tree: &mut T, name: Name) -> Result<Defini
     ensures named { IfOk result (λ d. d.name ≡ name) }
     ensures passes { OnOk result ((source : Source) → T.held tree.old ≡ Some source → FilesPass source name (files_of_kind Oneshot)) }
     ensures fault { IfErr result (λ flaw. flaw ≢ Flaw.Memory → (source : Source) → T.held tree.old ≡ Some source → StopsInFiles source name (files_of_kind Oneshot) flaw) }
-    ensures io { IfErr result (λ flaw. flaw ≡ Flaw.Io → HasFailed (T.failed tree.old) (T.failed tree.new)) }
-    ensures same { T.held tree.new ≡ T.held tree.old }
-    ensures count { T.failed tree.old ≤ T.failed tree.new }
-    ensures quiet { OnOk result (T.failed tree.new ≡ T.failed tree.old) }
+    ensures asked { IsAsked result (T.held tree.old) (T.held tree.new)
+        (T.failed tree.old) (T.failed tree.new) }
 {
     let up = file::up_at(alloc, tree, name.text())?;
     let down = file::down_at(alloc, tree, name.text())?;
@@ -250,10 +238,8 @@ fn longrun_at<T: Tree>(alloc: Global, tree: &mut T, name: Name) -> Result<Defini
     ensures named { IfOk result (λ d. d.name ≡ name) }
     ensures passes { OnOk result ((source : Source) → T.held tree.old ≡ Some source → FilesPass source name (files_of_kind Longrun)) }
     ensures fault { IfErr result (λ flaw. flaw ≢ Flaw.Memory → (source : Source) → T.held tree.old ≡ Some source → StopsInFiles source name (files_of_kind Longrun) flaw) }
-    ensures io { IfErr result (λ flaw. flaw ≡ Flaw.Io → HasFailed (T.failed tree.old) (T.failed tree.new)) }
-    ensures same { T.held tree.new ≡ T.held tree.old }
-    ensures count { T.failed tree.old ≤ T.failed tree.new }
-    ensures quiet { OnOk result (T.failed tree.new ≡ T.failed tree.old) }
+    ensures asked { IsAsked result (T.held tree.old) (T.held tree.new)
+        (T.failed tree.old) (T.failed tree.new) }
 {
     file::test_run(alloc, tree, name.text())?;
     let service = service_at(alloc, tree, name.text())?;
@@ -267,10 +253,8 @@ fn bundle_at<T: Tree>(alloc: Global, tree: &mut T, name: Name) -> Result<Definit
     ensures named { IfOk result (λ d. d.name ≡ name) }
     ensures passes { OnOk result ((source : Source) → T.held tree.old ≡ Some source → FilesPass source name (files_of_kind Bundle)) }
     ensures fault { IfErr result (λ flaw. flaw ≢ Flaw.Memory → (source : Source) → T.held tree.old ≡ Some source → StopsInFiles source name (files_of_kind Bundle) flaw) }
-    ensures io { IfErr result (λ flaw. flaw ≡ Flaw.Io → HasFailed (T.failed tree.old) (T.failed tree.new)) }
-    ensures same { T.held tree.new ≡ T.held tree.old }
-    ensures count { T.failed tree.old ≤ T.failed tree.new }
-    ensures quiet { OnOk result (T.failed tree.new ≡ T.failed tree.old) }
+    ensures asked { IsAsked result (T.held tree.old) (T.held tree.new)
+        (T.failed tree.old) (T.failed tree.new) }
 {
     let contents = joined_at(alloc, tree, name.text(), "contents", "contents.d")?;
     Ok(bundle_of(alloc, name, contents))
@@ -287,10 +271,8 @@ pub(crate) fn definition_at<T: Tree>(
     ensures named { IfOk result (λ d. d.name ≡ name) }
     ensures passes { OnOk result ((source : Source) → T.held tree.old ≡ Some source → FilesPass source name (files_of_entry source name)) }
     ensures fault { IfErr result (λ flaw. flaw ≢ Flaw.Memory → (source : Source) → T.held tree.old ≡ Some source → StopsInFiles source name (files_of_entry source name) flaw) }
-    ensures io { IfErr result (λ flaw. flaw ≡ Flaw.Io → HasFailed (T.failed tree.old) (T.failed tree.new)) }
-    ensures same { T.held tree.new ≡ T.held tree.old }
-    ensures count { T.failed tree.old ≤ T.failed tree.new }
-    ensures quiet { OnOk result (T.failed tree.new ≡ T.failed tree.old) }
+    ensures asked { IsAsked result (T.held tree.old) (T.held tree.new)
+        (T.failed tree.old) (T.failed tree.new) }
 {
     let kind = file::kind_at(alloc, tree, name.text())?;
     match kind {

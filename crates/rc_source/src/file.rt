@@ -3,7 +3,7 @@ ghost use Rattle.std.specs.Prelude.{◌≡◌, ◌≢◌, ◌≤◌, ◌⊎◌, 
 ghost use Rattle.std.specs.Option.{is_some};
 ghost use Rattle.rc_names.specs.Name.{IsName};
 ghost use Rattle.rc_tree.specs.Tree.{Source, file_at, listed};
-ghost use Rattle.rc_tree.specs.TreeFaults.{HasFailed};
+ghost use Rattle.rc_source.specs.Asked.{IsAsked};
 ghost use Rattle.rc_source.specs.Texts.{IsScriptText};
 ghost use Rattle.rc_source.specs.Kinds.{KindWord, UpText, DownText, Anything, Limit, Flag, Names, NameEach, OneName, is_hidden, kind_of};
 ghost use Rattle.rc_source.specs.Files.{IsNoText, FilePasses, StopsAtFile};
@@ -27,10 +27,8 @@ fn text_at<T: Tree>(
     ensures script { IfOk result (λ text. IfSome text (λ text. IsScriptText (string_bytes text))) }
     ensures fault { IfErr result (λ flaw. flaw ≢ Flaw.Memory → (source : Source) → T.held tree.old ≡ Some source
         → (flaw ≡ Flaw.Io) ⊎ ((bytes : List ℕ) × (file_at source entry.now file.now ≡ Some bytes) × IsNoText bytes flaw)) }
-    ensures io { IfErr result (λ flaw. flaw ≡ Flaw.Io → HasFailed (T.failed tree.old) (T.failed tree.new)) }
-    ensures same { T.held tree.new ≡ T.held tree.old }
-    ensures count { T.failed tree.old ≤ T.failed tree.new }
-    ensures quiet { OnOk result (T.failed tree.new ≡ T.failed tree.old) }
+    ensures asked { IsAsked result (T.held tree.old) (T.held tree.new)
+        (T.failed tree.old) (T.failed tree.new) }
 {
     match tree.bytes(alloc, entry, file) {
         Ok(Some(bytes)) => Ok(Some(text::text_of(bytes)?)),
@@ -46,10 +44,8 @@ pub(crate) fn kind_at<T: Tree>(alloc: Global, tree: &mut T, entry: &str) -> Resu
     ensures kind { IfOk result (λ kind. (source : Source) → T.held tree.old ≡ Some source → kind_of source entry.now ≡ Some kind) }
     ensures passes { OnOk result ((source : Source) → T.held tree.old ≡ Some source → FilePasses source entry.now (codes "type", KindWord)) }
     ensures fault { IfErr result (λ flaw. flaw ≢ Flaw.Memory → (source : Source) → T.held tree.old ≡ Some source → StopsAtFile source entry.now (codes "type", KindWord) flaw) }
-    ensures io { IfErr result (λ flaw. flaw ≡ Flaw.Io → HasFailed (T.failed tree.old) (T.failed tree.new)) }
-    ensures same { T.held tree.new ≡ T.held tree.old }
-    ensures count { T.failed tree.old ≤ T.failed tree.new }
-    ensures quiet { OnOk result (T.failed tree.new ≡ T.failed tree.old) }
+    ensures asked { IsAsked result (T.held tree.old) (T.held tree.new)
+        (T.failed tree.old) (T.failed tree.new) }
 {
     match text_at(alloc, tree, entry, "type")? {
         Some(text) => text::kind_in(text.as_str()),
@@ -63,10 +59,8 @@ pub(crate) fn up_at<T: Tree>(alloc: Global, tree: &mut T, entry: &str) -> Result
     ensures script { IfOk result (λ text. IsScriptText (string_bytes text)) }
     ensures passes { OnOk result ((source : Source) → T.held tree.old ≡ Some source → FilePasses source entry.now (codes "up", UpText)) }
     ensures fault { IfErr result (λ flaw. flaw ≢ Flaw.Memory → (source : Source) → T.held tree.old ≡ Some source → StopsAtFile source entry.now (codes "up", UpText) flaw) }
-    ensures io { IfErr result (λ flaw. flaw ≡ Flaw.Io → HasFailed (T.failed tree.old) (T.failed tree.new)) }
-    ensures same { T.held tree.new ≡ T.held tree.old }
-    ensures count { T.failed tree.old ≤ T.failed tree.new }
-    ensures quiet { OnOk result (T.failed tree.new ≡ T.failed tree.old) }
+    ensures asked { IsAsked result (T.held tree.old) (T.held tree.new)
+        (T.failed tree.old) (T.failed tree.new) }
 {
     match text_at(alloc, tree, entry, "up")? {
         Some(text) => Ok(text),
@@ -84,10 +78,8 @@ pub(crate) fn down_at<T: Tree>(
     ensures script { IfOk result (λ text. IfSome text (λ text. IsScriptText (string_bytes text))) }
     ensures passes { OnOk result ((source : Source) → T.held tree.old ≡ Some source → FilePasses source entry.now (codes "down", DownText)) }
     ensures fault { IfErr result (λ flaw. flaw ≢ Flaw.Memory → (source : Source) → T.held tree.old ≡ Some source → StopsAtFile source entry.now (codes "down", DownText) flaw) }
-    ensures io { IfErr result (λ flaw. flaw ≡ Flaw.Io → HasFailed (T.failed tree.old) (T.failed tree.new)) }
-    ensures same { T.held tree.new ≡ T.held tree.old }
-    ensures count { T.failed tree.old ≤ T.failed tree.new }
-    ensures quiet { OnOk result (T.failed tree.new ≡ T.failed tree.old) }
+    ensures asked { IsAsked result (T.held tree.old) (T.held tree.new)
+        (T.failed tree.old) (T.failed tree.new) }
 {
     let text = text_at(alloc, tree, entry, "down")?;
     Ok(text)
@@ -103,10 +95,8 @@ pub(crate) fn limit_at<T: Tree>(
     ensures limit { IfOk result (λ limit. (source : Source) → T.held tree.old ≡ Some source → limit ≡ limit_in (file_at source entry.now file.now)) }
     ensures passes { OnOk result ((source : Source) → T.held tree.old ≡ Some source → FilePasses source entry.now (file.now, Limit)) }
     ensures fault { IfErr result (λ flaw. flaw ≢ Flaw.Memory → (source : Source) → T.held tree.old ≡ Some source → StopsAtFile source entry.now (file.now, Limit) flaw) }
-    ensures io { IfErr result (λ flaw. flaw ≡ Flaw.Io → HasFailed (T.failed tree.old) (T.failed tree.new)) }
-    ensures same { T.held tree.new ≡ T.held tree.old }
-    ensures count { T.failed tree.old ≤ T.failed tree.new }
-    ensures quiet { OnOk result (T.failed tree.new ≡ T.failed tree.old) }
+    ensures asked { IsAsked result (T.held tree.old) (T.held tree.new)
+        (T.failed tree.old) (T.failed tree.new) }
 {
     match text_at(alloc, tree, entry, file)? {
         Some(text) => text::limit_in(text.as_str()),
@@ -118,10 +108,8 @@ pub(crate) fn limit_at<T: Tree>(
 pub(crate) fn test_run<T: Tree>(alloc: Global, tree: &mut T, entry: &str) -> Result<(), Flaw>
     ensures passes { OnOk result ((source : Source) → T.held tree.old ≡ Some source → FilePasses source entry.now (codes "run", Anything)) }
     ensures fault { IfErr result (λ flaw. flaw ≢ Flaw.Memory → (source : Source) → T.held tree.old ≡ Some source → StopsAtFile source entry.now (codes "run", Anything) flaw) }
-    ensures io { IfErr result (λ flaw. flaw ≡ Flaw.Io → HasFailed (T.failed tree.old) (T.failed tree.new)) }
-    ensures same { T.held tree.new ≡ T.held tree.old }
-    ensures count { T.failed tree.old ≤ T.failed tree.new }
-    ensures quiet { OnOk result (T.failed tree.new ≡ T.failed tree.old) }
+    ensures asked { IsAsked result (T.held tree.old) (T.held tree.new)
+        (T.failed tree.old) (T.failed tree.new) }
 {
     match tree.has(alloc, entry, "run") {
         Ok(true) => Ok(()),
@@ -135,10 +123,8 @@ pub(crate) fn test_run<T: Tree>(alloc: Global, tree: &mut T, entry: &str) -> Res
 pub(crate) fn flag_at<T: Tree>(alloc: Global, tree: &mut T, entry: &str) -> Result<bool, Flaw>
     ensures flag { IfOk result (λ flag. (source : Source) → T.held tree.old ≡ Some source → flag ≡ is_some (file_at source entry.now (codes "flag-essential"))) }
     ensures fault { IfErr result (λ flaw. flaw ≢ Flaw.Memory → (source : Source) → T.held tree.old ≡ Some source → StopsAtFile source entry.now (codes "flag-essential", Flag) flaw) }
-    ensures io { IfErr result (λ flaw. flaw ≡ Flaw.Io → HasFailed (T.failed tree.old) (T.failed tree.new)) }
-    ensures same { T.held tree.new ≡ T.held tree.old }
-    ensures count { T.failed tree.old ≤ T.failed tree.new }
-    ensures quiet { OnOk result (T.failed tree.new ≡ T.failed tree.old) }
+    ensures asked { IsAsked result (T.held tree.old) (T.held tree.new)
+        (T.failed tree.old) (T.failed tree.new) }
 {
     match tree.has(alloc, entry, "flag-essential") {
         Ok(there) => Ok(there),
@@ -157,10 +143,8 @@ fn names_at<T: Tree>(
     ensures names { IfOk result (λ names. (source : Source) → T.held tree.old ≡ Some source → names.items ≡ given_in (file_at source entry.now file.now)) }
     ensures passes { OnOk result ((source : Source) → T.held tree.old ≡ Some source → FilePasses source entry.now (file.now, Names)) }
     ensures fault { IfErr result (λ flaw. flaw ≢ Flaw.Memory → (source : Source) → T.held tree.old ≡ Some source → StopsAtFile source entry.now (file.now, Names) flaw) }
-    ensures io { IfErr result (λ flaw. flaw ≡ Flaw.Io → HasFailed (T.failed tree.old) (T.failed tree.new)) }
-    ensures same { T.held tree.new ≡ T.held tree.old }
-    ensures count { T.failed tree.old ≤ T.failed tree.new }
-    ensures quiet { OnOk result (T.failed tree.new ≡ T.failed tree.old) }
+    ensures asked { IsAsked result (T.held tree.old) (T.held tree.new)
+        (T.failed tree.old) (T.failed tree.new) }
 {
     match text_at(alloc, tree, entry, file)? {
         Some(text) => text::names_of(alloc, text.as_str()),
@@ -179,10 +163,8 @@ pub(crate) fn one_name_at<T: Tree>(
     ensures is_name { IfOk result (λ name. IfSome name IsName) }
     ensures passes { OnOk result ((source : Source) → T.held tree.old ≡ Some source → FilePasses source entry.now (file.now, OneName)) }
     ensures fault { IfErr result (λ flaw. flaw ≢ Flaw.Memory → (source : Source) → T.held tree.old ≡ Some source → StopsAtFile source entry.now (file.now, OneName) flaw) }
-    ensures io { IfErr result (λ flaw. flaw ≡ Flaw.Io → HasFailed (T.failed tree.old) (T.failed tree.new)) }
-    ensures same { T.held tree.new ≡ T.held tree.old }
-    ensures count { T.failed tree.old ≤ T.failed tree.new }
-    ensures quiet { OnOk result (T.failed tree.new ≡ T.failed tree.old) }
+    ensures asked { IsAsked result (T.held tree.old) (T.held tree.new)
+        (T.failed tree.old) (T.failed tree.new) }
 {
     match text_at(alloc, tree, entry, file)? {
         Some(text) => text::one_name_in(alloc, text.as_str()),
@@ -202,10 +184,8 @@ pub(crate) fn add_names_at<T: Tree>(
         → Contains (map string_bytes set.new.keys) name ↔ (Contains (map string_bytes set.old.keys) name ⊎ Contains (given_in (file_at source entry.now file.now)) name)) }
     ensures passes { OnOk result ((source : Source) → T.held tree.old ≡ Some source → FilePasses source entry.now (file.now, Names)) }
     ensures fault { IfErr result (λ flaw. flaw ≢ Flaw.Memory → (source : Source) → T.held tree.old ≡ Some source → StopsAtFile source entry.now (file.now, Names) flaw) }
-    ensures io { IfErr result (λ flaw. flaw ≡ Flaw.Io → HasFailed (T.failed tree.old) (T.failed tree.new)) }
-    ensures same { T.held tree.new ≡ T.held tree.old }
-    ensures count { T.failed tree.old ≤ T.failed tree.new }
-    ensures quiet { OnOk result (T.failed tree.new ≡ T.failed tree.old) }
+    ensures asked { IsAsked result (T.held tree.old) (T.held tree.new)
+        (T.failed tree.old) (T.failed tree.new) }
 {
     let names = names_at(alloc, tree, entry, file)?;
     sets::add_names(alloc, set, &names)?;

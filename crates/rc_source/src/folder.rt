@@ -3,7 +3,7 @@ ghost use Rattle.std.specs.Prelude.{◌≡◌, ◌≢◌, ◌≤◌, ◌⊎◌, 
 ghost use Rattle.rc_names.specs.Name.{IsName};
 ghost use Rattle.rc_names.specs.Names.{IsInByteOrder};
 ghost use Rattle.rc_tree.specs.Tree.{Source, listed};
-ghost use Rattle.rc_tree.specs.TreeFaults.{HasFailed};
+ghost use Rattle.rc_source.specs.Asked.{IsAsked};
 ghost use Rattle.rc_source.specs.Kinds.{NameEach, is_hidden};
 ghost use Rattle.rc_source.specs.Files.{FilePasses, StopsAtFile};
 
@@ -82,10 +82,8 @@ fn folder_names_at<T: Tree>(
         → Contains names.items name ↔ (Contains (listed source entry.now folder.now) name × (is_hidden name ≡ false))) }
     ensures passes { OnOk result ((source : Source) → T.held tree.old ≡ Some source → FilePasses source entry.now (folder.now, NameEach)) }
     ensures fault { IfErr result (λ flaw. flaw ≢ Flaw.Memory → (source : Source) → T.held tree.old ≡ Some source → StopsAtFile source entry.now (folder.now, NameEach) flaw) }
-    ensures io { IfErr result (λ flaw. flaw ≡ Flaw.Io → HasFailed (T.failed tree.old) (T.failed tree.new)) }
-    ensures same { T.held tree.new ≡ T.held tree.old }
-    ensures count { T.failed tree.old ≤ T.failed tree.new }
-    ensures quiet { OnOk result (T.failed tree.new ≡ T.failed tree.old) }
+    ensures asked { IsAsked result (T.held tree.old) (T.held tree.new)
+        (T.failed tree.old) (T.failed tree.new) }
 {
     match tree.listing(alloc, entry, folder) {
         Ok(Some(names)) => visible_names(alloc, &names),
@@ -108,10 +106,8 @@ pub(crate) fn add_folder_at<T: Tree>(
         ⊎ (Contains (listed source entry.now folder.now) name × (is_hidden name ≡ false)))) }
     ensures passes { OnOk result ((source : Source) → T.held tree.old ≡ Some source → FilePasses source entry.now (folder.now, NameEach)) }
     ensures fault { IfErr result (λ flaw. flaw ≢ Flaw.Memory → (source : Source) → T.held tree.old ≡ Some source → StopsAtFile source entry.now (folder.now, NameEach) flaw) }
-    ensures io { IfErr result (λ flaw. flaw ≡ Flaw.Io → HasFailed (T.failed tree.old) (T.failed tree.new)) }
-    ensures same { T.held tree.new ≡ T.held tree.old }
-    ensures count { T.failed tree.old ≤ T.failed tree.new }
-    ensures quiet { OnOk result (T.failed tree.new ≡ T.failed tree.old) }
+    ensures asked { IsAsked result (T.held tree.old) (T.held tree.new)
+        (T.failed tree.old) (T.failed tree.new) }
 {
     let names = folder_names_at(alloc, tree, entry, folder)?;
     sets::add_names(alloc, set, &names)?;

@@ -4,6 +4,7 @@ ghost use Rattle.std.specs.List.{AllZip};
 ghost use Rattle.rc_source.specs.declared.fault.Flaw.{Flaw};
 ghost use Rattle.rc_tree.specs.Tree.{Source, IsSource};
 ghost use Rattle.rc_tree.specs.TreeFaults.{HasFailed};
+ghost use Rattle.rc_source.specs.Asked.{IsAsked};
 ghost use Rattle.rc_names.specs.Name.{IsName};
 ghost use Rattle.rc_source.specs.Tests.{all_tests, tests_of_source, tests_of_entry, entries_of, AllPass, StopsInTests, IsNoNewName, SomeFailed, flaw_of, carried};
 ghost use Rattle.rc_source.specs.Meaning.{Meaning, Means, MeanAll, AreMeanings, all_entries};
@@ -88,10 +89,8 @@ fn read_entry<T: Tree>(
     ensures passes { OnOk result ((source : Source) → T.held tree.old ≡ Some source → AllPass (tests_of_entry (meant found.old) source entry.now)) }
     ensures fault { IfErr result (λ flaw. flaw ≢ Flaw.Memory → (source : Source) → T.held tree.old ≡ Some source
         → StopsInTests (tests_of_entry (meant found.old) source entry.now) flaw entry.now) }
-    ensures io { IfErr result (λ flaw. flaw ≡ Flaw.Io → HasFailed (T.failed tree.old) (T.failed tree.new)) }
-    ensures same { T.held tree.new ≡ T.held tree.old }
-    ensures count { T.failed tree.old ≤ T.failed tree.new }
-    ensures quiet { OnOk result (T.failed tree.new ≡ T.failed tree.old) }
+    ensures asked { IsAsked result (T.held tree.old) (T.held tree.new)
+        (T.failed tree.old) (T.failed tree.new) }
 {
     let name = new_name(alloc, entry, found)?;
     let definition = entry::definition_at(alloc, tree, name)?;

@@ -23,8 +23,8 @@ worked-requires-clause-work g c κs within =
     one_planned course c.planned-planned.result
     (c.planned-planned.ensures ∙ ap (λ (r : RunSoFar). planned_count r.course) c.in_ok-run.ensures) some
 
-pub returns-clause-idle : goal.returns-clause-idle
-returns-clause-idle g c =
+pub returns-in-Ok-clause-idle : goal.returns-in-Ok-clause-idle
+returns-in-Ok-clause-idle g c =
     let course = course_of c.args.graph.now c.args.plan.now c.args.deadline in
     let some : 0 < c.planned-planned.result = search rules in
     let one = one_planned course c.planned-planned.result
@@ -53,8 +53,8 @@ returns-then-crew-eq1-clause-halt g c =
     some in
     may_halt course c.played_alone.result one
 
-pub returns-clause-made : goal.returns-clause-made
-returns-clause-made g c =
+pub returns-in-Ok-clause-made : goal.returns-in-Ok-clause-made
+returns-in-Ok-clause-made g c =
     let fewer : c.crew_for-crew.result ≤ c.args.workers =
     subst (λ (n : ℕ). n ≤ c.args.workers) (sym c.crew_for-crew.ensures.fewer)
     (min-le_left c.args.workers c.planned-planned.result) in

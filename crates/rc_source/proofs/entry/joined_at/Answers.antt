@@ -13,7 +13,7 @@ returns-in_err-add_names_at-clause-fault g c = exit c.from_residual.result c.in_
 
 pub returns-in_err-add_folder_at-clause-fault : goal.returns-in_err-add_folder_at-clause-fault
 returns-in_err-add_folder_at-clause-fault g c = exit c.from_residual-in_err-add_folder_at.result c.in_err-add_folder_at.field-0.0 _ c.from_residual-in_err-add_folder_at.ensures.1
-    (λ no_memory source known. inr (c.in_ok-add_names_at.ensures.passes source known, inl (c.in_err-add_folder_at.ensures.fault no_memory source (c.in_ok-add_names_at.ensures.same ∙ known))))
+    (λ no_memory source known. inr (c.in_ok-add_names_at.ensures.passes source known, inl (c.in_err-add_folder_at.ensures.fault no_memory source (c.in_ok-add_names_at.ensures.asked.same ∙ known))))
 
 pub returns-in_err-names-clause-fault : goal.returns-in_err-names-clause-fault
 returns-in_err-names-clause-fault g c = exit_memory c.from_residual-in_err-names.result _ c.from_residual-in_err-names.ensures.1
@@ -23,8 +23,8 @@ returns-clause-names g c = λ source known.
     lists_both (Contains (given_in (file_at source c.args.entry.now c.args.file.now))) (λ name. Contains (listed source c.args.entry.now c.args.folder.now) name × (is_hidden name ≡ false))
     (map string_bytes c.new-set.result.keys) (map string_bytes c.add_names_at.new.set.keys) (map string_bytes c.add_folder_at.new.set.keys) c.in_ok-names.field-0.items
     (ap (map string_bytes) c.new-set.ensures.empty) c.in_ok-names.ensures.names c.in_ok-names.ensures.order
-    (c.in_ok-add_names_at.ensures.names source known) (c.in_ok-add_folder_at.ensures.names source (c.in_ok-add_names_at.ensures.same ∙ known))
+    (c.in_ok-add_names_at.ensures.names source known) (c.in_ok-add_folder_at.ensures.names source (c.in_ok-add_names_at.ensures.asked.same ∙ known))
 
 pub returns-clause-passes : goal.returns-clause-passes
 returns-clause-passes g c = λ source known. two_pass source c.args.entry.now (c.args.file.now, Names) (c.args.folder.now, NameEach)
-    (c.in_ok-add_names_at.ensures.passes source known) (c.in_ok-add_folder_at.ensures.passes source (c.in_ok-add_names_at.ensures.same ∙ known))
+    (c.in_ok-add_names_at.ensures.passes source known) (c.in_ok-add_folder_at.ensures.passes source (c.in_ok-add_names_at.ensures.asked.same ∙ known))

@@ -10,11 +10,11 @@ returns-in_err-up-clause-fault g c = exit c.from_residual.result c.in_err-up.fie
 
 pub returns-in_err-down-clause-fault : goal.returns-in_err-down-clause-fault
 returns-in_err-down-clause-fault g c = exit c.from_residual-in_err-down.result c.in_err-down.field-0.0 _ c.from_residual-in_err-down.ensures.1
-    (λ no_memory source known. inr (c.in_ok-up.ensures.passes source known, inl (c.in_err-down.ensures.fault no_memory source (c.in_ok-up.ensures.same ∙ known))))
+    (λ no_memory source known. inr (c.in_ok-up.ensures.passes source known, inl (c.in_err-down.ensures.fault no_memory source (c.in_ok-up.ensures.asked.same ∙ known))))
 
 pub returns-clause-says : goal.returns-clause-says
-returns-clause-says g c = λ source known. record { up = c.in_ok-up.ensures.limit source known; down = c.in_ok-down.ensures.limit source (c.in_ok-up.ensures.same ∙ known) }
+returns-clause-says g c = λ source known. record { up = c.in_ok-up.ensures.limit source known; down = c.in_ok-down.ensures.limit source (c.in_ok-up.ensures.asked.same ∙ known) }
 
 pub returns-clause-passes : goal.returns-clause-passes
 returns-clause-passes g c = λ source known. two_pass source c.args.entry.now (codes "timeout-up", Limit) (codes "timeout-down", Limit)
-    (c.in_ok-up.ensures.passes source known) (c.in_ok-down.ensures.passes source (c.in_ok-up.ensures.same ∙ known))
+    (c.in_ok-up.ensures.passes source known) (c.in_ok-down.ensures.passes source (c.in_ok-up.ensures.asked.same ∙ known))

@@ -10,31 +10,31 @@ returns-in_err-limits-clause-fault g c = exit c.from_residual.result c.in_err-li
 pub returns-in_err-essential-clause-fault : goal.returns-in_err-essential-clause-fault
 returns-in_err-essential-clause-fault g c = exit c.from_residual-in_err-essential.result c.in_err-essential.field-0.0 _ c.from_residual-in_err-essential.ensures.1
     (λ no_memory source known. stops_at_flag source c.args.entry.now (c.in_ok-limits.ensures.passes source known) c.in_err-essential.field-0.0
-    (c.in_err-essential.ensures.fault no_memory source (c.in_ok-limits.ensures.same ∙ known)))
+    (c.in_err-essential.ensures.fault no_memory source (c.in_ok-limits.ensures.asked.same ∙ known)))
 
 pub returns-in_err-dependencies-clause-fault : goal.returns-in_err-dependencies-clause-fault
 returns-in_err-dependencies-clause-fault g c = exit c.from_residual-in_err-dependencies.result c.in_err-dependencies.field-0.0 _ c.from_residual-in_err-dependencies.ensures.1
     (λ no_memory source known.
-    let known_1 = c.in_ok-limits.ensures.same ∙ known in
+    let known_1 = c.in_ok-limits.ensures.asked.same ∙ known in
     stops_in_needs source c.args.entry.now (c.in_ok-limits.ensures.passes source known) c.in_err-dependencies.field-0.0
-    (c.in_err-dependencies.ensures.fault no_memory source (c.in_ok-essential.ensures.same ∙ known_1)))
+    (c.in_err-dependencies.ensures.fault no_memory source (c.in_ok-essential.ensures.asked.same ∙ known_1)))
 
 pub returns-in_err-pipes-clause-fault : goal.returns-in_err-pipes-clause-fault
 returns-in_err-pipes-clause-fault g c = exit c.from_residual-in_err-pipes.result c.in_err-pipes.field-0.0 _ c.from_residual-in_err-pipes.ensures.1
     (λ no_memory source known.
-    let known_1 = c.in_ok-limits.ensures.same ∙ known in
-    let known_2 = c.in_ok-essential.ensures.same ∙ known_1 in
+    let known_1 = c.in_ok-limits.ensures.asked.same ∙ known in
+    let known_2 = c.in_ok-essential.ensures.asked.same ∙ known_1 in
     stops_in_pipes source c.args.entry.now (c.in_ok-limits.ensures.passes source known) c.in_err-pipes.field-0.0 (c.in_ok-dependencies.ensures.passes source known_2)
-    (c.in_err-pipes.ensures.fault no_memory source (c.in_ok-dependencies.ensures.same ∙ known_2)))
+    (c.in_err-pipes.ensures.fault no_memory source (c.in_ok-dependencies.ensures.asked.same ∙ known_2)))
 
 pub returns-clause-says : goal.returns-clause-says
 returns-clause-says g c = λ source known.
-    let known_1 = c.in_ok-limits.ensures.same ∙ known in
-    let known_2 = c.in_ok-essential.ensures.same ∙ known_1 in record {
+    let known_1 = c.in_ok-limits.ensures.asked.same ∙ known in
+    let known_2 = c.in_ok-essential.ensures.asked.same ∙ known_1 in record {
       limits = c.in_ok-limits.ensures.says source known;
       essential = c.in_ok-essential.ensures.flag source known_1;
       dependencies = c.in_ok-dependencies.ensures.names source known_2;
-      pipes = c.in_ok-pipes.ensures.says source (c.in_ok-dependencies.ensures.same ∙ known_2);
+      pipes = c.in_ok-pipes.ensures.says source (c.in_ok-dependencies.ensures.asked.same ∙ known_2);
     }
 
 pub returns-clause-service : goal.returns-clause-service
@@ -42,7 +42,7 @@ returns-clause-service g c = record { limits = c.in_ok-limits.ensures.limits; de
 
 pub returns-clause-passes : goal.returns-clause-passes
 returns-clause-passes g c = λ source known.
-    let known_1 = c.in_ok-limits.ensures.same ∙ known in
-    let known_2 = c.in_ok-essential.ensures.same ∙ known_1 in
+    let known_1 = c.in_ok-limits.ensures.asked.same ∙ known in
+    let known_2 = c.in_ok-essential.ensures.asked.same ∙ known_1 in
     service_passes source c.args.entry.now (c.in_ok-limits.ensures.passes source known) (c.in_ok-dependencies.ensures.passes source known_2)
-    (c.in_ok-pipes.ensures.passes source (c.in_ok-dependencies.ensures.same ∙ known_2))
+    (c.in_ok-pipes.ensures.passes source (c.in_ok-dependencies.ensures.asked.same ∙ known_2))

@@ -1,4 +1,4 @@
-use Rattle.std.proofs.Common.{◌∙◌, Contains, subst}
+use Rattle.std.proofs.Common.{◌∙◌, Contains, arith, refl, rules, subst}
 use Rattle.rc_source.specs.Files.{FilesPass, StopsInFiles}
 use Rattle.rc_source.specs.Meaning.{Means}
 use Rattle.rc_source.specs.Said.{meaning_of, meant}
@@ -11,9 +11,14 @@ pub returns-in_err-name-clause-fault : goal.returns-in_err-name-clause-fault
 returns-in_err-name-clause-fault g c = exit c.from_residual.result c.in_err-name.field-0.0 _ c.from_residual.ensures.1
     (λ no_memory source known. stops_at_new_name (meant c.args.found.now) source c.args.entry.now c.in_err-name.field-0.0 (c.in_err-name.ensures.fault no_memory))
 
-pub returns-in_err-name-clause-io : goal.returns-in_err-name-clause-io
-returns-in_err-name-clause-io g c = exit c.from_residual.result c.in_err-name.field-0.0 _ c.from_residual.ensures.1
-    (λ io. absurd (asks_no_device (meant c.args.found.now) c.args.entry.now c.in_err-name.field-0.0 c.in_err-name.ensures.fault io))
+pub returns-in_err-name-clause-asked : goal.returns-in_err-name-clause-asked
+returns-in_err-name-clause-asked g c = record {
+  io = exit c.from_residual.result c.in_err-name.field-0.0 _ c.from_residual.ensures.1
+      (λ io. absurd (asks_no_device (meant c.args.found.now) c.args.entry.now c.in_err-name.field-0.0 c.in_err-name.ensures.fault io));
+  same = refl;
+  count = omega arith;
+  quiet = search rules;
+}
 
 pub returns-in_err-definition-clause-fault : goal.returns-in_err-definition-clause-fault
 returns-in_err-definition-clause-fault g c = exit c.from_residual-in_err-definition.result c.in_err-definition.field-0.0 _ c.from_residual-in_err-definition.ensures.1

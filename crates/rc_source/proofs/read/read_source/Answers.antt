@@ -38,18 +38,18 @@ returns-in-Err-clause-fault g c = λ told source known.
 
 pub returns-in-Err-clause-io : goal.returns-in-Err-clause-io
 returns-in-Err-clause-io g c = λ io.
-    subst (λ n. HasFailed n (g.T.Tree.failed c.read_entry.new.tree)) c.loop-name.invariant.quiet (c.in-Err.ensures.io (told_io (flaw_of c.fault_of.result) c.in-Err.flaw (carried c.fault_of.result ≡ c.as_str-entry.result.now) c.fault_of.ensures io))
+    subst (λ n. HasFailed n (g.T.Tree.failed c.read_entry.new.tree)) c.loop-name.invariant.quiet (c.in-Err.ensures.asked.io (told_io (flaw_of c.fault_of.result) c.in-Err.flaw (carried c.fault_of.result ≡ c.as_str-entry.result.now) c.fault_of.ensures io))
 
 pub returns-in-Err-clause-same : goal.returns-in-Err-clause-same
-returns-in-Err-clause-same g c = c.in-Err.ensures.same ∙ c.loop-name.invariant.same
+returns-in-Err-clause-same g c = c.in-Err.ensures.asked.same ∙ c.loop-name.invariant.same
 
 pub returns-in-Err-clause-count : goal.returns-in-Err-clause-count
-returns-in-Err-clause-count g c = omega (arith, c.loop-name.invariant.quiet, c.in-Err.ensures.count)
+returns-in-Err-clause-count g c = omega (arith, c.loop-name.invariant.quiet, c.in-Err.ensures.asked.count)
 
 pub loop-name-preserved : goal.loop-name-preserved
 loop-name-preserved g c = record {
-  same = c.in-Ok.ensures.same ∙ c.loop-name.invariant.same;
-  quiet = c.in-Ok.ensures.quiet ∙ c.loop-name.invariant.quiet;
+  same = c.in-Ok.ensures.asked.same ∙ c.loop-name.invariant.same;
+  quiet = c.in-Ok.ensures.asked.quiet ∙ c.loop-name.invariant.quiet;
   known = λ source known.
       let items = c.deref-name-items.result.now in
       let entry = c.as_str-entry.result.now in
