@@ -6,11 +6,12 @@ ghost use Rattle.rc_graph.specs.Closure.{IsClosed};
 ghost use Rattle.rc_core.specs.Course.{course_of, TargetOf};
 ghost use Rattle.rc_session.specs.Commands.{HasRun, command_of};
 
-use rc_core::{Ended, Outcome, Run, Took};
+use rc_core::{Ended, Event, Outcome, Run, Standing, Took};
 use rc_graph::Graph;
 use rc_select::Plan;
 use rc_session::{Refusal, Session, Step};
 use rc_set::NoMem;
+use samples::{ROOT, run_between};
 use std::alloc::{AllocError, AllocGlobal};
 use std::io::Print;
 
@@ -18,7 +19,7 @@ use std::io::Print;
 const TURNS: u16 = 20;
 
 /// Tells that a call is done, and names the next one.
-fn go_on_to(rt: &impl Print, what: &str) {
+pub(crate) fn go_on_to(rt: &impl Print, what: &str) {
     let _ = print!(rt; "done; {what}: ");
 }
 
@@ -94,7 +95,13 @@ fn ended(
 {
     go_on_to(rt, "Run::open");
     let mut run = Run::open(rt.alloc(), graph, plan, deadline)?;
-    go_on_to(rt, "Run::take, done and finish");
+    go_on_to(
+        rt,
+        "Run::is_of, planned, standings, trace, take, done, settled and finish",
+    );
+    if !is_new(&run, graph, plan, deadline) {
+        return Err(AllocError);
+    }
     for _ in 0..TURNS {
         if !go_on(&mut run) {
             break;
@@ -105,6 +112,41 @@ fn ended(
     } else {
         Err(AllocError)
     }
+}
+
+/// Whether a run is that of a plan, and nothing has happened yet.
+fn is_new(run: &Run, graph: &Graph, plan: &Plan, deadline: Option<u64>) -> bool {
+    run.is_of(graph, plan, deadline)
+        && run.planned() == run.standings().len()
+        && run.trace().is_empty()
+        && !run.settled()
+}
+
+/// A run that is stopped after its only service, and whether its end says so.
+pub(crate) fn is_stopped(rt: &(impl Print + AllocGlobal), graph: &Graph) -> Result<bool, NoMem> {
+    let run = run_between(rt.alloc(), graph, &[], &[ROOT], Some(7))?;
+    go_on_to(
+        rt,
+        "Run::step, standing, stop, settled, finish and take_apart",
+    );
+    match run {
+        Some(run) => Ok(ends_stopped(run)),
+        None => Ok(false),
+    }
+}
+
+fn ends_stopped(mut run: Run) -> bool {
+    if run.standings().len() <= ROOT as usize || run.standing(ROOT) != Standing::Down {
+        return false;
+    }
+    let is_made = run.step(Event::Take(1, ROOT)).is_ok()
+        && run.step(Event::Done(1, ROOT, Outcome::Ok)).is_ok()
+        && run.stop(1, 7).is_ok();
+    if !is_made || !run.settled() {
+        return false;
+    }
+    let finish = run.finish().take_apart();
+    finish.stopped && finish.trace.len() == 3
 }
 
 /// Takes a service and ends it well. Whether there was one.

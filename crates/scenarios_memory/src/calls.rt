@@ -2,12 +2,14 @@
 
 ghost use Rattle.std.specs.Prelude.{◌≡◌, false};
 
-use crate::begun::{abandoned, completed};
+use crate::begun::{abandoned, completed, is_stopped};
+use crate::lines::{is_of_states, is_stepped_on};
 use crate::rows::How;
 use crate::values::told_of;
 use crate::workers::by_workers;
 use rc_board::Fault;
 use rc_session::{Refusal, Session, Step};
+use rc_set::NoMem;
 use std::alloc::{AllocGlobal, Global};
 use std::io::Print;
 use std::sync::Wait;
@@ -46,6 +48,9 @@ fn told(
     let alloc = rt.alloc();
     match (how, steps.first()) {
         (How::Value(value), _) => told_of(alloc, session, value, text),
+        (How::Stop, _) => answered(is_stopped(rt, session.db().graph())),
+        (How::States, _) => answered(is_of_states(rt, session.db().table(), session.table())),
+        (How::StepOn, _) => answered(is_stepped_on(rt, session.journal(), session.table())),
         (How::Play, _) => played(alloc, session, steps),
         (How::Complete, Some(step)) => completed(rt, session, step),
         (How::Abandon, Some(step)) => abandoned(rt, session, step, false),
@@ -54,6 +59,15 @@ fn told(
         (How::Edit, Some(step)) => edited(alloc, session, step),
         (How::Dry, Some(step)) => planned(alloc, session, step),
         _ => Err(Refusal::Strange),
+    }
+}
+
+/// A wrong answer is strange.
+fn answered(is_right: Result<bool, NoMem>) -> Result<(), Refusal> {
+    match is_right {
+        Ok(true) => Ok(()),
+        Ok(false) => Err(Refusal::Strange),
+        Err(_) => Err(Refusal::Memory),
     }
 }
 

@@ -7,6 +7,8 @@ ghost use Rattle.std.specs.Prelude.{◌≡◌, false, IfOk};
 
 mod begun;
 mod calls;
+mod lines;
+mod own;
 mod rows;
 mod steps;
 mod tables;
@@ -14,6 +16,8 @@ mod values;
 mod workers;
 
 use crate::calls::made;
+use crate::lines::show_edit;
+use crate::own::{show_came, show_own};
 use crate::rows::{How, ROWS, Row};
 use crate::steps::{Kind, steps_of};
 use crate::tables::altered;
@@ -65,6 +69,8 @@ fn show_on<R: Print + AllocGlobal + Threads + Wait + Sync>(
     let steps = steps_of(rt.alloc(), kinds)?;
     let shown = match how {
         How::Table => show_table(rt, session.db(), what, steps.first()),
+        How::Own(own) => show_own(rt, what, *own),
+        How::Line => show_edit(rt, session.journal(), what),
         _ => show_call(rt, session, what, *how, &steps),
     };
     drop(steps);
@@ -122,13 +128,6 @@ fn show_table(
             "now another table"
         }
     )
-}
-
-fn show_came(rt: &impl Print, came: Result<(), Fault>) -> io::Result<()> {
-    match came {
-        Ok(()) => print!(rt; "done, "),
-        Err(fault) => print!(rt; "{fault}, "),
-    }
 }
 
 /// Whether a session has this text, or else where it stands.

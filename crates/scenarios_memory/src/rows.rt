@@ -25,15 +25,35 @@ pub(crate) enum How {
     Play,
     /// By so many workers, with a gate.
     Workers(u8),
+    /// A run that is stopped.
+    Stop,
+    /// A line of two states.
+    States,
+    /// From the state before the last to that.
+    StepOn,
+    /// On a copy of the session's line.
+    Line,
+    /// On a value of its own.
+    Own(Own),
+}
+
+#[derive(Clone, Copy)]
+pub(crate) enum Own {
+    /// Names, to which one is added.
+    Names,
+    /// A draft, in which one service needs one more.
+    Draft,
+    /// A table, into which a bundle is put.
+    Table,
 }
 
 pub(crate) type Row = (&'static str, &'static [Kind], How, &'static [Kind]);
 
 const NONE: &[Kind] = &[];
 
-pub(crate) static ROWS: [Row; 38] = [
+pub(crate) static ROWS: [Row; 46] = [
     (
-        "Set::empty, join, same, len and without",
+        "Set::empty, and insert, remove, contains, join, without, same, len, is_empty and bound",
         &[Kind::Up],
         How::Value(Value::SetEmpty),
         NONE,
@@ -41,6 +61,9 @@ pub(crate) static ROWS: [Row; 38] = [
     ("Set::copy", &[Kind::Up], How::Value(Value::SetCopy), NONE),
     ("Set::ids", &[Kind::Up], How::Value(Value::SetIds), NONE),
     ("Name::read", NONE, How::Value(Value::NameRead), NONE),
+    ("Name::copy", NONE, How::Value(Value::NameCopy), NONE),
+    ("Names::add", NONE, How::Own(Own::Names), NONE),
+    ("Draft::need", NONE, How::Own(Own::Draft), NONE),
     ("Graph::share", NONE, How::Value(Value::GraphShare), NONE),
     ("Graph::up_of", &[Kind::Up], How::Value(Value::UpOf), NONE),
     (
@@ -49,6 +72,7 @@ pub(crate) static ROWS: [Row; 38] = [
         How::Value(Value::DownOf),
         NONE,
     ),
+    ("Table::set", NONE, How::Own(Own::Table), NONE),
     (
         "Table::copy",
         &[Kind::Add],
@@ -91,6 +115,9 @@ pub(crate) static ROWS: [Row; 38] = [
         How::Value(Value::LineState),
         NONE,
     ),
+    ("two states", &[Kind::Add], How::States, NONE),
+    ("Line::state", &[Kind::Up, Kind::Add], How::StepOn, NONE),
+    ("Line::open_edit", NONE, How::Line, NONE),
     (
         "write_live",
         &[Kind::Up, Kind::Add],
@@ -105,6 +132,7 @@ pub(crate) static ROWS: [Row; 38] = [
     ),
     ("rc_bundle::add", NONE, How::Table, &[Kind::Add]),
     ("rc_bundle::delete", NONE, How::Table, &[Kind::Delete]),
+    ("a plan and Run::open", NONE, How::Stop, NONE),
     ("Pad::new", NONE, How::Value(Value::PadNew), NONE),
     (
         "Session::begin of a change",

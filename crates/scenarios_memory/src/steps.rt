@@ -88,8 +88,13 @@ fn up_site(alloc: Global) -> Result<Step, NoMem> {
 
 fn add_pair(alloc: Global) -> Result<Step, NoMem> {
     let contents = words_of(alloc, &["db", "log"])?;
-    match Name::read(alloc, "pair") {
-        Ok(name) => Ok(Step::Add(name, contents, false)),
+    Ok(Step::Add(name_of(alloc, "pair")?, contents, false))
+}
+
+/// A text that is a name.
+pub(crate) fn name_of(alloc: Global, text: &str) -> Result<Name, NoMem> {
+    match Name::read(alloc, text) {
+        Ok(name) => Ok(name),
         Err(_) => Err(AllocError),
     }
 }

@@ -1,6 +1,6 @@
 //! Calls that alter nothing.
 
-ghost use Rattle.std.specs.Prelude.{◌≡◌, false};
+ghost use Rattle.std.specs.Prelude.{◌≡◌, false, length};
 
 use rc_board::Pad;
 use rc_bundle::Edit;
@@ -8,7 +8,7 @@ use rc_db::Db;
 use rc_graph::Graph;
 use rc_line::Line;
 use rc_livetext::{LiveFault, read_live, write_live};
-use rc_names::{Name, NameFault};
+use rc_names::{Name, NameFault, Names};
 use rc_select::{between, plan_up};
 use rc_session::{Refusal, Session};
 use rc_set::{NoMem, Set};
@@ -21,6 +21,7 @@ pub(crate) enum Value {
     SetCopy,
     SetIds,
     NameRead,
+    NameCopy,
     GraphShare,
     UpOf,
     DownOf,
@@ -48,6 +49,7 @@ pub(crate) fn told_of(
     let is_right = match value {
         Value::SetEmpty | Value::SetCopy | Value::SetIds => is_set(alloc, session.live(), value)?,
         Value::NameRead => is_name(alloc)?,
+        Value::NameCopy => is_copied(alloc, session.db().names())?,
         Value::GraphShare | Value::UpOf | Value::DownOf | Value::PlanBetween | Value::PlanUp => {
             is_on_graph(alloc, session.db().graph(), session.live(), value)?
         }
@@ -65,14 +67,25 @@ fn is_set(alloc: Global, set: &Set, value: Value) -> Result<bool, NoMem> {
     match value {
         Value::SetEmpty => {
             let mut made = Set::empty(alloc, set.bound())?;
-            made.join(set);
-            let is_same = made.same(set) && made.len() == set.len();
-            made.without(set);
-            Ok(is_same && made.is_empty())
+            Ok(is_filled(&mut made, set))
         }
         Value::SetCopy => Ok(set.copy(alloc)?.same(set)),
         _ => has_ids(alloc, set, &[0, 1, 2, 3, 4]),
     }
+}
+
+/// Whether a set that is empty becomes another, and empty again.
+fn is_filled(made: &mut Set, set: &Set) -> bool
+    requires { length made.old ≡ length set.now }
+{
+    made.join(set);
+    let is_same = made.same(set) && made.len() == set.len();
+    if !is_same || made.is_empty() || made.bound() == 0 {
+        return false;
+    }
+    let is_altered = made.remove(0) && !made.contains(0) && made.insert(0);
+    made.without(set);
+    is_altered && made.is_empty()
 }
 
 fn is_name(alloc: Global) -> Result<bool, NoMem> {
@@ -81,6 +94,13 @@ fn is_name(alloc: Global) -> Result<bool, NoMem> {
         Err(NameFault::Memory) => Err(AllocError),
         Err(_) => Ok(false),
     }
+}
+
+fn is_copied(alloc: Global, names: &Names) -> Result<bool, NoMem> {
+    if names.is_empty() {
+        return Ok(false);
+    }
+    Ok(names.name_of(0).copy(alloc)?.text() == "db")
 }
 
 fn is_on_graph(alloc: Global, graph: &Graph, set: &Set, value: Value) -> Result<bool, NoMem> {

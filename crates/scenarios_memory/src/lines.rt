@@ -1,0 +1,152 @@
+//! Calls on lines.
+
+ghost use Rattle.std.specs.Prelude.{◌≡◌, false, length, IfOk};
+ghost use Rattle.rc_db.specs.Bundles.{Bundles};
+ghost use Rattle.rc_line.specs.Opening.{IsEditFrom};
+
+use crate::begun::go_on_to;
+use crate::own::{fault_of, show_came, show_same};
+use rc_bundle::Edit;
+use rc_db::Table;
+use rc_line::Line;
+use rc_set::{NoMem, Set};
+use samples::{LOG, ROOT, set_of};
+use std::alloc::{AllocError, AllocGlobal, Global};
+use std::io;
+use std::io::Print;
+
+/// Whether the line of two states has them, and stands on the second.
+pub(crate) fn is_of_states(
+    rt: &(impl Print + AllocGlobal),
+    before: &Table,
+    now: &Table,
+) -> Result<bool, NoMem> {
+    let (first, second) = sets(rt.alloc())?;
+    let first = (first, before.copy(rt.alloc())?);
+    let second = (second, now.copy(rt.alloc())?);
+    match of_two(rt, first, second)? {
+        Some(line) => Ok(line.states() == 2 && line.cursor() == 1),
+        None => Ok(false),
+    }
+}
+
+fn sets(alloc: Global) -> Result<(Set, Set), NoMem>
+    ensures { IfOk result (λ sets. length sets.1 ≡ length sets.0) }
+{
+    let first = set_of(alloc, 5, &[])?;
+    let second = set_of(alloc, 5, &[LOG, ROOT])?;
+    Ok((first, second))
+}
+
+/// The line of two states, on the second, if different services are live in them.
+fn of_two(
+    rt: &(impl Print + AllocGlobal),
+    first: (Set, Table),
+    second: (Set, Table),
+) -> Result<Option<Line>, NoMem>
+    requires sets { length second.0 ≡ length first.0 }
+{
+    if first.0.same(&second.0) {
+        return Ok(None);
+    }
+    let held = vec![in rt.alloc(); first, second]?;
+    go_on_to(rt, "Line::from_states");
+    let line = Line::from_states(rt.alloc(), held, 1, 3)?;
+    Ok(Some(line))
+}
+
+/// Whether a step on from the state before the last leads to the table of the last.
+pub(crate) fn is_stepped_on(
+    rt: &(impl Print + AllocGlobal),
+    line: &Line,
+    to: &Table,
+) -> Result<bool, NoMem>
+    requires { line.now.is_open ≡ false }
+{
+    if line.states() < 2 {
+        return Ok(false);
+    }
+    let place = line.states() - 2;
+    let (mut live, mut table) = line.state(rt.alloc(), place)?;
+    go_on_to(rt, "Line::step_on");
+    line.step_on(rt.alloc(), place, &mut live, &mut table)?;
+    Ok(table.same(to))
+}
+
+/// An edit of a copy of a line that removes all bundles, and whether that is the line as it was.
+pub(crate) fn show_edit(rt: &(impl Print + AllocGlobal), line: &Line, what: &str) -> io::Result<()>
+    requires { line.now.is_open ≡ false }
+{
+    let mut copied = line.copy(rt.alloc())?;
+    let shown = show_on(rt, &mut copied, line, what);
+    drop(copied);
+    shown
+}
+
+fn show_on(
+    rt: &(impl Print + AllocGlobal),
+    copied: &mut Line,
+    line: &Line,
+    what: &str,
+) -> io::Result<()>
+    requires copied { copied.old.is_open ≡ false }
+    requires line { line.now.is_open ≡ false }
+{
+    let none = Table::new(rt.alloc());
+    let _bundles = none.len();
+    let edit = Edit::between(rt.alloc(), copied.table(), &none)?;
+    drop(none);
+    let _ = print!(rt; "{what}: ");
+    let came = entered(rt, copied, edit);
+    show_came(rt, fault_of(came))?;
+    if copied.is_open() {
+        return println!(rt; "left open");
+    }
+    let is_same = is_same_line(rt.alloc(), copied, line)?;
+    show_same(rt, is_same)
+}
+
+fn entered(rt: &(impl Print + AllocGlobal), line: &mut Line, edit: Edit) -> Result<(), NoMem>
+    requires closed { line.old.is_open ≡ false }
+    requires made { (table : Bundles) × IsEditFrom line.old.line edit table }
+{
+    match line.open_edit(rt.alloc(), &edit) {
+        Ok(opening) => {
+            go_on_to(rt, "close_edit");
+            line.close_edit(opening, edit);
+            Ok(())
+        }
+        Err(_) => Err(AllocError),
+    }
+}
+
+/// Whether two lines have the same states, and stand on the same one.
+fn is_same_line(alloc: Global, one: &Line, other: &Line) -> Result<bool, NoMem>
+    requires one { one.now.is_open ≡ false }
+    requires other { other.now.is_open ≡ false }
+{
+    if one.states() != other.states() || one.cursor() != other.cursor() {
+        return Ok(false);
+    }
+    for place in 0..one.states() {
+        if !is_same_at(alloc, one, other, place)? {
+            return Ok(false);
+        }
+    }
+    Ok(true)
+}
+
+fn is_same_at(alloc: Global, one: &Line, other: &Line, place: usize) -> Result<bool, NoMem>
+    requires one { one.now.is_open ≡ false }
+    requires other { other.now.is_open ≡ false }
+{
+    if place >= one.states() || place >= other.states() {
+        return Ok(false);
+    }
+    let (live, table) = one.state(alloc, place)?;
+    let (other_live, other_table) = other.state(alloc, place)?;
+    if live.bound() != other_live.bound() {
+        return Ok(false);
+    }
+    Ok(live.same(&other_live) && table.same(&other_table))
+}
