@@ -5,7 +5,7 @@ PREFIX ?= /usr/local
 PROGRAM := crates/undorc/out/undorc
 SOURCES := $(shell find crates -name out -prune -o -type f -print) crates.txt
 
-.PHONY: build demo test install release
+.PHONY: build demo model test install release
 
 # Only a proved crate is built, so the first build proves everything below the program. `make test`
 # builds the program too.
@@ -17,6 +17,10 @@ $(PROGRAM): $(SOURCES)
 # Shows the proved program where it is there, else the program as it stands, with nothing proved.
 demo:
 	@sh tests/demo.sh $(PROGRAM)
+
+# The list of definitions with the contracts that name them, from the sources.
+model:
+	@python3 tests/words.py > docs/WORDS.md
 
 test:
 	@sh tests/all.sh

@@ -44,6 +44,14 @@ while read -r file; do
 done < wanted > found
 holds 'the repository, of the files that documents name,'
 
+# The list of definitions is that of the sources.
+if python3 "$top/tests/words.py" | cmp -s - "$top/docs/WORDS.md"; then
+    passed=$((passed + 1))
+else
+    failed=$((failed + 1))
+    echo 'FAILED: docs/WORDS.md is not of these sources: run make model'
+fi
+
 # What docs/PROOF.md shows of the sources stands there.
 awk '/^```/ { inside = !inside; next } inside { sub(/^ */, ""); print }' "$top/docs/PROOF.md" > wanted
 cat "$top"/crates/*/src/*.rt "$top"/crates/*/specs/*.antt | sed 's/^ *//' > found

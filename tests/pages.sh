@@ -142,7 +142,7 @@ for page in "$pages"/*.[15]; do
 done
 
 # Words of answers: in the page of sessions.
-grep -r -h -o --include='*.rt' 'line([a-z &]*, b"[a-z]*"' "$top/crates/rc_answers/src" |
+grep -r -h -o --include='*.rt' 'line([a-z &]*, b"[a-z]*"' "$top/crates/rc_render/src" |
     sed 's/.*"\(.*\)"/\1/' > wanted
 grep '^\.' "$pages/undorc-session.5" | tr -s ' ' '\n' > found
 holds 'undorc-session.5, of answers,'

@@ -1,6 +1,6 @@
 use Rattle.std.proofs.Common.{◌≡◌, List, None, Some, option_map, ap, codes}
 use Rattle.clap.specs.Words.{Row}
-use Rattle.rc_select.specs.declared.request.Mode.{Mode}
+use Rattle.rc_model.specs.declared.Mode.{Mode}
 use Rattle.rc_command.specs.Words.{is_on, words_in}
 use Rattle.rc_asked.specs.Asked.{ask_in, mode_of}
 

@@ -4,7 +4,7 @@ use Rattle.std.proofs.lemmas.Option.{IfSome_then}
 use Rattle.std.specs.Option.{option_map_or}
 use Rattle.clap.specs.Words.{Row, Text, first_of}
 use Rattle.rc_asked.specs.DbAsked.{AsksIn, AsksNothing, query_words, way_of}
-use Rattle.rc_asked.specs.Query.{Check, DbAsk, Dot, ListOf, OfName, OfNames, Question, ShowsByPicture, question_of, spelled}
+use Rattle.rc_asked.specs.Query.{Check, DbAsk, Dot, ListOf, OfName, OfNames, Question, ShowsByPicture, question_of, words_of_query}
 use Rattle.rc_asked.specs.declared.query.NamesQuery.TheVariants.{Atomics, Dependencies, AllDependencies}
 use Rattle.rc_asked.specs.declared.query.Query.{Query}
 use Rattle.rc_command.specs.Words.{rows_for, words_in}
@@ -14,7 +14,7 @@ pub asked_none : (words : List Text) → rows_for (codes "db") words ≡ None �
 asked_none words none ask asks = let both : Some asks.0 ≡ None = sym asks.1 ∙ none in cc
 
 -- a question has a word
-spelled_some : (question : Question) → [] ≡ spelled question → ⊥
+spelled_some : (question : Question) → [] ≡ words_of_query question → ⊥
 spelled_some Check e = cc
 spelled_some Dot e = cc
 spelled_some (ListOf which) e = cc
@@ -29,20 +29,20 @@ no_query rows ask none asks = spelled_some ask.question (ap (λ o. option_map_or
 pub query_by : (rows : List Row) (word : Text) → Some word ≡ first_of (codes "query") rows → query_words rows ≡ word ∷ words_in rows
 query_by rows word is = sym (ap (λ o. option_map_or (λ w. w ∷ words_in rows) o []) is)
 
--- the same of the words behind the first
-pub some_along : (word : Text) (given words : List Text) (found : Option Query) → given ≡ words → IfSome found (λ query. word ∷ given ≡ spelled (question_of query)) → IfSome found (λ query. word ∷ words ≡ spelled (question_of query))
-some_along word given words found same = subst (λ (ws : List Text). IfSome found (λ query. word ∷ ws ≡ spelled (question_of query))) same
+-- the same of the words after the first
+pub some_along : (word : Text) (given words : List Text) (found : Option Query) → given ≡ words → IfSome found (λ query. word ∷ given ≡ words_of_query (question_of query)) → IfSome found (λ query. word ∷ words ≡ words_of_query (question_of query))
+some_along word given words found same = subst (λ (ws : List Text). IfSome found (λ query. word ∷ ws ≡ words_of_query (question_of query))) same
 
-pub none_along : (word : Text) (given words : List Text) (found : Option Query) → given ≡ words → IfNone found ((question : Question) → word ∷ given ≡ spelled question → ⊥) → IfNone found ((question : Question) → word ∷ words ≡ spelled question → ⊥)
-none_along word given words found same = subst (λ (ws : List Text). IfNone found ((question : Question) → word ∷ ws ≡ spelled question → ⊥)) same
+pub none_along : (word : Text) (given words : List Text) (found : Option Query) → given ≡ words → IfNone found ((question : Question) → word ∷ given ≡ words_of_query question → ⊥) → IfNone found ((question : Question) → word ∷ words ≡ words_of_query question → ⊥)
+none_along word given words found same = subst (λ (ws : List Text). IfNone found ((question : Question) → word ∷ ws ≡ words_of_query question → ⊥)) same
 
--- a word, and none behind it
+-- a word, and none after it
 pub alone : (word text : Text) (words : List (Bor Text)) → length words < 1 → word ≡ text → word ∷ map (λ w. w.now) words ≡ text ∷ []
 alone word text [] few is = ap (λ w. w ∷ []) is
 alone word text (w ∷ words) few is = absurd (omega arith)
 
 -- one word of the picture's, and no word of another question, is a question's spelling
-pub picture_alone : (question : Question) → spelled Dot ≡ spelled question → question ≡ Dot
+pub picture_alone : (question : Question) → words_of_query Dot ≡ words_of_query question → question ≡ Dot
 picture_alone Check e = cc
 picture_alone Dot e = refl
 picture_alone (ListOf which) e = cc
@@ -52,19 +52,19 @@ picture_alone (OfNames Dependencies names) e = cc
 picture_alone (OfNames AllDependencies names) e = cc
 
 -- what the matches ask, by what was found in them
-pub asks_as : (rows : List Row) (ask given : DbAsk) → query_words rows ≡ spelled given.question → given.way ≡ way_of rows → given.live ≡ first_of (codes "live") rows
+pub asks_as : (rows : List Row) (ask given : DbAsk) → query_words rows ≡ words_of_query given.question → given.way ≡ way_of rows → given.live ≡ first_of (codes "live") rows
     → (ask ≡ given) × ShowsByPicture ask → AsksIn rows ask
 asks_as rows ask given words way live both =
     let same : given ≡ ask = sym both.0 in (
-      words ∙ ap (λ (a : DbAsk). spelled a.question) same,
+      words ∙ ap (λ (a : DbAsk). words_of_query a.question) same,
       sym (ap (λ (a : DbAsk). a.way) same) ∙ way,
       sym (ap (λ (a : DbAsk). a.live) same) ∙ live,
       both.1,
     )
 
 -- where the matches ask something, what was found in them shows a session by a picture alone
-pub shown_by_picture : (rows : List Row) (given : DbAsk) → query_words rows ≡ spelled given.question → given.live ≡ first_of (codes "live") rows
+pub shown_by_picture : (rows : List Row) (given : DbAsk) → query_words rows ≡ words_of_query given.question → given.live ≡ first_of (codes "live") rows
     → (ShowsByPicture given → ⊥) → (ask : DbAsk) → AsksIn rows ask → ⊥
 shown_by_picture rows given words live never ask asks =
     never (subst (λ (o : Option Text). IfSome o (λ file. given.question ≡ Dot)) (asks.2 ∙ sym live)
-    (IfSome_then ask.live asks.3 (λ file is. picture_alone given.question (sym (ap spelled is) ∙ sym asks.0 ∙ words))))
+    (IfSome_then ask.live asks.3 (λ file is. picture_alone given.question (sym (ap words_of_query is) ∙ sym asks.0 ∙ words))))

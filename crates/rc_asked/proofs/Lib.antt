@@ -3,6 +3,5 @@ pub mod AskedLemmas
 pub mod DbAskedLemmas
 pub mod SessionWordsLemmas
 pub mod OnceLemmas
-pub mod Mapped
 pub mod Spelling
 mod TextWords

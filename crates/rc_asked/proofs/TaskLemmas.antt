@@ -7,8 +7,8 @@ use Rattle.clap.specs.Matches.{first_value, found_of}
 use Rattle.clap.specs.Words.{Row, Text, fault_of, first_of, rows_of, subcommand_of}
 use Rattle.clap.specs.declared.ArgMatches.{ArgMatches}
 use Rattle.clap.proofs.WalkLemmas.{first_value-rows}
-use Rattle.rc_select.specs.Ask.{Ask}
-use Rattle.rc_session.specs.Commands.{Add, Change, Delete, Redo, Undo}
+use Rattle.rc_model.specs.Plan.{Ask}
+use Rattle.rc_model.specs.Session.{Add, Change, Delete, Redo, Undo}
 use Rattle.rc_script.specs.Says.{SaysBundles, SaysDry, SaysJournal, SaysLive, SaysNothing, SaysStep, SaysWrong}
 use Rattle.rc_command.specs.Commands.{program}
 use Rattle.rc_command.specs.Words.{has_fault, rows_for, rows_named}

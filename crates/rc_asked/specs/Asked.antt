@@ -2,9 +2,9 @@
 use Rattle.std.specs.Prelude.{◌||◌, Bool, List, Option, None, Some, codes, if◌then◌else◌}
 use Rattle.std.specs.Prelude.{option_and_then, option_map}
 use Rattle.clap.specs.Words.{Row, Text}
-use Rattle.rc_select.specs.declared.request.Mode.{Mode}
-use Rattle.rc_select.specs.declared.request.Mode.TheVariants.{Up, Down, DownAll}
-use Rattle.rc_select.specs.Ask.{Ask}
+use Rattle.rc_model.specs.declared.Mode.{Mode}
+use Rattle.rc_model.specs.declared.Mode.TheVariants.{Up, Down, DownAll}
+use Rattle.rc_model.specs.Plan.{Ask}
 use Rattle.rc_command.specs.Words.{is_on, rows_for, words_in}
 
 -- the mode of the flags `-u`, `-d` and `-D`, of which one at most may be given

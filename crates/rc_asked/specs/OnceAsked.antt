@@ -1,8 +1,8 @@
 -- What the words ask of a session of one line.
 use Rattle.std.specs.Prelude.{◌≡◌, ℕ, true, false, List, [], Some, codes}
 use Rattle.clap.specs.Words.{Row, Text, first_of}
-use Rattle.rc_select.specs.Ask.{Ask}
-use Rattle.rc_session.specs.Commands.{Add, Change, Delete, Redo, Undo, events_of}
+use Rattle.rc_model.specs.Plan.{Ask}
+use Rattle.rc_model.specs.Session.{Add, Change, Delete, Redo, Undo, events_of}
 use Rattle.rc_script.specs.Says.{Saying, SaysBundles, SaysDry, SaysJournal, SaysLive, SaysNothing, SaysStep, SaysWrong, saying_of}
 use Rattle.rc_command.specs.Words.{is_on}
 use Rattle.rc_asked.specs.Asked.{ask_in}

@@ -54,13 +54,13 @@ list_word which.Oneshots = codes "oneshots"
 list_word which.Longruns = codes "longruns"
 list_word which.Bundles = codes "bundles"
 
--- the words of a question: the query's own, and those behind it
-abbrev pub spelled : Question → List Text
-spelled Check = codes "check" ∷ []
-spelled Dot = codes "dot" ∷ []
-spelled (ListOf which) = codes "list" ∷ list_word which ∷ []
-spelled (OfName query name) = name_word query ∷ name ∷ []
-spelled (OfNames query names) = names_word query ∷ names
+-- the words of a question: the query's own, and those after it
+abbrev pub words_of_query : Question → List Text
+words_of_query Check = codes "check" ∷ []
+words_of_query Dot = codes "dot" ∷ []
+words_of_query (ListOf which) = codes "list" ∷ list_word which ∷ []
+words_of_query (OfName query name) = name_word query ∷ name ∷ []
+words_of_query (OfNames query names) = names_word query ∷ names
 
 -- the names that a question is of
 abbrev pub names_in : Question → List Text

@@ -1,7 +1,8 @@
 -- What the words ask, of whichever command.
 use Rattle.std.specs.Prelude.{◌≡◌, ◌≤◌, List, Option, Some, codes, map, option_map, string_bytes}
 use Rattle.clap.specs.Words.{Row, Text, first_of}
-use Rattle.rc_select.specs.Ask.{Ask, ask_of}
+use Rattle.rc_model.specs.Plan.{Ask}
+use Rattle.rc_select.specs.Ask.{ask_of}
 use Rattle.rc_command.specs.Words.{rows_for}
 use Rattle.rc_asked.specs.Asked.{ask_in}
 use Rattle.rc_asked.specs.CompileAsked.{AsksCompileIn, CompileAsk, compile_ask_of}

@@ -2,7 +2,7 @@
 ghost use Rattle.std.specs.Prelude.{◌≡◌, ◌≢◌, ◌↔◌, ◌∷◌, [], codes, if◌then◌else◌, map, string_bytes, IfErr, IfNone, IfOk, IfSome, IsTrue};
 ghost use Rattle.clap.specs.Words.{found_of, rows_of};
 ghost use Rattle.rc_asked.specs.DbAsked.{AsksDb, AsksIn, AsksNothing};
-ghost use Rattle.rc_asked.specs.Query.{DbAsk, Dot, Question, ShowsByPicture, ask_by, db_ask_of, list_word, name_word, names_word, question_of, spelled};
+ghost use Rattle.rc_asked.specs.Query.{DbAsk, Dot, Question, ShowsByPicture, ask_by, db_ask_of, list_word, name_word, names_word, question_of, words_of_query};
 ghost use Rattle.rc_command.specs.Words.{words_in};
 ghost use Rattle.rc_asked.specs.declared.asked.WordsFault.TheVariants.{Memory};
 ghost use Rattle.rc_asked.specs.declared.query.NameQuery.{NameQuery as OfOne};
@@ -92,9 +92,9 @@ fn query_in<'a>(
     matches: &ArgMatches<'a>,
 ) -> Result<Option<Query<'a>>, NoMem>
     ensures some { IfOk result (λ found. IfSome found (λ query.
-        word.now ∷ words_in (rows_of (found_of matches.now)) ≡ spelled (question_of query))) }
+        word.now ∷ words_in (rows_of (found_of matches.now)) ≡ words_of_query (question_of query))) }
     ensures none { IfOk result (λ found. IfNone found
-        ((question : Question) → word.now ∷ words_in (rows_of (found_of matches.now)) ≡ spelled question → ⊥)) }
+        ((question : Question) → word.now ∷ words_in (rows_of (found_of matches.now)) ≡ words_of_query question → ⊥)) }
 {
     match matches.get_strs("words") {
         Some(words) => query_of(alloc, word, words),
@@ -102,12 +102,12 @@ fn query_in<'a>(
     }
 }
 
-// The question of a query's word and of the words behind it.
+// The question of a query's word and of the words after it.
 fn query_of<'a>(alloc: Global, word: &str, words: &[&'a str]) -> Result<Option<Query<'a>>, NoMem>
     ensures some { IfOk result (λ found. IfSome found (λ query.
-        word.now ∷ map (λ w. w.now) words.now ≡ spelled (question_of query))) }
+        word.now ∷ map (λ w. w.now) words.now ≡ words_of_query (question_of query))) }
     ensures none { IfOk result (λ found. IfNone found
-        ((question : Question) → word.now ∷ map (λ w. w.now) words.now ≡ spelled question → ⊥)) }
+        ((question : Question) → word.now ∷ map (λ w. w.now) words.now ≡ words_of_query question → ⊥)) }
 {
     match names_query(word) {
         Some(query) => Ok(Some(Query::OfNames(query, strings_of(alloc, words)?))),
@@ -118,8 +118,8 @@ fn query_of<'a>(alloc: Global, word: &str, words: &[&'a str]) -> Result<Option<Q
 // The same, where the query is not of any number of names.
 fn small_query<'a>(word: &str, words: &[&'a str]) -> Option<Query<'a>>
     requires { (query : OfMany) → word.now ≡ names_word query → ⊥ }
-    ensures some { IfSome result (λ query. word.now ∷ map (λ w. w.now) words.now ≡ spelled (question_of query)) }
-    ensures none { IfNone result ((question : Question) → word.now ∷ map (λ w. w.now) words.now ≡ spelled question → ⊥) }
+    ensures some { IfSome result (λ query. word.now ∷ map (λ w. w.now) words.now ≡ words_of_query (question_of query)) }
+    ensures none { IfNone result ((question : Question) → word.now ∷ map (λ w. w.now) words.now ≡ words_of_query question → ⊥) }
 {
     match words {
         [] => {
@@ -136,11 +136,11 @@ fn small_query<'a>(word: &str, words: &[&'a str]) -> Option<Query<'a>>
     }
 }
 
-// The question of a query's word and of the one word behind it.
+// The question of a query's word and of the one word after it.
 fn query_of_one<'a>(word: &str, name: &'a str) -> Option<Query<'a>>
     requires { (query : OfMany) → word.now ≡ names_word query → ⊥ }
-    ensures some { IfSome result (λ query. word.now ∷ name.now ∷ [] ≡ spelled (question_of query)) }
-    ensures none { IfNone result ((question : Question) → word.now ∷ name.now ∷ [] ≡ spelled question → ⊥) }
+    ensures some { IfSome result (λ query. word.now ∷ name.now ∷ [] ≡ words_of_query (question_of query)) }
+    ensures none { IfNone result ((question : Question) → word.now ∷ name.now ∷ [] ≡ words_of_query question → ⊥) }
 {
     if word == "list" {
         return list_of(name);
@@ -153,7 +153,7 @@ fn query_of_one<'a>(word: &str, name: &'a str) -> Option<Query<'a>>
 
 // The list of a word.
 fn list_of<'a>(word: &str) -> Option<Query<'a>>
-    ensures some { IfSome result (λ query. codes "list" ∷ word.now ∷ [] ≡ spelled (question_of query)) }
+    ensures some { IfSome result (λ query. codes "list" ∷ word.now ∷ [] ≡ words_of_query (question_of query)) }
     ensures none { IfNone result ((which : Sort) → word.now ≡ list_word which → ⊥) }
 {
     match which_of(word) {

@@ -61,7 +61,7 @@ fn listed<'a>(alloc: Global, words: &[&'a [u8]]) -> Result<Vec<Transition<'a>>, 
     Ok(all)
 }
 
-/// Puts a transition behind others.
+/// Appends a transition to others.
 fn add<'a>(all: &mut Vec<Transition<'a>>, transition: Transition<'a>) -> Result<(), AllocError>
     ensures { OnOk result (all.new.items ≡ all.old.items ++ transition.entry ∷ []) }
 {
@@ -102,7 +102,7 @@ fn transition_of<'a>(word: &'a [u8]) -> Option<Transition<'a>>
     }
 }
 
-/// What stands behind the front of a word, if that is its front and something does.
+/// What stands after the prefix of a word, if that is its prefix and something does.
 fn behind<'a>(word: &'a [u8], front: &[u8]) -> Option<&'a [u8]>
     ensures some { IfSome result (λ rest. (word.entry.now ≡ front.now ++ rest.now) × (rest.now ≢ [])) }
     ensures none { IfNone result ((rest : List ℕ) → word.entry.now ≡ front.now ++ rest → rest ≡ []) }

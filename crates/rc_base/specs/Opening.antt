@@ -1,7 +1,8 @@
 -- A base and an input: the base comes first.
 use Rattle.std.specs.Prelude.{◌≡◌, ◌≢◌, ◌⊎◌, ◌≤◌, ℕ, List, [], Option, None, Some, IfSome, drop, length}
 use Rattle.std.specs.Io.KnownBytes.{IsAtEnd}
-use Rattle.rc_db.specs.Database.{Database, IsDatabase, IsWritable}
+use Rattle.rc_model.specs.Database.{Database, IsDatabase}
+use Rattle.rc_db.specs.Database.{IsWritable}
 use Rattle.rc_dbtext.specs.Spelling.{spelling}
 use Rattle.rc_dbtext.specs.TextFaults.{IsWholeFault}
 use Rattle.rc_dbtext.specs.declared.fault.TextFault.TheVariants as text
@@ -24,7 +25,7 @@ abbrev pub Reads : Option (List ℕ) → (remaining after : Option (List ℕ)) �
 Reads (Some base) remaining after input = (input ≡ []) × (after ≡ remaining)
 Reads None remaining after input = ReadsAll remaining after input
 
--- the whole input was read, and what is behind the database begins at this place of it
+-- the whole input was read, and what is after the database begins at this place of it
 pub record Opens (base remaining after : Option (List ℕ)) (d : Database) (input : List ℕ) (start : ℕ) : Type 0 where
   pub within : start ≤ length input
   pub reads : ReadsAll remaining after input

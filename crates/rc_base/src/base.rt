@@ -1,4 +1,4 @@
-//! The database of a command: a text of its own, or the front of the input.
+//! The database of a command: a text of its own, or the beginning of the input.
 ghost use Rattle.std.specs.Prelude.{IfErr, IfOk};
 ghost use Rattle.rc_base.specs.Base.{IsTextFault, Spells, bytes_of};
 
@@ -6,7 +6,7 @@ use rc_db::Db;
 use rc_dbtext::{TextFault, read_db, read_db_front};
 use std::alloc::Global;
 
-/// The database, and what is behind it of the input.
+/// The database, and what is after it of the input.
 pub fn database_of<'a>(
     alloc: Global,
     base: Option<&[u8]>,

@@ -1,4 +1,4 @@
-//! The database that a command is given: of a text of its own or at the front of the input, and how faults
+//! The database that a command is given: of a text of its own or at the beginning of the input, and how faults
 //! of its text and of a session's are told.
 #![tactic(auto)]
 

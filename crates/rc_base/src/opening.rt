@@ -1,8 +1,9 @@
-//! A database and an input: a base comes first, and without one the database stands at the front.
+//! A database and an input: a base comes first, and without one the database stands at the beginning.
 ghost use Rattle.std.specs.Prelude.{◌≡◌, ◌⊎◌, ◌+◌, Err, None, Some, IfErr, IfOk};
 ghost use Rattle.rc_base.specs.Base.{bytes_of};
 ghost use Rattle.rc_base.specs.Opening.{IsBaseFault, IsInputFault, IsOpenFault, IsWrongBase, Opens, ReadsAll};
-ghost use Rattle.rc_db.specs.Database.{IsDatabase, IsWritable};
+ghost use Rattle.rc_model.specs.Database.{IsDatabase};
+ghost use Rattle.rc_db.specs.Database.{IsWritable};
 ghost use Rattle.rc_dbtext.specs.Spelling.{spelling};
 ghost use Rattle.rc_streams.specs.Input.{ConsumesAtMost};
 ghost use Rattle.rc_streams.specs.Noting.{HasFailed, inner_of};
@@ -28,7 +29,7 @@ pub enum OpenFault {
 pub struct Opened {
     pub db: Db,
     pub input: Vec<u8>,
-    /// Where that begins in the input which is behind the database.
+    /// Where that begins in the input which is after the database.
     pub start: usize,
 }
 
@@ -87,7 +88,7 @@ fn open_base<R: Read>(
     })
 }
 
-// Reads the whole input, at whose front the database stands.
+// Reads the whole input, at whose beginning the database stands.
 fn open_front<R: Read>(alloc: Global, reader: &mut Noted<R>) -> Result<Opened, OpenFault>
     ensures opened { IfOk result (λ opened. Opens None (R.remaining (inner_of reader.old))
         (R.remaining (inner_of reader.new))

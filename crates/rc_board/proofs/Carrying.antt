@@ -1,17 +1,15 @@
 use Rattle.std.proofs.Common.{◌≡◌, ◌∙◌, ◌≤◌, inr, ℕ, Bool, false, List, [], Option, Result, Ok, Err, IfErr, slice_index_or, ap, sym, subst, arith}
 use Rattle.rc_graph.specs.declared.Way.{Way}
-use Rattle.rc_select.specs.PlanSets.{PlanSets}
-use Rattle.rc_core.specs.declared.event.Outcome.{Outcome}
-use Rattle.rc_core.specs.declared.event.Event.{Event}
-use Rattle.rc_core.specs.Course.{Course, IsPlanned, course_of}
-use Rattle.rc_core.specs.Settled.{RunSoFar, IsSettled}
-use Rattle.rc_db.specs.Database.{Database}
-use Rattle.rc_line.specs.Line.{Line}
-use Rattle.rc_session.specs.declared.refusal.Refusal.{Refusal}
-use Rattle.rc_session.specs.Commands.{Command, Change, Undo, Redo, Add, Delete, with_events}
-use Rattle.rc_session.specs.Report.{Told}
-use Rattle.rc_session.specs.Task.{IsTask}
-use Rattle.rc_session.specs.Doing.{Runs}
+use Rattle.rc_model.specs.Plan.{PlanSets}
+use Rattle.rc_model.specs.declared.Outcome.{Outcome}
+use Rattle.rc_model.specs.declared.Event.{Event}
+use Rattle.rc_model.specs.Run.{Course, IsPlanned, course_of, IsSettled}
+use Rattle.rc_core.specs.Settled.{RunSoFar}
+use Rattle.rc_model.specs.Database.{Database}
+use Rattle.rc_model.specs.Line.{Line}
+use Rattle.rc_model.specs.declared.Refusal.{Refusal}
+use Rattle.rc_model.specs.Session.{Command, Change, Undo, Redo, Add, Delete, Reported, IsTask, DoesByRun}
+use Rattle.rc_session.specs.Commands.{with_events}
 use Rattle.rc_session.specs.Holding.{Holding, Task, IsBegun, with_run, with_line}
 use Rattle.rc_session.proofs.Completing.{events_given}
 use Rattle.rc_session.proofs.Excluding.{task_not_own}
@@ -31,12 +29,12 @@ task_opening d line (Add name contents force) start plan deadline task = absurd 
 task_opening d line (Delete words force) start plan deadline task = absurd task
 
 -- a run that was made, and a command that was completed with it
-pub carried : (workers start : ℕ) (Answers : ℕ → Way → Outcome → Type 0) (Gives : ℕ → Type 0) (h new : Holding) (command : Command) (task : Task) (run : RunSoFar) (told : Told) → IsCrew workers → h.spoiled ≡ false → IsBegun h command start task → Gives start →
-    IsSettled (course_of h.database.needs task.plan task.deadline) run.events → AreMade workers Answers Gives task.plan.opening run.events → Runs h.database h.line (with_events command run.events) told new.line → new ≡ with_line h new.line →
+pub carried : (workers start : ℕ) (Answers : ℕ → Way → Outcome → Type 0) (Gives : ℕ → Type 0) (h new : Holding) (command : Command) (task : Task) (run : RunSoFar) (told : Reported) → IsCrew workers → h.spoiled ≡ false → IsBegun h command start task → Gives start →
+    IsSettled (course_of h.database.needs task.plan task.deadline) run.events → AreMade workers Answers Gives task.plan.opening run.events → DoesByRun h.database h.line (with_events command run.events) told new.line → new ≡ with_line h new.line →
     (((s : ℕ) → IsPlanned (course_of h.database.needs task.plan task.deadline) s → ⊥) → run.events ≡ []) → IsCarriedOut workers Answers Gives (with_line h h.line) command told new
 carried workers start Answers Gives h new command task run told crew whole begun given settled made runs same idle =
     let c : Course = course_of h.database.needs task.plan task.deadline in
-    let trace : told.trace ≡ run.events = runs.is_told.trace ∙ events_given command task.opening.aim run.events begun.aims in
+    let trace : told.trace ≡ run.events = runs.is_report.trace ∙ events_given command task.opening.aim run.events begun.aims in
     let up : task.plan.opening ≡ h.line.current.live = task_opening h.database h.line command start task.plan task.deadline begun.asked in
     record {
       crew = crew;
@@ -50,7 +48,7 @@ carried workers start Answers Gives h new command task run told crew whole begun
       idle = λ none. trace ∙ idle none;
       made = subst (λ (es : List Event). AreMade workers Answers Gives h.line.current.live es) (sym trace)
           (subst (λ (set : List Bool). AreMade workers Answers Gives set run.events) up made);
-      runs = subst (λ (es : List Event). Runs h.database h.line (with_events command es) told new.line) (sym trace) runs;
+      runs = subst (λ (es : List Event). DoesByRun h.database h.line (with_events command es) told new.line) (sym trace) runs;
       session = same;
     }
 

@@ -1,12 +1,10 @@
 use Rattle.std.proofs.Common.{◌≡◌, ◌∙◌, inl, inr, ◌⊎◌, ℕ, zero, suc, ◌+◌, ◌*◌, ◌<◌, ◌≤◌, Bool, true, false, cond, ◌||◌, List, [], ◌∷◌, length, count_by, slice_index_or, Result, Ok, Err, IfOk, refl, ap, sym, subst, arith}
 use Rattle.std.proofs.lemmas.List.Sums.{sum_by-cons}
-use Rattle.rc_set.specs.Set.{Has, Holds}
-use Rattle.rc_core.specs.declared.event.Event.{Event}
-use Rattle.rc_core.specs.Course.{Course, IsCourse, IsPlanned, planned_count}
-use Rattle.rc_core.specs.declared.event.Event.TheVariants.{Take}
-use Rattle.rc_core.specs.Legal.{IsRun}
-use Rattle.rc_core.specs.Settled.{IsSettled}
-use Rattle.rc_core.proofs.RunLemmas.{run_empty}
+use Rattle.rc_model.specs.Names.{Has, Holds}
+use Rattle.rc_model.specs.declared.Event.{Event}
+use Rattle.rc_model.specs.Run.{Course, IsCourse, IsPlanned, planned_count, IsRun, IsSettled}
+use Rattle.rc_model.specs.declared.Event.TheVariants.{Take}
+use Rattle.rc_model.proofs.RunLemmas.{run_empty}
 use Rattle.rc_core.proofs.Opening.{none_happened}
 use Rattle.rc_core.proofs.Places.{move_is_left}
 use Rattle.rc_board.proofs.Lasting.{run_is_short}

@@ -4,12 +4,12 @@ use Rattle.std.specs.List.{All}
 use Rattle.std.proofs.lemmas.List.Elements.{All-nil, All-cons, All-head, All-tail, All-map}
 use Rattle.std.proofs.lemmas.Bool.{eq-eqb}
 use Rattle.rc_graph.specs.declared.Way.{Way}
-use Rattle.rc_core.specs.declared.event.Outcome.{Outcome}
-use Rattle.rc_core.specs.declared.event.Event.{Event}
-use Rattle.rc_core.specs.declared.event.Event.TheVariants.{Take, Done, Stop}
+use Rattle.rc_model.specs.declared.Outcome.{Outcome}
+use Rattle.rc_model.specs.declared.Event.{Event}
+use Rattle.rc_model.specs.declared.Event.TheVariants.{Take, Done, Stop}
 use Rattle.rc_board.specs.declared.note.Note.{Note}
 use Rattle.rc_board.specs.Made.{worker_of, IsSaid, AreMade}
-use Rattle.rc_board.specs.Pads.{Written, own, noted, way_of, IsSaidWith, AreSaid}
+use Rattle.rc_board.specs.Pads.{Written, own, events_on, way_of, IsSaidWith, AreSaid}
 use Rattle.rc_board.specs.Interleaving.{IsOfCrew, AreInterleaved}
 
 pub own_head : (w : ℕ) (e : Event) (es : List Event) → (worker_of e == w) ≡ true
@@ -52,7 +52,7 @@ module _ (Answers : ℕ → Way → Outcome → Type 0) (Gives : ℕ → Type 0)
       said_so x.event (subst (λ (way : Option Way). IsSaidWith Answers Gives x.event way) is said)
 
   pad_said : (xs : List Note) → AreSaid Answers Gives xs
-      → All (λ (x : Note). x.way ≡ way_of up x.event) xs → All (IsSaid Answers Gives up) (noted xs)
+      → All (λ (x : Note). x.way ≡ way_of up x.event) xs → All (IsSaid Answers Gives up) (events_on xs)
   pad_said xs said ways =
       All-map (IsSaid Answers Gives up) (λ (x : Note). x.event) xs
       (λ k d low. note_said (get_or xs k d) (said k d low) (ways k d low))

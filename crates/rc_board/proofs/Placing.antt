@@ -4,11 +4,11 @@ use Rattle.std.proofs.Math.Seq.{drop-cons}
 use Rattle.std.proofs.Math.ListN.{drop_of_length-le}
 use Rattle.std.proofs.lemmas.List.{get_or_default, get_or-replicate}
 use Rattle.std.proofs.lemmas.Bool.{eq-eqb, ne_eqb, cases_eq, cases_lt}
-use Rattle.rc_core.specs.declared.event.Event.{Event}
-use Rattle.rc_core.specs.declared.event.Event.TheVariants.{Stop}
+use Rattle.rc_model.specs.declared.Event.{Event}
+use Rattle.rc_model.specs.declared.Event.TheVariants.{Stop}
 use Rattle.rc_board.specs.declared.note.Note.{Note}
 use Rattle.rc_board.specs.Made.{worker_of}
-use Rattle.rc_board.specs.Pads.{Written, own, noted}
+use Rattle.rc_board.specs.Pads.{Written, own, events_on}
 use Rattle.rc_board.specs.Reading.{AreLeft, IsNext}
 use Rattle.rc_board.proofs.Joining.{own_head}
 
@@ -26,20 +26,20 @@ rest_of (x ∷ xs) = xs
 
 -- what is left on a pad from a place within it on
 noted_from : (notes : List Note) (a : ℕ) (d : Note) → a < length notes
-    → noted (drop a notes) ≡ (get_or notes a d).event ∷ noted (drop (a + 1) notes)
+    → events_on (drop a notes) ≡ (get_or notes a d).event ∷ events_on (drop (a + 1) notes)
 noted_from notes a d low =
     let one : suc a ≡ a + 1 = omega arith in
-    subst (λ (n : ℕ). noted (drop a notes) ≡ (get_or notes a d).event ∷ noted (drop n notes)) one
-    (ap (λ (ns : List Note). noted ns) (drop-cons notes a d low))
+    subst (λ (n : ℕ). events_on (drop a notes) ≡ (get_or notes a d).event ∷ events_on (drop n notes)) one
+    (ap (λ (ns : List Note). events_on ns) (drop-cons notes a d low))
 
 -- an event that is next on its worker's pad
 read_one : (w : ℕ) (e : Event) (rest : List Event) (notes : List Note) (a : ℕ)
     → (worker_of e == w) ≡ true → IsNext notes a e
-    → (own w (e ∷ rest) ≡ noted (drop a notes)) ↔ (own w rest ≡ noted (drop (a + 1) notes))
+    → (own w (e ∷ rest) ≡ events_on (drop a notes)) ↔ (own w rest ≡ events_on (drop (a + 1) notes))
 read_one w e rest notes a mine next =
     let d : Note = record { event = e; way = None } in
-    let cut : noted (drop a notes) ≡ e ∷ noted (drop (a + 1) notes) =
-    subst (λ (x : Event). noted (drop a notes) ≡ x ∷ noted (drop (a + 1) notes)) (next.1 d)
+    let cut : events_on (drop a notes) ≡ e ∷ events_on (drop (a + 1) notes) =
+    subst (λ (x : Event). events_on (drop a notes) ≡ x ∷ events_on (drop (a + 1) notes)) (next.1 d)
     (noted_from notes a d next.0) in (
       λ same. ap rest_of (sym (own_head w e rest mine) ∙ same ∙ cut),
       λ same. own_head w e rest mine ∙ ap (λ (es : List Event). e ∷ es) same ∙ sym cut,
@@ -47,14 +47,14 @@ read_one w e rest notes a mine next =
 
 -- one that stands on it is next
 is_next : (w : ℕ) (e : Event) (rest : List Event) (notes : List Note) (a : ℕ)
-    → (worker_of e == w) ≡ true → own w (e ∷ rest) ≡ noted (drop a notes) → IsNext notes a e
+    → (worker_of e == w) ≡ true → own w (e ∷ rest) ≡ events_on (drop a notes) → IsNext notes a e
 is_next w e rest notes a mine same =
-    let here : e ∷ own w rest ≡ noted (drop a notes) = sym (own_head w e rest mine) ∙ same in
+    let here : e ∷ own w rest ≡ events_on (drop a notes) = sym (own_head w e rest mine) ∙ same in
     elim (cases_lt a (length notes)) [
       | inl low ↦ (low, λ d. ap (first_or e) (sym (noted_from notes a d low) ∙ sym here))
       | inr high ↦ absurd
           (let none : e ∷ own w rest ≡ [] =
-          here ∙ ap (λ (ns : List Note). noted ns) (drop_of_length-le notes high) in cc)
+          here ∙ ap (λ (ns : List Note). events_on ns) (drop_of_length-le notes high) in cc)
     ]
 
 -- one event further
@@ -67,8 +67,8 @@ read_on pads read e rest k worker room next =
     let a = get_or read k 0 in
     let read' = slice_set read k (a + 1) in
     let one : (j : ℕ) (d : Written) → j < length pads →
-    (own (j + 1) (e ∷ rest) ≡ noted (drop (get_or read j 0) (get_or pads j d).notes))
-    ↔ (own (j + 1) rest ≡ noted (drop (get_or read' j 0) (get_or pads j d).notes)) =
+    (own (j + 1) (e ∷ rest) ≡ events_on (drop (get_or read j 0) (get_or pads j d).notes))
+    ↔ (own (j + 1) rest ≡ events_on (drop (get_or read' j 0) (get_or pads j d).notes)) =
     λ j d low. elim (cases_eq j k) [
       | inl same ↦
           let mine : (worker_of e == j + 1) ≡ true =
@@ -80,8 +80,8 @@ read_on pads read e rest k worker room next =
           let there : IsNext (get_or pads j d).notes (get_or read j 0) e =
           subst (λ (n : ℕ). IsNext (get_or pads n d).notes (get_or read n 0) e) (sym same) (next d) in
           subst (λ (n : ℕ).
-          (own (j + 1) (e ∷ rest) ≡ noted (drop (get_or read j 0) (get_or pads j d).notes))
-          ↔ (own (j + 1) rest ≡ noted (drop n (get_or pads j d).notes))) (sym at)
+          (own (j + 1) (e ∷ rest) ≡ events_on (drop (get_or read j 0) (get_or pads j d).notes))
+          ↔ (own (j + 1) rest ≡ events_on (drop n (get_or pads j d).notes))) (sym at)
           (read_one (j + 1) e rest (get_or pads j d).notes (get_or read j 0) mine there)
       | inr other ↦
           let not_mine : (worker_of e == j + 1) ≡ false =
@@ -90,8 +90,8 @@ read_on pads read e rest k worker room next =
           get_or-set_other read k j (a + 1) 0 other in
           let same : own (j + 1) (e ∷ rest) ≡ own (j + 1) rest =
           own_other (j + 1) e rest not_mine in (
-            λ h. sym same ∙ h ∙ ap (λ (n : ℕ). noted (drop n (get_or pads j d).notes)) (sym at),
-            λ h. same ∙ h ∙ ap (λ (n : ℕ). noted (drop n (get_or pads j d).notes)) at,
+            λ h. sym same ∙ h ∙ ap (λ (n : ℕ). events_on (drop n (get_or pads j d).notes)) (sym at),
+            λ h. same ∙ h ∙ ap (λ (n : ℕ). events_on (drop n (get_or pads j d).notes)) at,
           )
     ] in
     (λ left j d low. (one j d low).0 (left j d low), λ left j d low. (one j d low).1 (left j d low))
@@ -106,10 +106,10 @@ stuck pads read e rest k d worker low not_next left =
     (eq-eqb (worker_of e) (k + 1) worker) (left k d low))
 
 -- something is left on a pad
-pub not_end : (notes : List Note) (a : ℕ) → a < length notes → [] ≡ noted (drop a notes) → ⊥
+pub not_end : (notes : List Note) (a : ℕ) → a < length notes → [] ≡ events_on (drop a notes) → ⊥
 not_end notes a low none =
     let d : Note = record { event = Stop 0 0; way = None } in
-    let bad : [] ≡ (get_or notes a d).event ∷ noted (drop (a + 1) notes) =
+    let bad : [] ≡ (get_or notes a d).event ∷ events_on (drop (a + 1) notes) =
     none ∙ noted_from notes a d low in
     cc
 
@@ -122,7 +122,7 @@ pad_at pads k pad d low is = get_or_default pads k d pad low ∙ sym is
 pub all_left : (pads : List Written) (read : List ℕ) (events : List Event)
     → read ≡ replicate 64 0 → length pads ≤ 64
     → ((k : ℕ) (d : Written) → k < length pads
-    → own (k + 1) events ≡ noted (get_or pads k d).notes)
+    → own (k + 1) events ≡ events_on (get_or pads k d).notes)
     ↔ AreLeft pads read events
 all_left pads read events fresh few =
     let none : (k : ℕ) → k < length pads → get_or read k 0 ≡ 0 =
@@ -130,10 +130,10 @@ all_left pads read events fresh few =
     let within : k < 64 = omega (arith, low, few) in
     ap (λ (r : List ℕ). get_or r k 0) fresh ∙ get_or-replicate 64 k 0 0 within in (
       λ whole k d low.
-          subst (λ (n : ℕ). own (k + 1) events ≡ noted (drop n (get_or pads k d).notes))
+          subst (λ (n : ℕ). own (k + 1) events ≡ events_on (drop n (get_or pads k d).notes))
           (sym (none k low)) (whole k d low),
       λ left k d low.
-          subst (λ (n : ℕ). own (k + 1) events ≡ noted (drop n (get_or pads k d).notes))
+          subst (λ (n : ℕ). own (k + 1) events ≡ events_on (drop n (get_or pads k d).notes))
           (none k low) (left k d low),
     )
 

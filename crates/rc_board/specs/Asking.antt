@@ -1,7 +1,7 @@
 use Rattle.std.specs.Prelude.{◌≡◌, ◌⊎◌, ℕ, Option, Some, None}
 use Rattle.rc_graph.specs.declared.Way.{Way}
-use Rattle.rc_core.specs.declared.event.Outcome.{Outcome}
-use Rattle.rc_core.specs.declared.event.Event.TheVariants.{Take, Done, Stop}
+use Rattle.rc_model.specs.declared.Outcome.{Outcome}
+use Rattle.rc_model.specs.declared.Event.TheVariants.{Take, Done, Stop}
 use Rattle.rc_board.specs.declared.worker.Asked.{Asked}
 use Rattle.rc_board.specs.declared.worker.Asked.TheVariants.{Job, Again, Stopped, Over}
 use Rattle.rc_board.specs.declared.worker.Made.{Made}

@@ -1,13 +1,13 @@
 -- Why the run of a course is not made.
 use Rattle.std.specs.Prelude.{◌≡◌, ℕ}
-use Rattle.rc_core.specs.Course.{Course, IsPlanned}
-use Rattle.rc_session.specs.declared.refusal.Refusal.TheVariants as refusals
+use Rattle.rc_model.specs.Run.{Course, IsPlanned}
+use Rattle.rc_model.specs.declared.Refusal.TheVariants as refusals
 use Rattle.rc_board.specs.declared.fault.Fault.{Fault}
 use Rattle.rc_board.specs.declared.fault.Fault.TheVariants as faults
 use Rattle.rc_board.specs.declared.play.Halt.{Halt}
 use Rattle.rc_board.specs.declared.play.Halt.TheVariants.{Memory, NoThread, Strange}
 
--- for want of memory, or, where some service is to move, because workers fail
+-- as out of memory, or, where some service is to move, because workers fail
 abbrev pub MayHalt : Course → Halt → Type 0
 MayHalt c Memory = Unit {0}
 MayHalt c NoThread = (s : ℕ) × IsPlanned c s

@@ -1,11 +1,11 @@
 use Rattle.std.specs.Prelude.{◌≡◌, ◌+◌, ◌<◌, ◌≤◌, ℕ, Bool, List, Option, All, length, slice_index_or}
-use Rattle.rc_select.specs.PlanSets.{PlanSets}
-use Rattle.rc_core.specs.declared.event.Event.{Event}
-use Rattle.rc_core.specs.Course.{course_of}
-use Rattle.rc_core.specs.Settled.{RunSoFar, IsSettled}
+use Rattle.rc_model.specs.Plan.{PlanSets}
+use Rattle.rc_model.specs.declared.Event.{Event}
+use Rattle.rc_model.specs.Run.{course_of, IsSettled}
+use Rattle.rc_core.specs.Settled.{RunSoFar}
 use Rattle.rc_board.specs.declared.note.Note.{Note}
 use Rattle.rc_board.specs.Made.{worker_of}
-use Rattle.rc_board.specs.Pads.{Written, noted, own, way_of}
+use Rattle.rc_board.specs.Pads.{Written, events_on, own, way_of}
 
 -- a worker with a number up to this one made the event
 abbrev pub IsOfCrew : ℕ → Event → Type 0
@@ -17,7 +17,7 @@ pub record AreInterleaved (up : List Bool) (pads : List Written) (events : List 
   where
     pub numbers : All (IsOfCrew (length pads)) events
     pub each : (k : ℕ) (d : Written) → k < length pads
-        → own (k + 1) events ≡ noted (slice_index_or pads k d).notes
+        → own (k + 1) events ≡ events_on (slice_index_or pads k d).notes
     pub ways : All (λ (pad : Written).
         All (λ (note : Note). note.way ≡ way_of up note.event) pad.notes) pads
 

@@ -2,9 +2,9 @@
 use Rattle.std.specs.Prelude.{◌≡◌, ◌==◌, ◌++◌, ◌∷◌, ◌-◌, ℕ, Bool, List, [], Option, Some, None, All, map}
 use Rattle.std.specs.List.{filter}
 use Rattle.rc_graph.specs.declared.Way.{Way}
-use Rattle.rc_core.specs.declared.event.Outcome.{Outcome}
-use Rattle.rc_core.specs.declared.event.Event.{Event}
-use Rattle.rc_core.specs.declared.event.Event.TheVariants.{Take, Done, Stop}
+use Rattle.rc_model.specs.declared.Outcome.{Outcome}
+use Rattle.rc_model.specs.declared.Event.{Event}
+use Rattle.rc_model.specs.declared.Event.TheVariants.{Take, Done, Stop}
 use Rattle.rc_core.specs.declared.took.Took.{Took}
 use Rattle.rc_core.specs.declared.took.Took.TheVariants as took
 use Rattle.rc_board.specs.declared.note.Note.{Note}
@@ -28,8 +28,8 @@ NotesTook old w took.Wait new = new ≡ old
 NotesTook old w took.Settled new = new ≡ old
 
 -- the events on a pad
-abbrev pub noted : List Note → List Event
-noted notes = map (λ (note : Note). note.event) notes
+abbrev pub events_on : List Note → List Event
+events_on notes = map (λ (note : Note). note.event) notes
 
 -- the events that a worker made
 abbrev pub own : ℕ → List Event → List Event

@@ -1,10 +1,8 @@
 use Rattle.std.specs.Prelude.{◌≡◌, ◌≤◌, ◌+◌, ◌*◌, ℕ, List, length, slice_index_or}
-use Rattle.rc_core.specs.declared.standing.Standing.{Standing}
-use Rattle.rc_core.specs.declared.standing.Standing.TheVariants.{Down}
-use Rattle.rc_core.specs.declared.event.Event.{Event}
-use Rattle.rc_core.specs.Course.{Course, IsCourse}
-use Rattle.rc_core.specs.Standing.{standing_of}
-use Rattle.rc_core.specs.Legal.{IsRun}
+use Rattle.rc_model.specs.declared.Standing.{Standing}
+use Rattle.rc_model.specs.declared.Standing.TheVariants.{Down}
+use Rattle.rc_model.specs.declared.Event.{Event}
+use Rattle.rc_model.specs.Run.{Course, IsCourse, standing_of, IsRun}
 
 -- what is seen of a run: where each service stands, the events so far, how many services are to
 -- move in the runs that it is made for, and how many events there is room for

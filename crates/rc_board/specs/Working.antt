@@ -1,17 +1,13 @@
 use Rattle.std.specs.Prelude.{◌≡◌, ℕ, [], true, false, Option}
 use Rattle.rc_graph.specs.declared.Way.{Way}
-use Rattle.rc_db.specs.Database.{Database}
-use Rattle.rc_select.specs.PlanSets.{PlanSets}
-use Rattle.rc_core.specs.declared.event.Outcome.{Outcome}
-use Rattle.rc_core.specs.Course.{IsPlanned, course_of}
-use Rattle.rc_core.specs.Settled.{IsSettled}
-use Rattle.rc_line.specs.Line.{Line}
-use Rattle.rc_session.specs.declared.refusal.Refusal.{Refusal}
-use Rattle.rc_session.specs.Commands.{Command, with_events}
-use Rattle.rc_session.specs.Report.{Told}
-use Rattle.rc_session.specs.Task.{IsTask}
-use Rattle.rc_session.specs.Doing.{Runs}
-use Rattle.rc_session.specs.Refusals.{IsOwnFault}
+use Rattle.rc_model.specs.Database.{Database}
+use Rattle.rc_model.specs.Plan.{PlanSets}
+use Rattle.rc_model.specs.declared.Outcome.{Outcome}
+use Rattle.rc_model.specs.Run.{IsPlanned, course_of, IsSettled}
+use Rattle.rc_model.specs.Line.{Line}
+use Rattle.rc_model.specs.declared.Refusal.{Refusal}
+use Rattle.rc_model.specs.Session.{Command, Reported, IsTask, DoesByRun, IsOwnFault}
+use Rattle.rc_session.specs.Commands.{with_events}
 use Rattle.rc_session.specs.Holding.{Holding, IsHindrance, with_line}
 use Rattle.rc_board.specs.declared.fault.Fault.{Fault}
 use Rattle.rc_board.specs.declared.fault.Fault.TheVariants.{Workers, NoThread, Strange, Refused}
@@ -19,7 +15,7 @@ use Rattle.rc_board.specs.Crew.{IsCrew}
 use Rattle.rc_board.specs.Made.{AreMade}
 
 -- a command was carried out by workers with a gate: it was begun at a moment that the gate may give; the events that are told are a settled run of its task from then on, none where nothing is to move, and the workers made them with the gate; and the session did the command with these events
-pub record IsCarriedOut (workers : ℕ) (Answers : ℕ → Way → Outcome → Type 0) (Gives : ℕ → Type 0) (old : Holding) (command : Command) (told : Told) (new : Holding) : Type 0 where
+pub record IsCarriedOut (workers : ℕ) (Answers : ℕ → Way → Outcome → Type 0) (Gives : ℕ → Type 0) (old : Holding) (command : Command) (told : Reported) (new : Holding) : Type 0 where
   pub crew : IsCrew workers
   pub whole : old.spoiled ≡ false
   pub start : ℕ
@@ -30,7 +26,7 @@ pub record IsCarriedOut (workers : ℕ) (Answers : ℕ → Way → Outcome → T
   pub settled : IsSettled (course_of old.database.needs plan deadline) told.trace
   pub idle : ((s : ℕ) → IsPlanned (course_of old.database.needs plan deadline) s → ⊥) → told.trace ≡ []
   pub made : AreMade workers Answers Gives old.line.current.live told.trace
-  pub runs : Runs old.database old.line (with_events command told.trace) told new.line
+  pub runs : DoesByRun old.database old.line (with_events command told.trace) told new.line
   pub session : new ≡ with_line old new.line
 
 -- nothing hinders a session to begin a command
@@ -52,7 +48,7 @@ IsFault workers h command Workers = IsCrew workers → ⊥
 IsFault workers h command (Refused refusal) = IsCrew workers × IsHindrance (IsOwnFault h.database h.line command) h refusal
 IsFault workers h command other = IsCrew workers × CanBegin h command × HasWork h.database h.line command
 
--- what a fault leaves: a strange one spoils the session, any other leaves it as it was
+-- what a fault leaves: a strange one poisons the session, any other leaves it as it was
 abbrev pub LeavesSession : Holding → Fault → Holding → Type 0
 LeavesSession old Strange new = new ≡ record { database = old.database; line = old.line; begun = false; spoiled = true }
 LeavesSession old other new = new ≡ old

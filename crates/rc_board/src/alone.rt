@@ -1,8 +1,7 @@
 //! A run that the caller makes alone: no thread is started, and nothing is shared.
 
 ghost use Rattle.std.specs.Prelude.{◌≡◌, ◌<◌, ◌≤◌, ◌+◌, ◌*◌, [], length, IsTrue, IfOk};
-ghost use Rattle.rc_core.specs.Course.{planned_count};
-ghost use Rattle.rc_core.specs.Settled.{IsSettled};
+ghost use Rattle.rc_model.specs.Run.{planned_count, IsSettled};
 ghost use Rattle.rc_board.specs.Made.{AreMade, way_from};
 
 use crate::crew::glance_of;

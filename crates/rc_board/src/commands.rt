@@ -2,8 +2,8 @@
 
 ghost use Rattle.std.specs.Prelude.{◌≡◌, ◌↔◌, ℕ, false, [], IsTrue, IfOk, IfErr};
 ghost use Rattle.rc_select.specs.Ask.{ask_of};
-ghost use Rattle.rc_core.specs.Course.{IsCourse, course_of};
-ghost use Rattle.rc_session.specs.Commands.{Command, Change, Undo, Redo};
+ghost use Rattle.rc_model.specs.Run.{IsCourse, course_of};
+ghost use Rattle.rc_model.specs.Session.{Command, Change, Undo, Redo};
 ghost use Rattle.rc_session.specs.Report.{told_of};
 ghost use Rattle.rc_session.specs.Holding.{IsBegun, with_line};
 ghost use Rattle.rc_board.specs.Crew.{IsCrew};
@@ -100,7 +100,7 @@ pub fn redo<R: Threads + Wait + Sync, G: Gate, W: Watch>(
 }
 
 /// Carries a command out that was begun. Where its run can't be made it is given up: nothing was
-/// taken then, or the workers left another board than theirs, and the session is spoiled.
+/// taken then, or the workers left another board than theirs, and the session is poisoned.
 fn carry_out<R: Threads + Wait + Sync, G: Gate, W: Watch>(
     rt: &R,
     alloc: Global,

@@ -3,7 +3,7 @@
 ghost use Rattle.std.specs.Prelude.{◌≡◌, ◌<◌, ◌≤◌, ◌+◌, ◌↔◌, ℕ, [], All, replicate, length, slice_index_or, IsTrue};
 ghost use Rattle.rc_board.specs.Interleaving.{IsOfCrew, AreInterleaved};
 ghost use Rattle.rc_board.specs.Reading.{AreLeft, IsNext, ReadsOn};
-ghost use Rattle.rc_board.specs.Pads.{Written, noted, own, way_of};
+ghost use Rattle.rc_board.specs.Pads.{Written, events_on, own, way_of};
 
 use crate::made::{way_of, worker_of};
 use crate::note::Note;
@@ -33,7 +33,7 @@ fn are_own(events: &[Event], pads: &[Pad]) -> bool
     requires few { length pads.now ≤ 64 }
     requires crew { All (IsOfCrew (length pads.now)) events.now }
     ensures { IsTrue result ↔ ((k : ℕ) (d : Written) → k < length pads.now
-        → own (k + 1) events.now ≡ noted (slice_index_or pads.now k d).notes) }
+        → own (k + 1) events.now ≡ events_on (slice_index_or pads.now k d).notes) }
 {
     // How far each pad is read.
     let mut read = unread();
@@ -76,7 +76,7 @@ fn is_next(notes: &[Note], at: usize, event: Event) -> bool
     at < notes.len() && notes[at].event == event
 }
 
-/// Whether nothing is left on the pads behind these places.
+/// Whether nothing is left on the pads after these places.
 fn are_read(pads: &[Pad], read: &[usize]) -> bool
     requires { length pads.now ≤ length read.now }
     ensures { IsTrue result ↔ AreLeft pads.now read.now [] }
@@ -91,7 +91,7 @@ fn are_read(pads: &[Pad], read: &[usize]) -> bool
 
 /// Whether the events of this worker are those that it noted.
 pub(crate) fn is_own(events: &[Event], notes: &[Note], worker: u8) -> bool
-    ensures { IsTrue result ↔ (own worker events.now ≡ noted notes.now) }
+    ensures { IsTrue result ↔ (own worker events.now ≡ events_on notes.now) }
 {
     let mut events = events;
     let mut notes = notes;

@@ -3,13 +3,11 @@
 
 ghost use Rattle.std.specs.Prelude.{◌≡◌, ◌<◌, ◌≤◌, ◌↔◌, Option, None, length, IsTrue, IfOk, IfSome, IfNone, OnOk, OnErr, MatchBool};
 ghost use Rattle.rc_graph.specs.declared.Way.{Way};
-ghost use Rattle.rc_core.specs.declared.event.Event.{Event};
-ghost use Rattle.rc_core.specs.Course.{planned_count};
-ghost use Rattle.rc_core.specs.Events.{IsWorker, IsFree};
-ghost use Rattle.rc_core.specs.Legal.{IsLegal};
+ghost use Rattle.rc_model.specs.declared.Event.{Event};
+ghost use Rattle.rc_model.specs.Run.{planned_count, IsWorker, IsFree, IsLegal};
 ghost use Rattle.rc_core.specs.Settled.{with_event};
 ghost use Rattle.rc_core.specs.Taking.{IsAnswered};
-ghost use Rattle.rc_board.specs.Pads.{with_note, NotesTook, noted, own};
+ghost use Rattle.rc_board.specs.Pads.{with_note, NotesTook, events_on, own};
 ghost use Rattle.rc_board.specs.Sight.{IsShown};
 ghost use Rattle.rc_board.specs.Interleaving.{IsMadeByPads};
 
@@ -91,7 +89,7 @@ pub fn hold_stop(board: &mut Board, pad: &mut Pad, worker: u8, moment: u64) -> R
 pub fn hold_look(board: &Board, pad: &Pad, worker: u8, glance: &mut Glance) -> bool
     ensures fits { IsTrue result ↔ ((length board.now.course.needs ≡ length glance.old.standings)
         × (planned_count board.now.course ≡ glance.old.planned)
-        × (own worker board.now.events ≡ noted pad.now.notes)) }
+        × (own worker board.now.events ≡ events_on pad.now.notes)) }
     ensures seen { MatchBool result (IsShown board.now.course board.now.events glance.new)
         (glance.new ≡ glance.old) }
 {

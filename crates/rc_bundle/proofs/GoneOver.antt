@@ -2,7 +2,7 @@
 use Rattle.std.proofs.Common.{◌≡◌, ℕ, ◌+◌, ◌<◌, ◌≤◌, List, [], ◌∷◌, ◌++◌, length, get_or, take, map, All, arith, sym, subst}
 use Rattle.std.proofs.lemmas.List.{length-map, take_all}
 use Rattle.std.proofs.lemmas.List.Elements.{All-push}
-use Rattle.rc_db.proofs.Places.{take_next}
+use Rattle.rc_model.proofs.Places.{take_next}
 use Rattle.rc_db.proofs.Words.{mapped_at}
 
 module _ {X : Type 0} (bytes : X → List ℕ) (words : List X) where

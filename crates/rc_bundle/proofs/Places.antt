@@ -6,9 +6,9 @@ use Rattle.std.proofs.lemmas.Slice.Eq.{bytes_eq-Decides}
 use Rattle.std.specs.List.{slice_get}
 use Rattle.std.specs.Option.{option_map}
 use Rattle.std.specs.Str.{bytes_eq}
-use Rattle.rc_names.specs.Names.{IsBefore, IsInByteOrder}
-use Rattle.rc_db.specs.Bundles.{Bundles, names_of, value_of}
-use Rattle.rc_names.proofs.ByteOrder.{before_at, not_before_itself, order_tail}
+use Rattle.rc_model.specs.Names.{IsBefore, IsInByteOrder}
+use Rattle.rc_model.specs.Database.{Bundles, names_of, value_of}
+use Rattle.rc_model.proofs.ByteOrder.{before_at, not_before_itself, order_tail}
 use Rattle.rc_db.proofs.Values.{value_of-some}
 
 -- of two places the first has the lesser name

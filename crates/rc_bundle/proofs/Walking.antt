@@ -6,13 +6,13 @@ use Rattle.std.proofs.lemmas.List.Elements.{Contains-push, Contains-push_cases, 
 use Rattle.std.proofs.lemmas.List.Quantifiers.{all_pairs_push}
 use Rattle.std.proofs.lemmas.Option.{slice_get-get_or, slice_get_within}
 use Rattle.std.specs.List.{slice_get}
-use Rattle.rc_names.specs.Names.{IsBefore, IsInByteOrder}
-use Rattle.rc_db.specs.Bundles.{Bundles, names_of, value_of, IsTable}
-use Rattle.rc_bundle.specs.Edit.{Alteration, altered, IsAlteration, IsEdit}
-use Rattle.rc_bundle.specs.Walk.{IsBeforeAt, IsNextName, IsNoted, moved}
-use Rattle.rc_names.proofs.ByteOrder.{not_before_itself}
+use Rattle.rc_model.specs.Names.{IsBefore, IsInByteOrder}
+use Rattle.rc_model.specs.Database.{Bundles, names_of, value_of, IsTable}
+use Rattle.rc_model.specs.Line.{Alteration, names_altered, IsAlteration, IsEdit}
+use Rattle.rc_bundle.specs.Walk.{IsBeforeAt, IsNextName, IsNoted, next_place}
+use Rattle.rc_model.proofs.ByteOrder.{not_before_itself}
 use Rattle.rc_db.proofs.Values.{value_of-some}
-use Rattle.rc_bundle.proofs.Texts.{before_trans}
+use Rattle.rc_model.proofs.Texts.{before_trans}
 use Rattle.rc_bundle.proofs.Places.{at_order, value_at, no_value}
 
 -- the name stands before a place of the table
@@ -25,7 +25,7 @@ AreAhead t i u j = (k l : ℕ) (a b : List ℕ × List Bool) → k < i → j ≤
 
 -- the alterations of those names of which this holds
 pub record IsEditOf (old new : Bundles) (P : List ℕ → Type 0) (edit : List Alteration) : Type 0 where
-  pub order : IsInByteOrder (altered edit)
+  pub order : IsInByteOrder (names_altered edit)
   pub same : (a : Alteration) → Contains edit a ↔ (IsAlteration old new a × P a.name)
 
 -- the walk has come to these places, and the alterations of the names before them are noted
@@ -68,7 +68,7 @@ passed_more t i name set here p = (
 one_noted : (old new : Bundles) (P Q : List ℕ → Type 0) (edit : List Alteration) (x : Alteration)
     → IsEditOf old new P edit → ((p : List ℕ) → P p → IsBefore p x.name) → ((p : List ℕ) → Q p ↔ (P p ⊎ (p ≡ x.name))) → IsAlteration old new x → IsEditOf old new Q (edit ++ x ∷ [])
 one_noted old new P Q edit x noted ahead wider alters = record {
-  order = subst IsInByteOrder (sym (map-append (λ (a : Alteration). a.name) edit (x ∷ []))) (all_pairs_push IsBefore (altered edit) x.name noted.order (λ k d low.
+  order = subst IsInByteOrder (sym (map-append (λ (a : Alteration). a.name) edit (x ∷ []))) (all_pairs_push IsBefore (names_altered edit) x.name noted.order (λ k d low.
       let within : k < length edit = omega (arith, length-map edit (λ (a : Alteration). a.name)) in
       let there : IsBefore (get_or edit k x).name x.name = ahead (get_or edit k x).name ((noted.same (get_or edit k x)).0 (Contains-get_or edit k x within)).1 in
       subst (λ p. IsBefore p x.name) (sym (get_or-map (λ (a : Alteration). a.name) edit k x d within)) there));
@@ -148,7 +148,7 @@ module _ (old new : Bundles) (i j : ℕ) (edit : List Alteration) (in_order_old 
 
 -- the next name is passed beside those that were
 passed_wider : (old : Bundles) (i : ℕ) (new : Bundles) (j : ℕ) (name : List ℕ) (before after : Option (List Bool)) → IsNextName old i new j name before after
-    → (p : List ℕ) → (IsPassed old (moved i before) p ⊎ IsPassed new (moved j after) p) ↔ ((IsPassed old i p ⊎ IsPassed new j p) ⊎ (p ≡ name))
+    → (p : List ℕ) → (IsPassed old (next_place i before) p ⊎ IsPassed new (next_place j after) p) ↔ ((IsPassed old i p ⊎ IsPassed new j p) ⊎ (p ≡ name))
 passed_wider old i new j name (Some before) (Some after) next p =
     let in_old = passed_more old i name before next.0 p in
     let in_new = passed_more new j name after next.1 p in (
@@ -201,7 +201,7 @@ ahead_less t i u j to ahead on k l a b low high at_k at_l = ahead k l a b low (o
 
 -- where a step leads, the names of either table are still ahead of the other's
 module _ (old new : Bundles) (i j : ℕ) (in_order_old : IsInByteOrder (names_of old)) (in_order_new : IsInByteOrder (names_of new)) (ahead : AreAhead old i new j) (name : List ℕ) where
-  next_ahead : (before after : Option (List Bool)) → IsNextName old i new j name before after → AreAhead old (moved i before) new (moved j after)
+  next_ahead : (before after : Option (List Bool)) → IsNextName old i new j name before after → AreAhead old (next_place i before) new (next_place j after)
   next_ahead (Some before) (Some after) next = ahead_more old i new j (j + 1) name before ahead next.0 (omega arith) (λ l b. after_it new in_order_new j l name after b next.1)
   next_ahead (Some before) None next = ahead_more old i new j j name before ahead next.0 (omega arith) (λ l b. before_rest new in_order_new name j l b next.1)
   next_ahead None (Some after) next = ahead_less old i new j (j + 1) ahead (omega arith)
@@ -214,7 +214,7 @@ next_turned old new i j name (Some before) None next = next
 next_turned old new i j name None (Some after) next = next
 next_turned old new i j name None None next = next
 
-next_within : (old new : Bundles) (i j : ℕ) (name : List ℕ) (before after : Option (List Bool)) → i ≤ length old → IsNextName old i new j name before after → moved i before ≤ length old
+next_within : (old new : Bundles) (i j : ℕ) (name : List ℕ) (before after : Option (List Bool)) → i ≤ length old → IsNextName old i new j name before after → next_place i before ≤ length old
 next_within old new i j name (Some before) (Some after) low next = let within : i < length old = slice_get_within old i (name, before) next.0 in omega arith
 next_within old new i j name (Some before) None low next = let within : i < length old = slice_get_within old i (name, before) next.0 in omega arith
 next_within old new i j name None (Some after) low next = low
@@ -223,7 +223,7 @@ next_within old new i j name None None low next = low
 -- the walk goes on by the next name
 pub walked_on : (old new : Bundles) (i j : ℕ) (edit more : List Alteration) (name : List ℕ) (before after : Option (List Bool))
     → IsTable old → IsTable new → IsWalked old i new j edit → IsNextName old i new j name before after → IsNoted edit more name before after
-    → IsWalked old (moved i before) new (moved j after) more
+    → IsWalked old (next_place i before) new (next_place j after) more
 walked_on old new i j edit more name before after t u walked next noted =
     let turned = next_turned old new i j name before after next in
     let values = next_values old new i j edit t.order u.order walked name before after next in
@@ -232,7 +232,7 @@ walked_on old new i j edit more name before after t u walked next noted =
       in_new = next_within new old j i name after before walked.in_new turned;
       old_ahead = next_ahead old new i j t.order u.order walked.old_ahead name before after next;
       new_ahead = next_ahead new old j i u.order t.order walked.new_ahead name after before turned;
-      noted = one_more old new (λ p. IsPassed old i p ⊎ IsPassed new j p) (λ p. IsPassed old (moved i before) p ⊎ IsPassed new (moved j after) p) edit more name before after
+      noted = one_more old new (λ p. IsPassed old i p ⊎ IsPassed new j p) (λ p. IsPassed old (next_place i before) p ⊎ IsPassed new (next_place j after) p) edit more name before after
           walked.noted (passed_before old new i j edit t.order u.order walked name before after next) (passed_wider old i new j name before after next) values.0 values.1 noted;
     }
 
@@ -270,7 +270,7 @@ walked_all old new i j edit walked end_old end_new = record {
 
 -- each step makes what is left less
 pub less_left : (old new : Bundles) (i j : ℕ) (name : List ℕ) (before after : Option (List Bool)) → IsNextName old i new j name before after
-    → (length old - moved i before) + (length new - moved j after) < (length old - i) + (length new - j)
+    → (length old - next_place i before) + (length new - next_place j after) < (length old - i) + (length new - j)
 less_left old new i j name (Some before) (Some after) next =
     let in_old : i < length old = slice_get_within old i (name, before) next.0 in let in_new : j < length new = slice_get_within new j (name, after) next.1 in omega arith
 less_left old new i j name (Some before) None next = let in_old : i < length old = slice_get_within old i (name, before) next.0 in omega arith

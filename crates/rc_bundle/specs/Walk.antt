@@ -1,7 +1,7 @@
 use Rattle.std.specs.Prelude.{◌≡◌, ◌≢◌, ◌+◌, ◌⊎◌, ℕ, Bool, List, [], ◌∷◌, ◌++◌, Option, Some, None, slice_get}
-use Rattle.rc_names.specs.Names.{IsBefore}
-use Rattle.rc_db.specs.Bundles.{Bundles}
-use Rattle.rc_bundle.specs.Edit.{Alteration}
+use Rattle.rc_model.specs.Names.{IsBefore}
+use Rattle.rc_model.specs.Database.{Bundles}
+use Rattle.rc_model.specs.Line.{Alteration}
 
 -- the name stands before the bundle at a place of the table, if there is one
 abbrev pub IsBeforeAt : List ℕ → Bundles → ℕ → Type 0
@@ -15,9 +15,9 @@ IsNextName old i new j name None (Some after) = (slice_get new j ≡ Some (name,
 IsNextName old i new j name None None = ⊥
 
 -- the place one on, where a set stood there
-abbrev pub moved : ℕ → Option (List Bool) → ℕ
-moved place None = place
-moved place (Some set) = place + 1
+abbrev pub next_place : ℕ → Option (List Bool) → ℕ
+next_place place None = place
+next_place place (Some set) = place + 1
 
 -- the name is noted with its sets where they differ
 abbrev pub IsNoted : List Alteration → List Alteration → List ℕ → Option (List Bool) → Option (List Bool) → Type 0

@@ -1,8 +1,7 @@
 ghost use Rattle.std.specs.Prelude.{◌≡◌, ◌⊎◌, ◌<◌, ◌≤◌, ℕ, length, map, All, IfOk, IfErr, OnOk, OnErr, string_bytes};
-ghost use Rattle.rc_db.specs.Bundles.{AreBelow, IsTable};
-ghost use Rattle.rc_db.specs.Named.{IsKnown};
-ghost use Rattle.rc_bundle.specs.Edit.{IsEdit};
-ghost use Rattle.rc_bundle.specs.Bundling.{Defines, Removes, LeadsWhere, CanAdd, CanDelete, IsAddFault, IsDeleteFault, IsBundle};
+ghost use Rattle.rc_model.specs.Database.{HaveBound, IsTable, IsKnown};
+ghost use Rattle.rc_model.specs.Line.{IsEdit, Defines, Removes, CanAdd, CanDelete, IsAddFault, IsDeleteFault, IsBundle};
+ghost use Rattle.rc_bundle.specs.Bundling.{LeadsWhere};
 
 use crate::edit::Edit;
 use crate::fault::BundleFault;
@@ -21,11 +20,11 @@ pub fn add(
     contents: &[String],
     force: bool,
 ) -> Result<Edit, BundleFault>
-    requires bundles { AreBelow (length db.now.names) table.old }
+    requires bundles { HaveBound (length db.now.names) table.old }
     ensures table { OnOk result (Defines db.now.names table.old name.now (map string_bytes contents.now) table.new) }
     ensures edit { IfOk result (IsEdit table.old table.new) }
     ensures can { OnOk result (CanAdd db.now.names table.old name.now (map string_bytes contents.now) force) }
-    ensures bundles { AreBelow (length db.now.names) table.new }
+    ensures bundles { HaveBound (length db.now.names) table.new }
     ensures fault { IfErr result (IsAddFault db.now.names table.old name.now (map string_bytes contents.now) force) }
     ensures same { OnErr result (table.new ≡ table.old) }
 {
@@ -43,11 +42,11 @@ pub fn delete(
     names: &[String],
     force: bool,
 ) -> Result<Edit, BundleFault>
-    requires bundles { AreBelow (length db.now.names) table.old }
+    requires bundles { HaveBound (length db.now.names) table.old }
     ensures table { OnOk result (Removes table.old (map string_bytes names.now) table.new) }
     ensures edit { IfOk result (IsEdit table.old table.new) }
     ensures can { OnOk result (CanDelete db.now.names table.old (map string_bytes names.now) force) }
-    ensures bundles { AreBelow (length db.now.names) table.new }
+    ensures bundles { HaveBound (length db.now.names) table.new }
     ensures fault { IfErr result (IsDeleteFault db.now.names table.old (map string_bytes names.now) force) }
     ensures same { OnErr result (table.new ≡ table.old) }
 {
@@ -66,7 +65,7 @@ pub fn added(
     contents: &[String],
     force: bool,
 ) -> Result<Edit, BundleFault>
-    requires bundles { AreBelow (length db.now.names) table.now }
+    requires bundles { HaveBound (length db.now.names) table.now }
     ensures edit { IfOk result (LeadsWhere (Defines db.now.names table.now name.now (map string_bytes contents.now)) table.now) }
     ensures can { OnOk result (CanAdd db.now.names table.now name.now (map string_bytes contents.now) force) }
     ensures fault { IfErr result (IsAddFault db.now.names table.now name.now (map string_bytes contents.now) force) }
@@ -161,11 +160,11 @@ fn defined(
 ) -> Result<(Table, Edit), NoMem>
     requires known { All (IsKnown db.now.names table.now) (map string_bytes contents.now) }
     requires place { 4096 ≤ length table.now → IsBundle table.now name.now }
-    requires bundles { AreBelow (length db.now.names) table.now }
+    requires bundles { HaveBound (length db.now.names) table.now }
     ensures table { IfOk result (λ done. Defines db.now.names table.now name.now (map string_bytes contents.now) done.0) }
     ensures edit { IfOk result (λ done. IsEdit table.now done.0 done.1) }
     ensures is_table { IfOk result (λ done. IsTable done.0) }
-    ensures bundles { IfOk result (λ done. AreBelow (length db.now.names) done.0) }
+    ensures bundles { IfOk result (λ done. HaveBound (length db.now.names) done.0) }
 {
     let set = match db.selected(alloc, table, contents) {
         Ok(set) => set,
@@ -182,7 +181,7 @@ fn cleared(alloc: Global, table: &Table, names: &[String]) -> Result<(Table, Edi
     ensures table { IfOk result (λ done. Removes table.now (map string_bytes names.now) done.0) }
     ensures edit { IfOk result (λ done. IsEdit table.now done.0 done.1) }
     ensures is_table { IfOk result (λ done. IsTable done.0) }
-    ensures bounds { IfOk result (λ done. (bound : ℕ) → AreBelow bound table.now → AreBelow bound done.0) }
+    ensures bounds { IfOk result (λ done. (bound : ℕ) → HaveBound bound table.now → HaveBound bound done.0) }
 {
     let mut new = table.copy(alloc)?;
     for name in names {

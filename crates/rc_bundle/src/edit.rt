@@ -1,8 +1,8 @@
 ghost use Rattle.std.specs.Prelude.{◌≡◌, ◌<◌, ◌≤◌, ◌⊎◌, ◌↔◌, ℕ, length, Some, IfOk, OnOk, OnErr, IsTrue, slice_get};
 ghost use Rattle.std.specs.Option.{option_copied};
-ghost use Rattle.rc_names.specs.Names.{IsInByteOrder};
-ghost use Rattle.rc_bundle.specs.Edit.{IsEdit, altered};
-ghost use Rattle.rc_bundle.specs.Walk.{IsNextName, IsNoted, moved};
+ghost use Rattle.rc_model.specs.Names.{IsInByteOrder};
+ghost use Rattle.rc_model.specs.Line.{IsEdit, names_altered};
+ghost use Rattle.rc_bundle.specs.Walk.{IsNextName, IsNoted, next_place};
 
 use rc_db::Table;
 use rc_names::Name;
@@ -20,7 +20,7 @@ struct Change {
 }
 
 impl Model for Change {
-    ghost use Rattle.rc_bundle.specs.Edit.{Alteration};
+    ghost use Rattle.rc_model.specs.Line.{Alteration};
 
     ghost Value = { Alteration };
 
@@ -49,21 +49,21 @@ pub struct Edit {
 
 impl Model for Edit {
     ghost use Rattle.std.specs.Prelude.{List};
-    ghost use Rattle.rc_names.specs.Names.{IsInByteOrder};
-    ghost use Rattle.rc_bundle.specs.Edit.{Alteration, altered};
+    ghost use Rattle.rc_model.specs.Names.{IsInByteOrder};
+    ghost use Rattle.rc_model.specs.Line.{Alteration, names_altered};
 
     ghost Value = { List Alteration };
 
     ghost view = { λ e. e.changes.items };
 
-    ghost invariant = { λ e. IsInByteOrder (altered e.changes.items) };
+    ghost invariant = { λ e. IsInByteOrder (names_altered e.changes.items) };
 }
 
 impl Edit {
     /// How many names alter.
     pub fn len(&self) -> usize
         ensures len { result ≡ length self.now }
-        ensures order { IsInByteOrder (altered self.now) }
+        ensures order { IsInByteOrder (names_altered self.now) }
     {
         self.changes.len()
     }
@@ -143,7 +143,7 @@ fn next_name<'a>(
 /// The place one on, where a set stood there.
 fn place_after(place: u16, set: Option<&Set>) -> u16
     requires { place ≤ 4096 }
-    ensures { result ≡ moved place (option_copied set.entry) }
+    ensures { result ≡ next_place place (option_copied set.entry) }
 {
     match set {
         Some(_) => place + 1,

@@ -1,8 +1,8 @@
 //! Laws of the definitions, for the crates above. The functions do nothing when they run.
 
 ghost use Rattle.std.specs.Prelude.{List};
-ghost use Rattle.rc_db.specs.Bundles.{Bundles};
-ghost use Rattle.rc_bundle.specs.Edit.{Alteration, IsEdit, edit_back};
+ghost use Rattle.rc_model.specs.Database.{Bundles};
+ghost use Rattle.rc_model.specs.Line.{Alteration, IsEdit, edit_back};
 
 /// The edit from one table to another, turned round, is the edit back.
 pub fn edits_turn_round()

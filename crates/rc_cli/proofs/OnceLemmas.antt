@@ -3,13 +3,13 @@ use Rattle.std.proofs.Common.{◌≡◌, ◌≢◌, ◌∙◌, ◌⊎◌, ℕ, B
 use Rattle.std.specs.Io.KnownBytes.{Appends}
 use Rattle.clap.specs.Words.{Text, Text as Path}
 use Rattle.rc_graph.specs.declared.Way.{Way}
-use Rattle.rc_db.specs.Database.{Database}
-use Rattle.rc_line.specs.Line.{Line}
-use Rattle.rc_core.specs.declared.event.Outcome.{Outcome}
+use Rattle.rc_model.specs.Database.{Database}
+use Rattle.rc_model.specs.Line.{Line}
+use Rattle.rc_model.specs.declared.Outcome.{Outcome}
 use Rattle.rc_runner.specs.Failing.{Table, outcome_in}
 use Rattle.rc_runner.specs.Moments.{IsMomentOf}
 use Rattle.rc_runner.specs.Shell.{MayAnswer, Scripts, scripts_of}
-use Rattle.rc_session.specs.Commands.{Command, Redo, Undo, events_of}
+use Rattle.rc_model.specs.Session.{Command, Redo, Undo, events_of}
 use Rattle.rc_session.specs.Holding.{Holding}
 use Rattle.rc_streams.specs.Input.{AppendsFront, fault_line}
 use Rattle.rc_script.specs.Says.{Saying, SaysNothing, SaysWrong, SaysStep, SaysDry, SaysLive, SaysBundles, SaysJournal}
@@ -107,7 +107,7 @@ met_ends workers Answers Gives d here SaysLive text new met = (Done, (refl, met)
 met_ends workers Answers Gives d here SaysBundles text new met = (Done, (refl, met))
 met_ends workers Answers Gives d here SaysJournal text new met = (Done, (refl, met))
 
--- where a session is not spoiled, a strange fault comes of work alone
+-- where a session is not poisoned, a strange fault comes of work alone
 stands_whole : (fault : ServeFault) (spoiled work : Type 0) → (spoiled → ⊥) → StandsAt fault spoiled work 0 [] → StandsAt fault ⊥ work 0 []
 stands_whole Read spoiled work never stands = stands
 stands_whole Write spoiled work never stands = tt

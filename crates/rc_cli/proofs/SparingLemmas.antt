@@ -1,20 +1,18 @@
 -- What the steps of an update move.
 use Rattle.std.proofs.Common.{◌≡◌, ◌∙◌, ◌↔◌, ◌⊎◌, ◌<◌, inl, inr, ℕ, Bool, true, false, List, [], Some, Contains, length, slice_get, sym, ap, subst, arith}
 use Rattle.std.proofs.lemmas.Option.{slice_get-get_or, slice_get_within}
-use Rattle.rc_set.specs.Set.{Has, Holds}
-use Rattle.rc_set.proofs.Members.{has_within}
-use Rattle.rc_graph.specs.Closure.{DownFrom, UpFrom}
-use Rattle.rc_names.proofs.ByteOrder.{one_place}
-use Rattle.rc_names.proofs.Members.{contains_at}
-use Rattle.rc_db.specs.Bundles.{Bundles, names_of}
-use Rattle.rc_db.specs.Database.{AreApart, Database, IsDatabase}
+use Rattle.rc_model.specs.Names.{Has, Holds}
+use Rattle.rc_model.proofs.SetMembers.{has_within}
+use Rattle.rc_model.specs.Graph.{DownFrom, UpFrom}
+use Rattle.rc_model.proofs.ByteOrder.{one_place}
+use Rattle.rc_model.proofs.Members.{contains_at}
+use Rattle.rc_model.specs.Database.{Bundles, names_of, AreApart, Database, IsDatabase}
 use Rattle.rc_db.proofs.Values.{named_by_value}
-use Rattle.rc_line.specs.Line.{Line}
-use Rattle.rc_select.specs.Ask.{IsPlanOf, IsWanted}
-use Rattle.rc_select.specs.PlanSets.{PlanSets}
-use Rattle.rc_select.specs.declared.request.Mode.{Mode}
-use Rattle.rc_select.specs.declared.request.Mode.TheVariants.{DownAll, Up}
-use Rattle.rc_session.specs.Doing.{IsLineOf}
+use Rattle.rc_model.specs.Line.{Line}
+use Rattle.rc_model.specs.Plan.{IsPlanOf, IsWanted, PlanSets}
+use Rattle.rc_model.specs.declared.Mode.{Mode}
+use Rattle.rc_model.specs.declared.Mode.TheVariants.{DownAll, Up}
+use Rattle.rc_model.specs.Session.{IsLineOf}
 use Rattle.rc_session.proofs.States.{current_state}
 use Rattle.rc_select.specs.Carrying.{AreNamesOf, Carried, IsAlteredUp, StaysUp}
 use Rattle.rc_cli.specs.Updating.{IsUpdate, Parts, step_ask}

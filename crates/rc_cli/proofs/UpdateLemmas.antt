@@ -4,10 +4,9 @@ use Rattle.std.proofs.lemmas.List.Elements.{All-cons, All-nil}
 use Rattle.clap.specs.Words.{Text as Path}
 use Rattle.rc_graph.specs.declared.Way.{Way}
 use Rattle.rc_graph.specs.declared.Way.TheVariants.{Lower, Raise}
-use Rattle.rc_db.specs.Database.{Database}
-use Rattle.rc_line.specs.Line.{Line, states}
-use Rattle.rc_line.specs.State.{State}
-use Rattle.rc_session.specs.Commands.{Command}
+use Rattle.rc_model.specs.Database.{Database}
+use Rattle.rc_model.specs.Line.{Line, states, State}
+use Rattle.rc_model.specs.Session.{Command}
 use Rattle.rc_session.specs.Holding.{Holding}
 use Rattle.rc_serve.specs.declared.ending.Ending.{Ending}
 use Rattle.rc_serve.specs.declared.ending.Ending.TheVariants.{Done, Refused, Hindered}
@@ -19,7 +18,7 @@ use Rattle.rc_serve.specs.Keeping.{Keeping}
 use Rattle.rc_asked.specs.OnceAsked.{HasNoEvents, OnceSaying, Said}
 use Rattle.rc_asked.specs.UpdateAsked.{UpdateAsk}
 use Rattle.rc_script.specs.Says.{Saying}
-use Rattle.rc_select.specs.Ask.{Ask}
+use Rattle.rc_model.specs.Plan.{Ask}
 use Rattle.rc_asked.specs.Listed.{Listed}
 use Rattle.rc_asked.specs.Programs.{ByTable, MakingAsk}
 use Rattle.rc_base.specs.Base.{IsTextFault, Spells}
@@ -272,7 +271,7 @@ pub gated_fault : (ask : UpdateAsk) (file : LiveFile) (writer failed : Type 0) (
 gated_fault ask file writer failed fault wrong =
     fault_wider fault ⊥ writer ((ask.session.live ≢ None) × failed) ⊥ writer (CannotKeep ask.session file failed) (λ r. r) (λ w. w) (λ k. (k.0, inr k.1)) wrong
 
--- a transition in front of others, and more behind
+-- a transition in front of others, and more after
 listed_grown : (way other : Way) (one : Listed) (some more : List Listed) → listed_by way other one (some ++ more) ≡ listed_by way other one some ++ more
 listed_grown Raise Raise one some more = refl
 listed_grown Raise Lower one some more = refl

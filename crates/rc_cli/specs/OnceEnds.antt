@@ -1,8 +1,8 @@
 -- When a one-shot command is refused or fails before its line is answered.
 use Rattle.std.specs.Prelude.{◌≡◌, ◌⊎◌, ℕ, List, [], Option, take}
 use Rattle.std.specs.Io.KnownBytes.{Appends}
-use Rattle.rc_db.specs.Database.{Database}
-use Rattle.rc_line.specs.Line.{Line}
+use Rattle.rc_model.specs.Database.{Database}
+use Rattle.rc_model.specs.Line.{Line}
 use Rattle.rc_session.specs.Holding.{Holding}
 use Rattle.rc_streams.specs.Input.{AppendsFront, fault_line}
 use Rattle.rc_serve.specs.declared.ending.Ending.{Ending}
@@ -30,7 +30,7 @@ WantsWorkOnce d here (Said saying) = WantsWork d here saying
 WantsWorkOnce d here other = ⊥
 
 -- a fault came where one line was served: with nothing written, and kept is where the line of
--- states stood; or the line was met, a front of its answer was written, and kept is what it leaves,
+-- states stood; or the line was met, a prefix of its answer was written, and kept is what it leaves,
 -- or else, with nothing written, where the line of states stood
 abbrev pub StopsLine : ServeFault → Keeping → EndsIn → Database → (here : Line) → OnceSaying
     → (written gained : Option (List ℕ)) → Type 0
@@ -92,7 +92,7 @@ EndsGatedOnce (Failed fault) filing As d what written gained reader writer keepe
     ⊎ StopsFrom fault filing As d what written gained)
 
 -- the same where transitions are made so: refused also for the first name that is to fail and is
--- no service's, and for its file only behind that
+-- no service's, and for its file only after that
 abbrev pub EndsOnceOn : SessionFault → Filing → Database → (workers : ℕ) → MakingAsk → OnceSaying →
     (written gained : Option (List ℕ)) → (reader writer keeper : Type 0) → Type 0
 EndsOnceOn (OfText fault) filing d workers making what written gained reader writer keeper = ⊥

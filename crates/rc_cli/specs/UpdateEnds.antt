@@ -3,8 +3,8 @@ use Rattle.std.specs.Prelude.{◌≡◌, ◌≢◌, ◌⊎◌, ℕ, Bool, List, 
 use Rattle.rc_graph.specs.declared.Way.{Way}
 use Rattle.rc_graph.specs.declared.Way.TheVariants.{Lower, Raise}
 use Rattle.clap.specs.Words.{Text as Path}
-use Rattle.rc_db.specs.Database.{Database}
-use Rattle.rc_line.specs.Line.{Line}
+use Rattle.rc_model.specs.Database.{Database}
+use Rattle.rc_model.specs.Line.{Line}
 use Rattle.rc_session.specs.Holding.{Holding}
 use Rattle.rc_streams.specs.Input.{AppendsFront, fault_line}
 use Rattle.rc_dbtext.specs.declared.fault.TextFault.{TextFault}
@@ -119,7 +119,7 @@ IsUnknownInBoth old new making word =
     × IsFirstUnknown new.names (listed_in (making_on Raise making)) word)
 
 -- the same where transitions are made so: refused also for a name that is to fail, and for its
--- file only behind that
+-- file only after that
 abbrev pub EndsUpdateOn : SessionFault → UpdateAsk → MakingAsk → LiveFile → (was is : Option (List ℕ))
     → (old new : Database) → (written gained : Option (List ℕ)) → (writer keeper : Type 0) → Type 0
 EndsUpdateOn (OfText fault) ask making file was is old new written gained writer keeper = ⊥

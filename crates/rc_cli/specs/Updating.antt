@@ -3,13 +3,13 @@ use Rattle.std.specs.Prelude.{◌≡◌, ◌≢◌, ◌⊎◌, ◌∷◌, ℕ, B
 use Rattle.rc_graph.specs.declared.Way.{Way}
 use Rattle.rc_graph.specs.declared.Way.TheVariants.{Lower, Raise}
 use Rattle.clap.specs.Words.{Text as Path}
-use Rattle.rc_set.specs.Set.{Has, Holds}
-use Rattle.rc_db.specs.Database.{Database}
-use Rattle.rc_line.specs.Line.{Line}
-use Rattle.rc_select.specs.Ask.{Ask}
-use Rattle.rc_select.specs.declared.request.Mode.{Mode}
-use Rattle.rc_select.specs.declared.request.Mode.TheVariants.{DownAll, Up}
-use Rattle.rc_session.specs.Commands.{Change}
+use Rattle.rc_model.specs.Names.{Has, Holds}
+use Rattle.rc_model.specs.Database.{Database}
+use Rattle.rc_model.specs.Line.{Line}
+use Rattle.rc_model.specs.Plan.{Ask}
+use Rattle.rc_model.specs.declared.Mode.{Mode}
+use Rattle.rc_model.specs.declared.Mode.TheVariants.{DownAll, Up}
+use Rattle.rc_model.specs.Session.{Change}
 use Rattle.rc_session.specs.Holding.{Holding}
 use Rattle.rc_script.specs.Says.{Saying, SaysDry, SaysStep}
 use Rattle.rc_serve.specs.declared.ending.Ending.{Ending}

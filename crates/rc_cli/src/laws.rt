@@ -1,13 +1,12 @@
 //! Laws of the definitions. The functions do nothing when they run.
 ghost use Rattle.std.specs.Prelude.{ℕ, List, Bool};
-ghost use Rattle.rc_set.specs.Set.{Has, Holds};
-ghost use Rattle.rc_graph.specs.Closure.{UpFrom};
-ghost use Rattle.rc_db.specs.Database.{Database, IsDatabase};
-ghost use Rattle.rc_line.specs.Line.{Line};
-ghost use Rattle.rc_select.specs.Ask.{IsPlanOf};
-ghost use Rattle.rc_select.specs.PlanSets.{PlanSets};
-ghost use Rattle.rc_select.specs.declared.request.Mode.TheVariants.{DownAll, Up};
-ghost use Rattle.rc_session.specs.Doing.{IsLineOf};
+ghost use Rattle.rc_model.specs.Names.{Has, Holds};
+ghost use Rattle.rc_model.specs.Graph.{UpFrom};
+ghost use Rattle.rc_model.specs.Database.{Database, IsDatabase};
+ghost use Rattle.rc_model.specs.Line.{Line};
+ghost use Rattle.rc_model.specs.Plan.{IsPlanOf, PlanSets};
+ghost use Rattle.rc_model.specs.declared.Mode.TheVariants.{DownAll, Up};
+ghost use Rattle.rc_model.specs.Session.{IsLineOf};
 ghost use Rattle.rc_select.specs.Carrying.{Carried, StaysUp};
 ghost use Rattle.rc_cli.specs.Updating.{IsUpdate, Parts, step_ask};
 

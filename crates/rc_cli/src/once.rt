@@ -33,7 +33,7 @@ const HINDERED: u8 = 2;
 /// it was carried out, and something failed, was blocked or was not tried; 111 for a failure.
 ///
 /// The database is `base`, where there is one, and then nothing is read; without one it stands at
-/// the front of the input. The answer is that of a session of this one line, and is written to
+/// the beginning of the input. The answer is that of a session of this one line, and is written to
 /// `writer`; why there is none is told to `faults`. The two devices must not have failed before.
 ///
 /// `live` is what stood in the file of `-l`, where one is named: the session goes on with its text.
@@ -92,7 +92,7 @@ pub fn once_as_asked<T: Threads + Wait + Sync, R: Read, W: Write, F: Write, S: S
 
     // A failure is told by its line, and as one of the reader, the writer or the file only where
     // that has failed. Nothing was written, and the store was left alone or holds where the session
-    // begins; or a front of the answer was written, and the store holds where the line leaves it.
+    // begins; or a prefix of the answer was written, and the store holds where the line leaves it.
     ensures failed { result ≡ 111 → TellsFault
         (bytes_of base.entry) (once_ask_of request.now) live.entry
         (S.holds (store_of keeper.old)) (S.holds (store_of keeper.new))
@@ -203,7 +203,7 @@ fn run_on_base<'a, T: Threads + Wait + Sync, R: Read, W: Write, S: Store>(
     run_on(rt, host, alloc, db, request, live, keeper, writer)
 }
 
-// Runs it on the database at the front of the input. What is behind that is not looked at.
+// Runs it on the database at the beginning of the input. What is after that is not looked at.
 fn run_on_input<'a, T: Threads + Wait + Sync, R: Read, W: Write, S: Store>(
     rt: &T,
     host: &HostRuntime,

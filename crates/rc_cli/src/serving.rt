@@ -4,7 +4,7 @@ ghost use Rattle.std.specs.Prelude.{◌≡◌, ◌≢◌, ◌≤◌, ◌⊎◌, 
 ghost use Rattle.std.specs.Io.KnownBytes.{Appends};
 ghost use Rattle.rc_board.specs.Crew.{IsCrew};
 ghost use Rattle.rc_streams.specs.Noting.{HasFailed, inner_of};
-ghost use Rattle.rc_session.specs.Commands.{Command, events_of};
+ghost use Rattle.rc_model.specs.Session.{Command, events_of};
 ghost use Rattle.rc_script.specs.Says.{SaysStep, saying_of};
 ghost use Rattle.rc_serve.specs.Ending.{ArrivesSaying, Ends, IsDoneAs};
 ghost use Rattle.rc_serve.specs.Faults.{IsServeFault};

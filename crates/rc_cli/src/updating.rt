@@ -2,8 +2,8 @@
 //! kept.
 ghost use Rattle.std.specs.Prelude.{◌≡◌, ◌≢◌, ◌≤◌, ◌<◌, ◌⊎◌, ◌^◌, ◌++◌, ◌∷◌, [], ℕ, List, None, Ok, false, length, map, string_bytes, IfErr, IfOk, OnOk};
 ghost use Rattle.rc_graph.specs.declared.Way.TheVariants.{Lower, Raise};
-ghost use Rattle.rc_graph.specs.Closure.{IsClosed};
-ghost use Rattle.rc_set.specs.Set.{Has};
+ghost use Rattle.rc_model.specs.Graph.{IsClosed};
+ghost use Rattle.rc_model.specs.Names.{Has};
 ghost use Rattle.rc_board.specs.Crew.{IsCrew};
 ghost use Rattle.rc_streams.specs.Noting.{HasFailed, inner_of};
 ghost use Rattle.rc_script.specs.Says.{saying_of};
@@ -190,7 +190,7 @@ fn failing_on<'a>(
     Ok(those)
 }
 
-// Puts a transition behind others, if it is of this way.
+// Appends a transition to others, if it is of this way.
 fn push_on<'a>(
     those: &mut Vec<Transition<'a>>,
     one: Transition<'a>,

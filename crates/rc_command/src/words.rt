@@ -40,7 +40,7 @@ pub fn is_on(matches: &ArgMatches<'_>, id: &str) -> bool
     }
 }
 
-/// Whether a parse ended for want of memory. Each other error tells of a wrong line.
+/// Whether a parse ended out of memory. Each other error tells of a wrong line.
 pub fn is_memory(error: &Error) -> bool
     ensures { IsTrue result ↔ (kind_of error.now ≡ ErrorKind.OutOfMemory) }
 {

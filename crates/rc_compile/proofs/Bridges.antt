@@ -3,8 +3,8 @@ use Rattle.std.proofs.Common.{◌≡◌, ◌≢◌, ◌∙◌, ◌⊎◌, inl, i
 use Rattle.std.specs.Str.{bytes_eq}
 use Rattle.std.proofs.lemmas.Option.{same_Some}
 use Rattle.std.proofs.lemmas.Slice.Eq.{bytes_eq-Decides}
-use Rattle.rc_names.specs.declared.kind.Kind.{Kind}
-use Rattle.rc_names.specs.declared.kind.Kind.TheVariants.{Oneshot, Longrun, Bundle}
+use Rattle.rc_model.specs.declared.Kind.{Kind}
+use Rattle.rc_model.specs.declared.Kind.TheVariants.{Oneshot, Longrun, Bundle}
 use Rattle.rc_source.specs.Meaning.{Meaning, AreMeanings}
 use Rattle.rc_source.proofs.Members.{Contains-cons_cases, Contains-there, Contains-here, Contains-nil}
 use Rattle.rc_holds.specs.Pipelines.{IsDefined, IsLongrun, WritesTo, ReadsFrom}

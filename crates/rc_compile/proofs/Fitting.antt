@@ -3,20 +3,19 @@ use Rattle.std.proofs.Common.{◌≡◌, ◌≢◌, ◌∙◌, ◌↔◌, ℕ, �
 use Rattle.std.specs.Option.{option_map}
 use Rattle.std.proofs.lemmas.Option.{slice_get-get_or, slice_get_within, same_Some}
 use Rattle.std.proofs.lemmas.List.Elements.{All-contains}
-use Rattle.rc_names.specs.declared.kind.Kind.TheVariants.{Oneshot, Longrun, Bundle}
-use Rattle.rc_names.specs.Names.{IsInByteOrder}
-use Rattle.rc_set.specs.Set.{Has}
-use Rattle.rc_db.specs.Service.{Service, IsScript, IsWritableService}
-use Rattle.rc_db.specs.Bundles.{Bundles, names_of, value_of, AreBelow}
-use Rattle.rc_db.specs.Database.{Database, IsKind, FitTogether, IsWritable}
-use Rattle.rc_db.proofs.Places.{all_places, contains_at as places_contain}
+use Rattle.rc_model.specs.declared.Kind.TheVariants.{Oneshot, Longrun, Bundle}
+use Rattle.rc_model.specs.Names.{IsInByteOrder, Has}
+use Rattle.rc_model.specs.Database.{Service, Bundles, names_of, value_of, HaveBound, Database, IsKind, FitTogether}
+use Rattle.rc_db.specs.Service.{IsScript, IsWritableService}
+use Rattle.rc_db.specs.Database.{IsWritable}
+use Rattle.rc_model.proofs.Places.{all_places, contains_at as places_contain}
 use Rattle.rc_source.specs.Texts.{IsScriptText}
 use Rattle.rc_source.specs.Meaning.{Meaning, IsMeaning, AreMeanings}
 use Rattle.rc_holds.specs.Pipelines.{IsDefined, IsService, IsLongrun, WritesTo}
 use Rattle.rc_holds.specs.Standing.{IsBundle, NeedsNamed, StandsFor}
 use Rattle.rc_holds.specs.Mirror.{Mirrors}
 use Rattle.rc_holds.proofs.Meanings.{only_one, longrun_is_service}
-use Rattle.rc_holds.proofs.Orders.{contains_at}
+use Rattle.rc_model.proofs.BundleOrders.{contains_at}
 use Rattle.rc_compile.specs.Compiled.{IsAsDefined, IsDatabaseOf}
 use Rattle.rc_compile.specs.Pipes.{HasTakenName, HasWrongType}
 use Rattle.rc_compile.specs.Placed.{AreAsDefined}
@@ -71,7 +70,7 @@ module _ (ms : List Meaning) (names : List (List ℕ)) (services : List Service)
       let is : IsService ms here.0.name = (is_service here.0.name).0 (contains_at names s here.0.name here.2) in
       only_one ms are (λ m. m.kind ≢ Bundle) here.0 here.1 is (sym here.3.kind ∙ bundle)
 
-  pub fits : AreBelow (length names) table → ((s : List ℕ) → HasTakenName ms s → ⊥) → FitTogether whole
+  pub fits : HaveBound (length names) table → ((s : List ℕ) → HasTakenName ms s → ⊥) → FitTogether whole
   fits bounds free = record {
     services = defined.long;
     graph = mirrors.few;

@@ -9,10 +9,11 @@ use Rattle.std.proofs.lemmas.Slice.Eq.{bytes_eq-Decides}
 use Rattle.std.specs.Str.{bytes_eq}
 use Rattle.std.specs.Cmp.{IsEquivalence}
 use Rattle.std.specs.Set.{is_member}
-use Rattle.rc_names.specs.Names.{Adds, AreNames, IsBefore}
-use Rattle.rc_names.specs.declared.kind.Kind.TheVariants.{Longrun, Bundle}
-use Rattle.rc_names.proofs.ByteOrder.{not_before_itself}
-use Rattle.rc_db.proofs.Places.{contains_at, place_of}
+use Rattle.rc_names.specs.Names.{Adds}
+use Rattle.rc_model.specs.Names.{AreNames, IsBefore}
+use Rattle.rc_model.specs.declared.Kind.TheVariants.{Longrun, Bundle}
+use Rattle.rc_model.proofs.ByteOrder.{not_before_itself}
+use Rattle.rc_model.proofs.Places.{contains_at, place_of}
 use Rattle.rc_source.specs.Meaning.{Meaning}
 use Rattle.rc_compile.specs.declared.tables.Which.{Which}
 use Rattle.rc_compile.specs.declared.tables.Which.TheVariants.{Services, Bundles}

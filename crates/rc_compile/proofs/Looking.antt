@@ -1,8 +1,8 @@
 -- What is looked up by lists of places.
 use Rattle.std.proofs.Common.{◌≡◌, ◌⊎◌, ◌↔◌, ⊎_elim, inl, inr, ℕ, List, [], Contains, Option, Some, None, sym, ap, subst}
 use Rattle.std.specs.Option.{option_to_list}
-use Rattle.rc_graph.specs.Needs.{Needs}
-use Rattle.rc_db.proofs.Places.{contains_at, place_of}
+use Rattle.rc_model.specs.Graph.{Needs}
+use Rattle.rc_model.proofs.Places.{contains_at, place_of}
 use Rattle.rc_source.specs.Meaning.{Meaning}
 use Rattle.rc_source.proofs.Members.{only, Contains-here, Contains-nil}
 use Rattle.rc_holds.specs.Mirror.{HasListed, Mirrors}

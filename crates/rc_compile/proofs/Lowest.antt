@@ -5,10 +5,10 @@ use Rattle.std.proofs.lemmas.Cmp.{nat_list_cmp_total}
 use Rattle.std.proofs.lemmas.Option.{slice_get_within}
 use Rattle.std.specs.Cmp.Lexicographic.{slice_cmp}
 use Rattle.std.specs.Ordering.{nat_cmp, is_lt}
-use Rattle.rc_names.specs.Names.{IsBefore}
-use Rattle.rc_names.proofs.ByteOrder.{not_before_itself}
+use Rattle.rc_model.specs.Names.{IsBefore}
+use Rattle.rc_model.proofs.ByteOrder.{not_before_itself}
 use Rattle.rc_db.proofs.Listing.{less_from}
-use Rattle.rc_db.proofs.Places.{contains_at, place_of}
+use Rattle.rc_model.proofs.Places.{contains_at, place_of}
 use Rattle.rc_holds.specs.Along.{IsLeast}
 
 -- none of the first so many names stands before the one at a place

@@ -1,10 +1,10 @@
 -- Needs of places are those of names.
 use Rattle.std.proofs.Common.{◌≡◌, ◌<◌, ◌⊎◌, ◌↔◌, ⊎_elim, inl, inr, ℕ, Bool, List, [], ◌∷◌, ◌++◌, length, get_or, slice_get, Contains, Some, refl, subst}
 use Rattle.std.proofs.lemmas.Option.{slice_get-get_or, slice_get_within}
-use Rattle.rc_set.specs.Set.{Has}
-use Rattle.rc_set.proofs.Members.{has_within}
-use Rattle.rc_graph.specs.Needs.{Needs}
-use Rattle.rc_db.proofs.Places.{contains_at, place_of}
+use Rattle.rc_model.specs.Names.{Has}
+use Rattle.rc_model.proofs.SetMembers.{has_within}
+use Rattle.rc_model.specs.Graph.{Needs}
+use Rattle.rc_model.proofs.Places.{contains_at, place_of}
 use Rattle.rc_source.specs.Meaning.{Meaning, AreMeanings}
 use Rattle.rc_holds.specs.Along.{EachNext}
 use Rattle.rc_holds.specs.Mirror.{AreAt, HasListed, Mirrors}

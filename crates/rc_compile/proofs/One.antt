@@ -2,23 +2,20 @@
 use Rattle.std.proofs.Common.{◌≡◌, ◌∙◌, ◌<◌, inl, inr, ℕ, suc, Bool, true, false, List, [], ◌∷◌, length, get_or, slice_get, Contains, Option, Some, None, refl, sym, ap, subst, arith}
 use Rattle.std.specs.Option.{option_map}
 use Rattle.std.proofs.lemmas.Option.{slice_get-get_or, same_Some}
-use Rattle.rc_names.specs.Names.{IsInByteOrder}
-use Rattle.rc_set.specs.Set.{Has, IsAscending}
-use Rattle.rc_set.proofs.Members.{has_within}
-use Rattle.rc_graph.specs.Needs.{Needs}
+use Rattle.rc_model.specs.Names.{IsInByteOrder, Has, IsAscending}
+use Rattle.rc_model.proofs.SetMembers.{has_within}
+use Rattle.rc_model.specs.Graph.{Needs}
 use Rattle.rc_graph.proofs.RowLemmas.{needer_known}
-use Rattle.rc_db.specs.Service.{Service}
-use Rattle.rc_db.specs.Bundles.{names_of, value_of}
-use Rattle.rc_db.specs.Database.{Database, IsDatabase}
-use Rattle.rc_db.proofs.Tables.{same_table}
+use Rattle.rc_model.specs.Database.{Service, names_of, value_of, Database, IsDatabase}
+use Rattle.rc_model.proofs.Tables.{same_table}
 use Rattle.rc_db.proofs.Values.{named_by_value}
 use Rattle.rc_db.proofs.Words.{bound_of_value, value_of-named}
 use Rattle.rc_source.specs.Meaning.{Meaning, ListsNames}
 use Rattle.rc_source.proofs.Members.{Contains-cons_cases, Contains-there, Contains-here, Contains-nil}
-use Rattle.rc_names.proofs.ByteOrder.{same_names}
+use Rattle.rc_model.proofs.ByteOrder.{same_names}
 use Rattle.rc_holds.specs.Pipelines.{IsService}
 use Rattle.rc_holds.specs.Standing.{IsBundle}
-use Rattle.rc_holds.proofs.Orders.{contains_at, one_place}
+use Rattle.rc_model.proofs.BundleOrders.{contains_at, one_place}
 use Rattle.rc_compile.specs.Compiled.{IsAsDefined, IsDatabaseOf}
 
 -- lists with the same elements at all places are one

@@ -2,7 +2,7 @@
 use Rattle.std.proofs.Common.{◌≡◌, ◌+◌, ◌<◌, ◌≤◌, ⊎_elim, ℕ, Bool, true, false, not, List, length, get_or, slice_get, Contains, Some, refl, subst, arith}
 use Rattle.std.proofs.lemmas.Bool.{cases_lt}
 use Rattle.std.proofs.lemmas.Option.{slice_get_read, slice_get_within}
-use Rattle.rc_db.proofs.Places.{place_of}
+use Rattle.rc_model.proofs.Places.{place_of}
 
 module _ {X : Type 0} where
   -- what was read stands there

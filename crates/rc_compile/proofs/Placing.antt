@@ -4,13 +4,13 @@ use Rattle.std.proofs.lemmas.Bool.{cases_lt, cases_eq}
 use Rattle.std.proofs.lemmas.List.{get_or-set_same, get_or-set_other, length-set, length_push, get_or_append_left, get_or_push, length-map, get_or-map}
 use Rattle.std.proofs.lemmas.List.Elements.{All-contains}
 use Rattle.std.proofs.lemmas.Option.{slice_get-get_or, slice_get_within, get_or_from_slice_get, same_Some}
-use Rattle.rc_names.specs.Names.{IsInByteOrder}
-use Rattle.rc_db.specs.Service.{Service}
-use Rattle.rc_db.proofs.Places.{place_of, contains_at}
+use Rattle.rc_model.specs.Names.{IsInByteOrder}
+use Rattle.rc_model.specs.Database.{Service}
+use Rattle.rc_model.proofs.Places.{place_of, contains_at}
 use Rattle.rc_source.specs.Meaning.{Meaning}
 use Rattle.rc_source.specs.Said.{meaning_of}
 use Rattle.rc_source.specs.declared.definition.Definition.{Definition}
-use Rattle.rc_holds.proofs.Orders.{one_place}
+use Rattle.rc_model.proofs.BundleOrders.{one_place}
 use Rattle.rc_compile.specs.Compiled.{IsAsDefined}
 use Rattle.rc_compile.specs.Placed.{ArePlacesOf, AreAsDefined}
 

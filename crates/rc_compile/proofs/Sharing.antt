@@ -2,10 +2,9 @@
 use Rattle.std.proofs.Common.{◌≡◌, ◌+◌, ◌<◌, ◌≤◌, ◌⊎◌, ◌↔◌, ⊎_elim, inl, inr, ℕ, Bool, List, length, slice_get, Contains, Some, sym, subst, arith}
 use Rattle.std.proofs.lemmas.Bool.{cases_lt}
 use Rattle.std.proofs.lemmas.Option.{slice_get_within}
-use Rattle.rc_names.specs.Names.{IsInByteOrder}
-use Rattle.rc_set.specs.Set.{Has, Holds}
-use Rattle.rc_names.proofs.ByteOrder.{one_place}
-use Rattle.rc_db.proofs.Places.{contains_at, place_of}
+use Rattle.rc_model.specs.Names.{IsInByteOrder, Has, Holds}
+use Rattle.rc_model.proofs.ByteOrder.{one_place}
+use Rattle.rc_model.proofs.Places.{contains_at, place_of}
 use Rattle.rc_source.specs.Meaning.{Meaning}
 use Rattle.rc_holds.specs.Standing.{IsBundle}
 use Rattle.rc_compile.specs.declared.tables.Which.TheVariants.{Bundles}

@@ -2,9 +2,9 @@
 use Rattle.std.proofs.Common.{◌≡◌, ◌≢◌, ◌∙◌, ◌<◌, ◌⊎◌, ◌↔◌, ⊎_elim, inl, inr, ℕ, List, slice_get, Contains, Some, refl, sym, ap, subst, arith}
 use Rattle.std.proofs.lemmas.Bool.{cases_lt}
 use Rattle.std.proofs.lemmas.Option.{same_Some}
-use Rattle.rc_names.specs.declared.kind.Kind.TheVariants.{Longrun, Bundle}
+use Rattle.rc_model.specs.declared.Kind.TheVariants.{Longrun, Bundle}
 use Rattle.rc_holds.specs.Rows.{rows}
-use Rattle.rc_db.proofs.Places.{contains_at, place_of}
+use Rattle.rc_model.proofs.Places.{contains_at, place_of}
 use Rattle.rc_source.specs.Meaning.{Meaning, AreMeanings}
 use Rattle.rc_holds.specs.Along.{IsLeast}
 use Rattle.rc_holds.specs.Pipelines.{IsService, IsLongrun, WritesTo, ReadsFrom, NamesPipeline}

@@ -6,15 +6,14 @@ use Rattle.std.proofs.lemmas.List.{length-map, length-take, get_or-take, take_mo
 use Rattle.std.proofs.lemmas.List.Elements.{Contains-push, Contains-push_cases, Contains-append_left, All-cons, All-nil, All-contains}
 use Rattle.std.proofs.lemmas.Option.{get_or_from_slice_get, same_Some, slice_get_within}
 use Rattle.std.proofs.lemmas.Slice.Eq.{bytes_eq-Decides}
-use Rattle.rc_names.specs.Names.{IsBefore, IsInByteOrder}
-use Rattle.rc_db.specs.Bundles.{Bundles, names_of, value_of, AreBelow, IsChangedAt, IsTable}
+use Rattle.rc_model.specs.Names.{IsBefore, IsInByteOrder, Has}
+use Rattle.rc_model.specs.Database.{Bundles, names_of, value_of, HaveBound, IsChangedAt, IsTable}
 use Rattle.rc_db.proofs.Words.{value_of-named}
 use Rattle.rc_db.proofs.Values.{named_by_value}
-use Rattle.rc_names.proofs.ByteOrder.{order_head, order_tail, same_names}
-use Rattle.rc_set.specs.Set.{Has}
+use Rattle.rc_model.proofs.ByteOrder.{order_head, order_tail, same_names}
 use Rattle.rc_holds.specs.Joining.{AllWithin}
 use Rattle.rc_holds.specs.Sets.{AreSetsOf}
-use Rattle.rc_holds.proofs.Orders.{one_place, place_of, irreflexive}
+use Rattle.rc_model.proofs.BundleOrders.{one_place, place_of, irreflexive}
 use Rattle.rc_compile.proofs.Bridges.{same_or_other}
 
 -- the names of a table in which one name was given a set
@@ -81,7 +80,7 @@ filled_more names sets k old new name set up filled low at is changed table =
     }
 
 -- all sets of a table have a bound that all its values have
-below_by_values : (bound : ℕ) (table : Bundles) → IsInByteOrder (names_of table) → ((name : List ℕ) (value : List Bool) → value_of table name ≡ Some value → length value ≡ bound) → AreBelow bound table
+below_by_values : (bound : ℕ) (table : Bundles) → IsInByteOrder (names_of table) → ((name : List ℕ) (value : List Bool) → value_of table name ≡ Some value → length value ≡ bound) → HaveBound bound table
 below_by_values bound [] up each = All-nil (λ (bundle : List ℕ × List Bool). length bundle.1 ≡ bound)
 below_by_values bound (bundle ∷ rest) up each =
     All-cons (λ (b : List ℕ × List Bool). length b.1 ≡ bound) bundle rest
@@ -97,7 +96,7 @@ below_by_values bound (bundle ∷ rest) up each =
 
 -- the sets of a filled table have the bound of all sets
 pub filled_below : (names : List (List ℕ)) (sets : List (List Bool)) (k : ℕ) (table : Bundles) → IsInByteOrder names → IsFilled names sets k table → length names ≤ k → length sets ≡ length names
-    → (bound : ℕ) → AllWithin bound sets → AreBelow bound table
+    → (bound : ℕ) → AllWithin bound sets → HaveBound bound table
 filled_below names sets k table up filled past long bound within =
     let same : names_of table ≡ names = filled.named ∙ take_all k names past in
     below_by_values bound table (subst IsInByteOrder (sym same) up) (λ name value found.

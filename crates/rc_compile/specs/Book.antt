@@ -1,7 +1,7 @@
 use Rattle.std.specs.Prelude.{◌≡◌, ◌<◌, ◌↔◌, ◌⊎◌, ℕ, Bool, List, length, Contains, Some, slice_get}
-use Rattle.rc_names.specs.declared.kind.Kind.TheVariants.{Longrun}
-use Rattle.rc_set.specs.Set.{Has, Holds}
-use Rattle.rc_graph.specs.Needs.{Needs}
+use Rattle.rc_model.specs.declared.Kind.TheVariants.{Longrun}
+use Rattle.rc_model.specs.Names.{Has, Holds}
+use Rattle.rc_model.specs.Graph.{Needs}
 use Rattle.rc_holds.specs.Rows.{rows}
 use Rattle.rc_source.specs.Meaning.{Meaning}
 use Rattle.rc_holds.specs.Pipelines.{IsService, WritesTo, NamesPipeline}

@@ -1,9 +1,7 @@
 use Rattle.std.specs.Prelude.{◌≡◌, ◌↔◌, ℕ, Bool, List, Contains, Some, slice_get, option_map}
-use Rattle.rc_set.specs.Set.{Has}
-use Rattle.rc_graph.specs.Needs.{Needs}
-use Rattle.rc_db.specs.Service.{Service}
-use Rattle.rc_db.specs.Bundles.{names_of, value_of}
-use Rattle.rc_db.specs.Database.{Database}
+use Rattle.rc_model.specs.Names.{Has}
+use Rattle.rc_model.specs.Graph.{Needs}
+use Rattle.rc_model.specs.Database.{Service, names_of, value_of, Database}
 use Rattle.rc_source.specs.Meaning.{Meaning, ListsNames}
 use Rattle.rc_holds.specs.Pipelines.{IsService}
 use Rattle.rc_holds.specs.Standing.{IsBundle, StandsFor, NeedsNamed}

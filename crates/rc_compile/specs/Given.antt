@@ -1,5 +1,5 @@
 use Rattle.std.specs.Prelude.{◌≡◌, ◌≢◌, ◌≤◌, ◌⊎◌, ℕ, List, length, Contains}
-use Rattle.rc_names.specs.declared.kind.Kind.TheVariants.{Bundle}
+use Rattle.rc_model.specs.declared.Kind.TheVariants.{Bundle}
 use Rattle.rc_source.specs.Meaning.{Meaning}
 use Rattle.rc_holds.specs.Pipelines.{IsService, NamesPipeline}
 use Rattle.rc_holds.specs.Standing.{IsBundle}

@@ -1,5 +1,5 @@
 use Rattle.std.specs.Prelude.{◌≡◌, ℕ, List, length, slice_index, slice_get, Some, Contains}
-use Rattle.rc_db.specs.Service.{Service}
+use Rattle.rc_model.specs.Database.{Service}
 use Rattle.rc_source.specs.Meaning.{Meaning}
 use Rattle.rc_compile.specs.Compiled.{IsAsDefined}
 

@@ -1,7 +1,7 @@
 // The database of parts that definitions gave.
 ghost use Rattle.std.specs.Prelude.{◌≡◌, ◌↔◌, ℕ, Bool, List, length, map, Contains, Some, slice_get};
-ghost use Rattle.rc_set.specs.Set.{Has};
-ghost use Rattle.rc_db.specs.Bundles.{AreBelow, names_of, value_of};
+ghost use Rattle.rc_model.specs.Names.{Has};
+ghost use Rattle.rc_model.specs.Database.{HaveBound, names_of, value_of};
 ghost use Rattle.rc_db.specs.Database.{IsWritable};
 ghost use Rattle.rc_source.specs.Meaning.{AreMeanings};
 ghost use Rattle.rc_source.specs.Said.{meaning_of};
@@ -31,7 +31,7 @@ pub(crate) fn join(
     requires services { AreAsDefined (map meaning_of definitions.now) names services.items }
     requires graph { Mirrors (NeedsNamed (map meaning_of definitions.now)) names names graph }
     requires table { (name : List ℕ) → Contains (names_of table) name ↔ IsBundle (map meaning_of definitions.now) name }
-    requires bounds { AreBelow (length names) table }
+    requires bounds { HaveBound (length names) table }
     requires sets { (name a : List ℕ) (set : List Bool) (s : ℕ) → value_of table name ≡ Some set → slice_get names s ≡ Some a → Has set s ↔ StandsFor (map meaning_of definitions.now) name a }
     requires types { (s : List ℕ) → HasWrongType (map meaning_of definitions.now) s → ⊥ }
     requires taken { (s : List ℕ) → HasTakenName (map meaning_of definitions.now) s → ⊥ }

@@ -2,7 +2,7 @@
 
 ghost use Rattle.std.specs.Prelude.{◌≡◌, ℕ, List, Contains};
 ghost use Rattle.rc_source.specs.Meaning.{Meaning};
-ghost use Rattle.rc_db.specs.Database.{Database, IsDatabase};
+ghost use Rattle.rc_model.specs.Database.{Database, IsDatabase};
 ghost use Rattle.rc_compile.specs.declared.CompileFault.{CompileFault};
 ghost use Rattle.rc_holds.specs.Along.{IsShownCycle};
 ghost use Rattle.rc_holds.specs.Pipelines.{IsDefined, IsService, IsLongrun, WritesTo, InPipelineOf};
@@ -10,7 +10,7 @@ ghost use Rattle.rc_holds.specs.Standing.{HoldsName, StandsFor, NeedsNamed};
 ghost use Rattle.rc_compile.specs.Compiled.{IsDatabaseOf};
 ghost use Rattle.rc_compile.specs.CompileFaults.{HaveNoFlaw, IsCompileFault};
 
-/// Definitions without a flaw are refused for want of memory alone.
+/// Definitions without a flaw are refused as out of memory alone.
 pub fn what_compiles_is_not_refused()
     ensures { (ms : List Meaning) (fault : CompileFault) → HaveNoFlaw ms → IsCompileFault ms fault → fault ≡ CompileFault.Memory }
 {}

@@ -1,6 +1,6 @@
 // What is wrong with the pipes of a definition.
 ghost use Rattle.std.specs.Prelude.{◌≡◌, ◌≤◌, ◌<◌, ◌↔◌, ◌⊎◌, ℕ, List, length, map, Contains, Some, IsTrue, IfOk, slice_get};
-ghost use Rattle.rc_set.specs.Set.{Has, Holds};
+ghost use Rattle.rc_model.specs.Names.{Has, Holds};
 ghost use Rattle.rc_holds.specs.Rows.{rows};
 ghost use Rattle.rc_source.specs.Meaning.{Meaning};
 ghost use Rattle.rc_source.specs.Said.{meaning_of};

@@ -1,7 +1,7 @@
 // The bundles with their sets.
 ghost use Rattle.std.specs.Prelude.{◌≡◌, ◌<◌, ◌≤◌, ℕ, List, Bool, [], length, All, Some, IfOk, OnOk, slice_get, slice_index_or};
 ghost use Rattle.rc_holds.specs.Joining.{AllWithin};
-ghost use Rattle.rc_db.specs.Bundles.{AreBelow, IsChangedAt, IsTable, names_of, value_of};
+ghost use Rattle.rc_model.specs.Database.{HaveBound, IsChangedAt, IsTable, names_of, value_of};
 
 use rc_db::Table;
 use rc_names::{Name, Names};
@@ -13,7 +13,7 @@ pub(crate) fn table_of(alloc: Global, names: &Names, sets: &[Set]) -> Result<Tab
     requires { length sets.now ≡ length names.now }
     ensures names { IfOk result (λ table. names_of table ≡ names.now) }
     ensures sets { IfOk result (λ table. (b : ℕ) (name : List ℕ) → slice_get names.now b ≡ Some name → value_of table name ≡ Some (slice_index_or sets.now b [])) }
-    ensures bounds { IfOk result (λ table. (bound : ℕ) → AllWithin bound sets.now → AreBelow bound table) }
+    ensures bounds { IfOk result (λ table. (bound : ℕ) → AllWithin bound sets.now → HaveBound bound table) }
 {
     let mut table = Table::new(alloc);
     for place in 0..names.len() {

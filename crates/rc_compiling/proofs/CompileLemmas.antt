@@ -1,7 +1,7 @@
 -- What is told of a device that failed.
 use Rattle.std.proofs.Common.{◌⊎◌, ℕ, List, Option, inl, inr, subst}
 use Rattle.rc_source.specs.Tree.{Source}
-use Rattle.rc_source.specs.Tests.{SomeFailed, carried}
+use Rattle.rc_source.specs.Tests.{SomeFailed, name_carried}
 use Rattle.rc_source.specs.declared.fault.Flaw.{Flaw}
 use Rattle.rc_compiling.specs.declared.compile_faults.TreesFault.{TreesFault}
 use Rattle.rc_compiling.specs.declared.compile_faults.TreesFault.TheVariants.{Source as OfSource, Definitions, Memory}
@@ -15,10 +15,10 @@ pub device_told : (held : List (Option Source)) (before after : List ℕ) (unwri
     → TellsDevice held before after old new ⊎ TellsWant unwritten old new
 device_told held before after unwritten fault old new stops failed (inr want) = inr (inr want)
 device_told held before after unwritten (OfSource fault) old new stops failed (inl line) = inl (
-  carried fault,
-  subst (λ (flaw : Flaw). StopsReading held flaw (carried fault)) line.0 (stops (λ memory. let none : ⊥ = cc in none)),
+  name_carried fault,
+  subst (λ (flaw : Flaw). StopsReading held flaw (name_carried fault)) line.0 (stops (λ memory. let none : ⊥ = cc in none)),
   failed line.0,
-  subst (λ (flaw : Flaw). AppendsFront old new (fault_line (flaw_text flaw (carried fault)))) line.0 line.1,
+  subst (λ (flaw : Flaw). AppendsFront old new (fault_line (flaw_text flaw (name_carried fault)))) line.0 line.1,
 )
 device_told held before after unwritten (Definitions fault) old new stops failed (inl line) = absurd line.0
 device_told held before after unwritten Memory old new stops failed (inl line) = absurd line.0

@@ -37,14 +37,14 @@ pub fn compile_run<T: Tree, W: Write, F: Write>(
         (W.contents (inner_of writer.old)) (W.contents (inner_of writer.new)) }
     ensures untold { result ≡ 0 → F.contents faults.new ≡ F.contents faults.old }
 
-    // A refusal holds, and a front of its line was told, or all of it. Nothing was written.
+    // A refusal holds, and a prefix of its line was told, or all of it. Nothing was written.
     ensures refused { result ≡ 1 → TellsRefusal (map T.held trees.old) (F.contents faults.old)
         (F.contents faults.new) }
     ensures unwritten { result ≡ 1 → W.contents (inner_of writer.new)
         ≡ W.contents (inner_of writer.old) }
 
     // A device that failed is told with its entry, a writer that failed as that, and else that
-    // memory ran out; what was written is nothing or a front of the text.
+    // memory ran out; what was written is nothing or a prefix of the text.
     ensures failed { result ≡ 111 → TellsDevice (map T.held trees.old) (map T.failed trees.old)
         (map T.failed trees.new) (F.contents faults.old) (F.contents faults.new)
         ⊎ TellsWant (HasFailed writer.new) (F.contents faults.old) (F.contents faults.new) }

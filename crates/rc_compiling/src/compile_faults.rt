@@ -1,6 +1,6 @@
 //! Why `compile` writes nothing, and how that is told.
 ghost use Rattle.std.specs.Prelude.{◌≡◌, ◌⊎◌, ◌∷◌, [], ◌++◌, IfOk, OnOk};
-ghost use Rattle.rc_compiling.specs.CompileRefusals.{IsDeviceFault, IsRefusal, compile_text, flaw_text, flaw_word, told, trees_text};
+ghost use Rattle.rc_compiling.specs.CompileRefusals.{IsDeviceFault, IsRefusal, compile_text, flaw_text, flaw_word, word_with_names, trees_text};
 ghost use Rattle.rc_streams.specs.Input.{AppendsFront, failure_text, fault_line};
 
 use rc_compile::CompileFault;
@@ -121,18 +121,18 @@ fn compile_text(alloc: Global, fault: &CompileFault) -> Result<Vec<u8>, NoMem>
     }
 }
 
-/// A word with a name behind it.
+/// A word with a name after it.
 fn told_one(alloc: Global, word: &[u8], name: &Name) -> Result<Vec<u8>, NoMem>
-    ensures { IfOk result (λ text. text.items ≡ told word.now (name.now ∷ [])) }
+    ensures { IfOk result (λ text. text.items ≡ word_with_names word.now (name.now ∷ [])) }
 {
     let mut text = Vec::from_slice(alloc, word)?;
     add_word(&mut text, name.text())?;
     Ok(text)
 }
 
-/// A word with two names behind it.
+/// A word with two names after it.
 fn told_two(alloc: Global, word: &[u8], first: &Name, second: &Name) -> Result<Vec<u8>, NoMem>
-    ensures { IfOk result (λ text. text.items ≡ told word.now (first.now ∷ second.now ∷ [])) }
+    ensures { IfOk result (λ text. text.items ≡ word_with_names word.now (first.now ∷ second.now ∷ [])) }
 {
     let mut text = Vec::from_slice(alloc, word)?;
     add_word(&mut text, first.text())?;
@@ -140,9 +140,9 @@ fn told_two(alloc: Global, word: &[u8], first: &Name, second: &Name) -> Result<V
     Ok(text)
 }
 
-/// A word with names behind it.
+/// A word with names after it.
 fn told_all(alloc: Global, word: &[u8], names: &[Name]) -> Result<Vec<u8>, NoMem>
-    ensures { IfOk result (λ text. text.items ≡ told word.now names.now) }
+    ensures { IfOk result (λ text. text.items ≡ word_with_names word.now names.now) }
 {
     let mut text = Vec::from_slice(alloc, word)?;
     for name in names {
@@ -151,7 +151,7 @@ fn told_all(alloc: Global, word: &[u8], names: &[Name]) -> Result<Vec<u8>, NoMem
     Ok(text)
 }
 
-/// Puts a space and a word behind a text.
+/// Appends a space and a word to a text.
 fn add_word(text: &mut Vec<u8>, word: &str) -> Result<(), NoMem>
     ensures { OnOk result (text.new.items ≡ text.old.items ++ 32 ∷ word.now) }
 {

@@ -8,14 +8,14 @@ use Rattle.std.proofs.lemmas.List.Quantifiers.{all_pairs_push, all_pairs_remove}
 use Rattle.std.proofs.lemmas.List.Sums.{count_by-le-length, sum_by-cons}
 use Rattle.std.proofs.lemmas.Map.Keys.{IsDistinct-from_apart}
 use Rattle.std.proofs.lemmas.Map.Steps.{length-le_from_distinct_below}
-use Rattle.rc_set.specs.Set.{Has, IsAscending}
+use Rattle.rc_model.specs.Names.{Has, IsAscending}
 use Rattle.rc_graph.specs.Order.{AreDistinct}
 use Rattle.rc_graph.specs.Placing.{Meets}
 use Rattle.rc_graph.proofs.Orders.{none_met, last_met, more_met, distinct_ascending, not_before}
 use Rattle.rc_graph.proofs.PairLemmas.{no_member}
 use Rattle.rc_graph.proofs.Unmet.{contains_any}
 use Rattle.rc_core.specs.declared.ready.Ready.{Ready}
-use Rattle.rc_set.proofs.Members.{has_within}
+use Rattle.rc_model.proofs.SetMembers.{has_within}
 use Rattle.rc_core.specs.Ready.{IsCount, HasQueue, Arrives, TakesOut, QueuesFrom}
 use Rattle.rc_core.proofs.Counted.{distinct_both, removed}
 
@@ -299,7 +299,7 @@ all_in (false ∷ set) full s low =
 pub each_listed : (P : ℕ → Type 0) (list : List ℕ) → All P list → (s : ℕ) → Contains list s → P s
 each_listed P list all s (j, low, is) = subst P is (all j s low)
 
--- a count at each service below a bound, with one more behind
+-- a count at each service below a bound, with one more after
 pub one_more_count : (P : ℕ → ℕ → Type 0) (waits more : List ℕ) (k n : ℕ) → length waits ≡ k
     → more ≡ waits ++ n ∷ [] → ((s : ℕ) → s < k → P s (slice_index waits s)) → P k n → (s : ℕ)
     → s < k + 1 → P s (slice_index more s)

@@ -12,7 +12,7 @@ use Rattle.rc_graph.specs.Order.{AreDistinct}
 use Rattle.rc_graph.proofs.Orders.{distinct_ascending, not_before}
 use Rattle.rc_core.specs.Ready.{IsCount}
 
--- none of distinct services stands behind itself
+-- none of distinct services stands after itself
 not_behind : (xs : List ℕ) (k : ℕ) → AreDistinct xs → k < length xs
     → Contains (drop (suc k) xs) (slice_index xs k) → ⊥
 not_behind xs k once within (j, low, is) =

@@ -1,20 +1,17 @@
 -- What a service still waits for, and how events change it.
 use Rattle.std.proofs.Common.{◌≡◌, ◌≢◌, ◌∙◌, ◌⊎◌, ◌↔◌, ℕ, List, [], ◌∷◌, ◌++◌, true, false, Contains, inl, inr, refl, ap, sym, subst}
 use Rattle.std.proofs.lemmas.Bool.{cases_eq}
-use Rattle.rc_set.specs.Set.{Has}
-use Rattle.rc_graph.specs.Needs.{Needs}
-use Rattle.rc_core.specs.declared.standing.Standing.{Standing}
-use Rattle.rc_core.specs.declared.standing.Standing.TheVariants.{Down, Rising, Up, Sinking}
-use Rattle.rc_core.specs.declared.event.Outcome.{Outcome}
-use Rattle.rc_core.specs.declared.event.Event.{Event}
-use Rattle.rc_core.specs.declared.event.Event.TheVariants.{Take, Done}
-use Rattle.rc_core.specs.Course.{Course, IsPlanned, IsCourse}
-use Rattle.rc_core.specs.Standing.{is_success, taken, standing_of}
-use Rattle.rc_core.specs.Events.{WasTaken, IsHeldBy}
-use Rattle.rc_core.specs.Legal.{CanMove, IsRun}
+use Rattle.rc_model.specs.Names.{Has}
+use Rattle.rc_model.specs.Graph.{Needs}
+use Rattle.rc_model.specs.declared.Standing.{Standing}
+use Rattle.rc_model.specs.declared.Standing.TheVariants.{Down, Rising, Up, Sinking}
+use Rattle.rc_model.specs.declared.Outcome.{Outcome}
+use Rattle.rc_model.specs.declared.Event.{Event}
+use Rattle.rc_model.specs.declared.Event.TheVariants.{Take, Done}
+use Rattle.rc_model.specs.Run.{Course, IsPlanned, IsCourse, is_success, after_take, standing_of, WasTaken, IsHeldBy, CanMove, IsRun}
 use Rattle.rc_core.specs.Ready.{IsMissing, IsNext}
-use Rattle.rc_core.proofs.RunLemmas.{taken_was_planned, done_was_taken}
-use Rattle.rc_core.proofs.StandingLemmas.{standing_take_here, standing_take_other, standing_done_here, standing_done_other, standing_first_up, standing_first_down}
+use Rattle.rc_model.proofs.RunLemmas.{taken_was_planned, done_was_taken}
+use Rattle.rc_model.proofs.StandingLemmas.{standing_take_here, standing_take_other, standing_done_here, standing_done_other, standing_first_up, standing_first_down}
 use Rattle.rc_core.proofs.Stories.{story_of}
 use Rattle.rc_core.proofs.Places.{move_is_left}
 
@@ -44,7 +41,7 @@ fresh_stands c events s run fresh = elim (story_of c events s run) [
 ]
 
 held_stands : (c : Course) (events : List Event) (w s : ℕ) → IsRun c events → IsHeldBy events w s
-    → standing_of c events s ≡ taken (standing_of c [] s)
+    → standing_of c events s ≡ after_take (standing_of c [] s)
 held_stands c events w s run held = elim (story_of c events s run) [
   | inl stayed ↦ absurd (stayed.fresh (w, held.0))
   | inr (inl out) ↦ out.stands
@@ -57,12 +54,12 @@ held_stands c events w s run held = elim (story_of c events s run) [
 held_rising : (c : Course) (events : List Event) (w s : ℕ) → IsCourse c → IsRun c events
     → IsHeldBy events w s → Has c.raise s → standing_of c events s ≡ Rising
 held_rising c events w s course run held raise =
-    held_stands c events w s run held ∙ ap taken (standing_first_down c s (course.rises s raise))
+    held_stands c events w s run held ∙ ap after_take (standing_first_down c s (course.rises s raise))
 
 held_sinking : (c : Course) (events : List Event) (w s : ℕ) → IsCourse c → IsRun c events
     → IsHeldBy events w s → Has c.lower s → standing_of c events s ≡ Sinking
 held_sinking c events w s course run held lower =
-    held_stands c events w s run held ∙ ap taken (standing_first_up c s (course.falls s lower))
+    held_stands c events w s run held ∙ ap after_take (standing_first_up c s (course.falls s lower))
 
 -- what is missing is the same after an event that brings nothing up and nothing down
 pub missing_kept : (c : Course) (old new : List Event) → IsCourse c
@@ -149,14 +146,14 @@ missing_after_take c events w x course run move =
     let down : standing_of c events x ≡ Down =
     first ∙ standing_first_down c x (course.rises x raise) in
     let now : standing_of c (events ++ Take w x ∷ []) x ≡ Rising =
-    standing_take_here c events w x ∙ ap taken down in (
+    standing_take_here c events w x ∙ ap after_take down in (
       λ up. (let bad : Down ≡ Up = sym down ∙ up in cc),
       λ up. (let bad : Rising ≡ Up = sym now ∙ up in cc),
     ))
     (λ lower.
     let up : standing_of c events x ≡ Up = first ∙ standing_first_up c x (course.falls x lower) in
     let now : standing_of c (events ++ Take w x ∷ []) x ≡ Sinking =
-    standing_take_here c events w x ∙ ap taken up in (
+    standing_take_here c events w x ∙ ap after_take up in (
       λ down. (let bad : Up ≡ Down = sym up ∙ down in cc),
       λ down. (let bad : Sinking ≡ Down = sym now ∙ down in cc),
     ))

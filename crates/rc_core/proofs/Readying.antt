@@ -4,24 +4,21 @@ use Rattle.std.specs.Global.{Vec}
 use Rattle.std.proofs.lemmas.Bool.{cases_lt, false_from_ne_true}
 use Rattle.std.proofs.lemmas.List.{get_or_past}
 use Rattle.std.proofs.lemmas.List.Elements.{Contains-append_left, Contains-append_right, Contains-append_cases}
-use Rattle.rc_set.specs.Set.{Has}
-use Rattle.rc_set.proofs.Members.{has_or_lacks, is_set_or_not}
+use Rattle.rc_model.specs.Names.{Has}
+use Rattle.rc_model.proofs.SetMembers.{has_or_lacks, is_set_or_not}
 use Rattle.rc_graph.specs.Order.{AreDistinct}
 use Rattle.rc_graph.proofs.Unmet.{contains_or_lacks}
-use Rattle.rc_core.specs.declared.standing.Standing.TheVariants.{Down, Up}
-use Rattle.rc_core.specs.declared.event.Outcome.{Outcome}
-use Rattle.rc_core.specs.declared.event.Event.{Event}
-use Rattle.rc_core.specs.declared.event.Event.TheVariants.{Take, Done, Stop}
+use Rattle.rc_model.specs.declared.Standing.TheVariants.{Down, Up}
+use Rattle.rc_model.specs.declared.Outcome.{Outcome}
+use Rattle.rc_model.specs.declared.Event.{Event}
+use Rattle.rc_model.specs.declared.Event.TheVariants.{Take, Done, Stop}
 use Rattle.rc_core.specs.declared.ready.Ready.{Ready}
-use Rattle.rc_core.specs.Course.{Course, IsPlanned, IsCourse}
-use Rattle.rc_core.specs.Standing.{is_success, standing_of}
-use Rattle.rc_core.specs.Events.{WasTaken, IsHeldBy}
-use Rattle.rc_core.specs.Legal.{CanMove, IsLegal, IsRun}
+use Rattle.rc_model.specs.Run.{Course, IsPlanned, IsCourse, is_success, standing_of, WasTaken, IsHeldBy, CanMove, IsLegal, IsRun}
 use Rattle.rc_core.specs.Ready.{IsCount, IsMissing, AreReady, IsNext, NotesArrival, TakesOut, IsFirstReady, HasQueue, CanNoteReady, NotesReady}
 use Rattle.rc_core.proofs.Counted.{distinct_both, same_count, less_count, none_of_zero, zero_of_none, some_counts}
-use Rattle.rc_core.proofs.EventLemmas.{still_there, take_then_take, take_then_done, take_then_stop}
-use Rattle.rc_core.proofs.RunLemmas.{taken_was_planned}
-use Rattle.rc_core.proofs.StandingLemmas.{standing_stop, standing_first_up, standing_first_down, is_down_or_not}
+use Rattle.rc_model.proofs.EventLemmas.{still_there, take_then_take, take_then_done, take_then_stop}
+use Rattle.rc_model.proofs.RunLemmas.{taken_was_planned}
+use Rattle.rc_model.proofs.StandingLemmas.{standing_stop, standing_first_up, standing_first_down, is_down_or_not}
 use Rattle.rc_core.proofs.Missing.{up_or_not, fresh_stands, missing_kept, missing_after_take, missing_after_failure, next_missing, missing_next, missing_after_success}
 use Rattle.rc_core.proofs.Noting.{left_after_take}
 use Rattle.rc_core.proofs.Places.{move_is_left, planned_within}

@@ -1,11 +1,8 @@
 -- Runs in turn are runs.
 use Rattle.std.proofs.Common.{ℕ, List, inl, inr, take}
-use Rattle.rc_core.specs.declared.event.Event.{Event}
-use Rattle.rc_core.specs.declared.event.Event.TheVariants.{Take, Done, Stop}
-use Rattle.rc_core.specs.Course.{Course}
-use Rattle.rc_core.specs.Events.{NoneHeld}
-use Rattle.rc_core.specs.Legal.{IsLegal, IsRun}
-use Rattle.rc_core.specs.Settled.{IsSettled}
+use Rattle.rc_model.specs.declared.Event.{Event}
+use Rattle.rc_model.specs.declared.Event.TheVariants.{Take, Done, Stop}
+use Rattle.rc_model.specs.Run.{Course, NoneHeld, IsLegal, IsRun, IsSettled}
 use Rattle.rc_core.specs.InTurn.{IsLowered, IsInTurn, IsSettledInTurn}
 use Rattle.rc_core.proofs.Ends.{never_sinking}
 use Rattle.rc_core.proofs.Stories.{at_rest}

@@ -1,13 +1,10 @@
 -- Runs in which what is to come up waits until lowering is settled.
 -- A raise need not wait, so these are some of the runs.
 use Rattle.std.specs.Prelude.{◌≡◌, ◌≢◌, ◌⊎◌, ℕ, List, Some, slice_get, take}
-use Rattle.rc_core.specs.declared.standing.Standing.TheVariants.{Sinking}
-use Rattle.rc_core.specs.declared.event.Event.{Event}
-use Rattle.rc_core.specs.declared.event.Event.TheVariants.{Take, Done, Stop}
-use Rattle.rc_core.specs.Course.{Course}
-use Rattle.rc_core.specs.Standing.{standing_of}
-use Rattle.rc_core.specs.Events.{IsWorker, IsFree, NoneHeld, IsStopped}
-use Rattle.rc_core.specs.Legal.{CanSink, CanRise, IsLegal}
+use Rattle.rc_model.specs.declared.Standing.TheVariants.{Sinking}
+use Rattle.rc_model.specs.declared.Event.{Event}
+use Rattle.rc_model.specs.declared.Event.TheVariants.{Take, Done, Stop}
+use Rattle.rc_model.specs.Run.{Course, standing_of, IsWorker, IsFree, NoneHeld, IsStopped, CanSink, CanRise, IsLegal}
 
 -- lowering is settled: nothing is on its way down, and nothing may go down
 pub record IsLowered (c : Course) (events : List Event) : Type 0 where

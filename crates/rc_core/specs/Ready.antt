@@ -1,17 +1,14 @@
 use Rattle.std.specs.Prelude.{◌≡◌, ◌≢◌, ◌+◌, ◌<◌, ◌≤◌, ◌⊎◌, ◌↔◌, ℕ, List, Bool, true, false, length, slice_index, slice_index_or, Contains, vec_len, vec_capacity}
 use Rattle.std.specs.Global.{Vec}
-use Rattle.rc_set.specs.Set.{Has, Lists}
-use Rattle.rc_graph.specs.Needs.{Needs}
+use Rattle.rc_model.specs.Names.{Has, Lists}
+use Rattle.rc_model.specs.Graph.{Needs}
 use Rattle.rc_graph.specs.Order.{AreDistinct}
 use Rattle.rc_graph.specs.Placing.{Meets}
-use Rattle.rc_core.specs.declared.standing.Standing.TheVariants.{Down, Up}
-use Rattle.rc_core.specs.declared.event.Event.{Event}
-use Rattle.rc_core.specs.declared.event.Event.TheVariants.{Take, Done, Stop}
+use Rattle.rc_model.specs.declared.Standing.TheVariants.{Down, Up}
+use Rattle.rc_model.specs.declared.Event.{Event}
+use Rattle.rc_model.specs.declared.Event.TheVariants.{Take, Done, Stop}
 use Rattle.rc_core.specs.declared.ready.Ready.{Ready}
-use Rattle.rc_core.specs.Course.{Course, IsPlanned}
-use Rattle.rc_core.specs.Standing.{is_success, standing_of}
-use Rattle.rc_core.specs.Events.{WasTaken}
-use Rattle.rc_core.specs.Legal.{IsLeft}
+use Rattle.rc_model.specs.Run.{Course, IsPlanned, is_success, standing_of, WasTaken, IsLeft}
 
 -- how many there are of which a fact holds
 pub record IsCount (P : ℕ → Type 0) (many : ℕ) : Type 0 where

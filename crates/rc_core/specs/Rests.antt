@@ -1,5 +1,5 @@
 use Rattle.std.specs.Prelude.{◌⊎◌, ℕ, List, Bool}
-use Rattle.rc_set.specs.Set.{Has}
+use Rattle.rc_model.specs.Names.{Has}
 
 -- a service that was to move is not left, and has not failed
 abbrev pub HasMoved : List Bool → List Bool → List Bool → ℕ → Type 0

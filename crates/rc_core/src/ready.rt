@@ -1,8 +1,8 @@
 //! How many others each service waits for, and the queue of those that may be taken.
 
 ghost use Rattle.std.specs.Prelude.{false, ◌≡◌, ◌≢◌, ℕ, ◌-◌, ◌<◌, ◌≤◌, ◌⊎◌, ◌↔◌, ◌++◌, ◌∷◌, [], Bool, List, IsTrue, IfSome, IfNone, IfOk, All, Contains, length, remove, slice_index, slice_index_or, slice_set, vec_len, vec_capacity};
-ghost use Rattle.rc_set.specs.Set.{Has, IsAscending};
-ghost use Rattle.rc_graph.specs.Needs.{AreNeeds};
+ghost use Rattle.rc_model.specs.Names.{Has, IsAscending};
+ghost use Rattle.rc_model.specs.Graph.{AreNeeds};
 ghost use Rattle.rc_graph.specs.Order.{AreDistinct};
 ghost use Rattle.rc_core.specs.Ready.{AreAlike, IsCount, HasQueue, Arrives, TakesOut, IsFirstReady, IsFirstCount, IsNext, NotesArrival, QueuesFrom, CanArrive};
 

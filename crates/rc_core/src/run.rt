@@ -1,20 +1,17 @@
 ghost use Rattle.std.specs.Prelude.{◌≡◌, ◌<◌, ◌≤◌, ◌↔◌, ℕ, Bool, [], length, slice_index_or, take, vec_len, vec_capacity, IsTrue, IfOk, OnOk, OnErr};
-ghost use Rattle.rc_set.specs.Set.{Has};
-ghost use Rattle.rc_graph.specs.Closure.{IsClosed};
+ghost use Rattle.rc_model.specs.Names.{Has};
+ghost use Rattle.rc_model.specs.Graph.{IsClosed};
 ghost use Rattle.rc_graph.specs.declared.Way.{Way};
-ghost use Rattle.rc_core.specs.declared.event.Event.{Event};
-ghost use Rattle.rc_core.specs.Course.{course_of, planned_count, TargetOf, IsCourse};
-ghost use Rattle.rc_core.specs.Standing.{standing_of};
+ghost use Rattle.rc_model.specs.declared.Event.{Event};
+ghost use Rattle.rc_model.specs.Run.{course_of, planned_count, TargetOf, IsCourse, standing_of, IsWorker, IsFree, HasFailed, IsStopped, IsLegal, IsRun, IsStrictlyClosed, IsLive, IsSettled};
 ghost use Rattle.rc_core.specs.End.{EndOf};
 ghost use Rattle.rc_core.specs.Failing.{WouldFail, EndsAs};
-ghost use Rattle.rc_core.specs.Events.{IsWorker, IsFree, HasFailed, IsStopped};
-ghost use Rattle.rc_core.specs.Legal.{IsLegal, IsRun};
-ghost use Rattle.rc_core.specs.Settled.{with_event, IsStrictlyClosed, IsLive, IsSettled};
+ghost use Rattle.rc_core.specs.Settled.{with_event};
 ghost use Rattle.rc_core.specs.Taking.{IsAnswered};
 ghost use Rattle.rc_core.specs.Tables.{IsRoomFor};
 
 use crate::ended::Ended;
-use crate::event::{Event, Outcome};
+use crate::event::{Event, Outcome, went_well};
 use crate::job::Job;
 use crate::ready::Ready;
 use crate::standing::Standing;
@@ -34,7 +31,7 @@ pub struct NotLegal;
 
 /// A change on its way: what was to move, and the events so far.
 ///
-/// It borrows nothing. No call but `open` can be refused for want of memory.
+/// It borrows nothing. No call but `open` can be refused as out of memory.
 /// Time: `open` grows with the services and their pairs, `take_apart` with the services; `done` with
 /// those that the service needs or that need it; `step` of a take looks for the service among those
 /// that may be taken; the others take one step. So a whole run looks at each service and pair once.
@@ -270,7 +267,7 @@ impl Run {
         requires { IsLegal self.old.course self.old.events (Event.Done worker service outcome) }
         ensures { self.new ≡ with_event self.old (Event.Done worker service outcome) }
     {
-        let well = outcome.is_ok();
+        let well = went_well(outcome);
         self.tables.note_done(worker, service, well);
         self.ready
             .note_end(&self.graph, &self.lower, &self.raise, service, well);

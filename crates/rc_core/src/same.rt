@@ -1,7 +1,7 @@
 //! Whether a run is that of a plan.
 
 ghost use Rattle.std.specs.Prelude.{◌≡◌, ◌<◌, ◌↔◌, ℕ, [], length, slice_index_or, IsTrue};
-ghost use Rattle.rc_core.specs.Course.{course_of};
+ghost use Rattle.rc_model.specs.Run.{course_of};
 
 use crate::run::Run;
 use rc_graph::Graph;

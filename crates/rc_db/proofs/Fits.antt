@@ -1,7 +1,7 @@
 -- What a service writes for, and what holds of all parts once it holds of each.
 use Rattle.std.proofs.Common.{◌≡◌, ◌↔◌, ℕ, Bool, true, false, ap, subst, refl}
 use Rattle.std.specs.Bool.{OnTrue}
-use Rattle.rc_db.specs.Database.{Database, Feeds}
+use Rattle.rc_model.specs.Database.{Database, Feeds}
 
 -- a service writes for one other at most
 pub feeds_one : (d : Database) (s t u : ℕ) → Feeds d s t → Feeds d s u → t ≡ u

@@ -14,10 +14,9 @@ use Rattle.std.specs.Str.{bytes_eq}
 use Rattle.indexmap.proofs.SortedLemmas.{absent_pushes}
 use Rattle.indexmap.specs.IndexMap.{move_index, insert_entry, index_before}
 use Rattle.rc_names.proofs.Growth.{map-insert, insert_sorted-new, none_same, IsInByteOrder-from_sorted}
-use Rattle.rc_names.specs.Name.{IsName}
-use Rattle.rc_names.specs.Names.{IsBefore, IsInByteOrder}
-use Rattle.rc_db.specs.Bundles.{Bundles, names_of, IsTable, IsChangedAt}
-use Rattle.rc_names.proofs.ByteOrder.{not_before_itself}
+use Rattle.rc_model.specs.Names.{IsName, IsBefore, IsInByteOrder}
+use Rattle.rc_model.specs.Database.{Bundles, names_of, IsTable, IsChangedAt}
+use Rattle.rc_model.proofs.ByteOrder.{not_before_itself}
 use Rattle.rc_db.proofs.Entries.{Agree, ShowsChange}
 use Rattle.rc_db.proofs.Values.{changed_at, insert_new, value_of-absent}
 
@@ -62,7 +61,7 @@ module _ {K : Type 0} (bytes : K → List ℕ) where
             (insert_new (values_of es) to name set (value_of-absent (values_of es) name fresh))));
       }
 
-  -- what the map shows with one more bundle behind the others
+  -- what the map shows with one more bundle after the others
   pub record ShowsMore (table : Bundles) (name : List ℕ) (set : List Bool) (new : List (K × (List ℕ × List Bool))) : Type 0 where
     pub agree : Agree bytes new
     pub held : IsTable (values_of new)

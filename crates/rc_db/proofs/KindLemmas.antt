@@ -1,10 +1,9 @@
 -- What the kinds of a database's services are.
 use Rattle.std.proofs.Common.{◌≡◌, ◌≢◌, ℕ, Some, slice_get, refl, subst}
 use Rattle.std.proofs.lemmas.Option.{slice_get_within, get_or_from_slice_get}
-use Rattle.rc_names.specs.declared.kind.Kind.{Kind}
-use Rattle.rc_names.specs.declared.kind.Kind.TheVariants.{Oneshot, Longrun, Bundle}
-use Rattle.rc_db.specs.Service.{Service}
-use Rattle.rc_db.specs.Database.{Database, IsDatabase}
+use Rattle.rc_model.specs.declared.Kind.{Kind}
+use Rattle.rc_model.specs.declared.Kind.TheVariants.{Oneshot, Longrun, Bundle}
+use Rattle.rc_model.specs.Database.{Service, Database, IsDatabase}
 
 -- a service is no bundle
 pub no_bundle : (d : Database) (s : ℕ) (service : Service) → IsDatabase d → slice_get d.services s ≡ Some service → service.kind ≢ Bundle

@@ -4,8 +4,6 @@ pub mod Growing
 pub mod KindLemmas
 pub mod Listing
 pub mod Pipelines
-pub mod Places
 pub mod Reaching
-pub mod Tables
 pub mod Values
 pub mod Words

@@ -11,14 +11,14 @@ use Rattle.std.specs.Cmp.Lexicographic.{slice_cmp}
 use Rattle.std.specs.Ordering.{nat_cmp, is_lt}
 use Rattle.std.specs.declared.cmp.Ordering.{Ordering}
 use Rattle.std.specs.declared.cmp.Ordering.TheVariants.{Less, Equal, Greater}
-use Rattle.rc_names.proofs.ByteOrder.{before_at}
-use Rattle.rc_names.specs.Names.{IsBefore, IsInByteOrder, ListsNames}
-use Rattle.rc_names.specs.declared.kind.Kind.{Kind}
+use Rattle.rc_model.proofs.ByteOrder.{before_at}
+use Rattle.rc_model.specs.Names.{IsBefore, IsInByteOrder}
+use Rattle.rc_names.specs.Names.{ListsNames}
+use Rattle.rc_model.specs.declared.Kind.{Kind}
 use Rattle.rc_db.specs.Merging.{IsNext}
-use Rattle.rc_db.specs.Database.{Database, IsKind}
+use Rattle.rc_model.specs.Database.{Database, IsKind, Service}
 use Rattle.rc_db.specs.Queries.{IsServiceNamed}
-use Rattle.rc_db.specs.Service.{Service}
-use Rattle.rc_db.proofs.Places.{take_next}
+use Rattle.rc_model.proofs.Places.{take_next}
 
 -- the first names of two lists, merged, and all others after them
 pub record Merged (ns os : List (List ℕ)) (i j : ℕ) (out : List (List ℕ)) : Type 0 where
@@ -78,7 +78,7 @@ before_later names j x order next k y low at = ⊎_elim
     (λ not_later. let same : j ≡ k = omega arith in next y (ap (slice_get names) same ∙ at))
     (cases_lt j k)
 
--- the next name of the first list goes behind those merged
+-- the next name of the first list goes after those merged
 pub next_merged : (ns os : List (List ℕ)) (i j : ℕ) (out more : List (List ℕ)) (x : List ℕ) → IsInByteOrder ns → IsInByteOrder os → IsNext ns i os j
     → slice_get ns i ≡ Some x → more ≡ out ++ x ∷ [] → Merged ns os i j out → Merged ns os (i + 1) j more
 next_merged ns os i j out more x order others next there pushed merged =
@@ -146,11 +146,11 @@ kind_listed d kind i out whole passed = record {
   );
 }
 
--- one more name behind those passed
+-- one more name after those passed
 pub one_taken : (shown more names : List (List ℕ)) (i : ℕ) (x : List ℕ) → slice_get names i ≡ Some x → shown ≡ take i names → more ≡ shown ++ x ∷ [] → more ≡ take (i + 1) names
 one_taken shown more names i x there passed pushed = pushed ∙ ap (λ ns. ns ++ x ∷ []) passed ∙ sym (take_next names i x there)
 
--- a name that is pushed shows behind the others
+-- a name that is pushed shows after the others
 pub shown_more : {X : Type 0} (f : X → List ℕ) (old new : List X) (x : X) → new ≡ old ++ x ∷ [] → map f new ≡ map f old ++ f x ∷ []
 shown_more f old new x pushed = ap (map f) pushed ∙ map-append f old (x ∷ [])
 

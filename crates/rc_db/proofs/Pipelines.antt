@@ -4,15 +4,14 @@ use Rattle.std.proofs.lemmas.Bool.{cases_lt}
 use Rattle.std.proofs.lemmas.List.{length-take, get_or-take, get_or-set_same, get_or-set_other}
 use Rattle.std.proofs.lemmas.List.Elements.{Contains-get_or}
 use Rattle.std.proofs.lemmas.Option.{slice_get-get_or, slice_get_within, get_or_from_slice_get}
-use Rattle.rc_names.specs.declared.kind.Kind.TheVariants.{Longrun}
-use Rattle.rc_set.specs.Set.{Has, Holds}
-use Rattle.rc_graph.specs.Needs.{Needs}
+use Rattle.rc_model.specs.declared.Kind.TheVariants.{Longrun}
+use Rattle.rc_model.specs.Names.{Has, Holds}
+use Rattle.rc_model.specs.Graph.{Needs}
 use Rattle.rc_graph.specs.Order.{IsOrder}
-use Rattle.rc_db.specs.Service.{Service}
-use Rattle.rc_db.specs.Database.{Database, Feeds, IsKind, IsDatabase}
+use Rattle.rc_model.specs.Database.{Service, Database, Feeds, IsKind, IsDatabase}
 use Rattle.rc_db.specs.Pipeline.{EachFeedsNext, FlowsTo, IsLastConsumer, InPipelineOf}
 use Rattle.rc_db.proofs.Fits.{feeds_one}
-use Rattle.rc_db.proofs.Places.{place_of}
+use Rattle.rc_model.proofs.Places.{place_of}
 
 -- the number of a kind is one of the services
 pub kind_within : (d : Database) (s : ℕ) → IsDatabase d → IsKind d s Longrun → s < length d.names
@@ -35,7 +34,7 @@ flows_before d s t last feeds (flows, ends) = (
   ends,
 )
 
--- a flow to where it ends goes on behind its first step
+-- a flow to where it ends goes on after its first step
 go_on : (d : Database) (s t last : ℕ) → Feeds d s t → FlowsTo d s last → ((u : ℕ) → Feeds d last u → ⊥) → FlowsTo d t last
 go_on d s t last feeds (inl same) ends = let P : ℕ → Type 0 = λ x. Feeds d x t in absurd (ends t (subst P same feeds))
 go_on d s t last feeds (inr ([], path)) ends = inl (feeds_one d s t last feeds path.0)

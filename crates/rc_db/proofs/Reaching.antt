@@ -1,11 +1,11 @@
 -- Sets that queries answer.
 use Rattle.std.proofs.Common.{◌≡◌, ◌+◌, ◌↔◌, ◌⊎◌, ⊎_elim, inl, inr, ℕ, Bool, List, [], ◌∷◌, ◌++◌, take, slice_get, Contains, Some, sym, subst}
 use Rattle.std.proofs.lemmas.List.Elements.{Contains-push, Contains-push_cases, Contains-append_left}
-use Rattle.rc_set.specs.Set.{Has, Holds}
+use Rattle.rc_model.specs.Names.{Has, Holds}
 use Rattle.rc_graph.specs.declared.Way.{Way}
 use Rattle.rc_graph.specs.declared.Way.TheVariants.{Raise, Lower}
 use Rattle.rc_db.specs.Queries.{IsNextTo, IsWithAll}
-use Rattle.rc_db.proofs.Places.{take_next}
+use Rattle.rc_model.proofs.Places.{take_next}
 
 -- what stands beside the members of a set stands beside those of whom a fact holds that says who they are
 pub next_as : (needs : List (List ℕ)) (way : Way) (set : List Bool) (P : ℕ → Type 0) → Holds set P → (t : ℕ) → IsNextTo needs way (Has set) t ↔ IsNextTo needs way P t

@@ -13,10 +13,9 @@ use Rattle.std.specs.List.{IsDistinct, AllByRecursion}
 use Rattle.std.specs.Map.{lookup, remove_entry}
 use Rattle.std.specs.Option.{option_map}
 use Rattle.std.specs.Str.{bytes_eq}
-use Rattle.rc_names.specs.Name.{IsName}
-use Rattle.rc_names.specs.Names.{IsBefore, IsInByteOrder}
-use Rattle.rc_db.specs.Bundles.{Bundles, names_of, value_of, IsTable, IsChangedAt}
-use Rattle.rc_names.proofs.ByteOrder.{apart, order_tail, order_head}
+use Rattle.rc_model.specs.Names.{IsName, IsBefore, IsInByteOrder}
+use Rattle.rc_model.specs.Database.{Bundles, names_of, value_of, IsTable, IsChangedAt}
+use Rattle.rc_model.proofs.ByteOrder.{apart, order_tail, order_head}
 
 -- a look-up is the first entry's value
 pub value_of-lookup : (table : Bundles) (name : List ℕ) → value_of table name ≡ lookup (bytes_eq name) table

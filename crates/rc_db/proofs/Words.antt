@@ -6,10 +6,9 @@ use Rattle.std.proofs.lemmas.Option.{slice_get-map, slice_get-get_or, slice_get_
 use Rattle.std.proofs.lemmas.Slice.Eq.{bytes_eq-Decides}
 use Rattle.std.specs.Option.{option_map}
 use Rattle.std.specs.Str.{bytes_eq}
-use Rattle.rc_set.specs.Set.{Has, Holds}
-use Rattle.rc_db.specs.Bundles.{Bundles, names_of, value_of, AreBelow}
-use Rattle.rc_db.specs.Named.{IsFirst, Selected, StandsFor}
-use Rattle.rc_db.proofs.Places.{place_of, take_next}
+use Rattle.rc_model.specs.Names.{Has, Holds}
+use Rattle.rc_model.specs.Database.{Bundles, names_of, value_of, HaveBound, IsFirst, Selected, StandsFor}
+use Rattle.rc_model.proofs.Places.{place_of, take_next}
 use Rattle.rc_db.proofs.Values.{value_of-some}
 
 -- the name of a bundle has a set
@@ -34,7 +33,7 @@ pub unnamed : (table : Bundles) (name : List ℕ) → value_of table name ≡ No
 unnamed table name none there = let value = value_of-named table name there in cc (none, value.1)
 
 -- the set of a name has the bound of all sets
-pub bound_of_value : (bound : ℕ) (table : Bundles) (name : List ℕ) (set : List Bool) → AreBelow bound table → value_of table name ≡ Some set → length set ≡ bound
+pub bound_of_value : (bound : ℕ) (table : Bundles) (name : List ℕ) (set : List Bool) → HaveBound bound table → value_of table name ≡ Some set → length set ≡ bound
 bound_of_value bound table name set below found =
     let at = value_of-some table name set found in
     let within : at.0 < length table = slice_get_within table at.0 (name, set) at.1 in

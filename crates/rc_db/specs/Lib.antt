@@ -1,7 +1,5 @@
 pub mod Service
-pub mod Bundles
 pub mod Database
-pub mod Named
 pub mod Pipeline
 pub mod Queries
 pub mod QueryFaults

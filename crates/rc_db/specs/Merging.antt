@@ -1,5 +1,5 @@
 use Rattle.std.specs.Prelude.{◌≡◌, ℕ, List, Some, slice_get}
-use Rattle.rc_names.specs.Names.{IsBefore}
+use Rattle.rc_model.specs.Names.{IsBefore}
 
 -- at this place of the first names stands one that is before the one at that place of the others, if there is one
 abbrev pub IsNext : List (List ℕ) → ℕ → List (List ℕ) → ℕ → Type 0

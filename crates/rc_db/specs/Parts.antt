@@ -1,5 +1,5 @@
 use Rattle.rc_db.specs.declared.parts.Parts.{Parts}
-use Rattle.rc_db.specs.Database.{Database}
+use Rattle.rc_model.specs.Database.{Database}
 
 -- the database that parts make
 abbrev pub database_of : Parts → Database

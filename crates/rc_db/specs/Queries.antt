@@ -1,15 +1,12 @@
 use Rattle.std.specs.Prelude.{◌≡◌, ◌⊎◌, ℕ, List, Contains, Some, slice_get}
-use Rattle.rc_names.specs.declared.kind.Kind.{Kind}
-use Rattle.rc_names.specs.declared.kind.Kind.TheVariants.{Oneshot, Longrun, Bundle}
-use Rattle.rc_graph.specs.Needs.{Needs}
-use Rattle.rc_graph.specs.Closure.{UpFrom, DownFrom}
+use Rattle.rc_model.specs.declared.Kind.{Kind}
+use Rattle.rc_model.specs.declared.Kind.TheVariants.{Oneshot, Longrun, Bundle}
+use Rattle.rc_model.specs.Graph.{Needs, UpFrom, DownFrom}
 use Rattle.rc_graph.specs.declared.Way.{Way}
 use Rattle.rc_graph.specs.declared.Way.TheVariants.{Raise, Lower}
 use Rattle.rc_db.specs.declared.which.Which.{Which}
 use Rattle.rc_db.specs.declared.which.Which.TheVariants.{All, Services, Oneshots, Longruns, Bundles}
-use Rattle.rc_db.specs.Bundles.{names_of}
-use Rattle.rc_db.specs.Service.{Service}
-use Rattle.rc_db.specs.Database.{Database}
+use Rattle.rc_model.specs.Database.{names_of, Service, Database}
 
 -- what stands under a name in a database
 abbrev pub IsServiceNamed : Database → List ℕ → Service → Type 0

@@ -1,10 +1,8 @@
 use Rattle.std.specs.Prelude.{◌≡◌, ℕ, List, All, Contains}
-use Rattle.rc_names.specs.declared.kind.Kind.TheVariants.{Oneshot, Longrun}
+use Rattle.rc_model.specs.declared.Kind.TheVariants.{Oneshot, Longrun}
 use Rattle.rc_db.specs.declared.fault.QueryFault.{QueryFault}
 use Rattle.rc_db.specs.declared.fault.QueryFault.TheVariants.{Unknown, NotAtomic, NotBundle, NotLongrun, NotOneshot, Memory}
-use Rattle.rc_db.specs.Bundles.{Bundles, names_of}
-use Rattle.rc_db.specs.Database.{Database}
-use Rattle.rc_db.specs.Named.{IsKnown, IsUnknownAt}
+use Rattle.rc_model.specs.Database.{Bundles, names_of, Database, IsKnown, IsUnknownAt}
 use Rattle.rc_db.specs.Queries.{IsKindOf}
 
 -- what a query asks of its one name
@@ -40,7 +38,7 @@ IsQueryFault d asked name NotLongrun = (asked ≡ OfLongrun) × IsKindOf d name 
 IsQueryFault d asked name NotOneshot = (asked ≡ OfOneshot) × IsKindOf d name Longrun
 IsQueryFault d asked name Memory = IsSuch d asked name
 
--- when words are refused: the first that is no name is told, and want of memory only where each is one
+-- when words are refused: the first that is no name is told, and out of memory only where each is one
 abbrev pub IsNamesFault : List (List ℕ) → Bundles → List (List ℕ) → QueryFault → Type 0
 IsNamesFault names table words (Unknown place) = IsUnknownAt names table words place
 IsNamesFault names table words NotAtomic = ⊥

@@ -1,8 +1,6 @@
 ghost use Rattle.std.specs.Prelude.{◌≡◌, ◌<◌, ◌↔◌, length, map, string_bytes, slice_get, All, Some, IsTrue, IfOk, IfErr, OnOk, OnErr};
-ghost use Rattle.rc_set.specs.Set.{Holds};
-ghost use Rattle.rc_db.specs.Bundles.{AreBelow};
-ghost use Rattle.rc_db.specs.Database.{FitTogether, IsDatabase, IsEssential};
-ghost use Rattle.rc_db.specs.Named.{IsKnown, Selected};
+ghost use Rattle.rc_model.specs.Names.{Holds};
+ghost use Rattle.rc_model.specs.Database.{HaveBound, FitTogether, IsDatabase, IsEssential, IsKnown, Selected};
 ghost use Rattle.rc_db.specs.QueryFaults.{IsNamesFault};
 ghost use Rattle.rc_db.specs.Parts.{database_of};
 
@@ -25,7 +23,7 @@ pub struct Db {
 }
 
 impl Model for Db {
-    ghost use Rattle.rc_db.specs.Database.{Database, IsDatabase};
+    ghost use Rattle.rc_model.specs.Database.{Database, IsDatabase};
     ghost use Rattle.rc_db.specs.Parts.{database_of};
 
     ghost Value = { Database };
@@ -97,7 +95,7 @@ impl Db {
         table: &Table,
         words: &[String],
     ) -> Result<Set, QueryFault>
-        requires { AreBelow (length self.now.names) table.now }
+        requires { HaveBound (length self.now.names) table.now }
         ensures members { IfOk result (λ set. Holds set
             (Selected self.now.names table.now (map string_bytes words.now))) }
         ensures bound { IfOk result (λ set. length set ≡ length self.now.names) }

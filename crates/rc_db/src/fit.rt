@@ -1,9 +1,7 @@
 ghost use Rattle.std.specs.Prelude.{◌≡◌, ◌≢◌, ◌<◌, ◌↔◌, ℕ, length, All, IsTrue, IfSome, IfNone};
 ghost use Rattle.std.specs.Bool.{OnTrue};
-ghost use Rattle.rc_graph.specs.Needs.{Needs};
-ghost use Rattle.rc_db.specs.Service.{HasLimits};
-ghost use Rattle.rc_db.specs.Bundles.{AreBelow, IsTable};
-ghost use Rattle.rc_db.specs.Database.{AreApart, Feeds, FitTogether, IsDatabase, IsKind};
+ghost use Rattle.rc_model.specs.Graph.{Needs};
+ghost use Rattle.rc_model.specs.Database.{HasLimits, HaveBound, IsTable, AreApart, Feeds, FitTogether, IsDatabase, IsKind};
 ghost use Rattle.rc_db.specs.Parts.{database_of};
 
 use crate::named::has_name;
@@ -41,7 +39,7 @@ pub(crate) fn fit_together(parts: &Parts) -> bool
 
 /// Whether all sets of a table have one bound.
 fn are_below(table: &Table, bound: u16) -> bool
-    ensures bounds { IsTrue result ↔ AreBelow bound table.now }
+    ensures bounds { IsTrue result ↔ HaveBound bound table.now }
     ensures table { IsTable table.now }
 {
     for place in 0..table.len() {

@@ -1,7 +1,7 @@
 //! Laws of the definitions, for the crates above. The functions do nothing when they run.
 
 ghost use Rattle.std.specs.Prelude.{◌≡◌, ℕ, List};
-ghost use Rattle.rc_db.specs.Bundles.{Bundles, IsTable, value_of};
+ghost use Rattle.rc_model.specs.Database.{Bundles, IsTable, value_of};
 
 /// A table is what it has under each name.
 pub fn tables_are_their_values()

@@ -2,11 +2,10 @@
 
 ghost use Rattle.std.specs.Prelude.{◌≡◌, ◌<◌, ◌≤◌, ◌⊎◌, ◌+◌, List, length, map, Contains, IfOk, IfErr};
 ghost use Rattle.std.specs.Bool.{OnTrue, OnFalse};
-ghost use Rattle.rc_names.specs.Names.{IsInByteOrder, ListsNames};
-ghost use Rattle.rc_db.specs.Bundles.{names_of};
-ghost use Rattle.rc_db.specs.Database.{AreApart};
+ghost use Rattle.rc_model.specs.Names.{IsInByteOrder};
+ghost use Rattle.rc_names.specs.Names.{ListsNames};
+ghost use Rattle.rc_model.specs.Database.{names_of, AreApart, Service as Facts};
 ghost use Rattle.rc_db.specs.Queries.{IsServiceNamed, IsShown};
-ghost use Rattle.rc_db.specs.Service.{Service as Facts};
 ghost use Rattle.rc_db.specs.Merging.{IsNext};
 
 use crate::db::Db;

@@ -1,8 +1,6 @@
 ghost use Rattle.std.specs.Prelude.{◌≡◌, ◌↔◌, ◌⊎◌, ℕ, List, Bool, length, map, string_bytes, slice_get, All, Contains, Some, IsTrue, IfOk, IfSome, IfNone};
-ghost use Rattle.rc_set.specs.Set.{Has, Holds};
-ghost use Rattle.rc_names.specs.Names.{AreNames};
-ghost use Rattle.rc_db.specs.Bundles.{AreBelow, names_of, value_of};
-ghost use Rattle.rc_db.specs.Named.{IsKnown, IsUnknownAt, Selected, StandsFor};
+ghost use Rattle.rc_model.specs.Names.{Has, Holds, AreNames};
+ghost use Rattle.rc_model.specs.Database.{HaveBound, names_of, value_of, IsKnown, IsUnknownAt, Selected, StandsFor};
 
 use crate::table::Table;
 use rc_names::Names;
@@ -52,7 +50,7 @@ pub(crate) fn set_of(
     table: &Table,
     words: &[String],
 ) -> Result<Set, NoMem>
-    requires { AreBelow (length names.now) table.now }
+    requires { HaveBound (length names.now) table.now }
     ensures members { IfOk result (λ set. Holds set
         (Selected names.now table.now (map string_bytes words.now))) }
     ensures bound { IfOk result (λ set. length set ≡ length names.now) }
@@ -79,7 +77,7 @@ fn add_service(set: &mut Set, names: &Names, text: &str)
 
 /// Puts the services of a bundle in, if there is one of that name.
 fn add_bundle(set: &mut Set, table: &Table, text: &str)
-    requires { AreBelow (length set.old) table.now }
+    requires { HaveBound (length set.old) table.now }
     ensures bound { length set.new ≡ length set.old }
     ensures members { Holds set.new (λ s. Has set.old s ⊎
         ((bundle : List Bool) × (value_of table.now text.now ≡ Some bundle) × Has bundle s)) }

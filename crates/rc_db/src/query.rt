@@ -1,10 +1,9 @@
 //! Queries of one name.
 
 ghost use Rattle.std.specs.Prelude.{◌≡◌, ◌≢◌, ℕ, List, Bool, Some, slice_get, string_bytes, IfOk, IfErr, OnOk};
-ghost use Rattle.rc_set.specs.Set.{Has, Lists};
-ghost use Rattle.rc_db.specs.Service.{Service as Facts, limit_of, script_of};
-ghost use Rattle.rc_db.specs.Bundles.{value_of};
-ghost use Rattle.rc_db.specs.Database.{IsDatabase};
+ghost use Rattle.rc_model.specs.Names.{Has, Lists};
+ghost use Rattle.rc_model.specs.Database.{Service as Facts, value_of, IsDatabase};
+ghost use Rattle.rc_db.specs.Service.{limit_of, script_of};
 ghost use Rattle.rc_db.specs.Queries.{IsKindOf, IsServiceNamed};
 ghost use Rattle.rc_db.specs.QueryFaults.{AnyName, OfService, OfBundle, OfOneshot, IsSuch, IsQueryFault};
 

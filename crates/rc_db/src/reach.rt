@@ -1,9 +1,9 @@
 //! Queries of several names: what they stand for, and what they need or are needed by.
 
 ghost use Rattle.std.specs.Prelude.{◌≡◌, ◌<◌, ◌⊎◌, ◌↔◌, ℕ, length, map, string_bytes, All, Contains, IfOk, IfErr, OnOk};
-ghost use Rattle.rc_set.specs.Set.{Has, Holds, Lists};
-ghost use Rattle.rc_graph.specs.Needs.{AreNeeds};
-ghost use Rattle.rc_db.specs.Named.{IsKnown, Selected};
+ghost use Rattle.rc_model.specs.Names.{Has, Holds, Lists};
+ghost use Rattle.rc_model.specs.Graph.{AreNeeds};
+ghost use Rattle.rc_model.specs.Database.{IsKnown, Selected};
 ghost use Rattle.rc_db.specs.Queries.{IsBeside, IsNextTo, IsWithAll};
 ghost use Rattle.rc_db.specs.QueryFaults.{IsNamesFault};
 

@@ -27,7 +27,7 @@ pub struct Service {
 }
 
 impl Model for Service {
-    ghost use Rattle.rc_db.specs.Service.{Service as Facts};
+    ghost use Rattle.rc_model.specs.Database.{Service as Facts};
     ghost use Rattle.std.specs.Prelude.{◌<◌, ◌^◌};
     ghost use Rattle.std.specs.Option.{option_map};
     ghost use Rattle.std.specs.String.{string_bytes};

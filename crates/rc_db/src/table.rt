@@ -1,7 +1,7 @@
 ghost use Rattle.std.specs.Prelude.{◌≡◌, ◌<◌, ◌↔◌, ◌⊎◌, ℕ, [], ◌∷◌, ◌++◌, length, All, Contains, Some, None, IfOk, OnOk, OnErr, IsTrue, slice_get};
 ghost use Rattle.std.specs.Option.{option_copied};
-ghost use Rattle.rc_names.specs.Names.{IsBefore};
-ghost use Rattle.rc_db.specs.Bundles.{names_of, value_of, IsTable, IsChangedAt};
+ghost use Rattle.rc_model.specs.Names.{IsBefore};
+ghost use Rattle.rc_model.specs.Database.{names_of, value_of, IsTable, IsChangedAt};
 
 use indexmap::IndexMap;
 use rc_names::Name;
@@ -15,7 +15,7 @@ pub const MAX_BUNDLES: u16 = 4096;
 
 /// Bundles in byte order of their names.
 ///
-/// Time: `len` and `at` take one step, `get` looks a name up, `set` and `clear` move the bundles behind
+/// Time: `len` and `at` take one step, `get` looks a name up, `set` and `clear` move the bundles after
 /// the name, `same` and `copy` grow with the table.
 #[derive(Debug, Drop)]
 pub struct Table {
@@ -27,7 +27,7 @@ impl Model for Table {
     ghost use Rattle.std.specs.Prelude.{◌≡◌, map};
     ghost use Rattle.std.specs.String.{string_bytes};
     ghost use Rattle.indexmap.specs.IndexMap.{keys, values};
-    ghost use Rattle.rc_db.specs.Bundles.{Bundles, names_of, IsTable};
+    ghost use Rattle.rc_model.specs.Database.{Bundles, names_of, IsTable};
 
     ghost Value = { Bundles };
 
@@ -136,7 +136,7 @@ impl Table {
 }
 
 impl Table {
-    // Adds a bundle behind all others.
+    // Adds a bundle after all others.
     fn push(&mut self, name: &Name, set: &Set) -> Result<(), NoMem>
         requires room { length self.old < MAX_BUNDLES }
         requires last { All (λ other. IsBefore other name.now) (names_of self.old) }

@@ -5,11 +5,11 @@ use Rattle.std.proofs.lemmas.List.{take_all}
 use Rattle.std.proofs.Math.ListN.{get_or-append}
 use Rattle.std.proofs.Math.Seq.{get_or-append_right}
 use Rattle.std.specs.List.{flat_map}
-use Rattle.rc_names.specs.declared.kind.Kind.{Kind}
-use Rattle.rc_names.specs.declared.kind.Kind.TheVariants as kinds
-use Rattle.rc_names.specs.Name.{IsName}
+use Rattle.rc_model.specs.declared.Kind.{Kind}
+use Rattle.rc_model.specs.declared.Kind.TheVariants as kinds
+use Rattle.rc_model.specs.Names.{IsName}
 use Rattle.rc_db.specs.Service.{IsScript}
-use Rattle.rc_dbform.specs.Text.{Line, First, ServiceCount, OfService, OfNeeds, OfProducer, OfUp, OfDown, BundleCount, OfBundle, Last, Body, OfLongrun, OfOneshot, body_lines, service_lines, bundle_lines, counted, db_lines, spells, IsHead, IsBody, IsServiceText, IsBundleText, AreFew, IsDbText}
+use Rattle.rc_dbform.specs.Text.{Line, First, ServiceCount, OfService, OfNeeds, OfProducer, OfUp, OfDown, BundleCount, OfBundle, Last, Body, OfLongrun, OfOneshot, body_lines, service_lines, bundle_lines, count_and_lines, db_lines, spells, IsHead, IsBody, IsServiceText, IsBundleText, AreFew, IsDbText}
 use Rattle.rc_dbform.specs.Reading.{one, AreSo}
 use Rattle.rc_dbform.proofs.Sequences.{IsSequence, IsOnce, front_two, second_on, cons_sequence, counted_sequence}
 use Rattle.rc_dbform.proofs.KindLines.{once_first, once_services, once_bundles, once_head, once_needs, once_producer, once_up, once_bundle}
@@ -47,7 +47,7 @@ module _ {A B C : Type 0} (IsA : A → Type 0) (lines_a : A → List Line) (IsB 
       let none : n - length (lines_a a) ≡ 0 = omega arith in
       front_two IsA lines_a IsB lines_b IsC lines_c seq c a b n tail is_a is_b made ∙ ap (λ (k : ℕ). spells (take n (lines_a a)) ++ (spells (take k (lines_b b)) ++ tail)) none
 
-  -- behind it they are those of the second
+  -- after it they are those of the second
   line_second : (c : C) (a : A) (b : B) (n : ℕ) → IsA a → IsB a b → c ≡ seq.both a b → length (lines_a a) ≤ n → get_or (lines_c c) n Last ≡ get_or (lines_b b) (n - length (lines_a a)) Last
   line_second c a b n is_a is_b made behind =
       ap (λ (ls : List Line). get_or ls n Last) (lines_of c a b is_a is_b made) ∙ get_or-append_right (lines_a a) (lines_b b) n Last behind
@@ -137,23 +137,23 @@ aligned_service : IsAligned IsServiceText service_lines
 aligned_service = aligned_sequence IsHead (one OfService) (λ head tail. IsTail head.kind tail) tail_lines IsServiceText service_lines service_sequence once_head
     (aligned_line IsHead OfService (λ a b. refl)) (λ head. aligned_tail head.kind)
 
-aligned_services : IsAligned (AreFew IsServiceText) (counted ServiceCount service_lines)
+aligned_services : IsAligned (AreFew IsServiceText) (count_and_lines ServiceCount service_lines)
 aligned_services =
-    aligned_sequence (λ n. n ≤ 4096) (one ServiceCount) (λ n. AreSo IsServiceText n) (flat_map service_lines) (AreFew IsServiceText) (counted ServiceCount service_lines)
+    aligned_sequence (λ n. n ≤ 4096) (one ServiceCount) (λ n. AreSo IsServiceText n) (flat_map service_lines) (AreFew IsServiceText) (count_and_lines ServiceCount service_lines)
     (counted_sequence IsServiceText ServiceCount service_lines) once_services (aligned_line (λ n. n ≤ 4096) ServiceCount (λ a b. refl)) (λ n. aligned_many IsServiceText service_lines once_service aligned_service n)
 
-aligned_bundles : IsAligned (AreFew IsBundleText) (counted BundleCount bundle_lines)
+aligned_bundles : IsAligned (AreFew IsBundleText) (count_and_lines BundleCount bundle_lines)
 aligned_bundles =
-    aligned_sequence (λ n. n ≤ 4096) (one BundleCount) (λ n. AreSo IsBundleText n) (flat_map bundle_lines) (AreFew IsBundleText) (counted BundleCount bundle_lines)
+    aligned_sequence (λ n. n ≤ 4096) (one BundleCount) (λ n. AreSo IsBundleText n) (flat_map bundle_lines) (AreFew IsBundleText) (count_and_lines BundleCount bundle_lines)
     (counted_sequence IsBundleText BundleCount bundle_lines) once_bundles (aligned_line (λ n. n ≤ 4096) BundleCount (λ a b. refl))
     (λ n. aligned_many IsBundleText bundle_lines once_bundle (aligned_line IsBundleText OfBundle (λ a b. refl)) n)
 
 aligned_end : IsAligned (AreFew IsBundleText) end_lines
-aligned_end = aligned_sequence (AreFew IsBundleText) (counted BundleCount bundle_lines) (λ _ u. Always u) (one (λ _. Last)) (AreFew IsBundleText) end_lines end_sequence once_all_bundles aligned_bundles
+aligned_end = aligned_sequence (AreFew IsBundleText) (count_and_lines BundleCount bundle_lines) (λ _ u. Always u) (one (λ _. Last)) (AreFew IsBundleText) end_lines end_sequence once_all_bundles aligned_bundles
     (λ _. aligned_line Always (λ _. Last) (λ a b. refl))
 
 aligned_inner : IsAligned IsDbText inner_lines
-aligned_inner = aligned_sequence (AreFew IsServiceText) (counted ServiceCount service_lines) (λ _ bundles. AreFew IsBundleText bundles) end_lines IsDbText inner_lines inner_sequence once_all_services aligned_services
+aligned_inner = aligned_sequence (AreFew IsServiceText) (count_and_lines ServiceCount service_lines) (λ _ bundles. AreFew IsBundleText bundles) end_lines IsDbText inner_lines inner_sequence once_all_services aligned_services
     (λ _. aligned_end)
 
 pub aligned_db : IsAligned IsDbText db_lines

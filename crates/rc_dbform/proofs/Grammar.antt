@@ -1,11 +1,11 @@
 -- The grammar of a database text: which forms are made of which.
 use Rattle.std.proofs.Common.{◌≡◌, ℕ, ◌≤◌, List, [], ◌∷◌, ◌++◌, All, Option, None, IfSome, arith, refl}
 use Rattle.std.specs.List.{flat_map}
-use Rattle.rc_names.specs.declared.kind.Kind.{Kind}
-use Rattle.rc_names.specs.declared.kind.Kind.TheVariants as kinds
-use Rattle.rc_names.specs.Name.{IsName}
+use Rattle.rc_model.specs.declared.Kind.{Kind}
+use Rattle.rc_model.specs.declared.Kind.TheVariants as kinds
+use Rattle.rc_model.specs.Names.{IsName}
 use Rattle.rc_db.specs.Service.{IsScript}
-use Rattle.rc_dbform.specs.Text.{Line, First, ServiceCount, OfService, OfNeeds, OfProducer, OfUp, OfDown, BundleCount, Last, Head, Body, OfLongrun, OfOneshot, ServiceText, BundleText, DbText, body_lines, service_lines, bundle_lines, counted, db_lines, IsHead, IsBody, IsServiceText, IsBundleText, AreFew, IsDbText}
+use Rattle.rc_dbform.specs.Text.{Line, First, ServiceCount, OfService, OfNeeds, OfProducer, OfUp, OfDown, BundleCount, Last, Head, Body, OfLongrun, OfOneshot, ServiceText, BundleText, DbText, body_lines, service_lines, bundle_lines, count_and_lines, db_lines, IsHead, IsBody, IsServiceText, IsBundleText, AreFew, IsDbText}
 use Rattle.rc_dbform.specs.Reading.{one, AreSo}
 use Rattle.rc_dbform.proofs.Sequences.{IsSequence, IsOnce, once_sequence, once_many, counted_sequence}
 use Rattle.rc_dbform.proofs.KindLines.{once_first, once_services, once_bundles, once_head, once_needs, once_producer, once_up, once_down, once_bundle, once_last, IsScript-none, head_kind}
@@ -100,21 +100,21 @@ some_service =
     (record { head = head_kind.some; needs = tail.0.0; body = tail.0.1 }, record { head = head_kind.is_some; needs = tail.1.0; body = tail.1.1 })
 
 -- all services, and all bundles
-pub once_all_services : IsOnce (AreFew IsServiceText) (counted ServiceCount service_lines)
+pub once_all_services : IsOnce (AreFew IsServiceText) (count_and_lines ServiceCount service_lines)
 once_all_services =
-    once_sequence (λ n. n ≤ 4096) (one ServiceCount) (λ n. AreSo IsServiceText n) (flat_map service_lines) (AreFew IsServiceText) (counted ServiceCount service_lines)
+    once_sequence (λ n. n ≤ 4096) (one ServiceCount) (λ n. AreSo IsServiceText n) (flat_map service_lines) (AreFew IsServiceText) (count_and_lines ServiceCount service_lines)
     (counted_sequence IsServiceText ServiceCount service_lines) once_services (λ n. once_many IsServiceText service_lines once_service n)
 
-pub once_all_bundles : IsOnce (AreFew IsBundleText) (counted BundleCount bundle_lines)
+pub once_all_bundles : IsOnce (AreFew IsBundleText) (count_and_lines BundleCount bundle_lines)
 once_all_bundles =
-    once_sequence (λ n. n ≤ 4096) (one BundleCount) (λ n. AreSo IsBundleText n) (flat_map bundle_lines) (AreFew IsBundleText) (counted BundleCount bundle_lines)
+    once_sequence (λ n. n ≤ 4096) (one BundleCount) (λ n. AreSo IsBundleText n) (flat_map bundle_lines) (AreFew IsBundleText) (count_and_lines BundleCount bundle_lines)
     (counted_sequence IsBundleText BundleCount bundle_lines) once_bundles (λ n. once_many IsBundleText bundle_lines once_bundle n)
 
 -- the bundles with the last line
 abbrev pub end_lines : List BundleText → List Line
-end_lines bundles = counted BundleCount bundle_lines bundles ++ Last ∷ []
+end_lines bundles = count_and_lines BundleCount bundle_lines bundles ++ Last ∷ []
 
-abbrev pub end_sequence : IsSequence (AreFew IsBundleText) (counted BundleCount bundle_lines) (λ _ u. Always u) (one (λ _. Last)) (AreFew IsBundleText) end_lines
+abbrev pub end_sequence : IsSequence (AreFew IsBundleText) (count_and_lines BundleCount bundle_lines) (λ _ u. Always u) (one (λ _. Last)) (AreFew IsBundleText) end_lines
 end_sequence = record {
   both = λ bundles u. bundles;
   is_both = λ bundles u is_bundles is_u. is_bundles;
@@ -122,11 +122,11 @@ end_sequence = record {
   halves = λ bundles is. (bundles, tt, is, tt, refl);
 }
 
--- all behind the first line
+-- all after the first line
 abbrev pub inner_lines : DbText → List Line
-inner_lines t = counted ServiceCount service_lines t.services ++ end_lines t.bundles
+inner_lines t = count_and_lines ServiceCount service_lines t.services ++ end_lines t.bundles
 
-abbrev pub inner_sequence : IsSequence (AreFew IsServiceText) (counted ServiceCount service_lines) (λ _ bundles. AreFew IsBundleText bundles) end_lines IsDbText inner_lines
+abbrev pub inner_sequence : IsSequence (AreFew IsServiceText) (count_and_lines ServiceCount service_lines) (λ _ bundles. AreFew IsBundleText bundles) end_lines IsDbText inner_lines
 inner_sequence = record {
   both = λ services bundles. record { services = services; bundles = bundles };
   is_both = λ services bundles is_services is_bundles. record { services = is_services; bundles = is_bundles };
@@ -144,10 +144,10 @@ db_sequence = record {
 }
 
 once_end : IsOnce (AreFew IsBundleText) end_lines
-once_end = once_sequence (AreFew IsBundleText) (counted BundleCount bundle_lines) (λ _ u. Always u) (one (λ _. Last)) (AreFew IsBundleText) end_lines end_sequence once_all_bundles (λ _. once_last)
+once_end = once_sequence (AreFew IsBundleText) (count_and_lines BundleCount bundle_lines) (λ _ u. Always u) (one (λ _. Last)) (AreFew IsBundleText) end_lines end_sequence once_all_bundles (λ _. once_last)
 
 once_inner : IsOnce IsDbText inner_lines
-once_inner = once_sequence (AreFew IsServiceText) (counted ServiceCount service_lines) (λ _ bundles. AreFew IsBundleText bundles) end_lines IsDbText inner_lines inner_sequence once_all_services (λ _. once_end)
+once_inner = once_sequence (AreFew IsServiceText) (count_and_lines ServiceCount service_lines) (λ _ bundles. AreFew IsBundleText bundles) end_lines IsDbText inner_lines inner_sequence once_all_services (λ _. once_end)
 
 pub once_db : IsOnce IsDbText db_lines
 once_db = once_sequence Always (one (λ _. First)) (λ _ t. IsDbText t) inner_lines IsDbText db_lines db_sequence once_first (λ _. once_inner)

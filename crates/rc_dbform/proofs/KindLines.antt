@@ -6,9 +6,9 @@ use Rattle.std.proofs.lemmas.Str.{IsUtf8-from_ascii}
 use Rattle.std.proofs.lemmas.Str.Ascii.{IsAscii-from_all}
 use Rattle.std.specs.Prelude.{codes}
 use Rattle.std.specs.Fmt.{decimal}
-use Rattle.rc_names.specs.declared.kind.Kind.{Kind}
-use Rattle.rc_names.specs.declared.kind.Kind.TheVariants as kinds
-use Rattle.rc_names.specs.Name.{IsName, IsNameByte}
+use Rattle.rc_model.specs.declared.Kind.{Kind}
+use Rattle.rc_model.specs.declared.Kind.TheVariants as kinds
+use Rattle.rc_model.specs.Names.{IsName, IsNameByte}
 use Rattle.rc_db.specs.Service.{IsScript}
 use Rattle.rc_dbform.specs.Text.{First, ServiceCount, OfService, OfNeeds, OfProducer, OfUp, OfDown, BundleCount, OfBundle, Last, Head, BundleText, IsHead, IsBundleText, words, text_behind, kind_word, flag_word, or_dash, length_word}
 use Rattle.rc_dbform.specs.Words.{IsPlain, ArePlain}

@@ -7,7 +7,7 @@ use Rattle.std.specs.Fmt.{decimal}
 use Rattle.std.specs.Str.Parse.{digits_value}
 use Rattle.rc_dbform.specs.declared.fault.FormFault.{FormFault}
 use Rattle.rc_dbform.specs.declared.fault.FormFault.TheVariants.{Bad, Version, TooMany, Memory}
-use Rattle.rc_dbform.specs.Text.{Line, First, ServiceCount, BundleCount, words, worded, text_behind, spell}
+use Rattle.rc_dbform.specs.Text.{Line, First, ServiceCount, BundleCount, words, line_of_words, text_behind, spell}
 use Rattle.rc_dbform.specs.Reading.{IsRefused, IsNumber, HasNumber, IsNoNumber, IsNoCount, HasOtherVersion, HasTooMany, one}
 use Rattle.rc_dbform.specs.Words.{IsPlain}
 use Rattle.rc_dbform.proofs.Sequences.{stuck_line}
@@ -17,13 +17,13 @@ use Rattle.rc_textform.proofs.WordLines.{words_once}
 use Rattle.rc_textform.proofs.Plain.{plain_from}
 
 -- lines of one word and a number have one number
-one_number : (word number other x y : List ℕ) → IsPlain word → IsNumber number → IsNumber other → worded (word ∷ number ∷ []) ++ x ≡ worded (word ∷ other ∷ []) ++ y → number ≡ other
+one_number : (word number other x y : List ℕ) → IsPlain word → IsNumber number → IsNumber other → line_of_words (word ∷ number ∷ []) ++ x ≡ line_of_words (word ∷ other ∷ []) ++ y → number ≡ other
 one_number word number other x y plain is is_other same =
     ap (λ (l : List (List ℕ)). get_or l 1 []) (words_once (word ∷ number ∷ []) (word ∷ other ∷ []) x y (plain_numbered word number plain is) (plain_numbered word other plain is_other) same).0
 
--- a line without a text behind it, whole
-without_text : (line : Line) (tail : List ℕ) → text_behind line ≡ [] → spell line ++ tail ≡ worded (words line) ++ tail
-without_text line tail none = ap (λ (l : List ℕ). (worded (words line) ++ l) ++ tail) none ∙ ap (λ (l : List ℕ). l ++ tail) (append-nil (worded (words line)))
+-- a line without a text after it, whole
+without_text : (line : Line) (tail : List ℕ) → text_behind line ≡ [] → spell line ++ tail ≡ line_of_words (words line) ++ tail
+without_text line tail none = ap (λ (l : List ℕ). (line_of_words (words line) ++ l) ++ tail) none ∙ ap (λ (l : List ℕ). l ++ tail) (append-nil (line_of_words (words line)))
 
 IsNumber-one : IsNumber (codes "1")
 IsNumber-one = subst IsNumber (decimal_digit 1 (omega arith)) (IsNumber-decimal 1 (omega arith))
@@ -46,7 +46,7 @@ no_first bytes TooMany none = absurd none
 no_first bytes Memory none = tt
 
 -- a line of another version stands here
-pub other_first : (bytes number rest : List ℕ) → IsNumber number → number ≢ codes "1" → bytes ≡ worded (codes "undorc-db" ∷ number ∷ []) ++ rest
+pub other_first : (bytes number rest : List ℕ) → IsNumber number → number ≢ codes "1" → bytes ≡ line_of_words (codes "undorc-db" ∷ number ∷ []) ++ rest
     → IsRefused (λ (u : Unit {0}). Unit {0}) (one (λ _. First)) bytes Version
 other_first bytes number rest is other stands = (
   bytes,
@@ -72,10 +72,10 @@ pub bundles_count : IsCount BundleCount (codes "bundles")
 bundles_count = record { plain = plain_from (codes "bundles") refl; words_are = λ n. refl; no_text = λ n. refl; no_version = λ bytes bad. bad; many = λ bytes has. has; from_many = λ bytes has. has }
 
 module _ (count : ℕ → Line) (word : List ℕ) (is : IsCount count word) where
-  count_bytes : (n : ℕ) (tail : List ℕ) → spell (count n) ++ tail ≡ worded (word ∷ decimal n ∷ []) ++ tail
-  count_bytes n tail = without_text (count n) tail (is.no_text n) ∙ ap (λ (l : List (List ℕ)). worded l ++ tail) (is.words_are n)
+  count_bytes : (n : ℕ) (tail : List ℕ) → spell (count n) ++ tail ≡ line_of_words (word ∷ decimal n ∷ []) ++ tail
+  count_bytes n tail = without_text (count n) tail (is.no_text n) ∙ ap (λ (l : List (List ℕ)). line_of_words l ++ tail) (is.words_are n)
 
-  pub count_read : (bytes rest : List ℕ) (n : ℕ) → bytes ≡ worded (word ∷ decimal n ∷ []) ++ rest → bytes ≡ (spell (count n) ++ []) ++ rest
+  pub count_read : (bytes rest : List ℕ) (n : ℕ) → bytes ≡ line_of_words (word ∷ decimal n ∷ []) ++ rest → bytes ≡ (spell (count n) ++ []) ++ rest
   count_read bytes rest n stands = stands ∙ sym (count_bytes n rest) ∙ ap (λ (l : List ℕ). l ++ rest) (sym (append-nil (spell (count n))))
 
   -- no count stands here, or one above 4,096

@@ -72,7 +72,7 @@ module _ {A : Type 0} (Is : A → Type 0) (lines : A → List Line) where
       let at = one_place aligned bytes rest other due line stuck more in
       not_both (place due) rest other (version_from due rest version) (subst (λ (p : Place). many_at p other) (sym at.1) (many_from line other many))
 
-  -- so what refuses bytes is one, want of memory aside
+  -- so what refuses bytes is one, out of memory aside
   pub one_refusal : IsAligned Is lines → (bytes : List ℕ) (a b : FormFault) → IsRefused Is lines bytes a → IsRefused Is lines bytes b → a ≢ Memory → b ≢ Memory → a ≡ b
   one_refusal aligned bytes Memory b of_a of_b not_a not_b = absurd (not_a refl)
   one_refusal aligned bytes a Memory of_a of_b not_a not_b = absurd (not_b refl)

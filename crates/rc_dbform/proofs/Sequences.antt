@@ -10,13 +10,13 @@ use Rattle.rc_textform.proofs.WordLines.{append-cancel}
 use Rattle.rc_textform.proofs.Stuck as stuck_at
 use Rattle.rc_dbform.specs.declared.fault.FormFault.{FormFault}
 use Rattle.rc_dbform.specs.declared.fault.FormFault.TheVariants.{Bad, Version, TooMany, Memory}
-use Rattle.rc_dbform.specs.Text.{Line, spell, spells, counted, AreFew}
+use Rattle.rc_dbform.specs.Text.{Line, spell, spells, count_and_lines, AreFew}
 use Rattle.rc_dbform.specs.Reading.{IsStuck, IsFaultWhere, AreSo}
 
 spells-append : (ls ms : List Line) → spells (ls ++ ms) ≡ spells ls ++ spells ms
 spells-append ls ms = stuck_at.spells-append spell ls ms
 
--- the front of two lists in a row
+-- the prefix of two lists in a row
 take-two : (ls ms : List Line) (n : ℕ) → take n (ls ++ ms) ≡ take n ls ++ take (n - length ls) ms
 take-two ls ms n = elim (cases_lt (length ls) n) [
   | inl longer ↦
@@ -27,7 +27,7 @@ take-two ls ms n = elim (cases_lt (length ls) n) [
       take-append-le n ls ms within ∙ sym (append-nil (take n ls)) ∙ ap (λ (k : ℕ). take n ls ++ take k ms) (sym none)
 ]
 
--- the bytes of that front
+-- the bytes of that prefix
 spells-two : (ls ms : List Line) (n : ℕ) (tail : List ℕ) → spells (take n (ls ++ ms)) ++ tail ≡ spells (take n ls) ++ (spells (take (n - length ls) ms) ++ tail)
 spells-two ls ms n tail =
     ap (λ (l : List Line). spells l ++ tail) (take-two ls ms n)
@@ -47,7 +47,7 @@ pub record IsSequence {A B C : Type 0} (IsA : A → Type 0) (lines_a : A → Lis
 
 module _ {A B C : Type 0} (IsA : A → Type 0) (lines_a : A → List Line) (IsB : A → B → Type 0) (lines_b : B → List Line) (IsC : C → Type 0) (lines_c : C → List Line)
     (seq : IsSequence IsA lines_a IsB lines_b IsC lines_c) where
-  -- the front of a value's lines, from its halves
+  -- the prefix of a value's lines, from its halves
   pub front_two : (c : C) (a : A) (b : B) (n : ℕ) (tail : List ℕ) → IsA a → IsB a b → c ≡ seq.both a b
       → spells (take n (lines_c c)) ++ tail ≡ spells (take n (lines_a a)) ++ (spells (take (n - length (lines_a a)) (lines_b b)) ++ tail)
   front_two c a b n tail is_a is_b same =
@@ -71,7 +71,7 @@ module _ {A B C : Type 0} (IsA : A → Type 0) (lines_a : A → List Line) (IsB 
             stuck.none a (spells (take ((length stuck.before + 1) - length (lines_a a)) (lines_b b)) ++ tail) is_a (same ∙ front_two other a b (length stuck.before + 1) tail is_a is_b made);
       }
 
-  -- behind a first that was read the second reads on: where all of the first stands, it is that one
+  -- after a first that was read the second reads on: where all of the first stands, it is that one
   pub second_on : (a c : A) (b : B) (other : C) (n : ℕ) (x tail : List ℕ) → IsOnce IsA lines_a → IsA a → IsA c → IsB c b → other ≡ seq.both c b → length (lines_a a) ≤ n
       → spells (lines_a a) ++ x ≡ spells (take n (lines_c other)) ++ tail → (a ≡ c) × (x ≡ spells (take (n - length (lines_a a)) (lines_b b)) ++ tail)
   second_on a c b other n x tail once is_a is_c is_b made long same =
@@ -82,7 +82,7 @@ module _ {A B C : Type 0} (IsA : A → Type 0) (lines_a : A → List Line) (IsB 
       let cut : Behind c = apart ∙ ap (λ (ls : List Line). spells ls ++ (spells (take (n - length (lines_a c)) (lines_b b)) ++ tail)) all in
       (one, append-cancel (spells (lines_a a)) x (spells (take (n - length (lines_a a)) (lines_b b)) ++ tail) (subst Behind (sym one) cut))
 
-  -- where the second is stuck behind a first that was read, so are both
+  -- where the second is stuck after a first that was read, so are both
   pub stuck_second : (bytes middle rest : List ℕ) (due : Line) (a : A) → IsOnce IsA lines_a → IsA a → bytes ≡ spells (lines_a a) ++ middle → IsStuck (IsB a) lines_b middle rest due
       → IsStuck IsC lines_c bytes rest due
   stuck_second bytes middle rest due a once is_a read stuck = record {
@@ -95,7 +95,7 @@ module _ {A B C : Type 0} (IsA : A → Type 0) (lines_a : A → List Line) (IsB 
     none = λ other tail is same.
         let (c, b, is_c, is_b, made) = seq.halves other is in
         let n : ℕ = length (lines_a a ++ stuck.before) + 1 in
-        let counted : length (lines_a a ++ stuck.before) ≡ length (lines_a a) + length stuck.before = length-append (lines_a a) stuck.before in
+        let count_and_lines : length (lines_a a ++ stuck.before) ≡ length (lines_a a) + length stuck.before = length-append (lines_a a) stuck.before in
         let on = second_on a c b other n middle tail once is_a is_c is_b made (omega arith) (sym read ∙ same) in
         let left : n - length (lines_a a) ≡ length stuck.before + 1 = omega arith in
         stuck.none b tail (subst (λ (v : A). IsB v b) (sym on.0) is_b) (on.1 ∙ ap (λ (k : ℕ). spells (take k (lines_b b)) ++ tail) left);
@@ -107,7 +107,7 @@ module _ {A B C : Type 0} (IsA : A → Type 0) (lines_a : A → List Line) (IsB 
       let (a, b, is_a, is_b, made) = seq.halves c is_c in
       let (e, f, is_e, is_f, made_d) = seq.halves d is_d in
       let lines : lines_c c ≡ lines_a a ++ lines_b b = ap lines_c made ∙ seq.lines_both a b is_a is_b in
-      let counted : length (lines_c c) ≡ length (lines_a a) + length (lines_b b) = ap length lines ∙ length-append (lines_a a) (lines_b b) in
+      let count_and_lines : length (lines_c c) ≡ length (lines_a a) + length (lines_b b) = ap length lines ∙ length-append (lines_a a) (lines_b b) in
       let cells : spells (lines_c c) ++ x ≡ spells (lines_a a) ++ (spells (lines_b b) ++ x) =
       ap (λ (ls : List Line). spells ls ++ x) lines ∙ ap (λ (l : List ℕ). l ++ x) (spells-append (lines_a a) (lines_b b)) ∙ append_assoc (spells (lines_a a)) (spells (lines_b b)) x in
       let on = second_on a e f d k (spells (lines_b b) ++ x) y once_a is_a is_e is_f made_d (omega arith) (sym cells ∙ same) in
@@ -162,7 +162,7 @@ module _ {A : Type 0} (Is : A → Type 0) (lines : A → List Line) where
   so_many zero a is = ([], (refl, λ k d within. absurd (omega arith)))
   so_many (suc n) a is = let rest = so_many n a is in (a ∷ rest.0, (omega (arith, rest.1.0), All-cons a rest.0 is rest.1.1))
 
-  -- where one is stuck behind fewer values that were read, so are many
+  -- where one is stuck after fewer values that were read, so are many
   pub stuck_many : IsOnce Is lines → (so_far : List A) (n : ℕ) (bytes middle rest : List ℕ) (due : Line) → All Is so_far → length so_far < n
       → bytes ≡ spells (flat_map lines so_far) ++ middle → IsStuck Is lines middle rest due → IsStuck (AreSo Is n) (flat_map lines) bytes rest due
   stuck_many once so_far zero bytes middle rest due each fewer read stuck = absurd (omega arith)
@@ -201,7 +201,7 @@ stuck_line Is line bytes a is missing = record {
 
 -- a count and so many values
 abbrev pub counted_sequence : {A : Type 0} (Is : A → Type 0) (count : ℕ → Line) (lines : A → List Line)
-    → IsSequence (λ n. n ≤ 4096) (λ n. count n ∷ []) (λ n. AreSo Is n) (flat_map lines) (AreFew Is) (counted count lines)
+    → IsSequence (λ n. n ≤ 4096) (λ n. count n ∷ []) (λ n. AreSo Is n) (flat_map lines) (AreFew Is) (count_and_lines count lines)
 counted_sequence Is count lines = record {
   both = λ n values. values;
   is_both = λ n values few so. record { few = subst (λ (k : ℕ). k ≤ 4096) (sym so.0) few; each = so.1 };

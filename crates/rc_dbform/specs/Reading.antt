@@ -18,7 +18,7 @@ AreSo Is n values = (length values ≡ n) × All Is values
 abbrev pub IsRead : {A : Type 0} → (A → Type 0) → (A → List Line) → List ℕ → A → List ℕ → Type 0
 IsRead Is lines bytes value rest = form.IsRead spell Is lines bytes value rest
 
--- the lines of some value stand at the front up to the one that is due, where the rest begins, and
+-- the lines of some value stand at the beginning up to the one that is due, where the rest begins, and
 -- no value has one line more there
 abbrev pub IsStuck : {A : Type 0} → (A → Type 0) → (A → List Line)
     → List ℕ → List ℕ → Line → Type 0
@@ -47,13 +47,13 @@ HasTooMany (ServiceCount count) rest = HasNumber (codes "services") (λ number. 
 HasTooMany (BundleCount count) rest = HasNumber (codes "bundles") (λ number. 4096 < digits_value 10 number) rest
 HasTooMany other rest = ⊥
 
--- when reading is refused where it is stuck; a bad line is told by how many bytes are left there, and want of memory may come at any place
+-- when reading is refused where it is stuck; a bad line is told by how many bytes are left there, and out of memory may come at any place
 abbrev pub IsFaultWhere : (List ℕ → Line → Type 0) → FormFault → Type 0
 IsFaultWhere Stuck (Bad left) = (rest : List ℕ) × (due : Line) × Stuck rest due × (left ≡ length rest) × (HasOtherVersion due rest → ⊥) × (HasTooMany due rest → ⊥)
 IsFaultWhere Stuck Version = (rest : List ℕ) × (due : Line) × Stuck rest due × HasOtherVersion due rest
 IsFaultWhere Stuck TooMany = (rest : List ℕ) × (due : Line) × Stuck rest due × HasTooMany due rest
 IsFaultWhere Stuck Memory = Unit {0}
 
--- when the lines of a value are refused at the front of bytes
+-- when the lines of a value are refused at the beginning of bytes
 abbrev pub IsRefused : {A : Type 0} → (A → Type 0) → (A → List Line) → List ℕ → FormFault → Type 0
 IsRefused Is lines bytes fault = IsFaultWhere (IsStuck Is lines bytes) fault

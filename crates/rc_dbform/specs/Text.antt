@@ -1,11 +1,11 @@
 use Rattle.std.specs.Prelude.{◌≡◌, ◌≤◌, ◌<◌, ◌^◌, ℕ, Bool, true, false, List, [], ◌∷◌, ◌++◌, length, All, Option, Some, None, IfSome, codes}
 use Rattle.std.specs.List.{flat_map}
 use Rattle.std.specs.Fmt.{decimal}
-use Rattle.rc_names.specs.declared.kind.Kind.{Kind}
-use Rattle.rc_names.specs.declared.kind.Kind.TheVariants as kinds
-use Rattle.rc_names.specs.Name.{IsName}
+use Rattle.rc_model.specs.declared.Kind.{Kind}
+use Rattle.rc_model.specs.declared.Kind.TheVariants as kinds
+use Rattle.rc_model.specs.Names.{IsName}
 use Rattle.rc_db.specs.Service.{IsScript}
-pub use Rattle.rc_textform.specs.Words.{BundleText, worded}
+pub use Rattle.rc_textform.specs.Words.{BundleText, line_of_words}
 use Rattle.rc_textform.specs.Form as form
 
 -- what the first line of a service says
@@ -85,7 +85,7 @@ text_behind other = []
 
 -- the bytes of a line
 abbrev pub spell : Line → List ℕ
-spell line = worded (words line) ++ text_behind line
+spell line = line_of_words (words line) ++ text_behind line
 
 -- the bytes of lines
 abbrev pub spells : List Line → List ℕ
@@ -102,12 +102,12 @@ abbrev pub bundle_lines : BundleText → List Line
 bundle_lines b = OfBundle b ∷ []
 
 -- how many there are, and the lines of each
-abbrev pub counted : {A : Type 0} → (ℕ → Line) → (A → List Line) → List A → List Line
-counted count lines values = count (length values) ∷ flat_map lines values
+abbrev pub count_and_lines : {A : Type 0} → (ℕ → Line) → (A → List Line) → List A → List Line
+count_and_lines count lines values = count (length values) ∷ flat_map lines values
 
 -- the lines of a database text
 abbrev pub db_lines : DbText → List Line
-db_lines t = First ∷ (counted ServiceCount service_lines t.services ++ (counted BundleCount bundle_lines t.bundles ++ Last ∷ []))
+db_lines t = First ∷ (count_and_lines ServiceCount service_lines t.services ++ (count_and_lines BundleCount bundle_lines t.bundles ++ Last ∷ []))
 
 -- the text of a database, all of it
 abbrev pub db_text : DbText → List ℕ

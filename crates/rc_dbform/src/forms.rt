@@ -1,8 +1,8 @@
 //! What a database text says, read front to back.
 ghost use Rattle.std.specs.Prelude.{◌≡◌, ◌≤◌, ◌∷◌, [], IfOk, IfErr};
 ghost use Rattle.std.specs.List.{flat_map};
-ghost use Rattle.rc_names.specs.declared.kind.Kind.TheVariants as kinds;
-ghost use Rattle.rc_dbform.specs.Text.{ServiceCount, BundleCount, IsBody, IsServiceText, IsBundleText, IsDbText, AreFew, body_lines, service_lines, bundle_lines, counted, db_lines};
+ghost use Rattle.rc_model.specs.declared.Kind.TheVariants as kinds;
+ghost use Rattle.rc_dbform.specs.Text.{ServiceCount, BundleCount, IsBody, IsServiceText, IsBundleText, IsDbText, AreFew, body_lines, service_lines, bundle_lines, count_and_lines, db_lines};
 ghost use Rattle.rc_dbform.specs.Reading.{IsRead, IsRefused, AreSo};
 ghost use Rattle.rc_dbform.specs.FormText.{body_text};
 
@@ -55,7 +55,7 @@ impl Model for DbForm {
     ghost view = { λ f. record { services = f.services.items; bundles = f.bundles.items } };
 }
 
-/// What the text at the front says, and what follows it.
+/// What the text at the beginning says, and what follows it.
 pub fn read_form(alloc: Global, bytes: &[u8]) -> Result<(DbForm, &[u8]), FormFault>
     ensures ok { IfOk result (λ read. IsRead IsDbText db_lines bytes.now read.0 read.1.now) }
     ensures fault { IfErr result (IsRefused IsDbText db_lines bytes.now) }
@@ -67,20 +67,20 @@ pub fn read_form(alloc: Global, bytes: &[u8]) -> Result<(DbForm, &[u8]), FormFau
     Ok((DbForm { services, bundles }, last))
 }
 
-// The services behind their count, and what follows them.
+// The services after their count, and what follows them.
 fn all_services(alloc: Global, bytes: &[u8]) -> Result<(Vec<ServiceForm>, &[u8]), FormFault>
-    ensures ok { IfOk result (λ read. IsRead (AreFew IsServiceText) (counted ServiceCount service_lines) bytes.now read.0.items read.1.now) }
-    ensures fault { IfErr result (IsRefused (AreFew IsServiceText) (counted ServiceCount service_lines) bytes.now) }
+    ensures ok { IfOk result (λ read. IsRead (AreFew IsServiceText) (count_and_lines ServiceCount service_lines) bytes.now read.0.items read.1.now) }
+    ensures fault { IfErr result (IsRefused (AreFew IsServiceText) (count_and_lines ServiceCount service_lines) bytes.now) }
 {
     let (count, rest) = count_line(alloc, bytes, b"services")?;
     let (services, rest) = services_of(alloc, rest, count)?;
     Ok((services, rest))
 }
 
-// The bundles behind their count, and what follows them.
+// The bundles after their count, and what follows them.
 fn all_bundles(alloc: Global, bytes: &[u8]) -> Result<(Vec<BundleForm>, &[u8]), FormFault>
-    ensures ok { IfOk result (λ read. IsRead (AreFew IsBundleText) (counted BundleCount bundle_lines) bytes.now read.0.items read.1.now) }
-    ensures fault { IfErr result (IsRefused (AreFew IsBundleText) (counted BundleCount bundle_lines) bytes.now) }
+    ensures ok { IfOk result (λ read. IsRead (AreFew IsBundleText) (count_and_lines BundleCount bundle_lines) bytes.now read.0.items read.1.now) }
+    ensures fault { IfErr result (IsRefused (AreFew IsBundleText) (count_and_lines BundleCount bundle_lines) bytes.now) }
 {
     let (count, rest) = count_line(alloc, bytes, b"bundles")?;
     let (bundles, rest) = bundles_of(alloc, rest, count)?;

@@ -5,7 +5,7 @@ ghost use Rattle.rc_dbform.specs.Reading.{IsRefused};
 ghost use Rattle.rc_dbform.specs.declared.fault.FormFault.{FormFault};
 ghost use Rattle.rc_dbform.specs.declared.fault.FormFault.TheVariants.{Memory};
 
-/// No text is a proper front of another, and each is the text of one value.
+/// No text is a proper prefix of another, and each is the text of one value.
 pub fn text_is_unique()
     ensures front { (a b : DbText) (rest : List ℕ) → IsDbText a → IsDbText b → db_text a ++ rest ≡ db_text b → rest ≡ [] }
     ensures value { (a b : DbText) (x y : List ℕ) → IsDbText a → IsDbText b → db_text a ++ x ≡ db_text b ++ y → a ≡ b }

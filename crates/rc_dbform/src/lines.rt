@@ -2,11 +2,11 @@
 ghost use Rattle.std.specs.Prelude.{◌≡◌, ◌≤◌, ℕ, List, [], ◌∷◌, ◌++◌, map, All, IfOk, IfErr, IfSome, MatchOption, string_bytes, codes, length, Bool};
 ghost use Rattle.std.specs.Fmt.{decimal};
 ghost use Rattle.std.specs.Option.{option_map};
-ghost use Rattle.rc_names.specs.Name.{IsName};
-ghost use Rattle.rc_names.specs.declared.kind.Kind.{Kind};
-ghost use Rattle.rc_names.specs.declared.kind.Kind.TheVariants as kinds;
+ghost use Rattle.rc_model.specs.Names.{IsName};
+ghost use Rattle.rc_model.specs.declared.Kind.{Kind};
+ghost use Rattle.rc_model.specs.declared.Kind.TheVariants as kinds;
 ghost use Rattle.rc_db.specs.Service.{IsScript};
-ghost use Rattle.rc_dbform.specs.Text.{First, OfService, OfNeeds, OfProducer, OfUp, OfDown, OfBundle, Last, IsHead, IsBundleText, worded, spell, kind_word, flag_word, or_dash, text_behind};
+ghost use Rattle.rc_dbform.specs.Text.{First, OfService, OfNeeds, OfProducer, OfUp, OfDown, OfBundle, Last, IsHead, IsBundleText, line_of_words, spell, kind_word, flag_word, or_dash, text_behind};
 ghost use Rattle.rc_dbform.specs.Reading.{IsNumber, IsNoNumber, IsNoCount, IsRead, IsRefused, one};
 ghost use Rattle.rc_dbform.specs.Words.{IsPlain, IsOfWords, IsOfNoWords};
 
@@ -63,7 +63,7 @@ pub(crate) fn first_line(alloc: Global, bytes: &[u8]) -> Result<&[u8], FormFault
     }
 }
 
-/// A count behind its word, and what follows that line.
+/// A count after its word, and what follows that line.
 pub(crate) fn count_line<'a>(
     alloc: Global,
     bytes: &'a [u8],
@@ -71,7 +71,7 @@ pub(crate) fn count_line<'a>(
 ) -> Result<(u32, &'a [u8]), FormFault>
     requires { IsPlain word.now }
     ensures ok { IfOk result (λ read. (read.0 ≤ 4096)
-        × (bytes.now ≡ worded (word.now ∷ decimal read.0 ∷ []) ++ read.1.now)) }
+        × (bytes.now ≡ line_of_words (word.now ∷ decimal read.0 ∷ []) ++ read.1.now)) }
     ensures fault { IfErr result (IsNoCount word.now bytes.now) }
 {
     let (number, rest) = number_line(alloc, bytes, word)?;

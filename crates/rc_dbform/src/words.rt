@@ -2,7 +2,7 @@
 ghost use Rattle.std.specs.Prelude.{◌≡◌, ℕ, List, [], ◌∷◌, ◌++◌, length, map};
 ghost use Rattle.std.specs.Prelude.{IfOk, IfErr, MatchOption, string_bytes};
 ghost use Rattle.rc_db.specs.Service.{IsScript};
-ghost use Rattle.rc_dbform.specs.Text.{worded};
+ghost use Rattle.rc_dbform.specs.Text.{line_of_words};
 ghost use Rattle.rc_dbform.specs.Reading.{IsNumber, IsNoNumber};
 ghost use Rattle.rc_dbform.specs.Words.{BeginsWith, IsPlain, IsNoLine};
 
@@ -13,7 +13,7 @@ use std::alloc::Global;
 /// The most bytes of a oneshot's text.
 pub(crate) const MAX_TEXT: u32 = 65_536;
 
-/// The words of the line at the front, and what follows it.
+/// The words of the line at the beginning, and what follows it.
 pub(crate) fn words_of<'a>(
     alloc: Global,
     bytes: &'a [u8],
@@ -29,7 +29,7 @@ pub(crate) fn words_of<'a>(
     }
 }
 
-/// The number behind this word in a line of the two at the front, and what follows that line.
+/// The number after this word in a line of the two at the beginning, and what follows that line.
 pub(crate) fn number_line<'a>(
     alloc: Global,
     bytes: &'a [u8],
@@ -37,7 +37,7 @@ pub(crate) fn number_line<'a>(
 ) -> Result<(&'a [u8], &'a [u8]), FormFault>
     requires { IsPlain word.now }
     ensures ok { IfOk result (λ read. IsNumber read.0.now
-        × (bytes.now ≡ worded (word.now ∷ read.0.now ∷ []) ++ read.1.now)) }
+        × (bytes.now ≡ line_of_words (word.now ∷ read.0.now ∷ []) ++ read.1.now)) }
     ensures fault { IfErr result (IsNoNumber word.now bytes.now) }
 {
     match rc_textform::number_line(alloc, bytes, word) {

@@ -6,13 +6,11 @@ use Rattle.std.proofs.lemmas.List.Elements.{All-head, All-tail, All-push, All-co
 use Rattle.std.proofs.lemmas.List.Quantifiers.{all_pairs_push}
 use Rattle.std.proofs.lemmas.Slice.Eq.{bytes_eq-Decides}
 use Rattle.std.specs.Str.{bytes_eq}
-use Rattle.rc_set.specs.Set.{Has, Holds, IsAscending}
-use Rattle.rc_names.specs.Name.{IsName}
-use Rattle.rc_names.specs.Names.{IsBefore, IsInByteOrder}
-use Rattle.rc_db.specs.Bundles.{Bundles, names_of, value_of, IsTable, IsChangedAt}
+use Rattle.rc_model.specs.Names.{Has, Holds, IsAscending, IsName, IsBefore, IsInByteOrder}
+use Rattle.rc_model.specs.Database.{Bundles, names_of, value_of, IsTable, IsChangedAt}
 use Rattle.rc_dbtext.specs.Parts.{IsNamed}
 use Rattle.rc_dbtext.specs.Spelling.{members, name_at}
-use Rattle.rc_names.proofs.ByteOrder.{not_before_itself}
+use Rattle.rc_model.proofs.ByteOrder.{not_before_itself}
 use Rattle.rc_dbtext.proofs.Naming.{mapped_member, member_mapped, named_back}
 
 -- the first of a list, or one of the rest
@@ -112,7 +110,7 @@ module _ (name : List ℕ) (set : List Bool) where
       by true e found later = (0, omega arith, sym ((bytes_eq-Decides name bundle.0).0 e))
       by false e found later = at_rest bundle.0 (names_of table) name (later found)
 
-  -- a table in which a name behind all others has a set is the old one and that bundle
+  -- a table in which a name after all others has a set is the old one and that bundle
   pub added_last : ((a b : Bundles) → IsTable a → IsTable b → ((x : List ℕ) → value_of a x ≡ value_of b x) → a ≡ b) → (old new : Bundles) → IsTable old → IsTable new → length old < 4096
       → All (λ other. IsBefore other name) (names_of old) → IsChangedAt old name (Some set) new → new ≡ more old
   added_last same old new is_old is_new room last changed =

@@ -2,13 +2,13 @@
 use Rattle.std.proofs.Common.{◌≡◌, ◌∙◌, ◌<◌, ◌↔◌, ℕ, Bool, IsTrue, List, [], length, get_or, slice_get, Some, arith, sym, ap, subst}
 use Rattle.std.proofs.lemmas.List.{get_or-map, length-map}
 use Rattle.std.proofs.lemmas.Option.{slice_get_within, slice_get-get_or, get_or_from_slice_get}
-use Rattle.rc_names.specs.declared.kind.Kind.TheVariants as kinds
-use Rattle.rc_names.specs.Names.{IsInByteOrder}
+use Rattle.rc_model.specs.declared.Kind.TheVariants as kinds
+use Rattle.rc_model.specs.Names.{IsInByteOrder}
 use Rattle.rc_dbform.specs.Text.{ServiceText, BundleText, DbText}
 use Rattle.rc_dbtext.specs.Meaning.{IsComplete, IsLongrunName, service_names}
 use Rattle.rc_dbtext.specs.Parts.{AreBundlesComplete, AreKnown, AreServicesComplete, IsApart, IsKnown}
 use Rattle.rc_dbtext.specs.Spelling.{name_at}
-use Rattle.rc_names.proofs.ByteOrder.{one_place}
+use Rattle.rc_model.proofs.ByteOrder.{one_place}
 use Rattle.rc_dbtext.proofs.Naming.{place_of}
 
 -- both halves together, over the names of the services

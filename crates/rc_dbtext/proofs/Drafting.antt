@@ -3,16 +3,15 @@ use Rattle.std.proofs.Common.{◌≡◌, ◌∙◌, ℕ, ◌+◌, ◌<◌, ◌�
 use Rattle.std.proofs.lemmas.Bool.{cases_lt}
 use Rattle.std.proofs.lemmas.List.{length-map, length-replicate, get_or-map, get_or-replicate, get_or_past, same_lists, map-append}
 use Rattle.std.proofs.lemmas.List.Elements.{Contains-append_left, Contains-get_or, Contains-push, Contains-push_cases}
-use Rattle.rc_names.specs.declared.kind.Kind.TheVariants as kinds
-use Rattle.rc_set.specs.Set.{Has, Holds}
-use Rattle.rc_names.specs.Names.{IsInByteOrder}
-use Rattle.rc_graph.specs.Needs.{Needs, AreNeeds, EachNeedsNext}
+use Rattle.rc_model.specs.declared.Kind.TheVariants as kinds
+use Rattle.rc_model.specs.Names.{Has, Holds, IsInByteOrder}
+use Rattle.rc_model.specs.Graph.{Needs, AreNeeds, EachNeedsNext}
 use Rattle.rc_graph.specs.Cycle.{IsCycle}
 use Rattle.rc_dbform.specs.Text.{ServiceText, OfLongrun}
 use Rattle.rc_dbtext.specs.Meaning.{service_names, EachNeedsNextByName, IsCyclic, NeedsByName}
 use Rattle.rc_dbtext.specs.Parts.{AreNeedsOf, IsNamed}
 use Rattle.rc_dbtext.specs.Spelling.{name_at}
-use Rattle.rc_names.proofs.ByteOrder.{one_place}
+use Rattle.rc_model.proofs.ByteOrder.{one_place}
 use Rattle.rc_dbtext.proofs.Naming.{mapped_member, named_back}
 
 -- what stands past the end of the services

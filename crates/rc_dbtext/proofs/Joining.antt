@@ -4,18 +4,17 @@ use Rattle.std.proofs.lemmas.List.{length-map, length-take, get_or-map, get_or-t
 use Rattle.std.proofs.lemmas.List.Elements.{All-contains, All-push}
 use Rattle.std.proofs.lemmas.Option.{slice_get_within, slice_get-get_or, get_or_from_slice_get}
 use Rattle.std.specs.List.{AllZip}
-use Rattle.rc_names.specs.declared.kind.Kind.TheVariants as kinds
-use Rattle.rc_names.specs.Names.{IsBefore, IsInByteOrder}
-use Rattle.rc_graph.specs.Needs.{Needs, AreNeeds}
-use Rattle.rc_db.specs.Service.{Service, IsWritableService}
-use Rattle.rc_db.specs.Bundles.{Bundles, AreBelow, names_of}
-use Rattle.rc_db.specs.Database.{Database, AreApart, Feeds, FitTogether, IsKind}
+use Rattle.rc_model.specs.declared.Kind.TheVariants as kinds
+use Rattle.rc_model.specs.Names.{IsBefore, IsInByteOrder}
+use Rattle.rc_model.specs.Graph.{Needs, AreNeeds}
+use Rattle.rc_model.specs.Database.{Service, Bundles, HaveBound, names_of, Database, AreApart, Feeds, FitTogether, IsKind}
+use Rattle.rc_db.specs.Service.{IsWritableService}
 use Rattle.rc_dbform.specs.Text.{Body, OfLongrun, OfOneshot, ServiceText, BundleText, DbText, IsDbText}
 use Rattle.rc_dbtext.specs.Meaning.{FeedsWell, IsComplete, IsLongrunName, bundle_names, service_names}
 use Rattle.rc_dbtext.specs.Parts.{AreNeedsOf, FeedsKnown, IsServiceOf}
 use Rattle.rc_dbtext.specs.Spelling.{bundle_text, head_of, members, name_at, service_text, service_texts, text_of}
 use Rattle.rc_dbtext.proofs.Zips.{zip_at, zip_length}
-use Rattle.rc_names.proofs.ByteOrder.{one_place}
+use Rattle.rc_model.proofs.ByteOrder.{one_place}
 use Rattle.rc_dbtext.proofs.Naming.{mapped_member, member_mapped, place_of}
 use Rattle.rc_dbtext.proofs.Drafting.{no_service, row_at}
 
@@ -65,9 +64,9 @@ bundled_one names old new forms i form set within is so_far added listed =
     ap (map (bundle_text names)) added ∙ map_push (bundle_text names) old (form.name, set) ∙ ap (λ (bs : List BundleText). bs ++ bundle_text names (form.name, set) ∷ []) so_far
     ∙ ap (λ (b : BundleText). take i forms ++ b ∷ []) (one ∙ is) ∙ sym (take_more forms i form within)
 
-pub below_one : (bound : ℕ) (old new : Bundles) (name : List ℕ) (set : List Bool) → AreBelow bound old → new ≡ old ++ (name, set) ∷ [] → length set ≡ bound → AreBelow bound new
+pub below_one : (bound : ℕ) (old new : Bundles) (name : List ℕ) (set : List Bool) → HaveBound bound old → new ≡ old ++ (name, set) ∷ [] → length set ≡ bound → HaveBound bound new
 below_one bound old new name set below added fits_in =
-    let P : Bundles → Type 0 = λ table. AreBelow bound table in
+    let P : Bundles → Type 0 = λ table. HaveBound bound table in
     subst P (sym added) (All-push (λ (b : List ℕ × List Bool). length b.1 ≡ bound) old (name, set) below fits_in)
 
 -- what is fed is among the names
@@ -83,7 +82,7 @@ all_feed_known names services named well = λ k d within. feeds_known names serv
 module _ (t : DbText) (names : List (List ℕ)) (services : List Service) (lists : List (List ℕ)) (table : Bundles)
     (is : IsDbText t) (complete : IsComplete t) (named : names ≡ service_names t.services) (order : IsInByteOrder names)
     (each : AllZip (IsServiceOf names) t.services services) (needs : AreNeedsOf names t.services lists) (are : AreNeeds lists)
-    (bundles : map (bundle_text names) table ≡ t.bundles) (below : AreBelow (length names) table) where
+    (bundles : map (bundle_text names) table ≡ t.bundles) (below : HaveBound (length names) table) where
   abbrev pub made : Database
   made = record { names = names; services = services; needs = lists; table = table }
 

@@ -1,7 +1,8 @@
 -- No text of a database is refused, and each is that of one database.
 use Rattle.std.proofs.Common.{◌≡◌, ◌≢◌, ◌∙◌, ◌++◌, inl, inr, ℕ, List, [], refl, sym, subst}
 use Rattle.std.proofs.lemmas.List.{append-nil}
-use Rattle.rc_db.specs.Database.{Database, IsDatabase, IsWritable}
+use Rattle.rc_model.specs.Database.{Database, IsDatabase}
+use Rattle.rc_db.specs.Database.{IsWritable}
 use Rattle.rc_dbform.specs.declared.fault.FormFault.{FormFault}
 use Rattle.rc_dbform.specs.declared.fault.FormFault.TheVariants as form
 use Rattle.rc_dbform.specs.Text.{DbText, IsDbText, db_lines, db_text}

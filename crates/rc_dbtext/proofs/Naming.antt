@@ -3,11 +3,10 @@ use Rattle.std.proofs.Common.{◌≡◌, ◌∙◌, ℕ, ◌<◌, ◌↔◌, Lis
 use Rattle.std.proofs.lemmas.List.{get_or-map, length-map}
 use Rattle.std.proofs.lemmas.List.Elements.{Contains-get_or, All-contains}
 use Rattle.std.proofs.lemmas.Option.{slice_get_within, slice_get-get_or, get_or_from_slice_get}
-use Rattle.rc_set.specs.Set.{IsAscending}
-use Rattle.rc_names.specs.Names.{IsInByteOrder}
+use Rattle.rc_model.specs.Names.{IsAscending, IsInByteOrder}
 use Rattle.rc_dbtext.specs.Parts.{IsNamed}
 use Rattle.rc_dbtext.specs.Spelling.{name_at}
-use Rattle.rc_names.proofs.ByteOrder.{same_names}
+use Rattle.rc_model.proofs.ByteOrder.{same_names}
 
 -- a member stands at some place
 pub place_of : {X : Type 0} (xs : List X) (x : X) → Contains xs x → (k : ℕ) × (slice_get xs k ≡ Some x)

@@ -1,4 +1,4 @@
--- What refuses bytes is one, want of memory aside.
+-- What refuses bytes is one, out of memory aside.
 use Rattle.std.proofs.Common.{◌≡◌, ◌≢◌, ◌∙◌, ◌+◌, ◌++◌, ◌∷◌, ◌⊎◌, inl, inr, ℕ, List, [], length, arith, refl, sym, ap, subst}
 use Rattle.rc_dbform.specs.declared.fault.FormFault.{FormFault}
 use Rattle.rc_dbform.specs.declared.fault.FormFault.TheVariants as form
@@ -12,7 +12,7 @@ use Rattle.rc_dbtext.proofs.Lawful.{FormLaws}
 abbrev pub IsOneRefusal : Type 0
 IsOneRefusal = (bytes : List ℕ) (a b : FormFault) → IsRefused IsDbText db_lines bytes a → IsRefused IsDbText db_lines bytes b → a ≢ form.Memory → b ≢ form.Memory → a ≡ b
 
--- a refusal for the form, told in bytes from the front
+-- a refusal for the form, told in bytes from the beginning
 abbrev IsTold : List ℕ → FormFault → TextFault → Type 0
 IsTold bytes (form.Bad left) fault = (offset : ℕ) × (offset + left ≡ length bytes) × (fault ≡ Bad offset)
 IsTold bytes form.Version fault = fault ≡ Version

@@ -2,10 +2,11 @@
 use Rattle.std.proofs.Common.{◌≡◌, ◌∙◌, ℕ, ◌+◌, ◌<◌, inl, inr, List, [], ◌∷◌, ◌++◌, length, get_or, take, Contains, sym, ap, subst}
 use Rattle.std.proofs.lemmas.List.{take_more}
 use Rattle.std.proofs.lemmas.List.Elements.{Contains-append_left, Contains-push, Contains-push_cases}
-use Rattle.rc_names.proofs.ByteOrder.{front_in_order, same_names}
-use Rattle.rc_names.specs.Names.{IsInByteOrder, Adds}
+use Rattle.rc_model.proofs.ByteOrder.{front_in_order, same_names}
+use Rattle.rc_model.specs.Names.{IsInByteOrder}
+use Rattle.rc_names.specs.Names.{Adds}
 
--- the front of texts in order, with the next text added, is the front up to that text
+-- the prefix of texts in order, with the next text added, is the prefix up to that text
 pub front_adds : (texts old new : List (List ℕ)) (i : ℕ) (text : List ℕ) → IsInByteOrder texts → i < length texts → get_or texts i text ≡ text → old ≡ take i texts
     → Adds old text new → IsInByteOrder new → new ≡ take (i + 1) texts
 front_adds texts old new i text order within here before adds after =

@@ -1,7 +1,7 @@
 -- What was read of bytes, as a database and as a refusal.
 use Rattle.std.proofs.Common.{◌≡◌, ◌∙◌, ◌+◌, ◌-◌, ◌++◌, ℕ, inr, List, [], length, arith, sym, ap, subst, length-append}
 use Rattle.std.proofs.lemmas.List.{nil_from_length}
-use Rattle.rc_db.specs.Database.{Database}
+use Rattle.rc_model.specs.Database.{Database}
 use Rattle.rc_dbform.specs.Text.{DbText, db_text}
 use Rattle.rc_dbtext.specs.declared.fault.TextFault.{TextFault}
 use Rattle.rc_dbtext.specs.declared.fault.TextFault.TheVariants.{Bad, Version, NotSorted, Cyclic, TooMany, Dangling, Memory}

@@ -2,8 +2,8 @@
 use Rattle.std.proofs.Common.{◌≡◌, ℕ, ◌+◌, ◌<◌, ◌↔◌, Bool, true, false, IsTrue, List, [], ◌∷◌, length, map, arith}
 use Rattle.std.proofs.lemmas.List.{get_or-map, length-map}
 use Rattle.std.specs.List.{IsAllAdjacentAnswer}
-use Rattle.rc_names.specs.Names.{IsInByteOrder}
-use Rattle.rc_textform.proofs.Orders.{before, sorted_answer}
+use Rattle.rc_model.specs.Names.{IsInByteOrder}
+use Rattle.rc_model.proofs.WordOrders.{before, sorted_answer}
 
 module _ {X : Type 0} (name : X → List ℕ) where
   -- what was found of values and the next is what was found of their names

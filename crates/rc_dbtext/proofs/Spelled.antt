@@ -5,18 +5,17 @@ use Rattle.std.proofs.lemmas.List.{length-map, get_or-map, get_or_default}
 use Rattle.std.proofs.lemmas.List.Elements.{All-contains, All-map, Contains-get_or}
 use Rattle.std.proofs.lemmas.Option.{slice_get_within, slice_get-get_or, get_or_from_slice_get, same_Some}
 use Rattle.std.specs.Option.{option_map}
-use Rattle.rc_names.specs.declared.kind.Kind.{Kind}
-use Rattle.rc_names.specs.declared.kind.Kind.TheVariants as kinds
-use Rattle.rc_names.specs.Name.{IsName}
-use Rattle.rc_names.specs.Names.{IsInByteOrder}
-use Rattle.rc_set.specs.Set.{Has, IsAscending}
-use Rattle.rc_graph.specs.Needs.{Needs, EachNeedsNext}
-use Rattle.rc_db.specs.Service.{Service, HasLimits, IsScript, IsWritableService}
-use Rattle.rc_db.specs.Database.{Database, IsDatabase, IsKind, IsWritable}
+use Rattle.rc_model.specs.declared.Kind.{Kind}
+use Rattle.rc_model.specs.declared.Kind.TheVariants as kinds
+use Rattle.rc_model.specs.Names.{IsName, IsInByteOrder, Has, IsAscending}
+use Rattle.rc_model.specs.Graph.{Needs, EachNeedsNext}
+use Rattle.rc_model.specs.Database.{Service, HasLimits, Database, IsDatabase, IsKind}
+use Rattle.rc_db.specs.Service.{IsScript, IsWritableService}
+use Rattle.rc_db.specs.Database.{IsWritable}
 use Rattle.rc_dbform.specs.Text.{OfLongrun, ServiceText, BundleText, IsBody, IsServiceText, IsBundleText, IsDbText}
 use Rattle.rc_dbtext.specs.Meaning.{EachNeedsNextByName, FeedsWell, IsComplete, IsCyclic, IsLongrunName, IsSorted, NeedsByName, service_names}
 use Rattle.rc_dbtext.specs.Spelling.{body_of, bundle_text, members, name_at, service_text, service_texts, text_of}
-use Rattle.rc_names.proofs.ByteOrder.{one_place}
+use Rattle.rc_model.proofs.ByteOrder.{one_place}
 use Rattle.rc_dbtext.proofs.Naming.{mapped_member, member_at, member_mapped, names_ascend, place_of}
 use Rattle.rc_dbtext.proofs.Bundling.{has_member, members_ascend}
 use Rattle.rc_dbtext.proofs.Joining.{names_of_bundles}

@@ -5,16 +5,16 @@ use Rattle.std.proofs.lemmas.List.{ext_get_or}
 use Rattle.std.proofs.lemmas.List.Elements.{All-head, All-tail, Contains-get_or}
 use Rattle.std.proofs.lemmas.Option.{slice_get-get_or}
 use Rattle.std.specs.Option.{option_map}
-use Rattle.rc_names.specs.declared.kind.Kind.{Kind}
-use Rattle.rc_names.specs.declared.kind.Kind.TheVariants as kinds
-use Rattle.rc_names.specs.Names.{IsInByteOrder}
-use Rattle.rc_db.specs.Service.{Service, IsWritableService}
-use Rattle.rc_db.specs.Bundles.{Bundles, AreBelow}
-use Rattle.rc_db.specs.Database.{Database, IsDatabase, IsWritable}
+use Rattle.rc_model.specs.declared.Kind.{Kind}
+use Rattle.rc_model.specs.declared.Kind.TheVariants as kinds
+use Rattle.rc_model.specs.Names.{IsInByteOrder}
+use Rattle.rc_model.specs.Database.{Service, Bundles, HaveBound, Database, IsDatabase}
+use Rattle.rc_db.specs.Service.{IsWritableService}
+use Rattle.rc_db.specs.Database.{IsWritable}
 use Rattle.rc_dbform.specs.Text.{OfLongrun, OfOneshot, ServiceText, BundleText, DbText}
 use Rattle.rc_dbtext.specs.Meaning.{service_names}
 use Rattle.rc_dbtext.specs.Spelling.{body_of, bundle_text, members, name_at, service_text, service_texts, text_of}
-use Rattle.rc_names.proofs.ByteOrder.{one_place}
+use Rattle.rc_model.proofs.ByteOrder.{one_place}
 use Rattle.rc_dbtext.proofs.Bundling.{has_member, member_has}
 use Rattle.rc_dbtext.proofs.Spelled.{below, fed_low, has_low, named_texts}
 
@@ -121,7 +121,7 @@ module _ (names : List (List ℕ)) (order : IsInByteOrder names) where
       let low : get_or (members set) k d < length set = has_low set (get_or (members set) k d) (has_member set (get_or (members set) k d) (Contains-get_or (members set) k d within)) in
       omega arith
 
-  pub tables_once : (a b : Bundles) → AreBelow (length names) a → AreBelow (length names) b → map (bundle_text names) a ≡ map (bundle_text names) b → a ≡ b
+  pub tables_once : (a b : Bundles) → HaveBound (length names) a → HaveBound (length names) b → map (bundle_text names) a ≡ map (bundle_text names) b → a ≡ b
   tables_once [] [] below_a below_b same = refl
   tables_once [] (y ∷ b) below_a below_b same = absurd (omega (arith, ap length same))
   tables_once (x ∷ a) [] below_a below_b same = absurd (omega (arith, ap length same))
@@ -159,7 +159,7 @@ text_once a b is_a can_a is_b can_b same =
     sym (named_texts a.names a.names a.services a.needs is_a.fit.services is_a.fit.graph) ∙ ap (λ (t : DbText). service_names t.services) same ∙ named_texts b.names b.names b.services b.needs is_b.fit.services is_b.fit.graph in
     let Rows : List (List ℕ) → Type 0 = λ ns. All (λ row. All (λ t. t < length ns) row) b.needs in
     let Plain : List (List ℕ) → Type 0 = λ ns. All (IsPlain (length ns)) b.services in
-    let Below : List (List ℕ) → Type 0 = λ ns. AreBelow (length ns) b.table in
+    let Below : List (List ℕ) → Type 0 = λ ns. HaveBound (length ns) b.table in
     let services = texts_once a.names is_a.names.order a.names a.services b.services a.needs b.needs is_a.fit.services (is_b.fit.services ∙ ap length (sym names)) is_a.fit.graph (is_b.fit.graph ∙ ap length (sym names))
     (services_plain a is_a can_a) (subst Plain (sym names) (services_plain b is_b can_b)) (rows_low a is_a can_a) (subst Rows (sym names) (rows_low b is_b can_b))
     (ap (λ (t : DbText). t.services) same ∙ ap (λ (ns : List (List ℕ)). service_texts ns ns b.services b.needs) (sym names)) in

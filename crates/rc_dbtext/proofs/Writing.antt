@@ -8,14 +8,12 @@ use Rattle.std.specs.Prelude.{codes}
 use Rattle.std.specs.Fmt.{decimal}
 use Rattle.std.specs.List.{flat_map}
 use Rattle.std.specs.Option.{option_map}
-use Rattle.rc_set.specs.Set.{Has, Lists}
-use Rattle.rc_names.specs.Names.{IsInByteOrder}
-use Rattle.rc_db.specs.Service.{Service}
-use Rattle.rc_db.specs.Database.{Database, IsDatabase}
-use Rattle.rc_dbform.specs.Text.{Line, OfService, OfNeeds, Last, ServiceText, BundleText, body_lines, bundle_lines, service_lines, spell, spells, worded}
+use Rattle.rc_model.specs.Names.{Has, Lists, IsInByteOrder}
+use Rattle.rc_model.specs.Database.{Service, Database, IsDatabase}
+use Rattle.rc_dbform.specs.Text.{Line, OfService, OfNeeds, Last, ServiceText, BundleText, body_lines, bundle_lines, service_lines, spell, spells, line_of_words}
 use Rattle.rc_dbtext.specs.Lines.{bundles_part, services_part}
 use Rattle.rc_dbtext.specs.Spelling.{body_of, bundle_text, head_of, members, name_at, service_text, service_texts, spelling, text_of}
-use Rattle.rc_names.proofs.ByteOrder.{one_place}
+use Rattle.rc_model.proofs.ByteOrder.{one_place}
 use Rattle.rc_dbtext.proofs.Naming.{mapped_member, member_mapped, named_back, names_ascend}
 use Rattle.rc_dbtext.proofs.Bundling.{has_member, member_has, members_ascend}
 use Rattle.rc_dbtext.proofs.Spelled.{has_low, named_texts, text_there}
@@ -24,9 +22,9 @@ use Rattle.rc_dbtext.proofs.Spelled.{has_low, named_texts, text_there}
 abbrev pub no_bundle : BundleText
 no_bundle = record { name = []; members = [] }
 
--- a count behind its word is its line
-pub count_line : (word old now : List ℕ) (n m : ℕ) → n ≡ m → now ≡ old ++ worded (word ∷ decimal n ∷ []) → now ≡ old ++ (worded (word ∷ decimal m ∷ []) ++ [])
-count_line word old now n m same is = is ∙ ap (λ (k : ℕ). old ++ worded (word ∷ decimal k ∷ [])) same ∙ ap (λ (l : List ℕ). old ++ l) (sym (append-nil (worded (word ∷ decimal m ∷ []))))
+-- a count after its word is its line
+pub count_line : (word old now : List ℕ) (n m : ℕ) → n ≡ m → now ≡ old ++ line_of_words (word ∷ decimal n ∷ []) → now ≡ old ++ (line_of_words (word ∷ decimal m ∷ []) ++ [])
+count_line word old now n m same is = is ∙ ap (λ (k : ℕ). old ++ line_of_words (word ∷ decimal k ∷ [])) same ∙ ap (λ (l : List ℕ). old ++ l) (sym (append-nil (line_of_words (word ∷ decimal m ∷ []))))
 
 module _ {A : Type 0} (lines : A → List Line) (count : Line) (xs : List A) where
   -- the count alone
@@ -121,19 +119,19 @@ module _ (d : Database) (is : IsDatabase d) where
 
   -- a bundle is written where its line is
   pub bundle_written : (names : List (List ℕ)) (place : ℕ) (name : List ℕ) (set : List Bool) (text : BundleText) (old new : List ℕ) → names ≡ d.names → slice_get d.table place ≡ Some (name, set)
-      → slice_get (map (bundle_text d.names) d.table) place ≡ Some text → new ≡ old ++ worded (codes "bundle" ∷ name ∷ map (name_at names) (members set)) → new ≡ old ++ spells (bundle_lines text)
+      → slice_get (map (bundle_text d.names) d.table) place ≡ Some text → new ≡ old ++ line_of_words (codes "bundle" ∷ name ∷ map (name_at names) (members set)) → new ≡ old ++ spells (bundle_lines text)
   bundle_written names place name set text old new same at text_at line =
       let listed : map (name_at names) (members set) ≡ map (name_at d.names) (members set) = ap (λ (ns : List (List ℕ)). map (name_at ns) (members set)) same in
       let is_text : bundle_text d.names (name, set) ≡ text = same_Some (bundle_text d.names (name, set)) text (ap (option_map (bundle_text d.names)) (sym at) ∙ sym (slice_get-map (bundle_text d.names) d.table place) ∙ text_at) in
-      let words : List ℕ = worded (codes "bundle" ∷ name ∷ map (name_at d.names) (members set)) in
-      line ∙ ap (λ (ns : List (List ℕ)). old ++ worded (codes "bundle" ∷ name ∷ ns)) listed
+      let words : List ℕ = line_of_words (codes "bundle" ∷ name ∷ map (name_at d.names) (members set)) in
+      line ∙ ap (λ (ns : List (List ℕ)). old ++ line_of_words (codes "bundle" ∷ name ∷ ns)) listed
       ∙ ap (λ (l : List ℕ). old ++ l) (sym (append-nil words) ∙ sym (append-nil (words ++ []))) ∙ ap (λ (t : BundleText). old ++ spells (bundle_lines t)) is_text
 
 -- the parts in a row are the text
-pub parts_written : (d : Database) (a b c e : List ℕ) → a ≡ worded (codes "undorc-db" ∷ codes "1" ∷ []) → b ≡ a ++ spells (services_part d) → c ≡ b ++ spells (bundles_part d) → e ≡ c ++ (codes "end" ++ 10 ∷ []) → e ≡ spelling d
+pub parts_written : (d : Database) (a b c e : List ℕ) → a ≡ line_of_words (codes "undorc-db" ∷ codes "1" ∷ []) → b ≡ a ++ spells (services_part d) → c ≡ b ++ spells (bundles_part d) → e ≡ c ++ (codes "end" ++ 10 ∷ []) → e ≡ spelling d
 unfolding spelling
 parts_written d a b c e first second third fourth =
-    let front : List ℕ = worded (codes "undorc-db" ∷ codes "1" ∷ []) in
+    let front : List ℕ = line_of_words (codes "undorc-db" ∷ codes "1" ∷ []) in
     let end : List ℕ = codes "end" ++ 10 ∷ [] in
     fourth ∙ ap (λ (l : List ℕ). l ++ end) (third ∙ ap (λ (l : List ℕ). l ++ spells (bundles_part d)) (second ∙ ap (λ (l : List ℕ). l ++ spells (services_part d)) first))
     ∙ append_assoc (front ++ spells (services_part d)) (spells (bundles_part d)) end ∙ append_assoc front (spells (services_part d)) (spells (bundles_part d) ++ end)

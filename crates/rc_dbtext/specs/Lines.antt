@@ -1,17 +1,17 @@
 use Rattle.std.specs.Prelude.{ℕ, List, ◌∷◌}
 use Rattle.std.specs.List.{flat_map}
-use Rattle.rc_db.specs.Database.{Database}
-use Rattle.rc_dbform.specs.Text.{Line, ServiceCount, BundleCount, bundle_lines, counted, service_lines}
+use Rattle.rc_model.specs.Database.{Database}
+use Rattle.rc_dbform.specs.Text.{Line, ServiceCount, BundleCount, bundle_lines, count_and_lines, service_lines}
 use Rattle.rc_dbtext.specs.Spelling.{text_of}
 
 -- words with a space before each
-abbrev pub spaced : List (List ℕ) → List ℕ
-spaced words = flat_map (λ word. 32 ∷ word) words
+abbrev pub words_after_spaces : List (List ℕ) → List ℕ
+words_after_spaces words = flat_map (λ word. 32 ∷ word) words
 
 -- the lines of the services, their count in front
 abbrev pub services_part : Database → List Line
-services_part d = counted ServiceCount service_lines (text_of d).services
+services_part d = count_and_lines ServiceCount service_lines (text_of d).services
 
 -- the lines of the bundles, their count in front
 abbrev pub bundles_part : Database → List Line
-bundles_part d = counted BundleCount bundle_lines (text_of d).bundles
+bundles_part d = count_and_lines BundleCount bundle_lines (text_of d).bundles

@@ -1,6 +1,6 @@
 use Rattle.std.specs.Prelude.{◌≡◌, ℕ, List, [], ◌∷◌, ◌++◌, map, All, Contains, IfSome}
-use Rattle.rc_names.specs.declared.kind.Kind.TheVariants as kinds
-use Rattle.rc_names.specs.Names.{IsInByteOrder}
+use Rattle.rc_model.specs.declared.Kind.TheVariants as kinds
+use Rattle.rc_model.specs.Names.{IsInByteOrder}
 use Rattle.rc_dbform.specs.Text.{Body, OfLongrun, OfOneshot, ServiceText, BundleText, DbText}
 
 abbrev pub service_names : List ServiceText → List (List ℕ)

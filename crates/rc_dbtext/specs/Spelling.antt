@@ -1,9 +1,8 @@
 use Rattle.std.specs.Prelude.{ℕ, suc, Bool, true, false, List, [], ◌∷◌, map, unwrap_or, slice_index_or}
 use Rattle.std.specs.Option.{option_map}
-use Rattle.rc_names.specs.declared.kind.Kind.{Kind}
-use Rattle.rc_names.specs.declared.kind.Kind.TheVariants as kinds
-use Rattle.rc_db.specs.Service.{Service}
-use Rattle.rc_db.specs.Database.{Database}
+use Rattle.rc_model.specs.declared.Kind.{Kind}
+use Rattle.rc_model.specs.declared.Kind.TheVariants as kinds
+use Rattle.rc_model.specs.Database.{Service, Database}
 use Rattle.rc_dbform.specs.Text.{Head, Body, OfLongrun, OfOneshot, ServiceText, BundleText, DbText, db_text}
 
 -- the members of a set, ascending
@@ -16,7 +15,7 @@ members (false ∷ rest) = map suc (members rest)
 abbrev pub name_at : List (List ℕ) → ℕ → List ℕ
 name_at names s = slice_index_or names s []
 
--- what the text gives behind the needs of a service of this kind
+-- what the text gives after the needs of a service of this kind
 abbrev pub body_of : List (List ℕ) → Kind → Service → Body
 body_of names kinds.Oneshot s = OfOneshot (unwrap_or s.text_up []) s.text_down
 body_of names kinds.Longrun s = OfLongrun (option_map (name_at names) s.producer_for)

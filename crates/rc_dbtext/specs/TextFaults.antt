@@ -7,7 +7,7 @@ use Rattle.rc_dbtext.specs.declared.fault.TextFault.{TextFault}
 use Rattle.rc_dbtext.specs.declared.fault.TextFault.TheVariants.{Bad, Version, NotSorted, Cyclic, TooMany, Dangling, Memory}
 use Rattle.rc_dbtext.specs.Meaning.{IsSorted, IsComplete, IsCyclic}
 
--- the form of the front is refused for this
+-- the form of the prefix is refused for this
 abbrev pub HasFormFault : List ℕ → FormFault → Type 0
 HasFormFault bytes fault = IsRefused IsDbText db_lines bytes fault
 
@@ -19,7 +19,7 @@ IsBadAt bytes offset = (left : ℕ) × (offset + left ≡ length bytes) × HasFo
 abbrev pub BeginsWith : List ℕ → DbText → List ℕ → Type 0
 BeginsWith bytes t rest = IsDbText t × (bytes ≡ db_text t ++ rest)
 
--- behind a text stand more bytes, from this offset on
+-- after a text stand more bytes, from this offset on
 abbrev pub HasMoreAt : List ℕ → ℕ → Type 0
 HasMoreAt bytes offset = (t : DbText) × (rest : List ℕ) × BeginsWith bytes t rest × (rest ≢ []) × (offset ≡ length (db_text t))
 
@@ -33,7 +33,7 @@ IsMeaningFault t TooMany = ⊥
 IsMeaningFault t Dangling = IsSorted t × (IsComplete t → ⊥)
 IsMeaningFault t Memory = Unit {0}
 
--- when the front of bytes is refused: for its form, and where that is a text's, for what the text says
+-- when the prefix of bytes is refused: for its form, and where that is a text's, for what the text says
 abbrev pub IsFrontFault : List ℕ → TextFault → Type 0
 IsFrontFault bytes (Bad offset) = IsBadAt bytes offset
 IsFrontFault bytes Version = HasFormFault bytes form.Version
@@ -43,7 +43,7 @@ IsFrontFault bytes TooMany = HasFormFault bytes form.TooMany
 IsFrontFault bytes Dangling = (t : DbText) × (rest : List ℕ) × BeginsWith bytes t rest × IsMeaningFault t Dangling
 IsFrontFault bytes Memory = Unit {0}
 
--- when bytes that are to be one text are refused: bytes behind a text are bad before it is asked what the text says
+-- when bytes that are to be one text are refused: bytes after a text are bad before it is asked what the text says
 abbrev pub IsWholeFault : List ℕ → TextFault → Type 0
 IsWholeFault bytes (Bad offset) = IsBadAt bytes offset ⊎ HasMoreAt bytes offset
 IsWholeFault bytes Version = HasFormFault bytes form.Version

@@ -2,8 +2,8 @@
 ghost use Rattle.std.specs.Prelude.{◌≡◌, ◌<◌, ◌≤◌, ◌↔◌, ◌⊎◌, ℕ, length, All, Contains, IfOk, IfSome, OnOk, MatchOption, Some, None, slice_get, string_bytes};
 ghost use Rattle.std.specs.List.{AllZip};
 ghost use Rattle.std.specs.Option.{option_map};
-ghost use Rattle.rc_names.specs.Names.{AreNames, IsInByteOrder};
-ghost use Rattle.rc_graph.specs.Needs.{Needs};
+ghost use Rattle.rc_model.specs.Names.{AreNames, IsInByteOrder};
+ghost use Rattle.rc_model.specs.Graph.{Needs};
 ghost use Rattle.rc_dbform.specs.Text.{IsHead, IsServiceText};
 ghost use Rattle.rc_dbtext.specs.Meaning.{IsCyclic, service_names};
 ghost use Rattle.rc_dbtext.specs.Parts.{AreNeedsOf, FeedsKnown, IsNamed, IsServiceOf};

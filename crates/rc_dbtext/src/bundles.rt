@@ -1,7 +1,7 @@
 //! The bundles of a database, made of what a text says.
 ghost use Rattle.std.specs.Prelude.{◌≡◌, ◌<◌, ◌≤◌, ◌++◌, ◌∷◌, [], Bool, List, length, map, All, Contains, IfOk, OnOk};
-ghost use Rattle.rc_names.specs.Names.{IsBefore, IsInByteOrder};
-ghost use Rattle.rc_db.specs.Bundles.{AreBelow, names_of};
+ghost use Rattle.rc_model.specs.Names.{IsBefore, IsInByteOrder};
+ghost use Rattle.rc_model.specs.Database.{HaveBound, names_of};
 ghost use Rattle.rc_dbtext.specs.Meaning.{bundle_names};
 ghost use Rattle.rc_dbtext.specs.Spelling.{bundle_text, members, name_at};
 
@@ -20,7 +20,7 @@ pub fn table_of(alloc: Global, forms: &[BundleForm], names: &Names) -> Result<Ta
     requires each { All (λ b. IsInByteOrder b.members) forms.now }
     requires known { All (λ b. All (Contains names.now) b.members) forms.now }
     ensures bundles { IfOk result (λ table. map (bundle_text names.now) table ≡ forms.now) }
-    ensures bounds { IfOk result (AreBelow (length names.now)) }
+    ensures bounds { IfOk result (HaveBound (length names.now)) }
 {
     let mut table = Table::new(alloc);
     for form in forms {

@@ -1,6 +1,7 @@
 //! Laws of the text, each the contract of a function that does nothing.
 ghost use Rattle.std.specs.Prelude.{◌≡◌, ◌≢◌, ◌++◌, ℕ, List, []};
-ghost use Rattle.rc_db.specs.Database.{Database, IsDatabase, IsWritable};
+ghost use Rattle.rc_model.specs.Database.{Database, IsDatabase};
+ghost use Rattle.rc_db.specs.Database.{IsWritable};
 ghost use Rattle.rc_dbtext.specs.Spelling.{spelling};
 ghost use Rattle.rc_dbtext.specs.TextFaults.{IsFrontFault, IsWholeFault};
 ghost use Rattle.rc_dbtext.specs.declared.fault.TextFault.{TextFault};
@@ -8,7 +9,7 @@ ghost use Rattle.rc_dbtext.specs.declared.fault.TextFault.TheVariants.{Memory};
 
 use rc_dbform::laws::{refusals_are_one, text_is_not_refused, text_is_unique};
 
-/// No text of a database is a proper front of another, and each is the text of one database.
+/// No text of a database is a proper prefix of another, and each is the text of one database.
 pub fn spelling_is_unique()
     ensures front { (a b : Database) (rest : List ℕ) → IsDatabase a → IsWritable a →
         IsDatabase b → IsWritable b → spelling a ++ rest ≡ spelling b → rest ≡ [] }
@@ -18,7 +19,7 @@ pub fn spelling_is_unique()
     text_is_unique();
 }
 
-/// The text of a database is refused for want of memory alone, at the front whatever follows.
+/// The text of a database is refused as out of memory alone, at the beginning whatever follows.
 pub fn spelling_is_not_refused()
     ensures front { (d : Database) (rest : List ℕ) (fault : TextFault) → IsDatabase d →
         IsWritable d → IsFrontFault (spelling d ++ rest) fault → fault ≡ Memory }
@@ -29,7 +30,7 @@ pub fn spelling_is_not_refused()
     text_is_not_refused();
 }
 
-/// What refuses bytes is one, want of memory aside: the tests exclude each other.
+/// What refuses bytes is one, out of memory aside: the tests exclude each other.
 pub fn faults_are_one()
     ensures front { (bytes : List ℕ) (a b : TextFault) → IsFrontFault bytes a → IsFrontFault bytes b → a ≢ Memory → b ≢ Memory → a ≡ b }
     ensures whole { (bytes : List ℕ) (a b : TextFault) → IsWholeFault bytes a → IsWholeFault bytes b → a ≢ Memory → b ≢ Memory → a ≡ b }

@@ -2,9 +2,9 @@
 ghost use Rattle.std.specs.Prelude.{◌≡◌, ◌<◌, ◌∷◌, ◌++◌, [], length, map, All, IfSome, OnOk, codes, string_bytes, unwrap_or};
 ghost use Rattle.std.specs.Fmt.{decimal};
 ghost use Rattle.std.specs.Option.{option_map};
-ghost use Rattle.rc_dbform.specs.Text.{OfDown, OfNeeds, OfProducer, OfService, OfUp, body_lines, spell, spells, worded};
+ghost use Rattle.rc_dbform.specs.Text.{OfDown, OfNeeds, OfProducer, OfService, OfUp, body_lines, spell, spells, line_of_words};
 ghost use Rattle.rc_dbform.specs.Text as text;
-ghost use Rattle.rc_dbtext.specs.Lines.{spaced};
+ghost use Rattle.rc_dbtext.specs.Lines.{words_after_spaces};
 ghost use Rattle.rc_dbtext.specs.Spelling.{body_of, head_of, members, name_at};
 
 use rc_db::{NoMem, Service};
@@ -35,7 +35,7 @@ fn push_head_with(
     up: &[u8],
     down: &[u8],
 ) -> Result<(), NoMem>
-    ensures { OnOk result (out.new.items ≡ out.old.items ++ (worded (codes "service" ∷ name.now
+    ensures { OnOk result (out.new.items ≡ out.old.items ++ (line_of_words (codes "service" ∷ name.now
         ∷ text.kind_word service.now.kind ∷ text.flag_word service.now.essential
         ∷ up.now ∷ down.now ∷ []) ++ [])) }
 {
@@ -72,7 +72,7 @@ pub fn push_bundle(
 ) -> Result<(), NoMem>
     requires { length set.now ≡ length names.now }
     ensures { OnOk result (out.new.items ≡ out.old.items
-        ++ worded (codes "bundle" ∷ name.now ∷ map (name_at names.now) (members set.now))) }
+        ++ line_of_words (codes "bundle" ∷ name.now ∷ map (name_at names.now) (members set.now))) }
 {
     out.extend_from_slice(b"bundle")?;
     push_word(out, name.text().as_bytes())?;
@@ -85,7 +85,7 @@ pub fn push_bundle(
 pub fn push_set(alloc: Global, out: &mut Vec<u8>, names: &Names, set: &Set) -> Result<(), NoMem>
     requires { length set.now ≡ length names.now }
     ensures { OnOk result (out.new.items ≡ out.old.items
-        ++ spaced (map (name_at names.now) (members set.now))) }
+        ++ words_after_spaces (map (name_at names.now) (members set.now))) }
 {
     // The names ascend.
     let _count = names.len();
@@ -164,10 +164,10 @@ fn push_down(alloc: Global, out: &mut Vec<u8>, text: &Option<String>) -> Result<
     }
 }
 
-// A text behind the line that says how long it is.
+// A text after the line that says how long it is.
 fn push_text(alloc: Global, out: &mut Vec<u8>, word: &[u8], text: &[u8]) -> Result<(), NoMem>
     ensures { OnOk result (out.new.items ≡ out.old.items
-        ++ (worded (word.now ∷ decimal (length text.now) ∷ []) ++ (text.now ++ 10 ∷ []))) }
+        ++ (line_of_words (word.now ∷ decimal (length text.now) ∷ []) ++ (text.now ++ 10 ∷ []))) }
 {
     let long = text.len().to_string(alloc)?;
     push_line(out, word, long.as_bytes())?;
@@ -176,7 +176,7 @@ fn push_text(alloc: Global, out: &mut Vec<u8>, word: &[u8], text: &[u8]) -> Resu
     Ok(())
 }
 
-/// A count behind its word.
+/// A count after its word.
 pub(crate) fn push_count(
     alloc: Global,
     out: &mut Vec<u8>,
@@ -184,7 +184,7 @@ pub(crate) fn push_count(
     count: u16,
 ) -> Result<(), NoMem>
     ensures { OnOk result (out.new.items ≡ out.old.items
-        ++ worded (word.now ∷ decimal count ∷ [])) }
+        ++ line_of_words (word.now ∷ decimal count ∷ [])) }
 {
     let number = count.to_string(alloc)?;
     push_line(out, word, number.as_bytes())
@@ -194,7 +194,7 @@ pub(crate) fn push_count(
 #[tactic(auto, using(crate::proofs::LineLemmas::two_words))]
 pub fn push_line(out: &mut Vec<u8>, first: &[u8], second: &[u8]) -> Result<(), NoMem>
     ensures { OnOk result (out.new.items ≡ out.old.items
-        ++ worded (first.now ∷ second.now ∷ [])) }
+        ++ line_of_words (first.now ∷ second.now ∷ [])) }
 {
     out.extend_from_slice(first)?;
     push_word(out, second)?;
@@ -205,7 +205,7 @@ pub fn push_line(out: &mut Vec<u8>, first: &[u8], second: &[u8]) -> Result<(), N
 // The names of services, a space before each.
 fn push_ids(out: &mut Vec<u8>, names: &Names, ids: &[u16]) -> Result<(), NoMem>
     requires { All (λ id. id < length names.now) ids.now }
-    ensures { OnOk result (out.new.items ≡ out.old.items ++ spaced (map (name_at names.now) ids.now)) }
+    ensures { OnOk result (out.new.items ≡ out.old.items ++ words_after_spaces (map (name_at names.now) ids.now)) }
 {
     for id in ids {
         push_word(out, word_at(names, *id))?;

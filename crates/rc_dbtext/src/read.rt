@@ -1,7 +1,8 @@
 //! From bytes to a database.
 ghost use Rattle.std.specs.Prelude.{◌≡◌, ◌≤◌, ◌+◌, ◌++◌, ℕ, List, [], length, IfOk, IfErr};
-ghost use Rattle.rc_names.specs.Names.{AreNames};
-ghost use Rattle.rc_db.specs.Database.{FitTogether, IsWritable};
+ghost use Rattle.rc_model.specs.Names.{AreNames};
+ghost use Rattle.rc_model.specs.Database.{FitTogether};
+ghost use Rattle.rc_db.specs.Database.{IsWritable};
 ghost use Rattle.rc_db.specs.Parts.{database_of};
 ghost use Rattle.rc_dbform.specs.Text.{IsDbText};
 ghost use Rattle.rc_dbtext.specs.Meaning.{IsComplete, IsSorted, service_names};
@@ -51,7 +52,7 @@ fn whole_form(alloc: Global, bytes: &[u8]) -> Result<DbForm, TextFault>
     }
 }
 
-/// The database whose text stands at the front of the bytes, and how long that text is.
+/// The database whose text stands at the beginning of the bytes, and how long that text is.
 pub fn read_db_front(alloc: Global, bytes: &[u8]) -> Result<(Db, usize), TextFault>
     ensures ok { IfOk result (λ read. IsWritable read.0 × (read.1 ≡ length (spelling read.0))
         × ((rest : List ℕ) × (bytes.now ≡ spelling read.0 ++ rest))) }

@@ -1,6 +1,6 @@
 //! Whether the names of a text ascend.
 ghost use Rattle.std.specs.Prelude.{◌↔◌, All, IsTrue};
-ghost use Rattle.rc_names.specs.Names.{IsInByteOrder};
+ghost use Rattle.rc_model.specs.Names.{IsInByteOrder};
 ghost use Rattle.rc_dbtext.specs.Meaning.{IsSorted, bundle_names, service_names};
 
 use rc_dbform::{BundleForm, DbForm, ServiceForm};

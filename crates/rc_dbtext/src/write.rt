@@ -20,7 +20,7 @@ pub fn write_db(alloc: Global, db: &Db) -> Result<Vec<u8>, NoMem>
     Ok(out)
 }
 
-// The services behind their count.
+// The services after their count.
 fn push_services(alloc: Global, out: &mut Vec<u8>, db: &Db) -> Result<(), NoMem>
     ensures { OnOk result (out.new.items ≡ out.old.items ++ spells (services_part db.now)) }
 {
@@ -47,7 +47,7 @@ fn push_service(alloc: Global, out: &mut Vec<u8>, db: &Db, id: u16) -> Result<()
     Ok(())
 }
 
-// The bundles behind their count.
+// The bundles after their count.
 fn push_bundles(alloc: Global, out: &mut Vec<u8>, db: &Db) -> Result<(), NoMem>
     ensures { OnOk result (out.new.items ≡ out.old.items ++ spells (bundles_part db.now)) }
 {

@@ -9,8 +9,8 @@ use Rattle.std.proofs.lemmas.List.Elements.{Contains-append_cases, Contains-appe
 use Rattle.std.proofs.lemmas.List.Quantifiers.{all_pairs_push}
 use Rattle.std.proofs.lemmas.List.Edits.{length-insert, get_or-insert_below, get_or-insert_at, get_or-insert_above}
 use Rattle.std.proofs.lemmas.List.Sorted.{IsPermutation-insert, IsPermutation-sym, Contains-permutation, searched}
-use Rattle.rc_set.specs.Set.{IsAscending}
-use Rattle.rc_graph.specs.Needs.{Needs, AreNeeds}
+use Rattle.rc_model.specs.Names.{IsAscending}
+use Rattle.rc_model.specs.Graph.{Needs, AreNeeds}
 use Rattle.rc_graph.specs.Rows.{rows}
 use Rattle.rc_graph.proofs.RowLemmas.{row_at, length-rows}
 
@@ -124,7 +124,7 @@ put_pairs lists from to row h members s t = elim (cases_eq s from) [
   | inr other ↦ rw (row_other lists from s row other) (inl, (λ has. elim has [ inl old ↦ old | inr new ↦ absurd (other new.0) ]))
 ]
 
--- the lists of a table of vectors, one of which took a service in, or stayed as it was for want of memory
+-- the lists of a table of vectors, one of which took a service in, or stayed as it was, out of memory
 pub lists_put : {T E : Type 0} (vectors : List (SmallVec ℕ)) (from to : ℕ) (d v : SmallVec ℕ)
     (r : Result T E) → AreNeeds (rows vectors) → from < length vectors → to < length vectors
     → IsAscending v.items
@@ -185,7 +185,7 @@ pub row_ascending : (vectors : List (SmallVec ℕ)) (s : ℕ) (d : SmallVec ℕ)
     → AreNeeds (rows vectors) → IsAscending (slice_index_or vectors s d).items
 row_ascending vectors s d h needs = rw (← row_at vectors s d h) (needs.ascending s)
 
--- an id behind lower ones
+-- an id after lower ones
 pub ascending_push : (xs : List ℕ) (y : ℕ) → IsAscending xs → ((s : ℕ) → Contains xs s → s < y) → IsAscending (xs ++ y ∷ [])
 ascending_push xs y up lower = all_pairs_push (λ a b. a < b) xs y up (λ k d h. lower (slice_index_or xs k d) (Contains-get_or xs k d h))
 

@@ -3,7 +3,8 @@ use Rattle.std.proofs.lemmas.Bool.{cases_lt, cases_order}
 use Rattle.std.proofs.lemmas.List.{length-replicate, get_or-replicate, get_or_past}
 use Rattle.std.proofs.lemmas.List.Elements.{Contains-append_left, Contains-push, Contains-push_cases}
 use Rattle.smallvec.specs.SmallVec.{SmallVec}
-use Rattle.rc_graph.specs.Needs.{Needs, AreNeeds, IsReverse}
+use Rattle.rc_model.specs.Graph.{Needs, AreNeeds}
+use Rattle.rc_graph.specs.Needs.{IsReverse}
 use Rattle.rc_graph.specs.Rows.{rows}
 use Rattle.rc_graph.proofs.RowLemmas.{length-rows}
 use Rattle.rc_graph.proofs.PairLemmas.{no_member}

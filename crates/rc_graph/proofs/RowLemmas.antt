@@ -3,7 +3,8 @@ use Rattle.smallvec.specs.SmallVec.{SmallVec}
 use Rattle.std.proofs.lemmas.List.{get_or-map, length-map}
 use Rattle.std.proofs.lemmas.List.Elements.{Contains-get_or}
 use Rattle.std.proofs.lemmas.Bool.{cases_lt}
-use Rattle.rc_graph.specs.Needs.{Needs, AreKnown, IsReverse}
+use Rattle.rc_model.specs.Graph.{Needs, AreServices}
+use Rattle.rc_graph.specs.Needs.{IsReverse}
 use Rattle.rc_graph.specs.Rows.{rows}
 
 -- the list in a vector of the table
@@ -29,7 +30,7 @@ row_needs vectors s list e t = (λ h. subst (λ (xs : List ℕ). Contains xs t) 
 
 -- and each of them is a service
 pub row_known : (vectors : List (SmallVec ℕ)) (s : ℕ) (list : List ℕ) (bound : ℕ)
-    → slice_index_or (rows vectors) s [] ≡ list → AreKnown (rows vectors) → bound ≡ length vectors
+    → slice_index_or (rows vectors) s [] ≡ list → AreServices (rows vectors) → bound ≡ length vectors
     → All (λ t. t < bound) list
 row_known vectors s list bound e known few k d within =
     let low : slice_index_or list k d < length (rows vectors) = known s _ ((row_needs vectors s list e _).1 (Contains-get_or list k d within)) in
@@ -52,5 +53,5 @@ needer_known needs s t need = elim (cases_lt s (length needs)) [
 ]
 
 -- the lists the other way round name services too
-pub reverse_known : (needs needed_by : List (List ℕ)) → IsReverse needs needed_by → AreKnown needed_by
+pub reverse_known : (needs needed_by : List (List ℕ)) → IsReverse needs needed_by → AreServices needed_by
 reverse_known needs needed_by reverse t s h = let low : s < length needs = needer_known needs s t ((reverse.same s t).0 h) in omega (arith, reverse.few)

@@ -1,7 +1,6 @@
 ghost use Rattle.std.specs.Prelude.{◌≡◌, ℕ, ◌<◌, ◌≤◌, ◌↔◌, List, [], length, slice_index_or, IsTrue, IfOk, Contains};
-ghost use Rattle.rc_set.specs.Set.{Has, Holds, IsAscending};
-ghost use Rattle.rc_graph.specs.Needs.{Needs, AreNeeds, IsAcyclic};
-ghost use Rattle.rc_graph.specs.Closure.{IsClosed, UpFrom, DownFrom};
+ghost use Rattle.rc_model.specs.Names.{Has, Holds, IsAscending};
+ghost use Rattle.rc_model.specs.Graph.{Needs, AreNeeds, IsAcyclic, IsClosed, UpFrom, DownFrom};
 ghost use Rattle.rc_graph.specs.Order.{IsOrder};
 
 use crate::closure::{down_closure, is_closed, up_closure};

@@ -10,7 +10,7 @@ const MAX_STEPS: usize = 20;
 /// The most bundles in bundles that are looked into.
 const MAX_DEPTH: usize = 4;
 
-/// Adds where an entry gives a name that is nobody's: both stand behind the refusal's word.
+/// Adds where an entry gives a name that is nobody's: both stand after the refusal's word.
 pub(crate) fn add_unknown(search: &mut Search<'_>, names: &str) {
     let Some((name, other)) = names.split_once(' ') else {
         return;

@@ -25,8 +25,8 @@ const SESSION: Form = Form {
     help: "where there is none, a session makes one",
 };
 
-/// What helps behind a refusal of the database in a file, or on standard input: the refusal's word
-/// and what stands behind it.
+/// What helps after a refusal of the database in a file, or on standard input: the refusal's word
+/// and what stands after it.
 pub fn database_hint(alloc: Global, path: &str, bytes: &[u8], word: &str, rest: &str) -> Hint {
     let what = match word {
         "Bad" => return bad_line(alloc, path, bytes, rest, &DATABASE),
@@ -40,7 +40,7 @@ pub fn database_hint(alloc: Global, path: &str, bytes: &[u8], word: &str, rest: 
     hint_of(alloc, path, what, ": undorc compile makes it anew")
 }
 
-/// What helps behind a refusal of the text that a session was to go on with.
+/// What helps after a refusal of the text that a session was to go on with.
 pub fn live_hint(alloc: Global, path: &str, bytes: &[u8], word: &str, rest: &str) -> Hint {
     let what = match word {
         "Bad" => return bad_line(alloc, path, bytes, rest, &SESSION),
@@ -122,7 +122,7 @@ pub fn near_hint(alloc: Global, database: &[u8], name: &str) -> Hint {
     Ok(None)
 }
 
-/// What stands behind the database at the front of a text.
+/// What stands after the database at the beginning of a text.
 pub fn behind_end(bytes: &[u8]) -> &[u8] {
     let mut rest = bytes;
     for _ in 0..bytes.len() {
@@ -195,7 +195,7 @@ fn first_missing<'a>(listed: &[&'a str], words: &'a str) -> Option<&'a str> {
     None
 }
 
-/// The line in front, and what stands behind it and behind the text that it announces.
+/// The line in front, and what stands after it and after the text that it announces.
 fn next_line(bytes: &[u8]) -> (&str, &[u8]) {
     let (line, rest) = cut_at(bytes, b'\n');
     let line = std::str::from_utf8(line).unwrap_or("");

@@ -23,7 +23,7 @@ impl<W> Told<W> {
         }
     }
 
-    /// The first word of the fault that was told, and what stands behind it in its line.
+    /// The first word of the fault that was told, and what stands after it in its line.
     pub fn fault(&self) -> Option<(&str, &str)> {
         let text = std::str::from_utf8(&self.bytes).ok()?;
         let line = text.strip_prefix("undorc: ")?.strip_suffix('\n')?;

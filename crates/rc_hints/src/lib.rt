@@ -1,4 +1,4 @@
-//! What helps behind a fault: which file, which line, what stands there and what may. A hint is
+//! What helps after a fault: which file, which line, what stands there and what may. A hint is
 //! looked for after the fault was told, and is for people: it changes no status, and where nothing
 //! is found there is none.
 #![tactic(auto)]

@@ -1,6 +1,6 @@
 //! Why a text is no name, in words.
 ghost use Rattle.std.specs.Prelude.{◌≡◌, IfSome, OnErr, IfOk, IfNone};
-ghost use Rattle.rc_names.specs.Name.{IsName};
+ghost use Rattle.rc_model.specs.Names.{IsName};
 
 use rc_names::{Name, NameFault, NoMem};
 use std::alloc::Global;

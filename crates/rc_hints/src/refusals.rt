@@ -1,10 +1,10 @@
-//! What helps behind each refusal of `compile`.
+//! What helps after each refusal of `compile`.
 use crate::entries::{Entry, Sources};
 use crate::said::Hint;
 use crate::search::Search;
 use crate::{chains, entry_flaws, file_flaws, pipes};
 
-/// What helps behind what `compile` told: the refusal's word and the names behind it.
+/// What helps after what `compile` told: the refusal's word and the names after it.
 pub fn compile_hint(sources: &Sources<'_>, word: &str, names: &str) -> Hint {
     let mut search = sources.search();
     match word {
@@ -20,7 +20,7 @@ pub fn compile_hint(sources: &Sources<'_>, word: &str, names: &str) -> Hint {
     search.said.hint()
 }
 
-/// Adds what helps behind a refusal of an entry.
+/// Adds what helps after a refusal of an entry.
 fn add_of_entry(search: &mut Search<'_>, entry: &Entry<'_, '_>, word: &str) {
     match word {
         "BadName" => entry_flaws::add_bad_name(search, entry),

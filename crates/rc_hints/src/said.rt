@@ -5,7 +5,7 @@ use crate::name_flaws::{WrongName, wrong_name};
 use rc_names::NoMem;
 use std::alloc::{AllocError, Global};
 
-/// What may help behind a fault, or nothing; only memory can be short.
+/// What may help after a fault, or nothing; only memory can be short.
 pub(crate) type Hint = Result<Option<String>, NoMem>;
 
 /// What was said so far, and whether memory was short for any of it.

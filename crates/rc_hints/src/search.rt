@@ -152,7 +152,7 @@ impl<'a> Search<'a> {
         drop(path);
     }
 
-    /// Adds the names that a listing gives, each with a byte 0 behind it.
+    /// Adds the names that a listing gives, each with a byte 0 after it.
     fn add_listed(
         &mut self,
         directory: &str,

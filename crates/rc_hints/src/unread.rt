@@ -65,7 +65,7 @@ pub fn unread_files(sources: &Sources<'_>) -> Result<Vec<String>, NoMem> {
     }
 }
 
-/// The notes of a text, each with a byte 0 behind it.
+/// The notes of a text, each with a byte 0 after it.
 fn notes_in(alloc: Global, text: &str) -> Result<Vec<String>, NoMem> {
     let mut notes = Vec::new(alloc);
     for note in text.split_terminator('\0') {
@@ -74,7 +74,7 @@ fn notes_in(alloc: Global, text: &str) -> Result<Vec<String>, NoMem> {
     Ok(notes)
 }
 
-/// Adds the notes about all entries, in byte order, each with a byte 0 behind it.
+/// Adds the notes about all entries, in byte order, each with a byte 0 after it.
 fn add_all(search: &mut Search<'_>) {
     let mut names = search.entries();
     let sorted = names.sort();

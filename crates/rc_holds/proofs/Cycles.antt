@@ -3,12 +3,12 @@ use Rattle.std.proofs.Common.{◌≡◌, ◌∙◌, ℕ, ◌<◌, List, [], ◌�
 use Rattle.std.proofs.lemmas.List.{get_or-map, length-map, map-append}
 use Rattle.std.proofs.lemmas.List.Elements.{All-cons, All-nil}
 use Rattle.std.proofs.lemmas.Option.{slice_get-get_or, slice_get_within, get_or_from_slice_get}
-use Rattle.rc_names.specs.Names.{IsBefore, IsInByteOrder}
-use Rattle.rc_graph.specs.Needs.{Needs, EachNeedsNext, Reaches, IsAcyclic}
+use Rattle.rc_model.specs.Names.{IsBefore, IsInByteOrder}
+use Rattle.rc_model.specs.Graph.{Needs, EachNeedsNext, Reaches, IsAcyclic}
 use Rattle.rc_graph.specs.Cycle.{IsCycle}
 use Rattle.rc_holds.specs.Along.{EachNext, IsShownCycle}
 use Rattle.rc_holds.specs.Mirror.{Mirrors}
-use Rattle.rc_holds.proofs.Orders.{before_at, one_place, place_of}
+use Rattle.rc_model.proofs.BundleOrders.{before_at, one_place, place_of}
 
 -- the name at a place
 abbrev pub shown_at : List (List ℕ) → ℕ → List ℕ

@@ -4,7 +4,7 @@ use Rattle.std.proofs.lemmas.Bool.{cases_lt}
 use Rattle.std.proofs.lemmas.List.{get_or-replicate, length-replicate}
 use Rattle.std.proofs.lemmas.List.Elements.{Contains-push, Contains-push_cases, Contains-append_left}
 use Rattle.std.proofs.lemmas.Option.{slice_get_within}
-use Rattle.rc_graph.specs.Needs.{Needs, AreKnown}
+use Rattle.rc_model.specs.Graph.{Needs, AreServices}
 use Rattle.rc_graph.proofs.RowLemmas.{needer_known}
 use Rattle.rc_source.proofs.Members.{Contains-nil}
 use Rattle.rc_holds.specs.declared.graph.CycleFault.{CycleFault}
@@ -61,7 +61,7 @@ lists_all First lists new i past pairs a b = (
 pub mirrors_known : (R : List ℕ → List ℕ → Type 0) (from to lists : List (List ℕ)) → Mirrors R from to lists → (s t : ℕ) → Needs lists s t → t < length to
 mirrors_known R from to lists mirrors s t need = let named = (mirrors.same s t).0 need in slice_get_within to t named.1 named.3
 
-pub known_among : (R : List ℕ → List ℕ → Type 0) (names lists seen : List (List ℕ)) → Mirrors R names names lists → seen ≡ lists → AreKnown seen
+pub known_among : (R : List ℕ → List ℕ → Type 0) (names lists seen : List (List ℕ)) → Mirrors R names names lists → seen ≡ lists → AreServices seen
 known_among R names lists seen mirrors same s t need =
     let low : t < length names = mirrors_known R names names lists mirrors s t (subst (λ (ls : List (List ℕ)). Needs ls s t) same need) in
     omega (arith, mirrors.few, ap length same)

@@ -3,9 +3,8 @@ use Rattle.std.proofs.Common.{◌≡◌, ◌≢◌, ◌∙◌, ℕ, ◌<◌, ◌
 use Rattle.std.proofs.lemmas.Bool.{cases_eq}
 use Rattle.std.proofs.lemmas.List.{get_or-set_same, get_or-set_other, get_or-take, get_or_default, length-take, take_all}
 use Rattle.std.proofs.lemmas.List.Elements.{Contains-push, Contains-push_cases, Contains-append_left, Contains-get_or}
-use Rattle.rc_set.specs.Set.{Has, Holds}
-use Rattle.rc_graph.specs.Needs.{Needs, EachNeedsNext}
-use Rattle.rc_graph.specs.Closure.{UpFrom}
+use Rattle.rc_model.specs.Names.{Has, Holds}
+use Rattle.rc_model.specs.Graph.{Needs, EachNeedsNext, UpFrom}
 use Rattle.rc_graph.specs.Order.{IsOrder}
 use Rattle.rc_holds.specs.Joining.{HasJoined, HasAlong}
 use Rattle.rc_holds.proofs.Walks.{no_member}

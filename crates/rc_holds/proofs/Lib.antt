@@ -1,6 +1,5 @@
 pub mod Walks
 pub mod Joins
-pub mod Orders
 pub mod Listing
 pub mod Cycles
 pub mod Drafts

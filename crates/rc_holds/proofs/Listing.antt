@@ -6,8 +6,8 @@ use Rattle.std.proofs.lemmas.Bool.{cases_eq}
 use Rattle.std.proofs.lemmas.List.{take_more, get_or-set_same, get_or-set_other, map-set, map-append, length-replicate}
 use Rattle.std.proofs.lemmas.List.Elements.{Contains-push, Contains-push_cases, Contains-append_left}
 use Rattle.std.proofs.lemmas.Option.{get_or_from_slice_get}
-use Rattle.rc_names.specs.Names.{IsInByteOrder}
-use Rattle.rc_graph.specs.Needs.{Needs}
+use Rattle.rc_model.specs.Names.{IsInByteOrder}
+use Rattle.rc_model.specs.Graph.{Needs}
 use Rattle.rc_holds.specs.Rows.{rows}
 use Rattle.rc_holds.proofs.RowLemmas.{row_at, length-rows}
 use Rattle.rc_source.specs.Meaning.{Meaning}
@@ -16,7 +16,7 @@ use Rattle.rc_source.specs.Said.{meaning_of}
 use Rattle.rc_holds.specs.declared.rows.Listed.{Listed}
 use Rattle.rc_holds.specs.Mirror.{listed_of, HasListed, Mirrors}
 use Rattle.rc_holds.proofs.Walks.{no_member}
-use Rattle.rc_holds.proofs.Orders.{one_place, contains_at}
+use Rattle.rc_model.proofs.BundleOrders.{one_place, contains_at}
 
 -- the list has the places of some names too
 abbrev pub Puts : List (List ℕ) → List ℕ → List (List ℕ) → List ℕ → Type 0

@@ -2,7 +2,7 @@ use Rattle.std.proofs.Common.{◌≡◌, ◌∙◌, ℕ, ◌<◌, ◌↔◌, Lis
 use Rattle.std.specs.Global.{Vec}
 use Rattle.std.proofs.lemmas.List.{get_or-map, length-map}
 use Rattle.std.proofs.lemmas.List.Elements.{Contains-get_or}
-use Rattle.rc_graph.specs.Needs.{Needs, AreKnown}
+use Rattle.rc_model.specs.Graph.{Needs, AreServices}
 use Rattle.rc_holds.specs.Rows.{rows}
 
 -- the list in a vector of the table
@@ -32,7 +32,7 @@ row_needs vectors s list e t = (
 
 -- and each of them is an entry
 pub row_known : (vectors : List (Vec ℕ)) (s : ℕ) (list : List ℕ) (bound : ℕ)
-    → slice_index_or (rows vectors) s [] ≡ list → AreKnown (rows vectors)
+    → slice_index_or (rows vectors) s [] ≡ list → AreServices (rows vectors)
     → bound ≡ length vectors → All (λ t. t < bound) list
 row_known vectors s list bound e known few k d within =
     let low : slice_index_or list k d < length (rows vectors) =

@@ -5,17 +5,15 @@ use Rattle.std.proofs.lemmas.Bool.{cases_lt, cases_eq}
 use Rattle.std.proofs.lemmas.List.{get_or-set_same, get_or-set_other, get_or_append_left, get_or_push}
 use Rattle.std.proofs.lemmas.List.Elements.{Contains-push, Contains-push_cases, Contains-append_left}
 use Rattle.std.proofs.lemmas.Option.{slice_get_within, same_Some}
-use Rattle.rc_names.specs.Names.{IsInByteOrder}
-use Rattle.rc_set.specs.Set.{Has, Holds}
-use Rattle.rc_graph.specs.Needs.{Needs}
-use Rattle.rc_graph.specs.Closure.{UpFrom}
+use Rattle.rc_model.specs.Names.{IsInByteOrder, Has, Holds}
+use Rattle.rc_model.specs.Graph.{Needs, UpFrom}
 use Rattle.rc_source.specs.Meaning.{Meaning, AreMeanings}
 use Rattle.rc_holds.specs.Pipelines.{IsService, ReadsFrom, NamesPipeline}
 use Rattle.rc_holds.specs.Standing.{IsBundle, HasContent, HoldsName, StandsFor}
 use Rattle.rc_holds.specs.Mirror.{Mirrors}
 use Rattle.rc_holds.specs.Joining.{HasAlong}
 use Rattle.rc_holds.specs.Sets.{ArePiped, AreApart, AreSetsOf, IsPipedBy, HasPiped}
-use Rattle.rc_holds.proofs.Orders.{one_place, contains_at}
+use Rattle.rc_model.proofs.BundleOrders.{one_place, contains_at}
 use Rattle.rc_holds.proofs.Walks.{no_member}
 use Rattle.rc_holds.proofs.Stands.{stands_along, piped_held}
 

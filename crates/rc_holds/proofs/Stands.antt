@@ -1,9 +1,8 @@
 -- What names stand for, by the sets of bundles that reach one another.
 use Rattle.std.proofs.Common.{◌≡◌, ◌∙◌, ℕ, ◌↔◌, inl, inr, Bool, List, [], ◌∷◌, ◌++◌, slice_get, Some, None, Contains, refl, sym, ap, subst}
 use Rattle.std.proofs.lemmas.Option.{same_Some}
-use Rattle.rc_names.specs.Names.{IsInByteOrder}
-use Rattle.rc_graph.specs.Needs.{EachNeedsNext}
-use Rattle.rc_graph.specs.Closure.{UpFrom}
+use Rattle.rc_model.specs.Names.{IsInByteOrder}
+use Rattle.rc_model.specs.Graph.{EachNeedsNext, UpFrom}
 use Rattle.rc_graph.proofs.Paths.{up_is_closed}
 use Rattle.rc_source.specs.Meaning.{Meaning, AreMeanings}
 use Rattle.rc_holds.specs.Along.{EachNext, LeadsTo}
@@ -12,7 +11,7 @@ use Rattle.rc_holds.specs.Standing.{IsBundle, HasContent, HasInPipeline, HoldsNa
 use Rattle.rc_holds.specs.Mirror.{Mirrors}
 use Rattle.rc_holds.specs.Joining.{HasAlong}
 use Rattle.rc_holds.specs.Sets.{ArePiped, AreApart, AreSetsOf, HasPiped}
-use Rattle.rc_holds.proofs.Orders.{place_of, contains_at}
+use Rattle.rc_model.proofs.BundleOrders.{place_of, contains_at}
 use Rattle.rc_holds.proofs.Joins.{up_from_needs}
 use Rattle.rc_holds.proofs.Meanings.{only_one, holder_is_bundle, longrun_is_service}
 

@@ -1,12 +1,11 @@
 -- A walk along lists of ids: what was seen, and what of it is still to be followed.
 use Rattle.std.proofs.Common.{◌≡◌, ◌∙◌, ℕ, ◌+◌, ◌<◌, ◌≤◌, ◌⊎◌, ◌↔◌, inl, inr, List, [], ◌∷◌, ◌++◌, Bool, not, length, count_by, Contains, refl, sym, subst, arith}
 use Rattle.std.proofs.lemmas.List.Elements.{Contains-push, Contains-push_cases, Contains-append_left}
-use Rattle.rc_set.specs.Set.{Has, Holds}
-use Rattle.rc_set.proofs.Members.{has_or_lacks, has_within}
-use Rattle.rc_graph.specs.Needs.{Needs}
-use Rattle.rc_graph.specs.Closure.{UpFrom, IsClosed}
+use Rattle.rc_model.specs.Names.{Has, Holds}
+use Rattle.rc_model.proofs.SetMembers.{has_or_lacks, has_within}
+use Rattle.rc_model.specs.Graph.{Needs, UpFrom, IsClosed}
 use Rattle.rc_graph.proofs.Paths.{closed_has_up, up_reaches, reaches_one}
-use Rattle.rc_graph.proofs.Counting.{no_more_left, fewer_left}
+use Rattle.rc_model.proofs.Counting.{no_more_left, fewer_left}
 use Rattle.rc_holds.specs.Walking.{Meets}
 
 pub no_member : (s : ℕ) → Contains [] s → ⊥

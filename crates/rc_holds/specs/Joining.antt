@@ -1,6 +1,6 @@
 use Rattle.std.specs.Prelude.{◌≡◌, ◌⊎◌, ℕ, Bool, List, [], length, slice_index_or, All, Contains}
-use Rattle.rc_set.specs.Set.{Has}
-use Rattle.rc_graph.specs.Closure.{UpFrom}
+use Rattle.rc_model.specs.Names.{Has}
+use Rattle.rc_model.specs.Graph.{UpFrom}
 
 -- all sets have this bound
 abbrev pub AllWithin : ℕ → List (List Bool) → Type 0

@@ -1,6 +1,6 @@
 use Rattle.std.specs.Prelude.{◌≡◌, ◌↔◌, ℕ, List, length, Contains, Some, slice_get}
 use Rattle.std.specs.Option.{option_to_list}
-use Rattle.rc_graph.specs.Needs.{Needs}
+use Rattle.rc_model.specs.Graph.{Needs}
 use Rattle.rc_source.specs.Meaning.{Meaning}
 use Rattle.rc_holds.specs.declared.rows.Listed.{Listed}
 use Rattle.rc_holds.specs.declared.rows.Listed.TheVariants.{Dependencies, Consumers, Contents, Producer}

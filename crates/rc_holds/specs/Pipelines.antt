@@ -1,5 +1,5 @@
 use Rattle.std.specs.Prelude.{◌≡◌, ◌≢◌, ℕ, List, [], Contains, Some, None}
-use Rattle.rc_names.specs.declared.kind.Kind.TheVariants.{Longrun, Bundle}
+use Rattle.rc_model.specs.declared.Kind.TheVariants.{Longrun, Bundle}
 use Rattle.rc_source.specs.Meaning.{Meaning}
 use Rattle.rc_holds.specs.Along.{LeadsTo}
 

@@ -1,6 +1,6 @@
 use Rattle.std.specs.Prelude.{◌≡◌, ◌↔◌, ℕ, Bool, List, [], Contains, Some, slice_get, slice_index_or}
-use Rattle.rc_set.specs.Set.{Has}
-use Rattle.rc_graph.specs.Closure.{UpFrom}
+use Rattle.rc_model.specs.Names.{Has}
+use Rattle.rc_model.specs.Graph.{UpFrom}
 use Rattle.rc_source.specs.Meaning.{Meaning}
 use Rattle.rc_holds.specs.Pipelines.{IsService, IsLongrun, WritesTo, ReadsFrom, NamesPipeline}
 use Rattle.rc_holds.specs.Standing.{IsBundle}

@@ -1,5 +1,5 @@
 use Rattle.std.specs.Prelude.{◌≡◌, ◌≤◌, ◌+◌, ◌⊎◌, ◌↔◌, ℕ, Bool, List, not, length, count_by, Contains}
-use Rattle.rc_set.specs.Set.{Has, Holds}
+use Rattle.rc_model.specs.Names.{Has, Holds}
 
 -- a list is met: all of it is seen, what of it is new is to be followed, and no more is left to do than before
 pub record Meets (old : List Bool) (left list : List ℕ) (new : List Bool) (more : List ℕ) : Type 0 where

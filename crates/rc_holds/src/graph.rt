@@ -1,6 +1,6 @@
 // The graph of bundles in bundles, or a cycle of them.
 ghost use Rattle.std.specs.Prelude.{◌≡◌, ◌<◌, ◌≤◌, ◌⊎◌, ◌↔◌, ℕ, List, [], length, map, slice_index_or, All, Contains, IfOk, IfErr, OnOk};
-ghost use Rattle.rc_graph.specs.Needs.{Needs, AreKnown};
+ghost use Rattle.rc_model.specs.Graph.{Needs, AreServices};
 ghost use Rattle.rc_holds.specs.Rows.{rows};
 ghost use Rattle.rc_source.specs.Meaning.{AreMeanings};
 ghost use Rattle.rc_source.specs.Said.{meaning_of};
@@ -93,7 +93,7 @@ pub fn need_listed(
 // Says that ids need those in their lists.
 fn need_lists(draft: &mut Draft, lists: &[Vec<u16>]) -> Result<(), NoMem>
     requires bound { length lists.now ≡ length draft.old }
-    requires known { AreKnown (rows lists.now) }
+    requires known { AreServices (rows lists.now) }
     ensures bound { length draft.new ≡ length draft.old }
     ensures pairs { OnOk result ((s t : ℕ) → Needs draft.new s t ↔ (Needs draft.old s t ⊎ Needs (rows lists.now) s t)) }
 {

@@ -1,7 +1,7 @@
 // The bundles of pipelines.
 ghost use Rattle.std.specs.Prelude.{◌≡◌, ◌<◌, ◌≤◌, ◌⊎◌, ◌↔◌, ℕ, List, [], length, map, slice_get, slice_index_or, All, Contains, Some, IfSome, IfNone, OnOk};
-ghost use Rattle.rc_set.specs.Set.{Has, Holds};
-ghost use Rattle.rc_graph.specs.Needs.{AreKnown};
+ghost use Rattle.rc_model.specs.Names.{Has, Holds};
+ghost use Rattle.rc_model.specs.Graph.{AreServices};
 ghost use Rattle.rc_holds.specs.Rows.{rows};
 ghost use Rattle.rc_source.specs.Said.{meaning_of};
 ghost use Rattle.rc_holds.specs.Pipelines.{NamesPipeline};
@@ -41,7 +41,7 @@ pub(crate) fn add_pipelines(
     requires few { length sets.old ≡ length bundles.now }
     requires bounds { AllWithin (length services.now) sets.old }
     requires readers { length readers.now ≡ length services.now }
-    requires known { AreKnown (rows readers.now) }
+    requires known { AreServices (rows readers.now) }
     ensures few { length sets.new ≡ length sets.old }
     ensures bounds { AllWithin (length services.now) sets.new }
     ensures sets { OnOk result ((b s : ℕ) → Has (slice_index_or sets.new b []) s ↔ (Has (slice_index_or sets.old b []) s
@@ -65,7 +65,7 @@ fn add_pipeline(
     requires few { length sets.old ≡ length bundles.now }
     requires bounds { AllWithin (length services.now) sets.old }
     requires readers { length readers.now ≡ length services.now }
-    requires known { AreKnown (rows readers.now) }
+    requires known { AreServices (rows readers.now) }
     ensures few { length sets.new ≡ length sets.old }
     ensures bounds { AllWithin (length services.now) sets.new }
     ensures sets { OnOk result ((b s : ℕ) → Has (slice_index_or sets.new b []) s ↔ (Has (slice_index_or sets.old b []) s

@@ -1,8 +1,8 @@
 // What definitions list, by the places of names in tables.
 ghost use Rattle.std.specs.Prelude.{◌≡◌, ◌⊎◌, ◌↔◌, ℕ, List, [], length, replicate, map, Contains, Some, slice_get, IfOk, OnOk};
 ghost use Rattle.std.specs.Option.{option_to_list};
-ghost use Rattle.rc_names.specs.Names.{IsInByteOrder};
-ghost use Rattle.rc_graph.specs.Needs.{Needs};
+ghost use Rattle.rc_model.specs.Names.{IsInByteOrder};
+ghost use Rattle.rc_model.specs.Graph.{Needs};
 ghost use Rattle.rc_holds.specs.Rows.{rows};
 ghost use Rattle.rc_source.specs.Said.{meaning_of};
 ghost use Rattle.rc_holds.specs.Mirror.{HasListed, Mirrors, listed_of};

@@ -1,8 +1,7 @@
 // All that is reached from one id along lists of ids.
 ghost use Rattle.std.specs.Prelude.{◌≡◌, ◌≤◌, ◌<◌, ◌+◌, ◌⊎◌, ◌↔◌, ℕ, not, length, count_by, All, Contains, IfOk, OnOk};
-ghost use Rattle.rc_set.specs.Set.{Has, Holds};
-ghost use Rattle.rc_graph.specs.Needs.{AreKnown};
-ghost use Rattle.rc_graph.specs.Closure.{UpFrom};
+ghost use Rattle.rc_model.specs.Names.{Has, Holds};
+ghost use Rattle.rc_model.specs.Graph.{AreServices, UpFrom};
 ghost use Rattle.rc_holds.specs.Rows.{rows};
 ghost use Rattle.rc_holds.specs.Walking.{Meets};
 
@@ -19,7 +18,7 @@ struct Walk {
 // An id with all that it reaches along the lists. Each list is followed once at most.
 pub(crate) fn reached(alloc: Global, lists: &[Vec<u16>], start: u16) -> Result<Set, NoMem>
     requires few { length lists.now ≤ 4096 }
-    requires known { AreKnown (rows lists.now) }
+    requires known { AreServices (rows lists.now) }
     requires start { start < length lists.now }
     ensures bound { IfOk result (λ set. length set ≡ length lists.now) }
     ensures members { IfOk result (λ set. Holds set (UpFrom (rows lists.now) (λ s. s ≡ start))) }

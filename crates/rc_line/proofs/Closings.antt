@@ -1,17 +1,13 @@
 -- Each way to end a move: what the stacks show then is the move, and they fit.
 use Rattle.std.proofs.Common.{ℕ, ◌≡◌, ◌≢◌, ◌∙◌, ◌+◌, ◌≤◌, List, [], ◌∷◌, ◌++◌, reverse, Bool, true, false, Option, length, inl, inr, refl, ap, subst, sym, arith}
-use Rattle.rc_set.specs.Set.{Lists}
-use Rattle.rc_db.specs.Bundles.{Bundles, IsTable}
-use Rattle.rc_bundle.specs.Edit.{Alteration, IsEdit}
+use Rattle.rc_model.specs.Names.{Lists}
+use Rattle.rc_model.specs.Database.{Bundles, IsTable}
+use Rattle.rc_model.specs.Line.{Alteration, IsEdit, State, Entry, IsGained, Line, IsBound, IsNext, states, cursor, but_last, shorter, within_bound, MovesTo, MovesByChange, MovesByEdit, MovesByUndo, MovesByRedo, put_between, put_last, with_live, with_table}
 use Rattle.rc_line.specs.declared.aim.Aim.TheVariants.{Undo, Redo}
-use Rattle.rc_line.specs.State.{State, Entry, IsGained}
-use Rattle.rc_line.specs.Line.{Line, IsBound, IsNext, states, cursor}
-use Rattle.rc_line.specs.Bound.{but_last, shorter, fitted}
-use Rattle.rc_line.proofs.Fitting.{fitted_short, fitted_long, shorter_first, shorter_last, but_last_push}
-use Rattle.rc_line.specs.Moves.{EndsIn, Changes, Edits, Undoes, Redoes, put_between, put_last, with_live, with_table}
+use Rattle.rc_model.proofs.Fitting.{fitted_short, fitted_long, shorter_first, shorter_last, but_last_push}
 use Rattle.rc_line.specs.Opening.{table_or, AimsAt}
 use Rattle.rc_line.specs.Keeping.{IsStep, forth, back, Behind, Ahead, line_of, Fits, IsFit, IsKept, state}
-use Rattle.rc_line.proofs.Lines.{length_push, cons_head, one_cut}
+use Rattle.rc_model.proofs.Lines.{length_push, cons_head, one_cut}
 use Rattle.rc_line.proofs.Rewriting.{no_edit, leads_ahead}
 use Rattle.rc_line.proofs.Writing.{leads_nowhere}
 use Rattle.rc_line.proofs.Steps.{live_step, edit_step}
@@ -30,7 +26,7 @@ same_line a b before current after bound = λ k. record { before = before k; cur
 
 -- stacks that are fit show what the line is within its bound
 pub fit_shown : (most : ℕ) (done undone new_done new_undone : List Entry) (s : State) → 3 ≤ most → length done + length undone ≤ most → Fits done undone s → IsFit most done undone new_done new_undone
-    → Fits new_done new_undone s × (line_of most new_done new_undone s ≡ fitted (line_of most done undone s)) × (length new_done + length new_undone + 1 ≤ most)
+    → Fits new_done new_undone s × (line_of most new_done new_undone s ≡ within_bound (line_of most done undone s)) × (length new_done + length new_undone + 1 ≤ most)
 fit_shown most done undone new_done new_undone s three few fits fit = elim fit [
   | inl all ↦ (
     subst (λ (ds : List Entry). Fits ds new_undone s) (sym all.1) (subst (λ (us : List Entry). Fits done us s) (sym all.2) fits),
@@ -110,41 +106,41 @@ module _ (most : ℕ) (done undone : List Entry) (s : State) (line : Line) (show
   live_here live = ap (λ (t : State). state live t.table) current_shown
 
   -- a change or edit that ends elsewhere
-  pub ends_elsewhere : (near : Entry) (end : State) → Fits done undone s → IsStep s end near → Fits (done ++ near ∷ []) [] end × EndsIn line end (fitted (line_of most (done ++ near ∷ []) [] end))
+  pub ends_elsewhere : (near : Entry) (end : State) → Fits done undone s → IsStep s end near → Fits (done ++ near ∷ []) [] end × MovesTo line end (within_bound (line_of most (done ++ near ∷ []) [] end))
   ends_elsewhere near end fits step = (
     record { behind = behind_push done near s end fits.behind step; ahead = tt; table = step.to_table },
     inr (
       (λ same. step.differ (current_shown ∙ sym same)),
-      ap fitted (same_line (line_of most (done ++ near ∷ []) [] end) (put_last line end)
+      ap within_bound (same_line (line_of most (done ++ near ∷ []) [] end) (put_last line end)
           (before_is most done [] near s end step ∙ ap (λ (l : Line). l.before ++ l.current ∷ []) shown) refl refl most_shown),
     ),
   )
 
   -- one that ends in the current state
-  pub ends_here : (end : State) → end ≡ line.current → EndsIn line end (line_of most done undone s)
+  pub ends_here : (end : State) → end ≡ line.current → MovesTo line end (line_of most done undone s)
   ends_here end same = inl (same, shown)
 
   pub change_elsewhere : (near : Entry) (live : List Bool) → Fits done undone s → length live ≡ length s.live → s.live ≢ live → Lists (IsGained s.live live) near.raised → Lists (IsGained live s.live) near.lowered → near.edit ≡ []
-      → Fits (done ++ near ∷ []) [] (state live s.table) × Changes line live (fitted (line_of most (done ++ near ∷ []) [] (state live s.table)))
+      → Fits (done ++ near ∷ []) [] (state live s.table) × MovesByChange line live (within_bound (line_of most (done ++ near ∷ []) [] (state live s.table)))
   change_elsewhere near live fits bound differ raised lowered edit =
       let end : State = state live s.table in
       let step : IsStep s end near = live_step s end near bound differ fits.table fits.table raised lowered (subst (IsEdit s.table s.table) (sym edit) (no_edit s.table)) in
       let ends = ends_elsewhere near end fits step in
-      (ends.0, subst (λ (t : State). EndsIn line t (fitted (line_of most (done ++ near ∷ []) [] end))) (live_here live) ends.1)
+      (ends.0, subst (λ (t : State). MovesTo line t (within_bound (line_of most (done ++ near ∷ []) [] end))) (live_here live) ends.1)
 
-  pub change_here : (live : List Bool) → s.live ≡ live → Changes line live (line_of most done undone s)
+  pub change_here : (live : List Bool) → s.live ≡ live → MovesByChange line live (line_of most done undone s)
   change_here live same = ends_here (with_live line live) (ap (λ (v : List Bool). state v line.current.table) (sym same ∙ ap (λ (t : State). t.live) current_shown))
 
   -- an edit to another table
   pub edit_elsewhere : (e : Entry) (table : Bundles) → Fits done undone s → IsTable table → IsEdit line.current.table table e.edit → e.edit ≢ [] → e.raised ≡ [] → e.lowered ≡ []
-      → Fits (done ++ e ∷ []) [] (state s.live table) × Edits line table (fitted (line_of most (done ++ e ∷ []) [] (state s.live table)))
+      → Fits (done ++ e ∷ []) [] (state s.live table) × MovesByEdit line table (within_bound (line_of most (done ++ e ∷ []) [] (state s.live table)))
   edit_elsewhere e table fits is_table edit some raised lowered =
       let here : IsEdit s.table table e.edit = subst (λ (t : State). IsEdit t.table table e.edit) (sym current_shown) edit in
       let step : IsStep s (state s.live table) e = edit_step s table e here some raised lowered fits.table is_table in
       let ends = ends_elsewhere e (state s.live table) fits step in
-      (ends.0, subst (λ (t : State). EndsIn line t (fitted (line_of most (done ++ e ∷ []) [] (state s.live table)))) (ap (λ (t : State). state t.live table) current_shown) ends.1)
+      (ends.0, subst (λ (t : State). MovesTo line t (within_bound (line_of most (done ++ e ∷ []) [] (state s.live table)))) (ap (λ (t : State). state t.live table) current_shown) ends.1)
 
-  pub edit_here : (edit : List Alteration) (table : Bundles) → Fits done undone s → IsTable table → IsEdit line.current.table table edit → length edit ≡ 0 → Edits line table (line_of most done undone s)
+  pub edit_here : (edit : List Alteration) (table : Bundles) → Fits done undone s → IsTable table → IsEdit line.current.table table edit → length edit ≡ 0 → MovesByEdit line table (line_of most done undone s)
   edit_here edit table fits is_table is empty =
       let here : IsTable line.current.table = subst (λ (t : State). IsTable t.table) current_shown fits.table in
       let same : line.current.table ≡ table = leads_nowhere true edit line.current.table table empty here (leads_ahead line.current.table table edit is is_table) in
@@ -183,14 +179,14 @@ module _ (most : ℕ) (done undone es : List Entry) (e : Entry) (s : State) (lin
       record { behind = subst (Behind (reverse es)) (sym aimed) parts.1; step = subst (λ (from : State). IsStep from s e) (sym aimed) parts.0 }
 
   -- it ends where it aimed
-  pub undo_whole : (from : State) (live : List Bool) → Fits done undone s → StepsBack es e from s → from.live ≡ live → Fits es (undone ++ e ∷ []) from × Undoes line live (line_of most es (undone ++ e ∷ []) from)
+  pub undo_whole : (from : State) (live : List Bool) → Fits done undone s → StepsBack es e from s → from.live ≡ live → Fits es (undone ++ e ∷ []) from × MovesByUndo line live (line_of most es (undone ++ e ∷ []) from)
   undo_whole from live fits steps same = (
     record { behind = steps.behind; ahead = ahead_push undone e from s fits.ahead steps.step; table = steps.step.from_table },
     (line_of most es (undone ++ e ∷ []) from, next_back from steps.step, inl (sym same, refl)),
   )
 
   -- it ends where it began
-  pub undo_none : (from : State) (live : List Bool) → Fits done undone s → StepsBack es e from s → from.live ≢ live → s.live ≡ live → Fits (es ++ e ∷ []) undone s × Undoes line live (line_of most (es ++ e ∷ []) undone s)
+  pub undo_none : (from : State) (live : List Bool) → Fits done undone s → StepsBack es e from s → from.live ≢ live → s.live ≡ live → Fits (es ++ e ∷ []) undone s × MovesByUndo line live (line_of most (es ++ e ∷ []) undone s)
   undo_none from live fits steps apart same = (
     subst (λ (ds : List Entry). Fits ds undone s) is fits,
     (
@@ -203,7 +199,7 @@ module _ (most : ℕ) (done undone es : List Entry) (e : Entry) (s : State) (lin
   -- it ends elsewhere
   pub undo_short : (from : State) (live : List Bool) (near far : Entry) → Fits done undone s → StepsBack es e from s → from.live ≢ live → s.live ≢ live → length live ≡ length s.live
       → Splits from s live near far → near.edit ≡ e.edit → far.edit ≡ []
-      → Fits (es ++ near ∷ []) (undone ++ far ∷ []) (state live s.table) × Undoes line live (fitted (line_of most (es ++ near ∷ []) (undone ++ far ∷ []) (state live s.table)))
+      → Fits (es ++ near ∷ []) (undone ++ far ∷ []) (state live s.table) × MovesByUndo line live (within_bound (line_of most (es ++ near ∷ []) (undone ++ far ∷ []) (state live s.table)))
   undo_short from live near far fits steps apart other bound splits near_edit far_edit =
       let end : State = state live s.table in
       let nears : IsStep from end near = live_step from end near (bound ∙ steps.step.bound) apart steps.step.from_table fits.table splits.near_raised splits.near_lowered (subst (IsEdit from.table s.table) (sym near_edit) steps.step.entry.edit) in
@@ -216,7 +212,7 @@ module _ (most : ℕ) (done undone es : List Entry) (e : Entry) (s : State) (lin
           inr (inr (
             (λ there. apart (sym there)),
             (λ there. other (ap (λ (t : State). t.live) (current_shown most done undone s line shown) ∙ sym there)),
-            ap fitted (same_line (line_of most (es ++ near ∷ []) (undone ++ far ∷ []) end) (put_between behind (with_live line live) line)
+            ap within_bound (same_line (line_of most (es ++ near ∷ []) (undone ++ far ∷ []) end) (put_between behind (with_live line live) line)
                 (before_is most es (undone ++ far ∷ []) near from end nears ∙ sym (before_is most es undone e from s steps.step) ∙ ap (λ (l : Line). l.before) shown_back)
                 (live_here most done undone s line shown live)
                 (on_is most (es ++ near ∷ []) undone far end s fars ∙ sym (on_is most es undone e from s steps.step)) refl),
@@ -240,14 +236,14 @@ module _ (most : ℕ) (done undone es : List Entry) (e : Entry) (s : State) (lin
       record { ahead = subst (Ahead (reverse es)) (sym aimed) parts.1; step = subst (λ (to : State). IsStep s to e) (sym aimed) parts.0 }
 
   -- it ends where it aimed
-  pub redo_whole : (to : State) (live : List Bool) → Fits done undone s → StepsOn es e s to → to.live ≡ live → Fits (done ++ e ∷ []) es to × Redoes line live (line_of most (done ++ e ∷ []) es to)
+  pub redo_whole : (to : State) (live : List Bool) → Fits done undone s → StepsOn es e s to → to.live ≡ live → Fits (done ++ e ∷ []) es to × MovesByRedo line live (line_of most (done ++ e ∷ []) es to)
   redo_whole to live fits steps same = (
     record { behind = behind_push done e s to fits.behind steps.step; ahead = steps.ahead; table = steps.step.to_table },
     (line_of most (done ++ e ∷ []) es to, next_on to steps.step, inl (sym same, refl)),
   )
 
   -- it ends where it began
-  pub redo_none : (to : State) (live : List Bool) → Fits done undone s → StepsOn es e s to → to.live ≢ live → s.live ≡ live → Fits done (es ++ e ∷ []) s × Redoes line live (line_of most done (es ++ e ∷ []) s)
+  pub redo_none : (to : State) (live : List Bool) → Fits done undone s → StepsOn es e s to → to.live ≢ live → s.live ≡ live → Fits done (es ++ e ∷ []) s × MovesByRedo line live (line_of most done (es ++ e ∷ []) s)
   redo_none to live fits steps apart same = (
     subst (λ (ds : List Entry). Fits done ds s) is fits,
     (
@@ -260,7 +256,7 @@ module _ (most : ℕ) (done undone es : List Entry) (e : Entry) (s : State) (lin
   -- it ends elsewhere
   pub redo_short : (to : State) (live : List Bool) (near far : Entry) → Fits done undone s → StepsOn es e s to → to.live ≢ live → s.live ≢ live → length live ≡ length s.live
       → Splits s to live near far → near.edit ≡ [] → far.edit ≡ e.edit
-      → Fits (done ++ near ∷ []) (es ++ far ∷ []) (state live s.table) × Redoes line live (fitted (line_of most (done ++ near ∷ []) (es ++ far ∷ []) (state live s.table)))
+      → Fits (done ++ near ∷ []) (es ++ far ∷ []) (state live s.table) × MovesByRedo line live (within_bound (line_of most (done ++ near ∷ []) (es ++ far ∷ []) (state live s.table)))
   redo_short to live near far fits steps apart other bound splits near_edit far_edit =
       let end : State = state live s.table in
       let nears : IsStep s end near = live_step s end near bound other fits.table fits.table splits.near_raised splits.near_lowered (subst (IsEdit s.table s.table) (sym near_edit) (no_edit s.table)) in
@@ -273,7 +269,7 @@ module _ (most : ℕ) (done undone es : List Entry) (e : Entry) (s : State) (lin
           inr (inr (
             (λ there. apart (sym there)),
             (λ there. other (ap (λ (t : State). t.live) (current_shown most done undone s line shown) ∙ sym there)),
-            ap fitted (same_line (line_of most (done ++ near ∷ []) (es ++ far ∷ []) end) (put_between line (with_live line live) beyond)
+            ap within_bound (same_line (line_of most (done ++ near ∷ []) (es ++ far ∷ []) end) (put_between line (with_live line live) beyond)
                 (before_is most done (es ++ far ∷ []) near s end nears ∙ sym (before_is most done es e s to steps.step))
                 (live_here most done undone s line shown live)
                 (on_is most (done ++ near ∷ []) es far end to fars ∙ sym (on_is most done es e s to steps.step) ∙ ap (λ (l : Line). l.after) shown_on) (most_shown most done undone s line shown)),

@@ -6,11 +6,9 @@ use Rattle.std.specs.FinMap.{FinMap, insert, remove, entries, from_entries}
 use Rattle.rc_line.specs.declared.aim.Aim.{Aim}
 use Rattle.rc_line.specs.declared.aim.Aim.TheVariants.{Change, Edit, Undo, Redo}
 use Rattle.rc_line.specs.declared.room.Room.{Room}
-use Rattle.rc_db.specs.Bundles.{Bundles, IsTable, value_of}
-use Rattle.rc_bundle.specs.Edit.{Alteration}
-use Rattle.rc_set.specs.Set.{Lists}
-use Rattle.rc_line.specs.State.{State, Entry, IsGained, IsEntry}
-use Rattle.rc_line.specs.Line.{Line, IsBound, states}
+use Rattle.rc_model.specs.Database.{Bundles, IsTable, value_of}
+use Rattle.rc_model.specs.Line.{Alteration, State, Entry, IsGained, IsEntry, Line, IsBound, states}
+use Rattle.rc_model.specs.Names.{Lists}
 
 -- How a line is kept, for its view alone: the current state, and two stacks of entries. No public contract speaks of it.
 
@@ -34,21 +32,21 @@ written value [] rows = rows
 written value (a ∷ edit) rows = written value edit (put rows a.name (value a))
 
 -- the table after one value of each alteration was put in
-abbrev pub rewritten : (Alteration → Option (List Bool)) → List Alteration → Bundles → Bundles
-rewritten value edit table = entries (written value edit (from_entries table))
+abbrev pub table_rewritten_by : (Alteration → Option (List Bool)) → List Alteration → Bundles → Bundles
+table_rewritten_by value edit table = entries (written value edit (from_entries table))
 
 -- a set with the flags at these ids written over
-abbrev pub marked : Bool → List ℕ → List Bool → List Bool
-marked flag [] set = set
-marked flag (s ∷ ids) set = marked flag ids (slice_set set s flag)
+abbrev pub with_marks : Bool → List ℕ → List Bool → List Bool
+with_marks flag [] set = set
+with_marks flag (s ∷ ids) set = with_marks flag ids (slice_set set s flag)
 
 -- the state that an entry leads to
 unfoldable pub forth : Entry → State → State
-forth e s = record { live = marked true e.raised (marked false e.lowered s.live); table = rewritten (towards true) e.edit s.table }
+forth e s = record { live = with_marks true e.raised (with_marks false e.lowered s.live); table = table_rewritten_by (towards true) e.edit s.table }
 
 -- the state that an entry comes from
 unfoldable pub back : Entry → State → State
-back e s = record { live = marked true e.lowered (marked false e.raised s.live); table = rewritten (towards false) e.edit s.table }
+back e s = record { live = with_marks true e.lowered (with_marks false e.raised s.live); table = table_rewritten_by (towards false) e.edit s.table }
 
 -- two states that differ, of one bound and with tables that are such, and their entry
 pub record IsStep (from to : State) (e : Entry) : Type 0 where

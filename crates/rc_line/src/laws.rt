@@ -2,11 +2,8 @@
 
 ghost use Rattle.std.specs.Prelude.{◌≡◌, ◌⊎◌, ◌≤◌, ◌<◌, ℕ, [], suc, length, List, Bool, ◌++◌, ◌∷◌};
 ghost use Rattle.std.specs.Prelude.{take, drop, Some, slice_get};
-ghost use Rattle.rc_db.specs.Bundles.{IsTable};
-ghost use Rattle.rc_line.specs.State.{State, Entry, IsEntry, entry_back};
-ghost use Rattle.rc_line.specs.Line.{Line, IsLine, IsNext, states, cursor};
-ghost use Rattle.rc_line.specs.Bound.{fitted};
-ghost use Rattle.rc_line.specs.Moves.{EndsIn, Undoes, Redoes};
+ghost use Rattle.rc_model.specs.Database.{IsTable};
+ghost use Rattle.rc_model.specs.Line.{State, Entry, IsEntry, entry_back, Line, IsLine, IsNext, states, cursor, within_bound, MovesTo, MovesByUndo, MovesByRedo};
 
 /// The inverse of an entry is the entry back.
 pub fn entries_turn_round()
@@ -26,63 +23,63 @@ pub fn next_has_the_same_states()
 
 /// A line within its bound stays as it is.
 pub fn fitting_leaves_short_lines()
-    ensures { (line : Line) → length (states line) ≤ line.bound → fitted line ≡ line }
+    ensures { (line : Line) → length (states line) ≤ line.bound → within_bound line ≡ line }
 {}
 
 /// From a line that has one state too many exactly one goes, the oldest or the last, and the
 /// current one stays.
 pub fn fitting_takes_one()
     ensures gone { (line : Line) → 3 ≤ line.bound → line.bound < length (states line) →
-        ((gone : State) × (states line ≡ gone ∷ states (fitted line))
-        × (cursor line ≡ suc (cursor (fitted line))) × (2 ≤ cursor line))
-        ⊎ ((gone : State) × (states line ≡ states (fitted line) ++ gone ∷ [])
-        × (cursor (fitted line) ≡ cursor line) × (cursor line < 2)) }
-    ensures current { (line : Line) → (fitted line).current ≡ line.current }
-    ensures bound { (line : Line) → (fitted line).bound ≡ line.bound }
+        ((gone : State) × (states line ≡ gone ∷ states (within_bound line))
+        × (cursor line ≡ suc (cursor (within_bound line))) × (2 ≤ cursor line))
+        ⊎ ((gone : State) × (states line ≡ states (within_bound line) ++ gone ∷ [])
+        × (cursor (within_bound line) ≡ cursor line) × (cursor line < 2)) }
+    ensures current { (line : Line) → (within_bound line).current ≡ line.current }
+    ensures bound { (line : Line) → (within_bound line).bound ≡ line.bound }
 {}
 
 /// The state before the current one and the one after it never go.
 pub fn fitting_keeps_neighbours()
     ensures before { (line back : Line) → 3 ≤ line.bound → IsNext back line →
-        (other : Line) × IsNext other (fitted line) × (other.current ≡ back.current) }
+        (other : Line) × IsNext other (within_bound line) × (other.current ≡ back.current) }
     ensures after { (line on : Line) → 3 ≤ line.bound → IsNext line on →
-        (other : Line) × IsNext (fitted line) other × (other.current ≡ on.current) }
+        (other : Line) × IsNext (within_bound line) other × (other.current ≡ on.current) }
     ensures first { (line : Line) → 3 ≤ line.bound → line.before ≡ [] →
-        (fitted line).before ≡ [] }
+        (within_bound line).before ≡ [] }
     ensures last { (line : Line) → 3 ≤ line.bound → line.after ≡ [] →
-        (fitted line).after ≡ [] }
+        (within_bound line).after ≡ [] }
 {}
 
 /// An undo goes one state back, or changes nothing, or puts its end in front of where the cursor
 /// was, the cursor on it; and what then is one too many goes.
 pub fn undo_goes_back_or_stays_or_splits()
-    ensures { (line new : Line) (live : List Bool) → Undoes line live new →
+    ensures { (line new : Line) (live : List Bool) → MovesByUndo line live new →
         ((states new ≡ states line) × (cursor line ≡ suc (cursor new)))
         ⊎ (new ≡ line)
         ⊎ ((full : Line)
         × (states full ≡ take (cursor line) (states line)
         ++ new.current ∷ drop (cursor line) (states line))
-        × (cursor full ≡ cursor line) × (full.bound ≡ line.bound) × (new ≡ fitted full)) }
+        × (cursor full ≡ cursor line) × (full.bound ≡ line.bound) × (new ≡ within_bound full)) }
 {}
 
-/// A redo goes one state on, or changes nothing, or puts its end behind where the cursor was, the
+/// A redo goes one state on, or changes nothing, or puts its end after where the cursor was, the
 /// cursor on it; and what then is one too many goes.
 pub fn redo_goes_on_or_stays_or_splits()
-    ensures { (line new : Line) (live : List Bool) → Redoes line live new →
+    ensures { (line new : Line) (live : List Bool) → MovesByRedo line live new →
         ((states new ≡ states line) × (cursor new ≡ suc (cursor line)))
         ⊎ (new ≡ line)
         ⊎ ((full : Line)
         × (states full ≡ take (suc (cursor line)) (states line)
         ++ new.current ∷ drop (suc (cursor line)) (states line))
         × (cursor full ≡ suc (cursor line)) × (full.bound ≡ line.bound)
-        × (new ≡ fitted full)) }
+        × (new ≡ within_bound full)) }
 {}
 
 /// Each move leads from a line to a line.
 pub fn moves_keep_lines()
-    ensures change { (line new : Line) (end : State) → IsLine line → length end.live ≡ length line.current.live → IsTable end.table → EndsIn line end new → IsLine new }
-    ensures undo { (line new : Line) (live : List Bool) → IsLine line → length live ≡ length line.current.live → Undoes line live new → IsLine new }
-    ensures redo { (line new : Line) (live : List Bool) → IsLine line → length live ≡ length line.current.live → Redoes line live new → IsLine new }
+    ensures change { (line new : Line) (end : State) → IsLine line → length end.live ≡ length line.current.live → IsTable end.table → MovesTo line end new → IsLine new }
+    ensures undo { (line new : Line) (live : List Bool) → IsLine line → length live ≡ length line.current.live → MovesByUndo line live new → IsLine new }
+    ensures redo { (line new : Line) (live : List Bool) → IsLine line → length live ≡ length line.current.live → MovesByRedo line live new → IsLine new }
 {}
 
 /// A line is its states, the place of its cursor, and its bound.

@@ -1,10 +1,8 @@
 ghost use Rattle.std.specs.Prelude.{◌≡◌, ◌≢◌, ◌⊎◌, ◌<◌, ◌≤◌, ◌+◌, ◌↔◌, true, false, [], ◌∷◌, Some, None, Err, length, slice_get, IfOk, OnOk, OnErr};
-ghost use Rattle.rc_set.specs.Set.{Has};
-ghost use Rattle.rc_db.specs.Bundles.{Bundles, IsTable};
-ghost use Rattle.rc_select.specs.Plan.{LeadsTo};
-ghost use Rattle.rc_bundle.specs.Edit.{IsEdit};
-ghost use Rattle.rc_line.specs.Line.{states, cursor, IsLine, IsNext, IsEntryAt};
-ghost use Rattle.rc_line.specs.Moves.{Changes, Edits, Undoes, Redoes};
+ghost use Rattle.rc_model.specs.Names.{Has};
+ghost use Rattle.rc_model.specs.Database.{Bundles, IsTable};
+ghost use Rattle.rc_model.specs.Plan.{IsPlanTo};
+ghost use Rattle.rc_model.specs.Line.{IsEdit, states, cursor, IsLine, IsNext, IsEntryAt, MovesByChange, MovesByEdit, MovesByUndo, MovesByRedo};
 ghost use Rattle.rc_line.specs.Opening.{table_or, target_of, IsOpened, Closes, IsEditFrom, AimsAt};
 ghost use Rattle.rc_line.specs.Keeping.{state, AreRooms, IsStepAt};
 
@@ -192,7 +190,7 @@ impl Line {
         requires bound { length plan.now.opening ≡ length self.old.line.current.live }
         ensures opened { IfOk result (IsOpened self.new) }
         ensures aim { IfOk result (λ opening. opening.aim ≡ Aim.Change) }
-        ensures live { IfOk result (λ opening. LeadsTo plan.now.opening (Has opening.live) (Has plan.now.kept) plan.now) }
+        ensures live { IfOk result (λ opening. IsPlanTo plan.now.opening (Has opening.live) (Has plan.now.kept) plan.now) }
         ensures line { self.new.line ≡ self.old.line }
         ensures memory { OnErr result (result ≡ Err LineFault.Memory) }
         ensures err { OnErr result (self.new ≡ self.old) }
@@ -285,7 +283,7 @@ impl Line {
         requires opened { IsOpened self.old opening }
         requires aim { opening.aim ≡ Aim.Edit }
         requires edit { IsEdit self.old.line.current.table (target_of opening self.old.line.current).table edit }
-        ensures moved { Edits self.old.line (target_of opening self.old.line.current).table self.new.line }
+        ensures moved { MovesByEdit self.old.line (target_of opening self.old.line.current).table self.new.line }
         ensures closed { self.new.is_open ≡ false }
     {
         let Open {
@@ -350,7 +348,7 @@ impl Line {
         requires room { AreRooms (length live.now) room }
         requires bound { length live.now ≡ length self.old.line.current.live }
         requires edit { edit ≡ [] }
-        ensures moved { Changes self.old.line live.now self.new.line }
+        ensures moved { MovesByChange self.old.line live.now self.new.line }
         ensures closed { self.new.is_open ≡ false }
     {
         self.is_open = false;
@@ -379,7 +377,7 @@ impl Line {
         requires near { AreRooms (length target) near }
         requires far { AreRooms (length target) far }
         requires no_edit { no_edit ≡ [] }
-        ensures moved { Undoes self.old.line live.now self.new.line }
+        ensures moved { MovesByUndo self.old.line live.now self.new.line }
         ensures closed { self.new.is_open ≡ false }
     {
         self.is_open = false;
@@ -426,7 +424,7 @@ impl Line {
         requires near { AreRooms (length target) near }
         requires far { AreRooms (length target) far }
         requires no_edit { no_edit ≡ [] }
-        ensures moved { Redoes self.old.line live.now self.new.line }
+        ensures moved { MovesByRedo self.old.line live.now self.new.line }
         ensures closed { self.new.is_open ≡ false }
     {
         self.is_open = false;
@@ -522,7 +520,7 @@ impl Line {
         }
     }
 
-    /// Turns the state at a place into the one after it. On want of memory what is left is neither.
+    /// Turns the state at a place into the one after it. Out of memory, what is left is neither.
     pub fn step_on(
         &self,
         alloc: Global,

@@ -3,7 +3,7 @@
 ghost use Rattle.std.specs.Prelude.{◌≡◌, ◌-◌, ◌<◌, ◌≤◌, [], ◌∷◌, ◌++◌, length, slice_get, OnOk};
 ghost use Rattle.std.specs.VecDeque.{deque_len, deque_capacity};
 ghost use Rattle.std.specs.Option.{option_copied};
-ghost use Rattle.rc_line.specs.State.{Entry};
+ghost use Rattle.rc_model.specs.Line.{Entry};
 ghost use Rattle.rc_line.specs.Keeping.{HasSpare, IsFit};
 
 use crate::entry::Entry;

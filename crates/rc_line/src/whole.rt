@@ -1,9 +1,9 @@
 //! Lines that are made of whole states.
 
 ghost use Rattle.std.specs.Prelude.{◌≡◌, ◌<◌, ◌≤◌, ℕ, [], false, length, All, IfOk, OnOk};
-ghost use Rattle.rc_db.specs.Bundles.{IsTable};
+ghost use Rattle.rc_model.specs.Database.{IsTable};
 ghost use Rattle.rc_line.specs.State.{states_of};
-ghost use Rattle.rc_line.specs.Line.{DifferInTurn, states, cursor};
+ghost use Rattle.rc_model.specs.Line.{DifferInTurn, states, cursor};
 ghost use Rattle.rc_line.specs.Opening.{table_or};
 
 use crate::line::Line;
@@ -12,7 +12,7 @@ use rc_set::{NoMem, Set};
 use std::alloc::Global;
 
 impl Line {
-    /// The line of some states, with the cursor at a place. On want of memory the states are gone.
+    /// The line of some states, with the cursor at a place. Out of memory, the states are gone.
     pub fn from_states(
         alloc: Global,
         mut held: Vec<(Set, Table)>,

@@ -5,16 +5,16 @@ use Rattle.std.proofs.lemmas.List.{append-nil, map-append, length-map}
 use Rattle.std.proofs.lemmas.List.Elements.{All-push}
 use Rattle.std.proofs.lemmas.Option.{slice_get_within, get_or_from_slice_get}
 use Rattle.std.proofs.Math.ListN.{get_or-append}
-use Rattle.rc_names.specs.Names.{IsBefore, IsInByteOrder}
+use Rattle.rc_model.specs.Names.{IsBefore, IsInByteOrder}
 use Rattle.rc_textform.specs.Words.{BundleText}
 use Rattle.rc_textform.specs.Form.{spells}
 use Rattle.rc_livetext.specs.Text.{OfBundle, IsBundleText, spell}
 use Rattle.rc_livetext.specs.Following.{MayAdd}
 use Rattle.rc_livetext.specs.Held.{AreBundles, HasBundles}
 use Rattle.rc_livetext.proofs.ManyLines.{first_once}
-use Rattle.rc_textform.proofs.Orders.{in_order_by_next}
+use Rattle.rc_model.proofs.WordOrders.{in_order_by_next}
 
--- names in order, one more behind the last
+-- names in order, one more after the last
 push_order : (xs : List (List ℕ)) (x last : List ℕ) → IsInByteOrder xs → slice_get xs (length xs - 1) ≡ Some last → IsBefore last x → IsInByteOrder (xs ++ x ∷ [])
 push_order xs x last order at low = in_order_by_next (xs ++ x ∷ []) (length xs + 1) next (omega (arith, length-append xs (x ∷ [])))
   where
@@ -37,7 +37,7 @@ push_order xs x last order at low = in_order_by_next (xs ++ x ∷ []) (length xs
         at_end [] y e = refl
         at_end (z ∷ ys) y e = at_end ys y e
 
--- a bundle may follow where its name stands behind the last one's, and nowhere else
+-- a bundle may follow where its name stands after the last one's, and nowhere else
 pub may_follow : (bs : List BundleText) (b last : BundleText) (answer : Bool) → AreBundles bs → IsBundleText b → length bs < 4096 → slice_get bs (length bs - 1) ≡ Some last → (IsTrue answer ↔ IsBefore last.name b.name) → IsTrue answer ↔ MayAdd bs b
 may_follow bs b last answer are is few at told = (
   λ yes. record { is = is; few = few; order = subst IsInByteOrder (sym (map-append (λ (c : BundleText). c.name) bs (b ∷ []))) (push_order (map (λ (c : BundleText). c.name) bs) b.name last.name are.order named (told.0 yes)) },
@@ -82,6 +82,6 @@ one_more bytes rest behind bs b has may next = (
         ∙ (ap (λ (t : List ℕ). spell (OfBundle c) ++ t) (grows cs)
         ∙ sym (append_assoc (spell (OfBundle c)) (spells spell (map OfBundle cs)) (spell (OfBundle b) ++ behind)))
 
--- two bundles at the front are the same
+-- two bundles at the beginning are the same
 pub same_bundle : (a b : BundleText) (x y : List ℕ) → IsBundleText a → IsBundleText b → spell (OfBundle a) ++ x ≡ spell (OfBundle b) ++ y → a ≡ b
 same_bundle a b x y is_a is_b same = let lines : OfBundle a ≡ OfBundle b = (first_once (OfBundle a) (OfBundle b) x y is_a is_b same).0 in cc

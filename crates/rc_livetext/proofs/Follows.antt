@@ -6,30 +6,30 @@ use Rattle.rc_textform.proofs.WordLines.{append-cancel}
 use Rattle.std.proofs.lemmas.List.Elements.{All-head, All-tail, All-nil, All-cons}
 use Rattle.std.proofs.Math.ListN.{get_or-append}
 use Rattle.std.specs.List.{flat_map}
-use Rattle.rc_names.specs.Names.{IsInByteOrder}
+use Rattle.rc_model.specs.Names.{IsInByteOrder}
 use Rattle.rc_textform.specs.Words.{BundleText}
 use Rattle.rc_textform.specs.Form.{spells}
 use Rattle.rc_livetext.specs.Text.{Line, OfBundle, Last, StateText, LiveText, IsStateText, IsLiveText, IsBundleText, IsBound, state_lines, head_lines, live_lines, spell}
 use Rattle.rc_livetext.specs.Refusals.{IsStuckAt}
-use Rattle.rc_livetext.specs.Following.{Place, AtFirst, AtServices, AtBound, AtStates, InState, AtEnd, May, behind, reached, AllMay, IsNoLineHere}
+use Rattle.rc_livetext.specs.Following.{Place, AtFirst, AtServices, AtBound, AtStates, InState, AtEnd, May, behind, place_after, AllMay, IsNoLineHere}
 use Rattle.rc_livetext.proofs.LineWords.{IsSaid}
 use Rattle.rc_livetext.proofs.ManyLines.{AreToLast, first_once, first_apart, inner_front, not_within}
 use Rattle.rc_livetext.proofs.Structure.{body_lines, text_said, text_to_last}
 
 -- lines in two parts
-pub may_split : (p : Place) (ls ms : List Line) → AllMay p (ls ++ ms) → AllMay p ls × AllMay (reached p ls) ms
+pub may_split : (p : Place) (ls ms : List Line) → AllMay p (ls ++ ms) → AllMay p ls × AllMay (place_after p ls) ms
 may_split p [] ms all = (tt, all)
 may_split p (l ∷ ls) ms all = let rest = may_split (behind p l) ls ms all.1 in ((all.0, rest.0), rest.1)
 
-pub may_join : (p : Place) (ls ms : List Line) → AllMay p ls → AllMay (reached p ls) ms → AllMay p (ls ++ ms)
+pub may_join : (p : Place) (ls ms : List Line) → AllMay p ls → AllMay (place_after p ls) ms → AllMay p (ls ++ ms)
 may_join p [] ms first second = second
 may_join p (l ∷ ls) ms first second = (first.0, may_join (behind p l) ls ms first.1 second)
 
-pub reached_join : (p : Place) (ls ms : List Line) → reached p (ls ++ ms) ≡ reached (reached p ls) ms
+pub reached_join : (p : Place) (ls ms : List Line) → place_after p (ls ++ ms) ≡ place_after (place_after p ls) ms
 reached_join p [] ms = refl
 reached_join p (l ∷ ls) ms = reached_join (behind p l) ls ms
 
--- a front of names in order is in order
+-- a prefix of names in order is in order
 front_order : (xs ys : List (List ℕ)) → IsInByteOrder (xs ++ ys) → IsInByteOrder xs
 front_order xs ys order i j d low within =
     let first : get_or (xs ++ ys) i d ≡ get_or xs i d = get_or-append xs ys d i (omega arith) in
@@ -39,9 +39,9 @@ front_order xs ys order i j d low within =
 push_append : {X : Type 0} (xs : List X) (y : X) (ys : List X) → (xs ++ y ∷ []) ++ ys ≡ xs ++ y ∷ ys
 push_append xs y ys = append_assoc xs (y ∷ []) ys
 
--- the bundles of a state, behind some of them
+-- the bundles of a state, after some of them
 bundles_may : (seen : Bool) (bs cs : List BundleText) → IsInByteOrder (map (λ b. b.name) (bs ++ cs)) → length bs + length cs ≤ 4096 → All IsBundleText cs
-    → AllMay (InState seen bs) (map OfBundle cs) × (reached (InState seen bs) (map OfBundle cs) ≡ InState seen (bs ++ cs))
+    → AllMay (InState seen bs) (map OfBundle cs) × (place_after (InState seen bs) (map OfBundle cs) ≡ InState seen (bs ++ cs))
 bundles_may seen bs [] order few each = (tt, ap (InState seen) (sym (append-nil bs)))
 bundles_may seen bs (c ∷ cs) order few each =
     let apart : (bs ++ c ∷ []) ++ cs ≡ bs ++ c ∷ cs = push_append bs c cs in
@@ -58,9 +58,9 @@ IsOpenTo seen AtStates = seen ≡ false
 IsOpenTo seen (InState was bundles) = was ≡ seen
 IsOpenTo seen other = ⊥
 
--- the place behind a state
+-- the place after a state
 pub state_may : (place : Place) (seen current : Bool) (s : StateText) → IsOpenTo seen place → (seen ≡ true → current ≡ true → ⊥) → IsStateText s
-    → AllMay place (state_lines current s) × (reached place (state_lines current s) ≡ InState (seen || current) s.bundles)
+    → AllMay place (state_lines current s) × (place_after place (state_lines current s) ≡ InState (seen || current) s.bundles)
 state_may AtStates true current s opens once is = absurd (let bad : true ≡ false = opens in cc)
 state_may AtStates false current s opens once is = let rest = bundles_may current [] s.bundles is.order (omega (arith, is.few)) is.each in ((is.live, rest.0), rest.1)
 state_may (InState true bundles) true current s opens once is = let rest = bundles_may true [] s.bundles is.order (omega (arith, is.few)) is.each in ((((is.live, once)), rest.0), rest.1)
@@ -72,18 +72,18 @@ state_may (AtServices bounded) seen current s opens once is = absurd opens
 state_may AtBound seen current s opens once is = absurd opens
 state_may AtEnd seen current s opens once is = absurd opens
 
--- the place behind states that are not the current one
+-- the place after states that are not the current one
 pub open_still : (seen : Bool) → seen || false ≡ seen
 open_still true = refl
 open_still false = refl
 
 pub states_may : (place : Place) (seen : Bool) (ss : List StateText) → IsOpenTo seen place → All IsStateText ss
-    → AllMay place (flat_map (state_lines false) ss) × IsOpenTo seen (reached place (flat_map (state_lines false) ss))
+    → AllMay place (flat_map (state_lines false) ss) × IsOpenTo seen (place_after place (flat_map (state_lines false) ss))
 states_may place seen [] opens each = (tt, opens)
 states_may place seen (s ∷ ss) opens each =
     let first = state_may place seen false s opens (λ is bad. (let no : false ≡ true = bad in cc)) (All-head IsStateText s ss each) in
-    let there : IsOpenTo seen (reached place (state_lines false s)) = subst (IsOpenTo seen) (sym first.1) (open_still seen) in
-    let rest = states_may (reached place (state_lines false s)) seen ss there (All-tail IsStateText s ss each) in (
+    let there : IsOpenTo seen (place_after place (state_lines false s)) = subst (IsOpenTo seen) (sym first.1) (open_still seen) in
+    let rest = states_may (place_after place (state_lines false s)) seen ss there (All-tail IsStateText s ss each) in (
       may_join place (state_lines false s) (flat_map (state_lines false) ss) first.0 rest.0,
       subst (IsOpenTo seen) (sym (reached_join place (state_lines false s) (flat_map (state_lines false) ss))) rest.1,
     )
@@ -102,10 +102,10 @@ body_may t is =
     let b : List Line = state_lines true t.current in
     let c : List Line = flat_map (state_lines false) t.after in
     let one = states_may AtStates false t.before refl is.before in
-    let two = state_may (reached AtStates a) false true t.current one.1 (λ bad is_it. (let no : false ≡ true = bad in cc)) is.current in
-    let there : IsOpenTo true (reached (reached AtStates a) b) = subst (IsOpenTo true) (sym two.1) refl in
-    let three = states_may (reached (reached AtStates a) b) true t.after there is.after in
-    may_join AtStates a (b ++ (c ++ Last ∷ [])) one.0 (may_join (reached AtStates a) b (c ++ Last ∷ []) two.0 (may_join (reached (reached AtStates a) b) c (Last ∷ []) three.0 (last_may _ three.1)))
+    let two = state_may (place_after AtStates a) false true t.current one.1 (λ bad is_it. (let no : false ≡ true = bad in cc)) is.current in
+    let there : IsOpenTo true (place_after (place_after AtStates a) b) = subst (IsOpenTo true) (sym two.1) refl in
+    let three = states_may (place_after (place_after AtStates a) b) true t.after there is.after in
+    may_join AtStates a (b ++ (c ++ Last ∷ [])) one.0 (may_join (place_after AtStates a) b (c ++ Last ∷ []) two.0 (may_join (place_after (place_after AtStates a) b) c (Last ∷ []) three.0 (last_may _ three.1)))
 
 -- the lines of a text may follow one another
 pub text_may : (t : LiveText) → IsLiveText t → AllMay AtFirst (live_lines t)
@@ -137,16 +137,16 @@ said_front : (xs ys : List Line) → All IsSaid (xs ++ ys) → All IsSaid xs
 said_front [] ys h = All-nil IsSaid
 said_front (x ∷ xs) ys h = All-cons IsSaid x xs (All-head IsSaid x (xs ++ ys) h) (said_front xs ys (All-tail IsSaid x (xs ++ ys) h))
 
--- where lines that may follow one another stand at the front, the next line of any text with these lines may follow them
+-- where lines that may follow one another stand at the beginning, the next line of any text with these lines may follow them
 pub next_may : (ls : List Line) (other : LiveText) (rest tail : List ℕ) → All IsSaid ls → IsLiveText other → length ls < length (live_lines other)
     → spells spell ls ++ rest ≡ spells spell (take (length ls + 1) (live_lines other)) ++ tail
-    → (l : Line) × May (reached AtFirst ls) l × (rest ≡ spell l ++ tail)
+    → (l : Line) × May (place_after AtFirst ls) l × (rest ≡ spell l ++ tail)
 next_may ls other rest tail said is long same = by (drop (length ls) (live_lines other)) refl
   where
     all : List Line
     all = live_lines other
 
-    by : (more : List Line) → drop (length ls) all ≡ more → (l : Line) × May (reached AtFirst ls) l × (rest ≡ spell l ++ tail)
+    by : (more : List Line) → drop (length ls) all ≡ more → (l : Line) × May (place_after AtFirst ls) l × (rest ≡ spell l ++ tail)
     by [] none = absurd (omega (arith, length-drop (length ls) all, ap length none))
     by (l ∷ more) next =
         let split : all ≡ take (length ls) all ++ l ∷ more = sym (take-append-drop (length ls) all) ∙ ap (λ (x : List Line). take (length ls) all ++ x) next in
@@ -157,11 +157,11 @@ next_may ls other rest tail said is long same = by (drop (length ls) (live_lines
         same ∙ ap (λ (x : List Line). spells spell x ++ tail) one_more ∙ spells_push (take (length ls) all) l tail in
         let fronts : take (length ls) all ≡ ls = fronts_same ls all rest (spell l ++ tail) said (text_said other is) (omega (arith, long)) stands in
         let may : AllMay AtFirst (ls ++ l ∷ more) = subst (AllMay AtFirst) (split ∙ ap (λ (x : List Line). x ++ l ∷ more) fronts) (text_may other is) in
-        let here : May (reached AtFirst ls) l = ((may_split AtFirst ls (l ∷ more) may).1).0 in
+        let here : May (place_after AtFirst ls) l = ((may_split AtFirst ls (l ∷ more) may).1).0 in
         (l, here, append-cancel (spells spell ls) rest (spell l ++ tail) (stands ∙ ap (λ (x : List Line). spells spell x ++ (spell l ++ tail)) fronts))
 
 -- so reading is stuck where some text has these lines and one more, and no line that may follow them stands
-pub stuck_here : (bytes rest : List ℕ) (ls after : List Line) (due : Line) (t : LiveText) → bytes ≡ spells spell ls ++ rest → IsLiveText t → live_lines t ≡ ls ++ due ∷ after → IsNoLineHere (reached AtFirst ls) rest → IsStuckAt bytes rest due
+pub stuck_here : (bytes rest : List ℕ) (ls after : List Line) (due : Line) (t : LiveText) → bytes ≡ spells spell ls ++ rest → IsLiveText t → live_lines t ≡ ls ++ due ∷ after → IsNoLineHere (place_after AtFirst ls) rest → IsStuckAt bytes rest due
 stuck_here bytes rest ls after due t front is parts none = record {
   value = t;
   before = ls;

@@ -3,7 +3,7 @@ use Rattle.std.proofs.Common.{◌≡◌, ◌∙◌, ℕ, ◌≤◌, Bool, true, 
 use Rattle.std.proofs.Common.{length, get_or, Option, Some, None, IfSome, refl, sym, ap, arith}
 use Rattle.std.specs.Prelude.{codes}
 use Rattle.std.proofs.lemmas.List.Elements.{All-nil, All-cons}
-use Rattle.rc_textform.specs.Words.{IsNumber, HasNumber, worded}
+use Rattle.rc_textform.specs.Words.{IsNumber, HasNumber, line_of_words}
 use Rattle.rc_textform.specs.Form.{spells}
 use Rattle.rc_textform.proofs.WordLines.{words_once}
 use Rattle.rc_textform.proofs.NumberLines.{plain_numbered}
@@ -96,7 +96,7 @@ no_version_line bytes none = (
 
 -- another version stands here
 pub other_version : (bytes number rest : List ℕ) → IsNumber number
-    → bytes ≡ worded (codes "undorc-live" ∷ number ∷ []) ++ rest
+    → bytes ≡ line_of_words (codes "undorc-live" ∷ number ∷ []) ++ rest
     → ((bounded : Bool) → number ≡ version_word bounded → ⊥) → IsRefused bytes Version
 other_version bytes number rest is here none = (
   bytes,

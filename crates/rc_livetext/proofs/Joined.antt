@@ -4,10 +4,9 @@ use Rattle.std.proofs.lemmas.List.{get_or-map, length-map, map-append, take-map}
 use Rattle.std.proofs.lemmas.List.Elements.{All-contains, All-map, All-take}
 use Rattle.std.proofs.lemmas.Option.{slice_get-map}
 use Rattle.std.specs.Option.{option_map}
-use Rattle.rc_db.specs.Database.{Database, IsDatabase, AreApart}
-use Rattle.rc_line.specs.State.{State}
-use Rattle.rc_line.specs.Line.{Line, IsLine, DifferInTurn, states, cursor}
-use Rattle.rc_session.specs.Doing.{IsStateOf, IsLineOf}
+use Rattle.rc_model.specs.Database.{Database, IsDatabase, AreApart}
+use Rattle.rc_model.specs.Line.{State, Line, IsLine, DifferInTurn, states, cursor}
+use Rattle.rc_model.specs.Session.{IsStateOf, IsLineOf}
 use Rattle.rc_textform.specs.Words.{BundleText}
 use Rattle.rc_livetext.specs.Text.{LiveText, StateText}
 use Rattle.rc_dbtext.proofs.Naming.{member_mapped}

@@ -1,13 +1,11 @@
--- The text of a line is refused for want of memory alone.
+-- The text of a line is refused as out of memory alone.
 use Rattle.std.proofs.Common.{◌≡◌, ◌≢◌, ◌∙◌, ◌≤◌, ◌++◌, inl, inr, ℕ, Bool, List, [], ◌∷◌, Option, Some, None, IfSome, length, map, get_or, Contains, All, arith, refl, sym, ap, subst}
 use Rattle.std.proofs.lemmas.List.{append-nil, map-append, length-map}
 use Rattle.std.proofs.lemmas.List.Elements.{All-head, All-tail, All-nil, All-cons, All-contains_itself}
-use Rattle.rc_names.specs.Names.{IsInByteOrder}
-use Rattle.rc_db.specs.Bundles.{Bundles, AreBelow, names_of}
-use Rattle.rc_db.specs.Database.{Database, IsDatabase}
-use Rattle.rc_line.specs.State.{State}
-use Rattle.rc_line.specs.Line.{Line, states}
-use Rattle.rc_session.specs.Doing.{IsStateOf, IsLineOf}
+use Rattle.rc_model.specs.Names.{IsInByteOrder}
+use Rattle.rc_model.specs.Database.{Bundles, HaveBound, names_of, Database, IsDatabase}
+use Rattle.rc_model.specs.Line.{State, Line, states}
+use Rattle.rc_model.specs.Session.{IsStateOf, IsLineOf}
 use Rattle.rc_textform.specs.Words.{BundleText}
 use Rattle.rc_livetext.specs.declared.form_fault.FormFault.{FormFault}
 use Rattle.rc_livetext.specs.declared.form_fault.FormFault.TheVariants as form
@@ -32,7 +30,7 @@ all_map P Q f [] each all = All-nil Q
 all_map P Q f (x ∷ xs) each all = All-cons Q (f x) (map f xs) (each x (All-head P x xs all)) (all_map P Q f xs each (All-tail P x xs all))
 
 -- a bundle of a table has one of its names
-named_bundles : (names : List (List ℕ)) (order : IsInByteOrder names) (table : Bundles) → AreBelow (length names) table → All (λ b. All (Contains names) b.members) (map (bundle_text names) table)
+named_bundles : (names : List (List ℕ)) (order : IsInByteOrder names) (table : Bundles) → HaveBound (length names) table → All (λ b. All (Contains names) b.members) (map (bundle_text names) table)
 named_bundles names order [] below = All-nil (λ (b : BundleText). All (Contains names) b.members)
 named_bundles names order (b ∷ table) below =
     let Long : List ℕ × List Bool → Type 0 = λ bundle. length bundle.1 ≡ length names in

@@ -2,10 +2,10 @@
 use Rattle.std.proofs.Common.{◌≡◌, ◌∙◌, ◌<◌, ◌↔◌, ℕ, Bool, List, [], length, map, slice_get, Some, Contains, All, get_or, arith, ap, subst}
 use Rattle.std.proofs.lemmas.List.Elements.{All-map, Contains-get_or}
 use Rattle.std.proofs.lemmas.Option.{slice_get-get_or}
-use Rattle.rc_set.specs.Set.{Has}
-use Rattle.rc_names.specs.Names.{IsInByteOrder, IsNamed}
-use Rattle.rc_names.proofs.ByteOrder.{one_place}
-use Rattle.rc_graph.specs.Closure.{IsClosed}
+use Rattle.rc_model.specs.Names.{Has, IsInByteOrder}
+use Rattle.rc_names.specs.Names.{IsNamed}
+use Rattle.rc_model.proofs.ByteOrder.{one_place}
+use Rattle.rc_model.specs.Graph.{IsClosed}
 use Rattle.rc_dbtext.specs.Spelling.{members, name_at}
 use Rattle.rc_dbtext.proofs.Bundling.{has_member, member_has}
 use Rattle.rc_dbtext.proofs.Naming.{mapped_member, member_mapped}

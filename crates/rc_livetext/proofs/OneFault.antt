@@ -1,8 +1,8 @@
--- What refuses bytes is one, want of memory aside.
+-- What refuses bytes is one, out of memory aside.
 use Rattle.std.proofs.Common.{◌≡◌, ◌≢◌, ◌∙◌, ◌+◌, ◌<◌, ◌++◌, ◌∷◌, ◌⊎◌, inl, inr, ℕ, zero, suc, List, [], Some, length, take, slice_get, All, arith, refl, sym, ap, subst}
 use Rattle.std.proofs.lemmas.List.Elements.{All-head, All-tail}
 use Rattle.std.proofs.lemmas.Option.{slice_get_within, get_or_from_slice_get}
-use Rattle.rc_db.specs.Database.{Database}
+use Rattle.rc_model.specs.Database.{Database}
 use Rattle.rc_livetext.specs.declared.form_fault.FormFault.{FormFault}
 use Rattle.rc_livetext.specs.declared.form_fault.FormFault.TheVariants as form
 use Rattle.rc_livetext.specs.Text.{LiveText, IsLiveText, live_text}
@@ -100,7 +100,7 @@ one_meaning d t OverBound Version of_a of_b not_a not_b = absurd of_b
 one_meaning d t (Bad offset) b of_a of_b not_a not_b = absurd of_a
 one_meaning d t Version b of_a of_b not_a not_b = absurd of_a
 
--- a refusal for the form, told in bytes from the front
+-- a refusal for the form, told in bytes from the beginning
 abbrev IsTold : List ℕ → FormFault → LiveFault → Type 0
 IsTold bytes (form.Bad left) fault = (offset : ℕ) × (offset + left ≡ length bytes) × (fault ≡ Bad offset)
 IsTold bytes form.Version fault = fault ≡ Version

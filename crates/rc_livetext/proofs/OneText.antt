@@ -112,7 +112,7 @@ no_version bytes rest other due line stuck more none has =
     let here : IsBegin due = subst IsBegin (ap (λ (k : ℕ). get_or (live_lines stuck.value) k Last) (sym zero_at) ∙ due_line bytes rest due stuck) (begins stuck.value) in
     none (to_version due rest here (subst (HasNumber (codes "undorc-live") IsOtherVersion) (sym at.0) (version_any line other has)))
 
--- so what refuses bytes is one, want of memory aside
+-- so what refuses bytes is one, out of memory aside
 pub one_refusal : (bytes : List ℕ) (a b : FormFault) → IsRefused bytes a → IsRefused bytes b → a ≢ Memory → b ≢ Memory → a ≡ b
 one_refusal bytes Memory b of_a of_b not_a not_b = absurd (not_a refl)
 one_refusal bytes a Memory of_a of_b not_a not_b = absurd (not_b refl)

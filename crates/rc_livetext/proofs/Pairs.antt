@@ -3,9 +3,9 @@ use Rattle.std.proofs.Common.{◌≡◌, ◌≢◌, ◌∙◌, ◌+◌, ◌-◌,
 use Rattle.std.proofs.lemmas.Bool.{cases_lt}
 use Rattle.std.proofs.lemmas.List.{get_or-map, length-map, map_push, take_more, take_all}
 use Rattle.std.proofs.lemmas.List.Elements.{All-push}
-use Rattle.rc_db.specs.Bundles.{Bundles}
-use Rattle.rc_line.specs.State.{State, states_of}
-use Rattle.rc_line.specs.Line.{DifferInTurn}
+use Rattle.rc_model.specs.Database.{Bundles}
+use Rattle.rc_model.specs.Line.{State, DifferInTurn}
+use Rattle.rc_line.specs.State.{states_of}
 use Rattle.rc_livetext.specs.Text.{StateText}
 use Rattle.rc_livetext.specs.Parts.{state_texts}
 use Rattle.rc_livetext.specs.Spelling.{state_text}
@@ -36,7 +36,7 @@ taken_one front now more texts i text within here so_far one =
     assoc : (front ++ take i texts) ++ text ∷ [] ≡ front ++ (take i texts ++ text ∷ [])
     assoc = append_assoc front (take i texts) (text ∷ [])
 
--- parts of lists that have as long fronts
+-- parts of lists that have as long prefixes
 pub split : {X : Type 0} (a b x y : List X) → length a ≡ length b → a ++ x ≡ b ++ y → (a ≡ b) × (x ≡ y)
 split [] [] x y long same = (refl, same)
 split [] (d ∷ b) x y long same = absurd (omega arith)

@@ -1,14 +1,14 @@
--- What was read of a text is the front of one, and grows line by line.
+-- What was read of a text is the prefix of one, and grows line by line.
 use Rattle.std.proofs.Common.{◌≡◌, ◌∙◌, ℕ, true, false, List, [], ◌∷◌, ◌++◌, All, Option, Some, None, IfSome, sym, ap, arith, append_assoc}
 use Rattle.std.proofs.lemmas.List.{append-nil}
 use Rattle.std.proofs.lemmas.List.Concat.{flat_map-append}
 use Rattle.std.proofs.lemmas.List.Elements.{All-nil}
 use Rattle.std.specs.List.{flat_map}
-use Rattle.rc_names.specs.Name.{IsName}
+use Rattle.rc_model.specs.Names.{IsName}
 use Rattle.rc_livetext.specs.Text.{Line, OfState, Last, StateText, LiveText, IsStateText, IsLiveText, IsBundleText, head_lines, state_lines, live_lines, spell}
 use Rattle.rc_textform.specs.Form.{spells}
 use Rattle.rc_livetext.specs.Refusals.{HasOtherVersion, IsStuckAt}
-use Rattle.rc_livetext.specs.Following.{Part, IsPart, AtFirst, reached, IsNoLineHere, part_lines}
+use Rattle.rc_livetext.specs.Following.{Part, IsPart, AtFirst, place_after, IsNoLineHere, part_lines}
 use Rattle.rc_livetext.proofs.Follows.{stuck_here}
 
 -- a state in which nothing is up, without bundles
@@ -23,7 +23,7 @@ nothing_up_is = record {
   each = All-nil IsBundleText;
 }
 
--- the lines before, with more behind
+-- the lines before, with more after
 three : (h b c more : List Line) → (h ++ (b ++ c)) ++ more ≡ h ++ (b ++ (c ++ more))
 three h b c more = append_assoc h (b ++ c) more ∙ ap (λ (l : List Line). h ++ l) (append_assoc b c more)
 
@@ -61,12 +61,12 @@ completes p is = by p.current is.current
       λ bytes bad. bad,
     )
 
--- so behind what was read, where no line stands that may follow it, reading is stuck
-pub part_stuck : (p : Part) (bytes rest : List ℕ) → IsPart p → bytes ≡ spells spell (part_lines p) ++ rest → IsNoLineHere (reached AtFirst (part_lines p)) rest → (due : Line) × IsStuckAt bytes rest due × (HasOtherVersion due rest → ⊥)
+-- so after what was read, where no line stands that may follow it, reading is stuck
+pub part_stuck : (p : Part) (bytes rest : List ℕ) → IsPart p → bytes ≡ spells spell (part_lines p) ++ rest → IsNoLineHere (place_after AtFirst (part_lines p)) rest → (due : Line) × IsStuckAt bytes rest due × (HasOtherVersion due rest → ⊥)
 part_stuck p bytes rest is front none =
     let whole = completes p is in
     (whole.1, stuck_here bytes rest (part_lines p) whole.2 whole.1 whole.0 front whole.3 whole.4 none, whole.5 rest)
 
--- a state behind others
+-- a state after others
 pub lines_push : (ss : List StateText) (s : StateText) → flat_map (state_lines false) (ss ++ s ∷ []) ≡ flat_map (state_lines false) ss ++ state_lines false s
 lines_push ss s = flat_map-append (state_lines false) ss (s ∷ []) ∙ ap (λ (l : List Line). flat_map (state_lines false) ss ++ l) (append-nil (state_lines false s))

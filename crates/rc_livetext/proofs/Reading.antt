@@ -1,8 +1,8 @@
 -- What was read of bytes, as a line and as a refusal.
 use Rattle.std.proofs.Common.{◌≡◌, ◌∙◌, inl, inr, ℕ, List, [], Option, Some, None, ap}
 use Rattle.std.proofs.lemmas.List.{append-nil}
-use Rattle.rc_db.specs.Database.{Database}
-use Rattle.rc_line.specs.Line.{Line}
+use Rattle.rc_model.specs.Database.{Database}
+use Rattle.rc_model.specs.Line.{Line}
 use Rattle.rc_livetext.specs.Text.{LiveText, live_text}
 use Rattle.rc_livetext.specs.Refusals.{BeginsWith}
 use Rattle.rc_livetext.specs.declared.fault.LiveFault.{LiveFault}

@@ -1,4 +1,4 @@
--- States one behind another, and what may stand behind them.
+-- States one after another, and what may stand after them.
 use Rattle.std.proofs.Common.{◌≡◌, ◌∙◌, ℕ, Bool, true, false, List, [], ◌∷◌, ◌++◌, map, All}
 use Rattle.std.proofs.Common.{refl, sym, ap, subst, append_assoc, Vec, Global}
 use Rattle.std.proofs.lemmas.List.Elements.{All-nil, All-push}
@@ -6,7 +6,7 @@ use Rattle.rc_textform.specs.Form.{spells}
 use Rattle.rc_livetext.specs.Text.{Line, First, OfServices, OfBound, OfState, OfBundle, Last}
 use Rattle.rc_livetext.specs.Text.{StateText, IsStateText, AreAscending, state_lines, spell}
 use Rattle.rc_livetext.specs.Following.{Place, AtFirst, AtServices, AtBound, AtStates, InState}
-use Rattle.rc_livetext.specs.Following.{May, reached, IsNoLineHere}
+use Rattle.rc_livetext.specs.Following.{May, place_after, IsNoLineHere}
 use Rattle.rc_livetext.specs.Held.{AreBundles, HasBundles, HasNoMore, HasNo, HasStates}
 use Rattle.rc_livetext.specs.Held.{HasNoBundle, states_lines}
 use Rattle.rc_livetext.specs.Saying.{IsSaid}
@@ -19,7 +19,7 @@ use Rattle.rc_textform.proofs.Stuck.{spells-append}
 use Rattle.rc_livetext.proofs.PartLemmas.{lines_push}
 use Rattle.rc_livetext.proofs.Follows.{IsOpenTo, reached_join, state_may, states_may, open_still}
 
--- lines behind lines
+-- lines after lines
 pub joins : (ls ms : List Line) (bytes x y : List ℕ) → bytes ≡ spells spell ls ++ x
     → x ≡ spells spell ms ++ y → bytes ≡ spells spell (ls ++ ms) ++ y
 joins ls ms bytes x y first second =
@@ -58,22 +58,22 @@ one_state s states bytes rest middle behind has live line bundles = (
       ∙ ap (λ (ls : List Line). spells spell ls ++ behind) (sym (lines_push states s)),
 )
 
--- behind a state that is not the current one
+-- after a state that is not the current one
 pub behind_state : (seen : Bool) (place : Place) (states : List StateText) (s : StateText)
     → IsOpenTo seen place → All IsStateText states → IsStateText s
-    → reached place (states_lines (states ++ s ∷ [])) ≡ InState seen s.bundles
+    → place_after place (states_lines (states ++ s ∷ [])) ≡ InState seen s.bundles
 behind_state seen place states s opens each is =
     let there = (states_may place seen states opens each).1 in
-    let one = state_may (reached place (states_lines states)) seen false s there
+    let one = state_may (place_after place (states_lines states)) seen false s there
     (λ _ bad. (let no : false ≡ true = bad in cc)) is in
-    ap (reached place) (lines_push states s)
+    ap (place_after place) (lines_push states s)
     ∙ reached_join place (states_lines states) (state_lines false s)
     ∙ one.1 ∙ ap (λ (b : Bool). InState b s.bundles) (open_still seen)
 
 -- where no more bundles of the last state stand
 pub none_behind : (seen : Bool) (place : Place) (states : List StateText) (s : StateText)
     (rest : List ℕ) → IsOpenTo seen place → All IsStateText states → IsStateText s
-    → HasNoMore s.bundles rest → HasNoBundle (reached place (states_lines (states ++ s ∷ []))) rest
+    → HasNoMore s.bundles rest → HasNoBundle (place_after place (states_lines (states ++ s ∷ []))) rest
 none_behind seen place states s rest opens each is none =
     let F : Place → Type 0 = λ p. HasNoBundle p rest in
     subst F (sym (behind_state seen place states s opens each is)) none
@@ -114,7 +114,7 @@ not_before (InState seen bundles) form.Last rest behind opens none here other ma
 not_before (InState seen bundles) line rest behind opens none here other may = may
 not_before place line rest behind opens none here other may = opens
 
--- and behind it none that is no state's either and not the last one
+-- and after it none that is no state's either and not the last one
 pub not_behind : (place : Place) (line : LineForm) (rest behind : List ℕ) → IsOpenTo true place
     → HasNoBundle place rest → rest ≡ spell (line_text line) ++ behind → (line ≡ form.Last → ⊥)
     → ((current : Bool) (names : Vec Name Global) → line ≡ form.State current names → ⊥)

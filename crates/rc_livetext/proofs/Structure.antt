@@ -134,7 +134,7 @@ blocks_join : (ms : List Marked) (x : List Marked) (z : List Line) → blocks ms
 blocks_join [] x z = refl
 blocks_join (m ∷ ms) x z = append_assoc (block m) (blocks ms) (blocks x ++ z) ∙ ap (λ (ls : List Line). block m ++ ls) (blocks_join ms x z) ∙ sym (append_assoc (block m) (blocks (ms ++ x)) z)
 
--- all lines behind the head
+-- all lines after the head
 abbrev pub body_lines : LiveText → List Line
 body_lines t = flat_map (state_lines false) t.before ++ (state_lines true t.current ++ (flat_map (state_lines false) t.after ++ Last ∷ []))
 

@@ -3,13 +3,10 @@ use Rattle.std.specs.Prelude.{max}
 use Rattle.std.proofs.Common.{◌≡◌, ◌∙◌, inl, inr, ℕ, Bool, List, [], ◌∷◌, ◌++◌, length, map, get_or, All, Option, Some, None, IfSome, refl, ap, sym, subst, arith, length-append}
 use Rattle.std.proofs.lemmas.List.{length-map, append-nil}
 use Rattle.std.proofs.lemmas.List.Elements.{All-head, All-tail, All-nil, All-cons, All-map}
-use Rattle.rc_names.specs.Name.{IsName}
-use Rattle.rc_names.specs.Names.{IsInByteOrder}
-use Rattle.rc_db.specs.Bundles.{Bundles, IsTable, AreBelow, names_of}
-use Rattle.rc_db.specs.Database.{Database, IsDatabase}
-use Rattle.rc_line.specs.State.{State}
-use Rattle.rc_line.specs.Line.{Line, DifferInTurn, states}
-use Rattle.rc_session.specs.Doing.{IsStateOf, IsLineOf}
+use Rattle.rc_model.specs.Names.{IsName, IsInByteOrder}
+use Rattle.rc_model.specs.Database.{Bundles, IsTable, HaveBound, names_of, Database, IsDatabase}
+use Rattle.rc_model.specs.Line.{State, Line, DifferInTurn, states}
+use Rattle.rc_model.specs.Session.{IsStateOf, IsLineOf}
 use Rattle.rc_textform.specs.Words.{BundleText}
 use Rattle.rc_dbtext.specs.Spelling.{bundle_text, members, name_at}
 use Rattle.rc_dbtext.proofs.Naming.{names_ascend}
@@ -42,7 +39,7 @@ module _ (d : Database) (is : IsDatabase d) where
         each = All-map IsName (name_at d.names) (members set) (λ k e within. is.names.each (get_or (members set) k e) [] (low k e within));
       }
 
-  bundles_are : (table : Bundles) → All IsName (names_of table) → AreBelow (length d.names) table → All IsBundleText (map (bundle_text d.names) table)
+  bundles_are : (table : Bundles) → All IsName (names_of table) → HaveBound (length d.names) table → All IsBundleText (map (bundle_text d.names) table)
   bundles_are [] each below = All-nil IsBundleText
   bundles_are (b ∷ table) each below =
       let Long : List ℕ × List Bool → Type 0 = λ bundle. length bundle.1 ≡ length d.names in
@@ -151,7 +148,7 @@ same_line a b before current after bound = λ k. record { before = before k; cur
 some_once : (x y : ℕ) → Some x ≡ Some y → x ≡ y
 some_once x y same = cc
 
--- the front law of the forms, as a premise
+-- the prefix law of the forms, as a premise
 abbrev pub IsFrontLaw : Type 0
 IsFrontLaw = (a b : LiveText) (rest : List ℕ) → IsLiveText a → IsLiveText b → live_text a ++ rest ≡ live_text b → rest ≡ []
 

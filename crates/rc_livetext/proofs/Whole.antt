@@ -8,7 +8,7 @@ use Rattle.rc_livetext.specs.declared.form_fault.FormFault.TheVariants.{Bad, Ver
 use Rattle.rc_livetext.specs.Text.{Line, OfState, Last, StateText, AreAscending}
 use Rattle.rc_livetext.specs.Text.{IsBound, head_lines, state_lines, spell}
 use Rattle.rc_livetext.specs.Refusals.{BeginsWith, IsRefused}
-use Rattle.rc_livetext.specs.Following.{Place, AtFirst, AtStates, InState, Part, part_lines, reached}
+use Rattle.rc_livetext.specs.Following.{Place, AtFirst, AtStates, InState, Part, part_lines, place_after}
 use Rattle.rc_livetext.specs.Following.{IsNoLineHere}
 use Rattle.rc_livetext.specs.Held.{HasBundles, HasStates, Stops, states_lines}
 use Rattle.rc_livetext.proofs.Heading.{front_one}
@@ -17,7 +17,7 @@ use Rattle.rc_livetext.proofs.Follows.{reached_join, state_may, states_may}
 use Rattle.rc_livetext.proofs.StateLines.{joins, state_front, state_is}
 
 head_reached : (services : List (List ℕ)) (bound : Option ℕ)
-    → reached AtFirst (head_lines services bound) ≡ AtStates
+    → place_after AtFirst (head_lines services bound) ≡ AtStates
 head_reached services (Some bound) = refl
 head_reached services None = refl
 
@@ -37,10 +37,10 @@ module _ (services : List (List ℕ)) (bound : Option ℕ) (bytes states_at : Li
         before = stops.states;
         current = None;
       } in
-      let at : reached AtFirst (part_lines p) ≡ reached AtStates lines =
+      let at : place_after AtFirst (part_lines p) ≡ place_after AtStates lines =
       reached_join AtFirst (head_lines services bound) (lines ++ [])
-      ∙ ap (λ (q : Place). reached q (lines ++ [])) (head_reached services bound)
-      ∙ ap (reached AtStates) (append-nil lines) in
+      ∙ ap (λ (q : Place). place_after q (lines ++ [])) (head_reached services bound)
+      ∙ ap (place_after AtStates) (append-nil lines) in
       let front : bytes ≡ spells spell (part_lines p) ++ stops.rest =
       joins (head_lines services bound) (lines ++ []) bytes states_at stops.rest head
       (stops.has.1 ∙ ap (λ (ls : List Line). spells spell ls ++ stops.rest) (sym (append-nil lines))) in
@@ -55,7 +55,7 @@ module _ (services : List (List ℕ)) (bound : Option ℕ) (bytes states_at : Li
       (has : HasStates states_at before (spell (OfState true current.live) ++ bundles_at))
       (live : AreAscending current.live)
       (bundles : HasBundles bundles_at current.bundles behind) where
-    -- the lines so far, and others behind them
+    -- the lines so far, and others after them
     front_with : (more : List Line) (rest : List ℕ) → behind ≡ spells spell more ++ rest
         → bytes ≡ spells spell (head_lines services bound
         ++ (states_lines before ++ (state_lines true current ++ more))) ++ rest
@@ -70,7 +70,7 @@ module _ (services : List (List ℕ)) (bound : Option ℕ) (bytes states_at : Li
         behind refl bundles.1)
         next))
 
-    -- and reading stops behind it
+    -- and reading stops after it
     pub stops_behind : (fault : FormFault) → Stops (InState true current.bundles) behind fault
         → IsRefused bytes fault
     stops_behind Memory stops = tt
@@ -85,15 +85,15 @@ module _ (services : List (List ℕ)) (bound : Option ℕ) (bytes states_at : Li
           current = Some (current, stops.states);
         } in
         let there = (states_may AtStates false before refl has.0).1 in
-        let one = state_may (reached AtStates (states_lines before)) false true current there
+        let one = state_may (place_after AtStates (states_lines before)) false true current there
         (λ bad _. (let no : false ≡ true = bad in cc)) (state_is current live bundles.0) in
-        let at : reached AtFirst (part_lines p) ≡ reached (InState true current.bundles) lines =
+        let at : place_after AtFirst (part_lines p) ≡ place_after (InState true current.bundles) lines =
         reached_join AtFirst (head_lines services bound) (states_lines before ++ (own ++ lines))
-        ∙ ap (λ (q : Place). reached q (states_lines before ++ (own ++ lines)))
+        ∙ ap (λ (q : Place). place_after q (states_lines before ++ (own ++ lines)))
         (head_reached services bound)
         ∙ reached_join AtStates (states_lines before) (own ++ lines)
-        ∙ reached_join (reached AtStates (states_lines before)) own lines
-        ∙ ap (λ (q : Place). reached q lines) one.1 in
+        ∙ reached_join (place_after AtStates (states_lines before)) own lines
+        ∙ ap (λ (q : Place). place_after q lines) one.1 in
         let None_here : Place → Type 0 = λ q. IsNoLineHere q stops.rest in
         let stuck = part_stuck p bytes stops.rest
         (record {
@@ -105,7 +105,7 @@ module _ (services : List (List ℕ)) (bound : Option ℕ) (bytes states_at : Li
         (front_with lines stops.rest stops.has.1) (subst None_here (sym at) stops.none) in
         (stops.rest, stuck.0, stuck.1, stops.size, stuck.2)
 
-    -- and those behind it, and the last line
+    -- and those after it, and the last line
     pub whole : (after : List StateText) (rest : List ℕ)
         → HasStates behind after (spell Last ++ rest)
         → BeginsWith bytes (record { services = services; bound = bound; before = before; current = current; after = after }) rest

@@ -5,12 +5,10 @@ use Rattle.std.proofs.lemmas.List.{append-nil, take_all, length-take}
 use Rattle.std.proofs.lemmas.List.Concat.{flat_map-append}
 use Rattle.std.proofs.lemmas.Option.{slice_get_within}
 use Rattle.std.specs.List.{flat_map}
-use Rattle.rc_db.specs.Bundles.{Bundles}
-use Rattle.rc_db.proofs.Places.{take_next}
-use Rattle.rc_line.specs.State.{State}
+use Rattle.rc_model.specs.Database.{Bundles, Database}
+use Rattle.rc_model.proofs.Places.{take_next}
+use Rattle.rc_model.specs.Line.{State, Line, states, cursor}
 use Rattle.rc_textform.specs.Form.{spells}
-use Rattle.rc_db.specs.Database.{Database}
-use Rattle.rc_line.specs.Line.{Line, states, cursor}
 use Rattle.rc_livetext.specs.Text as form
 use Rattle.rc_livetext.specs.Text.{OfBundle, Last, spell, state_lines, head_lines}
 use Rattle.rc_dbtext.specs.Spelling.{bundle_text}
@@ -68,7 +66,7 @@ same a b is = eq-eqb a b is
 before : (a b : ℕ) → b < a → (a == b) ≡ false
 before a b low = false_from_ne_true (a == b) (λ e. let bad : a ≡ b = eqb-true a b e in omega (arith, bad, low))
 
--- states behind the current one
+-- states after the current one
 later : (names : List (List ℕ)) (cursor at : ℕ) (ss : List State) → cursor < at → state_bytes names cursor at ss ≡ spells spell (flat_map (state_lines false) (map (state_text names) ss))
 later names cursor at [] past = refl
 later names cursor at (s ∷ ss) past =

@@ -3,13 +3,13 @@
 use Rattle.std.specs.Prelude.{◌≡◌, ◌<◌, ◌||◌, ℕ, Bool, true, List, [], ◌∷◌, ◌++◌, length, map, All}
 use Rattle.std.specs.Prelude.{false, Option, Some, None, IfSome}
 use Rattle.std.specs.List.{flat_map}
-use Rattle.rc_names.specs.Names.{IsInByteOrder}
+use Rattle.rc_model.specs.Names.{IsInByteOrder}
 use Rattle.rc_textform.specs.Words.{BundleText}
 use Rattle.rc_livetext.specs.Text.{Line, First, OfServices, OfBound, OfState, OfBundle, Last}
 use Rattle.rc_livetext.specs.Text.{StateText, AreAscending, IsBound, IsBundleText, IsStateText}
 use Rattle.rc_livetext.specs.Text.{head_lines, state_lines, spell}
 
--- where reading stands: which line is due or, behind the line of a state, whether the current one
+-- where reading stands: which line is due or, after the line of a state, whether the current one
 -- was seen and which bundles the state has so far
 pub data Place : Type 0 where
   AtFirst : Place
@@ -37,7 +37,7 @@ May (InState seen bundles) (OfBundle b) = MayAdd bundles b
 May (InState seen bundles) Last = seen ≡ true
 May place line = ⊥
 
--- where reading stands behind it
+-- where reading stands after it
 abbrev pub behind : Place → Line → Place
 behind place (First bounded) = AtServices bounded
 behind (AtServices true) (OfServices names) = AtBound
@@ -49,10 +49,10 @@ behind (InState seen bundles) (OfBundle b) = InState seen (bundles ++ b ∷ [])
 behind place (OfBundle b) = AtEnd
 behind place Last = AtEnd
 
--- where reading stands behind lines
-abbrev pub reached : Place → List Line → Place
-reached place [] = place
-reached place (l ∷ ls) = reached (behind place l) ls
+-- where reading stands after lines
+abbrev pub place_after : Place → List Line → Place
+place_after place [] = place
+place_after place (l ∷ ls) = place_after (behind place l) ls
 
 -- each of the lines may stand where it does
 abbrev pub AllMay : Place → List Line → Type 0

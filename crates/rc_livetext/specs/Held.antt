@@ -2,14 +2,14 @@
 -- speaks of it.
 use Rattle.std.specs.Prelude.{◌≡◌, ◌≤◌, ℕ, false, List, ◌++◌, length, map, All}
 use Rattle.std.specs.List.{flat_map}
-use Rattle.rc_names.specs.Names.{IsInByteOrder}
+use Rattle.rc_model.specs.Names.{IsInByteOrder}
 use Rattle.rc_textform.specs.Words.{BundleText}
 use Rattle.rc_textform.specs.Form.{spells}
 use Rattle.rc_livetext.specs.declared.form_fault.FormFault.{FormFault}
 use Rattle.rc_livetext.specs.declared.form_fault.FormFault.TheVariants.{Bad, Version, Memory}
 use Rattle.rc_livetext.specs.Text.{Line, OfBundle, StateText, IsBundleText, IsStateText}
 use Rattle.rc_livetext.specs.Text.{spell, state_lines}
-use Rattle.rc_livetext.specs.Following.{Place, May, MayAdd, reached, IsNoLineHere}
+use Rattle.rc_livetext.specs.Following.{Place, May, MayAdd, place_after, IsNoLineHere}
 
 -- bundles that a state may have
 pub record AreBundles (bundles : List BundleText) : Type 0 where
@@ -51,13 +51,13 @@ HasStates bytes states rest =
 abbrev pub HasNoBundle : Place → List ℕ → Type 0
 HasNoBundle place rest = HasNo (λ b. May place (OfBundle b)) OfBundle rest
 
--- behind states that follow this place no line stands that may, where so many bytes are left
+-- after states that follow this place no line stands that may, where so many bytes are left
 pub record StopsAt (place : Place) (bytes : List ℕ) (left : ℕ) : Type 0 where
   pub states : List StateText
   pub rest : List ℕ
   pub has : HasStates bytes states rest
   pub size : left ≡ length rest
-  pub none : IsNoLineHere (reached place (states_lines states)) rest
+  pub none : IsNoLineHere (place_after place (states_lines states)) rest
 
 -- reading states from this place stops so, unless memory ran out
 abbrev pub Stops : Place → List ℕ → FormFault → Type 0

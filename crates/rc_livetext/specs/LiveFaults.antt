@@ -1,6 +1,6 @@
 -- When bytes are refused that are to be a live text.
 use Rattle.std.specs.Prelude.{◌≡◌, ◌≢◌, ◌+◌, ◌⊎◌, ℕ, List, [], length, All}
-use Rattle.rc_db.specs.Database.{Database}
+use Rattle.rc_model.specs.Database.{Database}
 use Rattle.rc_livetext.specs.declared.form_fault.FormFault.TheVariants as form
 use Rattle.rc_livetext.specs.Text.{LiveText, live_text}
 use Rattle.rc_livetext.specs.Refusals.{BeginsWith, IsRefused}
@@ -17,7 +17,7 @@ abbrev pub IsBadAt : List ℕ → ℕ → Type 0
 IsBadAt bytes offset =
     (left : ℕ) × (offset + left ≡ length bytes) × IsRefused bytes (form.Bad left)
 
--- behind a text stand more bytes, from this offset on
+-- after a text stand more bytes, from this offset on
 abbrev pub HasMoreAt : List ℕ → ℕ → Type 0
 HasMoreAt bytes offset =
     (t : LiveText) × (rest : List ℕ)
@@ -37,7 +37,7 @@ IsMeaningFault d t SameState = PassesClosed d t × (TextsDiffer (all_states t) �
 IsMeaningFault d t OverBound = PassesDiffer d t × IsOver t
 IsMeaningFault d t Memory = Unit {0}
 
--- when bytes are refused: for their form, bytes behind a text among that, and where they are a text
+-- when bytes are refused: for their form, bytes after a text among that, and where they are a text
 -- for what it says
 abbrev pub IsLiveFault : Database → List ℕ → LiveFault → Type 0
 IsLiveFault d bytes (Bad offset) = IsBadAt bytes offset ⊎ HasMoreAt bytes offset

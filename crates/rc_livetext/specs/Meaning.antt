@@ -2,8 +2,8 @@
 use Rattle.std.specs.Prelude.{◌≡◌, ◌≢◌, ◌<◌, ℕ, List, [], ◌∷◌, ◌++◌, length, take, All, Contains}
 use Rattle.std.specs.Prelude.{Option, Some, None, slice_get}
 use Rattle.rc_names.specs.Names.{IsNamed}
-use Rattle.rc_graph.specs.Closure.{IsClosed}
-use Rattle.rc_db.specs.Database.{Database}
+use Rattle.rc_model.specs.Graph.{IsClosed}
+use Rattle.rc_model.specs.Database.{Database}
 use Rattle.rc_livetext.specs.Text.{LiveText, StateText}
 
 -- the states of a text, from the oldest to the newest

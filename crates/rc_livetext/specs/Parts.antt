@@ -1,12 +1,11 @@
 -- What the states of a text make, for reading alone. No public contract speaks of it.
 use Rattle.std.specs.Prelude.{◌≡◌, ◌≤◌, ◌<◌, max, ℕ, Bool, List, length, map, All, Option, Some}
 use Rattle.std.specs.Prelude.{None}
-use Rattle.rc_set.specs.Set.{Has}
-use Rattle.rc_graph.specs.Closure.{IsClosed}
-use Rattle.rc_db.specs.Bundles.{Bundles, AreBelow}
-use Rattle.rc_db.specs.Database.{Database}
-use Rattle.rc_line.specs.State.{State, states_of}
-use Rattle.rc_line.specs.Line.{Line, DifferInTurn}
+use Rattle.rc_model.specs.Names.{Has}
+use Rattle.rc_model.specs.Graph.{IsClosed}
+use Rattle.rc_model.specs.Database.{Bundles, HaveBound, Database}
+use Rattle.rc_model.specs.Line.{State, Line, DifferInTurn}
+use Rattle.rc_line.specs.State.{states_of}
 use Rattle.rc_livetext.specs.Text.{LiveText, StateText}
 use Rattle.rc_livetext.specs.declared.fault.LiveFault.{LiveFault}
 use Rattle.rc_livetext.specs.declared.fault.LiveFault.TheVariants.{NotClosed, SameState, OverBound}
@@ -24,7 +23,7 @@ IsKnownHere names s = IsKnownState names s
 -- the sets of the state have this bound
 pub record IsWithin (bound : ℕ) (s : State) : Type 0 where
   pub live : length s.live ≡ bound
-  pub sets : AreBelow bound s.table
+  pub sets : HaveBound bound s.table
 
 -- what is up in the state has all that it needs up
 unfoldable pub HasNeeds : List (List ℕ) → State → Type 0

@@ -19,8 +19,8 @@ HasOtherVersion other rest = ⊥
 abbrev pub IsStuckAt : List ℕ → List ℕ → Line → Type 0
 IsStuckAt bytes rest due = IsStuck spell IsLiveText live_lines bytes rest due
 
--- when the front of bytes is refused for its form; a bad line is told by how many bytes are left
--- there, and want of memory may come at any place
+-- when the prefix of bytes is refused for its form; a bad line is told by how many bytes are left
+-- there, and out of memory may come at any place
 abbrev pub IsRefused : List ℕ → FormFault → Type 0
 IsRefused bytes (Bad left) =
     (rest : List ℕ) × (due : Line)

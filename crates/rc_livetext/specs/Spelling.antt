@@ -1,7 +1,6 @@
 use Rattle.std.specs.Prelude.{◌≡◌, ◌⊎◌, max, ℕ, List, length, map, Option, Some, None}
-use Rattle.rc_db.specs.Database.{Database}
-use Rattle.rc_line.specs.State.{State}
-use Rattle.rc_line.specs.Line.{Line, states}
+use Rattle.rc_model.specs.Database.{Database}
+use Rattle.rc_model.specs.Line.{State, Line, states}
 use Rattle.rc_dbtext.specs.Spelling.{bundle_text, members, name_at}
 use Rattle.rc_livetext.specs.Text.{LiveText, StateText, live_text}
 

@@ -2,9 +2,8 @@ use Rattle.std.specs.Prelude.{◌≤◌, ◌<◌, ◌^◌, ℕ, Bool, true, fals
 use Rattle.std.specs.Prelude.{List, [], ◌∷◌, ◌++◌, length, map, All, Option, Some, None, IfSome}
 use Rattle.std.specs.List.{flat_map}
 use Rattle.std.specs.Fmt.{decimal}
-use Rattle.rc_names.specs.Name.{IsName}
-use Rattle.rc_names.specs.Names.{IsInByteOrder}
-use Rattle.rc_textform.specs.Words.{BundleText, worded}
+use Rattle.rc_model.specs.Names.{IsName, IsInByteOrder}
+use Rattle.rc_textform.specs.Words.{BundleText, line_of_words}
 use Rattle.rc_textform.specs.Form.{spells}
 
 -- a state as the text gives it: the names of the services that are up, and the bundles
@@ -52,9 +51,9 @@ words Last = codes "end" ∷ []
 
 -- the bytes of a line
 abbrev pub spell : Line → List ℕ
-spell line = worded (words line)
+spell line = line_of_words (words line)
 
--- the lines of a state, its bundles behind it
+-- the lines of a state, its bundles after it
 abbrev pub state_lines : Bool → StateText → List Line
 state_lines current s = OfState current s.live ∷ map OfBundle s.bundles
 

@@ -1,7 +1,7 @@
 -- The bytes of states in the order in which they are written. No public contract speaks of it.
 use Rattle.std.specs.Prelude.{◌==◌, ℕ, suc, List, [], ◌∷◌, ◌++◌, map}
-use Rattle.rc_db.specs.Bundles.{Bundles}
-use Rattle.rc_line.specs.State.{State}
+use Rattle.rc_model.specs.Database.{Bundles}
+use Rattle.rc_model.specs.Line.{State}
 use Rattle.rc_textform.specs.Form.{spells}
 use Rattle.rc_dbtext.specs.Spelling.{bundle_text}
 use Rattle.rc_livetext.specs.Text.{OfBundle, spell, state_lines}

@@ -5,7 +5,7 @@ ghost use Rattle.rc_livetext.specs.Refusals.{IsRefused};
 ghost use Rattle.rc_livetext.specs.declared.form_fault.FormFault.{FormFault};
 ghost use Rattle.rc_livetext.specs.declared.form_fault.FormFault.TheVariants.{Memory};
 
-/// No text is a proper front of another, and each is the text of one value.
+/// No text is a proper prefix of another, and each is the text of one value.
 pub fn text_is_unique()
     ensures front { (a b : LiveText) (rest : List ℕ) → IsLiveText a → IsLiveText b
         → live_text a ++ rest ≡ live_text b → rest ≡ [] }

@@ -1,6 +1,6 @@
 //! The states of a live text, each with its bundles.
 ghost use Rattle.std.specs.Prelude.{◌≡◌, ◌↔◌, ◌++◌, List, true, IfOk, IfErr, IsTrue};
-ghost use Rattle.rc_names.specs.Names.{IsBefore};
+ghost use Rattle.rc_model.specs.Names.{IsBefore};
 ghost use Rattle.rc_textform.specs.Words.{BundleText};
 ghost use Rattle.rc_livetext.specs.Text.{AreAscending, IsBundleText, OfState, Last, spell};
 ghost use Rattle.rc_livetext.specs.Following.{MayAdd, AtStates, InState};

@@ -34,7 +34,7 @@ impl Model for LiveForm {
     } };
 }
 
-/// What the text at the front says, and what follows it.
+/// What the text at the beginning says, and what follows it.
 pub fn read_form(alloc: Global, bytes: &[u8]) -> Result<(LiveForm, &[u8]), FormFault>
     ensures ok { IfOk result (λ read. BeginsWith bytes.now read.0 read.1.now) }
     ensures fault { IfErr result (IsRefused bytes.now) }

@@ -1,8 +1,8 @@
 //! Laws of the text, each the contract of a function that does nothing.
 ghost use Rattle.std.specs.Prelude.{◌≡◌, ◌≢◌, ◌++◌, ℕ, List, []};
-ghost use Rattle.rc_db.specs.Database.{Database, IsDatabase};
-ghost use Rattle.rc_line.specs.Line.{Line};
-ghost use Rattle.rc_session.specs.Doing.{IsLineOf};
+ghost use Rattle.rc_model.specs.Database.{Database, IsDatabase};
+ghost use Rattle.rc_model.specs.Line.{Line};
+ghost use Rattle.rc_model.specs.Session.{IsLineOf};
 ghost use Rattle.rc_livetext.specs.Text.{IsLiveText};
 ghost use Rattle.rc_livetext.specs.Spelling.{spelling, old_spelling, Spells, text_of, old_text_of};
 ghost use Rattle.rc_livetext.specs.LiveFaults.{IsLiveFault};
@@ -19,7 +19,7 @@ pub fn lines_are_texts()
         → IsLiveText (old_text_of d line) }
 {}
 
-/// No text of a line is a proper front of another text, whatever the database; and of one database
+/// No text of a line is a proper prefix of another text, whatever the database; and of one database
 /// each is the text of one line.
 pub fn spelling_is_unique()
     ensures front { (d e : Database) (a b : Line) (rest : List ℕ) → IsDatabase d → IsDatabase e
@@ -33,7 +33,7 @@ pub fn spelling_is_unique()
     text_is_unique();
 }
 
-/// What refuses bytes is one, want of memory aside: the tests exclude each other.
+/// What refuses bytes is one, out of memory aside: the tests exclude each other.
 pub fn faults_are_one()
     ensures { (d : Database) (bytes : List ℕ) (a b : LiveFault)
         → IsLiveFault d bytes a → IsLiveFault d bytes b → a ≢ Memory → b ≢ Memory → a ≡ b }
@@ -43,7 +43,7 @@ pub fn faults_are_one()
     refusals_are_one();
 }
 
-/// The text of a line is refused for want of memory alone, in both forms: so what was written is
+/// The text of a line is refused as out of memory alone, in both forms: so what was written is
 /// read back as the line that it was.
 pub fn spelling_is_not_refused()
     ensures new { (d : Database) (line : Line) (fault : LiveFault) → IsDatabase d

@@ -2,7 +2,7 @@
 ghost use Rattle.std.specs.Prelude.{◌≡◌, ◌↔◌, ◌<◌, ◌≤◌, ℕ, length, All, IfOk, IfErr, IfSome};
 ghost use Rattle.std.specs.Prelude.{IsTrue, MatchOption};
 ghost use Rattle.rc_line.specs.State.{states_of};
-ghost use Rattle.rc_line.specs.Line.{DifferInTurn};
+ghost use Rattle.rc_model.specs.Line.{DifferInTurn};
 ghost use Rattle.rc_livetext.specs.Text.{IsBound};
 ghost use Rattle.rc_livetext.specs.Meaning.{IsFirstNot, most_states};
 ghost use Rattle.rc_livetext.specs.Parts.{HasNeeds, IsWithin, MakeLine, MakeNone, bound_for};

@@ -1,8 +1,8 @@
 //! From bytes to a line of states.
 ghost use Rattle.std.specs.Prelude.{◌≡◌, false, [], length, All, IfOk, IfErr};
-ghost use Rattle.rc_db.specs.Database.{Database};
-ghost use Rattle.rc_line.specs.Line.{states};
-ghost use Rattle.rc_session.specs.Doing.{IsLineOf};
+ghost use Rattle.rc_model.specs.Database.{Database};
+ghost use Rattle.rc_model.specs.Line.{states};
+ghost use Rattle.rc_model.specs.Session.{IsLineOf};
 ghost use Rattle.rc_livetext.specs.Text.{IsLiveText};
 ghost use Rattle.rc_livetext.specs.Refusals.{BeginsWith, IsRefused};
 ghost use Rattle.rc_livetext.specs.Meaning.{PassesNames, all_states};

@@ -36,7 +36,7 @@ pub(crate) fn states_in(
     }
 }
 
-// The states of a text behind others.
+// The states of a text after others.
 fn push_all(
     alloc: Global,
     held: &mut Vec<(Set, Table)>,
@@ -55,7 +55,7 @@ fn push_all(
     push_states(alloc, held, form.after.as_slice(), names)
 }
 
-// Some states behind others.
+// Some states after others.
 fn push_states(
     alloc: Global,
     held: &mut Vec<(Set, Table)>,
@@ -75,7 +75,7 @@ fn push_states(
     Ok(())
 }
 
-// A state behind others.
+// A state after others.
 fn push_state(
     alloc: Global,
     held: &mut Vec<(Set, Table)>,

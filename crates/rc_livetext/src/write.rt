@@ -1,7 +1,7 @@
 //! From a line of states to its text.
 ghost use Rattle.std.specs.Prelude.{◌≡◌, ◌++◌, false, length, map, All, Some, IfOk, OnOk};
-ghost use Rattle.rc_db.specs.Bundles.{AreBelow};
-ghost use Rattle.rc_line.specs.Line.{states, cursor};
+ghost use Rattle.rc_model.specs.Database.{HaveBound};
+ghost use Rattle.rc_model.specs.Line.{states, cursor};
 ghost use Rattle.rc_textform.specs.Form.{spells};
 ghost use Rattle.rc_dbtext.specs.Spelling.{members, name_at};
 ghost use Rattle.rc_livetext.specs.Text.{OfServices, OfBound, OfState, spell, head_lines};
@@ -126,7 +126,7 @@ fn word_of(current: bool) -> &'static [u8]
 
 // The lines of bundles.
 fn push_bundles(alloc: Global, out: &mut Vec<u8>, names: &Names, table: &Table) -> Result<(), NoMem>
-    requires { AreBelow (length names.now) table.now }
+    requires { HaveBound (length names.now) table.now }
     ensures { OnOk result (out.new.items ≡ out.old.items ++ bundle_bytes names.now table.now) }
 {
     for place in 0..table.len() {

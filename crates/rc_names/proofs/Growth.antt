@@ -21,8 +21,8 @@ use Rattle.std.specs.declared.cmp.Ordering.TheVariants.{Less, Equal, Greater}
 use Rattle.indexmap.proofs.MoveLemmas.{push_moved}
 use Rattle.indexmap.proofs.SortedLemmas.{absent_pushes}
 use Rattle.indexmap.specs.IndexMap.{move_index, insert_entry, index_before}
-use Rattle.rc_names.specs.Name.{IsName}
-use Rattle.rc_names.specs.Names.{IsBefore, IsInByteOrder, AreNames, Adds}
+use Rattle.rc_model.specs.Names.{IsName, IsBefore, IsInByteOrder, AreNames}
+use Rattle.rc_names.specs.Names.{Adds}
 
 module _ {X : Type 0} where
   pub map-insert : {Y : Type 0} (f : X → Y) (xs : List X) (i : ℕ) (x : X) → map f (insert xs i x) ≡ insert (map f xs) i (f x)

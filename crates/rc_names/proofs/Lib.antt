@@ -1,4 +1,1 @@
-pub mod ByteOrder
 pub mod Growth
-pub mod Members
-pub mod Table

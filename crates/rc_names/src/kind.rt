@@ -1,10 +1,1 @@
-/// What a name stands for.
-#[derive(Clone, Copy, PartialEq, Eq, Debug)]
-pub enum Kind {
-    /// A program that runs once and ends.
-    Oneshot,
-    /// A daemon, which runs until it is stopped.
-    Longrun,
-    /// A set of services.
-    Bundle,
-}
+pub use rc_model::Kind;

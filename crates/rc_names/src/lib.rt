@@ -10,5 +10,5 @@ pub use name::{Name, NameFault};
 pub use names::{MAX_NAMES, Names};
 use std::alloc::AllocError;
 
-/// Want of memory, the only refusal of the calls that answer it. Nothing has changed.
+/// Out of memory: the only refusal of the calls that answer it. Nothing has changed.
 pub type NoMem = AllocError;

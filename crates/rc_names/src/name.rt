@@ -1,5 +1,6 @@
 ghost use Rattle.std.specs.Prelude.{◌≡◌, ◌↔◌, IfOk, IfErr, IsTrue};
-ghost use Rattle.rc_names.specs.Name.{HasNameBytes, IsName, IsWrongBy};
+ghost use Rattle.rc_model.specs.Names.{HasNameBytes, IsName};
+ghost use Rattle.rc_names.specs.Name.{IsWrongBy};
 
 use crate::NoMem;
 use std::alloc::Global;
@@ -36,7 +37,7 @@ pub struct Name {
 impl Model for Name {
     ghost use Rattle.std.specs.Prelude.{ℕ, List};
     ghost use Rattle.std.specs.String.{string_bytes};
-    ghost use Rattle.rc_names.specs.Name.{IsName};
+    ghost use Rattle.rc_model.specs.Names.{IsName};
 
     ghost Value = { List ℕ };
 

@@ -1,14 +1,13 @@
 ghost use Rattle.std.specs.Prelude.{◌≡◌, ◌+◌, ◌<◌, ◌↔◌, [], false, length, Contains, IfOk, OnOk, OnErr, IfSome, IfNone, IsTrue, slice_get, if◌then◌else◌};
-ghost use Rattle.rc_names.specs.Names.{Adds, AreNames};
+ghost use Rattle.rc_names.specs.Names.{Adds};
+ghost use Rattle.rc_model.specs.Names.{AreNames};
 
 use crate::NoMem;
 use crate::name::Name;
 use indexmap::IndexMap;
+pub use rc_model::MAX_NAMES;
 use std::alloc::Global;
 use std::marker::Model;
-
-/// The most names that a table holds.
-pub const MAX_NAMES: u16 = 4096;
 
 /// A table of names in byte order. A name's id is its place.
 #[derive(Debug, Drop)]
@@ -21,7 +20,7 @@ impl Model for Names {
     ghost use Rattle.std.specs.Prelude.{◌≡◌, ℕ, List, map};
     ghost use Rattle.std.specs.String.{string_bytes};
     ghost use Rattle.indexmap.specs.IndexMap.{keys, values};
-    ghost use Rattle.rc_names.specs.Names.{AreNames};
+    ghost use Rattle.rc_model.specs.Names.{AreNames};
 
     ghost Value = { List (List ℕ) };
 

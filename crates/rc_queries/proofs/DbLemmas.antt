@@ -2,16 +2,14 @@
 use Rattle.std.proofs.Common.{◌≡◌, ℕ, ◌<◌, inl, inr, List, Bool, [], ◌∷◌, ◌++◌, None, Option, Some, length, All, slice_index_or, sym, subst, arith}
 use Rattle.std.proofs.lemmas.List.Elements.{All-contains_itself}
 use Rattle.std.proofs.lemmas.Option.{slice_get_within}
-use Rattle.rc_set.specs.Set.{Has, Lists}
-use Rattle.rc_set.proofs.Members.{has_within}
-use Rattle.rc_graph.specs.Needs.{EachNeedsNext, Needs}
+use Rattle.rc_model.specs.Names.{Has, Lists}
+use Rattle.rc_model.proofs.SetMembers.{has_within}
+use Rattle.rc_model.specs.Graph.{EachNeedsNext, Needs}
 use Rattle.rc_graph.specs.declared.Way.{Way}
 use Rattle.rc_graph.specs.declared.Way.TheVariants.{Raise, Lower}
 use Rattle.rc_graph.proofs.Paths.{closed_has_up}
 use Rattle.rc_graph.proofs.RowLemmas.{needer_known}
-use Rattle.rc_db.specs.Bundles.{value_of}
-use Rattle.rc_db.specs.Database.{Database, IsDatabase}
-use Rattle.rc_db.specs.Named.{Selected}
+use Rattle.rc_model.specs.Database.{value_of, Database, IsDatabase, Selected}
 use Rattle.rc_db.proofs.Words.{bound_of_value}
 use Rattle.rc_queries.specs.DbAnswer.{IsFound}
 use Rattle.rc_base.specs.Base.{Spells}

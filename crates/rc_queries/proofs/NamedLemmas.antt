@@ -2,10 +2,9 @@
 use Rattle.std.proofs.Common.{◌≡◌, ℕ, ◌+◌, ◌<◌, ◌⊎◌, inl, inr, List, Bool, [], ◌∷◌, ◌++◌, Some, length, map, take, drop, slice_get, get_or, Contains, sym, subst}
 use Rattle.std.proofs.lemmas.List.Elements.{Contains-push, Contains-push_cases, Contains-append_left, All-push}
 use Rattle.std.proofs.lemmas.Option.{slice_get_within, get_or_from_slice_get}
-use Rattle.rc_set.specs.Set.{Has, Holds}
-use Rattle.rc_names.proofs.ByteOrder.{one_place}
-use Rattle.rc_names.specs.Names.{IsInByteOrder}
-use Rattle.rc_asked.proofs.Mapped.{cut_at}
+use Rattle.rc_model.specs.Names.{Has, Holds, IsInByteOrder}
+use Rattle.rc_model.proofs.ByteOrder.{one_place}
+use Rattle.rc_model.proofs.Mapped.{cut_at}
 use Rattle.rc_queries.specs.Named.{AreNamed, IsFirstUnknown, IsNamed}
 
 -- one more word that names a service

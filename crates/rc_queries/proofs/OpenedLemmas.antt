@@ -1,7 +1,7 @@
 -- What is so of a database with its input, and where there is none.
 use Rattle.std.proofs.Common.{◌≡◌, ◌≢◌, ℕ, List, Option, None, Some, IfSome, ◌-◌, drop, length, take, sym, subst}
 use Rattle.std.proofs.lemmas.List.{take_rest}
-use Rattle.rc_db.specs.Database.{Database}
+use Rattle.rc_model.specs.Database.{Database}
 use Rattle.rc_dbtext.specs.declared.fault.TextFault.{TextFault}
 use Rattle.rc_dbtext.specs.declared.fault.TextFault.TheVariants as text
 use Rattle.rc_script.specs.Script.{IsScriptFault}

@@ -1,10 +1,9 @@
 use Rattle.std.proofs.Common.{◌≡◌, ℕ, List, Option, None, Some, IfSome, inr, sym, subst, Result, Ok, Err, IfErr}
 use Rattle.std.specs.Result.{IsErrAnd}
-use Rattle.rc_db.specs.Database.{Database}
-use Rattle.rc_select.specs.Ask.{Ask}
-use Rattle.rc_select.specs.PlanFaults.{IsPlanFault}
-use Rattle.rc_select.specs.declared.request.PlanFault.{PlanFault as WantFault}
-use Rattle.rc_select.specs.declared.request.PlanFault.TheVariants as wrong
+use Rattle.rc_model.specs.Database.{Database}
+use Rattle.rc_model.specs.Plan.{Ask, IsPlanFault}
+use Rattle.rc_model.specs.declared.PlanFault.{PlanFault as WantFault}
+use Rattle.rc_model.specs.declared.PlanFault.TheVariants as wrong
 use Rattle.rc_queries.specs.declared.named.NamedFault.{NamedFault}
 use Rattle.rc_queries.specs.declared.named.NamedFault.TheVariants as named
 use Rattle.rc_queries.specs.declared.plan.PlanFault.{PlanFault}

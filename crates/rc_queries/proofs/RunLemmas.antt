@@ -1,6 +1,6 @@
 -- A command that runs for what is asked, as it runs for the words that ask it.
 use Rattle.std.proofs.Common.{◌≡◌, ◌⊎◌, ℕ, List, Option, None, Some, inl, inr, sym, arith, ◌∙◌}
-use Rattle.rc_select.specs.Ask.{Ask}
+use Rattle.rc_model.specs.Plan.{Ask}
 use Rattle.rc_streams.specs.Input.{WritesAll, WritesFront}
 use Rattle.rc_asked.specs.Asked.{plan_asked}
 use Rattle.rc_asked.specs.DbAsked.{AsksDb}

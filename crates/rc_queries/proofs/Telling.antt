@@ -2,12 +2,11 @@
 use Rattle.std.proofs.Common.{◌≡◌, ◌∙◌, ◌<◌, ◌≤◌, ◌+◌, ℕ, zero, suc, List, [], ◌∷◌, ◌++◌, Result, length, map, drop, get_or, arith, refl, sym, ap, append_assoc}
 use Rattle.std.proofs.lemmas.List.{append-nil}
 use Rattle.std.proofs.Math.ListN.{drop_of_length-le}
-use Rattle.rc_session.specs.declared.refusal.Refusal.{Refusal}
-use Rattle.rc_session.specs.Commands.{Command}
-use Rattle.rc_session.specs.Report.{Told}
-use Rattle.rc_answers.specs.AnswerText.{answer_text, answers_text}
+use Rattle.rc_model.specs.declared.Refusal.{Refusal}
+use Rattle.rc_model.specs.Session.{Command, Reported}
+use Rattle.rc_render.specs.AnswerText.{answer_text, answers_text}
 
-module _ {S A : Type 0} (f : S → Command) (g : A → Result Told Refusal) (names : List (List ℕ)) where
+module _ {S A : Type 0} (f : S → Command) (g : A → Result Reported Refusal) (names : List (List ℕ)) where
   abbrev from : List S → List A → ℕ → List ℕ
   from steps answers i = answers_text names (map f (drop i steps)) (map g (drop i answers))
 

@@ -2,21 +2,19 @@
 use Rattle.std.specs.Prelude.{◌≡◌, ℕ, Bool, true, false, List, [], All, Option, None, Some, codes, slice_get}
 use Rattle.std.specs.Fmt.{decimal}
 use Rattle.clap.specs.Words.{Text}
-use Rattle.rc_names.specs.declared.kind.Kind.{Kind}
-use Rattle.rc_names.specs.declared.kind.Kind.TheVariants.{Oneshot, Longrun, Bundle}
-use Rattle.rc_set.specs.Set.{Has, Lists}
+use Rattle.rc_model.specs.declared.Kind.{Kind}
+use Rattle.rc_model.specs.declared.Kind.TheVariants.{Oneshot, Longrun, Bundle}
+use Rattle.rc_model.specs.Names.{Has, Lists}
 use Rattle.rc_graph.specs.declared.Way.{Way}
-use Rattle.rc_db.specs.Bundles.{value_of}
-use Rattle.rc_db.specs.Database.{Database}
-use Rattle.rc_db.specs.Named.{IsKnown, Selected}
+use Rattle.rc_model.specs.Database.{value_of, Database, IsKnown, Selected, Service}
 use Rattle.rc_db.specs.Pipeline.{InPipelineOf}
 use Rattle.rc_names.specs.Names.{ListsNames}
 use Rattle.rc_db.specs.Queries.{IsKindOf, IsNextTo, IsServiceNamed, IsShown, IsWithAll}
-use Rattle.rc_db.specs.Service.{Service, limit_of, script_of}
-use Rattle.rc_line.specs.Line.{Line}
+use Rattle.rc_db.specs.Service.{limit_of, script_of}
+use Rattle.rc_model.specs.Line.{Line}
 use Rattle.rc_livetext.specs.Spelling as texts
-use Rattle.rc_answers.specs.DotText.{dot_text}
-use Rattle.rc_answers.specs.Lines.{line, name_lines, names_at}
+use Rattle.rc_render.specs.DotText.{dot_text}
+use Rattle.rc_render.specs.Lines.{line, name_lines, names_at}
 use Rattle.rc_base.specs.Base.{Spells}
 use Rattle.rc_asked.specs.DbAsked.{AsksDb}
 use Rattle.rc_asked.specs.Query.{Check, DbAsk, Dot, ListOf, OfName, OfNames, Question}

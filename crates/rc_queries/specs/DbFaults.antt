@@ -1,7 +1,7 @@
 -- When `db` refuses, and how it tells that.
 use Rattle.std.specs.Prelude.{◌≡◌, ◌≢◌, ◌⊎◌, ◌++◌, ℕ, List, [], Option, None, Some, IfSome, codes, slice_get, unwrap_or}
 use Rattle.clap.specs.Words.{Text}
-use Rattle.rc_db.specs.Database.{Database}
+use Rattle.rc_model.specs.Database.{Database}
 use Rattle.rc_db.specs.QueryFaults.{AnyName, Asked, IsNamesFault, IsQueryFault, OfBundle, OfLongrun, OfOneshot, OfService}
 use Rattle.rc_db.specs.declared.fault.QueryFault.{QueryFault}
 use Rattle.rc_db.specs.declared.fault.QueryFault.TheVariants as wrong
@@ -30,7 +30,7 @@ asked_by of_name.Contents = OfBundle
 asked_by of_name.Pipeline = OfLongrun
 asked_by of_name.Script = OfOneshot
 
--- when a question is refused, want of memory aside
+-- when a question is refused, out of memory aside
 abbrev pub IsQuestionFault : Database → Question → QueryFault → Type 0
 IsQuestionFault d Check fault = ⊥
 IsQuestionFault d Dot fault = ⊥
@@ -38,14 +38,14 @@ IsQuestionFault d (ListOf which) fault = ⊥
 IsQuestionFault d (OfName query name) fault = IsQueryFault d (asked_by query) name fault
 IsQuestionFault d (OfNames query names) fault = IsNamesFault d.names d.table names fault
 
--- a fault that is one of a query, or want of memory
+-- a fault that is one of a query, or out of memory
 abbrev pub IsOfQuery : (QueryFault → Type 0) → DbFault → Type 0
 IsOfQuery Is (OfText fault) = ⊥
 IsOfQuery Is (OfQuery fault) = (fault ≢ wrong.Memory) × Is fault
 IsOfQuery Is (OfLive fault) = ⊥
 IsOfQuery Is Memory = Unit {0}
 
--- when the text of a session is refused, want of memory aside: it is none of the database
+-- when the text of a session is refused, out of memory aside: it is none of the database
 abbrev pub IsShownFault : Database → Option (List ℕ) → LiveFault → Type 0
 IsShownFault d None fault = ⊥
 IsShownFault d (Some bytes) fault = (fault ≢ live.Memory) × IsLiveFault d bytes fault
@@ -79,7 +79,7 @@ db_fault_text (OfQuery fault) question = query_word fault question
 db_fault_text (OfLive fault) question = live_word fault
 db_fault_text Memory question = codes "Memory"
 
--- a refusal of what is asked holds, and a writer gains a front of the line that tells it
+-- a refusal of what is asked holds, and a writer gains a prefix of the line that tells it
 abbrev pub TellsAnswerFault : DbAsk → (base shown : Option (List ℕ)) → List ℕ → Option (List ℕ) → Option (List ℕ) → Type 0
 TellsAnswerFault ask base shown input old new = (fault : DbFault) × IsDbRefused fault ask base shown input × (fault ≢ Memory) × AppendsFront old new (fault_line (db_fault_text fault ask.question))
 

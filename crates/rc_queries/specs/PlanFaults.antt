@@ -1,13 +1,11 @@
 use Rattle.std.specs.Prelude.{◌≡◌, ◌≢◌, ◌++◌, ◌⊎◌, ℕ, List, Option, Some, codes, slice_get}
 use Rattle.std.specs.Borrow.{Bor}
 use Rattle.std.specs.Fmt.{decimal}
-use Rattle.rc_graph.specs.Closure.{IsClosed}
-use Rattle.rc_db.specs.Database.{Database}
-use Rattle.rc_db.specs.Named.{IsUnknownAt}
-use Rattle.rc_select.specs.Ask.{Ask}
-use Rattle.rc_select.specs.PlanFaults.{PrunesWrongly}
-use Rattle.rc_select.specs.declared.request.PlanFault.{PlanFault as WantFault}
-use Rattle.rc_select.specs.declared.request.PlanFault.TheVariants as wrong
+use Rattle.rc_model.specs.Graph.{IsClosed}
+use Rattle.rc_model.specs.Database.{Database, IsUnknownAt}
+use Rattle.rc_model.specs.Plan.{Ask, PrunesWrongly}
+use Rattle.rc_model.specs.declared.PlanFault.{PlanFault as WantFault}
+use Rattle.rc_model.specs.declared.PlanFault.TheVariants as wrong
 use Rattle.rc_dbtext.specs.declared.fault.TextFault.{TextFault}
 use Rattle.rc_dbtext.specs.declared.fault.TextFault.TheVariants as text
 use Rattle.rc_queries.specs.declared.named.NamedFault.{NamedFault}
@@ -66,7 +64,7 @@ fault_text NotClosed = codes "NotClosed"
 fault_text PruneNeedsUp = codes "PruneNeedsUp"
 fault_text Memory = codes "Memory"
 
--- a refusal of what is asked holds, and a writer gains a front of the line that tells it
+-- a refusal of what is asked holds, and a writer gains a prefix of the line that tells it
 abbrev pub TellsPlanFault : Ask → Option (List ℕ) → List ℕ → Option (List ℕ) → Option (List ℕ) → Type 0
 TellsPlanFault ask base input old new = (fault : PlanFault) × IsRefused fault ask base input × (fault ≢ Memory) × AppendsFront old new (fault_line (fault_text fault))
 

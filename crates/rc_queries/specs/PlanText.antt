@@ -1,11 +1,9 @@
 use Rattle.std.specs.Prelude.{◌≡◌, ℕ, List, Bool, Option, Some, length}
-use Rattle.rc_set.specs.Set.{Has, Holds}
-use Rattle.rc_graph.specs.Closure.{IsClosed}
-use Rattle.rc_db.specs.Database.{Database}
-use Rattle.rc_select.specs.PlanSets.{PlanSets}
-use Rattle.rc_select.specs.Ask.{Ask, IsPlanOf}
-use Rattle.rc_select.specs.PlanFaults.{CanPlan}
-use Rattle.rc_answers.specs.PlanText.{IsPlanText}
+use Rattle.rc_model.specs.Names.{Has, Holds}
+use Rattle.rc_model.specs.Graph.{IsClosed}
+use Rattle.rc_model.specs.Database.{Database}
+use Rattle.rc_model.specs.Plan.{PlanSets, Ask, IsPlanOf, CanPlan}
+use Rattle.rc_render.specs.PlanText.{IsPlanText}
 use Rattle.rc_asked.specs.Asked.{plan_asked}
 use Rattle.rc_base.specs.Base.{Spells}
 use Rattle.rc_queries.specs.Named.{AreNamed, IsNamed, word_lines}
@@ -35,7 +33,7 @@ pub record IsTextFor (d : Database) (ups : List (List ℕ)) (ask : Ask) (text : 
   pub planned : IsPlanIn d up ask plan
   pub lines : IsPlanText d.names plan text
 
--- what is written for what is asked: the plan in the database that is spelled, where the lines behind it name what is up
+-- what is written for what is asked: the plan in the database that is spelled, where the lines after it name what is up
 pub record IsPlanFor (ask : Ask) (base : Option (List ℕ)) (input output : List ℕ) : Type 0 where
   pub database : Database
   pub rest : List ℕ

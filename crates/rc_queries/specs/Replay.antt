@@ -1,7 +1,7 @@
 -- What `replay` prints, and when it refuses.
 use Rattle.std.specs.Prelude.{◌≡◌, ◌≢◌, ◌++◌, ℕ, List, Option, codes}
 use Rattle.std.specs.Fmt.{decimal}
-use Rattle.rc_db.specs.Database.{Database}
+use Rattle.rc_model.specs.Database.{Database}
 use Rattle.rc_dbtext.specs.declared.fault.TextFault.{TextFault}
 use Rattle.rc_dbtext.specs.declared.fault.TextFault.TheVariants as text
 use Rattle.rc_script.specs.Script.{IsBadLine}
@@ -14,7 +14,7 @@ use Rattle.rc_base.specs.TextFaultWord.{text_word}
 use Rattle.rc_queries.specs.declared.replay.ReplayFault.{ReplayFault}
 use Rattle.rc_queries.specs.declared.replay.ReplayFault.TheVariants.{OfText, BadLine, Memory}
 
--- what is printed: what the script behind the database comes to
+-- what is printed: what the script after the database comes to
 abbrev pub IsReplayFor : Option (List ℕ) → (input output : List ℕ) → Type 0
 IsReplayFor base input output = (d : Database) × (rest : List ℕ) × Spells base input d rest × IsReplay d rest output
 
@@ -40,6 +40,6 @@ replay_fault_text (OfText fault) = text_word fault
 replay_fault_text (BadLine number) = codes "BadLine " ++ decimal number
 replay_fault_text Memory = codes "Memory"
 
--- a refusal holds, and a writer gains a front of the line that tells it
+-- a refusal holds, and a writer gains a prefix of the line that tells it
 abbrev pub TellsReplayFault : Option (List ℕ) → List ℕ → Option (List ℕ) → Option (List ℕ) → Type 0
 TellsReplayFault base input old new = (fault : ReplayFault) × IsReplayRefused fault base input × (fault ≢ Memory) × AppendsFront old new (fault_line (replay_fault_text fault))

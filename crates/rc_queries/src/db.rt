@@ -21,7 +21,7 @@ use std::io::{Read, Write};
 /// Runs `undorc db` on its words, and answers the status.
 ///
 /// The database is `base`, where there is one, and then nothing is read; else it stands at the
-/// front of the input, and the rest of that is ignored. A picture shows the session whose text is
+/// beginning of the input, and the rest of that is ignored. A picture shows the session whose text is
 /// `shown`, if there is one. The answer is written to `writer`, and why there is none to `faults`.
 pub fn db_run<R: Read, W: Write, F: Write>(
     alloc: Global,
@@ -41,7 +41,7 @@ pub fn db_run<R: Read, W: Write, F: Write>(
         (W.contents (inner_of writer.old)) (W.contents (inner_of writer.new))) }
     ensures untold { result ≡ 0 → F.contents faults.new ≡ F.contents faults.old }
 
-    // A refusal holds, and a front of its line was told, or all of it.
+    // A refusal holds, and a prefix of its line was told, or all of it.
     ensures refused { result ≡ 1 → IfRead (bytes_of base.entry) (R.remaining (inner_of reader.old))
         (λ input. TellsDbFault
         (map string_bytes words.now) (bytes_of base.entry) (bytes_of shown.entry) input
@@ -53,7 +53,7 @@ pub fn db_run<R: Read, W: Write, F: Write>(
     ensures unread { result ≡ 100 → R.remaining (inner_of reader.new)
         ≡ R.remaining (inner_of reader.old) }
 
-    // A failure is told by the line of its cause, and what was written is nothing or a front of the
+    // A failure is told by the line of its cause, and what was written is nothing or a prefix of the
     // answer.
     ensures failed { result ≡ 111 → TellsFailure (R.remaining (inner_of reader.old))
         (HasFailed reader.new) (HasFailed writer.new)
@@ -106,13 +106,13 @@ pub fn db_as_asked<R: Read, W: Write, F: Write>(
         (W.contents (inner_of writer.old)) (W.contents (inner_of writer.new))) }
     ensures untold { result ≡ 0 → F.contents faults.new ≡ F.contents faults.old }
 
-    // A refusal holds, and a front of its line was told, or all of it.
+    // A refusal holds, and a prefix of its line was told, or all of it.
     ensures refused { result ≡ 1 → IfRead (bytes_of base.entry) (R.remaining (inner_of reader.old))
         (λ input. TellsAnswerFault
         (db_ask_of request.now) (bytes_of base.entry) (bytes_of shown.entry) input
         (F.contents faults.old) (F.contents faults.new)) }
 
-    // A failure is told by the line of its cause, and what was written is nothing or a front of the
+    // A failure is told by the line of its cause, and what was written is nothing or a prefix of the
     // answer.
     ensures failed { result ≡ 111 → TellsFailure (R.remaining (inner_of reader.old))
         (HasFailed reader.new) (HasFailed writer.new)

@@ -1,22 +1,22 @@
 //! The answers of questions about a database, as they are printed.
 ghost use Rattle.std.specs.Prelude.{◌≡◌, None, Some, [], map, string_bytes, All, IfErr, IfOk, OnOk};
-ghost use Rattle.rc_set.specs.Set.{Lists};
-ghost use Rattle.rc_answers.specs.DotText.{dot_text};
-ghost use Rattle.rc_answers.specs.Lines.{line};
+ghost use Rattle.rc_model.specs.Names.{Lists};
+ghost use Rattle.rc_render.specs.DotText.{dot_text};
+ghost use Rattle.rc_render.specs.Lines.{line};
 ghost use Rattle.rc_base.specs.Base.{bytes_of};
-ghost use Rattle.rc_db.specs.Named.{IsKnown, Selected};
+ghost use Rattle.rc_model.specs.Database.{IsKnown, Selected};
 ghost use Rattle.rc_db.specs.QueryFaults.{AnyName, IsNamesFault, IsQueryFault, OfBundle, OfLongrun, OfOneshot, OfService};
 ghost use Rattle.rc_queries.specs.DbAnswer.{IsAnswerTo, IsContentsText, IsFlagsText, IsFound, IsKindText, IsLimitText, IsNameAnswer, IsNamesAnswer, IsPicture, IsPipelineText, IsScriptText, kind_word};
 ghost use Rattle.rc_queries.specs.DbFaults.{IsOfQuery, IsUnanswered, asked_by};
 ghost use Rattle.rc_asked.specs.Query.{Dot, ListOf, question_of};
 
 use crate::db_fault::DbFault;
-use rc_answers::{dot_text, id_lines, name_lines};
 use rc_asked::{NameQuery, NamesQuery, Query};
 use rc_db::{Db, QueryFault, Which};
 use rc_graph::Way;
 use rc_livetext::read_live;
 use rc_names::Kind;
+use rc_render::{dot_text, id_lines, name_lines};
 use rc_set::Set;
 use std::alloc::Global;
 

@@ -1,6 +1,6 @@
 //! Words that name services.
 ghost use Rattle.std.specs.Prelude.{◌≡◌, ◌<◌, length, map, slice_get, Some, Contains, IfOk, IfErr, IfSome, IfNone};
-ghost use Rattle.rc_set.specs.Set.{Holds};
+ghost use Rattle.rc_model.specs.Names.{Holds};
 ghost use Rattle.rc_queries.specs.declared.named.NamedFault.TheVariants.{Memory};
 ghost use Rattle.rc_queries.specs.Named.{IsNamed, AreNamed, IsNamedFault, word_lines};
 

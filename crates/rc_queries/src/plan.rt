@@ -1,8 +1,8 @@
 //! The command `plan`: what a change would lower, raise and keep.
 ghost use Rattle.std.specs.Prelude.{◌≡◌, ◌≢◌, ◌⊎◌, ◌<◌, ◌≤◌, ◌+◌, ℕ, [], None, length, map, string_bytes, IfOk, IfErr, IfSome};
 ghost use Rattle.std.specs.Io.KnownBytes.{IsAtEnd};
-ghost use Rattle.rc_set.specs.Set.{Has};
-ghost use Rattle.rc_graph.specs.Closure.{IsClosed};
+ghost use Rattle.rc_model.specs.Names.{Has};
+ghost use Rattle.rc_model.specs.Graph.{IsClosed};
 ghost use Rattle.rc_select.specs.Ask.{ask_of};
 ghost use Rattle.rc_asked.specs.Asked.{plan_asked};
 ghost use Rattle.rc_base.specs.Base.{bytes_of};
@@ -15,13 +15,13 @@ ghost use Rattle.rc_queries.specs.PlanFaults.{IsAskFault, IsFaultOf, IsNameFault
 ghost use Rattle.rc_queries.specs.declared.plan.PlanFault.TheVariants.{Memory};
 
 use crate::named::{NamedFault, named_set, word_lines};
-use rc_answers::plan_text;
 use rc_asked::{plan_asked, tell_words};
 use rc_base::{OpenFault, open};
 use rc_db::Db;
 use rc_dbtext::TextFault;
 use rc_graph::Graph;
 use rc_names::Names;
+use rc_render::plan_text;
 use rc_select::{NoMem, Plan, PlanFault as WantFault, Request, plan};
 use rc_set::Set;
 use rc_streams::ending::{FAILED, REFUSED, fail, write_answer};
@@ -91,7 +91,7 @@ impl<'a> From<NamedFault<'a>> for PlanFault<'a> {
 /// Runs `undorc plan` on its words, and answers the status.
 ///
 /// The database is `base`, where there is one, which is looked at before anything is read, and else
-/// the front of the input. Behind it the input has the names that are up, one a line. The plan is
+/// the beginning of the input. After it the input has the names that are up, one a line. The plan is
 /// written to `writer`, and why there is none to `faults`.
 pub fn plan_run<R: Read, W: Write, F: Write>(
     alloc: Global,
@@ -109,7 +109,7 @@ pub fn plan_run<R: Read, W: Write, F: Write>(
         (W.contents (inner_of writer.old)) (W.contents (inner_of writer.new))) }
     ensures untold { result ≡ 0 → F.contents faults.new ≡ F.contents faults.old }
 
-    // A refusal holds, and a front of its line was told, or all of it.
+    // A refusal holds, and a prefix of its line was told, or all of it.
     ensures refused { result ≡ 1 → IfSome (R.remaining (inner_of reader.old)) (λ input. TellsFault
         (map string_bytes words.now) (bytes_of base.entry) input (F.contents faults.old)
         (F.contents faults.new)) }
@@ -120,7 +120,7 @@ pub fn plan_run<R: Read, W: Write, F: Write>(
     ensures unread { result ≡ 100 → R.remaining (inner_of reader.new)
         ≡ R.remaining (inner_of reader.old) }
 
-    // A failure is told by the line of its cause, and what was written is nothing or a front of the
+    // A failure is told by the line of its cause, and what was written is nothing or a prefix of the
     // plan.
     ensures failed { result ≡ 111 → TellsFailure (R.remaining (inner_of reader.old))
         (HasFailed reader.new) (HasFailed writer.new)
@@ -177,13 +177,13 @@ pub fn plan_as_asked<R: Read, W: Write, F: Write>(
         (W.contents (inner_of writer.old)) (W.contents (inner_of writer.new))) }
     ensures untold { result ≡ 0 → F.contents faults.new ≡ F.contents faults.old }
 
-    // A refusal holds, and a front of its line was told, or all of it.
+    // A refusal holds, and a prefix of its line was told, or all of it.
     ensures refused { result ≡ 1 → IfSome (R.remaining (inner_of reader.old))
         (λ input. TellsPlanFault
         (ask_of request.now) (bytes_of base.entry) input (F.contents faults.old)
         (F.contents faults.new)) }
 
-    // A failure is told by the line of its cause, and what was written is nothing or a front of the
+    // A failure is told by the line of its cause, and what was written is nothing or a prefix of the
     // plan.
     ensures failed { result ≡ 111 → TellsFailure (R.remaining (inner_of reader.old))
         (HasFailed reader.new) (HasFailed writer.new)

@@ -3,12 +3,12 @@ ghost use Rattle.std.specs.Prelude.{◌≡◌, false, map, IfOk, IfErr};
 ghost use Rattle.rc_session.specs.Commands.{command_of};
 ghost use Rattle.rc_session.specs.Report.{answer_of};
 ghost use Rattle.rc_script.specs.Script.{IsScriptFault};
-ghost use Rattle.rc_answers.specs.AnswerText.{answers_text};
+ghost use Rattle.rc_render.specs.AnswerText.{answers_text};
 ghost use Rattle.rc_queries.specs.Played.{IsTold, IsPlayed, IsReplay};
 
-use rc_answers::{answer_text, journal_text, live_text};
 use rc_db::Db;
 use rc_names::Names;
+use rc_render::{answer_text, journal_text, live_text};
 use rc_script::{NoMem, ScriptFault, read_script};
 use rc_session::{Refusal, Report, Session, Step};
 use std::alloc::Global;

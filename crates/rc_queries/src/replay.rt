@@ -26,7 +26,7 @@ use std::io::{Read, Write};
 pub(crate) enum ReplayFault {
     /// The database text is none.
     OfText(TextFault),
-    /// The line of this number behind the database may not stand where it does.
+    /// The line of this number after the database may not stand where it does.
     BadLine(usize),
     Memory,
 }
@@ -64,7 +64,7 @@ impl From<ScriptFault> for ReplayFault {
 /// Runs `undorc replay` on its words, and answers the status.
 ///
 /// The database is `base`, where there is one, which is looked at before anything is read, and else
-/// the front of the input. Behind it the input has the script. What it comes to is written to
+/// the beginning of the input. After it the input has the script. What it comes to is written to
 /// `writer`, and why there is nothing to write to `faults`.
 pub fn replay_run<R: Read, W: Write, F: Write>(
     alloc: Global,
@@ -82,7 +82,7 @@ pub fn replay_run<R: Read, W: Write, F: Write>(
         (W.contents (inner_of writer.new))) }
     ensures untold { result ≡ 0 → F.contents faults.new ≡ F.contents faults.old }
 
-    // A refusal holds, and a front of its line was told, or all of it.
+    // A refusal holds, and a prefix of its line was told, or all of it.
     ensures refused { result ≡ 1 → IfSome (R.remaining (inner_of reader.old))
         (λ input. TellsReplayFault
         (bytes_of base.entry) input (F.contents faults.old) (F.contents faults.new)) }
@@ -93,7 +93,7 @@ pub fn replay_run<R: Read, W: Write, F: Write>(
     ensures unread { result ≡ 100 → R.remaining (inner_of reader.new)
         ≡ R.remaining (inner_of reader.old) }
 
-    // A failure is told by the line of its cause, and what was written is nothing or a front of
+    // A failure is told by the line of its cause, and what was written is nothing or a prefix of
     // what the script comes to.
     ensures failed { result ≡ 111 → TellsFailure (R.remaining (inner_of reader.old))
         (HasFailed reader.new) (HasFailed writer.new)
@@ -149,12 +149,12 @@ pub fn replay_as_asked<R: Read, W: Write, F: Write>(
         (W.contents (inner_of writer.new))) }
     ensures untold { result ≡ 0 → F.contents faults.new ≡ F.contents faults.old }
 
-    // A refusal holds, and a front of its line was told, or all of it.
+    // A refusal holds, and a prefix of its line was told, or all of it.
     ensures refused { result ≡ 1 → IfSome (R.remaining (inner_of reader.old))
         (λ input. TellsReplayFault
         (bytes_of base.entry) input (F.contents faults.old) (F.contents faults.new)) }
 
-    // A failure is told by the line of its cause, and what was written is nothing or a front of
+    // A failure is told by the line of its cause, and what was written is nothing or a prefix of
     // what the script comes to.
     ensures failed { result ≡ 111 → TellsFailure (R.remaining (inner_of reader.old))
         (HasFailed reader.new) (HasFailed writer.new)

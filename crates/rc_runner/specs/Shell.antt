@@ -2,14 +2,14 @@
 use Rattle.std.specs.Prelude.{◌≡◌, ◌≢◌, ◌+◌, ◌/◌, ◌≤◌, ◌++◌, ◌∷◌, ◌⊎◌, ℕ, List, [], Option, Some, None, slice_get, codes, decimal, ◌==◌, if◌then◌else◌}
 use Rattle.std.specs.Process.{command_program, command_args, command_var}
 use Rattle.std.specs.declared.process.command.Command.{Command}
-use Rattle.rc_names.specs.declared.kind.Kind.{Kind}
-use Rattle.rc_names.specs.declared.kind.Kind.TheVariants.{Oneshot, Longrun, Bundle}
+use Rattle.rc_model.specs.declared.Kind.{Kind}
+use Rattle.rc_model.specs.declared.Kind.TheVariants.{Oneshot, Longrun, Bundle}
 use Rattle.rc_graph.specs.declared.Way.{Way}
 use Rattle.rc_graph.specs.declared.Way.TheVariants.{Raise, Lower}
-use Rattle.rc_core.specs.declared.event.Outcome.{Outcome}
-use Rattle.rc_core.specs.declared.event.Outcome.TheVariants as outcome
-use Rattle.rc_db.specs.Service.{Service, limit_of}
-use Rattle.rc_db.specs.Database.{Database}
+use Rattle.rc_model.specs.declared.Outcome.{Outcome}
+use Rattle.rc_model.specs.declared.Outcome.TheVariants as outcome
+use Rattle.rc_model.specs.Database.{Service, Database}
+use Rattle.rc_db.specs.Service.{limit_of}
 
 -- what is kept of a database, the words of the program that runs the texts of oneshots and of the
 -- one that moves longruns, and the limit of services without one of their own, 0 for none
@@ -52,7 +52,7 @@ word_of Lower = codes "down"
 abbrev pub seconds_of : ℕ → ℕ
 seconds_of limit = (limit + 999) / 1000
 
--- a program and its words: those of a list, and further ones behind them
+-- a program and its words: those of a list, and further ones after them
 abbrev pub Runs : {A : Type 0} → List (List ℕ) → List (List ℕ) → Command A → Type 0
 Runs words more command = command_program command ∷ command_args command ≡ words ++ more
 

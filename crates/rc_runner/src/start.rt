@@ -36,7 +36,7 @@ pub(crate) fn command_of(alloc: Global, words: &[String]) -> Result<Option<Comma
     Ok(Some(command))
 }
 
-/// Puts words behind those of a command.
+/// Appends words to those of a command.
 fn add_words(command: &mut Command, words: &[String]) -> Result<(), AllocError>
     ensures args { OnOk result
         (command_args command.new ≡ command_args command.old ++ map string_bytes words.now) }
@@ -48,7 +48,7 @@ fn add_words(command: &mut Command, words: &[String]) -> Result<(), AllocError>
     Ok(())
 }
 
-/// Puts two words behind those of a command.
+/// Appends two words to those of a command.
 pub(crate) fn add_two(command: &mut Command, one: &str, two: &str) -> Result<(), AllocError>
     ensures args { OnOk result
         (command_args command.new ≡ command_args command.old ++ one.now ∷ two.now ∷ []) }

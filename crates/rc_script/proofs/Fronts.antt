@@ -9,7 +9,7 @@ onto_onto : (a b : List Choice) (front : Option Front) → onto a (onto b front)
 onto_onto a b None = refl
 onto_onto a b (Some front) = ap (λ (choices : List Choice). let f : Front = record { choices = choices; words = front.words } in Some f) (sym (append_assoc a b front.choices))
 
--- the words behind some words of those behind others
+-- the words after some words of those after others
 behind_both : {X : Type 0} (start count : ℕ) (xs : List X) → drop count (drop start xs) ≡ drop (start + count) xs
 behind_both start count xs = drop-drop count start xs
 

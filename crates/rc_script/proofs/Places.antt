@@ -7,8 +7,8 @@ use Rattle.std.proofs.lemmas.Option.{get_or_from_slice_get, slice_get_within}
 use Rattle.std.proofs.lemmas.Slice.Eq.{bytes_eq-Decides}
 use Rattle.std.specs.List.{slice_get}
 use Rattle.std.specs.Str.{bytes_eq}
-use Rattle.rc_names.specs.Names.{IsBefore, IsInByteOrder}
-use Rattle.rc_names.proofs.ByteOrder.{not_before_itself}
+use Rattle.rc_model.specs.Names.{IsBefore, IsInByteOrder}
+use Rattle.rc_model.proofs.ByteOrder.{not_before_itself}
 use Rattle.rc_script.specs.Events.{place_of}
 
 place_at : (names : List (List ℕ)) → IsInByteOrder names → (k : ℕ) (name : List ℕ) → slice_get names k ≡ Some name → place_of names name ≡ Some k

@@ -4,8 +4,8 @@ use Rattle.std.specs.Prelude.{IfOk, MatchBool}
 use Rattle.std.specs.Option.{option_map}
 use Rattle.std.proofs.lemmas.List.{map-append, length-map, take-append-drop, length-take-le}
 use Rattle.rc_script.proofs.Texts.{images_more}
-use Rattle.rc_core.specs.declared.event.Event.{Event}
-use Rattle.rc_session.specs.Commands.{Command}
+use Rattle.rc_model.specs.declared.Event.{Event}
+use Rattle.rc_model.specs.Session.{Command}
 use Rattle.rc_script.specs.Says.{SaysWrong, Says}
 use Rattle.rc_script.specs.Script.{Item, Happens, event_item, IsItemSaying, AddsLine, CannotAdd, Reads, IsBadLine, lines_in, taking, with_event}
 

@@ -4,13 +4,13 @@ use Rattle.std.proofs.lemmas.Bool.Decides.{Decides-eqb}
 use Rattle.std.specs.Prelude.{IfOk}
 use Rattle.std.specs.Str.{IsUtf8}
 use Rattle.std.specs.Option.{option_map_or}
-use Rattle.rc_session.specs.Commands.{Command, Change, Undo, Redo, Add, Delete, events_of}
+use Rattle.rc_model.specs.Session.{Command, Change, Undo, Redo, Add, Delete, events_of}
 use Rattle.rc_script.specs.declared.verb.Verb.{Verb}
 use Rattle.rc_script.specs.declared.verb.Verb.TheVariants as verb
 use Rattle.rc_script.specs.declared.options.Choice.{Choice}
 use Rattle.rc_script.specs.Words.{words_in, is_silent}
-use Rattle.rc_script.specs.Options.{Front, front_of, asked}
-use Rattle.rc_script.specs.Says.{Saying, SaysNothing, SaysWrong, SaysStep, SaysDry, SaysLive, SaysBundles, SaysJournal, verb_of, added, deleted, is_forced, unforced, alone, plain, limit_alone, said, behind, sentence, HasName, IsRight, Says, IsSaid}
+use Rattle.rc_script.specs.Options.{Front, front_of, ask_chosen}
+use Rattle.rc_script.specs.Says.{Saying, SaysNothing, SaysWrong, SaysStep, SaysDry, SaysLive, SaysBundles, SaysJournal, verb_of, addition_of, deletion_of, is_forced, unforced, alone, plain, limit_alone, said, behind, sentence, HasName, IsRight, Says, IsSaid}
 
 -- what holds of all that may be said, and of what is wrong
 module _ (P : Saying → Type 0) (wrong : P SaysWrong) where
@@ -31,21 +31,21 @@ abbrev BringsNone : Saying → Type 0
 BringsNone (SaysStep command) = events_of command ≡ []
 BringsNone other = Unit {0}
 
-added_none : (force : Bool) (words : List (List ℕ)) → BringsNone (added force words)
+added_none : (force : Bool) (words : List (List ℕ)) → BringsNone (addition_of force words)
 added_none force [] = tt
 added_none force (name ∷ contents) = refl
 
-deleted_none : (force : Bool) (words : List (List ℕ)) → BringsNone (deleted force words)
+deleted_none : (force : Bool) (words : List (List ℕ)) → BringsNone (deletion_of force words)
 deleted_none force [] = tt
 deleted_none force (name ∷ names) = refl
 
 said_none : (v : Verb) (choices : List Choice) (words : List (List ℕ)) → BringsNone (said v choices words)
-said_none verb.Change choices words = by_option BringsNone tt (λ ask. SaysStep (Change ask [])) (asked choices words) (λ ask. refl)
-said_none verb.Dry choices words = by_option BringsNone tt (λ ask. SaysDry ask) (asked choices words) (λ ask. tt)
+said_none verb.Change choices words = by_option BringsNone tt (λ ask. SaysStep (Change ask [])) (ask_chosen choices words) (λ ask. refl)
+said_none verb.Dry choices words = by_option BringsNone tt (λ ask. SaysDry ask) (ask_chosen choices words) (λ ask. tt)
 said_none verb.Undo choices words = by_option BringsNone tt (λ limit. SaysStep (Undo limit [])) (limit_alone choices words) (λ limit. refl)
 said_none verb.Redo choices words = by_option BringsNone tt (λ limit. SaysStep (Redo limit [])) (limit_alone choices words) (λ limit. refl)
-said_none verb.Add choices words = by_plain BringsNone tt (added (is_forced words) (unforced words)) choices (added_none (is_forced words) (unforced words))
-said_none verb.Delete choices words = by_plain BringsNone tt (deleted (is_forced words) (unforced words)) choices (deleted_none (is_forced words) (unforced words))
+said_none verb.Add choices words = by_plain BringsNone tt (addition_of (is_forced words) (unforced words)) choices (added_none (is_forced words) (unforced words))
+said_none verb.Delete choices words = by_plain BringsNone tt (deletion_of (is_forced words) (unforced words)) choices (deleted_none (is_forced words) (unforced words))
 said_none verb.Live choices words = by_plain BringsNone tt (alone SaysLive words) choices (by_alone BringsNone tt SaysLive words tt)
 said_none verb.Bundles choices words = by_plain BringsNone tt (alone SaysBundles words) choices (by_alone BringsNone tt SaysBundles words tt)
 said_none verb.Journal choices words = by_plain BringsNone tt (alone SaysJournal words) choices (by_alone BringsNone tt SaysJournal words tt)
@@ -89,8 +89,8 @@ empty_list (x ∷ xs) e = absurd (let zero : length (x ∷ xs) ≡ 0 = (Decides-
 pub plain_as : (wanted saying : Saying) (choices : List Choice) → choices ≡ [] → wanted ≡ saying → wanted ≡ plain saying choices
 plain_as wanted saying choices none same = same ∙ sym (ap (plain saying) none)
 
-pub forced_as : (words names : List (List ℕ)) (force : Bool) → force ≡ is_forced words → names ≡ unforced words → added force names ≡ added (is_forced words) (unforced words)
-forced_as words names force forces same = ap (λ (f : Bool). added f names) forces ∙ ap (added (is_forced words)) same
+pub forced_as : (words names : List (List ℕ)) (force : Bool) → force ≡ is_forced words → names ≡ unforced words → addition_of force names ≡ addition_of (is_forced words) (unforced words)
+forced_as words names force forces same = ap (λ (f : Bool). addition_of f names) forces ∙ ap (addition_of (is_forced words)) same
 
 -- what a line says, by what its words say
 pub line_says : {R E : Type 0} (f : R → Saying) (r : Result R E) (line : List ℕ) (words texts : List (List ℕ)) → words ≡ words_in line → is_silent words ≡ false

@@ -1,10 +1,10 @@
 -- Event lines.
 use Rattle.std.specs.Prelude.{ℕ, List, [], ◌∷◌, Option, None, Some, codes, option_and_then, option_map, suc, if◌then◌else◌}
 use Rattle.std.specs.Str.{bytes_eq}
-use Rattle.rc_core.specs.declared.event.Outcome.{Outcome}
-use Rattle.rc_core.specs.declared.event.Outcome.TheVariants as outcome
-use Rattle.rc_core.specs.declared.event.Event.{Event}
-use Rattle.rc_core.specs.declared.event.Event.TheVariants.{Take, Done, Stop}
+use Rattle.rc_model.specs.declared.Outcome.{Outcome}
+use Rattle.rc_model.specs.declared.Outcome.TheVariants as outcome
+use Rattle.rc_model.specs.declared.Event.{Event}
+use Rattle.rc_model.specs.declared.Event.TheVariants.{Take, Done, Stop}
 use Rattle.rc_script.specs.Numbers.{number_in, status_in}
 
 -- the place of a name
@@ -42,7 +42,7 @@ abbrev pub stop_in : (worker moment : List ℕ) → (words : List (List ℕ)) �
 stop_in worker moment [] = option_and_then (λ w. option_map (λ m. Stop w m) (number_in 64 moment)) (number_in 8 worker)
 stop_in worker moment (word ∷ words) = None
 
--- the event that a verb gives with the words behind it
+-- the event that a verb gives with the words after it
 abbrev pub event_by : List (List ℕ) → (verb worker object : List ℕ) → (words : List (List ℕ)) → Option Event
 event_by names verb worker object words =
     if bytes_eq verb (codes "take") then take_in names worker object words

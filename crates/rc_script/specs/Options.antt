@@ -1,9 +1,9 @@
 -- The options in front of the word that says what a line does.
 use Rattle.std.specs.Prelude.{◌≡◌, ◌<◌, ◌≤◌, ◌==◌, ◌||◌, ◌++◌, ℕ, Bool, true, false, List, [], ◌∷◌, Option, None, Some, codes, length, drop, slice_index, nat_lt, option_and_then, option_map, if◌then◌else◌}
 use Rattle.std.specs.Str.{bytes_eq}
-use Rattle.rc_select.specs.declared.request.Mode.{Mode}
-use Rattle.rc_select.specs.declared.request.Mode.TheVariants as mode
-use Rattle.rc_select.specs.Ask.{Ask}
+use Rattle.rc_model.specs.declared.Mode.{Mode}
+use Rattle.rc_model.specs.declared.Mode.TheVariants as mode
+use Rattle.rc_model.specs.Plan.{Ask}
 use Rattle.rc_script.specs.declared.options.Choice.{Choice}
 use Rattle.rc_script.specs.declared.options.Choice.TheVariants.{Up, Down, DownAll, Prune, All, Limit}
 use Rattle.rc_script.specs.declared.options.Chosen.{Chosen}
@@ -24,11 +24,11 @@ abbrev pub choices_of : List ℕ → Option (List Choice)
 choices_of [] = Some []
 choices_of (letter ∷ letters) = option_and_then (λ choice. option_map (λ others. choice ∷ others) (choices_of letters)) (choice_of letter)
 
--- what a word of one letter or more behind a dash chooses
+-- what a word of one letter or more after a dash chooses
 abbrev pub word_choices : List ℕ → Option (List Choice)
 word_choices word = if nat_lt 1 (length word) then choices_of (drop 1 word) else None
 
--- the choices in front of a line, and the words behind them
+-- the choices in front of a line, and the words after them
 pub record Front : Type 0 where
   pub choices : List Choice
   pub words : List (List ℕ)
@@ -82,8 +82,8 @@ asked_by chosen words = option_map
     (λ mode. record { mode = mode; prune = chosen.prune; all = chosen.all; words = words; limit = chosen.limit })
     (mode_of chosen.up chosen.down chosen.down_all)
 
-abbrev pub asked : List Choice → List (List ℕ) → Option Ask
-asked choices words = asked_by (with_choices none_chosen choices) words
+abbrev pub ask_chosen : List Choice → List (List ℕ) → Option Ask
+ask_chosen choices words = asked_by (with_choices none_chosen choices) words
 
 -- the limit of a line that may have one alone, 0 where it has none
 abbrev pub only_limit : List Choice → Option ℕ
@@ -91,7 +91,7 @@ only_limit [] = Some 0
 only_limit (Limit limit ∷ []) = Some limit
 only_limit other = None
 
--- the new choices are the old ones with those of the option at the front, which takes so many words; the number of a limit may be due
+-- the new choices are the old ones with those of the option at the beginning, which takes so many words; the number of a limit may be due
 pub record IsOption (number_due : Bool) (old new : List Choice) (words : List (List ℕ)) (count : ℕ) : Type 0 where
   pub added : List Choice
   pub choices : new ≡ old ++ added

@@ -2,16 +2,18 @@
 use Rattle.std.specs.Prelude.{◌≡◌, ◌⊎◌, All, ℕ, Bool, true, false, List, [], ◌∷◌, Option, None, Some, codes, if◌then◌else◌}
 use Rattle.std.specs.Option.{option_map_or}
 use Rattle.std.specs.Str.{IsUtf8, bytes_eq}
-use Rattle.rc_names.specs.Name.{IsName}
-use Rattle.rc_select.specs.Ask.{Ask, ask_of}
-use Rattle.rc_session.specs.Commands.{Command, Change, Undo, Redo, Add, Delete, command_of}
+use Rattle.rc_model.specs.Names.{IsName}
+use Rattle.rc_model.specs.Plan.{Ask}
+use Rattle.rc_select.specs.Ask.{ask_of}
+use Rattle.rc_model.specs.Session.{Command, Change, Undo, Redo, Add, Delete}
+use Rattle.rc_session.specs.Commands.{command_of}
 use Rattle.rc_script.specs.declared.line.SessionLine.{SessionLine}
 use Rattle.rc_script.specs.declared.line.SessionLine.TheVariants as line
 use Rattle.rc_script.specs.declared.verb.Verb.{Verb}
 use Rattle.rc_script.specs.declared.verb.Verb.TheVariants as verb
 use Rattle.rc_script.specs.declared.options.Choice.{Choice}
 use Rattle.rc_script.specs.Words.{words_in, is_silent}
-use Rattle.rc_script.specs.Options.{Front, front_of, asked, only_limit}
+use Rattle.rc_script.specs.Options.{Front, front_of, ask_chosen, only_limit}
 
 -- what a session line says: nothing, nothing that has a form, a command without events, that the plan of a change is wanted, or what is wanted to be shown
 pub data Saying : Type 0 where
@@ -33,7 +35,7 @@ saying_of line.Live = SaysLive
 saying_of line.Bundles = SaysBundles
 saying_of line.Journal = SaysJournal
 
--- what the word behind the options tells to do
+-- what the word after the options tells to do
 abbrev pub verb_of : List ℕ → Option Verb
 verb_of word =
     if bytes_eq word (codes "change") then Some verb.Change
@@ -48,14 +50,14 @@ verb_of word =
     else None
 
 -- a bundle with this name and these contents
-abbrev pub added : (force : Bool) → List (List ℕ) → Saying
-added force [] = SaysWrong
-added force (name ∷ contents) = SaysStep (Add name contents force)
+abbrev pub addition_of : (force : Bool) → List (List ℕ) → Saying
+addition_of force [] = SaysWrong
+addition_of force (name ∷ contents) = SaysStep (Add name contents force)
 
 -- these names are no bundles any more
-abbrev pub deleted : (force : Bool) → List (List ℕ) → Saying
-deleted force [] = SaysWrong
-deleted force (name ∷ names) = SaysStep (Delete (name ∷ names) force)
+abbrev pub deletion_of : (force : Bool) → List (List ℕ) → Saying
+deletion_of force [] = SaysWrong
+deletion_of force (name ∷ names) = SaysStep (Delete (name ∷ names) force)
 
 -- whether `-f` stands in front of words
 abbrev pub is_forced : List (List ℕ) → Bool
@@ -67,7 +69,7 @@ abbrev pub unforced : List (List ℕ) → List (List ℕ)
 unforced [] = []
 unforced (word ∷ words) = if bytes_eq word (codes "-f") then words else word ∷ words
 
--- what is said with nothing behind it
+-- what is said with nothing after it
 abbrev pub alone : Saying → List (List ℕ) → Saying
 alone saying [] = saying
 alone saying (word ∷ words) = SaysWrong
@@ -82,19 +84,19 @@ abbrev pub limit_alone : List Choice → List (List ℕ) → Option ℕ
 limit_alone choices [] = only_limit choices
 limit_alone choices (word ∷ words) = None
 
--- what a verb says with choices in front of it and words behind; an undo and a redo may have one limit in front, and nothing else
+-- what a verb says with choices in front of it and words after; an undo and a redo may have one limit in front, and nothing else
 abbrev pub said : Verb → List Choice → List (List ℕ) → Saying
-said verb.Change choices words = option_map_or (λ ask. SaysStep (Change ask [])) (asked choices words) SaysWrong
-said verb.Dry choices words = option_map_or (λ ask. SaysDry ask) (asked choices words) SaysWrong
+said verb.Change choices words = option_map_or (λ ask. SaysStep (Change ask [])) (ask_chosen choices words) SaysWrong
+said verb.Dry choices words = option_map_or (λ ask. SaysDry ask) (ask_chosen choices words) SaysWrong
 said verb.Undo choices words = option_map_or (λ limit. SaysStep (Undo limit [])) (limit_alone choices words) SaysWrong
 said verb.Redo choices words = option_map_or (λ limit. SaysStep (Redo limit [])) (limit_alone choices words) SaysWrong
-said verb.Add choices words = plain (added (is_forced words) (unforced words)) choices
-said verb.Delete choices words = plain (deleted (is_forced words) (unforced words)) choices
+said verb.Add choices words = plain (addition_of (is_forced words) (unforced words)) choices
+said verb.Delete choices words = plain (deletion_of (is_forced words) (unforced words)) choices
 said verb.Live choices words = plain (alone SaysLive words) choices
 said verb.Bundles choices words = plain (alone SaysBundles words) choices
 said verb.Journal choices words = plain (alone SaysJournal words) choices
 
--- what words say behind choices
+-- what words say after choices
 abbrev pub behind : List Choice → List (List ℕ) → Saying
 behind choices [] = SaysWrong
 behind choices (word ∷ words) = option_map_or (λ v. said v choices words) (verb_of word) SaysWrong

@@ -2,8 +2,8 @@
 use Rattle.std.specs.Prelude.{◌≡◌, ◌==◌, ◌⊎◌, ◌+◌, ℕ, List, [], ◌∷◌, ◌++◌, All, Option, None, Some, length, option_map}
 use Rattle.std.specs.List.{slice_split}
 use Rattle.std.specs.Str.{IsUtf8}
-use Rattle.rc_core.specs.declared.event.Event.{Event}
-use Rattle.rc_session.specs.Commands.{Command, Change, Undo, Redo, Add, Delete}
+use Rattle.rc_model.specs.declared.Event.{Event}
+use Rattle.rc_model.specs.Session.{Command, Change, Undo, Redo, Add, Delete}
 use Rattle.rc_script.specs.Words.{words_in}
 use Rattle.rc_script.specs.Says.{Saying, SaysNothing, SaysWrong, SaysStep, Says}
 use Rattle.rc_script.specs.Events.{event_in}
@@ -57,11 +57,11 @@ with_item commands OtherForm = None
 abbrev pub AddsLine : List (List ℕ) → List ℕ → (old new : List Command) → Type 0
 AddsLine names line old new = (item : Item) × IsItem names line item × (with_item old item ≡ Some new)
 
--- a line may not stand behind the commands
+-- a line may not stand after the commands
 abbrev pub CannotAdd : List (List ℕ) → List ℕ → List Command → Type 0
 CannotAdd names line old = (item : Item) × IsItem names line item × (with_item old item ≡ None)
 
--- these lines behind the old commands make them the new ones
+-- these lines after the old commands make them the new ones
 abbrev pub Reads : List (List ℕ) → List (List ℕ) → (old new : List Command) → Type 0
 Reads names [] old new = new ≡ old
 Reads names (line ∷ lines) old new = (next : List Command) × AddsLine names line old next × Reads names lines next new

@@ -1,6 +1,6 @@
 //! What the definitions of session lines say by themselves: each a clause of a function that does nothing.
 ghost use Rattle.std.specs.Prelude.{◌≡◌, ℕ, List, []};
-ghost use Rattle.rc_session.specs.Commands.{Command, events_of};
+ghost use Rattle.rc_model.specs.Session.{Command, events_of};
 ghost use Rattle.rc_script.specs.Says.{Saying, SaysStep, Says};
 
 /// A line says one thing.

@@ -1,6 +1,6 @@
 //! A session line, from bytes to what it says.
 ghost use Rattle.std.specs.Prelude.{◌≡◌, ◌∷◌, IfOk, map};
-ghost use Rattle.rc_script.specs.Says.{Says, IsSaid, HasName, limit_alone, saying_of, sentence, behind, said, plain, alone, added, is_forced, unforced};
+ghost use Rattle.rc_script.specs.Says.{Says, IsSaid, HasName, limit_alone, saying_of, sentence, behind, said, plain, alone, addition_of, is_forced, unforced};
 
 use crate::options::{Choice, front_of, only_limit, request_of, strings_of};
 use crate::verb::Verb;
@@ -53,7 +53,7 @@ fn sentence(alloc: Global, words: &[&str]) -> Result<SessionLine, NoMem>
     }
 }
 
-/// What words say behind choices.
+/// What words say after choices.
 fn behind(alloc: Global, choices: &[Choice], words: &[&str]) -> Result<SessionLine, NoMem>
     ensures { IfOk result (λ line. IsSaid (behind choices.now (map (λ word. word.now) words.now)) (saying_of line)) }
 {
@@ -66,7 +66,7 @@ fn behind(alloc: Global, choices: &[Choice], words: &[&str]) -> Result<SessionLi
     }
 }
 
-/// What a verb says with choices in front and words behind.
+/// What a verb says with choices in front and words after.
 fn said(alloc: Global, verb: Verb, choices: &[Choice], words: &[&str]) -> Result<SessionLine, NoMem>
     ensures { IfOk result (λ line. IsSaid (said verb choices.now (map (λ word. word.now) words.now)) (saying_of line)) }
 {
@@ -150,7 +150,7 @@ fn add(alloc: Global, choices: &[Choice], words: &[&str]) -> Result<SessionLine,
 
 /// A bundle with this name, where it is one, and these contents.
 fn bundle(alloc: Global, name: &str, contents: &[&str], force: bool) -> Result<SessionLine, NoMem>
-    ensures { IfOk result (λ line. IsSaid (added force (name.now ∷ map (λ word. word.now) contents.now)) (saying_of line)) }
+    ensures { IfOk result (λ line. IsSaid (addition_of force (name.now ∷ map (λ word. word.now) contents.now)) (saying_of line)) }
 {
     let name = match Name::read(alloc, name) {
         Ok(name) => name,

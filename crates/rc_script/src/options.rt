@@ -1,7 +1,7 @@
 //! The options in front of the word that says what a line does.
 ghost use Rattle.std.specs.Prelude.{◌≡◌, ◌<◌, false, true, ◌∷◌, None, map, option_map, length, slice_index, IfOk, MatchBool, MatchOption, string_bytes};
 ghost use Rattle.rc_select.specs.Ask.{ask_of};
-ghost use Rattle.rc_script.specs.Options.{IsOption, has_option, choice_of, choices_of, word_choices, front_of, none_chosen, with_choice, with_choices, mode_of, asked, only_limit};
+ghost use Rattle.rc_script.specs.Options.{IsOption, has_option, choice_of, choices_of, word_choices, front_of, none_chosen, with_choice, with_choices, mode_of, ask_chosen, only_limit};
 
 use crate::words::limit_of;
 use rc_names::NoMem;
@@ -67,7 +67,7 @@ impl Chosen {
     }
 }
 
-/// The choices in front of a line, and the words behind them, where the choices are well formed.
+/// The choices in front of a line, and the words after them, where the choices are well formed.
 pub(crate) fn front_of<'a, 'b>(
     alloc: Global,
     words: &'b [&'a str],
@@ -97,7 +97,7 @@ fn has_option(words: &[&str]) -> bool
     }
 }
 
-/// Adds what the option at the front chooses, where it is well formed, and answers how many words it takes.
+/// Adds what the option at the beginning chooses, where it is well formed, and answers how many words it takes.
 fn add_option(
     alloc: Global,
     choices: &mut Vec<Choice>,
@@ -141,7 +141,7 @@ fn add_limit(choices: &mut Vec<Choice>, words: &[&str]) -> Result<bool, NoMem>
     }
 }
 
-/// What the letters of a word behind its dash choose, where each chooses something.
+/// What the letters of a word after its dash choose, where each chooses something.
 fn letters_of(alloc: Global, word: &str) -> Result<Option<Vec<Choice>>, NoMem>
     requires { 0 < length word.now }
     ensures { IfOk result (λ choices. option_map (λ choices. choices.items) choices ≡ word_choices word.now) }
@@ -187,7 +187,7 @@ pub(crate) fn request_of(
     choices: &[Choice],
     words: &[&str],
 ) -> Result<Option<Request>, NoMem>
-    ensures { IfOk result (λ request. option_map ask_of request ≡ asked choices.now (map (λ word. word.now) words.now)) }
+    ensures { IfOk result (λ request. option_map ask_of request ≡ ask_chosen choices.now (map (λ word. word.now) words.now)) }
 {
     let chosen = chosen_by(choices);
     match mode_of(chosen.up, chosen.down, chosen.down_all) {

@@ -55,7 +55,7 @@ fn lines_of(alloc: Global, text: &[u8]) -> Result<Vec<&[u8]>, NoMem>
     text.split(|byte| *byte == b'\n').collect(alloc)
 }
 
-/// Adds what a line gives, where it may stand behind these commands.
+/// Adds what a line gives, where it may stand after these commands.
 fn add_line(alloc: Global, names: &Names, steps: &mut Vec<Step>, line: &[u8]) -> Result<bool, NoMem>
     ensures { IfOk result (λ added. MatchBool added
         (AddsLine names.now line.now (map command_of steps.old.items) (map command_of steps.new.items))

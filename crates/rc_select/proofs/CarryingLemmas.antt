@@ -1,15 +1,14 @@
 -- What stays up needs nothing that does not, in the old database and in the new one.
 use Rattle.std.proofs.Common.{◌≡◌, ◌∙◌, ◌≤◌, ◌↔◌, inl, inr, ℕ, Bool, List, [], Some, Contains, length, slice_get, slice_index_or, sym, ap, subst, arith}
 use Rattle.std.proofs.lemmas.Option.{slice_get-get_or, slice_get_within, same_Some}
-use Rattle.rc_set.specs.Set.{Has, Holds}
-use Rattle.rc_graph.specs.Needs.{Needs}
-use Rattle.rc_graph.specs.Closure.{IsClosed, DownFrom}
+use Rattle.rc_model.specs.Names.{Has, Holds}
+use Rattle.rc_model.specs.Graph.{Needs, IsClosed, DownFrom}
 use Rattle.rc_graph.proofs.Paths.{reaches_one, reaches_first}
 use Rattle.rc_names.specs.Names.{ListsNames}
-use Rattle.rc_names.proofs.ByteOrder.{one_place}
-use Rattle.rc_db.specs.Database.{Database, IsDatabase}
+use Rattle.rc_model.proofs.ByteOrder.{one_place}
+use Rattle.rc_model.specs.Database.{Database, IsDatabase}
 use Rattle.rc_db.proofs.Listing.{Passed}
-use Rattle.rc_db.proofs.Places.{mapped_place, contains_at}
+use Rattle.rc_model.proofs.Places.{mapped_place, contains_at}
 use Rattle.rc_select.specs.Carrying.{AreNamesOf, Carried, IsAlteredUp, IsTwin, IsUnaltered, StaysUp, needed_names}
 use Rattle.rc_select.proofs.NeedsLemmas.{map_contains}
 

@@ -5,8 +5,8 @@ use Rattle.std.proofs.lemmas.List.Elements.{Contains-get_or}
 use Rattle.std.proofs.lemmas.Option.{get_or_from_slice_get}
 use Rattle.std.proofs.lemmas.Slice.Eq.{bytes_eq-Decides}
 use Rattle.std.specs.Str.{bytes_eq}
-use Rattle.rc_graph.specs.Needs.{Needs}
-use Rattle.rc_db.specs.Database.{Database, IsDatabase}
+use Rattle.rc_model.specs.Graph.{Needs}
+use Rattle.rc_model.specs.Database.{Database, IsDatabase}
 use Rattle.rc_select.specs.Carrying.{needed_names}
 use Rattle.std.proofs.lemmas.List.{same_lists, get_or-map, length-map}
 

@@ -1,8 +1,7 @@
 -- Services that are the same in two databases, by what is said of them.
 use Rattle.std.proofs.Common.{◌≡◌, ◌∙◌, ℕ, Some, slice_get, sym, ap, subst}
 use Rattle.std.proofs.lemmas.Option.{same_Some}
-use Rattle.rc_db.specs.Database.{Database, IsDatabase}
-use Rattle.rc_db.specs.Service.{Service}
+use Rattle.rc_model.specs.Database.{Database, IsDatabase, Service}
 use Rattle.rc_select.specs.Carrying.{IsSame, IsTwin, IsUnaltered, SaysSame, needed_names}
 use Rattle.rc_select.proofs.CarryingLemmas.{one_twin}
 

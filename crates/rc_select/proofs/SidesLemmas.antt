@@ -1,9 +1,8 @@
 -- Sets that are computed from others, and plans that lead to them.
 use Rattle.std.proofs.Common.{◌↔◌, ℕ, Bool, List, inl, inr}
-use Rattle.rc_set.specs.Set.{Has, Holds}
-use Rattle.rc_set.proofs.Members.{has_or_lacks}
-use Rattle.rc_select.specs.Plan.{LeadsTo}
-use Rattle.rc_select.specs.PlanSets.{PlanSets}
+use Rattle.rc_model.specs.Names.{Has, Holds}
+use Rattle.rc_model.proofs.SetMembers.{has_or_lacks}
+use Rattle.rc_model.specs.Plan.{IsPlanTo, PlanSets}
 
 -- what is left without what goes and is not held: what is there and, where it is to go, is held
 pub left_over : (IsUp Goes IsHeld : ℕ → Type 0) (goes held gone left : List Bool) → Holds goes Goes → Holds held IsHeld → Holds gone (λ s. Has goes s × (Has held s → ⊥))
@@ -20,7 +19,7 @@ left_over IsUp Goes IsHeld goes held gone left holds_goes holds_held holds_gone 
 )
 
 -- the same facts make the same plan
-pub leads_same : (up : List Bool) (T U K L : ℕ → Type 0) (plan : PlanSets) → LeadsTo up T K plan → ((s : ℕ) → T s ↔ U s) → ((s : ℕ) → K s ↔ L s) → LeadsTo up U L plan
+pub leads_same : (up : List Bool) (T U K L : ℕ → Type 0) (plan : PlanSets) → IsPlanTo up T K plan → ((s : ℕ) → T s ↔ U s) → ((s : ℕ) → K s ↔ L s) → IsPlanTo up U L plan
 leads_same up T U K L plan leads target kept = record {
   opening = leads.opening;
   lower = λ s. (λ has. let h = (leads.lower s).0 has in (h.0, λ u. h.1 ((target s).1 u)), λ h. (leads.lower s).1 (h.0, λ t. h.1 ((target s).0 t)));

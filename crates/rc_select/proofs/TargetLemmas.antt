@@ -1,11 +1,10 @@
 -- Targets: closed, and the same for the same facts.
 use Rattle.std.proofs.Common.{◌↔◌, ℕ, Bool, true, false, List, inl, inr}
-use Rattle.rc_graph.specs.Needs.{Needs}
-use Rattle.rc_graph.specs.Closure.{IsClosed, UpFrom, DownFrom}
+use Rattle.rc_model.specs.Graph.{Needs, IsClosed, UpFrom, DownFrom}
 use Rattle.rc_graph.proofs.Paths.{up_is_closed, reaches_one, reaches_first}
-use Rattle.rc_select.specs.declared.request.Mode.{Mode}
-use Rattle.rc_select.specs.declared.request.Mode.TheVariants.{Up, Down, DownAll}
-use Rattle.rc_select.specs.Target.{Target, Kept}
+use Rattle.rc_model.specs.declared.Mode.{Mode}
+use Rattle.rc_model.specs.declared.Mode.TheVariants.{Up, Down, DownAll}
+use Rattle.rc_model.specs.Plan.{Target, Kept}
 
 -- what needs a service that reaches a member reaches one too
 pub down_before : (needs : List (List ℕ)) (In : ℕ → Type 0) (s t : ℕ) → Needs needs s t → DownFrom needs In t → DownFrom needs In s

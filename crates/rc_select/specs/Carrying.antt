@@ -1,9 +1,8 @@
 -- What an update carries over from one database to another.
 use Rattle.std.specs.Prelude.{◌≡◌, ℕ, List, [], Some, map, slice_get, slice_index_or}
-use Rattle.rc_graph.specs.Closure.{DownFrom}
+use Rattle.rc_model.specs.Graph.{DownFrom}
 use Rattle.rc_names.specs.Names.{ListsNames}
-use Rattle.rc_db.specs.Database.{Database}
-use Rattle.rc_db.specs.Service.{Service}
+use Rattle.rc_model.specs.Database.{Database, Service}
 
 -- a service of the old database and one of the new one have one name
 abbrev pub IsTwin : (old new : Database) → ℕ → ℕ → Type 0

@@ -1,6 +1,4 @@
 pub mod PlanSets
-pub mod Plan
-pub mod Target
 pub mod Ask
 pub mod PlanFaults
 pub mod Sides

@@ -1,12 +1,6 @@
-use Rattle.std.specs.Prelude.{◌≡◌, ℕ, List, Bool, length}
-use Rattle.rc_set.specs.Set.{Has}
-
--- a plan as its four sets: what is up at first, what goes down, what comes up, what is kept
-pub record PlanSets : Type 0 where
-  pub opening : List Bool
-  pub lower : List Bool
-  pub raise : List Bool
-  pub kept : List Bool
+use Rattle.std.specs.Prelude.{◌≡◌, ℕ, length}
+use Rattle.rc_model.specs.Names.{Has}
+use Rattle.rc_model.specs.Plan.{PlanSets}
 
 -- sets of one bound; what goes down was up, what comes up was not, and what is kept was up and does not go down
 pub record IsPlan (plan : PlanSets) : Type 0 where

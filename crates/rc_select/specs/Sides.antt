@@ -1,7 +1,7 @@
 use Rattle.std.specs.Prelude.{◌≡◌, ℕ, Bool, List, length}
-use Rattle.rc_set.specs.Set.{Has, Holds}
-use Rattle.rc_select.specs.declared.request.Mode.{Mode}
-use Rattle.rc_select.specs.Target.{Target, Kept}
+use Rattle.rc_model.specs.Names.{Has, Holds}
+use Rattle.rc_model.specs.declared.Mode.{Mode}
+use Rattle.rc_model.specs.Plan.{Target, Kept}
 
 -- the sets are the target and what is kept
 pub record AreSides (needs : List (List ℕ)) (up essential : List Bool) (mode : Mode) (prune : Bool) (wanted target kept : List Bool) : Type 0 where

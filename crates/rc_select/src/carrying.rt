@@ -1,9 +1,9 @@
 //! What is lowered by the old database, what is carried over, and what is raised by the new one.
 ghost use Rattle.std.specs.Prelude.{◌≡◌, ◌<◌, ◌⊎◌, ℕ, Some, length, map, slice_get, string_bytes, IfOk};
-ghost use Rattle.rc_names.specs.Names.{AreNames, ListsNames};
-ghost use Rattle.rc_set.specs.Set.{Has, Holds};
-ghost use Rattle.rc_graph.specs.Closure.{IsClosed};
-ghost use Rattle.rc_db.specs.Database.{IsDatabase};
+ghost use Rattle.rc_model.specs.Names.{AreNames, Has, Holds};
+ghost use Rattle.rc_names.specs.Names.{ListsNames};
+ghost use Rattle.rc_model.specs.Graph.{IsClosed};
+ghost use Rattle.rc_model.specs.Database.{IsDatabase};
 ghost use Rattle.rc_select.specs.Carrying.{AreNamesOf, Carried, IsAlteredUp, IsTwin, IsUnaltered, StaysUp};
 
 use crate::same::{is_unaltered, twin};

@@ -1,12 +1,10 @@
 //! Laws of the definitions, for the crates above. The functions do nothing when they run.
 
 ghost use Rattle.std.specs.Prelude.{ℕ, List, Bool};
-ghost use Rattle.rc_set.specs.Set.{Has};
-ghost use Rattle.rc_graph.specs.Closure.{IsClosed};
-ghost use Rattle.rc_db.specs.Bundles.{Bundles};
-ghost use Rattle.rc_db.specs.Database.{Database};
-ghost use Rattle.rc_select.specs.Ask.{Ask, IsEssentialUp, IsWanted};
-ghost use Rattle.rc_select.specs.Target.{Target};
+ghost use Rattle.rc_model.specs.Names.{Has};
+ghost use Rattle.rc_model.specs.Graph.{IsClosed};
+ghost use Rattle.rc_model.specs.Database.{Bundles, Database};
+ghost use Rattle.rc_model.specs.Plan.{Ask, IsEssentialUp, IsWanted, Target};
 
 /// The target of a closed set is closed, whatever is asked.
 pub fn target_is_closed()

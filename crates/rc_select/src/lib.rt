@@ -1,6 +1,6 @@
 //! Plans: which services a change lowers, which it raises, and which it keeps; and updates: what of
 //! a live set is carried over from one database to another, what is lowered before, and what is
-//! raised behind.
+//! raised after.
 #![tactic(auto)]
 
 mod carrying;

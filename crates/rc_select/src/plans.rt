@@ -1,9 +1,8 @@
 ghost use Rattle.std.specs.Prelude.{◌≡◌, ℕ, false, length, IfOk};
-ghost use Rattle.rc_set.specs.Set.{Has};
-ghost use Rattle.rc_graph.specs.Closure.{IsClosed};
-ghost use Rattle.rc_select.specs.Plan.{LeadsTo, Nothing};
+ghost use Rattle.rc_model.specs.Names.{Has};
+ghost use Rattle.rc_model.specs.Graph.{IsClosed};
+ghost use Rattle.rc_model.specs.Plan.{IsPlanTo, Nothing, Target};
 ghost use Rattle.rc_select.specs.PlanSets.{IsPlan};
-ghost use Rattle.rc_select.specs.Target.{Target};
 
 use crate::request::Mode;
 use rc_graph::Graph;
@@ -21,7 +20,8 @@ pub struct Plan {
 }
 
 impl Model for Plan {
-    ghost use Rattle.rc_select.specs.PlanSets.{PlanSets, IsPlan};
+    ghost use Rattle.rc_model.specs.Plan.{PlanSets};
+    ghost use Rattle.rc_select.specs.PlanSets.{IsPlan};
 
     ghost Value = { PlanSets };
 
@@ -69,7 +69,7 @@ pub fn between(alloc: Global, graph: &Graph, from: &Set, to: &Set) -> Result<Pla
     requires to_bound { length to.now ≡ length graph.now }
     requires from_closed { IsClosed graph.now (Has from.now) }
     requires to_closed { IsClosed graph.now (Has to.now) }
-    ensures { IfOk result (LeadsTo from.now (Has to.now) Nothing) }
+    ensures { IfOk result (IsPlanTo from.now (Has to.now) Nothing) }
 {
     let kept = Set::empty(alloc, graph.len())?;
     leading(alloc, from, to, kept)
@@ -80,7 +80,7 @@ pub fn plan_up(alloc: Global, graph: &Graph, up: &Set, wanted: &Set) -> Result<P
     requires up_bound { length up.now ≡ length graph.now }
     requires wanted_bound { length wanted.now ≡ length graph.now }
     requires up_closed { IsClosed graph.now (Has up.now) }
-    ensures { IfOk result (LeadsTo up.now (Target graph.now (Has up.now) Nothing Mode.Up false (Has wanted.now)) Nothing) }
+    ensures { IfOk result (IsPlanTo up.now (Target graph.now (Has up.now) Nothing Mode.Up false (Has wanted.now)) Nothing) }
 {
     let mut target = graph.up_of(alloc, wanted)?;
     target.join(up);
@@ -93,7 +93,7 @@ pub(crate) fn leading(alloc: Global, from: &Set, to: &Set, kept: Set) -> Result<
     requires kept_bound { length kept ≡ length from.now }
     requires kept_up { (s : ℕ) → Has kept s → Has from.now s }
     requires kept_stays { (s : ℕ) → Has kept s → Has to.now s }
-    ensures { IfOk result (LeadsTo from.now (Has to.now) (Has kept)) }
+    ensures { IfOk result (IsPlanTo from.now (Has to.now) (Has kept)) }
 {
     let mut lower = from.copy(alloc)?;
     lower.without(to);

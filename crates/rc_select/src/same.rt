@@ -1,6 +1,6 @@
 //! Whether a service of one database is in another as it was.
 ghost use Rattle.std.specs.Prelude.{◌≡◌, ◌<◌, ◌↔◌, ℕ, length, IfNone, IfSome, IsTrue, option_map, string_bytes};
-ghost use Rattle.rc_db.specs.Database.{IsDatabase};
+ghost use Rattle.rc_model.specs.Database.{IsDatabase};
 ghost use Rattle.rc_select.specs.Carrying.{IsTwin, IsUnaltered, SaysSame, needed_names};
 
 use rc_db::{Db, Service};

@@ -1,14 +1,11 @@
 ghost use Rattle.std.specs.Prelude.{◌≡◌, ℕ, List, length, map, All, IfOk, IfErr, OnOk, string_bytes};
-ghost use Rattle.rc_set.specs.Set.{Has, Holds};
-ghost use Rattle.rc_graph.specs.Closure.{IsClosed};
-ghost use Rattle.rc_db.specs.Bundles.{AreBelow, Bundles};
-ghost use Rattle.rc_db.specs.Database.{IsDatabase};
+ghost use Rattle.rc_model.specs.Names.{Has, Holds};
+ghost use Rattle.rc_model.specs.Graph.{IsClosed};
+ghost use Rattle.rc_model.specs.Database.{HaveBound, Bundles, IsDatabase, IsKnown, IsUnknownAt};
 ghost use Rattle.rc_db.specs.QueryFaults.{IsNamesFault};
-ghost use Rattle.rc_db.specs.Named.{IsKnown, IsUnknownAt};
-ghost use Rattle.rc_select.specs.Plan.{LeadsTo};
-ghost use Rattle.rc_select.specs.Target.{Target, Kept};
-ghost use Rattle.rc_select.specs.Ask.{ask_of, IsEssentialUp, IsWanted, IsPlanOf};
-ghost use Rattle.rc_select.specs.PlanFaults.{CanPlan, IsPlanFault, IsWantedFault};
+ghost use Rattle.rc_model.specs.Plan.{IsPlanTo, Target, Kept, IsEssentialUp, IsWanted, IsPlanOf, CanPlan, IsPlanFault};
+ghost use Rattle.rc_select.specs.Ask.{ask_of};
+ghost use Rattle.rc_select.specs.PlanFaults.{IsWantedFault};
 
 use crate::plans::{Plan, leading};
 use crate::request::{Mode, PlanFault, Request};
@@ -27,7 +24,7 @@ pub fn plan(
     request: &Request,
 ) -> Result<Plan, PlanFault>
     requires bound { length up.now ≡ length db.now.names }
-    requires bundles { AreBelow (length db.now.names) table.now }
+    requires bundles { HaveBound (length db.now.names) table.now }
     requires closed { IsClosed db.now.needs (Has up.now) }
     ensures plan { IfOk result (IsPlanOf db.now table.now up.now (ask_of request.now)) }
     ensures can { OnOk result (CanPlan db.now.names table.now (ask_of request.now)) }
@@ -59,7 +56,7 @@ fn wanted(
     request: &Request,
 ) -> Result<Set, PlanFault>
     requires bound { length up.now ≡ length db.now.names }
-    requires bundles { AreBelow (length db.now.names) table.now }
+    requires bundles { HaveBound (length db.now.names) table.now }
     ensures bound { IfOk result (λ set. length set ≡ length db.now.names) }
     ensures members { IfOk result (λ set. Holds set (IsWanted db.now.names table.now (Has up.now) (ask_of request.now))) }
     ensures known { OnOk result (All (IsKnown db.now.names table.now) (map string_bytes request.now.names.items)) }
@@ -115,7 +112,7 @@ fn planned(
     requires essential_bound { length essential.now ≡ length graph.now }
     requires wanted_bound { length wanted.now ≡ length graph.now }
     requires essential_up { (s : ℕ) → Has essential.now s → Has up.now s }
-    ensures { IfOk result (LeadsTo up.now (Target graph.now (Has up.now) (Has essential.now) mode prune (Has wanted.now))
+    ensures { IfOk result (IsPlanTo up.now (Target graph.now (Has up.now) (Has essential.now) mode prune (Has wanted.now))
         (Kept graph.now (Has essential.now) mode prune (Has wanted.now))) }
 {
     let Sides { target, kept } = sides_of(alloc, graph, up, essential, mode, prune, wanted)?;

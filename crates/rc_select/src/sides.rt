@@ -1,5 +1,5 @@
 ghost use Rattle.std.specs.Prelude.{◌≡◌, true, false, length, IfOk};
-ghost use Rattle.rc_set.specs.Set.{Has, Holds};
+ghost use Rattle.rc_model.specs.Names.{Has, Holds};
 ghost use Rattle.rc_select.specs.Sides.{AreSides};
 
 use crate::request::Mode;

@@ -3,30 +3,26 @@ use Rattle.std.proofs.Common.{◌≡◌, ◌≢◌, ◌∙◌, ◌⊎◌, ◌==�
 use Rattle.std.proofs.lemmas.List.Elements.{All-contains}
 use Rattle.rc_graph.specs.declared.Way.{Way}
 use Rattle.rc_graph.specs.declared.Way.TheVariants.{Raise, Lower}
-use Rattle.rc_db.specs.Database.{Database, IsDatabase}
-use Rattle.rc_select.specs.PlanSets.{PlanSets}
-use Rattle.rc_core.specs.declared.event.Outcome.{Outcome}
-use Rattle.rc_core.specs.declared.event.Event.{Event}
-use Rattle.rc_core.specs.declared.event.Event.TheVariants.{Done, Stop}
-use Rattle.rc_core.specs.Course.{Course, IsCourse, course_of}
-use Rattle.rc_core.specs.Events.{IsStopped}
+use Rattle.rc_model.specs.Database.{Database, IsDatabase}
+use Rattle.rc_model.specs.Plan.{PlanSets}
+use Rattle.rc_model.specs.declared.Outcome.{Outcome}
+use Rattle.rc_model.specs.declared.Event.{Event}
+use Rattle.rc_model.specs.declared.Event.TheVariants.{Done, Stop}
+use Rattle.rc_model.specs.Run.{Course, IsCourse, course_of, IsStopped, IsLeft, IsRun}
 use Rattle.rc_core.specs.Failing.{EndsAs}
-use Rattle.rc_core.specs.Legal.{IsLeft, IsRun}
-use Rattle.rc_core.proofs.RunLemmas.{done_was_taken, legal_within, taken_was_planned}
-use Rattle.rc_core.proofs.Standings.{false_unless}
-use Rattle.rc_line.specs.Line.{Line}
-use Rattle.rc_session.specs.Commands.{Command, Change, Undo, Redo, Add, Delete, with_events}
-use Rattle.rc_session.specs.Report.{Told, IsTold}
-use Rattle.rc_session.specs.Task.{IsTask, EndsWith, MovesTo, deadline_of}
-use Rattle.rc_session.specs.Doing.{IsLineOf}
+use Rattle.rc_model.proofs.RunLemmas.{done_was_taken, legal_within, taken_was_planned}
+use Rattle.rc_model.proofs.Standings.{false_unless}
+use Rattle.rc_model.specs.Line.{Line}
+use Rattle.rc_model.specs.Session.{Command, Change, Undo, Redo, Add, Delete, Reported, IsReportOf, IsTask, EndsWith, MovesBy, deadline_of, IsLineOf}
+use Rattle.rc_session.specs.Commands.{with_events}
 use Rattle.rc_session.specs.Holding.{Holding}
 use Rattle.rc_session.proofs.Courses.{task_is_course}
 use Rattle.rc_session.proofs.EndsAlike.{ends_as_failing}
 use Rattle.rc_session.proofs.Keeping.{answer_keeps, task_opening}
 use Rattle.rc_session.proofs.Lists.{one_list}
-use Rattle.rc_session.proofs.Telling.{lists_none}
+use Rattle.rc_model.proofs.Telling.{lists_none}
 use Rattle.rc_board.specs.Made.{IsSaid, AreMade, way_from}
-use Rattle.rc_answers.specs.ReportText.{report_text}
+use Rattle.rc_render.specs.ReportText.{report_text}
 use Rattle.rc_script.specs.Says.{Saying, SaysNothing, SaysWrong, SaysStep, SaysDry, SaysLive, SaysBundles, SaysJournal}
 use Rattle.rc_serve.specs.declared.fault.ServeFault.{ServeFault}
 use Rattle.rc_serve.specs.declared.keeper.KeepFault.{KeepFault}
@@ -95,8 +91,8 @@ module _ (fails : ℕ → Way → Bool) (workers : ℕ) (Answers : ℕ → Way �
       ]
 
   module _ (d : Database) (here : Line) (db : IsDatabase d) (of : IsLineOf d here) where
-    ended_failing : (command : Command) (events : List Event) (told : Told) (text : List ℕ) (new : Line) (plan : PlanSets) (deadline : Option ℕ) (live : List Bool) → IsTask d here command 0 plan deadline
-        → EndsWith (course_of d.needs plan deadline) events live → MovesTo here command live new → IsTold (course_of d.needs plan deadline) plan events live told → AreMade workers Answers Gives here.current.live events
+    ended_failing : (command : Command) (events : List Event) (told : Reported) (text : List ℕ) (new : Line) (plan : PlanSets) (deadline : Option ℕ) (live : List Bool) → IsTask d here command 0 plan deadline
+        → EndsWith (course_of d.needs plan deadline) events live → MovesBy here command live new → IsReportOf (course_of d.needs plan deadline) plan events live told → AreMade workers Answers Gives here.current.live events
         → text ≡ report_text d.names told → ((m : ℕ) → Gives m → m ≡ 0) ⊎ (limit_of command ≡ 0) → EndsFailing fails d here command text new
     ended_failing command events told text new plan deadline live task ends moved told_is made is timeless =
         let c = course_of d.needs plan deadline in
@@ -130,15 +126,15 @@ module _ (fails : ℕ → Way → Bool) (workers : ℕ) (Answers : ℕ → Way �
     -- a command that was done with such a gate is done as the transitions that fail say
     done_failing : (command : Command) (text : List ℕ) (new : Line) → ((m : ℕ) → Gives m → m ≡ 0) ⊎ (limit_of command ≡ 0) → IsDoneBy workers Answers Gives d here command text new → IsDoneFailing fails d here command text new
     done_failing (Change ask old) text new timeless (events, told, made, does, is) = elim does [
-      | inl run ↦ inl (ended_failing (Change ask old) events told text new run.plan run.deadline run.live run.task run.ends run.moved run.is_told made is timeless)
+      | inl run ↦ inl (ended_failing (Change ask old) events told text new run.plan run.deadline run.live run.task run.ends run.moved run.is_report made is timeless)
       | inr edit ↦ absurd edit.altered
     ]
     done_failing (Undo limit old) text new timeless (events, told, made, does, is) = elim does [
-      | inl run ↦ inl (ended_failing (Undo limit old) events told text new run.plan run.deadline run.live run.task run.ends run.moved run.is_told made is timeless)
+      | inl run ↦ inl (ended_failing (Undo limit old) events told text new run.plan run.deadline run.live run.task run.ends run.moved run.is_report made is timeless)
       | inr edit ↦ absurd edit.altered
     ]
     done_failing (Redo limit old) text new timeless (events, told, made, does, is) = elim does [
-      | inl run ↦ inl (ended_failing (Redo limit old) events told text new run.plan run.deadline run.live run.task run.ends run.moved run.is_told made is timeless)
+      | inl run ↦ inl (ended_failing (Redo limit old) events told text new run.plan run.deadline run.live run.task run.ends run.moved run.is_report made is timeless)
       | inr edit ↦ absurd edit.altered
     ]
     done_failing (Add name contents force) text new timeless (events, told, made, does, is) = elim does [ inl run ↦ absurd run.task | inr edit ↦ inr (told, edit, is) ]

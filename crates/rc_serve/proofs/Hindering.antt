@@ -1,21 +1,21 @@
 -- Refusals and faults, and what they leave.
 use Rattle.std.proofs.Common.{◌≡◌, ◌∙◌, ◌⊎◌, inl, inr, ℕ, List, [], true, false, Result, Ok, Err, IfOk, IfErr, OnErr, refl, ap, sym, subst}
-use Rattle.rc_core.specs.declared.event.Event.{Event}
-use Rattle.rc_session.specs.declared.refusal.Refusal.{Refusal}
-use Rattle.rc_session.specs.declared.refusal.Refusal.TheVariants.{BadEvent, NotSettled, PruneNeedsUp, Unknown, IsAtomic, Exists, Missing, Full, NothingToUndo, NothingToRedo, NotEdit, Strange, Memory}
-use Rattle.rc_session.specs.Commands.{Command, Change, Undo, Redo, Add, Delete, events_of, with_events}
+use Rattle.rc_model.specs.declared.Event.{Event}
+use Rattle.rc_model.specs.declared.Refusal.{Refusal}
+use Rattle.rc_model.specs.declared.Refusal.TheVariants.{BadEvent, NotSettled, PruneNeedsUp, Unknown, IsAtomic, Exists, Missing, Full, NothingToUndo, NothingToRedo, NotEdit, Strange, Memory}
+use Rattle.rc_model.specs.Session.{Command, Change, Undo, Redo, Add, Delete, events_of, IsOwnFault}
+use Rattle.rc_session.specs.Commands.{with_events}
 use Rattle.rc_session.specs.Holding.{Holding, IsHindrance}
 use Rattle.rc_board.specs.declared.fault.Fault.{Fault}
 use Rattle.rc_board.specs.declared.fault.Fault.TheVariants as faults
 use Rattle.rc_board.specs.Working.{HasWork, IsCarriedOut, IsFault, LeavesSession}
-use Rattle.rc_session.specs.Refusals.{IsOwnFault}
 use Rattle.rc_graph.specs.declared.Way.{Way}
-use Rattle.rc_core.specs.declared.event.Outcome.{Outcome}
+use Rattle.rc_model.specs.declared.Outcome.{Outcome}
 use Rattle.rc_session.specs.declared.report.Report.{Report}
 use Rattle.rc_session.specs.Report.{told_of}
 use Rattle.rc_board.specs.Crew.{IsCrew}
-use Rattle.rc_answers.specs.ReportText.{report_text}
-use Rattle.rc_answers.specs.AnswerText.{words_of}
+use Rattle.rc_render.specs.ReportText.{report_text}
+use Rattle.rc_render.specs.AnswerText.{words_of}
 use Rattle.rc_serve.specs.declared.fault.ServeFault.{ServeFault}
 use Rattle.rc_serve.specs.declared.fault.ServeFault.TheVariants as serve
 use Rattle.rc_serve.specs.Faults.{EndsSession, IsInner, IsSpoiledBy, IsStrange}
@@ -121,7 +121,7 @@ ends_as P Q old new result more ends =
     inner_by (((old.spoiled ≡ true) ⊎ P) × (new.line ≡ old.line)) (((old.spoiled ≡ true) ⊎ Q) × (new.line ≡ old.line)) (P × (new.line ≡ old.line)) (Q × (new.line ≡ old.line)) result
     (λ strange. (elim strange.0 [ inl was ↦ inl was | inr work ↦ inr (more work) ], strange.1)) (λ threads. (more threads.0, threads.1)) ends
 
--- a session of which nothing else changes is spoiled where it ends as strange
+-- a session of which nothing else changes is poisoned where it ends as strange
 pub kept_spoils : {A : Type 0} (P Q : Type 0) (result : Result A ServeFault) (old new : Holding) → new.spoiled ≡ old.spoiled → (P → new.spoiled ≡ true) → IfErr result (IsInner P Q) → IsSpoiledBy result old new
 kept_spoils P Q (Ok text) old new same strange inner = same
 kept_spoils P Q (Err serve.Read) old new same strange inner = same
@@ -133,12 +133,12 @@ kept_spoils P Q (Err serve.Strange) old new same strange inner = strange inner
 kept_spoils P Q (Err serve.Workers) old new same strange inner = same
 kept_spoils P Q (Err serve.Io) old new same strange inner = same
 
--- a session that is only looked at is spoiled where it ends as strange
+-- a session that is only looked at is poisoned where it ends as strange
 pub shown_spoils : {A : Type 0} (h : Holding) (result : Result A ServeFault) → IfErr result (EndsSession ⊥ h h) → IsSpoiledBy result h h
 shown_spoils h result ends =
     kept_spoils (((h.spoiled ≡ true) ⊎ ⊥) × (h.line ≡ h.line)) (⊥ × (h.line ≡ h.line)) result h h refl (λ strange. elim strange.0 [ inl was ↦ was | inr none ↦ absurd none ]) ends
 
--- a session that refuses as strange is spoiled, and was before
+-- a session that refuses as strange is poisoned, and was before
 spoiled_by : {A : Type 0} (Own : Refusal → Type 0) (old : Holding) (outcome : Result A Refusal) → IfErr outcome (IsHindrance Own old) → outcome ≡ Err Strange → old.spoiled ≡ true
 spoiled_by {A} Own old outcome refused is = subst (λ (o : Result A Refusal). IfErr o (IsHindrance Own old)) is refused
 
@@ -172,7 +172,7 @@ tells_work workers h command (Err faults.NoThread) fault = fault.2
 tells_work workers h command (Err faults.Strange) fault = fault.2
 tells_work workers h command (Err (faults.Refused refusal)) fault = tt
 
--- what came of a command is strange: for work that there is, or in a session that was spoiled before
+-- what came of a command is strange: for work that there is, or in a session that was poisoned before
 strange_run : (work : Type 0) (workers : ℕ) (old new : Holding) (command : Command) (outcome : Result Report Fault) → IfErr outcome (IsFault workers old command) → IfErr outcome (λ fault. LeavesSession old fault new)
     → IfErr outcome (TellsWork work) → IsStrange outcome → ((old.spoiled ≡ true) ⊎ work) × (new.line ≡ old.line)
 strange_run work workers old new command (Ok report) fault left tells strange = absurd strange
@@ -201,7 +201,7 @@ pub ends_at_work : {A : Type 0} (workers : ℕ) (old new : Holding) (command : C
 ends_at_work workers old new command outcome result fault left told =
     ends_run (HasWork old.database old.line command) workers old new command outcome result fault left (tells_work workers old command outcome fault) told
 
--- a session is spoiled by what is strange alone
+-- a session is poisoned by what is strange alone
 pub spoils_run : {A : Type 0} (workers : ℕ) (Says : ℕ → Way → Outcome → Type 0) (Gives : ℕ → Type 0) (old new : Holding) (command : Command) (outcome : Result Report Fault) (result : Result A ServeFault)
     → IfOk outcome (λ report. IsCarriedOut workers Says Gives old command (told_of report) new) → IfErr outcome (IsFault workers old command) → IfErr outcome (λ fault. LeavesSession old fault new)
     → (outcome ≡ Err faults.Strange → result ≡ Err serve.Strange) → IfErr result (IsInner (IsStrange outcome) (outcome ≡ Err faults.NoThread)) → IsSpoiledBy result old new

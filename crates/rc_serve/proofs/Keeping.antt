@@ -1,16 +1,12 @@
 -- What is kept as lines are met, and that the line of states has altered exactly where its current state has.
 use Rattle.std.proofs.Common.{◌≡◌, ◌≢◌, ◌∙◌, ◌⊎◌, ◌↔◌, inl, inr, ℕ, Bool, true, false, IsTrue, List, [], ◌∷◌, ◌++◌, Result, Ok, Err, IfErr, refl, ap, sym, subst, append_assoc, length}
 use Rattle.rc_graph.specs.declared.Way.{Way}
-use Rattle.rc_core.specs.declared.event.Outcome.{Outcome}
-use Rattle.rc_db.specs.Bundles.{Bundles}
-use Rattle.rc_db.specs.Database.{Database}
-use Rattle.rc_line.specs.State.{State}
-use Rattle.rc_line.specs.Line.{Line, IsLine, IsNext, states}
-use Rattle.rc_line.specs.Moves.{EndsIn, Undoes, Redoes, put_between, put_last, with_live}
-use Rattle.rc_line.proofs.Fitting.{fitted_current}
+use Rattle.rc_model.specs.declared.Outcome.{Outcome}
+use Rattle.rc_model.specs.Database.{Bundles, Database}
+use Rattle.rc_model.specs.Line.{State, Line, IsLine, IsNext, states, MovesTo, MovesByUndo, MovesByRedo, put_between, put_last, with_live}
+use Rattle.rc_model.proofs.Fitting.{fitted_current}
 use Rattle.rc_line.proofs.Fronts.{differs_from_next}
-use Rattle.rc_session.specs.Commands.{Command, Change, Undo, Redo, Add, Delete}
-use Rattle.rc_session.specs.Doing.{IsLineOf}
+use Rattle.rc_model.specs.Session.{Command, Change, Undo, Redo, Add, Delete, IsLineOf}
 use Rattle.rc_session.specs.Holding.{Holding}
 use Rattle.rc_session.proofs.States.{current_state}
 use Rattle.rc_serve.specs.declared.fault.ServeFault.{ServeFault}
@@ -44,17 +40,17 @@ on_differs : (line on : Line) → IsNext line on → IsLine line → line.curren
 on_differs line on next is =
     differs_from_next line.before line.current on.current on.after (states line) is.held.differ (ap (λ (held : List State). line.before ++ line.current ∷ held) (sym next.reached))
 
-ends_still : (line : Line) (end : State) (new : Line) → EndsIn line end new → new.current ≡ line.current → new ≡ line
+ends_still : (line : Line) (end : State) (new : Line) → MovesTo line end new → new.current ≡ line.current → new ≡ line
 ends_still line end new (inl stays) same = stays.1
 ends_still line end new (inr moves) same = absurd (moves.0 (sym (ap (λ (l : Line). l.current) moves.1 ∙ fitted_current (put_last line end)) ∙ same))
 
-undo_still : (line : Line) (live : List Bool) (new : Line) → IsLine line → Undoes line live new → new.current ≡ line.current → new ≡ line
+undo_still : (line : Line) (live : List Bool) (new : Line) → IsLine line → MovesByUndo line live new → new.current ≡ line.current → new ≡ line
 undo_still line live new is (back, next, inl (there, moves)) same = absurd (back_differs back line next is (sym (ap (λ (l : Line). l.current) moves) ∙ same))
 undo_still line live new is (back, next, inr (inl stays)) same = stays.2
 undo_still line live new is (back, next, inr (inr moves)) same =
     absurd (moves.1 (ap (λ (s : State). s.live) (sym (ap (λ (l : Line). l.current) moves.2 ∙ fitted_current (put_between back (with_live line live) line)) ∙ same)))
 
-redo_still : (line : Line) (live : List Bool) (new : Line) → IsLine line → Redoes line live new → new.current ≡ line.current → new ≡ line
+redo_still : (line : Line) (live : List Bool) (new : Line) → IsLine line → MovesByRedo line live new → new.current ≡ line.current → new ≡ line
 redo_still line live new is (on, next, inl (there, moves)) same = absurd (on_differs line on next is (sym same ∙ ap (λ (l : Line). l.current) moves))
 redo_still line live new is (on, next, inr (inl stays)) same = stays.2
 redo_still line live new is (on, next, inr (inr moves)) same =

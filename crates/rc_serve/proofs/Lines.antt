@@ -5,11 +5,11 @@ use Rattle.std.proofs.lemmas.List.Elements.{All-nil, All-push}
 use Rattle.std.specs.List.{flat_map}
 use Rattle.std.specs.Io.KnownBytes.{Appends}
 use Rattle.std.proofs.KnownBytes.{Appends-nil, Appends-trans, Consumes-nil, Consumes-trans}
-use Rattle.rc_db.specs.Database.{Database}
-use Rattle.rc_line.specs.Line.{Line}
+use Rattle.rc_model.specs.Database.{Database}
+use Rattle.rc_model.specs.Line.{Line}
 use Rattle.rc_session.specs.Holding.{Holding}
-use Rattle.rc_answers.specs.Lines.{line}
-use Rattle.rc_answers.proofs.LineLemmas.{one_more}
+use Rattle.rc_render.specs.Lines.{line}
+use Rattle.rc_render.proofs.LineLemmas.{one_more}
 use Rattle.rc_streams.specs.Input.{AppendsFront, ConsumesAtMost}
 use Rattle.rc_streams.specs.Taking.{Held, BeginsTooLong, HandsLine, HandsOut, IsLine, LacksLine, Takes, fresh}
 use Rattle.rc_streams.specs.declared.input.Failure.{Failure}
@@ -285,14 +285,14 @@ stops_unread Done failed failures.Write May k input left held after written old 
 stops_unread Done failed failures.TooLong May k input left held after written old lacks = inl (lacks.takes, refl, refl, lacks.fault, kept_none k old.database old.line)
 stops_unread Done failed failures.Memory May k input left held after written old lacks = inl (lacks.takes, refl, refl, tt, kept_none k old.database old.line)
 
--- a device or its bound spoils no session
+-- a device or its bound poisons no session
 pub spoils_failure : (failure : Failure) (h : Holding) → Spoils (of_failure failure) h h
 spoils_failure failures.Read h = refl
 spoils_failure failures.Write h = refl
 spoils_failure failures.TooLong h = refl
 spoils_failure failures.Memory h = refl
 
--- a session is spoiled as one before it was that is spoiled alike
+-- a session is poisoned as one before it was that is poisoned alike
 pub spoils_on : (fault : ServeFault) (old now new : Holding) → now.spoiled ≡ old.spoiled → Spoils fault now new → Spoils fault old new
 spoils_on Read old now new same spoils = spoils ∙ same
 spoils_on Write old now new same spoils = spoils ∙ same
@@ -400,7 +400,7 @@ serves_none Done input written old = record {
 pub none_kept : (Done : Doing) (May : KeepFault → Type 0) (k : Keeping) (input written : Option (List ℕ)) (old : Holding) → ServesFrontKept Done Workers May k k input input written written old old
 none_kept Done May k input written old = (serves_none Done input written old, inl (kept_none k old.database old.line))
 
--- where no lines at the front of an input alter the line of states, none that were served did
+-- where no lines at the beginning of an input alter the line of states, none that were served did
 module _ (Done : Doing) (input : Option (List ℕ)) (old : Holding)
     (none : AltersNone Done input old.database old.line) where
   pub unaltered_so : (here : Option (List ℕ)) (held : Held) (written mid : Option (List ℕ)) (now : Holding)

@@ -2,31 +2,26 @@
 use Rattle.std.proofs.Common.{◌≡◌, ◌≢◌, ◌∙◌, ◌↔◌, ◌⊎◌, inl, inr, ℕ, zero, suc, Bool, List, [], ◌∷◌, ◌++◌, Option, Ok, Err, All, Contains, codes, drop, length, slice_index_or, refl, ap, sym, subst, arith, append_assoc}
 use Rattle.std.specs.List.{flat_map}
 use Rattle.std.specs.Fmt.{decimal}
-use Rattle.rc_set.specs.Set.{Has, Lists}
+use Rattle.rc_model.specs.Names.{Has, Lists}
 use Rattle.rc_graph.specs.declared.Way.{Way}
-use Rattle.rc_names.proofs.ByteOrder.{same_names}
-use Rattle.rc_db.specs.Bundles.{Bundles, value_of}
-use Rattle.rc_db.specs.Database.{Database}
-use Rattle.rc_bundle.specs.Edit.{Alteration, IsAlteration, IsEdit, altered}
-use Rattle.rc_select.specs.Ask.{Ask}
-use Rattle.rc_select.specs.PlanSets.{PlanSets}
-use Rattle.rc_core.specs.Course.{course_of}
+use Rattle.rc_model.proofs.ByteOrder.{same_names}
+use Rattle.rc_model.specs.Database.{Bundles, value_of, Database}
+use Rattle.rc_model.specs.Line.{Alteration, IsAlteration, IsEdit, names_altered, State, IsGained, Line, states}
+use Rattle.rc_model.specs.Plan.{Ask, PlanSets}
+use Rattle.rc_model.specs.Run.{course_of}
 use Rattle.rc_core.specs.End.{EndOf}
 use Rattle.rc_core.specs.Failing.{WouldFail, IsTriedInVain, IsBlocked}
-use Rattle.rc_line.specs.State.{State, IsGained}
-use Rattle.rc_line.specs.Line.{Line, states}
-use Rattle.rc_line.proofs.Members.{contains_first, contains_later, contains_cases, none_contained}
-use Rattle.rc_session.specs.Commands.{Command, Change, Undo, Redo, Add, Delete}
-use Rattle.rc_session.specs.Task.{MovesTo, deadline_of}
+use Rattle.rc_model.proofs.Members.{contains_first, contains_later, contains_cases, none_contained}
+use Rattle.rc_model.specs.Session.{Command, Change, Undo, Redo, Add, Delete, MovesBy, deadline_of}
 use Rattle.rc_session.proofs.Determined.{one_answer}
 use Rattle.rc_session.proofs.Excluding.{can_not_own, done_not_refused, one_set, one_task, task_not_own}
 use Rattle.rc_session.proofs.Lists.{one_list}
-use Rattle.rc_answers.specs.Lines.{line, names_at, names_line, IsLineOf}
-use Rattle.rc_answers.specs.PlanText.{IsPlanText}
-use Rattle.rc_answers.specs.Names.{ok_line}
-use Rattle.rc_answers.specs.AnswerText.{answer_text}
-use Rattle.rc_answers.specs.ReportText.{report_text}
-use Rattle.rc_answers.specs.JournalText.{AreEntryLines, IsEntryLine, alteration_text, place_line, signs}
+use Rattle.rc_render.specs.Lines.{line, names_at, names_line, IsLineOf}
+use Rattle.rc_render.specs.PlanText.{IsPlanText}
+use Rattle.rc_render.specs.Names.{ok_line}
+use Rattle.rc_render.specs.AnswerText.{answer_text}
+use Rattle.rc_render.specs.ReportText.{report_text}
+use Rattle.rc_render.specs.JournalText.{AreEntryLines, IsEntryLine, alteration_text, place_line, signs}
 use Rattle.rc_script.specs.Says.{Saying, SaysNothing, SaysWrong, SaysStep, SaysDry, SaysLive, SaysBundles, SaysJournal, Says}
 use Rattle.rc_streams.specs.Taking.{IsLine, IsOneLine}
 use Rattle.rc_serve.proofs.Moved.{one_move}
@@ -39,21 +34,21 @@ abbrev SaysOnce : Type 0
 SaysOnce = (bytes : List ℕ) (a b : Saying) → Says bytes a → Says bytes b → a ≡ b
 
 -- edits between two tables are one
-named_in : (xs : List Alteration) (name : List ℕ) → Contains (altered xs) name → (a : Alteration) × Contains xs a × (a.name ≡ name)
+named_in : (xs : List Alteration) (name : List ℕ) → Contains (names_altered xs) name → (a : Alteration) × Contains xs a × (a.name ≡ name)
 named_in [] name there = absurd (none_contained name there)
-named_in (x ∷ xs) name there = elim (contains_cases x.name (altered xs) name there) [
+named_in (x ∷ xs) name there = elim (contains_cases x.name (names_altered xs) name there) [
   | inl same ↦ (x, contains_first x xs, same)
   | inr later ↦ let more = named_in xs name later in (more.0, contains_later x xs more.0 more.1, more.2)
 ]
 
-in_named : (xs : List Alteration) (a : Alteration) → Contains xs a → Contains (altered xs) a.name
+in_named : (xs : List Alteration) (a : Alteration) → Contains xs a → Contains (names_altered xs) a.name
 in_named [] a there = absurd (none_contained a there)
 in_named (x ∷ xs) a there = elim (contains_cases x xs a there) [
-  | inl same ↦ subst (λ (n : List ℕ). Contains (x.name ∷ altered xs) n) (ap (λ (b : Alteration). b.name) same) (contains_first x.name (altered xs))
-  | inr later ↦ contains_later x.name (altered xs) a.name (in_named xs a later)
+  | inl same ↦ subst (λ (n : List ℕ). Contains (x.name ∷ names_altered xs) n) (ap (λ (b : Alteration). b.name) same) (contains_first x.name (names_altered xs))
+  | inr later ↦ contains_later x.name (names_altered xs) a.name (in_named xs a later)
 ]
 
-names_alter : (old new : Bundles) (edit : List Alteration) → IsEdit old new edit → (name : List ℕ) → Contains (altered edit) name ↔ (value_of old name ≢ value_of new name)
+names_alter : (old new : Bundles) (edit : List Alteration) → IsEdit old new edit → (name : List ℕ) → Contains (names_altered edit) name ↔ (value_of old name ≢ value_of new name)
 names_alter old new edit is name = (
   λ there same.
       let found = named_in edit name there in
@@ -68,10 +63,10 @@ same_alteration old new x y name p q =
     ∙ ap (λ (b : Option (List Bool)). record x { name = y.name; before = b }) (sym p.before ∙ ap (value_of old) name ∙ q.before)
     ∙ ap (λ (a : Option (List Bool)). record y { after = a }) (sym p.after ∙ ap (value_of new) name ∙ q.after)
 
-same_alterations : (old new : Bundles) (xs ys : List Alteration) → altered xs ≡ altered ys → ((a : Alteration) → Contains xs a → IsAlteration old new a) → ((a : Alteration) → Contains ys a → IsAlteration old new a) → xs ≡ ys
+same_alterations : (old new : Bundles) (xs ys : List Alteration) → names_altered xs ≡ names_altered ys → ((a : Alteration) → Contains xs a → IsAlteration old new a) → ((a : Alteration) → Contains ys a → IsAlteration old new a) → xs ≡ ys
 same_alterations old new [] [] names p q = refl
-same_alterations old new [] (y ∷ ys) names p q = let bad : [] ≡ y.name ∷ altered ys = names in cc
-same_alterations old new (x ∷ xs) [] names p q = let bad : x.name ∷ altered xs ≡ [] = names in cc
+same_alterations old new [] (y ∷ ys) names p q = let bad : [] ≡ y.name ∷ names_altered ys = names in cc
+same_alterations old new (x ∷ xs) [] names p q = let bad : x.name ∷ names_altered xs ≡ [] = names in cc
 same_alterations old new (x ∷ xs) (y ∷ ys) names p q =
     let first = same_alteration old new x y (ap (λ (all : List (List ℕ)). slice_index_or all 0 []) names) (p x (contains_first x xs)) (q y (contains_first y ys)) in
     let rest = same_alterations old new xs ys (ap (λ (all : List (List ℕ)). drop 1 all) names) (λ a there. p a (contains_later x xs a there)) (λ a there. q a (contains_later y ys a there)) in
@@ -79,7 +74,7 @@ same_alterations old new (x ∷ xs) (y ∷ ys) names p q =
 
 one_edit_list : (old new : Bundles) (xs ys : List Alteration) → IsEdit old new xs → IsEdit old new ys → xs ≡ ys
 one_edit_list old new xs ys p q = same_alterations old new xs ys
-    (same_names (altered xs) (altered ys) p.order q.order (λ name. (
+    (same_names (names_altered xs) (names_altered ys) p.order q.order (λ name. (
       λ there. (names_alter old new ys q name).1 ((names_alter old new xs p name).0 there),
       λ there. (names_alter old new xs p name).1 ((names_alter old new ys q name).0 there),
     )))
@@ -152,7 +147,7 @@ module _ (fails : ℕ → Way → Bool) (d : Database) (here : Line) where
             ∙ ap (λ (ids : List ℕ). report_text d.names (listing q.lowered q.raised q.failed ids p.kept)) blocked
             ∙ ap (λ (ids : List ℕ). report_text d.names (listing q.lowered q.raised q.failed q.blocked ids)) kept
             ∙ sym q.told,
-        one_move here command q.live x y (subst (λ (set : List Bool). MovesTo here command set x) lives p.moved) q.moved,
+        one_move here command q.live x y (subst (λ (set : List Bool). MovesBy here command set x) lives p.moved) q.moved,
       )
 
   one_failing : (command : Command) (a b : List ℕ) (x y : Line) → EndsFailing fails d here command a x → EndsFailing fails d here command b y → (a ≡ b) × (x ≡ y)
@@ -242,7 +237,7 @@ one_split (x ∷ xs) (y ∷ ys) s t p q one other same =
     let rest = one_split xs ys s t (λ k z low. p (suc k) z (omega (arith, low))) (λ k z low. q (suc k) z (omega (arith, low))) one other heads.1 in
     (ap (λ (z : List ℕ). z ∷ xs) heads.0 ∙ ap (λ (zs : List (List ℕ)). y ∷ zs) rest.0, rest.1)
 
--- lines with their newlines, and what stands behind the last newline
+-- lines with their newlines, and what stands after the last newline
 record IsSplit (lines : List (List ℕ)) (bytes : List ℕ) : Type 0 where
   whole : List (List ℕ)
   tail : List ℕ

@@ -1,15 +1,13 @@
 -- What is served is a play of the commands among the lines.
 use Rattle.std.proofs.Common.{◌≡◌, inl, inr, ℕ, List, [], ◌∷◌, ◌++◌, Option, Result, Ok, Err, IfErr, OnOk, ap, refl, subst}
 use Rattle.rc_graph.specs.declared.Way.{Way}
-use Rattle.rc_db.specs.Database.{Database, IsDatabase}
-use Rattle.rc_core.specs.declared.event.Outcome.{Outcome}
-use Rattle.rc_line.specs.Line.{Line}
-use Rattle.rc_session.specs.declared.refusal.Refusal.{Refusal}
-use Rattle.rc_session.specs.Commands.{Command, Change, Undo, Redo, Add, Delete, events_of, with_events}
-use Rattle.rc_session.specs.Doing.{IsLineOf}
+use Rattle.rc_model.specs.Database.{Database, IsDatabase}
+use Rattle.rc_model.specs.declared.Outcome.{Outcome}
+use Rattle.rc_model.specs.Line.{Line}
+use Rattle.rc_model.specs.declared.Refusal.{Refusal}
+use Rattle.rc_model.specs.Session.{Command, Change, Undo, Redo, Add, Delete, events_of, IsLineOf, Reported, Plays}
+use Rattle.rc_session.specs.Commands.{with_events}
 use Rattle.rc_session.specs.Holding.{Holding}
-use Rattle.rc_session.specs.Report.{Told}
-use Rattle.rc_session.specs.Plays.{Plays}
 use Rattle.rc_session.proofs.Promising.{all_along}
 use Rattle.rc_script.specs.Says.{Saying, SaysNothing, SaysWrong, SaysStep, SaysDry, SaysLive, SaysBundles, SaysJournal, Says}
 use Rattle.rc_serve.specs.declared.fault.ServeFault.{ServeFault}
@@ -32,7 +30,7 @@ own_events (Delete words force) = refl
 -- some commands among lines are played
 record IsPlay (d : Database) (here : Line) (lines : List (List ℕ)) (new : Line) : Type 0 where
   commands : List Command
-  answers : List (Result Told Refusal)
+  answers : List (Result Reported Refusal)
   said : AreSaid lines commands
   plays : Plays d here commands answers new
 

@@ -1,25 +1,22 @@
 -- How a line ends: all that was planned is done, or it is refused, or something is in its way.
 use Rattle.std.specs.Prelude.{◌≡◌, ◌⊎◌, ◌++◌, ℕ, true, List, [], Option, None, take}
 use Rattle.std.specs.Io.KnownBytes.{Appends}
-use Rattle.rc_set.specs.Set.{Holds}
+use Rattle.rc_model.specs.Names.{Holds}
 use Rattle.rc_streams.specs.Input.{AppendsFront}
 use Rattle.rc_graph.specs.declared.Way.{Way}
-use Rattle.rc_db.specs.Database.{Database}
-use Rattle.rc_select.specs.Ask.{Ask}
-use Rattle.rc_select.specs.PlanSets.{PlanSets}
-use Rattle.rc_core.specs.Course.{TargetOf, course_of}
-use Rattle.rc_core.specs.declared.event.Event.{Event}
-use Rattle.rc_core.specs.declared.event.Outcome.{Outcome}
-use Rattle.rc_line.specs.Line.{Line}
-use Rattle.rc_session.specs.Commands.{Command, Change, HasRun, with_events}
-use Rattle.rc_session.specs.Doing.{Does}
+use Rattle.rc_model.specs.Database.{Database}
+use Rattle.rc_model.specs.Plan.{Ask, PlanSets}
+use Rattle.rc_model.specs.Run.{TargetOf, course_of}
+use Rattle.rc_model.specs.declared.Event.{Event}
+use Rattle.rc_model.specs.declared.Outcome.{Outcome}
+use Rattle.rc_model.specs.Line.{Line}
+use Rattle.rc_model.specs.Session.{Command, Change, HasRun, Does, Reported, IsTask}
+use Rattle.rc_session.specs.Commands.{with_events}
 use Rattle.rc_session.specs.Holding.{Holding}
-use Rattle.rc_session.specs.Report.{Told}
-use Rattle.rc_session.specs.Task.{IsTask}
 use Rattle.rc_board.specs.Made.{AreMade}
-use Rattle.rc_answers.specs.Names.{ok_line}
-use Rattle.rc_answers.specs.PlanText.{IsPlanText}
-use Rattle.rc_answers.specs.ReportText.{report_text}
+use Rattle.rc_render.specs.Names.{ok_line}
+use Rattle.rc_render.specs.PlanText.{IsPlanText}
+use Rattle.rc_render.specs.ReportText.{report_text}
 use Rattle.rc_script.specs.Says.{Saying, SaysStep, SaysDry, SaysWrong}
 use Rattle.rc_serve.specs.declared.ending.Ending.{Ending}
 use Rattle.rc_serve.specs.declared.ending.Ending.TheVariants.{Done, Refused, Hindered}
@@ -35,7 +32,7 @@ abbrev pub ending_by : (failed blocked untried : List ℕ) → Ending
 ending_by [] [] [] = Done
 ending_by failed blocked untried = Hindered
 
-abbrev pub ending_of : Told → Ending
+abbrev pub ending_of : Reported → Ending
 ending_of told = ending_by told.failed told.blocked told.untried
 
 -- how a command is done that ends so
@@ -50,7 +47,7 @@ IsEditedAs ending d here command text new = (ending ≡ Done) × IsEdited d here
 abbrev pub IsDoneAs : (workers : ℕ) (Answers : ℕ → Way → Outcome → Type 0) (Gives : ℕ → Type 0)
     → EndsIn
 IsDoneAs workers Answers Gives ending d here command text new =
-    (events : List Event) × (told : Told)
+    (events : List Event) × (told : Reported)
     × AreMade workers Answers Gives here.current.live events
     × Does d here (with_events command events) told new × (text ≡ report_text d.names told)
     × (ending ≡ ending_of told)
@@ -96,7 +93,7 @@ ArrivesSaying d here (SaysStep command) new = HasRun command → Arrives d here 
 ArrivesSaying d here other new = Unit {0}
 
 -- a fault came where one line is served: with the line of states as it was, nothing written, and
--- what is kept as it was or of where the line stands; or what is said was met, and a front of its
+-- what is kept as it was or of where the line stands; or what is said was met, and a prefix of its
 -- answer was written, of which there is something only where what it leaves is kept
 abbrev pub StopsOnce : Doing → ServeFault → (May : KeepFault → Type 0) → (was is : Keeping)
     → Saying → (written gained : Option (List ℕ)) → (old new : Holding) → Type 0
@@ -110,7 +107,7 @@ StopsOnce By fault May was is saying written gained old new =
     ⊎ (IsOfKeeping May fault × (n ≡ 0) × IsKeptOn was is)))
 
 -- an undo or a redo could not be shown: out of memory, with nothing written, or the writer has
--- failed, with a front of the answer written
+-- failed, with a prefix of the answer written
 abbrev pub FailsShowing : ServeFault → Database → Line → Command
     → (written gained : Option (List ℕ)) → Type 0
 FailsShowing fault d here command written gained = ((fault ≡ Memory) × (gained ≡ written))

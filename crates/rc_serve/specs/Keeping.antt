@@ -2,8 +2,8 @@
 use Rattle.std.specs.Prelude.{◌≡◌, ◌⊎◌, ◌↔◌, ◌++◌, ℕ, Bool, true, List, Option, Result, MatchResult, take}
 use Rattle.std.specs.Io.KnownBytes.{Appends, Consumes}
 use Rattle.rc_streams.specs.Taking.{Held, HandsLine, Takes}
-use Rattle.rc_db.specs.Database.{Database}
-use Rattle.rc_line.specs.Line.{Line}
+use Rattle.rc_model.specs.Database.{Database}
+use Rattle.rc_model.specs.Line.{Line}
 use Rattle.rc_session.specs.Holding.{Holding}
 use Rattle.rc_serve.specs.declared.fault.ServeFault.{ServeFault}
 use Rattle.rc_serve.specs.declared.fault.ServeFault.TheVariants.{Memory, Io}
@@ -62,7 +62,7 @@ abbrev pub IsKeptAt : ServeFault → (May : KeepFault → Type 0) → (was is : 
 IsKeptAt fault May was is d first here line written = IsKeptUp was is d first line
     ⊎ (IsOfKeeping May fault × (written ≡ 0) × IsKeptUp was is d first here)
 
--- the front of the input that was served, and what is kept of it
+-- the beginning of the input that was served, and what is kept of it
 abbrev pub ServesFrontKept : Doing → ServeFault → (May : KeepFault → Type 0) → (was is : Keeping)
     → (input left written gained : Option (List ℕ)) → Holding → Holding → Type 0
 ServesFrontKept Done fault May was is input left written gained old new =
@@ -75,7 +75,7 @@ abbrev pub ServesFrontFailingKept : ServeFault → (May : KeepFault → Type 0) 
 ServesFrontFailingKept fault May was is fails = ServesFrontKept (IsDoneFailing fails) fault May was is
 
 -- a fault came: with no further line met, nothing written, and what stands kept as it was; or with
--- one more met, and a front of its answer written, of which there is something only where what it
+-- one more met, and a prefix of its answer written, of which there is something only where what it
 -- leaves is kept
 abbrev pub StopsAt : Doing → ServeFault → (May : KeepFault → Type 0) → (was is : Keeping)
     → (input left : Option (List ℕ)) → Held → Held → (written gained : Option (List ℕ))
@@ -93,7 +93,7 @@ StopsAt Done fault May was is input left before after written gained old new =
     × (IsKeptUp was is old.database old.line new.line
     ⊎ (IsOfKeeping May fault × (n ≡ 0) × IsKeptOn was is)))
 
--- no lines at the front of an input alter the line of states
+-- no lines at the beginning of an input alter the line of states
 abbrev pub AltersNone : Doing → (input : Option (List ℕ)) → Database → Line → Type 0
 AltersNone Done input d here =
     (left : Option (List ℕ)) (bytes rest : List ℕ) (lines : List (List ℕ)) (text : List ℕ) (new : Line)

@@ -1,24 +1,22 @@
 -- What is served is a play: of the commands among the lines.
 use Rattle.std.specs.Prelude.{◌≡◌, ℕ, List, [], ◌∷◌, Option, Result}
 use Rattle.std.specs.Io.KnownBytes.{Consumes}
-use Rattle.rc_db.specs.Database.{Database}
-use Rattle.rc_core.specs.declared.event.Event.{Event}
-use Rattle.rc_line.specs.Line.{Line}
-use Rattle.rc_session.specs.declared.refusal.Refusal.{Refusal}
-use Rattle.rc_session.specs.Commands.{Command, with_events}
+use Rattle.rc_model.specs.Database.{Database}
+use Rattle.rc_model.specs.declared.Event.{Event}
+use Rattle.rc_model.specs.Line.{Line}
+use Rattle.rc_model.specs.declared.Refusal.{Refusal}
+use Rattle.rc_model.specs.Session.{Command, Reported, Does, Plays}
+use Rattle.rc_session.specs.Commands.{with_events}
 use Rattle.rc_session.specs.Holding.{Holding}
-use Rattle.rc_session.specs.Report.{Told}
-use Rattle.rc_session.specs.Doing.{Does}
-use Rattle.rc_session.specs.Plays.{Plays}
-use Rattle.rc_session.specs.Promise.{HoldsAllAlong}
-use Rattle.rc_answers.specs.ReportText.{report_text}
+use Rattle.rc_model.specs.Headline.{IsPromisedAllAlong}
+use Rattle.rc_render.specs.ReportText.{report_text}
 use Rattle.rc_script.specs.Says.{Saying, SaysStep, Says}
 use Rattle.rc_serve.specs.Meeting.{Doing}
 use Rattle.rc_serve.specs.Serving.{AreLines}
 
 -- a command is done, with some events, and the answer is its report
 abbrev pub IsDone : Doing
-IsDone d here command text new = (events : List Event) × (told : Told)
+IsDone d here command text new = (events : List Event) × (told : Reported)
     × Does d here (with_events command events) told new × (text ≡ report_text d.names told)
 
 -- a command that is said is the first of all, with events of its own; what is no command adds none
@@ -36,12 +34,12 @@ AreSaid (bytes ∷ lines) commands = (saying : Saying) × (more : List Command)
 -- the commands among lines are played from where the line of states stands, and what the headline promises holds all along
 pub record ArePlayed (d : Database) (here : Line) (lines : List (List ℕ)) (new : Line) : Type 0 where
   pub commands : List Command
-  pub answers : List (Result Told Refusal)
+  pub answers : List (Result Reported Refusal)
   pub said : AreSaid lines commands
   pub plays : Plays d here commands answers new
-  pub promised : HoldsAllAlong d here commands answers new
+  pub promised : IsPromisedAllAlong d here commands answers new
 
--- the lines at the front of what was read of an input are played
+-- the lines at the beginning of what was read of an input are played
 abbrev pub PlaysInput : (input left : Option (List ℕ)) → (old new : Holding) → Type 0
 PlaysInput input left old new = (bytes : List ℕ) × (rest : List ℕ) × (lines : List (List ℕ))
     × Consumes input left bytes × AreLines lines bytes rest

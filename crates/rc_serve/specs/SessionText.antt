@@ -1,29 +1,25 @@
 -- What an input comes to where certain transitions fail: its bytes are determined, and no workers and no events occur in it.
 use Rattle.std.specs.Prelude.{◌≡◌, ◌⊎◌, ◌↔◌, ℕ, Bool, true, false, List, [], length, All, Option}
 use Rattle.std.specs.Io.KnownBytes.{Consumes}
-use Rattle.rc_set.specs.Set.{Has, Holds, Lists}
+use Rattle.rc_model.specs.Names.{Has, Holds, Lists}
 use Rattle.rc_graph.specs.declared.Way.{Way}
-use Rattle.rc_db.specs.Database.{Database}
-use Rattle.rc_select.specs.PlanSets.{PlanSets}
-use Rattle.rc_core.specs.declared.event.Outcome.{Outcome}
-use Rattle.rc_core.specs.Course.{course_of}
+use Rattle.rc_model.specs.Database.{Database}
+use Rattle.rc_model.specs.Plan.{PlanSets}
+use Rattle.rc_model.specs.declared.Outcome.{Outcome}
+use Rattle.rc_model.specs.Run.{course_of, is_success}
 use Rattle.rc_core.specs.End.{EndOf}
 use Rattle.rc_core.specs.Failing.{WouldFail, IsTriedInVain, IsBlocked}
-use Rattle.rc_core.specs.Standing.{is_success}
-use Rattle.rc_line.specs.State.{IsGained}
-use Rattle.rc_line.specs.Line.{Line}
-use Rattle.rc_session.specs.Commands.{Command, Change, Undo, Redo, Add, Delete}
+use Rattle.rc_model.specs.Line.{IsGained, Line}
+use Rattle.rc_model.specs.Session.{Command, Change, Undo, Redo, Add, Delete, Reported, IsTask, MovesBy}
 use Rattle.rc_session.specs.Holding.{Holding}
-use Rattle.rc_session.specs.Report.{Told}
-use Rattle.rc_session.specs.Task.{IsTask, MovesTo}
-use Rattle.rc_answers.specs.ReportText.{report_text}
+use Rattle.rc_render.specs.ReportText.{report_text}
 use Rattle.rc_script.specs.Says.{Saying, SaysStep, Says}
 use Rattle.rc_serve.specs.declared.fault.ServeFault.{ServeFault}
 use Rattle.rc_serve.specs.Meeting.{Doing, IsEdited}
 use Rattle.rc_serve.specs.Serving.{AreLines, Serves, ServesAll, ServesFront}
 
 -- a report of these lists, and of nothing else
-abbrev pub listing : (lowered raised failed blocked kept : List ℕ) → Told
+abbrev pub listing : (lowered raised failed blocked kept : List ℕ) → Reported
 listing lowered raised failed blocked kept = record {
   opening = [];
   lowered = lowered;
@@ -51,7 +47,7 @@ pub record EndsFailing (fails : ℕ → Way → Bool) (d : Database) (here : Lin
   pub bound : length live ≡ length plan.opening
   pub ends : Holds live (EndOf (course_of d.needs plan deadline)
       (WouldFail (course_of d.needs plan deadline) fails))
-  pub moved : MovesTo here command live new
+  pub moved : MovesBy here command live new
   pub all_lowered : Lists (IsGained live plan.opening) lowered
   pub all_raised : Lists (IsGained plan.opening live) raised
   pub all_failed : Lists (IsTriedInVain (course_of d.needs plan deadline) fails) failed
@@ -74,7 +70,7 @@ abbrev pub ServesFailing : (ℕ → Way → Bool) → (input left written gained
     → Holding → Holding → Type 0
 ServesFailing fails = ServesAll (IsDoneFailing fails)
 
--- a front of the input was read, and what was written is a front of its text; and then a fault came
+-- a prefix of the input was read, and what was written is a prefix of its text; and then a fault came
 abbrev pub ServesFrontFailing : ServeFault → (ℕ → Way → Bool)
     → (input left written gained : Option (List ℕ)) → Holding → Holding → Type 0
 ServesFrontFailing fault fails = ServesFront (IsDoneFailing fails) fault
@@ -101,7 +97,7 @@ HasNoLimit other = Unit {0}
 abbrev pub IsUnlimited : List ℕ → Type 0
 IsUnlimited bytes = (saying : Saying) → Says bytes saying → HasNoLimit saying
 
--- no limit is ever reached: the gate gives no moment but 0, or no line at the front of the input has one
+-- no limit is ever reached: the gate gives no moment but 0, or no line at the beginning of the input has one
 abbrev pub IsTimeless : (Gives : ℕ → Type 0) → (input : Option (List ℕ)) → Type 0
 IsTimeless Gives input = ((m : ℕ) → Gives m → m ≡ 0)
     ⊎ ((left : Option (List ℕ)) (bytes rest : List ℕ) (lines : List (List ℕ)) →

@@ -1,15 +1,15 @@
 -- What came of a command, as it is told.
 use Rattle.std.specs.Prelude.{◌≡◌, ℕ, List, ◌++◌, Result, Ok, Err}
-use Rattle.rc_select.specs.PlanSets.{PlanSets}
-use Rattle.rc_session.specs.declared.refusal.Refusal.{Refusal}
+use Rattle.rc_model.specs.Plan.{PlanSets}
+use Rattle.rc_model.specs.declared.Refusal.{Refusal}
 use Rattle.rc_session.specs.declared.report.Report.{Report}
 use Rattle.rc_session.specs.Report.{told_of}
 use Rattle.rc_board.specs.declared.fault.Fault.{Fault}
 use Rattle.rc_board.specs.declared.fault.Fault.TheVariants as faults
-use Rattle.rc_answers.specs.Names.{ok_line}
-use Rattle.rc_answers.specs.PlanText.{IsPlanText}
-use Rattle.rc_answers.specs.ReportText.{report_text}
-use Rattle.rc_answers.specs.RefusalText.{refusal_text}
+use Rattle.rc_render.specs.Names.{ok_line}
+use Rattle.rc_render.specs.PlanText.{IsPlanText}
+use Rattle.rc_render.specs.ReportText.{report_text}
+use Rattle.rc_render.specs.RefusalText.{refusal_text}
 use Rattle.rc_serve.specs.declared.ending.Ending.{Ending}
 use Rattle.rc_serve.specs.declared.ending.Ending.TheVariants.{Done, Refused}
 use Rattle.rc_serve.specs.Ending.{ending_of}

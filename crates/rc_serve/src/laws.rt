@@ -1,9 +1,9 @@
 //! Laws of the definitions. The functions do nothing when they run.
 ghost use Rattle.std.specs.Prelude.{◌≡◌, ◌∷◌, [], ℕ, Bool, List};
 ghost use Rattle.rc_graph.specs.declared.Way.{Way};
-ghost use Rattle.rc_db.specs.Database.{Database, IsDatabase};
-ghost use Rattle.rc_line.specs.Line.{Line};
-ghost use Rattle.rc_session.specs.Doing.{IsLineOf};
+ghost use Rattle.rc_model.specs.Database.{Database, IsDatabase};
+ghost use Rattle.rc_model.specs.Line.{Line};
+ghost use Rattle.rc_model.specs.Session.{IsLineOf};
 ghost use Rattle.rc_script.specs.Says.{Saying, Says};
 ghost use Rattle.rc_serve.specs.Ending.{Ends, IsDoneAs};
 ghost use Rattle.rc_serve.specs.Meeting.{IsDoneBy};

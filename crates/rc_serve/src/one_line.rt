@@ -2,7 +2,7 @@
 ghost use Rattle.std.specs.Prelude.{◌≡◌, ◌⊎◌, ℕ, List, [], false, Err, IfErr, IfOk, MatchResult, OnOk, Ok};
 ghost use Rattle.std.specs.Io.KnownBytes.{Appends};
 ghost use Rattle.rc_streams.specs.Noting.{HasFailed, IsFlushed, inner_of};
-ghost use Rattle.rc_session.specs.Commands.{Command, events_of};
+ghost use Rattle.rc_model.specs.Session.{Command, events_of};
 ghost use Rattle.rc_board.specs.Crew.{IsCrew};
 ghost use Rattle.rc_script.specs.Says.{SaysStep, saying_of};
 ghost use Rattle.rc_serve.specs.Ending.{ArrivesSaying, Ends, IsDoneAs, StopsOnce};

@@ -1,7 +1,7 @@
 //! Changes, undos and redos by workers, and their answers.
 ghost use Rattle.std.specs.Prelude.{◌≡◌, [], true, false, map, string_bytes, Err, IfOk, IfErr};
 ghost use Rattle.rc_select.specs.Ask.{ask_of};
-ghost use Rattle.rc_session.specs.Commands.{Change, Undo, Redo};
+ghost use Rattle.rc_model.specs.Session.{Change, Undo, Redo};
 ghost use Rattle.rc_board.specs.Crew.{IsCrew};
 ghost use Rattle.rc_board.specs.Working.{HasWork};
 ghost use Rattle.rc_serve.specs.Faults.{EndsSession, IsInner, IsSpoiledBy, IsStrange};
@@ -12,9 +12,9 @@ ghost use Rattle.rc_serve.specs.Telling.{IsToldAs};
 
 use crate::ending::{Answer, ending_of, refused};
 use crate::fault::{ServeFault, answered};
-use rc_answers::{refusal_text, report_text};
 use rc_board::{Fault, Gate, NoWatch, change, redo, undo};
 use rc_names::Names;
+use rc_render::{refusal_text, report_text};
 use rc_select::Request;
 use rc_session::{Report, Session};
 use std::alloc::Global;

@@ -33,7 +33,7 @@ const MAX_WORKERS: u8 = 64;
 ///
 /// An answer is written whole and flushed. A refused command is answered too, and the session goes on. It ends with
 /// the input, or with a fault: then the lines before were done and answered whole. The line whose answer could not be made
-/// or written may be done as well, and nothing behind it is.
+/// or written may be done as well, and nothing after it is.
 ///
 /// Time: it grows with the bytes of the lines and with what the commands do; a line costs no more the longer the journal is,
 /// but for `journal`, which shows it.
@@ -65,8 +65,8 @@ pub fn serve<T: Threads + Wait + Sync, R: Read, W: Write, K: Keeper, G: Gate>(
         (R.remaining (inner_of reader.old)) session.old.database session.old.line
         → keeper.new ≡ keeper.old }
 
-    // Lines at the front of the input were met and answered whole, and then one more at most, of
-    // whose answer a front was written. There is one more only where it could not be kept, its
+    // Lines at the beginning of the input were met and answered whole, and then one more at most, of
+    // whose answer a prefix was written. There is one more only where it could not be kept, its
     // answer could not be written, or memory was wanting. A read fails only where no whole line is
     // left. TooLong comes only where none is left, and the input passes its bound, or where the
     // next line passes its own. Workers fail only where the next line is a command that moves a
@@ -79,7 +79,7 @@ pub fn serve<T: Threads + Wait + Sync, R: Read, W: Write, K: Keeper, G: Gate>(
         (W.contents (inner_of writer.old)) (W.contents (inner_of writer.new)) session.old session.new) }
 
     // Where the gate lets exactly certain transitions fail, and no limit is reached, what was written is the text of the
-    // session for these, or a front of it: its bytes hang neither on the number of workers nor on who was quicker.
+    // session for these, or a prefix of it: its bytes hang neither on the number of workers nor on who was quicker.
     ensures text { (fails : ℕ → Way → Bool) →
         FailsExactly (G.answers gate.now) fails →
         IsTimeless (G.gives gate.now) (R.remaining (inner_of reader.old)) →
@@ -123,7 +123,7 @@ pub fn serve<T: Threads + Wait + Sync, R: Read, W: Write, K: Keeper, G: Gate>(
     // It ends as Io only where the keeper has failed.
     ensures io { result ≡ Err ServeFault.Io → K.failed keeper.new }
 
-    // A session is spoiled by a strange fault, and by nothing else.
+    // A session is poisoned by a strange fault, and by nothing else.
     ensures whole { IsSpoiledBy result session.old session.new }
 
     // Whatever the result, the database stays, nothing is begun, and one byte past the bound is the last that is taken.

@@ -1,13 +1,12 @@
 //! What an undo or a redo would move, shown.
 ghost use Rattle.std.specs.Prelude.{◌≡◌, ◌<◌, ◌++◌, [], ℕ, List, false, IfErr, IfOk, OnOk, Some, length, slice_get};
 ghost use Rattle.std.specs.Io.KnownBytes.{Appends};
-ghost use Rattle.rc_set.specs.Set.{Has};
-ghost use Rattle.rc_line.specs.Line.{states};
-ghost use Rattle.rc_line.specs.State.{State};
-ghost use Rattle.rc_select.specs.Plan.{LeadsTo, Nothing};
-ghost use Rattle.rc_session.specs.Commands.{Redo, Undo};
-ghost use Rattle.rc_answers.specs.Names.{ok_line};
-ghost use Rattle.rc_answers.specs.PlanText.{IsPlanText};
+ghost use Rattle.rc_model.specs.Names.{Has};
+ghost use Rattle.rc_model.specs.Line.{states, State};
+ghost use Rattle.rc_model.specs.Plan.{IsPlanTo, Nothing};
+ghost use Rattle.rc_model.specs.Session.{Redo, Undo};
+ghost use Rattle.rc_render.specs.Names.{ok_line};
+ghost use Rattle.rc_render.specs.PlanText.{IsPlanText};
 ghost use Rattle.rc_serve.specs.declared.ending.Ending.TheVariants.{Done};
 ghost use Rattle.rc_streams.specs.Noting.{HasFailed, inner_of};
 ghost use Rattle.rc_serve.specs.Ending.{EndsWay, FailsShowing};
@@ -15,8 +14,8 @@ ghost use Rattle.rc_serve.specs.Faults.{IsServeFault};
 
 use crate::ending::{Answer, Ending, done, refused};
 use crate::fault::ServeFault;
-use rc_answers::{plan_text, refusal_text, with_ok};
 use rc_names::Names;
+use rc_render::{plan_text, refusal_text, with_ok};
 use rc_select::{Plan, between};
 use rc_session::{NoMem, Refusal, Session};
 use rc_streams::Noted;
@@ -113,7 +112,7 @@ fn plan_to(alloc: Global, session: &Session, place: usize) -> Result<Plan, NoMem
     requires place { place < length (states session.now.line) }
     ensures { IfOk result (λ plan. (to : State)
         × (slice_get (states session.now.line) place ≡ Some to)
-        × LeadsTo session.now.line.current.live (Has to.live) Nothing plan) }
+        × IsPlanTo session.now.line.current.live (Has to.live) Nothing plan) }
 {
     let _graph = session.db().graph();
     let line = session.journal();

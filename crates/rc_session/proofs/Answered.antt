@@ -1,30 +1,20 @@
 -- Each command is refused, or some events carry it out with nothing failing.
 use Rattle.std.proofs.Common.{◌≡◌, ◌≢◌, ◌⊎◌, ℕ, suc, inl, inr, Bool, true, false, List, [], ◌∷◌, length, slice_index_or, All, Contains, refl, ap, arith}
 use Rattle.std.proofs.lemmas.Bool.{cases_lt}
-use Rattle.rc_names.specs.Name.{IsName}
-use Rattle.rc_names.proofs.ByteOrder.{same_or_other}
-use Rattle.rc_db.specs.Bundles.{Bundles, names_of, IsTable}
-use Rattle.rc_db.specs.Database.{Database, IsDatabase}
-use Rattle.rc_db.specs.Named.{IsKnown}
-use Rattle.rc_select.specs.declared.request.Mode.{Mode}
-use Rattle.rc_select.specs.declared.request.Mode.TheVariants.{Up, Down, DownAll}
-use Rattle.rc_select.specs.Ask.{Ask}
-use Rattle.rc_select.specs.PlanFaults.{CanPlan}
-use Rattle.rc_bundle.specs.Bundling.{IsBundle, MayBeDefined, CanAdd, CanDelete}
-use Rattle.rc_core.specs.declared.event.Event.{Event}
-use Rattle.rc_core.specs.Course.{course_of}
-use Rattle.rc_line.specs.State.{State}
-use Rattle.rc_line.specs.Line.{Line}
-use Rattle.rc_line.specs.Bound.{fitted}
-use Rattle.rc_line.specs.Moves.{EndsIn, put_last, with_live, with_table}
-use Rattle.rc_line.proofs.Walking.{current_table}
-use Rattle.rc_session.specs.declared.refusal.Refusal.{Refusal}
-use Rattle.rc_session.specs.declared.refusal.Refusal.TheVariants.{PruneNeedsUp, Unknown, IsAtomic, Exists, Missing, Full, NothingToUndo, NothingToRedo}
-use Rattle.rc_session.specs.Commands.{Command, Change, Undo, Redo, Add, Delete, with_events}
-use Rattle.rc_session.specs.Report.{edit_told}
-use Rattle.rc_session.specs.Task.{deadline_of}
-use Rattle.rc_session.specs.Doing.{IsLineOf, Alters}
-use Rattle.rc_session.specs.Refusals.{IsOwnFault}
+use Rattle.rc_model.specs.Names.{IsName}
+use Rattle.rc_model.proofs.ByteOrder.{same_or_other}
+use Rattle.rc_model.specs.Database.{Bundles, names_of, IsTable, Database, IsDatabase, IsKnown}
+use Rattle.rc_model.specs.declared.Mode.{Mode}
+use Rattle.rc_model.specs.declared.Mode.TheVariants.{Up, Down, DownAll}
+use Rattle.rc_model.specs.Plan.{Ask, CanPlan}
+use Rattle.rc_model.specs.Line.{IsBundle, MayBeDefined, CanAdd, CanDelete, State, Line, within_bound, MovesTo, put_last, with_live, with_table}
+use Rattle.rc_model.specs.declared.Event.{Event}
+use Rattle.rc_model.specs.Run.{course_of}
+use Rattle.rc_model.proofs.Walking.{current_table}
+use Rattle.rc_model.specs.declared.Refusal.{Refusal}
+use Rattle.rc_model.specs.declared.Refusal.TheVariants.{PruneNeedsUp, Unknown, IsAtomic, Exists, Missing, Full, NothingToUndo, NothingToRedo}
+use Rattle.rc_model.specs.Session.{Command, Change, Undo, Redo, Add, Delete, edit_report, deadline_of, IsLineOf, EditsTable, IsOwnFault}
+use Rattle.rc_session.specs.Commands.{with_events}
 use Rattle.rc_session.specs.Existence.{CanGoWell, EachIsAnswered}
 use Rattle.rc_session.proofs.CarriedOut.{goes_through}
 use Rattle.rc_session.proofs.Courses.{task_is_course}
@@ -56,10 +46,10 @@ state_decided a b = elim (both (a.live ≡ b.live) (a.table ≡ b.table) (list_d
 ]
 
 -- a change or an edit leads somewhere, wherever it ends
-ends_somewhere : (line : Line) (end : State) → (new : Line) × EndsIn line end new
+ends_somewhere : (line : Line) (end : State) → (new : Line) × MovesTo line end new
 ends_somewhere line end = elim (state_decided end line.current) [
   | inl same ↦ (line, inl (same, refl))
-  | inr other ↦ (fitted (put_last line end), inr (other, refl))
+  | inr other ↦ (within_bound (put_last line end), inr (other, refl))
 ]
 
 -- what an answer to a command is
@@ -89,7 +79,7 @@ module _ (d : Database) (line : Line) (is_db : IsDatabase d) (of : IsLineOf d li
             task = (can, plan.1, refl);
             ends = through.ends;
             moved = new.1;
-            is_told = through.is_told;
+            is_report = through.is_report;
           }),
           (through.failed, through.stopped),
         ),
@@ -117,10 +107,10 @@ module _ (d : Database) (line : Line) (is_db : IsDatabase d) (of : IsLineOf d li
   ]
 
   -- an edit that may be made is made
-  edited : (command : Command) (table : Bundles) → IsTable table → Alters d line.current.table (with_events command []) table → IsMet d line command
+  edited : (command : Command) (table : Bundles) → IsTable table → EditsTable d line.current.table (with_events command []) table → IsMet d line command
   edited command table is_table altered =
       let new = ends_somewhere line (with_table line table) in
-      inr (new.0, ([], edit_told line.current.live, inr (record { table = table; is_table = is_table; altered = altered; moved = new.1; is_told = refl }), (refl, refl)))
+      inr (new.0, ([], edit_report line.current.live, inr (record { table = table; is_table = is_table; altered = altered; moved = new.1; is_report = refl }), (refl, refl)))
 
   defined : (name : List ℕ) (contents : List (List ℕ)) (force : Bool) → IsName name → CanAdd d.names line.current.table name contents force → IsMet d line (Add name contents force)
   defined name contents force good can =

@@ -1,16 +1,13 @@
 -- Each task can be carried out with nothing failing: some events are a run of it, and they come to its target.
 use Rattle.std.proofs.Common.{◌≡◌, ◌∙◌, ℕ, Bool, true, false, List, [], length, refl, rules, sym}
-use Rattle.rc_set.specs.Set.{Has, Lists}
-use Rattle.rc_set.proofs.Members.{has_or_lacks, has_within}
-use Rattle.rc_select.specs.PlanSets.{PlanSets}
-use Rattle.rc_core.specs.declared.event.Event.{Event}
-use Rattle.rc_core.specs.Course.{Course, IsCourse, TargetOf}
-use Rattle.rc_core.specs.Events.{HasFailed, IsStopped}
-use Rattle.rc_core.specs.Legal.{IsLeft}
+use Rattle.rc_model.specs.Names.{Has, Lists}
+use Rattle.rc_model.proofs.SetMembers.{has_or_lacks, has_within}
+use Rattle.rc_model.specs.Plan.{PlanSets}
+use Rattle.rc_model.specs.declared.Event.{Event}
+use Rattle.rc_model.specs.Run.{Course, IsCourse, TargetOf, HasFailed, IsStopped, IsLeft}
 use Rattle.rc_core.proofs.Places.{planned_within}
-use Rattle.rc_line.specs.State.{IsGained}
-use Rattle.rc_session.specs.Report.{Told, IsTold}
-use Rattle.rc_session.specs.Task.{EndsWith}
+use Rattle.rc_model.specs.Line.{IsGained}
+use Rattle.rc_model.specs.Session.{Reported, IsReportOf, EndsWith}
 use Rattle.rc_session.proofs.Deciding.{Decided, both, not, set_of, holds_of, ids_of, ids_of_set}
 use Rattle.rc_session.proofs.WellRuns.{well_run, left_decided, ends_there, target_decided, target_within}
 
@@ -18,9 +15,9 @@ use Rattle.rc_session.proofs.WellRuns.{well_run, left_decided, ends_there, targe
 pub record GoesThrough (c : Course) (plan : PlanSets) : Type 0 where
   pub events : List Event
   pub live : List Bool
-  pub told : Told
+  pub told : Reported
   pub ends : EndsWith c events live
-  pub is_told : IsTold c plan events live told
+  pub is_report : IsReportOf c plan events live told
   pub failed : told.failed ≡ []
   pub stopped : told.stopped ≡ false
 
@@ -54,7 +51,7 @@ goes_through c plan course =
         bound = live.1.bound ∙ sym course.up_bound;
         members = λ s. let at = ends_there c course events goes made.2 s in (λ has. at.1 ((holds s).0 has), λ is. (holds s).1 (at.0 is));
       };
-      is_told = record {
+      is_report = record {
         opening = refl;
         lowered = lowered.1;
         raised = raised.1;

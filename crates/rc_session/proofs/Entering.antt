@@ -1,26 +1,23 @@
 use Rattle.std.proofs.Common.{◌≡◌, ◌∙◌, ◌≤◌, refl, [], ◌∷◌, inl, inr, ap, sym, subst}
-use Rattle.rc_set.specs.Set.{Lists}
-use Rattle.rc_db.specs.Database.{Database}
-use Rattle.rc_bundle.specs.Edit.{IsEdit}
-use Rattle.rc_line.specs.State.{State, Entry, IsEntry, IsGained}
-use Rattle.rc_line.specs.Line.{Line, IsNext}
-use Rattle.rc_line.specs.Moves.{EndsIn, put_last, with_live, with_table}
-use Rattle.rc_line.proofs.Fitting.{fitted_back, fitted_current, fitted_last}
-use Rattle.rc_session.specs.Doing.{IsLineOf}
+use Rattle.rc_model.specs.Names.{Lists}
+use Rattle.rc_model.specs.Database.{Database}
+use Rattle.rc_model.specs.Line.{IsEdit, State, Entry, IsEntry, IsGained, Line, IsNext, MovesTo, put_last, with_live, with_table}
+use Rattle.rc_model.proofs.Fitting.{fitted_back, fitted_current, fitted_last}
+use Rattle.rc_model.specs.Session.{IsLineOf}
 use Rattle.rc_line.proofs.Rewriting.{no_edit}
 use Rattle.rc_line.proofs.Steps.{none_gained}
-use Rattle.rc_session.specs.Promise.{IsEntered, ChangesAreEntered, EditsAreEntered}
+use Rattle.rc_model.specs.Headline.{IsEntered, ChangesAreEntered, EditsAreEntered}
 use Rattle.rc_session.proofs.Entries.{entry_before}
 
 -- where the line ends in a state, that is the current one
-pub ends_in : (line new : Line) (end : State) → EndsIn line end new → new.current ≡ end
+pub ends_in : (line new : Line) (end : State) → MovesTo line end new → new.current ≡ end
 ends_in line new end ends = elim ends [
   | inl stays ↦ ap (λ l. l.current) stays.1 ∙ sym stays.0
   | inr adds ↦ ap (λ l. l.current) adds.1 ∙ fitted_current (put_last line end)
 ]
 
 -- what the line ends in is entered
-enters : (line new : Line) (end : State) (entry : Entry) → 3 ≤ line.bound → EndsIn line end new → IsEntry line.current end entry → IsEntered line new entry
+enters : (line new : Line) (end : State) (entry : Entry) → 3 ≤ line.bound → MovesTo line end new → IsEntry line.current end entry → IsEntered line new entry
 enters line new end entry three ends is =
     let here : IsEntry line.current new.current entry = subst (λ s. IsEntry line.current s entry) (sym (ends_in line new end ends)) is in
     record {
@@ -42,8 +39,8 @@ change_entered d line of ask events told new does = elim does [
   | inl run ↦
       let opening : run.plan.opening ≡ line.current.live = run.task.1.opening in
       enters line new (with_live line run.live) (record { raised = told.raised; lowered = told.lowered; edit = [] }) of.is_line.bound.0 run.moved (record {
-        raised = subst (λ up. Lists (IsGained up run.live) told.raised) opening run.is_told.raised;
-        lowered = subst (λ up. Lists (IsGained run.live up) told.lowered) opening run.is_told.lowered;
+        raised = subst (λ up. Lists (IsGained up run.live) told.raised) opening run.is_report.raised;
+        lowered = subst (λ up. Lists (IsGained run.live up) told.lowered) opening run.is_report.lowered;
         edit = no_edit line.current.table;
       })
   | inr edit ↦ absurd edit.altered

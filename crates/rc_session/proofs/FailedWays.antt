@@ -1,16 +1,11 @@
 use Rattle.std.proofs.Common.{◌≡◌, ◌≢◌, ◌∙◌, ◌↔◌, ◌⊎◌, ◌≤◌, ◌<◌, suc, Bool, List, [], ◌∷◌, ◌++◌, length, length-append, Ok, inl, inr, refl, ap, sym, subst, arith}
-use Rattle.rc_db.specs.Database.{Database, IsDatabase}
-use Rattle.rc_line.specs.State.{State, IsEntry}
-use Rattle.rc_line.specs.Line.{Line, IsLine, IsNext, IsEntryBefore, IsEntryAfter, states}
-use Rattle.rc_line.specs.Bound.{fitted}
-use Rattle.rc_line.specs.Moves.{Undoes, Redoes, put_between, with_live}
-use Rattle.rc_line.proofs.Lines.{cons_head, cons_tail}
-use Rattle.rc_line.proofs.Fitting.{Loses, Oldest, Last, fitted_cases, fitted_back, fitted_on, fitted_current}
+use Rattle.rc_model.specs.Database.{Database, IsDatabase}
+use Rattle.rc_model.specs.Line.{State, IsEntry, Line, IsLine, IsNext, IsEntryBefore, IsEntryAfter, states, within_bound, MovesByUndo, MovesByRedo, put_between, with_live}
+use Rattle.rc_model.proofs.Lines.{cons_head, cons_tail}
+use Rattle.rc_model.proofs.Fitting.{Loses, Oldest, Last, fitted_cases, fitted_back, fitted_on, fitted_current}
 use Rattle.rc_line.proofs.Closings.{last_same}
-use Rattle.rc_session.specs.Commands.{Command, Change, Undo, Redo, Add, Delete, IsUndo, IsRedo}
-use Rattle.rc_session.specs.Report.{Told}
-use Rattle.rc_session.specs.Doing.{Does, IsLineOf}
-use Rattle.rc_session.specs.Promise.{LeavesAhead, RedosLeaveWhatRemains, IsFull, AreLeftBefore, AreLeftAfter, UndosGoOn, RedosGoOn}
+use Rattle.rc_model.specs.Session.{Command, Change, Undo, Redo, Add, Delete, IsUndo, IsRedo, Reported, Does, IsLineOf}
+use Rattle.rc_model.specs.Headline.{LeavesAhead, RedosLeaveWhatRemains, IsFull, AreLeftBefore, AreLeftAfter, UndosGoOn, RedosGoOn}
 use Rattle.rc_session.proofs.Keeping.{answer_keeps}
 use Rattle.rc_session.proofs.Neighbours.{one_back, one_on, push_front}
 use Rattle.rc_session.proofs.Entries.{entry_before, entry_after}
@@ -25,7 +20,7 @@ stays on line new h same = record {
 }
 
 -- and one whose end was put between the two
-splits : (on line new : Line) (live : List Bool) → 3 ≤ line.bound → IsNext line on → live ≢ line.current.live → new ≡ fitted (put_between line (with_live line live) on) → LeavesAhead on line new
+splits : (on line new : Line) (live : List Bool) → 3 ≤ line.bound → IsNext line on → live ≢ line.current.live → new ≡ within_bound (put_between line (with_live line live) on) → LeavesAhead on line new
 splits on line new live three h differs same =
     let full : Line = put_between line (with_live line live) on in
     let current : new.current ≡ with_live line live = ap (λ l. l.current) same ∙ fitted_current full in
@@ -41,12 +36,12 @@ splits on line new live three h differs same =
       redone = inr ((λ as_before. differs (sym (ap (λ s. s.live) current) ∙ ap (λ s. s.live) as_before)), (λ entry. subst (λ s. IsEntryBefore new entry ↔ IsEntry s new.current entry) left.2 (entry_before left.0 new is_behind entry)));
     }
 
-left_ahead : (on line new : Line) (live : List Bool) → 3 ≤ line.bound → IsNext line on → Redoes line live new → (new ≡ on) ⊎ LeavesAhead on line new
+left_ahead : (on line new : Line) (live : List Bool) → 3 ≤ line.bound → IsNext line on → MovesByRedo line live new → (new ≡ on) ⊎ LeavesAhead on line new
 left_ahead on line new live three h r = let same : r.0 ≡ on = one_on line r.0 on r.1 h in elim r.2 [
   | inl there ↦ inl (there.1 ∙ same)
   | inr other ↦ inr (elim other [
     | inl here ↦ stays on line new h here.2
-    | inr between ↦ splits on line new live three h between.1 (between.2 ∙ ap (λ l. fitted (put_between line (with_live line live) l)) same)
+    | inr between ↦ splits on line new live three h between.1 (between.2 ∙ ap (λ l. within_bound (put_between line (with_live line live) l)) same)
   ])
 ]
 
@@ -67,8 +62,8 @@ size_back back line end h = omega (arith, length-append line.before (end ∷ bac
 size_on : (line on : Line) (end : State) → IsNext line on → length (states (put_between line end on)) ≡ suc (length (states line))
 size_on line on end h = omega (arith, length-append on.before (end ∷ line.after), length-append line.before (line.current ∷ line.after), ap length h.left, length-append line.before (line.current ∷ []))
 
--- the state before the current one, and those before it, where that one stands behind a state that was put between
-back_there : (back line there new : Line) (end : State) → IsLine line → IsNext back line → there ≡ fitted (put_between back end line) → IsNext new there → (new.current ≡ back.current) × AreLeftBefore line back.before new.before
+-- the state before the current one, and those before it, where that one stands after a state that was put between
+back_there : (back line there new : Line) (end : State) → IsLine line → IsNext back line → there ≡ within_bound (put_between back end line) → IsNext new there → (new.current ≡ back.current) × AreLeftBefore line back.before new.before
 back_there back line there new end is h made next =
     let full : Line = put_between back end line in
     let three : 3 ≤ full.bound = omega (arith, is.bound.0, h.bound) in
@@ -79,8 +74,8 @@ back_there back line there new end is h made next =
       | inr (many, loses) ↦ back_lost back line there new end is h (made) next many loses
     ]
   where
-    back_lost : (back line there new : Line) (end : State) → IsLine line → IsNext back line → there ≡ fitted (put_between back end line) → IsNext new there
-        → back.bound < length (states (put_between back end line)) → Loses (put_between back end line) (fitted (put_between back end line))
+    back_lost : (back line there new : Line) (end : State) → IsLine line → IsNext back line → there ≡ within_bound (put_between back end line) → IsNext new there
+        → back.bound < length (states (put_between back end line)) → Loses (put_between back end line) (within_bound (put_between back end line))
         → (new.current ≡ back.current) × AreLeftBefore line back.before new.before
     back_lost back line there new end is h made next many (Oldest gone second rest front left) =
         let same : (gone ∷ new.before) ++ new.current ∷ [] ≡ back.before ++ back.current ∷ [] =
@@ -92,18 +87,18 @@ back_there back line there new end is h made next =
         let same : new.before ++ new.current ∷ [] ≡ back.before ++ back.current ∷ [] = sym next.left ∙ ap (λ l. l.before) (made ∙ left) ∙ h.left in
         (last_same new.before back.before new.current back.current same, inl (push_front new.before back.before new.current back.current same))
 
--- behind where an undo that did not come to the state before has put the line stands that state
-back_again : (back line there new : Line) (live : List Bool) → IsLine line → IsNext back line → Undoes line live there → there ≢ back → IsNext new there → (new.current ≡ back.current) × AreLeftBefore line back.before new.before
+-- after where an undo that did not come to the state before has put the line stands that state
+back_again : (back line there new : Line) (live : List Bool) → IsLine line → IsNext back line → MovesByUndo line live there → there ≢ back → IsNext new there → (new.current ≡ back.current) × AreLeftBefore line back.before new.before
 back_again back line there new live is h u other next = elim u.2 [
   | inl reached ↦ absurd (other (reached.1 ∙ one_back u.0 back line u.1 h))
   | inr rest ↦ elim rest [
     | inl here ↦ let same : new ≡ back = one_back new back line (subst (IsNext new) here.2 next) h in (ap (λ l. l.current) same, inl (ap (λ l. l.before) same))
-    | inr between ↦ back_there back line there new (with_live line live) is h (between.2 ∙ ap (λ l. fitted (put_between l (with_live line live) line)) (one_back u.0 back line u.1 h)) next
+    | inr between ↦ back_there back line there new (with_live line live) is h (between.2 ∙ ap (λ l. within_bound (put_between l (with_live line live) line)) (one_back u.0 back line u.1 h)) next
   ]
 ]
 
 -- the state after the current one, and those after it, where that one stands ahead of a state that was put between
-on_there : (on line there new : Line) (end : State) → IsLine line → IsNext line on → there ≡ fitted (put_between line end on) → IsNext there new → (new.current ≡ on.current) × AreLeftAfter line on.after new.after
+on_there : (on line there new : Line) (end : State) → IsLine line → IsNext line on → there ≡ within_bound (put_between line end on) → IsNext there new → (new.current ≡ on.current) × AreLeftAfter line on.after new.after
 on_there on line there new end is h made next = elim (fitted_cases (put_between line end on) is.bound.0) [
   | inl all ↦ on_kept on line there new end h (ap (λ l. l.after) (made ∙ all)) next
   | inr (many, loses) ↦ on_lost on line there new end is h made next many loses
@@ -114,8 +109,8 @@ on_there on line there new end is h made next = elim (fitted_cases (put_between 
         let same : new.current ∷ new.after ≡ on.current ∷ on.after = sym next.reached ∙ after ∙ h.reached in
         (cons_head new.current on.current new.after on.after same, inl (cons_tail new.current on.current new.after on.after same))
 
-    on_lost : (on line there new : Line) (end : State) → IsLine line → IsNext line on → there ≡ fitted (put_between line end on) → IsNext there new
-        → line.bound < length (states (put_between line end on)) → Loses (put_between line end on) (fitted (put_between line end on))
+    on_lost : (on line there new : Line) (end : State) → IsLine line → IsNext line on → there ≡ within_bound (put_between line end on) → IsNext there new
+        → line.bound < length (states (put_between line end on)) → Loses (put_between line end on) (within_bound (put_between line end on))
         → (new.current ≡ on.current) × AreLeftAfter line on.after new.after
     on_lost on line there new end is h made next many (Oldest gone second rest front left) = on_kept on line there new end h (ap (λ l. l.after) (made ∙ left)) next
     on_lost on line there new end is h made next many (Last gone first rest after left few) =
@@ -126,17 +121,17 @@ on_there on line there new end is h made next = elim (fitted_cases (put_between 
         )
 
 -- and ahead of where such a redo has put it stands the state after
-on_again : (on line there new : Line) (live : List Bool) → IsLine line → IsNext line on → Redoes line live there → there ≢ on → IsNext there new → (new.current ≡ on.current) × AreLeftAfter line on.after new.after
+on_again : (on line there new : Line) (live : List Bool) → IsLine line → IsNext line on → MovesByRedo line live there → there ≢ on → IsNext there new → (new.current ≡ on.current) × AreLeftAfter line on.after new.after
 on_again on line there new live is h r other next = elim r.2 [
   | inl reached ↦ absurd (other (reached.1 ∙ one_on line r.0 on r.1 h))
   | inr rest ↦ elim rest [
     | inl here ↦ let same : new ≡ on = one_on line new on (subst (λ l. IsNext l new) here.2 next) h in (ap (λ l. l.current) same, inl (ap (λ l. l.after) same))
-    | inr between ↦ on_there on line there new (with_live line live) is h (between.2 ∙ ap (λ l. fitted (put_between line (with_live line live) l)) (one_on line r.0 on r.1 h)) next
+    | inr between ↦ on_there on line there new (with_live line live) is h (between.2 ∙ ap (λ l. within_bound (put_between line (with_live line live) l)) (one_on line r.0 on r.1 h)) next
   ]
 ]
 
 module _ (d : Database) (is_db : IsDatabase d) (line : Line) (of : IsLineOf d line) where
-  after_undo : (back there new : Line) (first : Command) (told : Told) → IsUndo first → IsNext back line → Does d line first told there → there ≢ back → IsNext new there → (new.current ≡ back.current) × AreLeftBefore line back.before new.before
+  after_undo : (back there new : Line) (first : Command) (told : Reported) → IsUndo first → IsNext back line → Does d line first told there → there ≢ back → IsNext new there → (new.current ≡ back.current) × AreLeftBefore line back.before new.before
   after_undo back there new (Undo limit events) told undo h does other next = elim does [
     | inl run ↦ back_again back line there new run.live of.is_line h run.moved other next
     | inr edit ↦ absurd edit.altered
@@ -146,7 +141,7 @@ module _ (d : Database) (is_db : IsDatabase d) (line : Line) (of : IsLineOf d li
   after_undo back there new (Add name contents force) told undo h does other next = absurd undo
   after_undo back there new (Delete words force) told undo h does other next = absurd undo
 
-  after_redo : (on there new : Line) (first : Command) (told : Told) → IsRedo first → IsNext line on → Does d line first told there → there ≢ on → IsNext there new → (new.current ≡ on.current) × AreLeftAfter line on.after new.after
+  after_redo : (on there new : Line) (first : Command) (told : Reported) → IsRedo first → IsNext line on → Does d line first told there → there ≢ on → IsNext there new → (new.current ≡ on.current) × AreLeftAfter line on.after new.after
   after_redo on there new (Redo limit events) told redo h does other next = elim does [
     | inl run ↦ on_again on line there new run.live of.is_line h run.moved other next
     | inr edit ↦ absurd edit.altered

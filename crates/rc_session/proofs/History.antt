@@ -1,31 +1,26 @@
 use Rattle.std.proofs.Common.{◌≡◌, ◌∙◌, ◌≤◌, Bool, List, [], ◌∷◌, ◌++◌, ◌⊎◌, length, length-append, inl, inr, ap, sym, subst, arith}
-use Rattle.rc_db.specs.Database.{Database}
-use Rattle.rc_line.specs.State.{State}
-use Rattle.rc_line.specs.Line.{Line, states, cursor}
-use Rattle.rc_line.specs.Bound.{fitted}
-use Rattle.rc_line.specs.Moves.{EndsIn, Undoes, Redoes, put_between, put_last, with_live, with_table}
-use Rattle.rc_line.proofs.Lines.{push_append, next_states}
-use Rattle.rc_line.proofs.Fitting.{fitted_cases, fitted_bound, fitted_current, one_goes}
-use Rattle.rc_session.specs.Commands.{Command, Change, Undo, Redo, Add, Delete}
-use Rattle.rc_session.specs.Report.{Told}
-use Rattle.rc_session.specs.Doing.{Runs, MakesEdit, IsLineOf}
-use Rattle.rc_session.specs.Promise.{Keeps, KeepsHistory, HistoryIsKept}
+use Rattle.rc_model.specs.Database.{Database}
+use Rattle.rc_model.specs.Line.{State, Line, states, cursor, within_bound, MovesTo, MovesByUndo, MovesByRedo, put_between, put_last, with_live, with_table}
+use Rattle.rc_model.proofs.Lines.{push_append, next_states}
+use Rattle.rc_model.proofs.Fitting.{fitted_cases, fitted_bound, fitted_current, one_goes}
+use Rattle.rc_model.specs.Session.{Command, Change, Undo, Redo, Add, Delete, Reported, DoesByRun, DoesByEdit, IsLineOf}
+use Rattle.rc_model.specs.Headline.{Keeps, KeepsHistory, HistoryIsKept}
 
 -- a line that is fitted keeps the states that it had, where one stands before the current one
-fits : (held : List State) (full new : Line) → 3 ≤ full.bound → 1 ≤ cursor full → states full ≡ held → new ≡ fitted full → Keeps held new
+fits : (held : List State) (full new : Line) → 3 ≤ full.bound → 1 ≤ cursor full → states full ≡ held → new ≡ within_bound full → Keeps held new
 fits held full new three some is same = subst (Keeps held) (sym same) (elim (fitted_cases full three) [
   | inl all ↦ inl (ap states all ∙ is)
   | inr (many, loses) ↦ inr (
     omega (arith, many, ap length is, fitted_bound full),
-    elim (one_goes full (fitted full) loses) [
+    elim (one_goes full (within_bound full) loses) [
       | inl (gone, front, place, far) ↦ (gone, inl (sym is ∙ front, omega (arith, place, far)))
       | inr (gone, back, place, near) ↦ (gone, inr (sym is ∙ back, omega (arith, place, near, some)))
     ],
   )
 ])
 
--- a change or edit stays, or adds its end behind the current state
-added : (line new : Line) (end : State) → 3 ≤ line.bound → EndsIn line end new → (states new ≡ states line) ⊎ Keeps (line.before ++ line.current ∷ new.current ∷ []) new
+-- a change or edit stays, or adds its end after the current state
+added : (line new : Line) (end : State) → 3 ≤ line.bound → MovesTo line end new → (states new ≡ states line) ⊎ Keeps (line.before ++ line.current ∷ new.current ∷ []) new
 added line new end three ends = elim ends [
   | inl stays ↦ inl (ap states stays.1)
   | inr adds ↦
@@ -36,7 +31,7 @@ added line new end three ends = elim ends [
 ]
 
 -- an undo goes back, stays, or puts its end in front of the current state
-undone : (line new : Line) (live : List Bool) → 3 ≤ line.bound → Undoes line live new → (states new ≡ states line) ⊎ Keeps (line.before ++ new.current ∷ line.current ∷ line.after) new
+undone : (line new : Line) (live : List Bool) → 3 ≤ line.bound → MovesByUndo line live new → (states new ≡ states line) ⊎ Keeps (line.before ++ new.current ∷ line.current ∷ line.after) new
 undone line new live three u = elim u.2 [
   | inl there ↦ inl (ap states there.1 ∙ sym (next_states u.0 line u.1))
   | inr other ↦ elim other [
@@ -49,8 +44,8 @@ undone line new live three u = elim u.2 [
   ]
 ]
 
--- a redo goes on, stays, or puts its end behind the current state
-redone : (line new : Line) (live : List Bool) → 3 ≤ line.bound → Redoes line live new → (states new ≡ states line) ⊎ Keeps (line.before ++ line.current ∷ new.current ∷ line.after) new
+-- a redo goes on, stays, or puts its end after the current state
+redone : (line new : Line) (live : List Bool) → 3 ≤ line.bound → MovesByRedo line live new → (states new ≡ states line) ⊎ Keeps (line.before ++ line.current ∷ new.current ∷ line.after) new
 redone line new live three r = elim r.2 [
   | inl there ↦ inl (ap states there.1 ∙ next_states line r.0 r.1)
   | inr other ↦ elim other [
@@ -68,14 +63,14 @@ redone line new live three r = elim r.2 [
 ]
 
 module _ (d : Database) (line : Line) (of : IsLineOf d line) where
-  run_keeps : (command : Command) (told : Told) (new : Line) → Runs d line command told new → KeepsHistory line command new
+  run_keeps : (command : Command) (told : Reported) (new : Line) → DoesByRun d line command told new → KeepsHistory line command new
   run_keeps (Change ask events) told new run = added line new (with_live line run.live) of.is_line.bound.0 run.moved
   run_keeps (Undo limit events) told new run = undone line new run.live of.is_line.bound.0 run.moved
   run_keeps (Redo limit events) told new run = redone line new run.live of.is_line.bound.0 run.moved
   run_keeps (Add name contents force) told new run = absurd run.task
   run_keeps (Delete words force) told new run = absurd run.task
 
-  edit_keeps : (command : Command) (told : Told) (new : Line) → MakesEdit d line command told new → KeepsHistory line command new
+  edit_keeps : (command : Command) (told : Reported) (new : Line) → DoesByEdit d line command told new → KeepsHistory line command new
   edit_keeps (Add name contents force) told new edit = added line new (with_table line edit.table) of.is_line.bound.0 edit.moved
   edit_keeps (Delete words force) told new edit = added line new (with_table line edit.table) of.is_line.bound.0 edit.moved
   edit_keeps (Change ask events) told new edit = absurd edit.altered

@@ -1,7 +1,6 @@
 use Rattle.std.proofs.Common.{◌≡◌, ◌∙◌, suc, List, [], ◌∷◌, ◌++◌, length, refl, ap, sym, arith}
-use Rattle.rc_line.specs.State.{State}
-use Rattle.rc_line.specs.Line.{Line, IsNext}
-use Rattle.rc_line.proofs.Lines.{length_push, cons_head, cons_tail}
+use Rattle.rc_model.specs.Line.{State, Line, IsNext}
+use Rattle.rc_model.proofs.Lines.{length_push, cons_head, cons_tail}
 use Rattle.rc_line.proofs.Closings.{same_line, last_same}
 
 -- all but the last of two equal lists

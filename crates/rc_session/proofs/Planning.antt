@@ -2,24 +2,18 @@
 use Rattle.std.proofs.Common.{◌≡◌, ◌∙◌, ◌⊎◌, ◌<◌, ℕ, zero, suc, inl, inr, Bool, true, false, List, [], ◌∷◌, ◌++◌, length, take, slice_get, slice_index_or, All, Contains, Option, None, Some, refl, ap, sym, subst, arith}
 use Rattle.std.proofs.lemmas.List.Elements.{All-nil, All-cons}
 use Rattle.std.proofs.lemmas.Option.{slice_get_within, same_Some}
-use Rattle.rc_set.specs.Set.{Has, Holds}
-use Rattle.rc_set.proofs.Members.{has_or_lacks, has_within}
-use Rattle.rc_names.proofs.ByteOrder.{same_or_other}
-use Rattle.rc_graph.specs.Needs.{Needs, EachNeedsNext, AreKnown, IsAcyclic, Reaches}
-use Rattle.rc_graph.specs.Closure.{UpFrom, DownFrom}
+use Rattle.rc_model.specs.Names.{Has, Holds}
+use Rattle.rc_model.proofs.SetMembers.{has_or_lacks, has_within}
+use Rattle.rc_model.proofs.ByteOrder.{same_or_other}
+use Rattle.rc_model.specs.Graph.{Needs, EachNeedsNext, AreServices, IsAcyclic, Reaches, UpFrom, DownFrom}
 use Rattle.rc_graph.proofs.Inductions.{acyclic_up, acyclic_down}
 use Rattle.rc_graph.proofs.Paths.{reaches_one, reaches_first, up_is_closed}
 use Rattle.rc_graph.proofs.RowLemmas.{needer_known}
-use Rattle.rc_db.specs.Bundles.{Bundles, names_of, value_of, AreBelow}
-use Rattle.rc_db.specs.Database.{Database, IsDatabase, IsEssential}
-use Rattle.rc_db.specs.Service.{Service}
-use Rattle.rc_db.specs.Named.{StandsFor, Selected, IsKnown, IsFirst}
+use Rattle.rc_model.specs.Database.{Bundles, names_of, value_of, HaveBound, Database, IsDatabase, IsEssential, Service, StandsFor, Selected, IsKnown, IsFirst}
 use Rattle.rc_db.proofs.Words.{bound_of_value}
-use Rattle.rc_select.specs.declared.request.Mode.{Mode}
-use Rattle.rc_select.specs.declared.request.Mode.TheVariants.{Up, Down, DownAll}
-use Rattle.rc_select.specs.Ask.{Ask, IsWanted, IsEssentialUp, IsPlanOf}
-use Rattle.rc_select.specs.PlanSets.{PlanSets}
-use Rattle.rc_select.specs.Target.{Target, Kept}
+use Rattle.rc_model.specs.declared.Mode.{Mode}
+use Rattle.rc_model.specs.declared.Mode.TheVariants.{Up, Down, DownAll}
+use Rattle.rc_model.specs.Plan.{Ask, IsWanted, IsEssentialUp, IsPlanOf, PlanSets, Target, Kept}
 use Rattle.rc_select.proofs.TargetLemmas.{down_before}
 use Rattle.rc_session.proofs.Deciding.{Decided, both, either, not, where_so, some_below, member_decided, flag_decided, set_of, holds_of}
 use Rattle.rc_session.proofs.WellRuns.{needs_decided}
@@ -81,17 +75,17 @@ selected_decided names table words s = elim (some_below (λ k. StandsFor names t
     same_default (x ∷ xs) (suc k) a b within = same_default xs k a b (omega arith)
 
 -- what a word stands for is a service
-stands_within : (names : List (List ℕ)) (table : Bundles) → AreBelow (length names) table → (name : List ℕ) (s : ℕ) → StandsFor names table name s → s < length names
+stands_within : (names : List (List ℕ)) (table : Bundles) → HaveBound (length names) table → (name : List ℕ) (s : ℕ) → StandsFor names table name s → s < length names
 stands_within names table below name s stands = elim stands [
   | inl service ↦ slice_get_within names s name service
   | inr bundle ↦ let low : s < length bundle.0 = has_within bundle.0 s bundle.2 in omega (arith, bound_of_value (length names) table name bundle.0 below bundle.1)
 ]
 
-pub selected_within : (names : List (List ℕ)) (table : Bundles) → AreBelow (length names) table → (words : List (List ℕ)) (s : ℕ) → Selected names table words s → s < length names
+pub selected_within : (names : List (List ℕ)) (table : Bundles) → HaveBound (length names) table → (words : List (List ℕ)) (s : ℕ) → Selected names table words s → s < length names
 selected_within names table below words s selected = stands_within names table below selected.0 s selected.2
 
 -- the set of what words stand for
-pub selected_set : (names : List (List ℕ)) (table : Bundles) → AreBelow (length names) table → (words : List (List ℕ)) → (set : List Bool) × (length set ≡ length names) × Holds set (Selected names table words)
+pub selected_set : (names : List (List ℕ)) (table : Bundles) → HaveBound (length names) table → (words : List (List ℕ)) → (set : List Bool) × (length set ≡ length names) × Holds set (Selected names table words)
 selected_set names table below words =
     let made = set_of (Selected names table words) (length names) (λ s low. selected_decided names table words s) in
     (made.0, made.1.bound, holds_of (Selected names table words) (length names) made.0 made.1 (selected_within names table below words))
@@ -124,7 +118,7 @@ last_step needs s (y ∷ ys) t path =
     )
 
 -- closures of what can be decided
-module _ (needs : List (List ℕ)) (known : AreKnown needs) (acyclic : IsAcyclic needs) (In : ℕ → Type 0) (by : (s : ℕ) → Decided (In s)) where
+module _ (needs : List (List ℕ)) (known : AreServices needs) (acyclic : IsAcyclic needs) (In : ℕ → Type 0) (by : (s : ℕ) → Decided (In s)) where
   down_next : (s : ℕ) → ((t : ℕ) → Needs needs s t → Decided (DownFrom needs In t)) → Decided (DownFrom needs In s)
   down_next s rest = elim (by s) [
     | inl member ↦ inl (inl member)
@@ -175,7 +169,7 @@ module _ (needs : List (List ℕ)) (known : AreKnown needs) (acyclic : IsAcyclic
     | inr path ↦ let last = last_step needs path.0 path.2.0 t path.2.1 in known last.0 t last.1
   ]
 
-module _ (d : Database) (is_db : IsDatabase d) (table : Bundles) (below : AreBelow (length d.names) table) (up : List Bool) (long : length up ≡ length d.names) (ask : Ask) where
+module _ (d : Database) (is_db : IsDatabase d) (table : Bundles) (below : HaveBound (length d.names) table) (up : List Bool) (long : length up ≡ length d.names) (ask : Ask) where
   abbrev wanted : ℕ → Type 0
   wanted = IsWanted d.names table (Has up) ask
 

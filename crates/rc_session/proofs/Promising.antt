@@ -1,19 +1,13 @@
 use Rattle.std.proofs.Common.{◌≡◌, ◌∙◌, Bool, List, take, Result, inl, inr, ap, sym, subst}
-use Rattle.rc_set.specs.Set.{Holds}
-use Rattle.rc_core.specs.Course.{course_of, TargetOf}
-use Rattle.rc_core.specs.Settled.{IsStrictlyClosed}
-use Rattle.rc_core.proofs.StrictLemmas.{prefix_strict}
-use Rattle.rc_db.specs.Database.{Database, IsDatabase}
-use Rattle.rc_line.specs.Line.{Line}
-use Rattle.rc_line.specs.Moves.{with_live, put_between}
-use Rattle.rc_line.proofs.Fitting.{fitted_current}
-use Rattle.rc_session.specs.declared.refusal.Refusal.{Refusal}
-use Rattle.rc_session.specs.Commands.{Command, Change, Undo, Redo, Add, Delete, HasRun, events_of}
-use Rattle.rc_session.specs.Report.{Told}
-use Rattle.rc_session.specs.Task.{EndsWith, MovesTo}
-use Rattle.rc_session.specs.Doing.{Runs, MakesEdit, IsLineOf}
-use Rattle.rc_session.specs.Plays.{Plays}
-use Rattle.rc_session.specs.Promise.{RanInOrder, RunsAreOrderly, IsPromised, HoldsAllAlong}
+use Rattle.rc_model.specs.Names.{Holds}
+use Rattle.rc_model.specs.Run.{course_of, TargetOf, IsStrictlyClosed}
+use Rattle.rc_model.proofs.StrictLemmas.{prefix_strict}
+use Rattle.rc_model.specs.Database.{Database, IsDatabase}
+use Rattle.rc_model.specs.Line.{Line, with_live, put_between}
+use Rattle.rc_model.proofs.Fitting.{fitted_current}
+use Rattle.rc_model.specs.declared.Refusal.{Refusal}
+use Rattle.rc_model.specs.Session.{Command, Change, Undo, Redo, Add, Delete, HasRun, events_of, Reported, EndsWith, MovesBy, DoesByRun, DoesByEdit, IsLineOf, Plays}
+use Rattle.rc_model.specs.Headline.{RanInOrder, RunsAreOrderly, IsPromised, IsPromisedAllAlong}
 use Rattle.rc_session.proofs.Keeping.{task_opening, opening_closed, plays_keep}
 use Rattle.rc_session.proofs.Entering.{ends_in, change_entered, edit_entered}
 use Rattle.rc_session.proofs.Courses.{task_is_course}
@@ -25,7 +19,7 @@ use Rattle.rc_session.proofs.FailedWays.{redo_leaves, undos_go_on, redos_go_on}
 use Rattle.rc_session.proofs.Playing.{play_parts}
 
 -- the new state has what is live after the run
-pub moved_live : (line : Line) (command : Command) (live : List Bool) (new : Line) → MovesTo line command live new → new.current.live ≡ live
+pub moved_live : (line : Line) (command : Command) (live : List Bool) (new : Line) → MovesBy line command live new → new.current.live ≡ live
 moved_live line (Change ask events) live new moved = ap (λ s. s.live) (ends_in line new (with_live line live) moved)
 moved_live line (Undo limit events) live new u = elim u.2 [
   | inl there ↦ ap (λ l. l.current.live) there.1 ∙ sym there.0
@@ -45,14 +39,14 @@ moved_live line (Add name contents force) live new moved = absurd moved
 moved_live line (Delete words force) live new moved = absurd moved
 
 -- an edit is no run
-no_edit_run : (d : Database) (line new : Line) (command : Command) (told : Told) → HasRun command → MakesEdit d line command told new → ⊥
+no_edit_run : (d : Database) (line new : Line) (command : Command) (told : Reported) → HasRun command → DoesByEdit d line command told new → ⊥
 no_edit_run d line new (Change ask events) told has edit = edit.altered
 no_edit_run d line new (Undo limit events) told has edit = edit.altered
 no_edit_run d line new (Redo limit events) told has edit = edit.altered
 no_edit_run d line new (Add name contents force) told has edit = has
 no_edit_run d line new (Delete words force) told has edit = has
 
-ran_in_order : (d : Database) (line new : Line) (command : Command) (told : Told) → IsDatabase d → IsLineOf d line → Runs d line command told new → RanInOrder d line command told new
+ran_in_order : (d : Database) (line new : Line) (command : Command) (told : Reported) → IsDatabase d → IsLineOf d line → DoesByRun d line command told new → RanInOrder d line command told new
 ran_in_order d line new command told is_db of run =
     let c = course_of d.needs run.plan run.deadline in
     let opening = task_opening d line command 0 run.plan run.deadline run.task in
@@ -61,12 +55,12 @@ ran_in_order d line new command told is_db of run =
       plan = run.plan;
       deadline = run.deadline;
       task = run.task;
-      given = run.is_told.trace;
-      ends = subst (λ live. EndsWith c told.trace live) (sym live_is) (subst (λ events. EndsWith c events run.live) (sym run.is_told.trace) run.ends);
-      strict = λ k. subst (λ events. IsStrictlyClosed c (take k events)) (sym run.is_told.trace)
+      given = run.is_report.trace;
+      ends = subst (λ live. EndsWith c told.trace live) (sym live_is) (subst (λ events. EndsWith c events run.live) (sym run.is_report.trace) run.ends);
+      strict = λ k. subst (λ events. IsStrictlyClosed c (take k events)) (sym run.is_report.trace)
           (prefix_strict c (events_of command) k (opening_closed d line of run.plan opening) run.ends.settled.run);
       arrives = λ failed stopped. subst (λ live. Holds live (TargetOf c)) (sym live_is)
-          (ends_in_target c run.plan (events_of command) run.live told (task_is_course d line command 0 run.plan run.deadline is_db of run.task) run.ends run.is_told failed stopped);
+          (ends_in_target c run.plan (events_of command) run.live told (task_is_course d line command 0 run.plan run.deadline is_db of run.task) run.ends run.is_report failed stopped);
     }
 
 pub runs_orderly : (d : Database) (line : Line) → IsDatabase d → IsLineOf d line → RunsAreOrderly d line
@@ -89,7 +83,7 @@ promised d line is_db of = record {
   redos_go_on = redos_go_on d is_db line of;
 }
 
-pub all_along : (d : Database) (line new : Line) (commands : List Command) (answers : List (Result Told Refusal)) → IsDatabase d → IsLineOf d line → Plays d line commands answers new → HoldsAllAlong d line commands answers new
+pub all_along : (d : Database) (line new : Line) (commands : List Command) (answers : List (Result Reported Refusal)) → IsDatabase d → IsLineOf d line → Plays d line commands answers new → IsPromisedAllAlong d line commands answers new
 all_along d line new commands answers is_db of plays k =
     let parts = play_parts d k commands answers line new plays in
     let here_of : IsLineOf d parts.0 = plays_keep d (take k commands) (take k answers) line parts.0 of parts.1 in

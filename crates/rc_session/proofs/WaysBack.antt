@@ -1,14 +1,12 @@
 -- Where there is a state before the cursor its undo can go well, and where there is one after it its redo.
 use Rattle.std.proofs.Common.{◌≡◌, ◌∙◌, ◌<◌, ℕ, inl, inr, Bool, List, [], ◌∷◌, ◌++◌, length, Option, None, refl, sym, subst}
-use Rattle.rc_set.specs.Set.{Has, Holds}
-use Rattle.rc_set.proofs.Members.{has_or_lacks, has_within}
-use Rattle.rc_select.specs.PlanSets.{PlanSets}
-use Rattle.rc_select.specs.Plan.{LeadsTo, Nothing}
-use Rattle.rc_core.specs.Course.{course_of}
-use Rattle.rc_db.specs.Database.{Database, IsDatabase}
-use Rattle.rc_line.specs.Line.{Line, IsNext}
-use Rattle.rc_session.specs.Task.{IsWay, deadline_of}
-use Rattle.rc_session.specs.Doing.{IsLineOf}
+use Rattle.rc_model.specs.Names.{Has, Holds}
+use Rattle.rc_model.proofs.SetMembers.{has_or_lacks, has_within}
+use Rattle.rc_model.specs.Plan.{PlanSets, IsPlanTo, Nothing}
+use Rattle.rc_model.specs.Run.{course_of}
+use Rattle.rc_model.specs.Database.{Database, IsDatabase}
+use Rattle.rc_model.specs.Line.{Line, IsNext}
+use Rattle.rc_model.specs.Session.{IsWay, deadline_of, IsLineOf}
 use Rattle.rc_session.specs.Existence.{WaysBack, WaysOn}
 use Rattle.rc_session.proofs.Arriving.{arrives}
 use Rattle.rc_session.proofs.CarriedOut.{goes_through}
@@ -27,7 +25,7 @@ nothing_set : (n : ℕ) → (set : List Bool) × (length set ≡ n) × Holds set
 nothing_set n = let made = set_of Nothing n (λ s low. inr (λ h. h)) in (made.0, made.1.bound, holds_of Nothing n made.0 made.1 (λ s h. absurd h))
 
 -- there is a plan from some services to others
-plan_between : (from to : List Bool) → length to ≡ length from → (plan : PlanSets) × LeadsTo from (Has to) Nothing plan
+plan_between : (from to : List Bool) → length to ≡ length from → (plan : PlanSets) × IsPlanTo from (Has to) Nothing plan
 plan_between from to long =
     let lower = gained_set to from (length from) refl in
     let raise = gained_set from to (length from) long in
@@ -56,7 +54,7 @@ module _ (d : Database) (line : Line) (is_db : IsDatabase d) (of : IsLineOf d li
       let way = way_between line.current.live back.current.live limit (was.bound ∙ sym now.bound) in
       let c = course_of d.needs way.0 way.1 in
       let through = goes_through c way.0 (way_is_course d line.current back.current way.0 way.1 way.2.leads is_db now was) in
-      let there = arrives d line.current back.current way.0 way.1 way.2.leads through.events through.live through.told is_db now was through.ends through.is_told through.failed through.stopped in (
+      let there = arrives d line.current back.current way.0 way.1 way.2.leads through.events through.live through.told is_db now was through.ends through.is_report through.failed through.stopped in (
         back,
         next,
         (
@@ -69,7 +67,7 @@ module _ (d : Database) (line : Line) (is_db : IsDatabase d) (of : IsLineOf d li
             task = (back, next, way.2);
             ends = through.ends;
             moved = (back, next, inl (there, refl));
-            is_told = through.is_told;
+            is_report = through.is_report;
           }),
           (through.failed, through.stopped),
         ),
@@ -85,7 +83,7 @@ module _ (d : Database) (line : Line) (is_db : IsDatabase d) (of : IsLineOf d li
       let way = way_between line.current.live on.current.live limit (will.bound ∙ sym now.bound) in
       let c = course_of d.needs way.0 way.1 in
       let through = goes_through c way.0 (way_is_course d line.current on.current way.0 way.1 way.2.leads is_db now will) in
-      let there = arrives d line.current on.current way.0 way.1 way.2.leads through.events through.live through.told is_db now will through.ends through.is_told through.failed through.stopped in (
+      let there = arrives d line.current on.current way.0 way.1 way.2.leads through.events through.live through.told is_db now will through.ends through.is_report through.failed through.stopped in (
         on,
         next,
         (
@@ -98,7 +96,7 @@ module _ (d : Database) (line : Line) (is_db : IsDatabase d) (of : IsLineOf d li
             task = (on, next, way.2);
             ends = through.ends;
             moved = (on, next, inl (there, refl));
-            is_told = through.is_told;
+            is_report = through.is_report;
           }),
           (through.failed, through.stopped),
         ),

@@ -1,27 +1,23 @@
 -- Each course has a settled run in which nothing fails: what may be taken is taken and ends well, one after the other, until nothing may.
 use Rattle.std.proofs.Common.{◌≡◌, ◌∙◌, ◌↔◌, ◌⊎◌, ◌<◌, ◌≤◌, ℕ, zero, suc, inl, inr, Bool, true, false, List, [], ◌∷◌, ◌++◌, length, count_by, slice_index_or, Contains, refl, sym, subst, arith}
 use Rattle.std.proofs.lemmas.List.Elements.{Contains-push}
-use Rattle.rc_set.specs.Set.{Has, Holds}
-use Rattle.rc_set.proofs.Members.{has_or_lacks, has_within}
-use Rattle.rc_graph.specs.Needs.{Needs}
+use Rattle.rc_model.specs.Names.{Has, Holds}
+use Rattle.rc_model.proofs.SetMembers.{has_or_lacks, has_within}
+use Rattle.rc_model.specs.Graph.{Needs}
 use Rattle.rc_graph.proofs.RowLemmas.{needer_known}
-use Rattle.rc_core.specs.declared.standing.Standing.{Standing}
-use Rattle.rc_core.specs.declared.standing.Standing.TheVariants.{Down, Rising, Up, Sinking}
-use Rattle.rc_core.specs.declared.event.Outcome.TheVariants as outcome
-use Rattle.rc_core.specs.declared.event.Event.{Event}
-use Rattle.rc_core.specs.declared.event.Event.TheVariants.{Take, Done}
-use Rattle.rc_core.specs.Course.{Course, IsCourse, IsPlanned, TargetOf}
-use Rattle.rc_core.specs.Standing.{standing_of}
-use Rattle.rc_core.specs.Events.{WasTaken, IsHeldBy, NoneHeld, HasFailed, IsStopped}
-use Rattle.rc_core.specs.Legal.{CanSink, CanRise, CanMove, IsLeft, IsLegal, IsRun}
-use Rattle.rc_core.specs.Settled.{IsLive, IsSettled}
+use Rattle.rc_model.specs.declared.Standing.{Standing}
+use Rattle.rc_model.specs.declared.Standing.TheVariants.{Down, Rising, Up, Sinking}
+use Rattle.rc_model.specs.declared.Outcome.TheVariants as outcome
+use Rattle.rc_model.specs.declared.Event.{Event}
+use Rattle.rc_model.specs.declared.Event.TheVariants.{Take, Done}
+use Rattle.rc_model.specs.Run.{Course, IsCourse, IsPlanned, TargetOf, standing_of, WasTaken, IsHeldBy, NoneHeld, HasFailed, IsStopped, CanSink, CanRise, CanMove, IsLeft, IsLegal, IsRun, IsLive, IsSettled}
 use Rattle.rc_core.proofs.Ends.{ends_by_what_failed, end_is_target}
-use Rattle.rc_core.proofs.EventLemmas.{still_there, take_then_take, take_then_done, done_then_take, done_then_done, stop_then_take, stop_then_done}
-use Rattle.rc_core.proofs.Members.{fewer_in}
+use Rattle.rc_model.proofs.EventLemmas.{still_there, take_then_take, take_then_done, done_then_take, done_then_done, stop_then_take, stop_then_done}
+use Rattle.rc_model.proofs.RunMembers.{fewer_in}
 use Rattle.rc_core.proofs.MoveLemmas.{settled_from}
 use Rattle.rc_core.proofs.Opening.{none_happened}
 use Rattle.rc_core.proofs.Places.{planned_within, move_is_left}
-use Rattle.rc_core.proofs.RunLemmas.{run_empty, run_push, done_was_taken}
+use Rattle.rc_model.proofs.RunLemmas.{run_empty, run_push, done_was_taken}
 use Rattle.rc_core.proofs.Stories.{story_of}
 use Rattle.rc_session.proofs.Deciding.{Decided, both, either, not, some_below, member_decided, number_decided, IsSetOf, set_of, holds_of}
 

@@ -1,20 +1,18 @@
 use Rattle.std.specs.Prelude.{◌≢◌, ◌⊎◌, ℕ, List, [], Ok}
-use Rattle.rc_names.specs.Name.{IsName}
-use Rattle.rc_db.specs.Database.{Database}
-use Rattle.rc_core.specs.declared.event.Event.{Event}
-use Rattle.rc_line.specs.Line.{Line, IsNext}
-use Rattle.rc_session.specs.declared.refusal.Refusal.{Refusal}
-use Rattle.rc_session.specs.Commands.{Command, Undo, Redo, Add, with_events}
-use Rattle.rc_session.specs.Report.{Told}
-use Rattle.rc_session.specs.Doing.{Does}
-use Rattle.rc_session.specs.Refusals.{IsOwnFault}
-use Rattle.rc_session.specs.Promise.{WentWell}
+use Rattle.rc_model.specs.Names.{IsName}
+use Rattle.rc_model.specs.Database.{Database}
+use Rattle.rc_model.specs.declared.Event.{Event}
+use Rattle.rc_model.specs.Line.{Line, IsNext}
+use Rattle.rc_model.specs.declared.Refusal.{Refusal}
+use Rattle.rc_model.specs.Session.{Command, Undo, Redo, Add, Reported, Does, IsOwnFault}
+use Rattle.rc_session.specs.Commands.{with_events}
+use Rattle.rc_model.specs.Headline.{WentWell}
 
 -- What can be done where a line stands.
 
 -- some events carry the command out with nothing failing, and then the line is this one
 abbrev pub CanGoWell : Database → Line → Command → Line → Type 0
-CanGoWell d line command new = (events : List Event) × (told : Told)
+CanGoWell d line command new = (events : List Event) × (told : Reported)
     × Does d line (with_events command events) told new × WentWell (Ok told)
 
 -- where there is a state before the current one an undo can go well, and stands on that state then

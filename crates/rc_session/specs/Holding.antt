@@ -1,20 +1,15 @@
 use Rattle.std.specs.Prelude.{◌≡◌, ◌⊎◌, ℕ, Bool, true, false, List, [], length, replicate, map, Option, Result, Ok, Err}
-use Rattle.rc_db.specs.Database.{Database}
-use Rattle.rc_select.specs.PlanSets.{PlanSets}
+use Rattle.rc_model.specs.Database.{Database}
+use Rattle.rc_model.specs.Plan.{PlanSets}
 use Rattle.rc_line.specs.declared.aim.Aim.{Aim}
 use Rattle.rc_line.specs.declared.aim.Aim.TheVariants as aims
-use Rattle.rc_line.specs.Line.{Line}
+use Rattle.rc_model.specs.Line.{Line}
 use Rattle.rc_line.specs.Opening.{Opening, IsOpened}
-use Rattle.rc_session.specs.declared.refusal.Refusal.{Refusal}
-use Rattle.rc_session.specs.declared.refusal.Refusal.TheVariants.{Strange, Memory}
-use Rattle.rc_session.specs.Commands.{Command, Change, Undo, Redo, Add, Delete}
-use Rattle.rc_session.specs.Report.{Told}
-use Rattle.rc_session.specs.Task.{IsTask}
-use Rattle.rc_session.specs.Doing.{Does}
-use Rattle.rc_session.specs.Refusals.{IsOwnFault, IsRunFault}
-use Rattle.rc_session.specs.Plays.{Plays}
+use Rattle.rc_model.specs.declared.Refusal.{Refusal}
+use Rattle.rc_model.specs.declared.Refusal.TheVariants.{Strange, Memory}
+use Rattle.rc_model.specs.Session.{Command, Change, Undo, Redo, Add, Delete, Reported, IsTask, Does, IsOwnFault, IsRunFault, Plays}
 
--- what a session has: its database, its line, whether a run was begun that is not ended yet, and whether it is spoiled
+-- what a session has: its database, its line, whether a run was begun that is not ended yet, and whether it is poisoned
 pub record Holding : Type 0 where
   pub database : Database
   pub line : Line
@@ -62,19 +57,19 @@ with_run h = record { database = h.database; line = h.line; begun = true; spoile
 abbrev pub with_line : Holding → Line → Holding
 with_line h line = record { database = h.database; line = line; begun = false; spoiled = h.spoiled }
 
--- why a session does not begin a command: a spoiled one refuses each as strange; else a fault of the command's own, and want of memory only where there is none
+-- why a session does not begin a command: a poisoned one refuses each as strange; else a fault of the command's own, and out of memory only where there is none
 abbrev pub IsHindrance : (Refusal → Type 0) → Holding → Refusal → Type 0
 IsHindrance Own h Strange = h.spoiled ≡ true
 IsHindrance Own h Memory = (h.spoiled ≡ false) × ((fault : Refusal) → Own fault → ⊥)
 IsHindrance Own h other = (h.spoiled ≡ false) × Own other
 
 -- what a session answers to a command, and what it has from then on: the command is done, or it is refused and nothing has changed
-abbrev pub Obeys : Holding → Command → Result Told Refusal → Holding → Type 0
+abbrev pub Obeys : Holding → Command → Result Reported Refusal → Holding → Type 0
 Obeys old command (Ok told) new = (old.spoiled ≡ false) × Does old.database old.line command told new.line × (new ≡ with_line old new.line)
 Obeys old command (Err refusal) new = (IsHindrance (IsOwnFault old.database old.line command) old refusal ⊎ ((old.spoiled ≡ false) × IsRunFault old.database old.line command refusal)) × (new ≡ old)
 
--- what a session answers to several commands, and what it has from then on; a spoiled one refuses all
-abbrev pub ObeysAll : Holding → List Command → List (Result Told Refusal) → Holding → Type 0
+-- what a session answers to several commands, and what it has from then on; a poisoned one refuses all
+abbrev pub ObeysAll : Holding → List Command → List (Result Reported Refusal) → Holding → Type 0
 ObeysAll old commands answers new = (new ≡ with_line old new.line)
     × (((old.spoiled ≡ false) × Plays old.database old.line commands answers new.line)
     ⊎ ((old.spoiled ≡ true) × (answers ≡ map (λ _. Err Strange) commands) × (new.line ≡ old.line)))

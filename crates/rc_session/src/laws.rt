@@ -1,27 +1,20 @@
 //! Laws of the definitions, the headline first. The functions do nothing when they run.
 
 ghost use Rattle.std.specs.Prelude.{◌≡◌, ℕ, Bool, false, List, [], Option, Some, length, take, drop, slice_get, Result};
-ghost use Rattle.rc_db.specs.Database.{Database, IsDatabase};
-ghost use Rattle.rc_select.specs.PlanSets.{PlanSets};
-ghost use Rattle.rc_set.specs.Set.{Holds};
+ghost use Rattle.rc_model.specs.Database.{Database, IsDatabase};
+ghost use Rattle.rc_model.specs.Plan.{PlanSets};
+ghost use Rattle.rc_model.specs.Names.{Holds};
 ghost use Rattle.rc_graph.specs.declared.Way.{Way};
-ghost use Rattle.rc_core.specs.declared.event.Event.{Event};
+ghost use Rattle.rc_model.specs.declared.Event.{Event};
 ghost use Rattle.rc_core.specs.End.{EndOf};
-ghost use Rattle.rc_core.specs.Events.{HasFailed};
+ghost use Rattle.rc_model.specs.Run.{HasFailed, IsCourse, course_of, IsSettled};
 ghost use Rattle.rc_core.specs.Failing.{EndsAs};
-ghost use Rattle.rc_core.specs.Course.{IsCourse, course_of};
-ghost use Rattle.rc_core.specs.Settled.{IsSettled};
-ghost use Rattle.rc_line.specs.State.{IsEditOnly};
-ghost use Rattle.rc_line.specs.Line.{Line, IsNext};
-ghost use Rattle.rc_session.specs.declared.refusal.Refusal.{Refusal};
-ghost use Rattle.rc_session.specs.Commands.{Command, Undo, Redo, events_of};
-ghost use Rattle.rc_session.specs.Report.{Told};
-ghost use Rattle.rc_session.specs.Task.{IsTask, deadline_of};
-ghost use Rattle.rc_session.specs.Doing.{Runs, IsLineOf};
-ghost use Rattle.rc_session.specs.Plays.{Answers, Plays};
+ghost use Rattle.rc_model.specs.Line.{IsEditOnly, Line, IsNext};
+ghost use Rattle.rc_model.specs.declared.Refusal.{Refusal};
+ghost use Rattle.rc_model.specs.Session.{Command, Undo, Redo, events_of, Reported, IsTask, deadline_of, DoesByRun, IsLineOf, Answers, Plays};
 ghost use Rattle.rc_session.specs.Alike.{IsEndOfFailing};
 ghost use Rattle.rc_session.specs.Existence.{WaysBack, WaysOn, EachIsAnswered};
-ghost use Rattle.rc_session.specs.Promise.{RunsAreOrderly, ChangesAreEntered, EditsAreEntered, UndosRestore, RedosRestore, UndosLeaveWhatRemains, RedosLeaveWhatRemains, HistoryIsKept, UndosGoOn, RedosGoOn, HoldsAllAlong};
+ghost use Rattle.rc_model.specs.Headline.{RunsAreOrderly, ChangesAreEntered, EditsAreEntered, UndosRestore, RedosRestore, UndosLeaveWhatRemains, RedosLeaveWhatRemains, HistoryIsKept, UndosGoOn, RedosGoOn, IsPromisedAllAlong};
 
 /// The headline. For every database, every line of it and every list of commands, with whatever
 /// events: each change runs in dependency order and keeps what is live strictly closed; its entry
@@ -31,8 +24,8 @@ ghost use Rattle.rc_session.specs.Promise.{RunsAreOrderly, ChangesAreEntered, Ed
 /// remains, a failed redo what remains; and the next one that goes well ends where the failed one
 /// was to end.
 pub fn headline()
-    ensures { (d : Database) (line new : Line) (commands : List Command) (answers : List (Result Told Refusal)) →
-        IsDatabase d → IsLineOf d line → Plays d line commands answers new → HoldsAllAlong d line commands answers new }
+    ensures { (d : Database) (line new : Line) (commands : List Command) (answers : List (Result Reported Refusal)) →
+        IsDatabase d → IsLineOf d line → Plays d line commands answers new → IsPromisedAllAlong d line commands answers new }
 {}
 
 /// What runs is a settled run of its command's task, strictly closed at each moment, and the new state has what is live in the end.
@@ -95,28 +88,28 @@ pub fn ways_lead_back_and_on()
 
 /// A play is its steps: what is said of one command, from a line of the database, reaches each command of a list.
 pub fn plays_go_step_by_step()
-    ensures parts { (d : Database) (line new : Line) (commands : List Command) (answers : List (Result Told Refusal)) (k : ℕ) →
+    ensures parts { (d : Database) (line new : Line) (commands : List Command) (answers : List (Result Reported Refusal)) (k : ℕ) →
         Plays d line commands answers new →
         (here : Line) × Plays d line (take k commands) (take k answers) here × Plays d here (drop k commands) (drop k answers) new }
-    ensures step { (d : Database) (line new : Line) (commands : List Command) (answers : List (Result Told Refusal)) (k : ℕ) (command : Command) (answer : Result Told Refusal) →
+    ensures step { (d : Database) (line new : Line) (commands : List Command) (answers : List (Result Reported Refusal)) (k : ℕ) (command : Command) (answer : Result Reported Refusal) →
         IsLineOf d line → Plays d line commands answers new → slice_get commands k ≡ Some command → slice_get answers k ≡ Some answer →
         (here : Line) × (next : Line) × IsLineOf d here × Plays d line (take k commands) (take k answers) here × Answers d here command answer next }
 {}
 
 /// Each command, done or refused, leads from a line of the database to one, and so do several.
 pub fn commands_keep_lines()
-    ensures one { (d : Database) (line new : Line) (command : Command) (answer : Result Told Refusal) →
+    ensures one { (d : Database) (line new : Line) (command : Command) (answer : Result Reported Refusal) →
         IsLineOf d line → Answers d line command answer new → IsLineOf d new }
-    ensures several { (d : Database) (line new : Line) (commands : List Command) (answers : List (Result Told Refusal)) →
+    ensures several { (d : Database) (line new : Line) (commands : List Command) (answers : List (Result Reported Refusal)) →
         IsLineOf d line → Plays d line commands answers new → IsLineOf d new }
 {}
 
 /// What a command comes to is determined by where the line stands: one answer, and one line from then on. So what is
 /// done has no cause to be refused, and the lines of which the headline speaks are those on which the session stood.
 pub fn answers_are_one()
-    ensures one { (d : Database) (line a b : Line) (command : Command) (x y : Result Told Refusal) →
+    ensures one { (d : Database) (line a b : Line) (command : Command) (x y : Result Reported Refusal) →
         Answers d line command x a → Answers d line command y b → (x ≡ y) × (a ≡ b) }
-    ensures several { (d : Database) (line a b : Line) (commands : List Command) (xs ys : List (Result Told Refusal)) →
+    ensures several { (d : Database) (line a b : Line) (commands : List Command) (xs ys : List (Result Reported Refusal)) →
         Plays d line commands xs a → Plays d line commands ys b → (xs ≡ ys) × (a ≡ b) }
 {}
 
@@ -134,19 +127,19 @@ pub fn later_runs_are_runs()
 
 /// The undo or redo of an edit takes no events, whatever limit it is given.
 pub fn ways_of_edits_take_no_events()
-    ensures undo { (d : Database) (line back new : Line) (limit : ℕ) (events : List Event) (told : Told) →
-        IsNext back line → IsEditOnly line.current back.current → Runs d line (Undo limit events) told new → events ≡ [] }
-    ensures redo { (d : Database) (line on new : Line) (limit : ℕ) (events : List Event) (told : Told) →
-        IsNext line on → IsEditOnly line.current on.current → Runs d line (Redo limit events) told new → events ≡ [] }
+    ensures undo { (d : Database) (line back new : Line) (limit : ℕ) (events : List Event) (told : Reported) →
+        IsNext back line → IsEditOnly line.current back.current → DoesByRun d line (Undo limit events) told new → events ≡ [] }
+    ensures redo { (d : Database) (line on new : Line) (limit : ℕ) (events : List Event) (told : Reported) →
+        IsNext line on → IsEditOnly line.current on.current → DoesByRun d line (Redo limit events) told new → events ≡ [] }
 {}
 
 /// What is told of a run that was not stopped hangs on what failed, and on nothing else: not on who was quicker, nor on how many worked.
 pub fn runs_end_alike()
-    ensures end { (d : Database) (line new : Line) (command : Command) (told : Told) → IsDatabase d → IsLineOf d line →
-        (run : Runs d line command told new) → told.stopped ≡ false →
+    ensures end { (d : Database) (line new : Line) (command : Command) (told : Reported) → IsDatabase d → IsLineOf d line →
+        (run : DoesByRun d line command told new) → told.stopped ≡ false →
         Holds new.current.live (EndOf (course_of d.needs run.plan run.deadline) (HasFailed (events_of command))) }
-    ensures fails { (d : Database) (line new : Line) (command : Command) (told : Told) → IsDatabase d → IsLineOf d line →
-        (run : Runs d line command told new) → told.stopped ≡ false →
+    ensures fails { (d : Database) (line new : Line) (command : Command) (told : Reported) → IsDatabase d → IsLineOf d line →
+        (run : DoesByRun d line command told new) → told.stopped ≡ false →
         (fails : ℕ → Way → Bool) → EndsAs (course_of d.needs run.plan run.deadline) fails (events_of command) →
         IsEndOfFailing (course_of d.needs run.plan run.deadline) fails new.current.live told }
 {}

@@ -1,9 +1,9 @@
 //! Sessions, and what they tell.
 
 ghost use Rattle.std.specs.Prelude.{◌≡◌, ◌≤◌, false, Ok, IfOk, All};
-ghost use Rattle.rc_db.specs.Database.{IsDatabase};
-ghost use Rattle.rc_line.specs.Line.{states};
-ghost use Rattle.rc_session.specs.Doing.{IsStateOf, IsLineOf};
+ghost use Rattle.rc_model.specs.Database.{IsDatabase};
+ghost use Rattle.rc_model.specs.Line.{states};
+ghost use Rattle.rc_model.specs.Session.{IsStateOf, IsLineOf};
 ghost use Rattle.rc_session.specs.Holding.{first_line};
 
 use rc_db::{Db, Table};
@@ -23,8 +23,8 @@ pub struct Session {
 }
 
 impl Model for Session {
-    ghost use Rattle.rc_db.specs.Database.{IsDatabase};
-    ghost use Rattle.rc_session.specs.Doing.{IsLineOf};
+    ghost use Rattle.rc_model.specs.Database.{IsDatabase};
+    ghost use Rattle.rc_model.specs.Session.{IsLineOf};
     ghost use Rattle.rc_session.specs.Holding.{Holding};
 
     ghost Value = { Holding };

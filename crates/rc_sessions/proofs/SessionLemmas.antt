@@ -2,11 +2,11 @@
 use Rattle.std.proofs.Common.{◌≡◌, ◌≢◌, ◌∙◌, ◌⊎◌, ◌↔◌, ℕ, Bool, true, false, if◌then◌else◌, Contains, List, [], Option, None, Some, option_map, Result, Ok, Err, IfErr, OnOk, inl, inr, ap, arith, refl, sym, subst}
 use Rattle.clap.specs.Words.{Text, Text as Path}
 use Rattle.rc_graph.specs.declared.Way.{Way}
-use Rattle.rc_core.specs.Standing.{is_success}
-use Rattle.rc_core.specs.declared.event.Outcome.{Outcome}
-use Rattle.rc_core.specs.declared.event.Outcome.TheVariants as outcome
-use Rattle.rc_db.specs.Database.{Database}
-use Rattle.rc_line.proofs.Members.{none_contained}
+use Rattle.rc_model.specs.Run.{is_success}
+use Rattle.rc_model.specs.declared.Outcome.{Outcome}
+use Rattle.rc_model.specs.declared.Outcome.TheVariants as outcome
+use Rattle.rc_model.specs.Database.{Database}
+use Rattle.rc_model.proofs.Members.{none_contained}
 use Rattle.rc_session.specs.Holding.{Holding}
 use Rattle.rc_runner.specs.Failing.{Table, fails_in, outcome_in}
 use Rattle.rc_runner.specs.Moments.{IsMomentOf}
@@ -25,7 +25,7 @@ use Rattle.rc_serve.specs.Playing.{PlaysInput}
 use Rattle.rc_serve.specs.Meeting.{Doing, IsDoneBy}
 use Rattle.rc_serve.specs.SessionText.{FailsExactly, IsDoneFailing, IsTimeless}
 use Rattle.rc_base.specs.Base.{Spells}
-use Rattle.rc_line.specs.Line.{Line}
+use Rattle.rc_model.specs.Line.{Line}
 use Rattle.rc_sessions.specs.Filing.{BeginsWith, CannotKeep, Filing, Holds, HoldsBy, IsLeft, IsLeftOrFirst, IsUnread, filing_of}
 use Rattle.rc_sessions.specs.Storing.{HoldsText}
 use Rattle.rc_sessions.specs.declared.keeping.LiveFile.{LiveFile}
@@ -115,7 +115,7 @@ ends_on_base (Failed fault) bytes d ask file was is remaining after written gain
   ],
 )
 
--- a session on the database at the front of the input, over what is behind it, is one of the input
+-- a session on the database at the beginning of the input, over what is after it, is one of the input
 pub runs_on_input : (Served : Serving) (all rest : List ℕ) (d : Database) (ask : SessionAsk) (file : LiveFile) (was is : Option (List ℕ)) (remaining after left written gained : Option (List ℕ))
     → Reads None remaining after all → Spells None all d rest → RunsFor Served (filing_of ask file was is) d ask.workers ask.making (Some rest) left written gained
     → Runs Served None ask file was is remaining after written gained

@@ -1,9 +1,9 @@
 -- Where a session begins, and what its file holds in the end.
 use Rattle.std.specs.Prelude.{◌≡◌, ◌≢◌, ◌⊎◌, ℕ, List, Option, None, Some, IfSome}
 use Rattle.clap.specs.Words.{Text as Path}
-use Rattle.rc_db.specs.Database.{Database}
-use Rattle.rc_line.specs.Line.{Line}
-use Rattle.rc_session.specs.Doing.{IsLineOf}
+use Rattle.rc_model.specs.Database.{Database}
+use Rattle.rc_model.specs.Line.{Line}
+use Rattle.rc_model.specs.Session.{IsLineOf}
 use Rattle.rc_session.specs.Holding.{first_line}
 use Rattle.rc_livetext.specs.Spelling.{Spells, spelling}
 use Rattle.rc_livetext.specs.LiveFaults.{IsLiveFault}

@@ -2,8 +2,8 @@
 use Rattle.std.specs.Prelude.{◌≡◌, ◌⊎◌, ℕ, List, Option, false}
 use Rattle.clap.specs.Words.{Text}
 use Rattle.rc_graph.specs.declared.Way.{Way}
-use Rattle.rc_db.specs.Database.{Database}
-use Rattle.rc_line.specs.Line.{Line}
+use Rattle.rc_model.specs.Database.{Database}
+use Rattle.rc_model.specs.Line.{Line}
 use Rattle.rc_session.specs.Holding.{Holding}
 use Rattle.rc_runner.specs.Failing.{fails_in}
 use Rattle.rc_runner.specs.Shell.{MayAnswer, scripts_of}
@@ -44,7 +44,7 @@ abbrev pub KeepsAt : Keeping → ServeFault → Database → (here line : Line) 
 KeepsAt kept fault d here line written =
     kept d line ⊎ (IsOfFile fault × (written ≡ 0) × kept d here)
 
--- and so up to a fault: a front of these answers
+-- and so up to a fault: a prefix of these answers
 abbrev pub ServesUpTo : ServeFault → Serving
 ServesUpTo fault kept Done input left written gained old new =
     (served : ServesFront Done fault input left written gained old new)

@@ -1,7 +1,7 @@
 -- What a session of the program does.
 use Rattle.std.specs.Prelude.{◌≡◌, ℕ, List, [], Option, None, Some}
 use Rattle.clap.specs.Words.{Text}
-use Rattle.rc_db.specs.Database.{Database}
+use Rattle.rc_model.specs.Database.{Database}
 use Rattle.rc_base.specs.Base.{Spells}
 use Rattle.rc_base.specs.Opening.{Reads}
 use Rattle.rc_asked.specs.SessionAsked.{AsksSession, SessionAsk}
@@ -9,7 +9,7 @@ use Rattle.rc_sessions.specs.Filing.{filing_of}
 use Rattle.rc_sessions.specs.Serving.{RunsFor, Serving}
 use Rattle.rc_sessions.specs.declared.keeping.LiveFile.{LiveFile}
 
--- the session's own input, and what is left of it: with a base that of the reader; without one what is behind the database's text
+-- the session's own input, and what is left of it: with a base that of the reader; without one what is after the database's text
 abbrev pub Opens : Option (List ℕ) → (remaining after : Option (List ℕ)) → Database → (input left : Option (List ℕ)) → Type 0
 Opens (Some base) remaining after d input left = Spells (Some base) [] d [] × (input ≡ remaining) × (left ≡ after)
 Opens None remaining after d input left = (all : List ℕ) × (rest : List ℕ) × Reads None remaining after all × Spells None all d rest × (input ≡ Some rest)

@@ -6,7 +6,7 @@ use Rattle.rc_livetext.specs.LiveFaults.{IsLiveFault}
 use Rattle.rc_livetext.specs.declared.fault.LiveFault.{LiveFault}
 use Rattle.rc_livetext.specs.declared.fault.LiveFault.TheVariants as live
 use Rattle.clap.specs.Words.{Text}
-use Rattle.rc_db.specs.Database.{Database}
+use Rattle.rc_model.specs.Database.{Database}
 use Rattle.rc_dbtext.specs.declared.fault.TextFault.{TextFault}
 use Rattle.rc_dbtext.specs.declared.fault.TextFault.TheVariants as text
 use Rattle.rc_sessions.specs.Filing.{CannotKeep, Filing, IsFileRefused, IsLeft, IsLeftOrFirst, IsUnread, filing_of, text_in, text_named}
@@ -92,7 +92,7 @@ IsBeginFault ask file d (Failed fault) = IsOfFile fault
     × ((fault ≡ Io) → (ask.live ≢ None) × IsUnread file)
 IsBeginFault ask file d other = ⊥
 
--- how a session on a database ends before its input, whose commands are done so: refused for its file, with nothing read and nothing written; or by a fault of serving with a front of its input served, or before it is begun with nothing written
+-- how a session on a database ends before its input, whose commands are done so: refused for its file, with nothing read and nothing written; or by a fault of serving with a prefix of its input served, or before it is begun with nothing written
 abbrev pub EndsGated : SessionFault → Filing → Doing → Database →
     (input left written gained : Option (List ℕ)) → (reader writer keeper : Type 0) → Type 0
 EndsGated (OfText fault) filing Done d input left written gained reader writer keeper = ⊥
@@ -104,7 +104,7 @@ EndsGated (Failed fault) filing Done d input left written gained reader writer k
     × ((IsOfFile fault × (gained ≡ written) × IsLeftOrFirst d filing)
     ⊎ RunsGated (ServesUpTo fault) filing Done d input left written gained)
 
--- the same where transitions are made so: refused also for the first name that is to fail and is no service's, and for its file only behind that
+-- the same where transitions are made so: refused also for the first name that is to fail and is no service's, and for its file only after that
 abbrev pub EndsOn : SessionFault → Filing → Database → (workers : ℕ) → MakingAsk →
     (input left written gained : Option (List ℕ)) → (reader writer keeper : Type 0) → Type 0
 EndsOn (OfText fault) filing d workers making input left written gained reader writer keeper = ⊥
@@ -176,21 +176,21 @@ session_fault_text (Unknown word) = codes "Unknown " ++ word.now
 session_fault_text (OfLive fault) = live_word fault
 session_fault_text (Failed fault) = serve_word fault
 
--- as which fault of serving a failure is told: as its own, or as want of memory where a refusal could not be told
+-- as which fault of serving a failure is told: as its own, or as out of memory where a refusal could not be told
 abbrev pub IsToldAs : SessionFault → ServeFault → Type 0
 IsToldAs (OfText fault) told = told ≡ Memory
 IsToldAs (Unknown word) told = told ≡ Memory
 IsToldAs (OfLive fault) told = told ≡ Memory
 IsToldAs (Failed fault) told = told ≡ fault
 
--- a refusal of what is asked holds, and a writer gains a front of the line that tells it
+-- a refusal of what is asked holds, and a writer gains a prefix of the line that tells it
 abbrev pub TellsSessionRefusal : SessionAsk → Option (List ℕ) → LiveFile → (was is : Option (List ℕ)) →
     (remaining after old new : Option (List ℕ)) → Type 0
 TellsSessionRefusal ask base file was is remaining after old new = (fault : SessionFault)
     × IsRefusedBy fault base ask (filing_of ask file was is) remaining after
     × AppendsFront old new (fault_line (session_fault_text fault))
 
--- a fault of serving comes, and a writer gains a front of the line that tells it; the session was not begun, or what serving comes to before that fault
+-- a fault of serving comes, and a writer gains a prefix of the line that tells it; the session was not begun, or what serving comes to before that fault
 abbrev pub TellsSessionFault : SessionAsk → Option (List ℕ) → LiveFile → (was is : Option (List ℕ)) →
     (remaining after written gained : Option (List ℕ)) → (reader writer failed : Type 0) →
     (old new : Option (List ℕ)) → Type 0
@@ -200,13 +200,13 @@ TellsSessionFault ask base file was is remaining after written gained reader wri
     × (IsNotBegun fault base (filing_of ask file was is) remaining written gained
     ⊎ Runs (ServesUpTo fault) base ask file was is remaining after written gained)
 
--- a refusal of what the words ask holds, and a writer gains a front of the line that tells it
+-- a refusal of what the words ask holds, and a writer gains a prefix of the line that tells it
 abbrev pub TellsRefusal : List Text → Option (List ℕ) → LiveFile → (was is : Option (List ℕ)) →
     (remaining after old new : Option (List ℕ)) → Type 0
 TellsRefusal words base file was is remaining after old new = (ask : SessionAsk)
     × AsksSession words ask × TellsSessionRefusal ask base file was is remaining after old new
 
--- the words can't be read for want of memory; or a fault of what they ask is told
+-- the words can't be read as out of memory; or a fault of what they ask is told
 abbrev pub TellsServeFault : List Text → Option (List ℕ) → LiveFile → (was is : Option (List ℕ)) →
     (remaining after written gained : Option (List ℕ)) → (reader writer failed : Type 0) →
     (old new : Option (List ℕ)) → Type 0

@@ -1,7 +1,7 @@
 -- What keeps the text of a session.
 use Rattle.std.specs.Prelude.{◌≡◌, ℕ, List, Option, IfSome}
-use Rattle.rc_db.specs.Database.{Database}
-use Rattle.rc_line.specs.Line.{Line}
+use Rattle.rc_model.specs.Database.{Database}
+use Rattle.rc_model.specs.Line.{Line}
 use Rattle.rc_livetext.specs.Spelling.{spelling}
 use Rattle.rc_sessions.specs.declared.keeping.TextKeeper.{TextKeeper}
 

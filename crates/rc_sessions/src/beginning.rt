@@ -7,9 +7,9 @@ ghost use Rattle.rc_sessions.specs.Serving.{session_on};
 ghost use Rattle.rc_sessions.specs.SessionFaults.{IsBeginFault, IsFileFault, IsTextFaultOf};
 ghost use Rattle.rc_sessions.specs.declared.session_fault.SessionFault.TheVariants.{Failed};
 ghost use Rattle.rc_serve.specs.declared.fault.ServeFault.TheVariants.{Memory};
-ghost use Rattle.rc_line.specs.Line.{Line};
+ghost use Rattle.rc_model.specs.Line.{Line};
 ghost use Rattle.rc_livetext.specs.Spelling.{Spells};
-ghost use Rattle.rc_session.specs.Doing.{IsLineOf};
+ghost use Rattle.rc_model.specs.Session.{IsLineOf};
 
 use crate::keeping::LiveFile;
 use crate::session_fault::SessionFault;

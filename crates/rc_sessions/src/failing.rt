@@ -51,7 +51,7 @@ pub fn gate_of<'a>(
     Ok(TableGate::new(failing, StepClock::new(Vec::new(alloc))))
 }
 
-/// Puts a transition behind others.
+/// Appends a transition to others.
 fn add(failing: &mut Vec<(u16, Way)>, service: u16, way: Way) -> Result<(), AllocError>
     ensures { OnOk result (failing.new.items ≡ failing.old.items ++ (service, way) ∷ []) }
 {

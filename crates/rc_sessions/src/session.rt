@@ -29,8 +29,8 @@ use std::thread::Threads;
 /// Runs `undorc session` on its words, and answers the status.
 ///
 /// The database is `base`, where there is one, and then each line of the input is answered before
-/// the next one is waited for. Without one the database stands at the front of the input, which is
-/// read whole first, and the lines behind it. The answers are written to `writer`, and why the
+/// the next one is waited for. Without one the database stands at the beginning of the input, which is
+/// read whole first, and the lines after it. The answers are written to `writer`, and why the
 /// session ended before its input to `faults`. The two devices must not have failed before.
 ///
 /// `live` is what stood in the file of `-l`, where the words name one: the session goes on with its
@@ -63,7 +63,7 @@ pub fn session_run<T: Threads + Wait + Sync, R: Read, W: Write, F: Write, S: Sto
         (W.contents (inner_of writer.old)) (W.contents (inner_of writer.new)) }
     ensures untold { result ≡ 0 → F.contents faults.new ≡ F.contents faults.old }
 
-    // A refusal holds, and a front of its line was told, or all of it. With a base nothing was read
+    // A refusal holds, and a prefix of its line was told, or all of it. With a base nothing was read
     // for it. The store was left alone.
     ensures refused { result ≡ 1 → TellsRefusal (map string_bytes words.now) (bytes_of base.entry) live.entry
         (S.holds (store_of keeper.old)) (S.holds (store_of keeper.new))
@@ -137,7 +137,7 @@ pub fn session_as_asked<T: Threads + Wait + Sync, R: Read, W: Write, F: Write, S
         (W.contents (inner_of writer.old)) (W.contents (inner_of writer.new)) }
     ensures untold { result ≡ 0 → F.contents faults.new ≡ F.contents faults.old }
 
-    // A refusal holds, and a front of its line was told, or all of it. With a base nothing was read
+    // A refusal holds, and a prefix of its line was told, or all of it. With a base nothing was read
     // for it. The store was left alone.
     ensures refused { result ≡ 1 → TellsSessionRefusal (session_ask_of request.now)
         (bytes_of base.entry) live.entry
@@ -250,7 +250,7 @@ fn run_on_base<'a, T: Threads + Wait + Sync, R: Read, W: Write, S: Store>(
     run_on(rt, host, alloc, db, request, live, keeper, reader, writer)
 }
 
-// Runs a session on the database at the front of the input, and on the lines behind it.
+// Runs a session on the database at the beginning of the input, and on the lines after it.
 fn run_on_input<'a, T: Threads + Wait + Sync, R: Read, W: Write, S: Store>(
     rt: &T,
     host: &HostRuntime,

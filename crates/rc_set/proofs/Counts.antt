@@ -14,7 +14,7 @@ use Rattle.rc_set.specs.Words.{has_bit, flags_of, AreWords}
 count_in : (ℕ → Bool) → ℕ → ℕ → ℕ
 count_in p a n = count_by (λ flag. flag) (map p (range_with_len a n))
 
--- one number more, at the end and at the front
+-- one number more, at the end and at the beginning
 count_more : (p : ℕ → Bool) (a n : ℕ) → count_in p a (n + 1) ≡ count_in p a n + cond (p (a + n)) 1 0
 unfolding count_in
 count_more p a n = sum_by-map-range_with_len_more (λ flag. cond flag 1 0) p a n (a + n) refl

@@ -4,9 +4,9 @@ use Rattle.std.proofs.lemmas.Nat.Bits.{bit_at-lt, bit_at-zero, same_from_bits_be
 use Rattle.std.proofs.lemmas.List.{get_or_past, get_or-replicate, length-replicate, ext_get_or}
 use Rattle.std.proofs.lemmas.List.FromFn.{length-map-range_with_len, get_or-map-range_with_len}
 use Rattle.std.proofs.lemmas.Bool.{cases_lt, cases_eq, ne_eqb}
-use Rattle.rc_set.specs.Set.{Has}
+use Rattle.rc_model.specs.Names.{Has}
 use Rattle.rc_set.specs.Words.{has_bit, HasBit, flags_of, AreWords}
-use Rattle.rc_set.proofs.Members.{has_within}
+use Rattle.rc_model.proofs.SetMembers.{has_within}
 use Rattle.rc_set.proofs.Bits.{bit_one, bit_of_word, bit_low}
 
 -- the truth value of an id is its bit

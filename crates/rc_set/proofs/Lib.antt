@@ -3,5 +3,4 @@ pub mod Counts
 pub mod Flags
 pub mod Writes
 pub mod Listing
-pub mod Members
 pub mod WordIds

@@ -3,9 +3,9 @@ use Rattle.std.proofs.lemmas.Bool.{false_from_ne_true}
 use Rattle.std.proofs.lemmas.List.{with_items_is}
 use Rattle.std.specs.Global.{Vec}
 use Rattle.std.specs.Vec.{with_items}
-use Rattle.rc_set.specs.Set.{Has}
+use Rattle.rc_model.specs.Names.{Has}
 use Rattle.rc_set.specs.Words.{has_bit, HasBit, flags_of, AreWords}
-use Rattle.rc_set.proofs.Members.{has_within}
+use Rattle.rc_model.proofs.SetMembers.{has_within}
 use Rattle.rc_set.proofs.Flags.{flag_is, length_is}
 
 -- the words of a set were lent to a call that wrote `new` in their place, where the bits of the

@@ -1,6 +1,6 @@
 use Rattle.std.specs.Prelude.{◌≡◌, ℕ, ◌+◌, ◌*◌, ◌<◌, ◌≤◌, ◌↔◌, List, Contains, All, slice_index}
 use Rattle.std.specs.Int.{bit_at}
-use Rattle.rc_set.specs.Set.{IsAscending}
+use Rattle.rc_model.specs.Names.{IsAscending}
 use Rattle.rc_set.specs.Words.{HasBit}
 
 -- the ids below a bound of which a fact holds, ascending

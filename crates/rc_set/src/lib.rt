@@ -7,14 +7,14 @@
 #![tactic(auto)]
 
 ghost use Rattle.std.specs.Prelude.{◌≡◌, ◌≢◌, ℕ, ◌+◌, ◌*◌, ◌<◌, ◌≤◌, ◌⊎◌, ◌↔◌, length, count_by, IsTrue, IfOk, OnOk};
-ghost use Rattle.rc_set.specs.Set.{Has, Holds, Lists};
+ghost use Rattle.rc_model.specs.Names.{Has, Holds, Lists};
 ghost use Rattle.rc_set.specs.Words.{has_bit, HasBit, flags_of};
 ghost use Rattle.rc_set.specs.Listed.{ListsBelow};
 
 use std::alloc::{AllocError, Global};
 use std::marker::Model;
 
-/// Want of memory, the only refusal of the calls that answer it. Nothing has changed.
+/// Out of memory: the only refusal of the calls that answer it. Nothing has changed.
 pub type NoMem = AllocError;
 
 /// A set of ids below a bound that is fixed when the set is made.
@@ -201,7 +201,7 @@ fn ids_of(alloc: Global, words: &[u64]) -> Result<Vec<u16>, NoMem>
     Ok(ids)
 }
 
-/// Lists the ids of a word, behind those of the words before it.
+/// Lists the ids of a word, after those of the words before it.
 fn push_ids(ids: &mut Vec<u16>, words: &[u64], at: usize) -> Result<(), NoMem>
     requires few { length words.now ≤ 64 }
     requires place { at < length words.now }

@@ -6,7 +6,7 @@ use Rattle.rc_tree.specs.Tree.{Source}
 use Rattle.rc_source.specs.Kinds.{Holds, KindWord, Flag, kind_of, files_of_kind, files_for, limit_files, dependency_files, pipe_files, files_of_atomic}
 use Rattle.rc_source.specs.Files.{FilePasses, StopsAtFile, FilesPass, StopsInFiles}
 use Rattle.rc_source.specs.Tests.{files_of_entry}
-use Rattle.rc_names.specs.declared.kind.Kind.{Kind}
+use Rattle.rc_model.specs.declared.Kind.{Kind}
 use Rattle.rc_source.proofs.Stopping.{stops_before, stops_behind}
 
 module _ (source : Source) (entry : List ℕ) where

@@ -3,14 +3,14 @@ use Rattle.std.proofs.Common.{◌≡◌, ⊎_elim, inl, inr, ℕ, ◌++◌, fals
 use Rattle.std.specs.Option.{IfSome, option_map}
 use Rattle.std.specs.Bool.{IsTrue}
 use Rattle.std.proofs.lemmas.List.Elements.{All-nil}
-use Rattle.rc_names.specs.declared.kind.Kind.{Kind}
-use Rattle.rc_names.specs.declared.kind.Kind.TheVariants.{Oneshot, Longrun, Bundle}
-use Rattle.rc_names.specs.Name.{IsName}
+use Rattle.rc_model.specs.declared.Kind.{Kind}
+use Rattle.rc_model.specs.declared.Kind.TheVariants.{Oneshot, Longrun, Bundle}
+use Rattle.rc_model.specs.Names.{IsName}
 use Rattle.rc_source.specs.declared.entry.Service.{Service}
 use Rattle.rc_tree.specs.Tree.{Source, file_at}
 use Rattle.rc_source.specs.Texts.{IsScriptText}
 use Rattle.rc_source.specs.Kinds.{kind_of, is_file_of}
-use Rattle.rc_source.specs.Meaning.{Meaning, ListsNames, Means, IsMeaning, IsGiven, given_in, counted}
+use Rattle.rc_source.specs.Meaning.{Meaning, ListsNames, Means, IsMeaning, IsGiven, given_in, bytes_that_count}
 use Rattle.rc_source.specs.Said.{IsNamedIn, SayService, IsSaid}
 use Rattle.rc_tree.proofs.Members.{Contains-nil}
 
@@ -59,7 +59,7 @@ lists_none P none = record { order = λ i j d before within. absurd (omega arith
 
 module _ (source : Source) (entry : List ℕ) (kind : Kind) (file : List ℕ) where
   -- the names of a file and a folder that count for the kind
-  lists_given : (names : List (List ℕ)) → counted source entry kind file ≡ file_at source entry file → IsTrue (is_file_of kind (file ++ codes ".d"))
+  lists_given : (names : List (List ℕ)) → bytes_that_count source entry kind file ≡ file_at source entry file → IsTrue (is_file_of kind (file ++ codes ".d"))
       → ListsNames (IsNamedIn source entry file (file ++ codes ".d")) names → ListsNames (IsGiven source entry kind file) names
   lists_given names here folder lists = record {
     order = lists.order;
@@ -70,7 +70,7 @@ module _ (source : Source) (entry : List ℕ) (kind : Kind) (file : List ℕ) wh
   }
 
   -- and those that count for another kind
-  gives_none : counted source entry kind file ≡ None → is_file_of kind (file ++ codes ".d") ≡ false → ListsNames (IsGiven source entry kind file) []
+  gives_none : bytes_that_count source entry kind file ≡ None → is_file_of kind (file ++ codes ".d") ≡ false → ListsNames (IsGiven source entry kind file) []
   gives_none here folder = lists_none (IsGiven source entry kind file) (λ name given. ⊎_elim
       (λ line. Contains-nil name (subst (λ o. Contains (given_in o) name) here line))
       (λ beside. true≢false (sym beside.0 ∙ folder)) given)

@@ -1,7 +1,7 @@
 -- What the parts of reading an entry say of its tests.
 use Rattle.std.proofs.Common.{◌≡◌, ◌≢◌, ◌∙◌, ⊎_elim, inl, inr, ℕ, List, ◌∷◌, map, Contains, refl, sym, subst}
 use Rattle.std.proofs.lemmas.List.Elements.{All-cons, All-map}
-use Rattle.rc_names.specs.Name.{IsName}
+use Rattle.rc_model.specs.Names.{IsName}
 use Rattle.rc_source.specs.declared.fault.Flaw.{Flaw}
 use Rattle.rc_source.specs.declared.fault.Flaw.TheVariants.{Io, BadName, Twice, Memory}
 use Rattle.rc_tree.specs.Tree.{Source}

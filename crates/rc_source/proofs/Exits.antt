@@ -9,7 +9,7 @@ pub exit : {T E : Type 0} (r : Result T E) (told : E) (P : E → Type 0) → IsE
 exit (Ok x) told P h p = tt
 exit (Err e) told P h p = subst P (sym h) p
 
--- want of memory is no flaw that says more
+-- out of memory is no flaw that says more
 pub exit_memory : {T : Type 0} (r : Result T Flaw) (P : Flaw → Type 0) → IsErrAnd r (λ e. e ≡ Memory) → IfErr r (λ flaw. flaw ≢ Memory → P flaw)
 exit_memory r P h = exit r Memory (λ flaw. flaw ≢ Memory → P flaw) h (λ other. absurd (other refl))
 

@@ -4,20 +4,18 @@ use Rattle.std.specs.Result.{IfOk, OnOk}
 use Rattle.std.proofs.Math.ListN.{get_or-map}
 use Rattle.std.proofs.lemmas.List.{take_more, length-map}
 use Rattle.std.proofs.lemmas.List.Elements.{All-contains, Contains-append_cases, Contains-append_left, Contains-append_right}
-use Rattle.rc_names.specs.Names.{IsInByteOrder}
-use Rattle.rc_names.specs.Name.{IsName}
+use Rattle.rc_model.specs.Names.{IsInByteOrder, IsName, IsBefore}
 use Rattle.rc_source.specs.declared.fault.Flaw.{Flaw}
 use Rattle.rc_source.specs.declared.fault.Flaw.TheVariants.{BadName}
 use Rattle.rc_source.specs.Files.{FilePasses, StopsAtFile}
 use Rattle.rc_source.specs.Kinds.{is_hidden, NameEach}
-use Rattle.rc_tree.specs.Tree.{Source, AreEntries, IsSource, listed}
+use Rattle.rc_tree.specs.Tree.{Source, AreEntries, IsSource, names_next}
 use Rattle.rc_source.specs.Tests.{entries_of}
 use Rattle.rc_source.specs.Meaning.{ListsNames}
 use Rattle.rc_tree.proofs.Members.{only, Contains-here, Contains-nil}
-use Rattle.rc_names.proofs.ByteOrder.{same_names}
+use Rattle.rc_model.proofs.ByteOrder.{same_names}
 use Rattle.rc_source.proofs.Filtering.{Contains-filter}
 use Rattle.std.proofs.lemmas.List.Kept.{AllPairs-filter}
-use Rattle.rc_names.specs.Names.{IsBefore}
 
 -- the names of one list
 pub lists_one : (P : List ℕ → Type 0) (old new names : List (List ℕ)) → old ≡ [] → names ≡ new → IsInByteOrder new
@@ -101,12 +99,12 @@ folder_gives in_folder shown names listing visible name = (
 
 -- a folder whose names are names passes
 pub folder_passes : (source : Source) (entry folder : List ℕ) (names : List (List ℕ))
-    → ((name : List ℕ) → Contains names name ↔ (Contains (listed source entry folder) name × (is_hidden name ≡ false))) → All IsName names → FilePasses source entry (folder, NameEach)
+    → ((name : List ℕ) → Contains names name ↔ (Contains (names_next source entry folder) name × (is_hidden name ≡ false))) → All IsName names → FilePasses source entry (folder, NameEach)
 folder_passes source entry folder names same each flaw bad =
     let (name, there, shown, not_name) = bad.1 in not_name (All-contains IsName names name each ((same name).1 (there, shown)))
 
 -- reading stops at a name in a folder that is none
-pub folder_stops : (source : Source) (entry folder : List ℕ) (shown : List (List ℕ)) → ((name : List ℕ) → Contains shown name ↔ Contains (listed source entry folder) name) → (flaw : Flaw)
+pub folder_stops : (source : Source) (entry folder : List ℕ) (shown : List (List ℕ)) → ((name : List ℕ) → Contains shown name ↔ Contains (names_next source entry folder) name) → (flaw : Flaw)
     → flaw ≡ BadName → (each : List ℕ) × Contains shown each × (is_hidden each ≡ false) × (IsName each → ⊥) → StopsAtFile source entry (folder, NameEach) flaw
 folder_stops source entry folder shown listing flaw told (each, there, seen, not_name) = inl (told, (each, (listing each).0 there, seen, not_name))
 

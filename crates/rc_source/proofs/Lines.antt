@@ -2,16 +2,16 @@
 use Rattle.std.proofs.Common.{◌≡◌, ℕ, zero, suc, ◌+◌, ◌<◌, Bool, true, false, cond, List, [], ◌∷◌, ◌++◌, length, get_or, take, map, filter, All, arith, sym, ap, subst, ◌∙◌}
 use Rattle.std.proofs.lemmas.List.{take_more, map-append}
 use Rattle.std.proofs.lemmas.List.Elements.{All-head, All-tail, All-cons, All-nil, filter-append}
-use Rattle.rc_source.specs.Texts.{counts, trimmed}
+use Rattle.rc_source.specs.Texts.{counts, trimmed_line}
 
 module _ {X : Type 0} (now : X → List ℕ) where
   -- the names of lines
   abbrev pub named : List X → List (List ℕ)
-  named lines = filter counts (map trimmed (map now lines))
+  named lines = filter counts (map trimmed_line (map now lines))
 
   named-append : (xs ys : List X) → named (xs ++ ys) ≡ named xs ++ named ys
-  named-append xs ys = ap (λ l. filter counts (map trimmed l)) (map-append now xs ys) ∙ ap (filter counts) (map-append trimmed (map now xs) (map now ys))
-      ∙ filter-append counts (map trimmed (map now xs)) (map trimmed (map now ys))
+  named-append xs ys = ap (λ l. filter counts (map trimmed_line l)) (map-append now xs ys) ∙ ap (filter counts) (map-append trimmed_line (map now xs) (map now ys))
+      ∙ filter-append counts (map trimmed_line (map now xs)) (map trimmed_line (map now ys))
 
   -- one more line
   pub named_more : (xs : List X) (i : ℕ) (d : X) → i < length xs → named (take (i + 1) xs) ≡ named (take i xs) ++ named (get_or xs i d ∷ [])
@@ -29,8 +29,8 @@ module _ {X : Type 0} (now : X → List ℕ) where
     -- what holds of all names holds of those of one line
     pub one_of_all : (xs : List X) (i : ℕ) (d : X) → i < length xs → All P (named xs) → All P (named (get_or xs i d ∷ []))
     one_of_all [] i d within all = absurd (omega arith)
-    one_of_all (x ∷ xs) zero d within all = first (counts (trimmed (now x))) (trimmed (now x)) (named xs) all
-    one_of_all (x ∷ xs) (suc i) d within all = one_of_all xs i d (omega arith) (rest (counts (trimmed (now x))) (trimmed (now x)) (named xs) all)
+    one_of_all (x ∷ xs) zero d within all = first (counts (trimmed_line (now x))) (trimmed_line (now x)) (named xs) all
+    one_of_all (x ∷ xs) (suc i) d within all = one_of_all xs i d (omega arith) (rest (counts (trimmed_line (now x))) (trimmed_line (now x)) (named xs) all)
 
 -- the one name of a line that counts
 pub one_name : (P : List ℕ → Type 0) (name line : List ℕ) → name ≡ line → counts name ≡ true → All P (cond (counts line) (line ∷ []) []) → P name

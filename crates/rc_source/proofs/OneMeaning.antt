@@ -1,10 +1,10 @@
 -- An entry means one thing.
 use Rattle.std.proofs.Common.{◌≡◌, ◌∙◌, ℕ, Bool, List, Option, sym, ap, subst}
 use Rattle.std.proofs.lemmas.Option.{same_Some}
-use Rattle.rc_names.specs.declared.kind.Kind.{Kind}
+use Rattle.rc_model.specs.declared.Kind.{Kind}
 use Rattle.rc_tree.specs.Tree.{Source}
 use Rattle.rc_source.specs.Meaning.{Meaning, Means, ListsNames}
-use Rattle.rc_names.proofs.ByteOrder.{same_names}
+use Rattle.rc_model.proofs.ByteOrder.{same_names}
 
 -- names that are listed are one list
 listed_once : (P : List ℕ → Type 0) (xs ys : List (List ℕ)) → ListsNames P xs → ListsNames P ys → xs ≡ ys

@@ -11,7 +11,7 @@ use Rattle.rc_source.specs.Said.{meant}
 use Rattle.rc_source.specs.Tests.{Listed, Passes, StopsAt, AllPass, StopsInTests, tests_of_entry, tests_of_entries, tests_of_source, all_tests, entries_of}
 use Rattle.rc_source.proofs.Stopping.{IsLeft, left_whole, left_more, left_none, left_stops}
 
--- lists that fit, one behind the other
+-- lists that fit, one after the other
 AllZip-append : {A B : Type 0} (R : A → B → Type 0) (xs vs : List A) (ys ws : List B) → AllZip R xs ys → AllZip R vs ws → AllZip R (xs ++ vs) (ys ++ ws)
 AllZip-append R [] vs [] ws h k = k
 AllZip-append R [] vs (y ∷ ys) ws h k = absurd h
@@ -32,7 +32,7 @@ beside source [] (m ∷ ms) h = absurd h
 beside source (e ∷ es) [] h = absurd h
 beside source (e ∷ es) (m ∷ ms) h = (h.0, beside source es ms h.1)
 
--- of these entries of a source so many are read, behind what was found before
+-- of these entries of a source so many are read, after what was found before
 pub record EntriesRead (source : Source) (before found : List Meaning) (entries : List (List ℕ)) (i : ℕ) : Type 0 where
   pub left : IsLeft Passes (tests_of_entries (meant before) source entries) (tests_of_entries (meant found) source (drop i entries))
   pub read : List Meaning

@@ -31,7 +31,7 @@ at_front xs ys i d e =
     let z : i + 0 ≡ i = omega arith in
     sym (get_or-drop i xs 0 d ∙ ap (λ n. get_or xs n d) z) ∙ ap (λ l. get_or l 0 d) e ∙ get_or-drop i ys 0 d ∙ ap (λ n. get_or ys n d) z
 
--- behind a place that is written, they stay alike
+-- after a place that is written, they stay alike
 pub behind_set : {X : Type 0} (xs ys : List X) (i : ℕ) (y : X) → drop i xs ≡ drop i ys → drop (i + 1) (set xs i y) ≡ drop (i + 1) ys
 behind_set xs ys i y e = drop-set-lt (i + 1) xs i y (omega arith) ∙ sym (drop-drop 1 i xs) ∙ ap (drop 1) e ∙ drop-drop 1 i ys
 

@@ -1,4 +1,4 @@
--- What stops at the first of a list that does not pass, and what is left of a list behind those that passed.
+-- What stops at the first of a list that does not pass, and what is left of a list after those that passed.
 use Rattle.std.proofs.Common.{◌≡◌, ◌∙◌, ⊎_elim, inl, inr, List, [], ◌∷◌, ◌++◌, map, All, append_assoc, refl, sym, subst}
 use Rattle.std.proofs.lemmas.List.{append-nil}
 use Rattle.std.proofs.lemmas.List.Elements.{All-head, All-tail, All-nil, All-append}
@@ -10,7 +10,7 @@ module _ {A : Type 0} (Passes Stops : A → Type 0) where
   stops_before [] ys h = absurd h
   stops_before (x ∷ xs) ys h = ⊎_elim (λ here. inl here) (λ later. inr (later.0, stops_before xs ys later.1)) h
 
-  -- also behind a list that passes
+  -- also after a list that passes
   pub stops_behind : (xs ys : List A) → All Passes xs → StopsFirst Passes Stops ys → StopsFirst Passes Stops (xs ++ ys)
   stops_behind [] ys all h = h
   stops_behind (x ∷ xs) ys all h = inr (All-head Passes x xs all, stops_behind xs ys (All-tail Passes x xs all) h)

@@ -1,10 +1,10 @@
 use Rattle.std.specs.Prelude.{◌≡◌, ◌<◌, ◌⊎◌, ℕ, List, false, length, All, Contains, Option, Some, None}
-use Rattle.rc_names.specs.Name.{IsName}
+use Rattle.rc_model.specs.Names.{IsName}
 use Rattle.rc_source.specs.declared.fault.Flaw.{Flaw}
 use Rattle.rc_source.specs.declared.fault.Flaw.TheVariants.{Io, NotText, TooLong, BadName, NoType, BadType, NoUp, NoRun, BadTimeout}
-use Rattle.rc_tree.specs.Tree.{Source, file_at, listed}
+use Rattle.rc_tree.specs.Tree.{Source, file_at, names_next}
 use Rattle.rc_tree.specs.TreeFaults.{IsTooLong}
-use Rattle.rc_source.specs.Texts.{IsText, IsLimit, unended, kind_of_word, names_in}
+use Rattle.rc_source.specs.Texts.{IsText, IsLimit, without_newline, kind_of_word, names_in}
 use Rattle.rc_source.specs.Stops.{StopsFirst}
 use Rattle.rc_source.specs.Kinds.{Holds, KindWord, UpText, Anything, Limit, Flag, Names, NameEach, OneName, is_hidden}
 
@@ -23,8 +23,8 @@ wrong_flaw holds = BadName
 
 -- a text is not what the file is to hold
 abbrev pub IsWrong : Holds → List ℕ → Type 0
-IsWrong KindWord text = kind_of_word (unended text) ≡ None
-IsWrong Limit text = IsLimit (unended text) → ⊥
+IsWrong KindWord text = kind_of_word (without_newline text) ≡ None
+IsWrong Limit text = IsLimit (without_newline text) → ⊥
 IsWrong Names text = All IsName (names_in text) → ⊥
 IsWrong OneName text = (1 < length (names_in text)) ⊎ (All IsName (names_in text) → ⊥)
 IsWrong holds text = ⊥
@@ -47,7 +47,7 @@ abbrev pub IsFileFlaw : Source → List ℕ → List ℕ × Holds → Flaw → T
 IsFileFlaw source name (file, Anything) flaw = (file_at source name file ≡ None) × (flaw ≡ NoRun)
 IsFileFlaw source name (file, Flag) flaw = ⊥
 IsFileFlaw source name (folder, NameEach) flaw =
-    (flaw ≡ BadName) × ((each : List ℕ) × Contains (listed source name folder) each × (is_hidden each ≡ false) × (IsName each → ⊥))
+    (flaw ≡ BadName) × ((each : List ℕ) × Contains (names_next source name folder) each × (is_hidden each ≡ false) × (IsName each → ⊥))
 IsFileFlaw source name (file, holds) flaw = IsReadFlaw holds (file_at source name file) flaw
 
 -- no flaw fits the file

@@ -1,10 +1,10 @@
 use Rattle.std.specs.Prelude.{◌==◌, ℕ, Bool, List, [], ◌∷◌, ◌++◌, slice_index, Option, Some, None, option_and_then, codes}
 use Rattle.std.specs.Str.{bytes_eq}
 use Rattle.std.specs.List.{list_any}
-use Rattle.rc_names.specs.declared.kind.Kind.{Kind}
-use Rattle.rc_names.specs.declared.kind.Kind.TheVariants.{Oneshot, Longrun, Bundle}
+use Rattle.rc_model.specs.declared.Kind.{Kind}
+use Rattle.rc_model.specs.declared.Kind.TheVariants.{Oneshot, Longrun, Bundle}
 use Rattle.rc_tree.specs.Tree.{Source, file_at}
-use Rattle.rc_source.specs.Texts.{unended, kind_of_word}
+use Rattle.rc_source.specs.Texts.{without_newline, kind_of_word}
 
 -- a name that begins with a dot
 abbrev pub is_hidden : List ℕ → Bool
@@ -46,7 +46,7 @@ files_of_kind Bundle = (codes "contents", Names) ∷ (codes "contents.d", NameEa
 
 -- the kind that the file `type` of a directory gives
 abbrev pub kind_of : Source → List ℕ → Option Kind
-kind_of source name = option_and_then (λ text. kind_of_word (unended text)) (file_at source name (codes "type"))
+kind_of source name = option_and_then (λ text. kind_of_word (without_newline text)) (file_at source name (codes "type"))
 
 -- the files that count for what may have a kind
 abbrev pub files_for : Option Kind → List (List ℕ × Holds)

@@ -2,12 +2,11 @@ use Rattle.std.specs.Prelude.{◌≡◌, ◌≢◌, ◌<◌, ◌^◌, ◌↔◌,
 use Rattle.std.specs.Option.{is_some}
 use Rattle.std.specs.List.{AllZip}
 use Rattle.std.specs.Str.Parse.{digits_value}
-use Rattle.rc_names.specs.declared.kind.Kind.{Kind}
-use Rattle.rc_names.specs.declared.kind.Kind.TheVariants.{Oneshot, Bundle}
-use Rattle.rc_names.specs.Name.{IsName}
-use Rattle.rc_names.specs.Names.{IsInByteOrder}
-use Rattle.rc_tree.specs.Tree.{Source, file_at, listed}
-use Rattle.rc_source.specs.Texts.{IsScriptText, unended, names_in}
+use Rattle.rc_model.specs.declared.Kind.{Kind}
+use Rattle.rc_model.specs.declared.Kind.TheVariants.{Oneshot, Bundle}
+use Rattle.rc_model.specs.Names.{IsName, IsInByteOrder}
+use Rattle.rc_tree.specs.Tree.{Source, file_at, names_next}
+use Rattle.rc_source.specs.Texts.{IsScriptText, without_newline, names_in}
 use Rattle.rc_source.specs.Kinds.{is_hidden, kind_of, is_file_of}
 use Rattle.rc_source.specs.Tests.{entries_of}
 
@@ -34,7 +33,7 @@ pub record ListsNames (P : List ℕ → Type 0) (names : List (List ℕ)) : Type
 -- the number in a file, 0 where it is missing
 abbrev pub limit_in : Option (List ℕ) → ℕ
 limit_in None = 0
-limit_in (Some text) = digits_value 10 (unended text)
+limit_in (Some text) = digits_value 10 (without_newline text)
 
 -- the names in a file, none where it is missing
 abbrev pub given_in : Option (List ℕ) → List (List ℕ)
@@ -42,27 +41,27 @@ given_in None = []
 given_in (Some text) = names_in text
 
 -- the bytes of a file that is there and counts for the kind
-abbrev pub counted : Source → List ℕ → Kind → List ℕ → Option (List ℕ)
-counted source name kind file = if is_file_of kind file then file_at source name file else None
+abbrev pub bytes_that_count : Source → List ℕ → Kind → List ℕ → Option (List ℕ)
+bytes_that_count source name kind file = if is_file_of kind file then file_at source name file else None
 
 -- a line of the file gives the name, or an entry of the folder beside it has it
 abbrev pub IsGiven : Source → List ℕ → Kind → List ℕ → List ℕ → Type 0
-IsGiven source entry kind file name = Contains (given_in (counted source entry kind file)) name
-    ⊎ (IsTrue (is_file_of kind (file ++ codes ".d")) × Contains (listed source entry (file ++ codes ".d")) name × (is_hidden name ≡ false))
+IsGiven source entry kind file name = Contains (given_in (bytes_that_count source entry kind file)) name
+    ⊎ (IsTrue (is_file_of kind (file ++ codes ".d")) × Contains (names_next source entry (file ++ codes ".d")) name × (is_hidden name ≡ false))
 
 -- what the files of an entry say
 pub record Means (source : Source) (entry : List ℕ) (m : Meaning) : Type 0 where
   pub name : m.name ≡ entry
   pub kind : kind_of source entry ≡ Some m.kind
-  pub limit_up : m.limit_up ≡ limit_in (counted source entry m.kind (codes "timeout-up"))
-  pub limit_down : m.limit_down ≡ limit_in (counted source entry m.kind (codes "timeout-down"))
-  pub essential : m.essential ≡ is_some (counted source entry m.kind (codes "flag-essential"))
-  pub up : m.up ≡ counted source entry m.kind (codes "up")
-  pub down : m.down ≡ counted source entry m.kind (codes "down")
-  pub producer_for : m.producer_for ≡ slice_get (given_in (counted source entry m.kind (codes "producer-for"))) 0
-  pub pipeline_name : m.pipeline_name ≡ slice_get (given_in (counted source entry m.kind (codes "pipeline-name"))) 0
+  pub limit_up : m.limit_up ≡ limit_in (bytes_that_count source entry m.kind (codes "timeout-up"))
+  pub limit_down : m.limit_down ≡ limit_in (bytes_that_count source entry m.kind (codes "timeout-down"))
+  pub essential : m.essential ≡ is_some (bytes_that_count source entry m.kind (codes "flag-essential"))
+  pub up : m.up ≡ bytes_that_count source entry m.kind (codes "up")
+  pub down : m.down ≡ bytes_that_count source entry m.kind (codes "down")
+  pub producer_for : m.producer_for ≡ slice_get (given_in (bytes_that_count source entry m.kind (codes "producer-for"))) 0
+  pub pipeline_name : m.pipeline_name ≡ slice_get (given_in (bytes_that_count source entry m.kind (codes "pipeline-name"))) 0
   pub dependencies : ListsNames (IsGiven source entry m.kind (codes "dependencies")) m.dependencies
-  pub consumer_for : ListsNames (Contains (given_in (counted source entry m.kind (codes "consumer-for")))) m.consumer_for
+  pub consumer_for : ListsNames (Contains (given_in (bytes_that_count source entry m.kind (codes "consumer-for")))) m.consumer_for
   pub contents : ListsNames (IsGiven source entry m.kind (codes "contents")) m.contents
 
 -- the entries of sources in the order of reading, each with its source

@@ -1,11 +1,11 @@
 use Rattle.std.specs.Prelude.{◌≡◌, ◌<◌, ◌^◌, ◌⊎◌, ◌↔◌, ℕ, List, All, Contains, IfSome, codes, slice_get, false, map, option_map, string_bytes}
 use Rattle.std.specs.Option.{is_some}
-use Rattle.rc_names.specs.Name.{IsName}
+use Rattle.rc_model.specs.Names.{IsName}
 use Rattle.rc_source.specs.declared.definition.Definition.{Definition}
 use Rattle.rc_source.specs.declared.entry.Limits.{Limits}
 use Rattle.rc_source.specs.declared.entry.Pipes.{Pipes}
 use Rattle.rc_source.specs.declared.entry.Service.{Service}
-use Rattle.rc_tree.specs.Tree.{Source, file_at, listed}
+use Rattle.rc_tree.specs.Tree.{Source, file_at, names_next}
 use Rattle.rc_source.specs.Kinds.{is_hidden}
 use Rattle.rc_source.specs.Meaning.{Meaning, AreMeanings, ListsNames, limit_in, given_in}
 
@@ -37,7 +37,7 @@ pub record AreFound (ms : List Meaning) (names : List (List ℕ)) : Type 0 where
 
 -- a line of the file gives the name, or what stands in the folder has it and is not hidden
 abbrev pub IsNamedIn : Source → List ℕ → List ℕ → List ℕ → List ℕ → Type 0
-IsNamedIn source entry file folder name = Contains (given_in (file_at source entry file)) name ⊎ (Contains (listed source entry folder) name × (is_hidden name ≡ false))
+IsNamedIn source entry file folder name = Contains (given_in (file_at source entry file)) name ⊎ (Contains (names_next source entry folder) name × (is_hidden name ≡ false))
 
 -- what the files of limits say
 pub record SayLimits (source : Source) (entry : List ℕ) (limits : Limits) : Type 0 where

@@ -1,5 +1,5 @@
 use Rattle.std.specs.Prelude.{◌≡◌, ◌⊎◌, not, ℕ, List, [], ◌∷◌, ◌++◌, map, filter, All, Contains, codes, string_bytes, slice_get, Some}
-use Rattle.rc_names.specs.Name.{IsName}
+use Rattle.rc_model.specs.Names.{IsName}
 use Rattle.rc_source.specs.declared.fault.Flaw.{Flaw}
 use Rattle.rc_source.specs.declared.fault.Flaw.TheVariants.{Io, NotText, TooLong, BadName, Twice, NoType, BadType, NoUp, NoRun, BadTimeout, Memory}
 use Rattle.rc_source.specs.declared.fault.SourceFault.{SourceFault}
@@ -21,7 +21,7 @@ pub data Check : Type 0 where
   New : Check
   File : (file : List ℕ × Holds) → Check
 
--- a test of an entry, behind the names that came before it; of a whole source where the name is empty
+-- a test of an entry, after the names that came before it; of a whole source where the name is empty
 pub record Test : Type 0 where
   pub before : List (List ℕ)
   pub source : Source
@@ -91,18 +91,18 @@ flaw_of (fault.BadTimeout name) = BadTimeout
 flaw_of fault.Memory = Memory
 
 -- the name that a fault carries
-abbrev pub carried : SourceFault → List ℕ
-carried (fault.Io name) = string_bytes name
-carried (fault.NotText name) = string_bytes name
-carried (fault.TooLong name) = string_bytes name
-carried (fault.BadName name) = string_bytes name
-carried (fault.Twice name) = string_bytes name
-carried (fault.NoType name) = string_bytes name
-carried (fault.BadType name) = string_bytes name
-carried (fault.NoUp name) = string_bytes name
-carried (fault.NoRun name) = string_bytes name
-carried (fault.BadTimeout name) = string_bytes name
-carried fault.Memory = []
+abbrev pub name_carried : SourceFault → List ℕ
+name_carried (fault.Io name) = string_bytes name
+name_carried (fault.NotText name) = string_bytes name
+name_carried (fault.TooLong name) = string_bytes name
+name_carried (fault.BadName name) = string_bytes name
+name_carried (fault.Twice name) = string_bytes name
+name_carried (fault.NoType name) = string_bytes name
+name_carried (fault.BadType name) = string_bytes name
+name_carried (fault.NoUp name) = string_bytes name
+name_carried (fault.NoRun name) = string_bytes name
+name_carried (fault.BadTimeout name) = string_bytes name
+name_carried fault.Memory = []
 
 -- all tests pass
 abbrev pub AllPass : List Test → Type 0

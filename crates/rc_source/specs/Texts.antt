@@ -2,8 +2,8 @@ use Rattle.std.specs.Prelude.{◌≢◌, ◌<◌, ◌≤◌, ◌-◌, ◌||◌, 
 use Rattle.std.specs.Str.{IsUtf8, bytes_eq}
 use Rattle.std.specs.List.{slice_split}
 use Rattle.std.specs.Str.Parse.{digits_value}
-use Rattle.rc_names.specs.declared.kind.Kind.{Kind}
-use Rattle.rc_names.specs.declared.kind.Kind.TheVariants.{Oneshot, Longrun, Bundle}
+use Rattle.rc_model.specs.declared.Kind.{Kind}
+use Rattle.rc_model.specs.declared.Kind.TheVariants.{Oneshot, Longrun, Bundle}
 
 -- bytes that are text: UTF-8, none of them 0
 abbrev pub IsText : List ℕ → Type 0
@@ -15,8 +15,8 @@ pub record IsScriptText (text : List ℕ) : Type 0 where
   pub is_text : IsText text
 
 -- a text without the newline at its end, if it has one
-abbrev pub unended : List ℕ → List ℕ
-unended text = if slice_index text (length text - 1) == 10 then take (length text - 1) text else text
+abbrev pub without_newline : List ℕ → List ℕ
+without_newline text = if slice_index text (length text - 1) == 10 then take (length text - 1) text else text
 
 -- the kind that a word names
 abbrev pub kind_of_word : List ℕ → Option Kind
@@ -39,8 +39,8 @@ without_blanks [] = []
 without_blanks (byte ∷ rest) = if (byte == 32) || (byte == 9) then without_blanks rest else byte ∷ rest
 
 -- a line without the spaces and tabs at both its ends
-abbrev pub trimmed : List ℕ → List ℕ
-trimmed line = reverse (without_blanks (reverse (without_blanks line)))
+abbrev pub trimmed_line : List ℕ → List ℕ
+trimmed_line line = reverse (without_blanks (reverse (without_blanks line)))
 
 -- a line that is neither empty nor a comment
 abbrev pub counts : List ℕ → Bool
@@ -49,4 +49,4 @@ counts (byte ∷ rest) = not (byte == 35)
 
 -- the names that a text gives, one a line
 abbrev pub names_in : List ℕ → List (List ℕ)
-names_in text = filter counts (map trimmed (slice_split (λ byte. byte == 10) text))
+names_in text = filter counts (map trimmed_line (slice_split (λ byte. byte == 10) text))

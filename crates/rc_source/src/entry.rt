@@ -1,7 +1,7 @@
 // What the files of an entry say, read in the order of their tests.
 ghost use Rattle.std.specs.Prelude.{◌≡◌, ◌≢◌, ◌≤◌, ◌∷◌, [], false, All, Contains, IfOk, IfErr, OnOk, Some, None, codes, option_map, string_bytes};
-ghost use Rattle.rc_names.specs.Name.{IsName};
-ghost use Rattle.rc_names.specs.declared.kind.Kind.TheVariants.{Oneshot, Longrun, Bundle};
+ghost use Rattle.rc_model.specs.Names.{IsName};
+ghost use Rattle.rc_model.specs.declared.Kind.TheVariants.{Oneshot, Longrun, Bundle};
 ghost use Rattle.rc_tree.specs.Tree.{Source, file_at};
 ghost use Rattle.rc_source.specs.Asked.{IsAsked};
 ghost use Rattle.rc_source.specs.Kinds.{Names, NameEach, limit_files, pipe_files, files_of_atomic, files_of_kind, kind_of};

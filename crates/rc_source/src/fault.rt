@@ -64,7 +64,7 @@ pub enum SourceFault {
 
 impl SourceFault {
     ghost use Rattle.std.specs.Prelude.{◌≡◌};
-    ghost use Rattle.rc_source.specs.Tests.{carried, flaw_of};
+    ghost use Rattle.rc_source.specs.Tests.{name_carried, flaw_of};
 
     /// What is wrong.
     pub fn flaw(&self) -> Flaw
@@ -85,9 +85,9 @@ impl SourceFault {
         }
     }
 
-    /// The name of the entry; empty where a tree could not be listed, and for want of memory.
+    /// The name of the entry; empty where a tree could not be listed, and as out of memory.
     pub fn entry(&self) -> &str
-        ensures { result.now ≡ carried self.now }
+        ensures { result.now ≡ name_carried self.now }
     {
         match self {
             SourceFault::Io(name)

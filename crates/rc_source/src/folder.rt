@@ -1,8 +1,7 @@
 // What the names in a folder of names say.
 ghost use Rattle.std.specs.Prelude.{◌≡◌, ◌≢◌, ◌≤◌, ◌⊎◌, ◌↔◌, ℕ, List, false, All, Contains, IfOk, IfErr, OnOk, Some, map, string_bytes};
-ghost use Rattle.rc_names.specs.Name.{IsName};
-ghost use Rattle.rc_names.specs.Names.{IsInByteOrder};
-ghost use Rattle.rc_tree.specs.Tree.{Source, listed};
+ghost use Rattle.rc_model.specs.Names.{IsName, IsInByteOrder};
+ghost use Rattle.rc_tree.specs.Tree.{Source, names_next};
 ghost use Rattle.rc_source.specs.Asked.{IsAsked};
 ghost use Rattle.rc_source.specs.Kinds.{NameEach, is_hidden};
 ghost use Rattle.rc_source.specs.Files.{FilePasses, StopsAtFile};
@@ -79,7 +78,7 @@ fn folder_names_at<T: Tree>(
     folder: &str,
 ) -> Result<Vec<Name>, Flaw>
     ensures names { IfOk result (λ names. (source : Source) → T.held tree.old ≡ Some source → (name : List ℕ)
-        → Contains names.items name ↔ (Contains (listed source entry.now folder.now) name × (is_hidden name ≡ false))) }
+        → Contains names.items name ↔ (Contains (names_next source entry.now folder.now) name × (is_hidden name ≡ false))) }
     ensures passes { OnOk result ((source : Source) → T.held tree.old ≡ Some source → FilePasses source entry.now (folder.now, NameEach)) }
     ensures fault { IfErr result (λ flaw. flaw ≢ Flaw.Memory → (source : Source) → T.held tree.old ≡ Some source → StopsAtFile source entry.now (folder.now, NameEach) flaw) }
     ensures asked { IsAsked result (T.held tree.old) (T.held tree.new)
@@ -103,7 +102,7 @@ pub(crate) fn add_folder_at<T: Tree>(
 ) -> Result<(), Flaw>
     ensures names { OnOk result ((source : Source) → T.held tree.old ≡ Some source → (name : List ℕ)
         → Contains (map string_bytes set.new.keys) name ↔ (Contains (map string_bytes set.old.keys) name
-        ⊎ (Contains (listed source entry.now folder.now) name × (is_hidden name ≡ false)))) }
+        ⊎ (Contains (names_next source entry.now folder.now) name × (is_hidden name ≡ false)))) }
     ensures passes { OnOk result ((source : Source) → T.held tree.old ≡ Some source → FilePasses source entry.now (folder.now, NameEach)) }
     ensures fault { IfErr result (λ flaw. flaw ≢ Flaw.Memory → (source : Source) → T.held tree.old ≡ Some source → StopsAtFile source entry.now (folder.now, NameEach) flaw) }
     ensures asked { IsAsked result (T.held tree.old) (T.held tree.new)

@@ -48,7 +48,7 @@ impl Found {
         sets::has(&self.names, name)
     }
 
-    // Puts a definition of a new name behind them.
+    // Puts a definition of a new name after them.
     pub(crate) fn add(&mut self, definition: Definition) -> Result<(), NoMem>
         requires meaning { IsMeaning (meaning_of definition) }
         requires free { Contains (meant self.old) definition.name → ⊥ }

@@ -1,10 +1,10 @@
 //! Laws of the tests and of the meanings, each the contract of a function that does nothing.
 ghost use Rattle.std.specs.Prelude.{◌≡◌, ◌≢◌, ℕ, List, [], ◌∷◌, ◌++◌, Some, None, codes};
-ghost use Rattle.rc_names.specs.declared.kind.Kind.TheVariants.{Oneshot};
+ghost use Rattle.rc_model.specs.declared.Kind.TheVariants.{Oneshot};
 ghost use Rattle.rc_source.specs.declared.fault.Flaw.{Flaw};
 ghost use Rattle.rc_source.specs.declared.fault.Flaw.TheVariants.{Io};
-ghost use Rattle.rc_tree.specs.Tree.{Source, listed};
-ghost use Rattle.rc_source.specs.Texts.{unended, kind_of_word, names_in};
+ghost use Rattle.rc_tree.specs.Tree.{Source, names_next};
+ghost use Rattle.rc_source.specs.Texts.{without_newline, kind_of_word, names_in};
 ghost use Rattle.rc_source.specs.Meaning.{Meaning, Means, limit_in};
 ghost use Rattle.rc_source.specs.Tests.{Test, AllPass, StopsInTests, entries_of};
 
@@ -25,10 +25,10 @@ pub fn meanings_are_one()
 
 /// What some texts say.
 pub fn texts_say_so()
-    ensures kind { kind_of_word (unended (codes "oneshot" ++ 10 ∷ [])) ≡ Some Oneshot }
-    ensures kind_once { kind_of_word (unended (codes "oneshot" ++ 10 ∷ 10 ∷ [])) ≡ None }
+    ensures kind { kind_of_word (without_newline (codes "oneshot" ++ 10 ∷ [])) ≡ Some Oneshot }
+    ensures kind_once { kind_of_word (without_newline (codes "oneshot" ++ 10 ∷ 10 ∷ [])) ≡ None }
     ensures names { names_in (codes " a  " ++ 10 ∷ 10 ∷ codes "# b" ++ 10 ∷ codes "  #c" ++ 10 ∷ 9 ∷ codes "d e") ≡ codes "a" ∷ codes "d e" ∷ [] }
     ensures limit { limit_in (Some (codes "0010" ++ 10 ∷ [])) ≡ 10 }
-    ensures folder { (entries : List (List ℕ)) → listed (record { entries = entries; files = (codes "a/dependencies.d/db", []) ∷ [] }) (codes "a") (codes "dependencies.d") ≡ codes "db" ∷ [] }
+    ensures folder { (entries : List (List ℕ)) → names_next (record { entries = entries; files = (codes "a/dependencies.d/db", []) ∷ [] }) (codes "a") (codes "dependencies.d") ≡ codes "db" ∷ [] }
     ensures entries { (files : List (List ℕ × List ℕ)) → entries_of (record { entries = codes ".git" ∷ codes "b" ∷ []; files = files }) ≡ codes "b" ∷ [] }
 {}

@@ -5,8 +5,8 @@ ghost use Rattle.rc_source.specs.declared.fault.Flaw.{Flaw};
 ghost use Rattle.rc_tree.specs.Tree.{Source, IsSource};
 ghost use Rattle.rc_tree.specs.TreeFaults.{HasFailed};
 ghost use Rattle.rc_source.specs.Asked.{IsAsked};
-ghost use Rattle.rc_names.specs.Name.{IsName};
-ghost use Rattle.rc_source.specs.Tests.{all_tests, tests_of_source, tests_of_entry, entries_of, AllPass, StopsInTests, IsNoNewName, SomeFailed, flaw_of, carried};
+ghost use Rattle.rc_model.specs.Names.{IsName};
+ghost use Rattle.rc_source.specs.Tests.{all_tests, tests_of_source, tests_of_entry, entries_of, AllPass, StopsInTests, IsNoNewName, SomeFailed, flaw_of, name_carried};
 ghost use Rattle.rc_source.specs.Meaning.{Meaning, Means, MeanAll, AreMeanings, all_entries};
 ghost use Rattle.rc_source.specs.Said.{meaning_of, meant};
 
@@ -25,7 +25,7 @@ pub fn read_all<T: Tree>(alloc: Global, trees: &mut [T]) -> Result<Vec<Definitio
         → MeanAll (all_entries sources) (map meaning_of definitions.items)) }
     ensures sound { OnOk result ((sources : List Source) → map T.held trees.old ≡ map Some sources → AllPass (all_tests [] sources)) }
     ensures fault { IfErr result (λ fault. flaw_of fault ≢ Flaw.Memory → (sources : List Source) → map T.held trees.old ≡ map Some sources
-        → StopsInTests (all_tests [] sources) (flaw_of fault) (carried fault)) }
+        → StopsInTests (all_tests [] sources) (flaw_of fault) (name_carried fault)) }
     ensures io { IfErr result (λ fault. flaw_of fault ≡ Flaw.Io → SomeFailed (map T.failed trees.old) (map T.failed trees.new)) }
     ensures same { map T.held trees.new ≡ map T.held trees.old }
     ensures quiet { OnOk result (map T.failed trees.new ≡ map T.failed trees.old) }
@@ -37,13 +37,13 @@ pub fn read_all<T: Tree>(alloc: Global, trees: &mut [T]) -> Result<Vec<Definitio
     Ok(found.into_definitions())
 }
 
-// Reads the entries of a tree, behind the definitions of those before it.
+// Reads the entries of a tree, after the definitions of those before it.
 fn read_source<T: Tree>(alloc: Global, tree: &mut T, found: &mut Found) -> Result<(), SourceFault>
     ensures meanings { OnOk result ((source : Source) → T.held tree.old ≡ Some source
         → (ms : List Meaning) × (found.new ≡ found.old ++ ms) × AllZip (Means source) (entries_of source) ms) }
     ensures passes { OnOk result ((source : Source) → T.held tree.old ≡ Some source → AllPass (tests_of_source (meant found.old) source)) }
     ensures fault { IfErr result (λ fault. flaw_of fault ≢ Flaw.Memory → (source : Source) → T.held tree.old ≡ Some source
-        → StopsInTests (tests_of_source (meant found.old) source) (flaw_of fault) (carried fault)) }
+        → StopsInTests (tests_of_source (meant found.old) source) (flaw_of fault) (name_carried fault)) }
     ensures io { IfErr result (λ fault. flaw_of fault ≡ Flaw.Io → HasFailed (T.failed tree.old) (T.failed tree.new)) }
     ensures same { T.held tree.new ≡ T.held tree.old }
     ensures count { T.failed tree.old ≤ T.failed tree.new }
@@ -63,7 +63,7 @@ fn read_source<T: Tree>(alloc: Global, tree: &mut T, found: &mut Found) -> Resul
 // The names of the entries of a tree in the order of reading.
 fn entries_at<T: Tree>(alloc: Global, tree: &mut T) -> Result<Vec<String>, SourceFault>
     ensures names { IfOk result (λ names. (source : Source) → T.held tree.old ≡ Some source → map string_bytes names.items ≡ entries_of source) }
-    ensures fault { IfErr result (λ fault. flaw_of fault ≢ Flaw.Memory → (flaw_of fault ≡ Flaw.Io) × (carried fault ≡ [])) }
+    ensures fault { IfErr result (λ fault. flaw_of fault ≢ Flaw.Memory → (flaw_of fault ≡ Flaw.Io) × (name_carried fault ≡ [])) }
     ensures io { IfErr result (λ fault. flaw_of fault ≡ Flaw.Io → HasFailed (T.failed tree.old) (T.failed tree.new)) }
     ensures same { T.held tree.new ≡ T.held tree.old }
     ensures count { T.failed tree.old ≤ T.failed tree.new }
@@ -77,7 +77,7 @@ fn entries_at<T: Tree>(alloc: Global, tree: &mut T) -> Result<Vec<String>, Sourc
     Ok(folder::visible(alloc, &names)?)
 }
 
-// Reads an entry of a tree, behind the definitions of those before it.
+// Reads an entry of a tree, after the definitions of those before it.
 fn read_entry<T: Tree>(
     alloc: Global,
     tree: &mut T,
@@ -114,7 +114,7 @@ fn new_name(alloc: Global, entry: &str, found: &Found) -> Result<Name, Flaw>
 
 // The fault of an entry that has a flaw.
 fn fault_of(alloc: Global, flaw: Flaw, entry: &str) -> SourceFault
-    ensures { flaw_of result ≢ Flaw.Memory → (flaw_of result ≡ flaw) × (carried result ≡ entry.now) }
+    ensures { flaw_of result ≢ Flaw.Memory → (flaw_of result ≡ flaw) × (name_carried result ≡ entry.now) }
 {
     let Ok(name) = String::from_str(alloc, entry) else {
         return SourceFault::Memory;

@@ -3,10 +3,10 @@ ghost use Rattle.std.specs.Prelude.{◌≡◌, ◌≢◌, ◌<◌, ◌≤◌, �
 ghost use Rattle.std.specs.List.{slice_split};
 ghost use Rattle.std.specs.Char.{digit_value};
 ghost use Rattle.std.specs.Str.Parse.{digits_value};
-ghost use Rattle.rc_names.specs.Name.{IsName};
+ghost use Rattle.rc_model.specs.Names.{IsName};
 ghost use Rattle.rc_source.specs.Kinds.{OneName};
 ghost use Rattle.rc_source.specs.Files.{IsWrong};
-ghost use Rattle.rc_source.specs.Texts.{IsText, IsLimit, unended, kind_of_word, without_blanks, trimmed, counts, names_in};
+ghost use Rattle.rc_source.specs.Texts.{IsText, IsLimit, without_newline, kind_of_word, without_blanks, trimmed_line, counts, names_in};
 
 use crate::fault::Flaw;
 use rc_names::{Kind, Name, NameFault, NoMem};
@@ -41,7 +41,7 @@ fn is_text(bytes: &[u8]) -> bool
 
 // A text without the newline at its end.
 fn unended_of(text: &[u8]) -> &[u8]
-    ensures { result.now ≡ unended text.now }
+    ensures { result.now ≡ without_newline text.now }
 {
     if text.is_empty() {
         return text;
@@ -56,8 +56,8 @@ fn unended_of(text: &[u8]) -> &[u8]
 
 // The kind that the text of a file `type` gives.
 pub(crate) fn kind_in(text: &str) -> Result<Kind, Flaw>
-    ensures kind { IfOk result (λ kind. kind_of_word (unended text.now) ≡ Some kind) }
-    ensures fault { IfErr result (λ flaw. (flaw ≡ Flaw.BadType) × (kind_of_word (unended text.now) ≡ None)) }
+    ensures kind { IfOk result (λ kind. kind_of_word (without_newline text.now) ≡ Some kind) }
+    ensures fault { IfErr result (λ flaw. (flaw ≡ Flaw.BadType) × (kind_of_word (without_newline text.now) ≡ None)) }
 {
     match kind_named(unended_of(text.as_bytes())) {
         Some(kind) => Ok(kind),
@@ -82,8 +82,8 @@ fn kind_named(word: &[u8]) -> Option<Kind>
 
 // The limit that a text gives, in milliseconds.
 pub(crate) fn limit_in(text: &str) -> Result<u32, Flaw>
-    ensures limit { IfOk result (λ limit. IsLimit (unended text.now) × (limit ≡ digits_value 10 (unended text.now))) }
-    ensures fault { IfErr result (λ flaw. (flaw ≡ Flaw.BadTimeout) × (IsLimit (unended text.now) → ⊥)) }
+    ensures limit { IfOk result (λ limit. IsLimit (without_newline text.now) × (limit ≡ digits_value 10 (without_newline text.now))) }
+    ensures fault { IfErr result (λ flaw. (flaw ≡ Flaw.BadTimeout) × (IsLimit (without_newline text.now) → ⊥)) }
 {
     let digits = unended_of(text.as_bytes());
     if !are_few_digits(digits) {
@@ -121,7 +121,7 @@ fn number_of(digits: &[u8]) -> Option<u32>
     Some(number)
 }
 
-// A number with one more digit behind it, if it has at most 32 bits.
+// A number with one more digit after it, if it has at most 32 bits.
 #[tactic(auto, using(crate::proofs::Digits::digit_is))]
 fn with_digit(number: u32, digit: u8) -> Option<u32>
     requires { (48 ≤ digit) × (digit ≤ 57) }
@@ -197,9 +197,9 @@ pub(crate) fn names_of(alloc: Global, text: &str) -> Result<Vec<Name>, Flaw>
 
 // Adds the name that a line gives, if it gives one.
 fn add_line(alloc: Global, names: &mut Vec<Name>, line: &[u8]) -> Result<(), Flaw>
-    ensures names { OnOk result (names.new.items ≡ names.old.items ++ filter counts (trimmed line.now ∷ [])) }
-    ensures each { OnOk result (All IsName (filter counts (trimmed line.now ∷ []))) }
-    ensures fault { IfErr result (λ flaw. flaw ≢ Flaw.Memory → (flaw ≡ Flaw.BadName) × (All IsName (filter counts (trimmed line.now ∷ [])) → ⊥)) }
+    ensures names { OnOk result (names.new.items ≡ names.old.items ++ filter counts (trimmed_line line.now ∷ [])) }
+    ensures each { OnOk result (All IsName (filter counts (trimmed_line line.now ∷ []))) }
+    ensures fault { IfErr result (λ flaw. flaw ≢ Flaw.Memory → (flaw ≡ Flaw.BadName) × (All IsName (filter counts (trimmed_line line.now ∷ [])) → ⊥)) }
 {
     let line = without_end(without_front(line));
     if !is_counted(line) {

@@ -15,7 +15,7 @@ Keeps-Consumes (Some x) None c bytes kept taken = absurd kept
 Keeps-Consumes (Some x) (Some y) None bytes kept taken = absurd taken
 Keeps-Consumes (Some x) (Some y) (Some z) bytes kept taken = sym kept ∙ taken
 
--- what is held goes behind the line, and there is no newline in it
+-- what is held goes after the line, and there is no newline in it
 pub hands_part : (old new : Option (List ℕ)) (before here after : Held) (line longer : List ℕ) → HandsOut old new before here line → MovesPart false here after line longer → HandsOut old new before after longer
 hands_part old new before here after line longer hands moves =
     let (part, one, grows, count, held, none) = moves in
@@ -26,7 +26,7 @@ hands_part old new before here after line longer hands moves =
       split = hands.split ∙ (ap (λ (t : List ℕ). line ++ t) held ∙ (sym grows ∙ (sym (append-nil longer) ∙ ap (λ (t : List ℕ). longer ++ t) (sym (none refl)))));
     }
 
--- it goes behind the line up to the newline, which goes with it
+-- it goes after the line up to the newline, which goes with it
 pub hands_whole : (old new : Option (List ℕ)) (before here after : Held) (line longer : List ℕ) → HandsOut old new before here line → MovesPart true here after line longer → HandsOut old new before after (longer ++ 10 ∷ [])
 hands_whole old new before here after line longer hands moves =
     let (part, one, grows, count, held, none) = moves in
@@ -97,7 +97,7 @@ lacks_piece failed old here new before held after line TooLong hands none one ta
     record { takes = takes_kept old here new before held after.taken line hands kept count; fault = inl (subst IsLine (sym (all_held old here before held line hands none)) one, passed) }
 lacks_piece failed old here new before held after line Memory hands none one takes fault = record { takes = takes_more old here new before.taken held.taken after.taken (takes_of old here before held line hands) takes; fault = tt }
 
--- a part at the front of what is held, with no newline in it, for which the line has no room
+-- a part at the beginning of what is held, with no newline in it, for which the line has no room
 pub begins_long : (line held pending : List ℕ) (end : ℕ) → pending ≡ held → IsOneLine line → IsOneLine (take end held) → 65536 < length line + length (take end held) → BeginsTooLong (line ++ pending)
 begins_long line held pending end is one part long = (
   line ++ take end held,

@@ -11,19 +11,19 @@ pub ConsumesAtMost-more : (a b c : Option (List ℕ)) (bytes : List ℕ) (limit 
 ConsumesAtMost-more a b c bytes limit total held piece fits =
     (bytes ++ piece.0, omega (arith, length-append bytes piece.0), Consumes-trans a b c bytes piece.0 held piece.2)
 
--- a front of the bytes, by what comes after it
+-- a prefix of the bytes, by what comes after it
 pub AppendsFront-split : (a b : Option (List ℕ)) (bytes front rest : List ℕ) → bytes ≡ front ++ rest → Appends a b front → AppendsFront a b bytes
 AppendsFront-split a b bytes front rest e written =
     (length front, subst (Appends a b) (sym (ap (take (length front)) e ∙ take-append_seam front rest)) written)
 
--- a front of the first part
+-- a prefix of the first part
 pub AppendsFront-first : (a b : Option (List ℕ)) (first last : List ℕ) → AppendsFront a b first → AppendsFront a b (first ++ last)
 AppendsFront-first a b first last written =
     let n = written.0 in
     AppendsFront-split a b _ (take n first) (drop n first ++ last)
     (ap (λ l. l ++ last) (sym (take-append-drop n first)) ∙ append_assoc (take n first) (drop n first) last) written.1
 
--- the first part, and a front of the last
+-- the first part, and a prefix of the last
 pub AppendsFront-last : (a b c : Option (List ℕ)) (bytes first last : List ℕ) → bytes ≡ first ++ last → Appends a b first → AppendsFront b c last → AppendsFront a c bytes
 AppendsFront-last a b c bytes first last e before written =
     let n = written.0 in
@@ -57,7 +57,7 @@ MovesPiece-length b c before after count moved =
 pub ConsumesAtMost-none : (a b : Option (List ℕ)) (limit : ℕ) → Keeps a b → ConsumesAtMost a b limit
 ConsumesAtMost-none a b limit kept = ([], zero-le, Consumes-kept a a b [] (Consumes-nil a) kept)
 
--- a read that gave the front of a buffer
+-- a read that gave the prefix of a buffer
 pub ConsumesAtMost-read : (a b : Option (List ℕ)) (buffer : List ℕ) (count limit : ℕ) → length buffer ≤ limit → Consumes a b (take count buffer) → ConsumesAtMost a b limit
 ConsumesAtMost-read a b buffer count limit fits taken =
     (take count buffer, simp length-take (omega arith), taken)

@@ -4,11 +4,11 @@ use Rattle.std.specs.Io.KnownBytes.{Appends, Consumes}
 use Rattle.rc_streams.specs.declared.input.Failure.{Failure}
 use Rattle.rc_streams.specs.declared.input.Failure.TheVariants.{TooLong, Read, Write, Memory}
 
--- known bytes lose at most `limit` bytes from their front
+-- known bytes lose at most `limit` bytes from their beginning
 abbrev pub ConsumesAtMost : Option (List ℕ) → Option (List ℕ) → ℕ → Type 0
 ConsumesAtMost old new limit = (front : List ℕ) × (length front ≤ limit) × Consumes old new front
 
--- known bytes lose `count` bytes from their front, which stand at the end of `after`
+-- known bytes lose `count` bytes from their beginning, which stand at the end of `after`
 abbrev pub MovesPiece : Option (List ℕ) → Option (List ℕ) → List ℕ → List ℕ → ℕ → Type 0
 MovesPiece old new before after count =
     (piece : List ℕ) × (length piece ≡ count) × (after ≡ before ++ piece) × Consumes old new piece
@@ -35,11 +35,11 @@ IsCause input reader writer Read = reader
 IsCause input reader writer Write = writer
 IsCause input reader writer Memory = Unit {0}
 
--- a command has failed so, and a front of its line was told
+-- a command has failed so, and a prefix of its line was told
 abbrev pub FailsWith : Failure → (status : ℕ) → (old new : Option (List ℕ)) → Type 0
 FailsWith failure status old new = (status ≡ 111) × AppendsFront old new (fault_line (failure_text failure))
 
--- a failure that has its cause is told by a front of its line
+-- a failure that has its cause is told by a prefix of its line
 abbrev pub TellsFailure : (input : Option (List ℕ)) → (reader writer : Type 0) → (old new : Option (List ℕ)) → Type 0
 TellsFailure input reader writer old new = (failure : Failure) × AppendsFront old new (fault_line (failure_text failure)) × IsCause input reader writer failure
 
@@ -47,6 +47,6 @@ TellsFailure input reader writer old new = (failure : Failure) × AppendsFront o
 abbrev pub WritesAll : (List ℕ → Type 0) → Option (List ℕ) → Option (List ℕ) → Type 0
 WritesAll IsAnswer old new = (answer : List ℕ) × IsAnswer answer × Appends old new answer
 
--- a writer gains a front of an answer
+-- a writer gains a prefix of an answer
 abbrev pub WritesFront : (List ℕ → Type 0) → Option (List ℕ) → Option (List ℕ) → Type 0
 WritesFront IsAnswer old new = (answer : List ℕ) × IsAnswer answer × AppendsFront old new answer

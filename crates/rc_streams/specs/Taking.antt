@@ -13,13 +13,13 @@ pub record Held : Type 0 where
 abbrev pub fresh : Held
 fresh = record { pending = []; taken = 0 }
 
--- known bytes lost some from their front, by which the count of those that were read grew
+-- known bytes lost some from their beginning, by which the count of those that were read grew
 pub record Takes (old new : Option (List ℕ)) (before after : ℕ) : Type 0 where
   pub bytes : List ℕ
   pub consumed : Consumes old new bytes
   pub counted : after ≡ before + length bytes
 
--- known bytes lost some from their front, which went behind those that are held, and of all these the front was handed out
+-- known bytes lost some from their beginning, which went after those that are held, and of all these the prefix was handed out
 pub record HandsOut (old new : Option (List ℕ)) (before after : Held) (front : List ℕ) : Type 0 where
   pub bytes : List ℕ
   pub consumed : Consumes old new bytes
@@ -47,7 +47,7 @@ HandsLine false old new before after line = IsLine line × HandsOut old new befo
 abbrev pub HandsNothing : Option (List ℕ) → Option (List ℕ) → Held → Held → Type 0
 HandsNothing old new before after = HandsOut old new before after [] × HasEnded new after
 
--- what is held goes behind a line up to its newline: all of it where none is there
+-- what is held goes after a line up to its newline: all of it where none is there
 abbrev pub MovesPart : Bool → Held → Held → List ℕ → List ℕ → Type 0
 MovesPart whole before after old new = (part : List ℕ) × IsOneLine part × (new ≡ old ++ part) × (after.taken ≡ before.taken)
     × (before.pending ≡ (if whole then part ++ 10 ∷ after.pending else part)) × (whole ≡ false → after.pending ≡ [])
@@ -56,11 +56,11 @@ MovesPart whole before after old new = (part : List ℕ) × IsOneLine part × (n
 abbrev pub Refills : Option (List ℕ) → Option (List ℕ) → Held → Held → ℕ → Type 0
 Refills old new before after count = Consumes old new after.pending × (length after.pending ≡ count) × (after.taken ≡ before.taken + count) × (count ≡ 0 → IsAtEnd new × (after.taken ≤ 16777216))
 
--- more bytes than a line may have stand at the front, and no newline among them
+-- more bytes than a line may have stand at the beginning, and no newline among them
 abbrev pub BeginsTooLong : List ℕ → Type 0
 BeginsTooLong bytes = (front : List ℕ) × (rest : List ℕ) × IsOneLine front × (65536 < length front) × (bytes ≡ front ++ rest)
 
--- why a part does not go behind a line: the line would be too long, or memory ran out
+-- why a part does not go after a line: the line would be too long, or memory ran out
 abbrev pub IsPartFault : (long : Type 0) → Failure → Type 0
 IsPartFault long Read = ⊥
 IsPartFault long Write = ⊥
@@ -82,7 +82,7 @@ IsLineFault failed taken left Write = ⊥
 IsLineFault failed taken left TooLong = (IsLine left × (16777216 < taken)) ⊎ BeginsTooLong left
 IsLineFault failed taken left Memory = Unit {0}
 
--- known bytes lost some from their front, and with these behind those that were held there is no next line
+-- known bytes lost some from their beginning, and with these after those that were held there is no next line
 pub record LacksLine (failed : Type 0) (old new : Option (List ℕ)) (before after : Held) (failure : Failure) : Type 0 where
   pub takes : Takes old new before.taken after.taken
   pub fault : IsLineFault failed after.taken (before.pending ++ takes.bytes) failure

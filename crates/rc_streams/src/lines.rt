@@ -135,7 +135,7 @@ impl Lines {
     }
 }
 
-/// Puts a part behind a line, where the line stays within its bound.
+/// Appends a part to a line, where the line stays within its bound.
 fn add_part(line: &mut Vec<u8>, part: &[u8]) -> Result<(), Failure>
     ensures added { OnOk result (line.new.items ≡ line.old.items ++ part.now) }
     ensures short { OnOk result (length line.new.items ≤ MAX_LINE) }

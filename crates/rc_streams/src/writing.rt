@@ -12,7 +12,7 @@ use std::io::Write;
 pub fn write_answer<W: Write>(writer: &mut Noted<W>, answer: &[u8]) -> Result<(), Failure>
     ensures whole { OnOk result (Appends (W.contents (inner_of writer.old)) (W.contents (inner_of writer.new)) answer.now) }
 
-    // Whatever the result, a front of the answer is all that is written.
+    // Whatever the result, a prefix of the answer is all that is written.
     ensures front { AppendsFront (W.contents (inner_of writer.old)) (W.contents (inner_of writer.new)) answer.now }
     ensures flushed { OnOk result (IsFlushed writer.new) }
     ensures sound { OnOk result (HasFailed writer.new → HasFailed writer.old) }

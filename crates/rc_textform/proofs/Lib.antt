@@ -2,5 +2,4 @@ pub mod WordLines
 pub mod Numbers
 pub mod Plain
 pub mod NumberLines
-pub mod Orders
 pub mod Stuck

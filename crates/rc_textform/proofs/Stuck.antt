@@ -41,7 +41,7 @@ module _ {L A : Type 0} (spell : L → List ℕ) (Is : A → Type 0) (lines : A 
             (sym own),
       )
 
-  -- not behind another place
+  -- not after another place
   not_behind : (bytes rest other : List ℕ) (due line : L)
       (stuck : IsStuck spell Is lines bytes rest due)
       (more : IsStuck spell Is lines bytes other line) → length stuck.before < length more.before → ⊥

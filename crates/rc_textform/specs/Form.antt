@@ -1,4 +1,4 @@
--- Forms: values with their lines, and what of a value stands at the front of bytes.
+-- Forms: values with their lines, and what of a value stands at the beginning of bytes.
 use Rattle.std.specs.Prelude.{◌≡◌, ◌+◌, ℕ, List, ◌∷◌, ◌++◌, length, take}
 use Rattle.std.specs.List.{flat_map}
 
@@ -11,7 +11,7 @@ abbrev pub IsRead : {L A : Type 0} → (L → List ℕ) → (A → Type 0) → (
     → List ℕ → A → List ℕ → Type 0
 IsRead spell Is lines bytes value rest = Is value × (bytes ≡ spells spell (lines value) ++ rest)
 
--- the lines of some value stand at the front up to the one that is due, where the rest begins, and
+-- the lines of some value stand at the beginning up to the one that is due, where the rest begins, and
 -- no value has one line more there
 pub record IsStuck {L A : Type 0} (spell : L → List ℕ) (Is : A → Type 0) (lines : A → List L)
     (bytes rest : List ℕ) (due : L) : Type 0 where

@@ -2,8 +2,8 @@ use Rattle.std.specs.Prelude.{◌≡◌, ◌≢◌, ◌<◌, ◌≤◌, ℕ, Lis
 use Rattle.std.specs.List.{join_with_byte}
 
 -- words with one space between them, and a newline
-abbrev pub worded : List (List ℕ) → List ℕ
-worded words = join_with_byte 32 words ++ 10 ∷ []
+abbrev pub line_of_words : List (List ℕ) → List ℕ
+line_of_words words = join_with_byte 32 words ++ 10 ∷ []
 
 -- no space and no newline
 abbrev pub IsPlain : List ℕ → Type 0
@@ -16,7 +16,7 @@ pub record ArePlain (words : List (List ℕ)) : Type 0 where
 
 -- the words of a line stand in front of the rest
 abbrev pub BeginsWith : List ℕ → List (List ℕ) → List ℕ → Type 0
-BeginsWith bytes words rest = ArePlain words × (bytes ≡ worded words ++ rest)
+BeginsWith bytes words rest = ArePlain words × (bytes ≡ line_of_words words ++ rest)
 
 -- decimal digits without a sign and without leading zeros, as many as one likes
 pub record IsNumber (digits : List ℕ) : Type 0 where
@@ -28,7 +28,7 @@ pub record IsNumber (digits : List ℕ) : Type 0 where
 abbrev pub HasNumber : List ℕ → (List ℕ → Type 0) → List ℕ → Type 0
 HasNumber word Such rest =
     (number : List ℕ) × (after : List ℕ)
-    × IsNumber number × Such number × (rest ≡ worded (word ∷ number ∷ []) ++ after)
+    × IsNumber number × Such number × (rest ≡ line_of_words (word ∷ number ∷ []) ++ after)
 
 -- a bundle as a text gives it
 pub record BundleText : Type 0 where

@@ -1,6 +1,6 @@
 //! What lines have in common: a word with what follows it, and bundles.
 ghost use Rattle.std.specs.Prelude.{◌≡◌, ℕ, List, [], ◌∷◌, ◌++◌, map, IfOk, MatchOption};
-ghost use Rattle.rc_textform.specs.Words.{IsNumber, IsPlain, HasNumber, worded};
+ghost use Rattle.rc_textform.specs.Words.{IsNumber, IsPlain, HasNumber, line_of_words};
 
 use crate::words::{is, is_number, words_of};
 use rc_names::Name;
@@ -22,7 +22,7 @@ impl Model for BundleForm {
     ghost view = { λ b. record { name = b.name; members = b.members.items } };
 }
 
-/// The number behind this word in a line of the two at the front, and what follows that line.
+/// The number after this word in a line of the two at the beginning, and what follows that line.
 pub fn number_line<'a>(
     alloc: Global,
     bytes: &'a [u8],
@@ -32,7 +32,7 @@ pub fn number_line<'a>(
     ensures { IfOk result (λ read. MatchOption read
         (HasNumber word.now (λ _. Unit {0}) bytes.now → ⊥)
         (λ read. IsNumber read.0.now
-        × (bytes.now ≡ worded (word.now ∷ read.0.now ∷ []) ++ read.1.now))) }
+        × (bytes.now ≡ line_of_words (word.now ∷ read.0.now ∷ []) ++ read.1.now))) }
 {
     let Some((words, rest)) = words_of(alloc, bytes)? else {
         return Ok(None);
@@ -47,7 +47,7 @@ pub fn number_line<'a>(
     }
 }
 
-/// The one word behind this word, where there is one.
+/// The one word after this word, where there is one.
 pub fn argument<'a>(words: &[&'a [u8]], word: &[u8]) -> Option<&'a [u8]>
     ensures { MatchOption result
         ((other : List ℕ) → map (λ word. word.now) words.entry.now ≡ word.now ∷ other ∷ [] → ⊥)
@@ -59,7 +59,7 @@ pub fn argument<'a>(words: &[&'a [u8]], word: &[u8]) -> Option<&'a [u8]>
     }
 }
 
-/// The words behind this word.
+/// The words after this word.
 pub fn arguments<'a, 'b>(words: &'b [&'a [u8]], word: &[u8]) -> Option<&'b [&'a [u8]]>
     ensures { MatchOption result
         ((others : List (List ℕ)) → map (λ word. word.now) words.entry.now ≡ word.now ∷ others → ⊥)

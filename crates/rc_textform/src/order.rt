@@ -1,6 +1,6 @@
 //! Whether names stand in byte order.
 ghost use Rattle.std.specs.Prelude.{◌↔◌, IsTrue};
-ghost use Rattle.rc_names.specs.Names.{IsBefore, IsInByteOrder};
+ghost use Rattle.rc_model.specs.Names.{IsBefore, IsInByteOrder};
 
 use rc_names::Name;
 use std::cmp::Ordering;

@@ -5,19 +5,19 @@ ghost use Rattle.std.specs.Prelude.{IfOk, IsTrue, IfSome, IfNone, MatchOption};
 ghost use Rattle.std.specs.Fmt.{decimal};
 ghost use Rattle.std.specs.List.{slice_split};
 ghost use Rattle.std.specs.Str.Parse.{digits_value};
-ghost use Rattle.rc_names.specs.Name.{IsName};
-ghost use Rattle.rc_textform.specs.Words.{BeginsWith, IsNumber, worded};
+ghost use Rattle.rc_model.specs.Names.{IsName};
+ghost use Rattle.rc_textform.specs.Words.{BeginsWith, IsNumber, line_of_words};
 
 use rc_names::{Name, NameFault};
 use std::alloc::{AllocError, Global};
 
-/// The words of the line at the front, and what follows it. None: no whole line stands there.
+/// The words of the line at the beginning, and what follows it. None: no whole line stands there.
 pub fn words_of<'a>(
     alloc: Global,
     bytes: &'a [u8],
 ) -> Result<Option<(Vec<&'a [u8]>, &'a [u8])>, AllocError>
     ensures { IfOk result (λ read. MatchOption read
-        ((words : List (List ℕ)) (rest : List ℕ) → bytes.now ≡ worded words ++ rest → ⊥)
+        ((words : List (List ℕ)) (rest : List ℕ) → bytes.now ≡ line_of_words words ++ rest → ⊥)
         (λ read. BeginsWith bytes.now (map (λ word. word.now) read.0.items) read.1.now)) }
 {
     let Some((line, rest)) = cut(bytes) else {
@@ -27,7 +27,7 @@ pub fn words_of<'a>(
     Ok(Some((words, rest)))
 }
 
-// The line at the front without its newline, and what follows it.
+// The line at the beginning without its newline, and what follows it.
 fn cut(bytes: &[u8]) -> Option<(&[u8], &[u8])>
     ensures line { IfSome result (λ cut. (bytes.now ≡ cut.0.now ++ 10 ∷ cut.1.now)
         × All (λ byte. byte ≢ 10) cut.0.now) }

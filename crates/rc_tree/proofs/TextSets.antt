@@ -15,7 +15,8 @@ use Rattle.std.specs.Option.{option_map}
 use Rattle.std.specs.declared.cmp.Ordering.{Ordering}
 use Rattle.std.specs.declared.cmp.Ordering.TheVariants.{Less, Equal, Greater}
 use Rattle.std.proofs.lemmas.Slice.Eq.{bytes_eq-Decides}
-use Rattle.rc_names.specs.Names.{IsBefore, IsInByteOrder, Adds}
+use Rattle.rc_model.specs.Names.{IsBefore, IsInByteOrder}
+use Rattle.rc_names.specs.Names.{Adds}
 use Rattle.rc_tree.specs.Tree.{value_at, IsPutAt}
 use Rattle.rc_tree.proofs.Members.{Contains-cons_cases, Contains-here, Contains-there, Contains-nil, same_text, differs, bytes_eq-refl}
 
@@ -118,7 +119,7 @@ module _ {K : Type 0} (bytes : K → List ℕ) where
     twice w v old true = refl
     twice w v old false = refl
 
-    -- texts of which one comes behind the other differ
+    -- texts of which one comes after the other differ
     apart : (k : K) (e : K) (o : Ordering) → by_bytes k e ≡ o → is_eq o ≡ false → (b : Bool) → bytes_eq (bytes e) (bytes k) ≡ b → b ≡ false
     apart k e o behind unequal false h = refl
     apart k e o behind unequal true h = absurd (true≢false (sym ((bytes_eq-Decides (bytes k) (bytes e)).1 (sym ((bytes_eq-Decides (bytes e) (bytes k)).0 h))) ∙ differs (bytes k) (bytes e) o behind unequal))

@@ -1,7 +1,7 @@
 use Rattle.std.specs.Prelude.{◌≡◌, ◌≢◌, ◌==◌, ◌↔◌, ℕ, List, [], ◌∷◌, ◌++◌, map, drop, length, Contains, Option, Some, None, nat_eq, if◌then◌else◌}
 use Rattle.std.specs.Str.{bytes_eq}
 use Rattle.std.specs.List.{starts_with, before_first, filter_map}
-use Rattle.rc_names.specs.Names.{IsInByteOrder}
+use Rattle.rc_model.specs.Names.{IsInByteOrder}
 
 -- the value that stands beside a name
 abbrev pub value_at : {A : Type 0} → List (List ℕ × A) → List ℕ → Option A
@@ -35,19 +35,19 @@ path_of directory name = directory ++ 47 ∷ name
 abbrev pub file_at : Source → List ℕ → List ℕ → Option (List ℕ)
 file_at source service file = value_at source.files (path_of service file)
 
--- the name that stands next in a path behind this beginning
+-- the name that stands next in a path after this beginning
 abbrev pub next_name : List ℕ → List ℕ → Option (List ℕ)
 next_name beginning path =
     if starts_with nat_eq path beginning then Some (before_first (λ byte. byte == 47) (drop (length beginning) path)) else None
 
 -- the names that the paths through a folder of a service directory have next
-abbrev pub listed : Source → List ℕ → List ℕ → List (List ℕ)
-listed source service folder = filter_map (next_name (path_of (path_of service folder) [])) (names_of source.files)
+abbrev pub names_next : Source → List ℕ → List ℕ → List (List ℕ)
+names_next source service folder = filter_map (next_name (path_of (path_of service folder) [])) (names_of source.files)
 
 -- the names in a folder, in any order; none where no path leads through it
 abbrev pub IsListing : Source → List ℕ → List ℕ → Option (List (List ℕ)) → Type 0
-IsListing source service folder None = listed source service folder ≡ []
-IsListing source service folder (Some names) = (name : List ℕ) → Contains names name ↔ Contains (listed source service folder) name
+IsListing source service folder None = names_next source service folder ≡ []
+IsListing source service folder (Some names) = (name : List ℕ) → Contains names name ↔ Contains (names_next source service folder) name
 
 -- the names of the service directories, in any order
 abbrev pub AreEntries : Source → List (List ℕ) → Type 0

@@ -27,7 +27,7 @@ pub struct FolderTree<R: Files + AllocGlobal + Clone + Drop> {
 #[derive(Drop)]
 struct Seen {
     service: String,
-    // Each with a byte 0 behind it; none where the directory could not be listed.
+    // Each with a byte 0 after it; none where the directory could not be listed.
     names: Option<Vec<u8>>,
 }
 
@@ -177,7 +177,7 @@ fn is_unseen(seen: &Option<Seen>, file: &str) -> bool {
     }
 }
 
-// The names in a directory, each with a byte 0 behind it; none where it can't be listed or holds more of
+// The names in a directory, each with a byte 0 after it; none where it can't be listed or holds more of
 // them than are worth a look.
 fn names_seen<R: Files>(rt: &R, alloc: Global, path: &str) -> Result<Option<Vec<u8>>, NoMem> {
     let mut names = Vec::new(alloc);
@@ -279,7 +279,7 @@ fn is_directory<R: Files>(rt: &R, alloc: Global, path: &str, name: &str) -> io::
     })
 }
 
-// The bytes at the front of a file, one more than it may have. What is no plain file is a fault: to open a
+// The bytes at the beginning of a file, one more than it may have. What is no plain file is a fault: to open a
 // pipe would be to wait for whoever writes into it.
 fn first_bytes<R: Files>(rt: &R, alloc: Global, path: &str) -> io::Result<Vec<u8>> {
     if !rt.metadata(path)?.is_file() {

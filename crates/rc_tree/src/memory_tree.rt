@@ -147,7 +147,7 @@ fn put_file(
     }
 }
 
-// The names that stand next in the paths behind this beginning.
+// The names that stand next in the paths after this beginning.
 fn next_names(
     alloc: Global,
     files: &BTreeMap<String, Vec<u8>>,
@@ -165,7 +165,7 @@ fn next_names(
     Ok(names)
 }
 
-// The name that stands next in a path behind this beginning.
+// The name that stands next in a path after this beginning.
 fn next_name_of<'a>(beginning: &str, path: &'a str) -> Option<&'a str>
     ensures { option_map (λ name. name.now) result ≡ next_name beginning.now path.now }
 {

@@ -1,7 +1,7 @@
 //! Sets of texts, as they stand in a `BTreeSet`.
 ghost use Rattle.std.specs.Prelude.{◌≡◌, ◌↔◌, ◌⊎◌, ℕ, List, All, map, Contains, OnOk, OnErr, IsTrue, IfOk, string_bytes};
-ghost use Rattle.rc_names.specs.Name.{IsName};
-ghost use Rattle.rc_names.specs.Names.{IsInByteOrder, Adds};
+ghost use Rattle.rc_model.specs.Names.{IsName, IsInByteOrder};
+ghost use Rattle.rc_names.specs.Names.{Adds};
 
 use rc_names::{Name, NoMem};
 use std::alloc::{AllocError, Global};

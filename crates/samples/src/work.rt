@@ -1,8 +1,8 @@
 //! Several workers who carry a change out, in a drawn order.
 
 ghost use Rattle.std.specs.Prelude.{◌≡◌, length};
-ghost use Rattle.rc_set.specs.Set.{Has};
-ghost use Rattle.rc_graph.specs.Closure.{IsClosed};
+ghost use Rattle.rc_model.specs.Names.{Has};
+ghost use Rattle.rc_model.specs.Graph.{IsClosed};
 
 use crate::draw::{Change, Draw};
 use crate::graphs::set_of;

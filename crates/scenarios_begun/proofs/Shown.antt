@@ -1,6 +1,6 @@
 use Rattle.std.proofs.Common.{◌≡◌, ℕ, List, Option, sym, subst}
-use Rattle.rc_select.specs.PlanSets.{PlanSets}
-use Rattle.rc_core.specs.Course.{course_of, IsCourse}
+use Rattle.rc_model.specs.Plan.{PlanSets}
+use Rattle.rc_model.specs.Run.{course_of, IsCourse}
 
 -- a course of the same needs, plan and deadline is one
 pub shown : (needs other : List (List ℕ)) (plan shown_plan : PlanSets) (deadline shown_deadline : Option ℕ) →

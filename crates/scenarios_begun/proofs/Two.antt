@@ -1,14 +1,13 @@
 -- A line of two states of a database.
 use Rattle.std.proofs.Common.{◌≡◌, ◌≢◌, ◌∙◌, List, [], ◌∷◌, ◌++◌, Bool, length, All, ap, sym, subst}
 use Rattle.std.proofs.lemmas.List.Elements.{All-cons, All-nil}
-use Rattle.rc_set.specs.Set.{Has}
-use Rattle.rc_graph.specs.Closure.{IsClosed}
-use Rattle.rc_db.specs.Bundles.{Bundles}
-use Rattle.rc_db.specs.Database.{Database, IsDatabase}
-use Rattle.rc_line.specs.State.{State, states_of}
-use Rattle.rc_line.specs.Line.{DifferInTurn}
+use Rattle.rc_model.specs.Names.{Has}
+use Rattle.rc_model.specs.Graph.{IsClosed}
+use Rattle.rc_model.specs.Database.{Bundles, Database, IsDatabase}
+use Rattle.rc_model.specs.Line.{State, DifferInTurn}
+use Rattle.rc_line.specs.State.{states_of}
 use Rattle.rc_line.specs.Keeping.{state}
-use Rattle.rc_session.specs.Doing.{IsStateOf}
+use Rattle.rc_model.specs.Session.{IsStateOf}
 
 -- a closed set with the bundles of a database is one of its states
 pub state_here : (d : Database) (live : List Bool) → IsDatabase d → length live ≡ length d.needs → IsClosed d.needs (Has live) → IsStateOf d (state live d.table)

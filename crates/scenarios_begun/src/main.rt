@@ -1,5 +1,5 @@
 //! Sessions as values: runs that are begun on one over the sample, and abandoned, completed or
-//! spoiled; edits of bundles, undone and redone as edits; a session whose journal is full; and one
+//! poisoned; edits of bundles, undone and redone as edits; a session whose journal is full; and one
 //! that goes on with a line that was made of states.
 #![tactic(auto)]
 

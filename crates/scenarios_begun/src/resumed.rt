@@ -2,9 +2,9 @@
 
 ghost use Rattle.std.specs.Prelude.{◌≡◌, ◌≢◌, ◌∷◌, [], false, true, length, All, IfOk, IfSome};
 ghost use Rattle.rc_line.specs.State.{states_of};
-ghost use Rattle.rc_line.specs.Line.{states};
+ghost use Rattle.rc_model.specs.Line.{states};
 ghost use Rattle.rc_line.specs.Keeping.{state};
-ghost use Rattle.rc_session.specs.Doing.{IsStateOf};
+ghost use Rattle.rc_model.specs.Session.{IsStateOf};
 
 use crate::actions::{Action, show_session};
 use crate::runs::{End, Way};

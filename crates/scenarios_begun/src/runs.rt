@@ -2,10 +2,11 @@
 //! events.
 
 ghost use Rattle.std.specs.Prelude.{◌≡◌, false, length, IfOk};
-ghost use Rattle.rc_set.specs.Set.{Has};
-ghost use Rattle.rc_graph.specs.Closure.{IsClosed};
-ghost use Rattle.rc_core.specs.Course.{course_of, TargetOf};
-ghost use Rattle.rc_session.specs.Commands.{HasRun, command_of};
+ghost use Rattle.rc_model.specs.Names.{Has};
+ghost use Rattle.rc_model.specs.Graph.{IsClosed};
+ghost use Rattle.rc_model.specs.Run.{course_of, TargetOf};
+ghost use Rattle.rc_model.specs.Session.{HasRun};
+ghost use Rattle.rc_session.specs.Commands.{command_of};
 
 use rc_core::{Ended, Outcome, Run, Took};
 use rc_graph::Graph;
@@ -41,7 +42,7 @@ pub(crate) enum Made {
     Raises(u16),
     /// Completed: how many services it has lowered and raised.
     Moved(usize, usize),
-    /// Spoiled: how a plan is answered then.
+    /// Poisoned: how a plan is answered then.
     Spoiled(Result<(), Refusal>),
 }
 

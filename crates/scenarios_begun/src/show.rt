@@ -1,7 +1,7 @@
 //! Prints where a session stands, and what its commands have answered.
 
 ghost use Rattle.std.specs.Prelude.{◌≡◌, ◌<◌, false, length};
-ghost use Rattle.rc_line.specs.Line.{states};
+ghost use Rattle.rc_model.specs.Line.{states};
 
 use crate::runs::Made;
 use rc_db::Table;

@@ -304,7 +304,7 @@ fn events_of(trace: &[Event]) -> (usize, usize, usize) {
     (takes, ends, stops)
 }
 
-/// A line of numbers, each behind its text, and what it ends in.
+/// A line of numbers, each after its text, and what it ends in.
 fn show_line(rt: &impl Print, counts: &[(&str, usize)], end: &str) -> io::Result<()> {
     for (before, count) in counts {
         print!(rt; "{before}{count}")?;

@@ -1,5 +1,5 @@
 //! Names, sets, graphs and plans: tables of what goes in and what must come out. A line for each
-//! table says how many rows it has, behind a line for each row that is wrong.
+//! table says how many rows it has, after a line for each row that is wrong.
 
 use crate::{graphs, names, plans, sets};
 use std::io;

@@ -44,7 +44,7 @@ fn is_right_front(alloc: Global, bytes: &[u8]) -> Result<bool, NoMem> {
     }
 }
 
-/// Whether so many bytes at the front are the text of a database.
+/// Whether so many bytes at the beginning are the text of a database.
 pub(crate) fn is_front_of(
     alloc: Global,
     db: &Db,

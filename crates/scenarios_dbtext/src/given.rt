@@ -1,4 +1,4 @@
-//! Texts of the input. Each stands behind a line `== WHAT`; where that goes on as `: TIMES PIECE`,
+//! Texts of the input. Each stands after a line `== WHAT`; where that goes on as `: TIMES PIECE`,
 //! a star in the text stands for so many pieces.
 
 use crate::compare::{is_front_of, is_text_of};
@@ -47,7 +47,7 @@ fn with_pieces(alloc: Global, text: &str, piece: &str, times: usize) -> Result<S
     text.replacen(alloc, "*", pieces.as_str(), 1)
 }
 
-/// How many services and bundles a text has, and whether what is read of it, and of it as a front,
+/// How many services and bundles a text has, and whether what is read of it, and of it as a prefix,
 /// is written as it.
 pub(crate) fn show_text(
     rt: &(impl Print + AllocGlobal),

@@ -1,10 +1,11 @@
 //! Runs that are begun, and abandoned, spoiled or completed. Each further call is named by itself.
 
 ghost use Rattle.std.specs.Prelude.{◌≡◌, true, false, length, IfOk};
-ghost use Rattle.rc_set.specs.Set.{Has};
-ghost use Rattle.rc_graph.specs.Closure.{IsClosed};
-ghost use Rattle.rc_core.specs.Course.{course_of, TargetOf};
-ghost use Rattle.rc_session.specs.Commands.{HasRun, command_of};
+ghost use Rattle.rc_model.specs.Names.{Has};
+ghost use Rattle.rc_model.specs.Graph.{IsClosed};
+ghost use Rattle.rc_model.specs.Run.{course_of, TargetOf};
+ghost use Rattle.rc_model.specs.Session.{HasRun};
+ghost use Rattle.rc_session.specs.Commands.{command_of};
 
 use rc_core::{Ended, Event, Outcome, Run, Standing, Took};
 use rc_graph::Graph;

@@ -1,7 +1,7 @@
 //! Calls on lines.
 
 ghost use Rattle.std.specs.Prelude.{◌≡◌, false, length, IfOk};
-ghost use Rattle.rc_db.specs.Bundles.{Bundles};
+ghost use Rattle.rc_model.specs.Database.{Bundles};
 ghost use Rattle.rc_line.specs.Opening.{IsEditFrom};
 
 use crate::begun::go_on_to;

@@ -9,7 +9,7 @@ pub(crate) enum How {
     Value(Value),
     /// A run is begun and abandoned.
     Abandon,
-    /// A run is begun and spoiled.
+    /// A run is begun and poisoned.
     Spoil,
     /// One is begun, run by one worker and completed.
     Complete,

@@ -1,7 +1,7 @@
 //! Edits of bundles that a table is given outright.
 
 ghost use Rattle.std.specs.Prelude.{length};
-ghost use Rattle.rc_db.specs.Bundles.{AreBelow};
+ghost use Rattle.rc_model.specs.Database.{HaveBound};
 
 use rc_board::Fault;
 use rc_bundle::{BundleFault, add, delete};
@@ -16,7 +16,7 @@ pub(crate) fn altered(
     db: &Db,
     step: Option<&Step>,
 ) -> Result<(), Fault>
-    requires { AreBelow (length db.now.names) table.old }
+    requires { HaveBound (length db.now.names) table.old }
 {
     let edit = match step {
         Some(Step::Add(name, contents, force)) => add(alloc, table, db, name, contents, *force),

@@ -1,4 +1,4 @@
-//! Standard output, with a word for people behind an answer that refuses a name: which name may
+//! Standard output, with a word for people after an answer that refuses a name: which name may
 //! have been meant. The answers are written as they are.
 use crate::hints::{tell_hint, tell_near};
 use rc_names::NoMem;
@@ -19,7 +19,7 @@ pub struct Answers<'a> {
 }
 
 impl<'a> Answers<'a> {
-    /// Where the database is known, what helps is told behind each answer, else behind all.
+    /// Where the database is known, what helps is told after each answer, else after all.
     pub fn new(rt: &'a HostRuntime, base: Option<&'a [u8]>) -> Answers<'a> {
         Answers {
             rt,
@@ -30,14 +30,14 @@ impl<'a> Answers<'a> {
         }
     }
 
-    /// Tells what helps behind all answers, of names of this database.
+    /// Tells what helps after all answers, of names of this database.
     pub fn tell_all(&self, database: &[u8]) {
         for name in &self.unknown {
             tell_near(self.rt, database, name.as_str());
         }
     }
 
-    /// Tells what helps behind an answer, or keeps the name.
+    /// Tells what helps after an answer, or keeps the name.
     fn look_at_answer(&mut self) -> Result<(), NoMem> {
         let Some(name) = refused_name(&self.answer) else {
             return Ok(());

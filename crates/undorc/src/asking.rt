@@ -1,4 +1,4 @@
-//! `db`, `plan` and `replay`, on the database of a file or at the front of standard input.
+//! `db`, `plan` and `replay`, on the database of a file or at the beginning of standard input.
 use crate::hints::{Seen, behind_database, behind_session, tell_file};
 use crate::sessions::live_at;
 use crate::terminal::Typed;

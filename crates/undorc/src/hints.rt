@@ -1,4 +1,4 @@
-//! The lines behind a fault, for people: where it is, and what helps. They change no status, and
+//! The lines after a fault, for people: where it is, and what helps. They change no status, and
 //! where nothing is found, or memory is short, there are none.
 use rc_asked::{CompileRequest, DbRequest, Query};
 use rc_graph::Way;
@@ -18,7 +18,7 @@ const FAILED: u8 = 111;
 /// A fault writer that keeps what was told.
 pub type ToldErrors = Told<Stderr>;
 
-/// What helps behind what `compile` told, and what was not looked at.
+/// What helps after what `compile` told, and what was not looked at.
 pub fn behind_compile(rt: &HostRuntime, request: &CompileRequest<'_>, told: &ToldErrors) {
     let sources = Sources::new(rt, rt.alloc(), &request.sources);
     if let Some((word, names)) = told.fault() {
@@ -37,7 +37,7 @@ pub fn behind_compile(rt: &HostRuntime, request: &CompileRequest<'_>, told: &Tol
     }
 }
 
-/// Where the database of a command stands, in the file of `-b` or at the front of standard input,
+/// Where the database of a command stands, in the file of `-b` or at the beginning of standard input,
 /// and what was read of that.
 #[derive(Clone, Copy)]
 pub struct Seen<'a> {
@@ -81,7 +81,7 @@ impl<'a> Seen<'a> {
     }
 }
 
-/// What helps behind what was told of the database, or of what is asked of it.
+/// What helps after what was told of the database, or of what is asked of it.
 pub fn behind_database(rt: &HostRuntime, seen: &Seen<'_>, told: &ToldErrors) {
     let Some((word, rest)) = told.fault() else {
         return;
@@ -101,7 +101,7 @@ pub fn behind_database(rt: &HostRuntime, seen: &Seen<'_>, told: &ToldErrors) {
     }
 }
 
-/// What helps behind what a session told: of the file of `-l`, with what was read there, or of its
+/// What helps after what a session told: of the file of `-l`, with what was read there, or of its
 /// database.
 pub fn behind_session(
     rt: &HostRuntime,
@@ -120,7 +120,7 @@ pub fn behind_session(
 }
 
 /// What helps where the file of `-l` can't be read or written, or its text is refused, which is
-/// looked at behind the database.
+/// looked at after the database.
 fn behind_live(
     rt: &HostRuntime,
     path: &str,
@@ -186,7 +186,7 @@ pub fn tell_failure(rt: &HostRuntime, line: &str) -> u8 {
     FAILED
 }
 
-/// A line behind a fault.
+/// A line after a fault.
 pub fn tell_hint(rt: &HostRuntime, hint: impl Display + Drop) {
     let _ = rt.eprintln(format_args!("  {hint}"));
 }

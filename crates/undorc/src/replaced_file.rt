@@ -1,4 +1,4 @@
-//! Files that are replaced whole, so that whoever looks at any moment, also behind a program that
+//! Files that are replaced whole, so that whoever looks at any moment, also after a program that
 //! was killed, finds the old bytes or the new ones.
 use std::fs::{self, File, OpenFile, Permissions};
 use std::io::{self, ErrorKind, Write};

@@ -1,6 +1,6 @@
 use Rattle.std.proofs.Common.{◌∙◌, ◌∷◌, ◌++◌, [], ℕ, List, Bor, ap, map, string_bytes, sym, take}
 use Rattle.rc_db.proofs.Listing.{shown_more}
-use Rattle.rc_asked.proofs.Mapped.{mapped_more}
+use Rattle.rc_model.proofs.Mapped.{mapped_more}
 use Rattle.rc_asked.proofs.texts.strings_of.Goals as goal
 
 -- what stands past the end of the words

@@ -3,7 +3,7 @@ use Rattle.std.proofs.lemmas.List.{take_all, length-map}
 use Rattle.std.proofs.lemmas.List.{map-append}
 use Rattle.rc_asked.specs.Listed.{Listed, AreSpelled}
 use Rattle.rc_asked.specs.Reading.{listed_of}
-use Rattle.rc_asked.proofs.Mapped.{mapped_more}
+use Rattle.rc_model.proofs.Mapped.{mapped_more}
 use Rattle.rc_asked.proofs.Spelling.{not_spelled, spelled_on}
 use Rattle.rc_asked.proofs.transitions.listed.Goals as goal
 

@@ -1,6 +1,6 @@
 use Rattle.std.proofs.Common.{◌≡◌, [], IfOk, IfErr, refl, subst}
-use Rattle.rc_core.specs.Course.{course_of}
-use Rattle.rc_session.specs.Commands.{Redo}
+use Rattle.rc_model.specs.Run.{course_of}
+use Rattle.rc_model.specs.Session.{Redo}
 use Rattle.rc_session.specs.Report.{told_of}
 use Rattle.rc_session.specs.Holding.{Holding}
 use Rattle.rc_session.proofs.Carrying.{as_before}

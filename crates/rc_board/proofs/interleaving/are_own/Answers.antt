@@ -1,7 +1,7 @@
 use Rattle.std.proofs.Common.{◌≡◌, ◌∙◌, ◌↔◌, ◌∷◌, true, false, List, length, ap, sym, subst}
 use Rattle.std.specs.List.{All}
 use Rattle.std.proofs.lemmas.List.Elements.{All-tail}
-use Rattle.rc_core.specs.declared.event.Event.{Event}
+use Rattle.rc_model.specs.declared.Event.{Event}
 use Rattle.rc_board.specs.Interleaving.{IsOfCrew}
 use Rattle.rc_board.specs.Reading.{AreLeft}
 use Rattle.rc_board.proofs.Placing.{all_left, by_both}

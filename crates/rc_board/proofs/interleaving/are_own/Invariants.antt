@@ -1,6 +1,6 @@
 use Rattle.std.proofs.Common.{◌≡◌, ◌↔◌, ◌+◌, ◌<◌, ℕ, length, get_or}
 use Rattle.std.specs.List.{All}
-use Rattle.rc_board.specs.Pads.{Written, own, noted}
+use Rattle.rc_board.specs.Pads.{Written, own, events_on}
 use Rattle.rc_board.specs.Interleaving.{IsOfCrew}
 use Rattle.rc_board.specs.Reading.{AreLeft}
 use Rattle.rc_board.proofs.interleaving.are_own.Given as goal
@@ -9,7 +9,7 @@ use Rattle.rc_board.proofs.interleaving.are_own.Given as goal
 abbrev pub invariant-loop-event : goal.invariant-loop-event
 invariant-loop-event l =
     (((k : ℕ) (d : Written) → k < length l.pads
-    → own (k + 1) l.fn.events ≡ noted (get_or l.pads k d).notes)
+    → own (k + 1) l.fn.events ≡ events_on (get_or l.pads k d).notes)
     ↔ AreLeft l.pads l.read l.events)
     × All (IsOfCrew (length l.pads)) l.events × (length l.read ≡ 64)
 

@@ -1,5 +1,5 @@
 use Rattle.std.proofs.Common.{◌≡◌, ◌<◌, [], drop, false, true, length, get_or, subst, sym, rules}
-use Rattle.rc_board.specs.Pads.{Written, noted}
+use Rattle.rc_board.specs.Pads.{Written, events_on}
 use Rattle.rc_board.proofs.Placing.{not_end}
 use Rattle.rc_board.proofs.interleaving.are_read.Goals as goal
 
@@ -12,6 +12,6 @@ returns-then-read-k c =
     let behind : a < length pad.notes = search rules in (
       λ bad. absurd (let no : false ≡ true = bad in cc),
       λ left. absurd (not_end pad.notes a behind
-          (subst (λ (p : Written). [] ≡ noted (drop a p.notes)) (sym c.index-pads-k.is)
+          (subst (λ (p : Written). [] ≡ events_on (drop a p.notes)) (sym c.index-pads-k.is)
           (left k pad c.loop-k-test.true))),
     )

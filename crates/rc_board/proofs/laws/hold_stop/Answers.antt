@@ -1,6 +1,6 @@
 use Rattle.std.proofs.Common.{subst, OnErr}
-use Rattle.rc_core.specs.declared.event.Event.TheVariants.{Stop}
-use Rattle.rc_core.specs.Legal.{IsLegal}
+use Rattle.rc_model.specs.declared.Event.TheVariants.{Stop}
+use Rattle.rc_model.specs.Run.{IsLegal}
 use Rattle.rc_core.specs.Settled.{RunSoFar}
 use Rattle.rc_board.proofs.laws.hold_stop.Goals as goal
 

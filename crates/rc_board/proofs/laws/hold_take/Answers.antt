@@ -1,5 +1,5 @@
 use Rattle.std.proofs.Common.{subst, OnOk, OnErr}
-use Rattle.rc_core.specs.Events.{IsWorker, IsFree}
+use Rattle.rc_model.specs.Run.{IsWorker, IsFree}
 use Rattle.rc_core.specs.Settled.{RunSoFar}
 use Rattle.rc_board.proofs.laws.hold_take.Goals as goal
 

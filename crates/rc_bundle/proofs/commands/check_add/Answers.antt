@@ -1,5 +1,5 @@
 use Rattle.std.proofs.Common.{List, ℕ, OnOk, IfErr, map, string_bytes, subst}
-use Rattle.rc_bundle.specs.Bundling.{CanAdd, IsAddFault}
+use Rattle.rc_model.specs.Line.{CanAdd, IsAddFault}
 use Rattle.rc_bundle.proofs.commands.check_add.Goals as goal
 
 pub returns-clause-can : goal.returns-clause-can

@@ -1,5 +1,5 @@
 use Rattle.std.proofs.Common.{take, map, string_bytes}
-use Rattle.rc_bundle.specs.Bundling.{Removes}
+use Rattle.rc_model.specs.Line.{Removes}
 use Rattle.rc_bundle.proofs.commands.cleared.Given as goal
 
 -- the names before this one are removed

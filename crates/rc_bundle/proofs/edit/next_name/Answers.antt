@@ -3,9 +3,9 @@ use Rattle.std.specs.Cmp.Lexicographic.{slice_cmp}
 use Rattle.std.specs.List.{slice_get}
 use Rattle.std.specs.Ordering.{nat_cmp}
 use Rattle.std.specs.declared.cmp.Ordering.TheVariants.{Equal, Greater}
-use Rattle.rc_names.specs.Names.{IsBefore}
-use Rattle.rc_names.proofs.ByteOrder.{same_text}
-use Rattle.rc_bundle.proofs.Texts.{before_from_after}
+use Rattle.rc_model.specs.Names.{IsBefore}
+use Rattle.rc_model.proofs.ByteOrder.{same_text}
+use Rattle.rc_model.proofs.Texts.{before_from_after}
 use Rattle.rc_bundle.proofs.edit.next_name.Goals as goal
 
 pub returns-in-Equal : goal.returns-in-Equal

@@ -4,7 +4,7 @@ use Rattle.rc_graph.specs.declared.Way.TheVariants.{Raise}
 use Rattle.rc_asked.specs.Listed.{Listed}
 use Rattle.rc_asked.specs.Reading.{listed_of}
 use Rattle.rc_asked.specs.declared.transitions.Transition.{Transition}
-use Rattle.rc_asked.proofs.Mapped.{mapped_more}
+use Rattle.rc_model.proofs.Mapped.{mapped_more}
 use Rattle.rc_cli.specs.Updating.{listed_by, listed_on}
 use Rattle.rc_cli.proofs.UpdateLemmas.{listed_next}
 use Rattle.rc_cli.proofs.updating.failing_on.Goals as goal

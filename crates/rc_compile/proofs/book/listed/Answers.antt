@@ -1,6 +1,6 @@
 use Rattle.std.proofs.Common.{Contains, List, ap, length, map, subst, sym, ℕ, ◌∙◌}
 use Rattle.std.specs.Global.{Vec}
-use Rattle.rc_set.specs.Set.{Holds}
+use Rattle.rc_model.specs.Names.{Holds}
 use Rattle.rc_holds.specs.Rows.{rows}
 use Rattle.rc_holds.proofs.RowLemmas.{length-rows}
 use Rattle.rc_source.specs.Meaning.{Meaning}

@@ -1,5 +1,5 @@
 use Rattle.std.proofs.Common.{◌∙◌, List, ℕ, sym, subst, true≢false, arith}
-use Rattle.rc_names.specs.Names.{IsBefore}
+use Rattle.rc_model.specs.Names.{IsBefore}
 use Rattle.rc_compile.proofs.Lowest.{first_lowest, lower, not_lower, lowest_is_least, test_less, test_not_less}
 use Rattle.rc_compile.proofs.Passing.{stands}
 use Rattle.rc_compile.proofs.least.least_place.Goals as goal

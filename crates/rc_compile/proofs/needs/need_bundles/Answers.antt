@@ -1,7 +1,7 @@
 use Rattle.std.proofs.Common.{◌≡◌, ◌∙◌, ℕ, ◌+◌, ◌<◌, ◌↔◌, [], length, get_or, Contains, refl, arith}
 use Rattle.std.proofs.lemmas.List.Elements.{Contains-get_or}
-use Rattle.rc_set.specs.Set.{Has}
-use Rattle.rc_graph.specs.Needs.{Needs}
+use Rattle.rc_model.specs.Names.{Has}
+use Rattle.rc_model.specs.Graph.{Needs}
 use Rattle.rc_holds.specs.Rows.{rows}
 use Rattle.rc_graph.proofs.RowLemmas.{needer_known}
 use Rattle.rc_holds.proofs.RowLemmas.{row_is, row_needs, length-rows}

@@ -1,6 +1,6 @@
 use Rattle.std.proofs.Common.{◌≡◌, ◌<◌, ℕ, [], length, slice_index_or}
-use Rattle.rc_set.specs.Set.{Has}
-use Rattle.rc_graph.specs.Needs.{Needs}
+use Rattle.rc_model.specs.Names.{Has}
+use Rattle.rc_model.specs.Graph.{Needs}
 use Rattle.rc_holds.specs.Rows.{rows}
 use Rattle.rc_compile.proofs.Needing.{Gained}
 use Rattle.rc_compile.proofs.needs.need_bundles.Given as goal

@@ -1,6 +1,6 @@
 use Rattle.std.proofs.Common.{◌≡◌, ◌∙◌, ℕ, ◌+◌, ◌↔◌, Bool, List, [], length, take, get_or, Contains, refl, sym, subst}
-use Rattle.rc_set.specs.Set.{Has}
-use Rattle.rc_graph.specs.Needs.{Needs}
+use Rattle.rc_model.specs.Names.{Has}
+use Rattle.rc_model.specs.Graph.{Needs}
 use Rattle.rc_compile.proofs.Needing.{Beside, gained, gained_as, one_more, none_yet, all_of, for_one, set_read, listed_below}
 use Rattle.rc_compile.proofs.needs.need_sets.Goals as goal
 

@@ -1,6 +1,6 @@
 use Rattle.std.proofs.Common.{◌≡◌, [], length, take, slice_index_or}
-use Rattle.rc_set.specs.Set.{Has}
-use Rattle.rc_graph.specs.Needs.{Needs}
+use Rattle.rc_model.specs.Names.{Has}
+use Rattle.rc_model.specs.Graph.{Needs}
 use Rattle.rc_compile.proofs.Needing.{Gained, Beside}
 use Rattle.rc_compile.proofs.needs.need_sets.Given as goal
 

@@ -1,7 +1,7 @@
 use Rattle.std.proofs.Common.{◌≡◌, ◌∙◌, List, [], ℕ, map, length, get_or, ap, arith}
 use Rattle.std.proofs.lemmas.List.{length-replicate}
-use Rattle.rc_set.specs.Set.{Has}
-use Rattle.rc_graph.specs.Needs.{Needs}
+use Rattle.rc_model.specs.Names.{Has}
+use Rattle.rc_model.specs.Graph.{Needs}
 use Rattle.rc_source.specs.Said.{meaning_of}
 use Rattle.rc_holds.specs.Mirror.{AreAt, HasListed}
 use Rattle.rc_holds.specs.declared.rows.Listed.TheVariants.{Dependencies, Producer}

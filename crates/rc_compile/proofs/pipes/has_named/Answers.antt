@@ -1,7 +1,7 @@
 use Rattle.std.proofs.Common.{sym, subst, true≢false}
-use Rattle.rc_set.specs.Set.{Has}
-use Rattle.rc_names.proofs.ByteOrder.{one_place}
-use Rattle.rc_db.proofs.Places.{contains_at}
+use Rattle.rc_model.specs.Names.{Has}
+use Rattle.rc_model.proofs.ByteOrder.{one_place}
+use Rattle.rc_model.proofs.Places.{contains_at}
 use Rattle.rc_compile.proofs.pipes.has_named.Goals as goal
 
 pub returns-in-Some : goal.returns-in-Some

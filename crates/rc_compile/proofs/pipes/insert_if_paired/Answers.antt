@@ -1,5 +1,5 @@
 use Rattle.std.proofs.Common.{◌≡◌, ◌∙◌, ◌⊎◌, ⊎_elim, inl, inr, ℕ, List, slice_get, Some, sym, subst, true≢false}
-use Rattle.rc_set.specs.Set.{Has, Holds}
+use Rattle.rc_model.specs.Names.{Has, Holds}
 use Rattle.rc_compile.proofs.pipes.insert_if_paired.Goals as goal
 
 pub returns-then-has_pair-clause-members : goal.returns-then-has_pair-clause-members

@@ -1,6 +1,6 @@
 use Rattle.std.proofs.Common.{◌≡◌, ◌∙◌, ◌⊎◌, ⊎_elim, inl, inr, ℕ, List, slice_get, Some, refl, subst, arith}
 use Rattle.std.proofs.lemmas.List.{take_all}
-use Rattle.rc_set.specs.Set.{Has, Holds}
+use Rattle.rc_model.specs.Names.{Has, Holds}
 use Rattle.rc_holds.specs.Rows.{rows}
 use Rattle.rc_compile.specs.Book.{HasPair, ArePairedAt}
 use Rattle.rc_compile.proofs.Mentioned.{part_next, part_none}

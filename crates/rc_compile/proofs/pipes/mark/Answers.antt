@@ -1,5 +1,5 @@
 use Rattle.std.proofs.Common.{◌≡◌, ◌⊎◌, ⊎_elim, inl, inr, slice_get, Some, Contains, sym, subst}
-use Rattle.rc_set.specs.Set.{Has}
+use Rattle.rc_model.specs.Names.{Has}
 use Rattle.rc_source.specs.Said.{meaning_of}
 use Rattle.rc_compile.specs.Book.{GivesAt}
 use Rattle.rc_compile.proofs.Sharing.{holds_as, gives_at, gives_nowhere}

@@ -1,6 +1,6 @@
 use Rattle.std.proofs.Common.{◌∙◌, ⊎_elim, inl, inr, sym, subst, true≢false}
-use Rattle.rc_set.specs.Set.{Has}
-use Rattle.rc_set.proofs.Members.{has_or_lacks}
+use Rattle.rc_model.specs.Names.{Has}
+use Rattle.rc_model.proofs.SetMembers.{has_or_lacks}
 use Rattle.rc_compile.proofs.pipes.mark_id.Goals as goal
 
 pub returns-then-not-insert-clause-shared : goal.returns-then-not-insert-clause-shared

@@ -1,5 +1,5 @@
 use Rattle.std.proofs.Common.{◌≡◌, length, map}
-use Rattle.rc_set.specs.Set.{Holds}
+use Rattle.rc_model.specs.Names.{Holds}
 use Rattle.rc_source.specs.Said.{meaning_of}
 use Rattle.rc_compile.specs.Book.{GivesAt}
 use Rattle.rc_compile.proofs.Givens.{IsBelow}

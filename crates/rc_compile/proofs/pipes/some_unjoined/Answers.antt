@@ -1,5 +1,5 @@
 use Rattle.std.proofs.Common.{◌∙◌, List, ℕ, IsTrue, refl, sym, subst, true≢false, arith}
-use Rattle.rc_db.proofs.Places.{contains_at}
+use Rattle.rc_model.proofs.Places.{contains_at}
 use Rattle.rc_compile.specs.Book.{HasNamed}
 use Rattle.rc_compile.proofs.Passing.{stands, passed_next, passed_all}
 use Rattle.rc_compile.proofs.pipes.some_unjoined.Goals as goal

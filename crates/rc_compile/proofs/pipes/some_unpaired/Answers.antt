@@ -1,5 +1,5 @@
 use Rattle.std.proofs.Common.{◌∙◌, refl, sym, true≢false, arith}
-use Rattle.rc_db.proofs.Places.{contains_at}
+use Rattle.rc_model.proofs.Places.{contains_at}
 use Rattle.rc_holds.specs.Rows.{rows}
 use Rattle.rc_compile.specs.Book.{HasPair}
 use Rattle.rc_compile.proofs.Passing.{stands, passed_next, passed_all}

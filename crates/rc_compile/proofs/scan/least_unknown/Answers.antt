@@ -1,7 +1,7 @@
 use Rattle.std.proofs.Common.{◌≡◌, ◌∙◌, ◌<◌, ◌↔◌, ⊎_elim, ℕ, List, [], Option, None, map, length, Contains, IfNone, IfSome, sym, subst, true, true≢false, arith}
 use Rattle.std.proofs.lemmas.List.{length-map}
 use Rattle.std.proofs.lemmas.Slice.Eq.{bytes_eq-Decides}
-use Rattle.rc_db.proofs.Places.{contains_at}
+use Rattle.rc_model.proofs.Places.{contains_at}
 use Rattle.rc_db.proofs.Words.{mapped_at}
 use Rattle.rc_source.specs.Meaning.{Meaning}
 use Rattle.rc_source.specs.Said.{meaning_of}

@@ -1,9 +1,9 @@
 use Rattle.std.proofs.Common.{◌≡◌, ◌<◌, ⊎_elim, ℕ, refl, sym, subst, true≢false, arith}
 use Rattle.std.proofs.lemmas.Bool.{cases_lt}
 use Rattle.std.proofs.lemmas.Option.{slice_get_within}
-use Rattle.rc_names.specs.declared.kind.Kind.TheVariants.{Longrun}
-use Rattle.rc_graph.specs.Needs.{Needs}
-use Rattle.rc_db.specs.Database.{Feeds, IsKind}
+use Rattle.rc_model.specs.declared.Kind.TheVariants.{Longrun}
+use Rattle.rc_model.specs.Graph.{Needs}
+use Rattle.rc_model.specs.Database.{Feeds, IsKind}
 use Rattle.rc_db.specs.Parts.{database_of}
 use Rattle.rc_db.proofs.fit.all_feed_needed_longruns.Goals as goal
 

@@ -1,7 +1,7 @@
 use Rattle.std.proofs.Common.{ℕ, ◌<◌}
-use Rattle.rc_names.specs.declared.kind.Kind.TheVariants.{Longrun}
-use Rattle.rc_graph.specs.Needs.{Needs}
-use Rattle.rc_db.specs.Database.{Feeds, IsKind}
+use Rattle.rc_model.specs.declared.Kind.TheVariants.{Longrun}
+use Rattle.rc_model.specs.Graph.{Needs}
+use Rattle.rc_model.specs.Database.{Feeds, IsKind}
 use Rattle.rc_db.specs.Parts.{database_of}
 use Rattle.rc_db.proofs.fit.all_feed_needed_longruns.Given as goal
 

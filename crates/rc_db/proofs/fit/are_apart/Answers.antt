@@ -1,8 +1,8 @@
 use Rattle.std.proofs.Common.{◌∙◌, Contains, ap, refl, sym, subst, true≢false, arith}
 use Rattle.std.proofs.lemmas.Option.{slice_get-map, slice_get_within}
 use Rattle.std.specs.Option.{option_map}
-use Rattle.rc_db.specs.Bundles.{names_of}
-use Rattle.rc_db.proofs.Places.{contains_at, mapped_place}
+use Rattle.rc_model.specs.Database.{names_of}
+use Rattle.rc_model.proofs.Places.{contains_at, mapped_place}
 use Rattle.rc_db.proofs.fit.are_apart.Goals as goal
 
 pub returns-then-has_name : goal.returns-then-has_name

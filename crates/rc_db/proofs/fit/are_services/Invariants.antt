@@ -1,6 +1,6 @@
 use Rattle.std.proofs.Common.{◌≡◌, ◌≢◌, ℕ, ◌<◌, slice_get, Some}
-use Rattle.rc_names.specs.declared.kind.Kind.TheVariants.{Bundle}
-use Rattle.rc_db.specs.Service.{Service, HasLimits}
+use Rattle.rc_model.specs.declared.Kind.TheVariants.{Bundle}
+use Rattle.rc_model.specs.Database.{Service, HasLimits}
 use Rattle.rc_db.proofs.fit.are_services.Given as goal
 
 -- those passed are no bundles

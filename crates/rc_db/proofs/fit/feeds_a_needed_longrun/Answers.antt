@@ -1,7 +1,7 @@
 use Rattle.std.proofs.Common.{◌∙◌, ℕ, refl, sym, true≢false}
-use Rattle.rc_names.specs.declared.kind.Kind.TheVariants.{Longrun}
-use Rattle.rc_graph.specs.Needs.{Needs}
-use Rattle.rc_db.specs.Database.{IsKind}
+use Rattle.rc_model.specs.declared.Kind.TheVariants.{Longrun}
+use Rattle.rc_model.specs.Graph.{Needs}
+use Rattle.rc_model.specs.Database.{IsKind}
 use Rattle.rc_db.specs.Parts.{database_of}
 use Rattle.rc_db.proofs.Fits.{of_fed}
 use Rattle.rc_db.proofs.fit.feeds_a_needed_longrun.Goals as goal

@@ -1,8 +1,6 @@
 use Rattle.std.proofs.Common.{◌≢◌, ℕ, List, All, refl, subst, arith}
-use Rattle.rc_names.specs.declared.kind.Kind.TheVariants.{Bundle}
-use Rattle.rc_db.specs.Service.{Service, HasLimits}
-use Rattle.rc_db.specs.Bundles.{AreBelow}
-use Rattle.rc_db.specs.Database.{AreApart, FitTogether, IsDatabase}
+use Rattle.rc_model.specs.declared.Kind.TheVariants.{Bundle}
+use Rattle.rc_model.specs.Database.{Service, HasLimits, HaveBound, AreApart, FitTogether, IsDatabase}
 use Rattle.rc_db.specs.Parts.{database_of}
 use Rattle.rc_db.proofs.Fits.{on_true}
 use Rattle.rc_db.proofs.fit.fit_together.Goals as goal
@@ -11,7 +9,7 @@ use Rattle.rc_db.proofs.fit.fit_together.Goals.{After-are_apart}
 -- what is left once the names are apart
 with_apart : (c : After-are_apart) → AreApart c.args.parts.now.names c.args.parts.now.table → FitTogether (database_of c.args.parts.now)
 with_apart c apart =
-    let Bounds : ℕ → Type 0 = λ n. AreBelow n c.args.parts.now.table in
+    let Bounds : ℕ → Type 0 = λ n. HaveBound n c.args.parts.now.table in
     let Kinds : List Service → Type 0 = λ services. All (λ s. s.kind ≢ Bundle) services in
     record {
       services = omega arith;

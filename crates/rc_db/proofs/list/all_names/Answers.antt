@@ -3,7 +3,7 @@ use Rattle.std.proofs.lemmas.List.{length-map}
 use Rattle.std.proofs.lemmas.Option.{slice_get-map, slice_get_within}
 use Rattle.std.specs.Bool.{OnTrue, OnFalse}
 use Rattle.std.specs.Option.{option_map}
-use Rattle.rc_db.specs.Bundles.{names_of}
+use Rattle.rc_model.specs.Database.{names_of}
 use Rattle.rc_db.specs.Merging.{IsNext}
 use Rattle.rc_db.proofs.Listing.{all_merged, flipped, next_merged, shown_more}
 use Rattle.rc_db.proofs.list.all_names.Goals as goal

@@ -1,5 +1,5 @@
 use Rattle.std.proofs.Common.{◌≡◌, ◌+◌, ◌≤◌, length, map}
-use Rattle.rc_db.specs.Bundles.{names_of}
+use Rattle.rc_model.specs.Database.{names_of}
 use Rattle.rc_db.proofs.Listing.{Merged}
 use Rattle.rc_db.proofs.list.all_names.Given as goal
 

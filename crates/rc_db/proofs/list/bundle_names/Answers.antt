@@ -1,7 +1,7 @@
 use Rattle.std.proofs.Common.{◌∙◌, map, ap}
 use Rattle.std.proofs.lemmas.Option.{slice_get-map}
 use Rattle.std.specs.Option.{option_map}
-use Rattle.rc_db.specs.Bundles.{names_of}
+use Rattle.rc_model.specs.Database.{names_of}
 use Rattle.rc_db.proofs.Listing.{one_taken, shown_more}
 use Rattle.rc_db.proofs.list.bundle_names.Goals as goal
 

@@ -1,5 +1,5 @@
 use Rattle.std.proofs.Common.{◌≡◌, map, take}
-use Rattle.rc_db.specs.Bundles.{names_of}
+use Rattle.rc_model.specs.Database.{names_of}
 use Rattle.rc_db.proofs.list.bundle_names.Given as goal
 
 -- the names of the bundles passed

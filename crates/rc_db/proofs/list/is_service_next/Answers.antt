@@ -6,12 +6,12 @@ use Rattle.std.proofs.lemmas.Slice.Eq.{bytes_eq-Decides}
 use Rattle.std.specs.Str.{bytes_eq}
 use Rattle.rc_names.proofs.Growth.{before_from}
 use Rattle.std.specs.Option.{option_map}
-use Rattle.rc_names.specs.Names.{IsBefore}
-use Rattle.rc_db.specs.Bundles.{names_of}
+use Rattle.rc_model.specs.Names.{IsBefore}
+use Rattle.rc_model.specs.Database.{names_of}
 use Rattle.rc_db.specs.Merging.{IsNext}
 use Rattle.rc_db.proofs.Fits.{on_true}
 use Rattle.rc_db.proofs.Listing.{less_from, on_false}
-use Rattle.rc_db.proofs.Places.{contains_at}
+use Rattle.rc_model.proofs.Places.{contains_at}
 use Rattle.rc_db.proofs.list.is_service_next.Goals as goal
 
 pub returns-then-id-len-clause-bundle : goal.returns-then-id-len-clause-bundle

@@ -1,6 +1,5 @@
 use Rattle.std.proofs.Common.{◌≡◌, ◌∙◌, ◌+◌, ◌≤◌, ℕ, List, length, map, slice_get, Some, true≢false, ap, sym, subst, arith}
-use Rattle.rc_db.specs.Database.{IsKind}
-use Rattle.rc_db.specs.Service.{Service}
+use Rattle.rc_model.specs.Database.{IsKind, Service}
 use Rattle.rc_db.proofs.Listing.{Passed, kind_listed, none_passed, one_passed, shown_more}
 use Rattle.rc_db.proofs.list.names_of_kind.Goals as goal
 use Rattle.rc_db.proofs.list.names_of_kind.Goals.{then-is_of+in_ok-push, else-is_of}

@@ -1,5 +1,5 @@
 use Rattle.std.proofs.Common.{map}
-use Rattle.rc_db.specs.Database.{IsKind}
+use Rattle.rc_model.specs.Database.{IsKind}
 use Rattle.rc_db.proofs.Listing.{Passed}
 use Rattle.rc_db.proofs.list.names_of_kind.Given as goal
 

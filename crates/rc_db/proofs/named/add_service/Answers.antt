@@ -1,6 +1,6 @@
 use Rattle.std.proofs.Common.{◌∙◌, ⊎_elim, inl, inr, ap, slice_get}
-use Rattle.rc_names.proofs.ByteOrder.{one_place}
-use Rattle.rc_db.proofs.Places.{contains_at}
+use Rattle.rc_model.proofs.ByteOrder.{one_place}
+use Rattle.rc_model.proofs.Places.{contains_at}
 use Rattle.rc_db.proofs.named.add_service.Goals as goal
 
 pub returns-in-Some-clause-members : goal.returns-in-Some-clause-members

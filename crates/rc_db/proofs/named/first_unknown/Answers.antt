@@ -3,8 +3,8 @@ use Rattle.std.proofs.lemmas.List.{length-map}
 use Rattle.std.proofs.lemmas.Option.{slice_get_within}
 use Rattle.std.specs.String.{string_bytes}
 use borrow.Author.Count.{below_more}
-use Rattle.rc_db.specs.Named.{IsKnown}
-use Rattle.rc_db.proofs.Places.{all_places}
+use Rattle.rc_model.specs.Database.{IsKnown}
+use Rattle.rc_model.proofs.Places.{all_places}
 use Rattle.rc_db.proofs.Words.{first_of, mapped_at}
 use Rattle.rc_db.proofs.named.first_unknown.Goals as goal
 

@@ -1,6 +1,6 @@
 use Rattle.std.proofs.Common.{◌≡◌, ℕ, ◌<◌, slice_get, Some, map, List}
 use Rattle.std.specs.String.{string_bytes}
-use Rattle.rc_db.specs.Named.{IsKnown}
+use Rattle.rc_model.specs.Database.{IsKnown}
 use Rattle.rc_db.proofs.named.first_unknown.Given as goal
 
 -- the words passed are names

@@ -1,6 +1,6 @@
 use Rattle.std.proofs.Common.{◌≡◌, ◌∙◌, List, ℕ, Bool, Contains, Option, Some, None, Bor, is_some, IsTrue, refl, sym, ap, true≢false}
 use Rattle.std.specs.Option.{option_copied}
-use Rattle.rc_db.specs.Bundles.{Bundles, names_of, value_of}
+use Rattle.rc_model.specs.Database.{Bundles, names_of, value_of}
 use Rattle.rc_db.proofs.Values.{named_by_value}
 use Rattle.rc_db.proofs.Words.{is_some-value_of}
 use Rattle.rc_db.proofs.named.has_bundle.Goals as goal

@@ -1,9 +1,8 @@
 use Rattle.std.proofs.Common.{◌≡◌, ◌∙◌, ◌⊎◌, List, ℕ, Bool, map, slice_get, Some, subst, arith}
 use Rattle.std.proofs.lemmas.List.{length-map, take_all}
 use Rattle.std.specs.String.{string_bytes}
-use Rattle.rc_set.specs.Set.{Has, Holds}
-use Rattle.rc_db.specs.Bundles.{value_of}
-use Rattle.rc_db.specs.Named.{Selected}
+use Rattle.rc_model.specs.Names.{Has, Holds}
+use Rattle.rc_model.specs.Database.{value_of, Selected}
 use Rattle.rc_db.proofs.Words.{mapped_at, one_more_word}
 use Rattle.rc_db.proofs.named.set_of.Goals as goal
 

@@ -1,7 +1,7 @@
 use Rattle.std.proofs.Common.{◌≡◌, length, map, take}
 use Rattle.std.specs.String.{string_bytes}
-use Rattle.rc_set.specs.Set.{Holds}
-use Rattle.rc_db.specs.Named.{Selected}
+use Rattle.rc_model.specs.Names.{Holds}
+use Rattle.rc_model.specs.Database.{Selected}
 use Rattle.rc_db.proofs.named.set_of.Given as goal
 
 -- the set has what the words passed stand for

@@ -1,6 +1,6 @@
 use Rattle.std.proofs.Common.{◌≡◌, slice_index, sym, subst, true≢false}
-use Rattle.rc_names.specs.declared.kind.Kind.TheVariants.{Longrun}
-use Rattle.rc_db.specs.Service.{Service}
+use Rattle.rc_model.specs.declared.Kind.TheVariants.{Longrun}
+use Rattle.rc_model.specs.Database.{Service}
 use Rattle.rc_db.specs.Pipeline.{IsLastConsumer}
 use Rattle.rc_db.proofs.Pipelines.{same_end}
 use Rattle.rc_db.proofs.pipeline.is_in_pipeline.Goals as goal

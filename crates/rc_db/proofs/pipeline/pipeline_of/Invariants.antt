@@ -1,5 +1,5 @@
 use Rattle.std.proofs.Common.{◌≡◌, ◌<◌, length}
-use Rattle.rc_set.specs.Set.{Holds}
+use Rattle.rc_model.specs.Names.{Holds}
 use Rattle.rc_db.specs.Pipeline.{InPipelineOf}
 use Rattle.rc_db.proofs.pipeline.pipeline_of.Given as goal
 

@@ -1,7 +1,7 @@
 use Rattle.std.proofs.Common.{◌⊎◌, ◌∙◌, List, ℕ, get_or, Contains, subst, arith}
 use Rattle.std.proofs.lemmas.List.{take_all}
 use Rattle.std.proofs.lemmas.Option.{slice_get-get_or}
-use Rattle.rc_set.specs.Set.{Has, Holds}
+use Rattle.rc_model.specs.Names.{Has, Holds}
 use Rattle.rc_db.proofs.Reaching.{one_more_id}
 use Rattle.rc_db.proofs.reach.add_all.Goals as goal
 

@@ -1,5 +1,5 @@
 use Rattle.std.proofs.Common.{◌≡◌, ◌⊎◌, length, take, Contains}
-use Rattle.rc_set.specs.Set.{Has, Holds}
+use Rattle.rc_model.specs.Names.{Has, Holds}
 use Rattle.rc_db.proofs.reach.add_all.Given as goal
 
 -- what was there and those passed

@@ -1,5 +1,5 @@
 use Rattle.std.proofs.Common.{◌≡◌, ◌<◌, ℕ, length}
-use Rattle.rc_set.specs.Set.{Has, Holds}
+use Rattle.rc_model.specs.Names.{Has, Holds}
 use Rattle.rc_db.specs.Queries.{IsBeside}
 use Rattle.rc_db.proofs.reach.next_to.Given as goal
 

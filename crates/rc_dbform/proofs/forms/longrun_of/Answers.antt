@@ -1,7 +1,7 @@
 use Rattle.std.proofs.Common.{IfSome, refl}
 use Rattle.std.proofs.lemmas.Result.{err_from_is_err_and}
-use Rattle.rc_names.specs.declared.kind.Kind.TheVariants as kinds
-use Rattle.rc_names.specs.Name.{IsName}
+use Rattle.rc_model.specs.declared.Kind.TheVariants as kinds
+use Rattle.rc_model.specs.Names.{IsName}
 use Rattle.rc_dbform.specs.Text.{OfProducer, IsBody, body_lines}
 use Rattle.rc_dbform.specs.Reading.{IsStuck, one}
 use Rattle.rc_dbform.proofs.Sequences.{refused_where, stuck_first, read_both}

@@ -2,7 +2,7 @@ use Rattle.std.proofs.Common.{None, IfSome}
 use Rattle.std.proofs.lemmas.Result.{err_from_is_err_and}
 use Rattle.std.specs.Prelude.{string_bytes}
 use Rattle.std.specs.Option.{option_map}
-use Rattle.rc_names.specs.declared.kind.Kind.TheVariants as kinds
+use Rattle.rc_model.specs.declared.Kind.TheVariants as kinds
 use Rattle.rc_db.specs.Service.{IsScript}
 use Rattle.rc_dbform.specs.Text.{OfUp, OfDown, IsBody, body_lines}
 use Rattle.rc_dbform.specs.Reading.{IsStuck, one}

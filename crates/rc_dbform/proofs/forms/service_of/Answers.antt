@@ -1,7 +1,7 @@
 use Rattle.std.proofs.Common.{All, subst}
 use Rattle.std.proofs.lemmas.Result.{err_from_is_err_and}
-use Rattle.rc_names.specs.declared.kind.Kind.{Kind}
-use Rattle.rc_names.specs.Name.{IsName}
+use Rattle.rc_model.specs.declared.Kind.{Kind}
+use Rattle.rc_model.specs.Names.{IsName}
 use Rattle.rc_dbform.specs.FormText.{body_text}
 use Rattle.rc_dbform.specs.Text.{OfService, OfNeeds, IsHead, IsBody, IsServiceText, body_lines, service_lines}
 use Rattle.rc_dbform.specs.Reading.{IsStuck, IsRefused, one}

@@ -1,6 +1,6 @@
 use Rattle.std.proofs.Common.{All}
 use Rattle.std.proofs.lemmas.Result.{err_from_is_err_and}
-use Rattle.rc_names.specs.Name.{IsName}
+use Rattle.rc_model.specs.Names.{IsName}
 use Rattle.rc_dbform.specs.Text.{OfNeeds}
 use Rattle.rc_dbform.proofs.KindLines.{needs_kind}
 use Rattle.rc_dbform.proofs.LineReads.{no_line_here, other_line}

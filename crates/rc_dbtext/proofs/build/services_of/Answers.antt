@@ -1,6 +1,6 @@
 use Rattle.std.proofs.Common.{◌≡◌, ◌+◌, ◌∷◌, ◌++◌, [], List, take, rules, sym, subst}
 use Rattle.std.specs.List.{AllZip}
-use Rattle.rc_db.specs.Service.{Service}
+use Rattle.rc_model.specs.Database.{Service}
 use Rattle.rc_dbtext.specs.Parts.{IsServiceOf}
 use Rattle.rc_dbtext.proofs.Zips.{zip_more}
 use Rattle.rc_dbtext.proofs.build.services_of.Goals as goal

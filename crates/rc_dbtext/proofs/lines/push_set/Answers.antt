@@ -1,5 +1,5 @@
 use Rattle.std.proofs.Common.{◌≡◌, ◌∙◌, ◌<◌, ◌++◌, ℕ, List, All, length, map, sym, ap, subst}
-use Rattle.rc_dbtext.specs.Lines.{spaced}
+use Rattle.rc_dbtext.specs.Lines.{words_after_spaces}
 use Rattle.rc_dbtext.specs.Spelling.{members, name_at}
 use Rattle.rc_dbtext.proofs.Writing.{ids_low, same_members}
 use Rattle.rc_dbtext.proofs.lines.push_set.Goals as goal
@@ -13,4 +13,4 @@ pub returns : goal.returns
 returns c =
     let named : map (name_at c.args.names.now) c.in_ok-ids.ids.items ≡ map (name_at c.args.names.now) (members c.args.set.now) =
     same_members c.args.names.now c.len-count.ensures.names.order c.args.set.now c.in_ok-ids.ids.items c.requires c.in_ok-ids.ensures in
-    c.in_ok-push_ids.ensures ∙ ap (λ (l : List (List ℕ)). c.args.out.now.items ++ spaced l) (ap (map (name_at c.args.names.now)) c.as_slice.ensures.value ∙ named)
+    c.in_ok-push_ids.ensures ∙ ap (λ (l : List (List ℕ)). c.args.out.now.items ++ words_after_spaces l) (ap (map (name_at c.args.names.now)) c.as_slice.ensures.value ∙ named)

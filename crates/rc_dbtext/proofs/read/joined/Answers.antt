@@ -1,7 +1,7 @@
 use Rattle.std.proofs.Common.{◌≡◌, ◌∙◌, ℕ, List, All, Contains, sym, ap, subst}
 use Rattle.std.specs.List.{AllZip}
 use Rattle.rc_db.specs.Service.{IsWritableService}
-use Rattle.rc_db.specs.Database.{Database}
+use Rattle.rc_model.specs.Database.{Database}
 use Rattle.rc_dbform.specs.Text.{BundleText, ServiceText, DbText}
 use Rattle.rc_dbtext.specs.Parts.{FeedsKnown, IsServiceOf}
 use Rattle.rc_dbtext.specs.Spelling.{text_of}

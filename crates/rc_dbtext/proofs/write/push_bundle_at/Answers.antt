@@ -1,5 +1,5 @@
 use Rattle.std.proofs.Common.{◌≡◌, ◌∙◌, Some, length, slice_get, sym, ap}
-use Rattle.rc_db.specs.Bundles.{Bundles}
+use Rattle.rc_model.specs.Database.{Bundles}
 use Rattle.rc_dbtext.proofs.Writing.{bundle_written, long_at}
 use Rattle.rc_dbtext.proofs.write.push_bundle_at.Goals as goal
 

@@ -2,10 +2,10 @@ use Rattle.std.proofs.Common.{◌≡◌, ◌∙◌, ℕ, ◌<◌, List, Contains
 use Rattle.smallvec.specs.SmallVec.{SmallVec}
 use Rattle.std.proofs.lemmas.Bool.{false≢true}
 use Rattle.std.proofs.lemmas.Result.{IfOk-weaker}
-use Rattle.rc_set.proofs.Members.{has_or_lacks}
+use Rattle.rc_model.proofs.SetMembers.{has_or_lacks}
 use Rattle.rc_graph.specs.Rows.{rows}
 use Rattle.rc_graph.proofs.RowLemmas.{length-rows, row_is, row_known, row_needs}
-use Rattle.rc_graph.proofs.Counting.{fewer_left}
+use Rattle.rc_model.proofs.Counting.{fewer_left}
 use Rattle.rc_graph.proofs.Orders.{misses_within}
 use Rattle.rc_graph.proofs.Rings.{walk_begins, walk_goes_on, walk_closes}
 use Rattle.rc_graph.proofs.cycle.ring_from.Goals as goal

@@ -1,8 +1,8 @@
 use Rattle.std.proofs.Common.{◌≡◌, ◌↔◌, ◌<◌, ◌≤◌, ℕ, List, [], Contains, length, slice_index, slice_index_or, arith, subst}
 use Rattle.std.proofs.lemmas.List.{length-map}
 use Rattle.std.proofs.lemmas.List.Elements.{Contains-get_or}
-use Rattle.rc_set.specs.Set.{IsAscending}
-use Rattle.rc_graph.specs.Needs.{Needs}
+use Rattle.rc_model.specs.Names.{IsAscending}
+use Rattle.rc_model.specs.Graph.{Needs}
 use Rattle.rc_graph.specs.Rows.{rows}
 use Rattle.rc_graph.proofs.RowLemmas.{length-rows, row_is}
 use Rattle.rc_graph.proofs.Orders.{ready, misses_within, next_known, next_read, needing, needing_miss, one_passed, placing_room}

@@ -1,6 +1,6 @@
 use Rattle.std.proofs.Common.{◌≡◌, ◌∙◌, length, arith, sym, ap, subst}
 use Rattle.std.proofs.lemmas.List.{take_at}
-use Rattle.rc_set.specs.Set.{IsAscending}
+use Rattle.rc_model.specs.Names.{IsAscending}
 use Rattle.rc_graph.specs.Rows.{rows}
 use Rattle.rc_graph.proofs.RowLemmas.{length-rows, row_is, row_known}
 use Rattle.rc_graph.proofs.Reversing.{added_lent, one_reversed, all_reversed}

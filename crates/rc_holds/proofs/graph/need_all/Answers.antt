@@ -1,6 +1,6 @@
 use Rattle.std.proofs.Common.{◌≡◌, ◌∙◌, ◌⊎◌, ◌↔◌, ℕ, List, Contains, get_or, take, subst}
 use Rattle.std.proofs.lemmas.List.{take_more, take_all}
-use Rattle.rc_graph.specs.Needs.{Needs}
+use Rattle.rc_model.specs.Graph.{Needs}
 use Rattle.rc_holds.proofs.Drafts.{needs_more}
 use Rattle.rc_holds.proofs.graph.need_all.Goals as goal
 

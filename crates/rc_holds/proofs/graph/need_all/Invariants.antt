@@ -1,5 +1,5 @@
 use Rattle.std.proofs.Common.{◌≡◌, ◌⊎◌, ◌↔◌, ℕ, length, take, Contains}
-use Rattle.rc_graph.specs.Needs.{Needs}
+use Rattle.rc_model.specs.Graph.{Needs}
 use Rattle.rc_holds.proofs.graph.need_all.Given as goal
 
 -- those passed are needed

@@ -1,5 +1,5 @@
 use Rattle.std.proofs.Common.{◌≡◌, ◌∙◌, [], slice_index_or, sym, arith}
-use Rattle.rc_graph.specs.Needs.{Needs}
+use Rattle.rc_model.specs.Graph.{Needs}
 use Rattle.rc_holds.specs.Rows.{rows}
 use Rattle.rc_holds.proofs.RowLemmas.{length-rows, row_is, row_needs, row_known}
 use Rattle.rc_holds.proofs.Drafts.{lists_more, lists_all}

@@ -1,5 +1,5 @@
 use Rattle.std.proofs.Common.{◌≡◌, ◌<◌, ◌⊎◌, ◌↔◌, ℕ, length}
-use Rattle.rc_graph.specs.Needs.{Needs}
+use Rattle.rc_model.specs.Graph.{Needs}
 use Rattle.rc_holds.specs.Rows.{rows}
 use Rattle.rc_holds.proofs.graph.need_lists.Given as goal
 

@@ -1,6 +1,6 @@
 use Rattle.std.proofs.Common.{◌∙◌, ℕ, List, get_or, subst}
 use Rattle.std.proofs.lemmas.List.{take_more, take_all}
-use Rattle.rc_set.specs.Set.{Holds}
+use Rattle.rc_model.specs.Names.{Holds}
 use Rattle.rc_holds.specs.Joining.{HasJoined}
 use Rattle.rc_holds.proofs.Joins.{joins_more, set_at}
 use Rattle.rc_holds.proofs.join.joined.Goals as goal

@@ -1,5 +1,5 @@
 use Rattle.std.proofs.Common.{◌≡◌, length, take}
-use Rattle.rc_set.specs.Set.{Holds}
+use Rattle.rc_model.specs.Names.{Holds}
 use Rattle.rc_holds.specs.Joining.{HasJoined}
 use Rattle.rc_holds.proofs.join.joined.Given as goal
 

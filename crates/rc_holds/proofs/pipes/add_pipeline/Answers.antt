@@ -1,5 +1,5 @@
 use Rattle.std.proofs.Common.{◌≡◌, ◌∙◌, ◌↔◌, ℕ, List, Some, slice_get, ap}
-use Rattle.rc_graph.specs.Closure.{UpFrom}
+use Rattle.rc_model.specs.Graph.{UpFrom}
 use Rattle.rc_holds.specs.Rows.{rows}
 use Rattle.rc_source.specs.Said.{meaning_of}
 use Rattle.rc_holds.proofs.SetLists.{from_place, pipe_gain}

@@ -1,8 +1,8 @@
 use Rattle.std.proofs.Common.{◌≡◌, ◌∙◌, ◌<◌, ◌⊎◌, ℕ, Bool, List, [], Some, Contains, length, slice_get, sym, ap, subst, arith}
 use Rattle.std.proofs.lemmas.List.{get_or_default}
 use Rattle.std.proofs.lemmas.Option.{slice_get_within}
-use Rattle.rc_set.specs.Set.{Has, Holds}
-use Rattle.rc_holds.proofs.Orders.{contains_at}
+use Rattle.rc_model.specs.Names.{Has, Holds}
+use Rattle.rc_model.proofs.BundleOrders.{contains_at}
 use Rattle.rc_holds.proofs.SetLists.{join_at, gain_none}
 use Rattle.rc_holds.proofs.pipes.add_set.Goals as goal
 

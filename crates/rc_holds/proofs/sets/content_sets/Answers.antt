@@ -1,5 +1,5 @@
 use Rattle.std.proofs.Common.{◌<◌, ℕ, List, length, map, sym, ap, subst, arith}
-use Rattle.rc_graph.specs.Needs.{Needs}
+use Rattle.rc_model.specs.Graph.{Needs}
 use Rattle.rc_holds.specs.Rows.{rows}
 use Rattle.rc_holds.proofs.RowLemmas.{length-rows}
 use Rattle.rc_source.specs.Said.{meaning_of}

@@ -1,6 +1,6 @@
 use Rattle.std.proofs.Common.{◌∙◌, ℕ, List, Contains, get_or, take, subst}
 use Rattle.std.proofs.lemmas.List.{take_more, take_all}
-use Rattle.rc_set.specs.Set.{Holds}
+use Rattle.rc_model.specs.Names.{Holds}
 use Rattle.rc_holds.proofs.SetLists.{set_none, set_more}
 use Rattle.rc_holds.proofs.sets.set_of.Goals as goal
 

@@ -1,5 +1,5 @@
 use Rattle.std.proofs.Common.{◌≡◌, length, take, Contains}
-use Rattle.rc_set.specs.Set.{Holds}
+use Rattle.rc_model.specs.Names.{Holds}
 use Rattle.rc_holds.proofs.sets.set_of.Given as goal
 
 -- the ids passed are in

@@ -1,4 +1,4 @@
-use Rattle.rc_line.proofs.Fitting.{fitted_back, fitted_on, fitted_first, fitted_last}
+use Rattle.rc_model.proofs.Fitting.{fitted_back, fitted_on, fitted_first, fitted_last}
 use Rattle.rc_line.proofs.laws.fitting_keeps_neighbours.Goals as goal
 
 pub returns-clause-before : goal.returns-clause-before

@@ -1,6 +1,6 @@
 use Rattle.std.proofs.Common.{◌≡◌, ◌++◌, ◌∷◌, [], List, rules, refl, subst, sym, Bool, false}
 use Rattle.rc_livetext.specs.Text.{StateText, OfState, spell}
-use Rattle.rc_livetext.specs.Following.{AtStates, reached}
+use Rattle.rc_livetext.specs.Following.{AtStates, place_after}
 use Rattle.rc_livetext.specs.FormText.{line_text}
 use Rattle.rc_livetext.specs.Held.{HasStates, HasNoBundle, states_lines}
 use Rattle.rc_livetext.proofs.Follows.{states_may}
@@ -37,7 +37,7 @@ loop-before-preserved c =
     let pushed : c.push.new.self.items ≡ c.loop-before.before.items ++ state ∷ [] = search rules in
     let Has : List StateText → Type 0 = λ ss. HasStates c.args.bytes.now ss c.in_ok-bundles.behind.now in
     let Ends : List StateText → Type 0 =
-    λ ss. HasNoBundle (reached AtStates (states_lines ss)) c.in_ok-bundles.behind.now in
+    λ ss. HasNoBundle (place_after AtStates (states_lines ss)) c.in_ok-bundles.behind.now in
     record {
       has = subst Has (sym pushed)
           (one_state state c.loop-before.before.items c.args.bytes.now c.loop-before.rest.now

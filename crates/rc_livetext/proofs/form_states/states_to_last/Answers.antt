@@ -1,6 +1,6 @@
 use Rattle.std.proofs.Common.{◌≡◌, ◌++◌, ◌∷◌, [], List, rules, refl, subst, sym, Bool, true}
 use Rattle.rc_livetext.specs.Text.{StateText, OfState, spell}
-use Rattle.rc_livetext.specs.Following.{InState, reached}
+use Rattle.rc_livetext.specs.Following.{InState, place_after}
 use Rattle.rc_livetext.specs.FormText.{line_text}
 use Rattle.rc_livetext.specs.Held.{HasStates, HasNoBundle, states_lines}
 use Rattle.rc_livetext.proofs.Follows.{states_may}
@@ -66,7 +66,7 @@ loop-after-preserved c =
           (subst Line_of c.if-current.false line.1) read.0);
       none = λ bundles more.
           let Ends : List StateText → Type 0 =
-          λ ss. HasNoBundle (reached (InState true bundles) (states_lines ss)) c.in_ok-bundles-in-State.behind.now in
+          λ ss. HasNoBundle (place_after (InState true bundles) (states_lines ss)) c.in_ok-bundles-in-State.behind.now in
           subst Ends (sym pushed)
           (none_behind true (InState true bundles) c.loop-after.after.items state c.in_ok-bundles-in-State.behind.now refl
           held.has.0 (state_is state line.0 read.0.0) read.1);

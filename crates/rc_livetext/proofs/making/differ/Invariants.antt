@@ -1,5 +1,6 @@
 use Rattle.std.proofs.Common.{◌≢◌, ◌+◌, ◌<◌, ℕ, get_or}
-use Rattle.rc_line.specs.State.{State, states_of}
+use Rattle.rc_model.specs.Line.{State}
+use Rattle.rc_line.specs.State.{states_of}
 use Rattle.rc_livetext.proofs.making.differ.Given as goal
 
 -- each of the states so far differs from the next one

@@ -1,6 +1,5 @@
 use Rattle.std.proofs.Common.{◌≡◌, ◌∙◌, ℕ, Bool, Option, List, All, length, rules, refl, sym, ap, subst}
-use Rattle.rc_db.specs.Bundles.{Bundles}
-use Rattle.rc_db.specs.Database.{Database}
+use Rattle.rc_model.specs.Database.{Bundles, Database}
 use Rattle.rc_line.specs.State.{states_of}
 use Rattle.rc_livetext.specs.Text.{LiveText}
 use Rattle.rc_livetext.specs.declared.fault.LiveFault.{LiveFault}

@@ -3,7 +3,7 @@ use Rattle.rc_line.specs.State.{states_of}
 use Rattle.rc_livetext.specs.Parts.{IsWithin, state_texts}
 use Rattle.rc_livetext.proofs.states.push_states.Given as goal
 
--- the states so far are behind the others
+-- the states so far are after the others
 abbrev pub invariant-loop-form : goal.invariant-loop-form
 invariant-loop-form l = record {
   says : state_texts l.names l.held.items ≡ state_texts l.names l.fn.held.items ++ take l.form-index l.forms;

@@ -1,7 +1,7 @@
 use Rattle.std.proofs.Common.{◌∙◌, ◌++◌, ap, take, arith}
 use Rattle.std.proofs.lemmas.List.{take_all}
-use Rattle.rc_db.proofs.Places.{take_next}
-use Rattle.rc_db.specs.Bundles.{Bundles}
+use Rattle.rc_model.proofs.Places.{take_next}
+use Rattle.rc_model.specs.Database.{Bundles}
 use Rattle.rc_livetext.specs.Text.{OfBundle, spell}
 use Rattle.rc_dbtext.specs.Spelling.{bundle_text}
 use Rattle.rc_livetext.specs.Written.{bundle_bytes}

@@ -1,6 +1,5 @@
 use Rattle.std.proofs.Common.{◌∙◌, ◌+◌, ◌==◌, ◌++◌, ℕ, List, take, ap, sym, arith}
-use Rattle.rc_line.specs.State.{State}
-use Rattle.rc_line.specs.Line.{states, cursor}
+use Rattle.rc_model.specs.Line.{State, states, cursor}
 use Rattle.rc_textform.specs.Form.{spells}
 use Rattle.rc_livetext.specs.Text.{spell, state_lines}
 use Rattle.rc_livetext.specs.Spelling.{state_text}

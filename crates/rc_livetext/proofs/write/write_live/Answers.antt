@@ -1,7 +1,7 @@
 use Rattle.std.proofs.Common.{◌≡◌, ◌∙◌, [], ◌∷◌, ◌++◌, ℕ, List, Some, ap, rules}
 use Rattle.std.specs.Prelude.{codes}
-use Rattle.rc_db.specs.Database.{Database}
-use Rattle.rc_line.specs.Line.{Line, states, cursor}
+use Rattle.rc_model.specs.Database.{Database}
+use Rattle.rc_model.specs.Line.{Line, states, cursor}
 use Rattle.rc_line.specs.Opening.{Journal}
 use Rattle.rc_textform.specs.Form.{spells}
 use Rattle.rc_livetext.specs.Text.{Last, head_lines, spell}

@@ -1,6 +1,6 @@
 use Rattle.std.proofs.Common.{◌≡◌}
 use Rattle.std.proofs.lemmas.Result.{IfOk-at_ok}
-use Rattle.rc_answers.specs.DotText.{dot_text}
+use Rattle.rc_render.specs.DotText.{dot_text}
 use Rattle.rc_queries.proofs.db_answer.filled_picture.Goals as goal
 
 pub returns-clause-text : goal.returns-clause-text

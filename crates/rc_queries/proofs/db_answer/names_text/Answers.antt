@@ -1,5 +1,5 @@
 use Rattle.std.proofs.Common.{map, string_bytes}
-use Rattle.rc_db.specs.Named.{Selected}
+use Rattle.rc_model.specs.Database.{Selected}
 use Rattle.rc_queries.proofs.DbLemmas.{found_within, listed_within, selected_within}
 use Rattle.rc_queries.proofs.db_answer.names_text.Goals as goal
 

@@ -1,9 +1,9 @@
 use Rattle.std.proofs.Common.{◌≡◌, ◌≤◌, ◌∙◌, ◌∷◌, ◌++◌, ◌+◌, [], ℕ, List, Bor, length, map, take, get_or, sym, subst, arith}
 use Rattle.std.proofs.lemmas.List.{take_all, length-map}
-use Rattle.rc_set.specs.Set.{Holds}
+use Rattle.rc_model.specs.Names.{Holds}
 use Rattle.rc_queries.specs.Named.{IsNamed, AreNamed}
 use Rattle.rc_queries.proofs.NamedLemmas.{first_unknown, known_one, named_one}
-use Rattle.rc_asked.proofs.Mapped.{mapped_more}
+use Rattle.rc_model.proofs.Mapped.{mapped_more}
 use Rattle.rc_queries.proofs.named.named_set.Goals as goal
 
 -- what stands past the end of the words

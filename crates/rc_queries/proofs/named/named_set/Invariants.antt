@@ -1,5 +1,5 @@
 use Rattle.std.proofs.Common.{◌≡◌, length, map, take}
-use Rattle.rc_set.specs.Set.{Holds}
+use Rattle.rc_model.specs.Names.{Holds}
 use Rattle.rc_queries.specs.Named.{IsNamed, AreNamed}
 use Rattle.rc_queries.proofs.named.named_set.Given as goal
 

@@ -1,7 +1,7 @@
 use Rattle.std.proofs.Common.{subst}
-use Rattle.rc_db.specs.Bundles.{Bundles}
+use Rattle.rc_model.specs.Database.{Bundles}
 use Rattle.rc_select.specs.Ask.{ask_of}
-use Rattle.rc_select.specs.PlanFaults.{IsPlanFault}
+use Rattle.rc_model.specs.Plan.{IsPlanFault}
 use Rattle.rc_queries.proofs.PlanLemmas.{ask_refused}
 use Rattle.rc_queries.proofs.plan.planned.Goals as goal
 

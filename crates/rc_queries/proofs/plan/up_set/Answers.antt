@@ -1,5 +1,5 @@
 use Rattle.std.proofs.Common.{◌≡◌, true, map}
-use Rattle.rc_set.specs.Set.{Has}
+use Rattle.rc_model.specs.Names.{Has}
 use Rattle.rc_select.proofs.TargetLemmas.{same_closed}
 use Rattle.rc_queries.specs.Named.{IsNamed}
 use Rattle.rc_queries.proofs.plan.up_set.Goals as goal

@@ -1,7 +1,7 @@
 use Rattle.std.proofs.Common.{◌≡◌, ◌++◌, map, drop}
 use Rattle.rc_session.specs.Commands.{command_of}
 use Rattle.rc_session.specs.Report.{answer_of}
-use Rattle.rc_answers.specs.AnswerText.{answers_text}
+use Rattle.rc_render.specs.AnswerText.{answers_text}
 use Rattle.rc_queries.proofs.played.answers_text.Given as goal
 
 abbrev pub invariant-loop-place : goal.invariant-loop-place

@@ -1,6 +1,7 @@
 use Rattle.std.proofs.Common.{◌≡◌, ◌∙◌, ◌∷◌, ◌++◌, [], List, Some, map, refl, sym, ap}
 use Rattle.std.proofs.lemmas.List.{map-append}
-use Rattle.rc_session.specs.Commands.{Command, command_of}
+use Rattle.rc_model.specs.Session.{Command}
+use Rattle.rc_session.specs.Commands.{command_of}
 use Rattle.rc_session.specs.declared.step.Step.{Step}
 use Rattle.rc_script.specs.Says.{SaysStep}
 use Rattle.rc_script.specs.Script.{Starts}

@@ -1,4 +1,4 @@
-use Rattle.rc_set.specs.Set.{Has}
+use Rattle.rc_model.specs.Names.{Has}
 use Rattle.rc_select.specs.Carrying.{Carried, IsAlteredUp, StaysUp}
 use Rattle.rc_select.proofs.CarryingLemmas.{carried_holds, closed_by, kept_closed, kept_unaltered, names_hold, stays_by}
 use Rattle.rc_select.proofs.carrying.carry.Goals as goal

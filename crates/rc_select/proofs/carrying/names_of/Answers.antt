@@ -1,6 +1,6 @@
 use Rattle.std.proofs.Common.{◌≡◌, ◌∙◌, ◌+◌, ℕ, List, map, Some, true≢false, ap, sym, subst, arith}
 use Rattle.std.specs.String.{string_bytes}
-use Rattle.rc_set.specs.Set.{Has}
+use Rattle.rc_model.specs.Names.{Has}
 use Rattle.rc_db.proofs.Listing.{Passed, none_passed, one_passed, shown_more}
 use Rattle.rc_select.proofs.CarryingLemmas.{all_passed}
 use Rattle.rc_select.proofs.carrying.names_of.Goals as goal

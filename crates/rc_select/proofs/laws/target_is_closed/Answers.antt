@@ -1,5 +1,5 @@
-use Rattle.rc_set.specs.Set.{Has}
-use Rattle.rc_select.specs.Ask.{IsEssentialUp, IsWanted}
+use Rattle.rc_model.specs.Names.{Has}
+use Rattle.rc_model.specs.Plan.{IsEssentialUp, IsWanted}
 use Rattle.rc_select.proofs.TargetLemmas.{target_closed}
 use Rattle.rc_select.proofs.laws.target_is_closed.Goals as goal
 

@@ -1,8 +1,7 @@
 use Rattle.std.proofs.Common.{inl, inr}
-use Rattle.rc_set.specs.Set.{Has}
-use Rattle.rc_select.specs.Plan.{Nothing}
-use Rattle.rc_select.specs.Target.{Target}
-use Rattle.rc_select.specs.declared.request.Mode.TheVariants.{Up}
+use Rattle.rc_model.specs.Names.{Has}
+use Rattle.rc_model.specs.Plan.{Nothing, Target}
+use Rattle.rc_model.specs.declared.Mode.TheVariants.{Up}
 use Rattle.std.proofs.Common.{false}
 use Rattle.rc_select.proofs.TargetLemmas.{target_closed, same_closed}
 use Rattle.rc_select.proofs.plans.plan_up.Goals as goal

@@ -1,6 +1,6 @@
 use Rattle.std.proofs.Common.{◌≡◌, ◌<◌, length}
-use Rattle.rc_set.specs.Set.{Has, Holds}
-use Rattle.rc_select.specs.Ask.{IsEssentialUp}
+use Rattle.rc_model.specs.Names.{Has, Holds}
+use Rattle.rc_model.specs.Plan.{IsEssentialUp}
 use Rattle.rc_select.proofs.select.essential_up.Given as goal
 
 -- the set has the essential services before this one that are up

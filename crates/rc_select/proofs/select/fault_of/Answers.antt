@@ -1,6 +1,5 @@
 use Rattle.std.proofs.Common.{◌≡◌, ℕ, List, All, refl}
-use Rattle.rc_db.specs.Bundles.{Bundles}
-use Rattle.rc_db.specs.Named.{IsKnown}
+use Rattle.rc_model.specs.Database.{Bundles, IsKnown}
 use Rattle.rc_db.specs.QueryFaults.{IsNamesFault}
 use Rattle.rc_db.specs.declared.fault.QueryFault.{QueryFault}
 use Rattle.rc_db.specs.declared.fault.QueryFault.TheVariants.{Unknown, NotAtomic, NotBundle, NotLongrun, NotOneshot, Memory}

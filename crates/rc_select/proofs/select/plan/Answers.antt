@@ -1,5 +1,6 @@
-use Rattle.rc_set.specs.Set.{Has}
-use Rattle.rc_select.specs.Ask.{IsEssentialUp, IsWanted, ask_of}
+use Rattle.rc_model.specs.Names.{Has}
+use Rattle.rc_model.specs.Plan.{IsEssentialUp, IsWanted}
+use Rattle.rc_select.specs.Ask.{ask_of}
 use Rattle.rc_select.proofs.TargetLemmas.{same_target, same_kept}
 use Rattle.rc_select.proofs.SidesLemmas.{leads_same}
 use Rattle.rc_select.proofs.select.plan.Goals as goal

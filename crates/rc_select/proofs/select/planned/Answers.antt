@@ -1,5 +1,5 @@
 use Rattle.std.proofs.lemmas.Result.{IfOk-weaker}
-use Rattle.rc_set.specs.Set.{Has}
+use Rattle.rc_model.specs.Names.{Has}
 use Rattle.rc_select.proofs.TargetLemmas.{kept_essential, kept_stays}
 use Rattle.rc_select.proofs.SidesLemmas.{leads_same}
 use Rattle.rc_select.proofs.select.planned.Goals as goal

@@ -1,6 +1,6 @@
 use Rattle.std.proofs.Common.{◌∙◌, Bool, List, length, ap, subst}
-use Rattle.rc_set.specs.Set.{Has, Holds}
-use Rattle.rc_graph.specs.Closure.{UpFrom, DownFrom}
+use Rattle.rc_model.specs.Names.{Has, Holds}
+use Rattle.rc_model.specs.Graph.{UpFrom, DownFrom}
 use Rattle.rc_select.proofs.SidesLemmas.{left_over}
 use Rattle.rc_select.proofs.sides.lowered.Goals as goal
 

@@ -4,7 +4,7 @@ use Rattle.rc_streams.specs.Noting.{inner_of}
 use Rattle.rc_streams.specs.Taking.{Held}
 use Rattle.rc_serve.specs.Faults.{Spoils}
 use Rattle.rc_serve.specs.Serving.{IsServing}
-use Rattle.rc_db.specs.Database.{Database}
+use Rattle.rc_model.specs.Database.{Database}
 use Rattle.rc_serve.specs.Keeping.{IsKeptUp, ServesFrontKept}
 use Rattle.rc_serve.proofs.Keeping.{kept_more, kept_none}
 use Rattle.rc_serve.specs.Meeting.{IsDoneBy}

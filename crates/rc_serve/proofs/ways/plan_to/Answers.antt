@@ -1,5 +1,5 @@
 use Rattle.std.proofs.Common.{◌∙◌, ap}
-use Rattle.rc_db.specs.Database.{Database}
+use Rattle.rc_model.specs.Database.{Database}
 use Rattle.rc_serve.proofs.WaysShown.{current_fits, placed_fits, planned_to}
 use Rattle.rc_serve.proofs.ways.plan_to.Goals as goal
 

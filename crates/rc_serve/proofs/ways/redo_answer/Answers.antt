@@ -1,10 +1,10 @@
 use Rattle.std.proofs.Common.{◌≡◌, ◌≢◌, ◌∙◌, ◌+◌, ℕ, [], ap, arith, length}
 use Rattle.std.specs.Global.{Vec}
-use Rattle.rc_set.specs.Set.{Has}
-use Rattle.rc_db.specs.Database.{Database}
-use Rattle.rc_line.specs.Line.{IsEntryAt, cursor, states}
-use Rattle.rc_session.specs.Commands.{Redo}
-use Rattle.rc_session.specs.declared.refusal.Refusal.TheVariants.{NothingToRedo}
+use Rattle.rc_model.specs.Names.{Has}
+use Rattle.rc_model.specs.Database.{Database}
+use Rattle.rc_model.specs.Line.{IsEntryAt, cursor, states}
+use Rattle.rc_model.specs.Session.{Redo}
+use Rattle.rc_model.specs.declared.Refusal.TheVariants.{NothingToRedo}
 use Rattle.rc_serve.proofs.WaysShown.{none_after, opens, redo_task, refused_way, shown_way}
 use Rattle.rc_serve.proofs.ways.redo_answer.Goals as goal
 

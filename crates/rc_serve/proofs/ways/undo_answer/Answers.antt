@@ -1,10 +1,10 @@
 use Rattle.std.proofs.Common.{◌≡◌, ◌≢◌, ◌∙◌, ◌-◌, ℕ, [], ap, arith, length}
 use Rattle.std.specs.Global.{Vec}
-use Rattle.rc_set.specs.Set.{Has}
-use Rattle.rc_db.specs.Database.{Database}
-use Rattle.rc_line.specs.Line.{IsEntryAt, cursor}
-use Rattle.rc_session.specs.Commands.{Undo}
-use Rattle.rc_session.specs.declared.refusal.Refusal.TheVariants.{NothingToUndo}
+use Rattle.rc_model.specs.Names.{Has}
+use Rattle.rc_model.specs.Database.{Database}
+use Rattle.rc_model.specs.Line.{IsEntryAt, cursor}
+use Rattle.rc_model.specs.Session.{Undo}
+use Rattle.rc_model.specs.declared.Refusal.TheVariants.{NothingToUndo}
 use Rattle.rc_serve.proofs.WaysShown.{none_before, opens, refused_way, shown_way, undo_task}
 use Rattle.rc_serve.proofs.ways.undo_answer.Goals as goal
 

@@ -1,5 +1,5 @@
 use Rattle.std.proofs.Common.{◌≡◌, true, false}
-use Rattle.rc_core.specs.declared.event.Event.TheVariants.{Take}
+use Rattle.rc_model.specs.declared.Event.TheVariants.{Take}
 use Rattle.rc_session.proofs.Replaying.{illegal_at, made_at, unsettled_at}
 use Rattle.rc_session.proofs.replay.make_all.Goals as goal
 

@@ -1,5 +1,5 @@
 use Rattle.std.proofs.Common.{◌≡◌, take}
-use Rattle.rc_core.specs.Legal.{IsRun}
+use Rattle.rc_model.specs.Run.{IsRun}
 use Rattle.rc_session.proofs.replay.make_all.Given as goal
 
 abbrev pub invariant-loop-place : goal.invariant-loop-place

@@ -5,7 +5,7 @@ use Rattle.rc_asked.specs.Listed.{Listed}
 use Rattle.rc_asked.specs.Reading.{listed_of}
 use Rattle.rc_sessions.specs.Finding.{AreFound}
 use Rattle.rc_sessions.proofs.Found.{found_on, known_one}
-use Rattle.rc_asked.proofs.Mapped.{cut_at, mapped_more}
+use Rattle.rc_model.proofs.Mapped.{cut_at, mapped_more}
 use Rattle.rc_sessions.proofs.failing.gate_of.Goals as goal
 
 -- what stands past the end of the transitions

@@ -1,6 +1,6 @@
 use Rattle.std.proofs.Common.{length, ap, arith}
 use Rattle.std.proofs.lemmas.Result.{IfOk-weaker}
-use Rattle.rc_set.specs.Set.{Has}
+use Rattle.rc_model.specs.Names.{Has}
 use Rattle.rc_set.specs.Words.{HasBit}
 use Rattle.rc_set.proofs.Flags.{bit_is}
 use Rattle.rc_set.proofs.Listing.{lists_as}

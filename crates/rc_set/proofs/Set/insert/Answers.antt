@@ -1,8 +1,8 @@
 use Rattle.std.proofs.Common.{◌≡◌, ◌⊎◌, inl, inr, true, false, not, length, sym, ap, ◌∙◌, arith}
 use Rattle.std.proofs.lemmas.Bool.{false_from_ne_true}
 use Rattle.rc_set.specs.Words.{has_bit}
-use Rattle.rc_set.specs.Set.{Has}
-use Rattle.rc_set.proofs.Members.{has_within}
+use Rattle.rc_model.specs.Names.{Has}
+use Rattle.rc_model.proofs.SetMembers.{has_within}
 use Rattle.rc_set.proofs.Flags.{bound_is, length_is, bit_is}
 use Rattle.rc_set.proofs.Writes.{Writes, still_words, has_written}
 use Rattle.rc_set.proofs.Set.insert.Goals as goal

@@ -1,6 +1,6 @@
 use Rattle.std.proofs.Common.{◌≢◌, length, sym, ap, ◌∙◌, arith}
-use Rattle.rc_set.specs.Set.{Has}
-use Rattle.rc_set.proofs.Members.{has_within}
+use Rattle.rc_model.specs.Names.{Has}
+use Rattle.rc_model.proofs.SetMembers.{has_within}
 use Rattle.rc_set.proofs.Flags.{bound_is, length_is, bit_is}
 use Rattle.rc_set.proofs.Writes.{Writes, still_words, has_written}
 use Rattle.rc_set.proofs.Set.remove.Goals as goal

@@ -1,5 +1,5 @@
 use Rattle.std.proofs.Common.{codes, sym, ap, subst}
-use Rattle.rc_names.specs.declared.kind.Kind.TheVariants.{Bundle}
+use Rattle.rc_model.specs.declared.Kind.TheVariants.{Bundle}
 use Rattle.rc_source.specs.Kinds.{files_of_kind}
 use Rattle.rc_source.specs.Files.{FilesPass, StopsInFiles}
 use Rattle.rc_source.specs.Meaning.{ListsNames, Means, IsMeaning}

@@ -1,6 +1,6 @@
 use Rattle.std.proofs.Common.{◌≡◌, ◌∙◌, inl, codes, Some, ap, subst}
 use Rattle.std.proofs.lemmas.Result.{on_ok_weaker, IfOk-weaker}
-use Rattle.rc_names.specs.declared.kind.Kind.TheVariants.{Oneshot, Longrun, Bundle}
+use Rattle.rc_model.specs.declared.Kind.TheVariants.{Oneshot, Longrun, Bundle}
 use Rattle.rc_source.specs.Kinds.{KindWord, kind_of}
 use Rattle.rc_source.specs.Files.{FilePasses, StopsAtFile}
 use Rattle.rc_source.proofs.Exits.{exit, if_err_weaker}

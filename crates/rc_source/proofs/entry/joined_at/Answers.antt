@@ -1,5 +1,5 @@
 use Rattle.std.proofs.Common.{◌≡◌, ◌∙◌, inl, inr, false, Contains, map, ap, string_bytes}
-use Rattle.rc_tree.specs.Tree.{file_at, listed}
+use Rattle.rc_tree.specs.Tree.{file_at, names_next}
 use Rattle.rc_source.specs.Kinds.{Names, NameEach, is_hidden}
 use Rattle.rc_source.specs.Meaning.{given_in}
 use Rattle.rc_source.proofs.Exits.{exit, exit_memory}
@@ -20,7 +20,7 @@ returns-in_err-names-clause-fault g c = exit_memory c.from_residual-in_err-names
 
 pub returns-clause-names : goal.returns-clause-names
 returns-clause-names g c = λ source known.
-    lists_both (Contains (given_in (file_at source c.args.entry.now c.args.file.now))) (λ name. Contains (listed source c.args.entry.now c.args.folder.now) name × (is_hidden name ≡ false))
+    lists_both (Contains (given_in (file_at source c.args.entry.now c.args.file.now))) (λ name. Contains (names_next source c.args.entry.now c.args.folder.now) name × (is_hidden name ≡ false))
     (map string_bytes c.new-set.result.keys) (map string_bytes c.add_names_at.new.set.keys) (map string_bytes c.add_folder_at.new.set.keys) c.in_ok-names.field-0.items
     (ap (map string_bytes) c.new-set.ensures.empty) c.in_ok-names.ensures.names c.in_ok-names.ensures.order
     (c.in_ok-add_names_at.ensures.names source known) (c.in_ok-add_folder_at.ensures.names source (c.in_ok-add_names_at.ensures.asked.same ∙ known))

@@ -1,7 +1,7 @@
 use Rattle.std.proofs.Common.{◌∙◌, sym, ap, subst, All, string_bytes}
 use Rattle.std.specs.Option.{IfSome, option_map}
 use Rattle.std.proofs.lemmas.Result.{on_ok_weaker}
-use Rattle.rc_names.specs.Name.{IsName}
+use Rattle.rc_model.specs.Names.{IsName}
 use Rattle.rc_tree.specs.Tree.{file_at}
 use Rattle.rc_source.specs.Texts.{IsScriptText, names_in}
 use Rattle.rc_source.specs.Kinds.{Names}

@@ -1,6 +1,6 @@
 use Rattle.std.proofs.Common.{◌∙◌, ℕ, List, All, sym, subst, string_bytes}
 use Rattle.std.proofs.lemmas.List.Elements.{All-push}
-use Rattle.rc_names.specs.Name.{IsName}
+use Rattle.rc_model.specs.Names.{IsName}
 use Rattle.rc_source.proofs.Folders.{push_shown}
 use Rattle.rc_source.proofs.folder.names_from.Goals as goal
 

@@ -1,5 +1,5 @@
 use Rattle.std.proofs.Common.{◌≡◌, All, map, take, string_bytes}
-use Rattle.rc_names.specs.Name.{IsName}
+use Rattle.rc_model.specs.Names.{IsName}
 use Rattle.rc_source.proofs.folder.names_from.Given as goal
 
 abbrev pub invariant-loop-text : goal.invariant-loop-text

@@ -1,5 +1,5 @@
 use Rattle.std.proofs.Common.{sym, subst, inl, inr, refl}
-use Rattle.rc_names.specs.Name.{IsName}
+use Rattle.rc_model.specs.Names.{IsName}
 use Rattle.rc_source.proofs.Exits.{exit}
 use Rattle.rc_source.proofs.read.new_name.Goals as goal
 

@@ -1,6 +1,6 @@
 use Rattle.std.proofs.Common.{◌≡◌, ◌∙◌, get_or, sym, ap, arith}
 use Rattle.std.proofs.Math.Seq.{map-set_same}
-use Rattle.rc_source.specs.Tests.{flaw_of, carried}
+use Rattle.rc_source.specs.Tests.{flaw_of, name_carried}
 use Rattle.rc_source.proofs.Exits.{exit}
 use Rattle.rc_source.proofs.Reading.{one_source, source_stops, sources_pass}
 use Rattle.rc_source.proofs.Sources.{told_at, as_many, at_front, behind_set, one_failed}
@@ -14,7 +14,7 @@ returns-in_err-read_source-clause-fault g c = exit c.from_residual.result c.in_e
     let here : get_or old c.loop-tree.tree-index tree ≡ tree = sym (at_front c.loop-tree.trees old c.loop-tree.tree-index tree c.loop-tree.invariant.ahead) ∙ ap (λ d. get_or c.loop-tree.trees c.loop-tree.tree-index d) (sym c.tree-item.is) in
     let (source, inside, at, tells) = told_at g.T.Tree.held old sources c.loop-tree.tree-index tree (omega arith) (ap g.T.Tree.held here) known in
     source_stops sources c.loop-tree.found c.loop-tree.tree-index source inside at (c.loop-tree.invariant.known sources known)
-    (flaw_of c.in_err-read_source.field-0.0) (carried c.in_err-read_source.field-0.0) (c.in_err-read_source.ensures.fault no_memory source tells))
+    (flaw_of c.in_err-read_source.field-0.0) (name_carried c.in_err-read_source.field-0.0) (c.in_err-read_source.ensures.fault no_memory source tells))
 
 pub returns-in_err-read_source-clause-io : goal.returns-in_err-read_source-clause-io
 returns-in_err-read_source-clause-io g c = exit c.from_residual.result c.in_err-read_source.field-0.0 _ c.from_residual.ensures.1

@@ -4,12 +4,12 @@ use Rattle.rc_source.specs.declared.fault.Flaw.{Flaw}
 use Rattle.rc_source.specs.declared.fault.Flaw.TheVariants.{Io, Memory}
 use Rattle.rc_tree.specs.TreeFaults.{HasFailed}
 use Rattle.rc_source.specs.Said.{meant}
-use Rattle.rc_source.specs.Tests.{StopsInTests, tests_of_entry, tests_of_entries, entries_of, flaw_of, carried}
+use Rattle.rc_source.specs.Tests.{StopsInTests, tests_of_entry, tests_of_entries, entries_of, flaw_of, name_carried}
 use Rattle.rc_source.proofs.Folders.{shown_at}
 use Rattle.rc_source.proofs.Reading.{EntriesRead, no_entry, one_entry, entry_stops, entries_stop, source_passes, source_means}
 use Rattle.rc_source.proofs.read.read_source.Goals as goal
 
--- a flaw that is told is another than want of memory
+-- a flaw that is told is another than out of memory
 told_io : (told flaw : Flaw) (same : Type 0) → (told ≢ Memory → (told ≡ flaw) × same) → told ≡ Io → flaw ≡ Io
 told_io told flaw same is io = sym (is (λ memory. let e : Io ≡ Memory = sym io ∙ memory in absurd cc)).0 ∙ io
 
@@ -30,15 +30,15 @@ returns-in-Err-clause-fault g c = λ told source known.
     let n = length-map items string_bytes in
     let tests = tests_of_entry (meant c.loop-name.found) source entry in
     let stops = c.in-Err.ensures.fault (λ memory. told (same.0 ∙ memory)) source (c.loop-name.invariant.same ∙ known) in
-    entries_stop (meant c.args.found.now) source (flaw_of fault) (carried fault)
-    (subst (λ es. StopsInTests (tests_of_entries (meant c.args.found.now) source es) (flaw_of fault) (carried fault)) (ap (map string_bytes) c.deref-name-items.ensures.value ∙ c.in_ok-names.ensures.names source known)
+    entries_stop (meant c.args.found.now) source (flaw_of fault) (name_carried fault)
+    (subst (λ es. StopsInTests (tests_of_entries (meant c.args.found.now) source es) (flaw_of fault) (name_carried fault)) (ap (map string_bytes) c.deref-name-items.ensures.value ∙ c.in_ok-names.ensures.names source known)
     (entry_stops source c.args.found.now c.loop-name.found entries c.loop-name.name-index entry (omega arith)
-    (shown_at string_bytes items c.loop-name.name-index c.name-item.result entry c.name-item.is c.as_str-entry.ensures.value) (c.loop-name.invariant.known source known) (flaw_of fault) (carried fault)
+    (shown_at string_bytes items c.loop-name.name-index c.name-item.result entry c.name-item.is c.as_str-entry.ensures.value) (c.loop-name.invariant.known source known) (flaw_of fault) (name_carried fault)
     (subst (λ name. StopsInTests tests (flaw_of fault) name) (sym same.1) (subst (λ flaw. StopsInTests tests flaw entry) (sym same.0) stops))))
 
 pub returns-in-Err-clause-io : goal.returns-in-Err-clause-io
 returns-in-Err-clause-io g c = λ io.
-    subst (λ n. HasFailed n (g.T.Tree.failed c.read_entry.new.tree)) c.loop-name.invariant.quiet (c.in-Err.ensures.asked.io (told_io (flaw_of c.fault_of.result) c.in-Err.flaw (carried c.fault_of.result ≡ c.as_str-entry.result.now) c.fault_of.ensures io))
+    subst (λ n. HasFailed n (g.T.Tree.failed c.read_entry.new.tree)) c.loop-name.invariant.quiet (c.in-Err.ensures.asked.io (told_io (flaw_of c.fault_of.result) c.in-Err.flaw (name_carried c.fault_of.result ≡ c.as_str-entry.result.now) c.fault_of.ensures io))
 
 pub returns-in-Err-clause-same : goal.returns-in-Err-clause-same
 returns-in-Err-clause-same g c = c.in-Err.ensures.asked.same ∙ c.loop-name.invariant.same

@@ -1,8 +1,8 @@
 use Rattle.std.proofs.Common.{◌==◌, ◌++◌, ◌∙◌, ◌∷◌, [], sym, ap, subst, map, filter, take, get_or, All}
 use Rattle.std.specs.List.{slice_split}
 use Rattle.std.proofs.lemmas.List.Elements.{All-append}
-use Rattle.rc_names.specs.Name.{IsName}
-use Rattle.rc_source.specs.Texts.{counts, trimmed}
+use Rattle.rc_model.specs.Names.{IsName}
+use Rattle.rc_source.specs.Texts.{counts, trimmed_line}
 use Rattle.rc_source.proofs.Exits.{exit}
 use Rattle.rc_source.proofs.Lines.{named, named_more, one_of_all}
 use Rattle.rc_source.proofs.text.names_of.Goals as goal
@@ -16,7 +16,7 @@ returns-in_err-add_line-clause-fault c =
     (λ no_memory. (
       (told no_memory).0,
       λ all. (told no_memory).1
-          (one_of_all (λ line. line.now) IsName items c.loop-line.line-index _ c.loop-line-test.true (subst (λ l. All IsName (filter counts (map trimmed l))) (sym lines) all)),
+          (one_of_all (λ line. line.now) IsName items c.loop-line.line-index _ c.loop-line-test.true (subst (λ l. All IsName (filter counts (map trimmed_line l))) (sym lines) all)),
     ))
 
 pub loop-line-preserved : goal.loop-line-preserved

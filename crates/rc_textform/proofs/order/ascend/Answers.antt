@@ -1,6 +1,6 @@
 use Rattle.std.proofs.Common.{rules}
 use Rattle.std.proofs.lemmas.List.Sorted.{answers_always}
-use Rattle.rc_textform.proofs.Orders.{answers_before, before, sorted_answer}
+use Rattle.rc_model.proofs.WordOrders.{answers_before, before, sorted_answer}
 use Rattle.rc_textform.proofs.order.ascend.Goals as goal
 
 pub returns : goal.returns

@@ -1,6 +1,6 @@
 use Rattle.std.proofs.Common.{◌∷◌, ◌∙◌, All, map, sym, ap, subst, string_bytes}
 use Rattle.std.proofs.lemmas.List.Elements.{All-push}
-use Rattle.rc_names.specs.Name.{IsName}
+use Rattle.rc_model.specs.Names.{IsName}
 use Rattle.rc_tree.proofs.Members.{moved_on}
 use Rattle.rc_tree.proofs.TextSets.{IsInByteOrder-from_keys}
 use Rattle.rc_tree.proofs.sets.names.Goals as goal

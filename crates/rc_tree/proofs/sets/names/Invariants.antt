@@ -1,5 +1,5 @@
 use Rattle.std.proofs.Common.{◌≡◌, ◌++◌, All, map, string_bytes}
-use Rattle.rc_names.specs.Name.{IsName}
+use Rattle.rc_model.specs.Names.{IsName}
 use Rattle.rc_tree.proofs.sets.names.Given as goal
 
 abbrev pub invariant-loop-text : goal.invariant-loop-text

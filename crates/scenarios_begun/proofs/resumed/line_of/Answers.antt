@@ -1,5 +1,5 @@
 use Rattle.std.proofs.Common.{◌≡◌, ℕ, List, All, length, refl, sym, subst}
-use Rattle.rc_line.specs.State.{State}
+use Rattle.rc_model.specs.Line.{State}
 use Rattle.rc_line.specs.Keeping.{state}
 use Rattle.scenarios_begun.proofs.Two.{both_are}
 use Rattle.scenarios_begun.proofs.resumed.line_of.Goals as goal

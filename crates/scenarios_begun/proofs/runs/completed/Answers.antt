@@ -1,7 +1,7 @@
 use Rattle.std.proofs.Common.{◌≡◌, ◌∙◌, List, ℕ, ap}
-use Rattle.rc_db.specs.Database.{Database}
+use Rattle.rc_model.specs.Database.{Database}
 use Rattle.rc_session.specs.Holding.{Holding}
-use Rattle.rc_core.specs.Course.{course_of, IsCourse}
+use Rattle.rc_model.specs.Run.{course_of, IsCourse}
 use Rattle.scenarios_begun.proofs.Shown.{shown}
 use Rattle.scenarios_begun.proofs.runs.completed.Goals as goal
 

@@ -1,5 +1,5 @@
 use Rattle.std.proofs.Common.{◌≡◌}
-use Rattle.rc_core.specs.Course.{course_of}
+use Rattle.rc_model.specs.Run.{course_of}
 use Rattle.scenarios_begun.proofs.runs.ended.Given as goal
 
 abbrev pub invariant-loop-turn : goal.invariant-loop-turn

@@ -1,5 +1,5 @@
 use Rattle.std.proofs.Common.{◌≡◌, ◌∙◌, ap}
-use Rattle.rc_db.specs.Database.{Database}
+use Rattle.rc_model.specs.Database.{Database}
 use Rattle.rc_session.specs.Holding.{Holding}
 use Rattle.scenarios_memory.proofs.Shown.{shown}
 use Rattle.scenarios_memory.proofs.begun.completed.Goals as goal

@@ -1,5 +1,5 @@
 use Rattle.std.proofs.Common.{◌≡◌}
-use Rattle.rc_core.specs.Course.{course_of}
+use Rattle.rc_model.specs.Run.{course_of}
 use Rattle.scenarios_memory.proofs.begun.ended.Given as goal
 
 abbrev pub invariant-loop : goal.invariant-loop

@@ -1,6 +1,6 @@
 use Rattle.std.proofs.Common.{◌∙◌, Bool, subst, sym}
-use Rattle.rc_core.specs.declared.event.Event.TheVariants.{Done}
-use Rattle.rc_core.specs.Legal.{IsLegal}
+use Rattle.rc_model.specs.declared.Event.TheVariants.{Done}
+use Rattle.rc_model.specs.Run.{IsLegal}
 use Rattle.rc_core.specs.Settled.{RunSoFar}
 use Rattle.rc_core.specs.Tables.{NotesDone}
 use Rattle.rc_core.proofs.Places.{places}
@@ -23,7 +23,7 @@ note_end-requires-clause-can c well =
     subst (λ (r : RunSoFar). IsLegal r.course r.events done) (sym c.self.view_is) c.requires in
     can_note_ready _ _ c.self.inside.ready done c.self.invariant.0.course
     c.self.invariant.0.run c.self.invariant.3 c.self.invariant.4 legal
-    (sym c.is_ok-well.ensures ∙ well)
+    (sym c.went_well-well.ensures ∙ well)
 
 pub push_reserved-requires : goal.push_reserved-requires
 push_reserved-requires c =
@@ -32,7 +32,7 @@ push_reserved-requires c =
     subst (λ (r : RunSoFar). IsLegal r.course r.events done) (sym c.self.view_is) c.requires in
     room_for _ _ _ c.note_done.new.self done c.self.invariant.0 legal
     (subst (λ (well : Bool). NotesDone c.self.inside.tables c.args.worker c.args.service well
-    c.note_done.new.self) c.is_ok-well.ensures c.note_done.ensures)
+    c.note_done.new.self) c.went_well-well.ensures c.note_done.ensures)
 
 pub invariant_of-self : goal.invariant_of-self
 invariant_of-self c =
@@ -43,12 +43,12 @@ invariant_of-self c =
     let ready =
     ready_noted _ _ c.self.inside.ready c.note_end.new.self done kept.course kept.run
     c.self.invariant.3 c.self.invariant.4 legal (
-      λ well. c.note_end.ensures.arrived (c.is_ok-well.ensures ∙ well),
-      λ fails. c.note_end.ensures.failed (c.is_ok-well.ensures ∙ fails),
+      λ well. c.note_end.ensures.arrived (c.went_well-well.ensures ∙ well),
+      λ fails. c.note_end.ensures.failed (c.went_well-well.ensures ∙ fails),
     ) in (
       kept_on _ _ _ _ c.note_done.new.self done kept legal
           (subst (λ (well : Bool). NotesDone c.self.inside.tables c.args.worker c.args.service well
-          c.note_done.new.self) c.is_ok-well.ensures c.note_done.ensures)
+          c.note_done.new.self) c.went_well-well.ensures c.note_done.ensures)
           c.push_reserved.ensures.items c.push_reserved.ensures.len
           c.push_reserved.ensures.capacity,
       c.self.invariant.1,

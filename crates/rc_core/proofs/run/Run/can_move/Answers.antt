@@ -1,5 +1,5 @@
 use Rattle.std.proofs.Common.{◌≡◌, ◌∙◌, ◌↔◌, IsTrue, true, false, refl, subst, sym, arith}
-use Rattle.rc_core.specs.Legal.{CanMove}
+use Rattle.rc_model.specs.Run.{CanMove}
 use Rattle.rc_core.specs.Settled.{RunSoFar}
 use Rattle.rc_core.proofs.Places.{move_is_left, planned_within}
 use Rattle.rc_core.proofs.Readying.{ready_moves}

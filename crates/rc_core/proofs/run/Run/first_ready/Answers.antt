@@ -1,6 +1,6 @@
 use Rattle.std.proofs.Common.{ℕ, List, Contains, Option, Some, None, IfSome, IfNone, subst}
 use Rattle.rc_graph.proofs.PairLemmas.{no_member}
-use Rattle.rc_core.specs.Legal.{CanMove}
+use Rattle.rc_model.specs.Run.{CanMove}
 use Rattle.rc_core.specs.Settled.{RunSoFar}
 use Rattle.rc_core.proofs.Readying.{ready_moves}
 use Rattle.rc_core.proofs.run.Run.first_ready.Goals as goal

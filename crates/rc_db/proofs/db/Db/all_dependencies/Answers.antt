@@ -1,8 +1,8 @@
 use Rattle.std.proofs.Common.{ℕ, List, map, subst}
 use Rattle.std.specs.String.{string_bytes}
-use Rattle.rc_set.specs.Set.{Has, Holds}
+use Rattle.rc_model.specs.Names.{Has, Holds}
 use Rattle.rc_set.proofs.Listing.{lists_as}
-use Rattle.rc_db.specs.Named.{Selected}
+use Rattle.rc_model.specs.Database.{Selected}
 use Rattle.rc_db.specs.Queries.{IsWithAll}
 use Rattle.rc_db.proofs.Reaching.{all_as}
 use Rattle.rc_db.proofs.db.Db.all_dependencies.Goals as goal

@@ -1,8 +1,8 @@
 use Rattle.std.proofs.Common.{ℕ, map}
 use Rattle.std.specs.String.{string_bytes}
-use Rattle.rc_set.specs.Set.{Has}
+use Rattle.rc_model.specs.Names.{Has}
 use Rattle.rc_set.proofs.Listing.{lists_as}
-use Rattle.rc_db.specs.Named.{Selected}
+use Rattle.rc_model.specs.Database.{Selected}
 use Rattle.rc_db.proofs.db.Db.atomics.Goals as goal
 
 pub returns-clause-ids : goal.returns-clause-ids

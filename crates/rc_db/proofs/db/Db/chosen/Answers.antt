@@ -1,8 +1,7 @@
 use Rattle.std.proofs.Common.{All, IfOk, OnOk, map, subst}
 use Rattle.std.specs.String.{string_bytes}
-use Rattle.rc_set.specs.Set.{Holds}
-use Rattle.rc_db.specs.Bundles.{Bundles}
-use Rattle.rc_db.specs.Named.{IsKnown, Selected}
+use Rattle.rc_model.specs.Names.{Holds}
+use Rattle.rc_model.specs.Database.{Bundles, IsKnown, Selected}
 use Rattle.rc_db.proofs.db.Db.chosen.Goals as goal
 
 pub returns-clause-members : goal.returns-clause-members

@@ -1,6 +1,6 @@
 use Rattle.std.proofs.Common.{◌∙◌, ⊎_elim, Contains, List, ℕ, refl, ap, sym, subst, true≢false}
 use Rattle.std.proofs.lemmas.Result.{err_from_is_err_and}
-use Rattle.rc_db.specs.Bundles.{value_of}
+use Rattle.rc_model.specs.Database.{value_of}
 use Rattle.rc_db.proofs.Values.{named_by_value}
 use Rattle.rc_db.proofs.Words.{unnamed}
 use Rattle.rc_db.proofs.db.Db.contents.Goals as goal

@@ -1,7 +1,7 @@
 use Rattle.std.proofs.Common.{◌≡◌, ◌∙◌, ◌⊎◌, ℕ, List, map, Contains, sym, subst}
-use Rattle.rc_names.specs.declared.kind.Kind.TheVariants.{Oneshot, Longrun}
+use Rattle.rc_model.specs.declared.Kind.TheVariants.{Oneshot, Longrun}
 use Rattle.rc_db.specs.declared.which.Which.{Which}
-use Rattle.rc_db.specs.Bundles.{Bundles, names_of}
+use Rattle.rc_model.specs.Database.{Bundles, names_of}
 use Rattle.rc_names.specs.Names.{ListsNames}
 use Rattle.rc_db.specs.Queries.{IsKindOf, IsShown}
 use Rattle.std.proofs.lemmas.Result.{IfOk-at_ok}

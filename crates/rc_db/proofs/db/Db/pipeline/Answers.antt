@@ -1,5 +1,5 @@
 use Rattle.std.proofs.Common.{ℕ}
-use Rattle.rc_set.specs.Set.{Has}
+use Rattle.rc_model.specs.Names.{Has}
 use Rattle.rc_set.proofs.Listing.{lists_as}
 use Rattle.rc_db.specs.Pipeline.{InPipelineOf}
 use Rattle.rc_db.proofs.db.Db.pipeline.Goals as goal

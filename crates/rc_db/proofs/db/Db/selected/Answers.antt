@@ -1,7 +1,7 @@
 use Rattle.std.proofs.Common.{All, List, ℕ, map, subst}
 use Rattle.std.proofs.lemmas.Result.{err_from_is_err_and}
 use Rattle.std.specs.String.{string_bytes}
-use Rattle.rc_db.specs.Named.{IsKnown, IsUnknownAt}
+use Rattle.rc_model.specs.Database.{IsKnown, IsUnknownAt}
 use Rattle.rc_db.proofs.db.Db.selected.Goals as goal
 
 pub returns-in-Some-clause-fault : goal.returns-in-Some-clause-fault

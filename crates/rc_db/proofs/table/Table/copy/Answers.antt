@@ -1,7 +1,7 @@
 use Rattle.std.proofs.Common.{◌∙◌, ◌++◌, ◌∷◌, [], All, sym, ap, subst}
-use Rattle.rc_names.specs.Names.{IsBefore}
-use Rattle.rc_db.specs.Bundles.{Bundles, names_of}
-use Rattle.rc_db.proofs.Places.{take_next}
+use Rattle.rc_model.specs.Names.{IsBefore}
+use Rattle.rc_model.specs.Database.{Bundles, names_of}
+use Rattle.rc_model.proofs.Places.{take_next}
 use Rattle.rc_db.proofs.Values.{names_before}
 use Rattle.rc_db.proofs.table.Table.copy.Goals as goal
 

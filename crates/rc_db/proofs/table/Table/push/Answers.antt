@@ -2,8 +2,8 @@ use Rattle.std.proofs.Common.{◌∙◌, ◌<◌, length, All, sym, subst}
 use Rattle.std.specs.Str.{bytes_eq}
 use Rattle.std.specs.String.{string_bytes}
 use Rattle.indexmap.specs.IndexMap.{insert_entry}
-use Rattle.rc_names.specs.Names.{IsBefore}
-use Rattle.rc_db.specs.Bundles.{Bundles, names_of}
+use Rattle.rc_model.specs.Names.{IsBefore}
+use Rattle.rc_model.specs.Database.{Bundles, names_of}
 use Rattle.rc_db.proofs.Growing.{ShowsMore, pushed}
 use Rattle.rc_db.proofs.table.Table.push.Goals as goal
 use Rattle.rc_db.proofs.table.Table.push.Goals.{Joined-branch-5}

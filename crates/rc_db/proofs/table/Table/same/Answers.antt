@@ -1,5 +1,5 @@
 use Rattle.std.proofs.Common.{◌≡◌, length, arith, rules}
-use Rattle.rc_db.proofs.Places.{same_by_places}
+use Rattle.rc_model.proofs.Places.{same_by_places}
 use Rattle.rc_db.proofs.table.Table.same.Goals as goal
 
 pub returns : goal.returns

@@ -4,9 +4,9 @@ use Rattle.std.specs.HashMap.{keys, values}
 use Rattle.std.specs.String.{string_bytes}
 use Rattle.indexmap.specs.IndexMap.{set_value_at}
 use Rattle.rc_names.proofs.Growth.{IsSorted-from_order}
-use Rattle.rc_names.proofs.Table.{slice_get-found, not_shown}
-use Rattle.rc_names.specs.Names.{IsInByteOrder}
-use Rattle.rc_db.specs.Bundles.{names_of, value_of}
+use Rattle.rc_model.proofs.Table.{slice_get-found, not_shown}
+use Rattle.rc_model.specs.Names.{IsInByteOrder}
+use Rattle.rc_model.specs.Database.{names_of, value_of}
 use Rattle.rc_db.proofs.Entries.{ShowsChange, looked_up, written}
 use Rattle.rc_db.proofs.Growing.{inserted}
 use Rattle.rc_db.proofs.Values.{value_of-absent}

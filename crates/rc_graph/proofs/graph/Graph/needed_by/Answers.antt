@@ -1,7 +1,7 @@
 use Rattle.std.proofs.Common.{◌≡◌, ℕ, List, [], slice_index_or, length, Contains, ◌↔◌, arith, ap, subst}
 use Rattle.std.specs.Arc.{arc_value}
-use Rattle.rc_set.specs.Set.{IsAscending}
-use Rattle.rc_graph.specs.Needs.{Needs}
+use Rattle.rc_model.specs.Names.{IsAscending}
+use Rattle.rc_model.specs.Graph.{Needs}
 use Rattle.rc_graph.specs.Rows.{rows}
 use Rattle.rc_graph.proofs.RowLemmas.{row_is, length-rows}
 use Rattle.rc_graph.proofs.graph.Graph.needed_by.Goals as goal

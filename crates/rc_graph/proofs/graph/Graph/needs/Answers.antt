@@ -1,6 +1,6 @@
 use Rattle.std.proofs.Common.{length, arith, ap, subst}
 use Rattle.std.specs.Arc.{arc_value}
-use Rattle.rc_set.specs.Set.{IsAscending}
+use Rattle.rc_model.specs.Names.{IsAscending}
 use Rattle.rc_graph.proofs.RowLemmas.{row_is, length-rows}
 use Rattle.rc_graph.proofs.graph.Graph.needs.Goals as goal
 

@@ -1,10 +1,8 @@
 use Rattle.std.proofs.Common.{subst, sym, arith, length-append, ◌∷◌, [], ◌≡◌, ◌≢◌, ◌∙◌, false, true, length, refl, ap}
-use Rattle.rc_line.specs.State.{State}
+use Rattle.rc_model.specs.Line.{State, Line, MovesByChange}
 use Rattle.rc_line.specs.Opening.{Journal}
 use Rattle.rc_line.specs.Keeping.{state}
 use Rattle.rc_line.proofs.Closings.{kept_closed, fit_shown, bound_shown, change_elsewhere, change_here}
-use Rattle.rc_line.specs.Line.{Line}
-use Rattle.rc_line.specs.Moves.{Changes}
 use Rattle.rc_line.proofs.line.Line.close_change.Goals as goal
 
 pub same-requires : goal.same-requires
@@ -51,4 +49,4 @@ returns-clause-moved c =
     let m = change_elsewhere c.self.inside.bound c.self.inside.done.items c.self.inside.undone.items s c.args.self.now.line shown c.entry-entry.result c.args.live.now c.self.invariant.fits bound other c.entry-entry.ensures.raised c.entry-entry.ensures.lowered (c.entry-entry.ensures.edit ∙ c.requires.edit) in
     let fit = rw (c.push_back_reserved.ensures.items, c.spend_all.ensures.items) at c.fit.ensures in
     let fs = fit_shown c.self.inside.bound _ _ _ _ (state c.args.live.now c.self.inside.table) c.self.invariant.bound.0 (omega (arith, c.self.invariant.few, length-append c.self.inside.done.items (c.entry-entry.result ∷ []))) m.0 fit in
-    rw c.overwrite.ensures (subst (λ (l : Line). Changes c.args.self.now.line c.args.live.now l) (sym fs.1) m.1)
+    rw c.overwrite.ensures (subst (λ (l : Line). MovesByChange c.args.self.now.line c.args.live.now l) (sym fs.1) m.1)

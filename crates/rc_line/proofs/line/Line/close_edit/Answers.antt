@@ -1,15 +1,12 @@
 use Rattle.std.proofs.Common.{length-append, ◌∷◌, ◌≡◌, ◌≢◌, ◌∙◌, List, [], length, ap, subst, sym, arith}
 use Rattle.std.proofs.lemmas.List.{nil_from_length}
-use Rattle.rc_db.specs.Bundles.{Bundles, IsTable}
-use Rattle.rc_bundle.specs.Edit.{Alteration, IsEdit}
+use Rattle.rc_model.specs.Database.{Bundles, IsTable}
+use Rattle.rc_model.specs.Line.{Alteration, IsEdit, State, Entry, MovesByEdit, Line}
 use Rattle.rc_line.specs.declared.aim.Aim.{Aim}
 use Rattle.rc_line.specs.declared.aim.Aim.TheVariants.{Edit}
-use Rattle.rc_line.specs.State.{State, Entry}
-use Rattle.rc_line.specs.Moves.{Edits}
 use Rattle.rc_line.specs.Opening.{Journal, Opening, AimsAt, table_or, target_of}
 use Rattle.rc_line.specs.Keeping.{state, line_of}
 use Rattle.rc_line.proofs.Closings.{kept_closed, fit_shown, current_shown, edit_elsewhere, edit_here}
-use Rattle.rc_line.specs.Line.{Line}
 use Rattle.rc_line.proofs.line.Line.close_edit.Goals as goal
 
 pub returns-then-len-eq0-clause-moved : goal.returns-then-len-eq0-clause-moved
@@ -24,7 +21,7 @@ returns-then-len-eq0-clause-moved c =
     let is_table : IsTable table = subst IsTable target aimed.1 in
     let is : IsEdit c.args.self.now.line.current.table table c.args.edit = subst (λ (t : Bundles). IsEdit c.args.self.now.line.current.table t c.args.edit) target c.requires.edit in
     let empty : length c.args.edit ≡ 0 = omega (arith, c.len.ensures.len) in
-    subst (λ (t : Bundles). Edits c.args.self.now.line t (line_of c.self.inside.bound c.self.inside.done.items c.self.inside.undone.items s)) (sym target) (edit_here c.self.inside.bound c.self.inside.done.items c.self.inside.undone.items s c.args.self.now.line shown c.args.edit table c.self.invariant.fits is_table is empty)
+    subst (λ (t : Bundles). MovesByEdit c.args.self.now.line t (line_of c.self.inside.bound c.self.inside.done.items c.self.inside.undone.items s)) (sym target) (edit_here c.self.inside.bound c.self.inside.done.items c.self.inside.undone.items s c.args.self.now.line shown c.args.edit table c.self.invariant.fits is_table is empty)
 
 pub invariant_of-self-2 : goal.invariant_of-self-2
 invariant_of-self-2 c =
@@ -62,4 +59,4 @@ returns-clause-moved c =
     let m = edit_elsewhere c.self.inside.bound c.self.inside.done.items c.self.inside.undone.items s c.args.self.now.line shown e table c.self.invariant.fits is_table is some (nil_from_length _ raised) (nil_from_length _ lowered) in
     let fit = rw (c.push_back_reserved.ensures.items, c.spend_all.ensures.items) at c.fit.ensures in
     let fs = fit_shown c.self.inside.bound _ _ _ _ (state c.self.inside.live table) c.self.invariant.bound.0 (omega (arith, c.self.invariant.few, length-append c.self.inside.done.items (e ∷ []))) m.0 fit in
-    rw (target, c.replace.ensures) (subst (λ (l : Line). Edits c.args.self.now.line table l) (sym fs.1) m.1)
+    rw (target, c.replace.ensures) (subst (λ (l : Line). MovesByEdit c.args.self.now.line table l) (sym fs.1) m.1)

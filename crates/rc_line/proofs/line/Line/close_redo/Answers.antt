@@ -1,9 +1,7 @@
 use Rattle.std.proofs.Common.{subst, arith, length-append, ◌∷◌, [], ◌≡◌, ◌≢◌, ◌∙◌, false, true, length, refl, ap, sym}
-use Rattle.rc_line.specs.State.{State, Entry}
+use Rattle.rc_model.specs.Line.{State, Entry, Line, MovesByRedo}
 use Rattle.rc_line.specs.Opening.{Journal, table_or}
 use Rattle.rc_line.specs.Keeping.{state}
-use Rattle.rc_line.specs.Line.{Line}
-use Rattle.rc_line.specs.Moves.{Redoes}
 use Rattle.rc_line.proofs.Closings.{kept_closed, fit_shown, bound_shown, steps_on, redo_whole, redo_none, redo_short}
 use Rattle.rc_line.proofs.line.Line.close_redo.Goals as goal
 
@@ -112,4 +110,4 @@ returns-clause-moved c =
     (c.entry-2.ensures.edit ∙ c.requires.no_edit) (c.entry-3.ensures.edit ∙ ap (λ (d : Entry). d.edit) c.entry.view_is) in
     let fit = rw (c.push_back_reserved-2.ensures.items, c.push_back_reserved-3.ensures.items) at c.fit.ensures in
     let fs = fit_shown c.self.inside.bound _ _ _ _ (state c.args.live.now c.self.inside.table) c.self.invariant.bound.0 (omega (arith, c.self.invariant.few, ap length c.take_last-entry.ensures.items, length-append c.take_last-entry.new.stack.items (c.take_last-entry.result ∷ []), length-append c.take_last-entry.new.stack.items (c.entry-3.result ∷ []), length-append c.self.inside.done.items (c.entry-2.result ∷ []))) m.0 fit in
-    rw c.overwrite.ensures (subst (λ (l : Line). Redoes c.args.self.now.line c.args.live.now l) (sym fs.1) m.1)
+    rw c.overwrite.ensures (subst (λ (l : Line). MovesByRedo c.args.self.now.line c.args.live.now l) (sym fs.1) m.1)

@@ -1,8 +1,8 @@
 use Rattle.std.proofs.Common.{◌≡◌, ◌∙◌, ◌++◌, ◌∷◌, [], List, Bool, length, arith, length-append, ap, sym}
 use Rattle.std.proofs.lemmas.List.{length-map}
-use Rattle.rc_db.specs.Bundles.{Bundles}
+use Rattle.rc_model.specs.Database.{Bundles}
 use Rattle.rc_line.specs.State.{states_of}
-use Rattle.rc_line.specs.Line.{Line, states}
+use Rattle.rc_model.specs.Line.{Line, states}
 use Rattle.rc_line.specs.Opening.{Journal}
 use Rattle.rc_line.specs.Keeping.{state}
 use Rattle.rc_line.proofs.Fronts.{one_less, differs_from_next, same_bound, states_of-push}

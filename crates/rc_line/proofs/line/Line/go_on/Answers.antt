@@ -1,6 +1,5 @@
 use Rattle.std.proofs.Common.{◌+◌, ◌≤◌, ◌++◌, ◌∷◌, [], length-append, ◌≡◌, ◌≢◌, ◌∙◌, ℕ, false, length, ap, subst, sym, arith}
-use Rattle.rc_line.specs.State.{State}
-use Rattle.rc_line.specs.Line.{Line}
+use Rattle.rc_model.specs.Line.{State, Line}
 use Rattle.rc_line.specs.Opening.{Journal, table_or}
 use Rattle.rc_line.specs.Keeping.{IsStepAt, line_of, state}
 use Rattle.rc_line.proofs.Closings.{kept_closed, current_shown}

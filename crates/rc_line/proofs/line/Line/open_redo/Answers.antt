@@ -1,7 +1,7 @@
 use Rattle.std.proofs.Common.{◌≡◌, ◌-◌, ◌∙◌, length, Some, Err, slice_get, ap, sym, refl, rules}
 use Rattle.rc_line.specs.declared.aim.Aim.TheVariants.{Redo}
-use Rattle.rc_line.specs.declared.fault.LineFault.TheVariants.{Memory}
-use Rattle.rc_line.specs.State.{State}
+use Rattle.rc_model.specs.declared.LineFault.TheVariants.{Memory}
+use Rattle.rc_model.specs.Line.{State}
 use Rattle.rc_line.specs.Opening.{Journal, table_or}
 use Rattle.rc_line.specs.Keeping.{state, forth}
 use Rattle.rc_line.proofs.Closings.{current_shown}

@@ -1,5 +1,5 @@
 use Rattle.std.proofs.Common.{◌≡◌, ◌∙◌, ◌+◌, ◌≤◌, ◌++◌, ◌∷◌, [], length-append, arith, false, length, ap, sym}
-use Rattle.rc_line.specs.State.{State}
+use Rattle.rc_model.specs.Line.{State}
 use Rattle.rc_line.specs.Opening.{Journal}
 use Rattle.rc_line.specs.Keeping.{IsStep, state}
 use Rattle.rc_line.proofs.Closings.{kept_closed, current_shown, size_shown, most_shown}

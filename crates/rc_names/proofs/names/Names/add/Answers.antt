@@ -3,7 +3,7 @@ use Rattle.std.proofs.lemmas.Grind.{common_steps}
 use Rattle.std.specs.String.{string_bytes}
 use Rattle.std.specs.HashMap.{keys, values}
 use Rattle.rc_names.proofs.Growth.{names_after, IsSorted-from_order, HasGrown}
-use Rattle.rc_names.specs.Names.{IsInByteOrder}
+use Rattle.rc_model.specs.Names.{IsInByteOrder}
 use Rattle.rc_names.proofs.names.Names.add.Goals as goal
 
 -- what the table shows once the name is in

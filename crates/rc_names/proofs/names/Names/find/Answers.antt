@@ -2,7 +2,7 @@ use Rattle.std.proofs.Common.{◌<◌, length, Some, None, IfNone, Contains, sym
 use Rattle.std.proofs.lemmas.List.{length-map}
 use Rattle.std.specs.String.{string_bytes}
 use Rattle.std.specs.HashMap.{keys}
-use Rattle.rc_names.proofs.Table.{slice_get-found, not_shown}
+use Rattle.rc_model.proofs.Table.{slice_get-found, not_shown}
 use Rattle.rc_names.proofs.names.Names.find.Goals as goal
 
 pub returns-in_err-place-clause-missing : goal.returns-in_err-place-clause-missing

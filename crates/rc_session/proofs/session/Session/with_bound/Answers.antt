@@ -1,5 +1,5 @@
 use Rattle.std.proofs.Common.{◌∙◌, length, ap, sym, subst}
-use Rattle.rc_session.specs.Doing.{IsLineOf}
+use Rattle.rc_model.specs.Session.{IsLineOf}
 use Rattle.rc_session.specs.Holding.{Holding}
 use Rattle.rc_session.proofs.Beginning.{first_held, first_is_line}
 use Rattle.rc_session.proofs.session.Session.with_bound.Goals as goal

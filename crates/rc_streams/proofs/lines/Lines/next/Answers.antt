@@ -7,7 +7,7 @@ use Rattle.rc_streams.proofs.Handing.{hands_part, hands_more, lacks_part, lacks_
 use Rattle.rc_streams.proofs.lines.Lines.next.Goals as goal
 use Rattle.rc_streams.proofs.lines.Lines.next.Goals.{then-is_empty, else-is_empty}
 
--- what is held went behind the line, with no newline in it
+-- what is held went after the line, with no newline in it
 part : (held after : Held) (line longer : List ℕ) (whole : Bool) → MovesPart whole held after line longer → whole ≡ false → MovesPart false held after line longer
 part held after line longer whole moves is = subst (λ (b : Bool). MovesPart b held after line longer) is moves
 

@@ -1,5 +1,5 @@
 use Rattle.std.proofs.Common.{◌≡◌, ◌↔◌, List, ℕ, Contains, map, sym, subst, string_bytes}
-use Rattle.rc_names.specs.Names.{IsInByteOrder}
+use Rattle.rc_model.specs.Names.{IsInByteOrder}
 use Rattle.rc_tree.specs.Tree.{Source, IsSource, AreEntries}
 use Rattle.rc_tree.specs.Shown.{shown_files}
 use Rattle.rc_tree.proofs.Known.{of_known, names_of-shown}

@@ -1,6 +1,7 @@
 use Rattle.std.proofs.Common.{◌≡◌, ℕ, zero, suc, Bool, List, [], ◌∷◌, All, length, refl, arith, sym, subst}
-use Rattle.rc_db.specs.Bundles.{Bundles}
-use Rattle.rc_line.specs.State.{State, states_of}
+use Rattle.rc_model.specs.Database.{Bundles}
+use Rattle.rc_model.specs.Line.{State}
+use Rattle.rc_line.specs.State.{states_of}
 use Rattle.scenarios_line.proofs.book.Book.of_two.Goals as goal
 
 -- the sets of two states have one bound

@@ -1,8 +1,0 @@
-use Rattle.std.proofs.Common.{◌≡◌, ◌++◌, take}
-use Rattle.rc_answers.specs.DotText.{edge_lines, member_end}
-use Rattle.rc_answers.specs.Names.{names_in}
-use Rattle.rc_answers.proofs.dot.add_members.Given as goal
-
--- the edges so far
-abbrev pub invariant-loop-id : goal.invariant-loop-id
-invariant-loop-id l = l.text.items ≡ l.fn.text.items ++ edge_lines member_end l.name (names_in (take l.id l.names) (take l.id l.set))

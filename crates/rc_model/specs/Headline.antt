@@ -1,0 +1,219 @@
+-- What holds all along of commands that are played.
+use Rattle.std.specs.Prelude.{◌≡◌, ◌≢◌, ◌≤◌, ◌<◌, ◌+◌, ◌-◌, ◌⊎◌, ◌↔◌, ℕ, false, List, [], ◌∷◌, ◌++◌, length, take, drop, All, Option, Some, slice_get, Result, Ok, Err}
+use Rattle.rc_model.specs.Names.{Holds}
+use Rattle.rc_model.specs.Database.{Database}
+use Rattle.rc_model.specs.Plan.{PlanSets, Ask}
+use Rattle.rc_model.specs.Line.{Alteration, IsEdit, State, Entry, IsEntry, entry_back, Line, IsNext, IsEntryBefore, IsEntryAfter, states, cursor}
+use Rattle.rc_model.specs.declared.Event.{Event}
+use Rattle.rc_model.specs.Run.{course_of, TargetOf, IsStrictlyClosed}
+use Rattle.rc_model.specs.declared.Refusal.{Refusal}
+use Rattle.rc_model.specs.Session.{Command, Change, Undo, Redo, Add, Delete, HasRun, IsUndo, IsRedo, events_of, Reported, IsTask, EndsWith, DoesByEdit, Does, IsLineOf, Answers, Plays}
+
+-- a command ran in dependency order: the events that it was given are a settled run of
+-- its task, after each of them each service that is not down has all that it needs up,
+-- the new state has what is live in the end, and where all went well that is the target
+pub record RanInOrder (d : Database) (line : Line) (command : Command) (report : Reported)
+    (new : Line) : Type 0 where
+  pub plan : PlanSets
+  pub deadline : Option ℕ
+  pub task : IsTask d line command 0 plan deadline
+  pub given : report.trace ≡ events_of command
+  pub ends : EndsWith (course_of d.needs plan deadline) report.trace new.current.live
+  pub strict : (k : ℕ) → IsStrictlyClosed (course_of d.needs plan deadline) (take k report.trace)
+  pub arrives : report.failed ≡ [] → report.stopped ≡ false →
+      Holds new.current.live (TargetOf (course_of d.needs plan deadline))
+
+-- each change, undo and redo that is done runs in dependency order
+abbrev pub RunsAreOrderly : Database → Line → Type 0
+RunsAreOrderly d line =
+    (command : Command) (report : Reported) (new : Line) → HasRun command →
+    Does d line command report new → RanInOrder d line command report new
+
+-- the entry names exactly what differs between the states before and after; where nothing
+-- does the line stays, else the entry is the last one of the line, with the cursor after it
+pub record IsEntered (line new : Line) (entry : Entry) : Type 0 where
+  pub exact : IsEntry line.current new.current entry
+  pub entered : (new ≡ line) ⊎ ((new.current ≢ line.current) × (new.after ≡ [])
+      × IsEntryBefore new entry)
+
+-- each change enters exactly what it is reported to have altered, and no more
+abbrev pub ChangesAreEntered : Database → Line → Type 0
+ChangesAreEntered d line =
+    (ask : Ask) (events : List Event) (report : Reported) (new : Line) →
+    Does d line (Change ask events) report new →
+    IsEntered line new (record { raised = report.raised; lowered = report.lowered; edit = [] })
+
+-- the entry of an edit names exactly the bundles that it altered
+abbrev pub EntersEdit : Line → Line → Type 0
+EntersEdit line new = (edit : List Alteration) → IsEdit line.current.table new.current.table edit →
+    IsEntered line new (record { raised = []; lowered = []; edit = edit })
+
+-- each edit enters exactly the bundles that it altered
+abbrev pub EditsAreEntered : Database → Line → Type 0
+EditsAreEntered d line = (command : Command) (report : Reported) (new : Line) →
+    DoesByEdit d line command report new → EntersEdit line new
+
+-- of these states one is gone: the oldest or, where that stood beside the current one, the last
+abbrev pub LosesOne : List State → Line → Type 0
+LosesOne held line = (gone : State) × (((held ≡ gone ∷ states line) × (1 ≤ cursor line))
+    ⊎ ((held ≡ states line ++ gone ∷ []) × (cursor line ≡ 1)))
+
+-- a line has these states and no others or, where they are more than it may have, all but one
+abbrev pub Keeps : List State → Line → Type 0
+Keeps held line = (states line ≡ held) ⊎ ((line.bound < length held) × LosesOne held line)
+
+-- the states of a line with one more, where the command may add one
+abbrev pub with_one_more : Line → Command → State → List State
+-- an undo puts it in front of the current one
+with_one_more line (Undo limit events) state = line.before ++ state ∷ line.current ∷ line.after
+-- a redo puts it after
+with_one_more line (Redo limit events) state = line.before ++ line.current ∷ state ∷ line.after
+-- a change or an edit puts it after, in the place of what came after
+with_one_more line other state = line.before ++ line.current ∷ state ∷ []
+
+-- the line has its states, or these with the new one, of which only the
+-- bound drops any; a change or an edit drops what could be redone first
+abbrev pub KeepsHistory : Line → Command → Line → Type 0
+KeepsHistory line command new =
+    (states new ≡ states line) ⊎ Keeps (with_one_more line command new.current) new
+
+-- whatever is done, failed or not, keeps history
+abbrev pub HistoryIsKept : Database → Line → Type 0
+HistoryIsKept d line = (command : Command) (report : Reported) (new : Line) →
+    Does d line command report new → KeepsHistory line command new
+
+-- a command was not refused, nothing failed in it, and it was not stopped
+abbrev pub WentWell : Result Reported Refusal → Type 0
+WentWell (Ok report) = (report.failed ≡ []) × (report.stopped ≡ false)
+WentWell (Err refusal) = ⊥
+
+-- only the cursor has moved, to this place, and the current
+-- state is the one that stands there, live set and bundles
+pub record HasMovedTo (line new : Line) (place : ℕ) : Type 0 where
+  pub kept : states new ≡ states line
+  pub there : cursor new ≡ place
+  pub restored : slice_get (states line) place ≡ Some new.current
+
+-- undos in a row that all go well restore the state that is so many back
+abbrev pub UndosRestore : Database → Line → Type 0
+UndosRestore d line =
+    (undos : List Command) (answers : List (Result Reported Refusal)) (new : Line) →
+    All IsUndo undos → All WentWell answers → Plays d line undos answers new →
+    (length undos ≤ cursor line) × HasMovedTo line new (cursor line - length undos)
+
+-- redos in a row that all go well restore the state that is so many on
+abbrev pub RedosRestore : Database → Line → Type 0
+RedosRestore d line =
+    (redos : List Command) (answers : List (Result Reported Refusal)) (new : Line) →
+    All IsRedo redos → All WentWell answers → Plays d line redos answers new →
+    HasMovedTo line new (cursor line + length redos)
+
+-- what an undo leaves that did not come to the state before
+pub record Leaves (back line new : Line) : Type 0 where
+  -- the bundles are still as they were
+  pub bundles : new.current.table ≡ line.current.table
+  -- the entry before the cursor is exactly the inverse of what the undo has still to do
+  pub remains : (entry : Entry) → IsEntryBefore new entry
+      ↔ IsEntry new.current back.current (entry_back entry)
+  -- nothing was undone and the line stays, or the entry after
+  -- the cursor is exactly the inverse of what the undo did
+  pub undone : (new ≡ line) ⊎ ((new.current ≢ line.current)
+      × ((entry : Entry) → IsEntryAfter new entry ↔ IsEntry new.current line.current entry))
+
+-- each undo comes to the state before, or leaves exactly the inverse of what remains
+abbrev pub UndosLeaveWhatRemains : Database → Line → Type 0
+UndosLeaveWhatRemains d line =
+    (back new : Line) (limit : ℕ) (events : List Event) (report : Reported) → IsNext back line →
+    Does d line (Undo limit events) report new → (new ≡ back) ⊎ Leaves back line new
+
+-- what a redo leaves that did not come to the state after
+pub record LeavesAhead (on line new : Line) : Type 0 where
+  -- the bundles are still as they were
+  pub bundles : new.current.table ≡ line.current.table
+  -- the entry after the cursor is exactly what remains to be redone
+  pub remains : (entry : Entry) → IsEntryAfter new entry ↔ IsEntry new.current on.current entry
+  -- nothing was redone and the line stays, or what
+  -- was redone is exactly the entry before the cursor
+  pub redone : (new ≡ line) ⊎ ((new.current ≢ line.current)
+      × ((entry : Entry) → IsEntryBefore new entry ↔ IsEntry line.current new.current entry))
+
+-- each redo comes to the state after, or leaves exactly what remains
+abbrev pub RedosLeaveWhatRemains : Database → Line → Type 0
+RedosLeaveWhatRemains d line =
+    (on new : Line) (limit : ℕ) (events : List Event) (report : Reported) → IsNext line on →
+    Does d line (Redo limit events) report new → (new ≡ on) ⊎ LeavesAhead on line new
+
+-- a line has as many states as it may
+abbrev pub IsFull : Line → Type 0
+IsFull line = length (states line) ≡ line.bound
+
+-- the states that are left of those before one: all or, of a full line, all but the oldest
+abbrev pub AreLeftBefore : Line → List State → List State → Type 0
+AreLeftBefore line held left =
+    (left ≡ held) ⊎ (IsFull line × ((oldest : State) × (held ≡ oldest ∷ left)))
+
+-- the states that are left of those after one: all or, of a full line, all but the last
+abbrev pub AreLeftAfter : Line → List State → List State → Type 0
+AreLeftAfter line held left =
+    (left ≡ held) ⊎ (IsFull line × ((last : State) × (held ≡ left ++ last ∷ [])))
+
+-- where an undo did not come to the state before, and the very next command is an undo that
+-- goes well, it ends there, with all states before it or, of a full line, all but the oldest
+abbrev pub UndosGoOn : Database → Line → Type 0
+UndosGoOn d line =
+    (back there new : Line) (first next : Command) (report : Reported)
+    (answer : Result Reported Refusal) →
+    IsUndo first → IsUndo next → WentWell answer → IsNext back line →
+    Does d line first report there → there ≢ back → Answers d there next answer new →
+    (new.current ≡ back.current) × AreLeftBefore line back.before new.before
+
+-- and so with a redo, and all after it
+abbrev pub RedosGoOn : Database → Line → Type 0
+RedosGoOn d line =
+    (on there new : Line) (first next : Command) (report : Reported)
+    (answer : Result Reported Refusal) →
+    IsRedo first → IsRedo next → WentWell answer → IsNext line on →
+    Does d line first report there → there ≢ on → Answers d there next answer new →
+    (new.current ≡ on.current) × AreLeftAfter line on.after new.after
+
+-- all of this holds of what may follow where the line stands
+pub record IsPromised (d : Database) (line : Line) : Type 0 where
+  pub orderly : RunsAreOrderly d line
+  pub changes : ChangesAreEntered d line
+  pub edits : EditsAreEntered d line
+  pub history : HistoryIsKept d line
+  pub undos : UndosRestore d line
+  pub redos : RedosRestore d line
+  pub remains : UndosLeaveWhatRemains d line
+  pub remains_ahead : RedosLeaveWhatRemains d line
+  pub undos_go_on : UndosGoOn d line
+  pub redos_go_on : RedosGoOn d line
+
+-- at each place of a list of commands that is played: the first ones lead to a
+-- line of the database, the others go on from there, and there all of this holds
+abbrev pub IsPromisedAllAlong : Database → Line → List Command → List (Result Reported Refusal) →
+    Line → Type 0
+IsPromisedAllAlong d line commands answers new =
+    (k : ℕ) → (here : Line) × IsLineOf d here × Plays d line (take k commands) (take k answers) here
+    × Plays d here (drop k commands) (drop k answers) new × IsPromised d here
+
+-- where a command that was done leads, and how that is entered
+abbrev pub EndsAsPromised : Line → Command → Reported → Line → Type 0
+-- a change is entered as what it is reported to have altered
+EndsAsPromised line (Change ask events) report new =
+    IsEntered line new (record { raised = report.raised; lowered = report.lowered; edit = [] })
+-- an undo that goes well comes to the state before; else it does, or leaves what remains
+EndsAsPromised line (Undo limit events) report new = (back : Line) → IsNext back line →
+    (WentWell (Ok report) → new ≡ back) × ((new ≡ back) ⊎ Leaves back line new)
+-- a redo the same forwards
+EndsAsPromised line (Redo limit events) report new = (on : Line) → IsNext line on →
+    (WentWell (Ok report) → new ≡ on) × ((new ≡ on) ⊎ LeavesAhead on line new)
+EndsAsPromised line (Add name contents force) report new = EntersEdit line new
+EndsAsPromised line (Delete words force) report new = EntersEdit line new
+
+-- what is promised of one command that was done: of where it led and of what it tells
+pub record IsDoneAsPromised (d : Database) (line : Line) (command : Command) (report : Reported)
+    (new : Line) : Type 0 where
+  pub orderly : HasRun command → RanInOrder d line command report new
+  pub ends : EndsAsPromised line command report new
+  pub history : KeepsHistory line command new

@@ -1,0 +1,101 @@
+-- What a change is asked to do, its target and its plan.
+use Rattle.std.specs.Prelude.{List, Bool, ◌≡◌, ℕ, length, ◌⊎◌, true, false, ◌≢◌, All}
+use Rattle.rc_model.specs.Names.{Has, Holds}
+use Rattle.rc_model.specs.Graph.{UpFrom, DownFrom}
+use Rattle.rc_model.specs.declared.Mode.{Mode}
+use Rattle.rc_model.specs.declared.Mode.TheVariants.{Up, Down, DownAll}
+use Rattle.rc_model.specs.Database.{Bundles, Database, IsEssential, Selected, IsKnown, IsUnknownAt}
+use Rattle.rc_model.specs.declared.PlanFault.{PlanFault}
+use Rattle.rc_model.specs.declared.PlanFault.TheVariants.{PruneNeedsUp, Unknown, Memory}
+
+-- a plan as its four sets: what is up at first, what goes down, what comes up, what is kept
+pub record PlanSets : Type 0 where
+  pub opening : List Bool
+  pub lower : List Bool
+  pub raise : List Bool
+  pub kept : List Bool
+
+-- no service
+abbrev pub Nothing : ℕ → Type 0
+Nothing s = ⊥
+
+-- the plan goes from what is up to the target, by their
+-- two differences, and lists these services as kept
+pub record IsPlanTo (up : List Bool) (Target Kept : ℕ → Type 0) (plan : PlanSets) : Type 0 where
+  pub opening : plan.opening ≡ up
+  pub lower : Holds plan.lower (λ s. Has up s × (Target s → ⊥))
+  pub raise : Holds plan.raise (λ s. Target s × (Has up s → ⊥))
+  pub kept : Holds plan.kept Kept
+  pub lower_bound : length plan.lower ≡ length up
+  pub raise_bound : length plan.raise ≡ length up
+  pub kept_bound : length plan.kept ≡ length up
+
+-- what essential services hold up: those that are up, with all that they need
+abbrev pub IsHeldUp : List (List ℕ) → (ℕ → Type 0) → ℕ → Type 0
+IsHeldUp needs IsEssentialUp = UpFrom needs IsEssentialUp
+
+-- what is to be up in the end, from what is up, the
+-- essential services among that, and what is wanted
+abbrev pub Target : List (List ℕ) → (ℕ → Type 0) → (ℕ → Type 0) → Mode → Bool → (ℕ → Type 0) → ℕ →
+    Type 0
+-- what is up, and the wanted with all that they need
+Target needs IsUp IsEssentialUp Up false IsWanted s = IsUp s ⊎ UpFrom needs IsWanted s
+-- the wanted with all that they need, and what essential services hold up
+Target needs IsUp IsEssentialUp Up true IsWanted s =
+    UpFrom needs IsWanted s ⊎ IsHeldUp needs IsEssentialUp s
+-- what is up; but of the wanted, and of what reaches them, only what is held up
+Target needs IsUp IsEssentialUp Down prune IsWanted s =
+    IsUp s × (DownFrom needs IsWanted s → IsHeldUp needs IsEssentialUp s)
+-- what is up, and is neither wanted nor reaches what is wanted
+Target needs IsUp IsEssentialUp DownAll prune IsWanted s = IsUp s × (DownFrom needs IsWanted s → ⊥)
+
+-- the essential services that stay up although they were to go
+abbrev pub Kept : List (List ℕ) → (ℕ → Type 0) → Mode → Bool → (ℕ → Type 0) → ℕ → Type 0
+Kept needs IsEssentialUp Up false IsWanted s = ⊥
+Kept needs IsEssentialUp Up true IsWanted s = IsEssentialUp s × (UpFrom needs IsWanted s → ⊥)
+Kept needs IsEssentialUp Down prune IsWanted s = IsEssentialUp s × DownFrom needs IsWanted s
+Kept needs IsEssentialUp DownAll prune IsWanted s = ⊥
+
+-- what a change is asked to do: which way, whether what is not wanted goes, whether
+-- all that is up is wanted too, the words, and a limit in milliseconds, 0 for none
+pub record Ask : Type 0 where
+  pub mode : Mode
+  pub prune : Bool
+  pub all : Bool
+  pub words : List (List ℕ)
+  pub limit : ℕ
+
+-- the services that are wanted: those that the words
+-- stand for and, where all are, those that are up
+abbrev pub IsWanted : List (List ℕ) → Bundles → (ℕ → Type 0) → Ask → ℕ → Type 0
+IsWanted names table IsUp ask s = Selected names table ask.words s ⊎ ((ask.all ≡ true) × IsUp s)
+
+-- an essential service that is up
+abbrev pub IsEssentialUp : Database → (ℕ → Type 0) → ℕ → Type 0
+IsEssentialUp d IsUp s = IsEssential d s × IsUp s
+
+-- the plan of what is asked, where these services are up and these are the
+-- bundles, which are those of a line and not those that the database began with
+abbrev pub IsPlanOf : Database → Bundles → List Bool → Ask → PlanSets → Type 0
+IsPlanOf d table up ask plan =
+    let wanted = IsWanted d.names table (Has up) ask in
+    let essential = IsEssentialUp d (Has up) in
+    IsPlanTo up (Target d.needs (Has up) essential ask.mode ask.prune wanted)
+    (Kept d.needs essential ask.mode ask.prune wanted) plan
+
+-- it is asked to let go what is not wanted, and not on the way up
+abbrev pub PrunesWrongly : Ask → Type 0
+PrunesWrongly ask = (ask.prune ≡ true) × (ask.mode ≢ Up)
+
+-- what can be planned: it prunes on the way up alone, and each word is the name of something
+pub record CanPlan (names : List (List ℕ)) (table : Bundles) (ask : Ask) : Type 0 where
+  pub prunes : PrunesWrongly ask → ⊥
+  pub known : All (IsKnown names table) ask.words
+
+-- when a plan is refused, the first fault in this order;
+-- memory can run short only where all else is right
+abbrev pub IsPlanFault : List (List ℕ) → Bundles → Ask → PlanFault → Type 0
+IsPlanFault names table ask PruneNeedsUp = PrunesWrongly ask
+IsPlanFault names table ask (Unknown place) =
+    (PrunesWrongly ask → ⊥) × IsUnknownAt names table ask.words place
+IsPlanFault names table ask Memory = CanPlan names table ask

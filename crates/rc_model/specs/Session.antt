@@ -1,0 +1,276 @@
+-- Commands, what each does to the line, what is reported of it, and when it is refused.
+use Rattle.std.specs.Prelude.{ℕ, Bool, List, [], ◌≡◌, ◌+◌, ◌-◌, ◌^◌, ◌==◌, if◌then◌else◌, min, length, Option, None, Some, ◌↔◌, true, false, ◌⊎◌, All, take, slice_get, ◌∷◌, Result, Ok, Err}
+use Rattle.rc_model.specs.declared.Event.{Event}
+use Rattle.rc_model.specs.Plan.{Ask, PlanSets, IsPlanTo, Nothing, IsPlanOf, CanPlan, IsPlanFault}
+use Rattle.rc_model.specs.Names.{Has, Holds, Lists}
+use Rattle.rc_model.specs.Database.{Database, Bundles, IsTable, HaveBound, AreApart}
+use Rattle.rc_model.specs.Run.{Course, IsLive, IsSettled, HasFailed, IsStopped, IsLeft, course_of, IsLegal, IsRun}
+use Rattle.rc_model.specs.Line.{Line, IsNext, MovesByChange, MovesByUndo, MovesByRedo, IsGained, Defines, Removes, CanAdd, CanDelete, State, IsLine, states, MovesByEdit, IsAddFault, IsDeleteFault, IsEditOnly}
+use Rattle.rc_model.specs.Graph.{IsClosed}
+use Rattle.rc_model.specs.declared.PlanFault.{PlanFault}
+use Rattle.rc_model.specs.declared.BundleFault.{BundleFault}
+use Rattle.rc_model.specs.declared.LineFault.{LineFault}
+use Rattle.rc_model.specs.declared.Refusal.{Refusal}
+use Rattle.rc_model.specs.declared.Refusal.TheVariants.{BadEvent, NotSettled, PruneNeedsUp, Unknown, IsAtomic, Exists, Missing, Full, NothingToUndo, NothingToRedo, NotEdit, Memory}
+use Rattle.rc_model.specs.declared.PlanFault.TheVariants as plan_fault
+use Rattle.rc_model.specs.declared.BundleFault.TheVariants as bundle_fault
+use Rattle.rc_model.specs.declared.LineFault.TheVariants as line_fault
+
+-- what a session is told to do: a change, an undo or a redo, each with the
+-- events of its run, or an edit of bundles; limits in milliseconds, 0 for none
+pub data Command : Type 0 where
+  Change : (ask : Ask) → (events : List Event) → Command
+  Undo : (limit : ℕ) → (events : List Event) → Command
+  Redo : (limit : ℕ) → (events : List Event) → Command
+  Add : (name : List ℕ) → (contents : List (List ℕ)) → (force : Bool) → Command
+  Delete : (words : List (List ℕ)) → (force : Bool) → Command
+
+-- the events that a command brings
+abbrev pub events_of : Command → List Event
+events_of (Change ask events) = events
+events_of (Undo limit events) = events
+events_of (Redo limit events) = events
+events_of (Add name contents force) = []
+events_of (Delete words force) = []
+
+-- a command that a run carries out: a change, an undo or a redo
+abbrev pub HasRun : Command → Type 0
+HasRun (Add name contents force) = ⊥
+HasRun (Delete words force) = ⊥
+HasRun other = Unit {0}
+
+-- an undo
+abbrev pub IsUndo : Command → Type 0
+IsUndo (Undo limit events) = Unit {0}
+IsUndo other = ⊥
+
+-- a redo
+abbrev pub IsRedo : Command → Type 0
+IsRedo (Redo limit events) = Unit {0}
+IsRedo other = ⊥
+
+-- the moment from which a run that begins at `start` may be stopped: none without a
+-- limit, and no later than the last moment that there is; a command that brings its
+-- events begins at 0, since a stop that is legal from a later moment is legal from then
+abbrev pub deadline_of : ℕ → ℕ → Option ℕ
+deadline_of start limit = if limit == 0 then None else Some (min (start + limit) (2 ^ 64 - 1))
+
+-- the way from some live services to others: the plan
+-- between them, and a deadline only where they differ
+pub record IsWay (from to : List Bool) (start limit : ℕ) (plan : PlanSets)
+    (deadline : Option ℕ) : Type 0 where
+  pub leads : IsPlanTo from (Has to) Nothing plan
+  pub free : from ≡ to → deadline ≡ None
+  pub bound : (from ≡ to → ⊥) → deadline ≡ deadline_of start limit
+
+-- the run that a command asks for at a moment, by its plan and its deadline; an edit asks for none
+abbrev pub IsTask : Database → Line → Command → ℕ → PlanSets → Option ℕ → Type 0
+IsTask d line (Change ask events) start plan deadline =
+    CanPlan d.names line.current.table ask
+    × IsPlanOf d line.current.table line.current.live ask plan
+    × (deadline ≡ deadline_of start ask.limit)
+IsTask d line (Undo limit events) start plan deadline =
+    (back : Line) × IsNext back line
+    × IsWay line.current.live back.current.live start limit plan deadline
+IsTask d line (Redo limit events) start plan deadline =
+    (on : Line) × IsNext line on × IsWay line.current.live on.current.live start limit plan deadline
+IsTask d line (Add name contents force) start plan deadline = ⊥
+IsTask d line (Delete words force) start plan deadline = ⊥
+
+-- the events are a settled run, and these services are live after it
+pub record EndsWith (c : Course) (events : List Event) (live : List Bool) : Type 0 where
+  pub settled : IsSettled c events
+  pub bound : length live ≡ length c.up
+  pub members : Holds live (IsLive c events)
+
+-- the one move of a command whose run ends with these services live
+abbrev pub MovesBy : Line → Command → List Bool → Line → Type 0
+MovesBy line (Change ask events) live new = MovesByChange line live new
+MovesBy line (Undo limit events) live new = MovesByUndo line live new
+MovesBy line (Redo limit events) live new = MovesByRedo line live new
+MovesBy line (Add name contents force) live new = ⊥
+MovesBy line (Delete words force) live new = ⊥
+
+-- what is reported of a command: what was live before it, which services went down, came
+-- up, failed, were blocked, were untried, were kept, whether it was stopped, and its events
+pub record Reported : Type 0 where
+  pub opening : List Bool
+  pub lowered : List ℕ
+  pub raised : List ℕ
+  pub failed : List ℕ
+  pub blocked : List ℕ
+  pub untried : List ℕ
+  pub kept : List ℕ
+  pub stopped : Bool
+  pub trace : List Event
+
+-- what is reported of a run after which these services are live: what
+-- was live before it, the two differences, what failed, what was
+-- never taken, what was kept, whether it was stopped, and its events
+pub record IsReportOf (c : Course) (plan : PlanSets) (events : List Event) (live : List Bool)
+    (report : Reported) : Type 0 where
+  pub opening : report.opening ≡ c.up
+  pub lowered : Lists (IsGained live c.up) report.lowered
+  pub raised : Lists (IsGained c.up live) report.raised
+  pub failed : Lists (HasFailed events) report.failed
+  pub blocked : Lists (λ s. IsLeft c events s × (IsStopped events → ⊥)) report.blocked
+  pub untried : Lists (λ s. IsLeft c events s × IsStopped events) report.untried
+  pub kept : Lists (Has plan.kept) report.kept
+  pub stopped : (report.stopped ≡ true) ↔ IsStopped events
+  pub trace : report.trace ≡ events
+
+-- what is reported of an edit: nothing but what is live
+abbrev pub edit_report : List Bool → Reported
+edit_report live =
+    record {
+      opening = live;
+      lowered = [];
+      raised = [];
+      failed = [];
+      blocked = [];
+      untried = [];
+      kept = [];
+      stopped = false;
+      trace = [];
+    }
+
+-- a state of a database: a live set and bundles of its services,
+-- the live set closed, and no bundle with the name of a service
+pub record IsStateOf (d : Database) (s : State) : Type 0 where
+  pub bound : length s.live ≡ length d.names
+  pub closed : IsClosed d.needs (Has s.live)
+  pub sets : HaveBound (length d.names) s.table
+  pub apart : AreApart d.names s.table
+
+-- a line of states of a database
+pub record IsLineOf (d : Database) (line : Line) : Type 0 where
+  pub is_line : IsLine line
+  pub each : All (IsStateOf d) (states line)
+
+-- a change, undo or redo is carried out: the events that it brings are a settled run of its
+-- task, from what is live; the line moves once, by what is live after them; and this is reported
+pub record DoesByRun (d : Database) (line : Line) (command : Command) (report : Reported)
+    (new : Line) : Type 0 where
+  pub plan : PlanSets
+  pub deadline : Option ℕ
+  pub live : List Bool
+  pub task : IsTask d line command 0 plan deadline
+  pub ends : EndsWith (course_of d.needs plan deadline) (events_of command) live
+  pub moved : MovesBy line command live new
+  pub is_report : IsReportOf (course_of d.needs plan deadline) plan (events_of command) live report
+
+-- the bundles that an edit makes of the old ones
+abbrev pub EditsTable : Database → Bundles → Command → Bundles → Type 0
+EditsTable d old (Add name contents force) new =
+    CanAdd d.names old name contents force × Defines d.names old name contents new
+EditsTable d old (Delete words force) new =
+    CanDelete d.names old words force × Removes old words new
+EditsTable d old other new = ⊥
+
+-- an edit is made: the line moves once, by the new bundles, and what is live is reported
+pub record DoesByEdit (d : Database) (line : Line) (command : Command) (report : Reported)
+    (new : Line) : Type 0 where
+  pub table : Bundles
+  pub is_table : IsTable table
+  pub altered : EditsTable d line.current.table command table
+  pub moved : MovesByEdit line table new
+  pub is_report : report ≡ edit_report line.current.live
+
+-- a command is done where the line stands
+abbrev pub Does : Database → Line → Command → Reported → Line → Type 0
+Does d line command report new =
+    DoesByRun d line command report new ⊎ DoesByEdit d line command report new
+
+-- the command cannot be begun where the line stands; of several causes the first counts
+abbrev pub IsOwnFault : Database → Line → Command → Refusal → Type 0
+IsOwnFault d line (Change ask events) PruneNeedsUp =
+    IsPlanFault d.names line.current.table ask plan_fault.PruneNeedsUp
+IsOwnFault d line (Change ask events) (Unknown place) =
+    IsPlanFault d.names line.current.table ask (plan_fault.Unknown place)
+IsOwnFault d line (Undo limit events) NothingToUndo = line.before ≡ []
+IsOwnFault d line (Redo limit events) NothingToRedo = line.after ≡ []
+IsOwnFault d line (Add name contents force) (IsAtomic place) =
+    IsAddFault d.names line.current.table name contents force (bundle_fault.IsAtomic place)
+IsOwnFault d line (Add name contents force) Exists =
+    IsAddFault d.names line.current.table name contents force bundle_fault.Exists
+IsOwnFault d line (Add name contents force) (Unknown place) =
+    IsAddFault d.names line.current.table name contents force (bundle_fault.Unknown place)
+IsOwnFault d line (Add name contents force) Full =
+    IsAddFault d.names line.current.table name contents force bundle_fault.Full
+IsOwnFault d line (Delete words force) (IsAtomic place) =
+    IsDeleteFault d.names line.current.table words force (bundle_fault.IsAtomic place)
+IsOwnFault d line (Delete words force) (Missing place) =
+    IsDeleteFault d.names line.current.table words force (bundle_fault.Missing place)
+IsOwnFault d line command other = ⊥
+
+-- how it is reported why there is no plan
+abbrev pub of_plan : PlanFault → Refusal
+of_plan plan_fault.PruneNeedsUp = PruneNeedsUp
+of_plan (plan_fault.Unknown place) = Unknown place
+of_plan plan_fault.Memory = Memory
+
+-- how it is reported why a move is not opened
+abbrev pub of_line : LineFault → Refusal
+of_line line_fault.NothingToUndo = NothingToUndo
+of_line line_fault.NothingToRedo = NothingToRedo
+of_line line_fault.Memory = Memory
+
+-- how it is reported why bundles are not defined or removed
+abbrev pub of_bundle : BundleFault → Refusal
+of_bundle (bundle_fault.IsAtomic place) = IsAtomic place
+of_bundle bundle_fault.Exists = Exists
+of_bundle (bundle_fault.Missing place) = Missing place
+of_bundle (bundle_fault.Unknown place) = Unknown place
+of_bundle bundle_fault.Memory = Memory
+of_bundle bundle_fault.Full = Full
+
+-- at this place stands the first event that is not legal after those before it
+abbrev pub IsFirstIllegal : Course → List Event → ℕ → Type 0
+IsFirstIllegal c events place =
+    (event : Event) × (slice_get events place ≡ Some event) × IsRun c (take place events)
+    × (IsLegal c (take place events) event → ⊥)
+
+-- all events are legal, and they leave something to do; their number is reported
+abbrev pub IsUnsettled : Course → List Event → ℕ → Type 0
+IsUnsettled c events place = IsRun c events × (IsSettled c events → ⊥) × (place ≡ length events)
+
+-- the events are no settled run of the course: one is not legal, or they leave something to do
+abbrev pub IsEventFault : Course → List Event → Refusal → Type 0
+IsEventFault c events (BadEvent place) = IsFirstIllegal c events place
+IsEventFault c events (NotSettled place) = IsUnsettled c events place
+IsEventFault c events other = ⊥
+
+-- the events that the command brings are no settled run of its task
+abbrev pub IsRunFault : Database → Line → Command → Refusal → Type 0
+IsRunFault d line command refusal =
+    (plan : PlanSets) × (deadline : Option ℕ) × IsTask d line command 0 plan deadline
+    × IsEventFault (course_of d.needs plan deadline) (events_of command) refusal
+
+-- a command is refused where the line stands: it cannot
+-- be begun, or its events are no settled run of its task
+abbrev pub Refuses : Database → Line → Command → Refusal → Type 0
+Refuses d line command refusal =
+    IsOwnFault d line command refusal ⊎ IsRunFault d line command refusal
+
+-- where only edits may be undone or redone, it cannot be begun:
+-- there is nothing to undo or redo, or it would move services
+abbrev pub IsEditFault : Database → Line → Command → Refusal → Type 0
+IsEditFault d line (Undo limit events) NotEdit =
+    (back : Line) × IsNext back line × (IsEditOnly line.current back.current → ⊥)
+IsEditFault d line (Redo limit events) NotEdit =
+    (on : Line) × IsNext line on × (IsEditOnly line.current on.current → ⊥)
+IsEditFault d line command other = IsOwnFault d line command other
+
+-- the answer to a command, and the line from then on:
+-- it is done, or it is refused and the line stays
+abbrev pub Answers : Database → Line → Command → Result Reported Refusal → Line → Type 0
+Answers d line command (Ok report) new = Does d line command report new
+Answers d line command (Err refusal) new = Refuses d line command refusal × (new ≡ line)
+
+-- the answers to commands, one after the other, and the line from then on
+abbrev pub Plays : Database → Line → List Command → List (Result Reported Refusal) → Line → Type 0
+Plays d line [] [] new = new ≡ line
+Plays d line (command ∷ commands) (answer ∷ answers) new =
+    (next : Line) × Answers d line command answer next × Plays d next commands answers new
+Plays d line [] (answer ∷ answers) new = ⊥
+Plays d line (command ∷ commands) [] new = ⊥

@@ -1,0 +1,247 @@
+//! What the headline says, and all that it rests on: eight modules of definitions in `specs/`, to be read in this order,
+//! Names, Graph, Database, Plan, Run, Line, Session, Headline; and here the enums that they speak of.
+#![tactic(auto)]
+
+use std::alloc::AllocError;
+use thiserror::Error;
+
+/// The most names that a table holds.
+pub const MAX_NAMES: u16 = 4096;
+
+/// What a name stands for.
+#[derive(Clone, Copy, PartialEq, Eq, Debug)]
+pub enum Kind {
+    /// A program that runs once and ends.
+    Oneshot,
+    /// A daemon, which runs until it is stopped.
+    Longrun,
+    /// A set of services.
+    Bundle,
+}
+
+/// Which way a change goes.
+#[derive(Clone, Copy, PartialEq, Eq, Debug)]
+pub enum Mode {
+    /// The wanted come up, with all that they need.
+    Up,
+    /// The wanted go down, with all that need them; essential services stay, with all that they need.
+    Down,
+    /// The wanted go down, with all that need them, whatever is essential.
+    DownAll,
+}
+
+/// Why there is no plan. The first fault in this order is the one that is reported.
+#[derive(Clone, Copy, PartialEq, Eq, Debug, Error)]
+pub enum PlanFault {
+    /// Only a change upwards prunes.
+    #[error("prune goes with up alone")]
+    PruneNeedsUp,
+    /// The word at this place, counted from 0, is the name of nothing.
+    #[error("unknown name")]
+    Unknown(usize),
+    /// There was no room.
+    #[error("out of memory")]
+    Memory,
+}
+
+impl From<AllocError> for PlanFault {
+    ghost use Rattle.std.specs.Prelude.{◌≡◌};
+    ghost use Rattle.rc_model.specs.declared.PlanFault.TheVariants.{Memory};
+
+    ghost from_gives = { λ _ fault. fault ≡ Memory };
+
+    fn from(_: AllocError) -> PlanFault {
+        PlanFault::Memory
+    }
+}
+
+/// Why bundles are not defined or removed. Nothing has changed.
+#[derive(Clone, Copy, PartialEq, Eq, Debug, Error)]
+pub enum BundleFault {
+    /// The word at this place is the name of a service. In a definition place 0 is the name.
+    #[error("a service has that name")]
+    IsAtomic(usize),
+    /// The name is a bundle's, and nothing is forced.
+    #[error("there is such a bundle")]
+    Exists,
+    /// The word at this place is no bundle's name, and nothing is forced.
+    #[error("there is no such bundle")]
+    Missing(usize),
+    /// The word at this place is the name of nothing. The contents of a definition count from 1.
+    #[error("unknown name")]
+    Unknown(usize),
+    /// There was no room.
+    #[error("out of memory")]
+    Memory,
+    /// The name is new, and the table has as many bundles as it may have.
+    #[error("there are too many bundles")]
+    Full,
+}
+
+impl From<AllocError> for BundleFault {
+    ghost use Rattle.std.specs.Prelude.{◌≡◌};
+    ghost use Rattle.rc_model.specs.declared.BundleFault.TheVariants.{Memory};
+
+    ghost from_gives = { λ _ fault. fault ≡ Memory };
+
+    fn from(_: AllocError) -> BundleFault {
+        BundleFault::Memory
+    }
+}
+
+/// How a transition ended.
+#[derive(Clone, Copy, Debug, PartialEq, Eq)]
+pub enum Outcome {
+    /// It succeeded.
+    Ok,
+    /// It ended with this status.
+    Failed(u8),
+    /// It took longer than its service lets it.
+    TimedOut,
+    /// It could not be started.
+    NotStarted,
+}
+
+/// One step of a run. Workers are numbers from 1 to 64, moments are in milliseconds.
+#[derive(Clone, Copy, Debug, PartialEq, Eq)]
+pub enum Event {
+    /// A worker takes a service.
+    Take(u8, u16),
+    /// The transition of the service that a worker holds has ended.
+    Done(u8, u16, Outcome),
+    /// A worker saw at this moment that the deadline has come, and stops the run.
+    Stop(u8, u64),
+}
+
+/// Where a service stands.
+#[derive(Clone, Copy, Debug, PartialEq, Eq)]
+pub enum Standing {
+    Down,
+    /// On its way up: a worker holds it.
+    Rising,
+    Up,
+    /// On its way down: a worker holds it.
+    Sinking,
+}
+
+/// Why a move was not opened. Nothing has changed.
+#[derive(Clone, Copy, PartialEq, Eq, Debug, Error)]
+pub enum LineFault {
+    /// The current state is the first.
+    #[error("there is nothing to undo")]
+    NothingToUndo = 1,
+    /// The current state is the last.
+    #[error("there is nothing to redo")]
+    NothingToRedo = 2,
+    /// A growth was refused.
+    #[error("out of memory")]
+    Memory = 3,
+}
+
+impl From<AllocError> for LineFault {
+    ghost use Rattle.std.specs.Prelude.{◌≡◌};
+    ghost use Rattle.rc_model.specs.declared.LineFault.TheVariants.{Memory};
+
+    ghost from_gives = { λ _ fault. fault ≡ Memory };
+
+    fn from(_: AllocError) -> LineFault {
+        LineFault::Memory
+    }
+}
+
+/// Why a command is refused. Nothing has changed then.
+#[derive(Clone, Copy, PartialEq, Eq, Debug, Error)]
+pub enum Refusal {
+    /// The event at this place is not legal after those before it.
+    #[error("an event is not legal after those before it")]
+    BadEvent(usize),
+    /// The events are legal and leave something to do. The place is their number.
+    #[error("the events leave something to do")]
+    NotSettled(usize),
+    #[error("prune goes with up alone")]
+    PruneNeedsUp,
+    /// The word at this place is no name.
+    #[error("unknown name")]
+    Unknown(usize),
+    /// The word at this place is the name of a service.
+    #[error("a service has that name")]
+    IsAtomic(usize),
+    #[error("there is such a bundle")]
+    Exists,
+    /// The word at this place is no bundle.
+    #[error("there is no such bundle")]
+    Missing(usize),
+    #[error("there are too many bundles")]
+    Full,
+    #[error("there is nothing to undo")]
+    NothingToUndo,
+    #[error("there is nothing to redo")]
+    NothingToRedo,
+    /// Services moved between the two states.
+    #[error("services moved between the two states")]
+    NotEdit,
+    /// The session is poisoned.
+    #[error("the session is poisoned")]
+    Strange,
+    #[error("out of memory")]
+    Memory,
+}
+
+impl From<AllocError> for Refusal {
+    ghost use Rattle.std.specs.Prelude.{◌≡◌};
+    ghost use Rattle.rc_model.specs.declared.Refusal.TheVariants.{Memory};
+
+    ghost from_gives = { λ _ refusal. refusal ≡ Memory };
+
+    fn from(_: AllocError) -> Refusal {
+        Refusal::Memory
+    }
+}
+
+impl From<PlanFault> for Refusal {
+    ghost use Rattle.std.specs.Prelude.{◌≡◌};
+    ghost use Rattle.rc_model.specs.Session.{of_plan};
+
+    ghost from_gives = { λ fault refusal. refusal ≡ of_plan fault };
+
+    fn from(fault: PlanFault) -> Refusal {
+        match fault {
+            PlanFault::PruneNeedsUp => Refusal::PruneNeedsUp,
+            PlanFault::Unknown(place) => Refusal::Unknown(place),
+            PlanFault::Memory => Refusal::Memory,
+        }
+    }
+}
+
+impl From<LineFault> for Refusal {
+    ghost use Rattle.std.specs.Prelude.{◌≡◌};
+    ghost use Rattle.rc_model.specs.Session.{of_line};
+
+    ghost from_gives = { λ fault refusal. refusal ≡ of_line fault };
+
+    fn from(fault: LineFault) -> Refusal {
+        match fault {
+            LineFault::NothingToUndo => Refusal::NothingToUndo,
+            LineFault::NothingToRedo => Refusal::NothingToRedo,
+            LineFault::Memory => Refusal::Memory,
+        }
+    }
+}
+
+impl From<BundleFault> for Refusal {
+    ghost use Rattle.std.specs.Prelude.{◌≡◌};
+    ghost use Rattle.rc_model.specs.Session.{of_bundle};
+
+    ghost from_gives = { λ fault refusal. refusal ≡ of_bundle fault };
+
+    fn from(fault: BundleFault) -> Refusal {
+        match fault {
+            BundleFault::IsAtomic(place) => Refusal::IsAtomic(place),
+            BundleFault::Exists => Refusal::Exists,
+            BundleFault::Missing(place) => Refusal::Missing(place),
+            BundleFault::Unknown(place) => Refusal::Unknown(place),
+            BundleFault::Memory => Refusal::Memory,
+            BundleFault::Full => Refusal::Full,
+        }
+    }
+}

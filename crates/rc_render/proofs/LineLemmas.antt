@@ -1,0 +1,32 @@
+use Rattle.std.proofs.Common.{◌≡◌, ◌∙◌, ℕ, ◌+◌, ◌<◌, List, [], ◌∷◌, ◌++◌, Some, length, take, slice_get, slice_index_or, get_or, All, ap, sym}
+use Rattle.std.proofs.lemmas.Grind.{flat_map-append}
+use Rattle.std.proofs.lemmas.List.{append-nil, map-append, take_more}
+use Rattle.std.proofs.lemmas.List.Elements.{Contains-get_or}
+use Rattle.std.proofs.lemmas.Option.{slice_get_within, slice_get-get_or}
+use Rattle.std.specs.List.{flat_map}
+use Rattle.rc_model.specs.Names.{Lists}
+use Rattle.rc_render.specs.Lines.{names_at}
+
+-- what stands at a place
+pub at_place : (names : List (List ℕ)) (s : ℕ) (name : List ℕ) → slice_get names s ≡ Some name → slice_index_or names s [] ≡ name
+at_place names s name at =
+    let within : s < length names = slice_get_within names s name at in
+    let read : Some (slice_index_or names s []) ≡ Some name = sym (slice_get-get_or names s [] within) ∙ at in
+    cc
+
+-- one more of the pieces that are joined
+pub one_more : {X : Type 0} (f : X → List ℕ) (before : List X) (x : X) → flat_map f (before ++ x ∷ []) ≡ flat_map f before ++ f x
+one_more f before x = flat_map-append f before (x ∷ []) ∙ ap (λ (n : List ℕ). flat_map f before ++ n) (append-nil (f x))
+
+-- one more name of ids
+pub one_more_id : (f : List ℕ → List ℕ) (names : List (List ℕ)) (ids : List ℕ) (i : ℕ) (name : List ℕ) → i < length ids → slice_get names (get_or ids i 0) ≡ Some name
+    → flat_map f (names_at names (take (i + 1) ids)) ≡ flat_map f (names_at names (take i ids)) ++ f name
+one_more_id f names ids i name within at =
+    ap (λ xs. flat_map f (names_at names xs)) (take_more ids i 0 within)
+    ∙ (ap (flat_map f) (map-append (λ id. slice_index_or names id []) (take i ids) (get_or ids i 0 ∷ []))
+    ∙ (one_more f (names_at names (take i ids)) (slice_index_or names (get_or ids i 0) [])
+    ∙ ap (λ (n : List ℕ). flat_map f (names_at names (take i ids)) ++ f n) (at_place names (get_or ids i 0) name at)))
+
+-- listed ids are below a bound of what is listed
+pub listed_below : (P : ℕ → Type 0) (bound : ℕ) (ids : List ℕ) → Lists P ids → ((s : ℕ) → P s → s < bound) → All (λ id. id < bound) ids
+listed_below P bound ids lists below k d within = below _ ((lists.same _).0 (Contains-get_or ids k d within))
