@@ -130,7 +130,24 @@ timeless() {
     mv "$1.timeless" "$1"
 }
 
-# preloads NAME: makes the library tests/NAME.c, which `numbered` puts before the C library.
+# works_in NAME: goes into an empty folder, in memory where that is to be had: thousands of files are made there.
+# `worked_in` leaves it and removes it.
+works_in() {
+    work=$room/$1
+    if [ -w /dev/shm ]; then
+        work=$(mktemp -d -p /dev/shm)
+        trap 'rm -rf "$room" "$work"' EXIT
+    else
+        mkdir "$work"
+    fi
+    cd "$work"
+}
+worked_in() {
+    cd "$room"
+    rm -rf "$work"
+}
+
+# preloads NAME: makes the library tests/NAME.c, which `refusing` puts before the C library.
 preloads() {
     preload=$room/$1.so
     if ! "${CC:-cc}" -shared -fPIC -o "$preload" "$here/$1.c" -ldl > made 2>&1; then
@@ -138,55 +155,37 @@ preloads() {
         echo "FAILED: tests/$1.c was not made:"
         cat made
     fi
+    # What `python3` stands for may be a script, which takes longer than what is run.
+    python=$(python3 -c 'import sys; print(sys.executable)')
 }
 
-# numbered WORDS..: the run `number` of several, on the file `in`. With `file` it is a session that is
-# kept in a file of its own, behind a link where `file` is that word. The text `kept` stands there, or
-# nothing where that is empty.
-numbered() {
-    [ -z "$file" ] || set -- "$@" -l "live.$number"
-    [ "$file" != link ] || ln -s "place.$number" "live.$number"
-    [ -z "$kept" ] || printf '%s\n' "$kept" > "live.$number"
-    echo 0 > "status.$number"
-    LOG="log.$number" LD_PRELOAD="$preload" \
-        "$program" "$@" < in > "out.$number" 2> "err.$number" || echo $? > "status.$number"
+# refusing NAME=VALUE.. -- WORDS..: what tests/refusals.py says of runs in each of which something is refused.
+refusing() {
+    "$python" -BES "$here/refusals.py" "program=$program" "preload=$preload" "$@"
 }
 
-# ended LEAST OPTIONS..: what tests/ended.awk says of the numbered runs, of which there are LEAST at
-# least; what they left beside the files of their sessions, and which links are none any more.
-ended() {
-    [ "$number" -ge "$1" ] || echo "only $number runs"
-    shift
-    unstarted=$(grep -ls ': not started$' err.*) || true
-    for told in $unstarted; do
-        key=$(sed -n 's/^undorc: .* s  \(.*\) \(.\): not started$/\1:\2/p' "$told" | sort -t : -k 2 | tr '\n' ,)
-        [ -e "whole.${key%,}" ] || expects "${key%,}"
-    done
-    awk -v "runs=$number" "$@" -f "$here/ended.awk"
-    find . -name '*.new'
-    [ "$file" != link ] || find . -name 'live.*' ! -name '*.lock' ! -type l
-    find . ! -name . -prune \( -name '*.new' -o -name '[eosl]*.[0-9]*' -o -name 'place.*' \) -exec rm -f {} +
+# all_end ENDS WHAT NAME=VALUE.. -- WORDS..: the same, judged: none is to be wrong, and ENDS are the lines of how
+# they end.
+all_end() {
+    wants "$1" ''
+    what=$2
+    shift 2
+    echo 0 > status
+    refusing "$@" > said 2> err || echo $? > status
+    sort -u said > out
+    judge "$what" 0
 }
 
-# begins_at WORDS..: numbered sessions go on with what the session of these words keeps, from nothing and
-# on the lines `in`.
+# begins_at WORDS..: sessions of such runs go on with what the session of these words keeps, from nothing and on
+# the lines `in`.
 begins_at() {
     "$program" "$@" -l text.none.0 < in > out
-    kept=$(cat text.none.0)
 }
 
-# expects KEY: what numbered sessions on the database `base` are to come to, where the transitions KEY
-# can't be started: the answers to the lines `in`, and the file after each line.
+# expects KEY: what they are to come to, where the transitions KEY can't be started: the answers to the lines
+# `in`, and the file after each line.
 expects() {
-    many=0
-    cp text.none.0 live
-    [ "$1" = none ] || cp live "text.$1.0"
-    while IFS= read -r line; do
-        many=$((many + 1))
-        printf '%s\n' "$line" | "$program" session -b base -x "$1" -l live || echo 'a wrong status'
-        cp live "text.$1.$many"
-    done < in > "whole.$1"
-    rm live
+    refusing "expects=$1" --
 }
 
 # three_scripts: the database `base` of the scripts a, b that needs a, and c, which note in the file of

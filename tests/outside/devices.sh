@@ -84,18 +84,14 @@ echo 0 > status
 fault 'a refusal where the output is full' 'undorc: Unknown nosuch\n' 1
 
 # Devices made for it: tests/devices.c says what their words mean.
-if ! "${CC:-cc}" -shared -fPIC -o devices.so "$here/devices.c" -ldl > made 2>&1; then
-    failed=$((failed + 1))
-    echo 'FAILED: the devices were not made:'
-    cat made
-fi
+preloads devices
 
 # over READS WRITES TELLS WORDS..: a run on the file `in`, whose streams are such devices.
 over() {
     reads=$1 writes=$2 tells=$3
     shift 3
     echo 0 > status
-    LD_PRELOAD="$room/devices.so" READS="$reads" WRITES="$writes" TELLS="$tells" \
+    LD_PRELOAD="$preload" READS="$reads" WRITES="$writes" TELLS="$tells" \
         "$program" "$@" < in > out 2> err || echo $? > status
 }
 
@@ -152,69 +148,27 @@ served() {
     over "$1" "$2" '' session -b base -x down:log -w 3
 }
 
-# same STATUS FAULT OUTPUT: counts the run before where it is not so.
-same() {
-    printf '%b' "$2" > err.wanted
-    firsts err > err.firsts
-    if [ "$ended" -ne "$1" ] || ! cmp -s err.firsts err.wanted || ! cmp -s out "$3"; then
-        unlike=$((unlike + 1))
-    fi
-}
-
 # Where a read fails or is always interrupted, each line that was whole by then is answered, and
-# nothing else.
+# nothing else. Where a write fails or is interrupted, a prefix of the answers is written, longer by a call
+# each time. With the database in front of the lines nothing is done where a read fails.
 cp some in
+cp whole whole.none
+: > text.none.0
 size=$(wc -c < some)
 for word in good cut; do
-    made=-1 ended=1
-    while [ "$ended" -ne 0 ] && [ "$made" -le "$size" ]; do
-        made=$((made + 1))
-        served "piece 7 $word $made" ''
-        read -r ended < status
-        [ "$ended" -ne 0 ] || break
-        same 111 'undorc: Read\n' "answers.$(head -c $((7 * made)) some | wc -l)"
-    done
-    same 0 '' whole
-    [ "$made" -eq $(((size + 6) / 7 + 1)) ] || unlike=$((unlike + 1))
-done
-
-# Where a write fails or is interrupted, a prefix of the answers is written, longer by a call each
-# time.
-for word in good cut; do
-    made=-1 ended=1 before=-1
-    while [ "$ended" -ne 0 ] && [ "$made" -le "$(wc -c < whole)" ]; do
-        made=$((made + 1))
-        served '' "piece 16 $word $made"
-        read -r ended < status
-        [ "$ended" -ne 0 ] || break
-        written=$(wc -c < out)
-        head -c "$written" whole > front
-        same 111 'undorc: Write\n' front
-        if [ "$written" -le "$before" ] || [ "$written" -gt $((16 * made)) ]; then
-            unlike=$((unlike + 1))
-        fi
-        before=$written
-    done
-    same 0 '' whole
-done
-
-# With the database in front of the lines nothing is done where a read fails.
+    refusing device=READS "does=piece 7 $word" "runs=$(((size + 6) / 7 + 5))" faults=Read read=7 \
+        -- session -b base -x down:log -w 3
+    refusing device=WRITES "does=piece 16 $word" "least=$(($(wc -c < whole) / 16))" faults=Write written=16 \
+        -- session -b base -x down:log -w 3
+done > said
 cat base some > in
-: > nothing
-made=-1 ended=1
-while [ "$ended" -ne 0 ] && [ "$made" -le "$size" ]; do
-    made=$((made + 1))
-    over "piece 64 good $made" '' '' session -x down:log
-    read -r ended < status
-    [ "$ended" -ne 0 ] || break
-    same 111 'undorc: Read\n' nothing
-done
-same 0 '' whole
-: > out
+refusing device=READS 'does=piece 64 good' least=20 faults=Read alone -- session -x down:log >> said
+sort -u said > out
 : > err
-wants '' ''
 echo "$unlike" > status
-judge 'sessions over devices that fail (the status is the number of those that end otherwise)' 0
+wants '0\n111 undorc: Read\n111 undorc: Write\n' ''
+judge 'sessions over devices that fail' 0
+: > nothing
 
 # sessions STATUS OUTPUT FAULT READS WRITES: a session on these lines over such devices.
 sessions() {
@@ -245,6 +199,15 @@ for workers in 1 2 3 64; do
     done
 done
 
+# same STATUS FAULT OUTPUT: counts the run before where it is not so.
+same() {
+    printf '%b' "$2" > err.wanted
+    firsts err > err.firsts
+    if [ "$ended" -ne "$1" ] || ! cmp -s err.firsts err.wanted || ! cmp -s out "$3"; then
+        unlike=$((unlike + 1))
+    fi
+}
+
 # failing WORDS..: one after another each call fails by which files are read, and none before or
 # after it. Then nothing is written, and what is told is in `told`; or the run is the whole one, as
 # where a listing fails that only spares calls.
@@ -255,7 +218,7 @@ failing() {
     while [ "$well" -lt 4 ] && [ "$made" -lt 500 ]; do
         made=$((made + 1))
         echo 0 > status
-        LD_PRELOAD="$room/devices.so" FILES="once $made" \
+        LD_PRELOAD="$preload" FILES="once $made" \
             "$program" "$@" < in > out 2> err || echo $? > status
         read -r ended < status
         if [ "$ended" -eq 0 ]; then

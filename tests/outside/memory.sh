@@ -1,55 +1,22 @@
 # Memory that is refused, growth after growth, and threads that can't be started. tests/program.sh
 # reads this file; tests/refuse.c refuses.
-mkdir memory
-cd memory
+works_in memory
 printf '%b' "$sample" > base
 preloads refuse
-export GROWTH=0 GROWTHS=0 THREAD=0 ARMED=0 COUNTS=counts
-file='' kept=''
-# Growths before this one are those of another command, too, and are left out.
+# How many growths at the front are those of another command, too, and are left out.
 from=0
+file=''
+export ARMED=0
 
-# lacking WORDS..: a numbered run, without the growth, growths or thread of these variables, which comes
-# to `grown` growths and `started` threads.
-lacking() {
-    : > counts
-    numbered "$@"
-    grown=0 started=0
-    read -r grown started < counts || echo 'no counts' >> "err.$number"
-}
-
-# each LOOKS WORDS..: one growth after the other is refused, alone and then with all that follow, until a
-# run comes to no such growth. LOOKS tells what is wrong with the runs of each way, and how they ended.
+# each LEAST ENDS OPTIONS WORDS..: one growth after the other is refused, alone and then with all that follow, until
+# a run comes to no such growth: LEAST runs of each way at least. ENDS are the lines of how they end. OPTIONS are
+# words for tests/refusals.py.
 each() {
-    looks=$1
-    shift
-    for way in GROWTH GROWTHS; do
-        number=0 grown=$((from + 1))
-        while [ "$((from + number))" -le "$grown" ] && [ "$number" -lt 5000 ]; do
-            number=$((number + 1))
-            eval "$way=$((from + number))"
-            lacking "$@"
-        done
-        eval "$way=0"
-        $looks
-    done > said
-    sort -u said > out
-    : > err
-    echo 0 > status
-    wants "$ends" ''
-    judge "undorc $*, with each growth refused" 0
-}
-
-# sweep LEAST ENDS OPTIONS WORDS..: the same of runs that tests/ended.awk looks at with these options. ENDS
-# are the lines of how they end.
-sweep() {
     least=$1 ends=$2 options=$3
     shift 3
-    each as_whole "$@"
-}
-as_whole() {
     # shellcheck disable=SC2086
-    ended "$least" -v faults=Memory,NoThread $options
+    all_end "$ends" "undorc $*, with each growth refused" ways=GROWTH,GROWTHS "from=$from" "least=$least" \
+        faults=Memory,NoThread "file=$file" $options -- "$@"
 }
 
 # Commands that answer at once: where memory is refused nothing is written.
@@ -57,7 +24,7 @@ memory='111 undorc: Memory\n'
 ample='0\n'
 at_once() {
     "$program" "$@" < in > whole.none
-    sweep $((from > 0 ? 20 : 150)) "$ample$memory" '-v alone=1' "$@"
+    each $((from > 0 ? 20 : 150)) "$ample$memory" alone "$@"
 }
 : > in
 at_once compile "$samples/source"
@@ -82,50 +49,35 @@ from=0
 printf '%s\n' 'change log' 'take 1 log' 'done 1 log ok' 'change net' 'take 1 root' 'add both log' undo > in
 at_once replay -b base
 
-# Commands that are refused. Of the lines that help behind the first one some may be missing; where one
-# growth alone is refused only the first one is looked at.
+# What is live fills a picture; its file is only read.
+echo 'change web' > in
+begins_at session -b base -x none
+: > in
+"$program" db -b base -l text.none.0 dot > whole.none
+from=220 file=file
+each 20 "$ample$memory" 'alone kept' db -b base dot
+
+# A database for a file, which has the old text or the new one, and files that are not looked at.
+mkdir -p tree/a
+echo oneshot > tree/a/type
+echo true > tree/a/up
+: > tree/a/nothing
+from=0
+"$program" compile -v tree > text.none.1 2> whole.err
+: > whole.none
+cp text.none.1 text.none.0.then
+echo older > text.none.0
+each 150 "$ample$memory" 'alone kept notes keeps=-o' compile -v tree
+file=''
+rm -r tree text.*
+
+# Commands that are refused. Of the lines that help behind the first one some may be missing.
 at_fault() {
     status=0
     "$program" "$@" < in > whole.none 2> whole.err || status=$?
-    ends="$status\n$memory"
-    each as_refused "$@"
+    each 10 "$status\n$memory" "told=$status lanes=$lanes" "$@"
 }
-as_refused() {
-    [ "$number" -ge 10 ] || echo "only $number runs"
-    awk -v "runs=$number" -v "wanted=$status" -v "way=$way" '
-        function text_of(file,  text) {
-            text = ""
-            getline text < file
-            close(file)
-            return text
-        }
-        # Whether a run was told the first of these lines, and some of the others.
-        function is_told(told,  many, lines, i, count, parts) {
-            many = split(whole, lines, "\n")
-            count = split(told, parts, "\n")
-            if (parts[1] != lines[1] || parts[count] != "") return 0
-            if (way == "GROWTH") return 1
-            for (i = place = 1; i < count; i++) {
-                while (place < many && lines[place] != parts[i]) place++
-                if (place++ >= many) return 0
-            }
-            return 1
-        }
-        BEGIN {
-            RS = "\001"
-            whole = text_of("whole.err")
-            for (n = 1; n <= runs; n++) {
-                ended = text_of("status." n) + 0
-                told = text_of("err." n)
-                if (ended == 111 && told == "undorc: Memory\n") how["111 undorc: Memory"]
-                else if (ended == wanted && is_told(told)) how[ended]
-                else print n ": status " ended ", told: " told
-                if (text_of("out." n) != "") print n ": something was written"
-            }
-            for (end in how) print end
-        }'
-    rm -f out.* err.* status.*
-}
+lanes=4
 : > in
 # entry NAME TYPE FILE WORDS..: a definition in the folder `tree`
 entry() {
@@ -163,7 +115,9 @@ printf '%s\n' 'change log' 'takes 1 log' > in
 at_fault replay -b base
 at_fault session -b base -x up:logs
 printf '%s\n' 'undorc-live 1' 'states 2' > live
+lanes=1
 at_fault session -b base -l live
+lanes=4
 rm live bad
 from=120
 at_fault plan -u -d site
@@ -179,7 +133,7 @@ printf '%s\n' 'change both nosuch' '-t 9 redo' '-da dry log' 'add site log' 'del
     undo 'add more net' 'delete more site' '-d change net' live bundles journal > in
 expects none
 ARMED=1 file=link
-sweep 200 "$ample$memory$no_thread" '-v answers=1 -v kept=1' session -b base -w 2 -x none
+each 200 "$ample$memory$no_thread" 'answers kept' session -b base -w 2 -x none
 
 # Scripts. One for whose start there is no memory is told as not started, and all that goes on is as
 # where it fails in another way. Else no script of a line runs that is refused as out of memory
@@ -191,36 +145,29 @@ begins_at session -b base
 printf '%s\n' 'change b c' undo > in
 expects none
 file='file'
-sweep 150 "$ample$memory$no_thread" '-v answers=1 -v scripts=1 -v kept=1' session -b base -v -w 2
+each 150 "$ample$memory$no_thread" 'answers scripts kept' session -b base -v -w 2
 
 # A session that is not there yet: where its file could not be made nothing is answered.
 printf '%s\n' 'add both a c' 'delete both' > in
 expects none
-kept='' ARMED=0
-sweep 200 "$ample$memory" '-v answers=1 -v kept=1 -v fresh=1' session -b base
+ARMED=0
+each 200 "$ample$memory" 'answers kept fresh' session -b base
 
 # Each start of a thread is refused. Nothing of the change was moved then, whatever was started before.
 # Of the workers, of whom no more work than the three services that move, one is no thread of its own.
 printf '%s\n' 'change b c' undo > in
 expects none
-kept=$(cat text.none.0)
 for workers in 1 2 3 4; do
     threads=$((workers < 3 ? workers - 1 : 2))
-    number=0 started=1
-    while [ "$number" -le "$started" ] && [ "$number" -lt 100 ]; do
-        number=$((number + 1))
-        THREAD=$number
-        lacking session -b base -v -w "$workers"
-    done
-    THREAD=0
-    [ "$number" -eq $((2 * threads + 1)) ] || echo "$workers workers, and $number runs"
-    ended 1 -v faults=NoThread -v answers=1 -v scripts=1 -v kept=1
+    refusing ways=THREAD "runs=$((2 * threads + 1))" faults=NoThread file=file answers scripts kept \
+        -- session -b base -v -w "$workers"
 done > said
 sort -u said > out
 : > err
 echo 0 > status
 wants "$ample$no_thread" ''
 judge 'a session of scripts, with each start of a thread refused' 0
+
 # One-shot commands on a file: as a session of the one line, or, of those that only show something and
 # have no line, as what they write where nothing is refused, with the file left alone.
 one_shot() {
@@ -233,7 +180,7 @@ one_shot() {
         "$program" "$@" -b base -l text.none.0 > whole.none
         cp text.none.0 text.none.1
     fi
-    sweep $((from > 0 ? 20 : 100)) "$ample$memory" '-v answers=1 -v kept=1' "$@" -b base
+    each $((from > 0 ? 20 : 100)) "$ample$memory" 'answers kept' "$@" -b base
 }
 rm text.* whole.*
 printf '%s\n' 'change a c' 'change b' undo > in
@@ -251,56 +198,45 @@ one_shot '' live
 # What starts scripts is made before the first line of a session is read.
 echo 'change b' > in
 expects none
-sweep 20 "$ample$memory" '-v answers=1 -v kept=1 -v scripts=1' session -b base -v -w 1
+each 20 "$ample$memory" 'answers kept scripts' session -b base -v -w 1
 
 # An update that lowers a service and raises it again. On file is one of the texts in turn: that before, by
 # the old database without the service, by the new one without it, and with it.
-as_update() {
-    awk -v "runs=$number" '
-        function text_of(file,  text) {
-            text = ""
-            getline text < file
-            close(file)
-            return text
-        }
-        BEGIN {
-            RS = "\001"
-            split("1 3 3", last, " ")
-            for (n = 1; n <= runs; n++) {
-                out = text_of("out." n)
-                answers = gsub(/(^|\n)ok\n/, "", out)
-                live = text_of("live." n)
-                for (i = answers > 1 ? 3 : answers; i <= last[answers + 1]; i++)
-                    if (live == text_of("text.none." i)) break
-                if (i > last[answers + 1]) print n ": another file"
-            }
-        }'
-    ended 200 -v faults=Memory -v answers=1
-}
 rm text.* whole.*
 sed 's/^service b oneshot plain 0 0/service b oneshot plain 900 0/' base > new
 : > in
-for at in 0 1 2 3; do
-    [ "$at" -eq 0 ] || cp text.none.0 live
+for at in 0 1 1.then 2; do
+    [ "$at" = 0 ] || cp text.none.0 live
     case $at in
         0) "$program" change a b c -b base -x none -l live ;;
         1) "$program" change -D b -b base -x none -l live ;;
-        2) "$program" update -b base -B new -x up:b -l live || [ $? -eq 2 ] ;;
-        3) "$program" update -b base -B new -x none -l live > whole.none ;;
+        1.then) "$program" update -b base -B new -x up:b -l live || [ $? -eq 2 ] ;;
+        2) "$program" update -b base -B new -x none -l live > whole.none ;;
     esac > made
     cp live "text.none.$at"
 done
 rm live
-kept=$(cat text.none.0)
-ends="$ample$memory"
-each as_update update -b base -B new -x none
+each 200 "$ample$memory" 'answers kept' update -b base -B new -x none
+
+# The same by scripts. Where the one that lowers can't be started nothing is done by the new database.
+for key in down:b up:b; do
+    cp text.none.0 live
+    "$program" update -b base -B new -x "$key" -l live > "whole.$key" || echo $? > "status.$key"
+    cp text.none.0 "text.$key.0"
+    mv live "text.$key.1"
+done
+mv text.up:b.1 text.up:b.2
+cp text.none.1 text.up:b.1
+cp text.none.1.then text.up:b.1.then
+from=150
+each 100 "$ample${memory}2\\n" 'answers kept scripts' update -b base -B new -v
 
 # Where it is only shown the file is left alone.
-for at in 1 2 3; do cp text.none.0 "text.none.$at"; done
+rm text.none.*.then
+for at in 1 2; do cp text.none.0 "text.none.$at"; done
 cp text.none.0 live
 "$program" update -b base -B new -l live -n > whole.none
-sweep 20 "$ample$memory" '-v answers=1 -v kept=1' update -b base -B new -n
+each 20 "$ample$memory" 'answers kept' update -b base -B new -n
 from=0
-unset GROWTH GROWTHS THREAD ARMED COUNTS
-cd ..
-rm -r memory
+unset ARMED
+worked_in
