@@ -1,6 +1,6 @@
 # Completion against the program and the sample: what is offered in bash without a terminal, in fish
-# where it is there, and for zsh which options the text has. tests/pages.sh reads this file: `own`,
-# `commands`, `options` and `queries` are what the program has.
+# where it is there, and what zsh, where it is there, hands to its own functions. tests/pages.sh reads
+# this file: `own`, `commands`, `options` and `queries` are what the program has.
 printf '%b' "$sample" > base
 {
     printf 'undorc-db 1\nservices 3\n'
@@ -19,13 +19,26 @@ _undorc
 [[ ${#COMPREPLY[@]} -eq 0 ]] || printf '%s\n' "${COMPREPLY[@]}"
 END
 printf 'source $argv[1]\ncomplete -C $argv[2]\n' > ask.fish
+cat > ask.zsh <<'END'
+# What is handed to `_arguments` for a command, and to `_describe` with none, one a line.
+words=(undorc $2)
+_call_program() { shift; eval "$*" }
+_describe() { print -rl -- ${(P)4} }
+_arguments() {
+    [[ $1 != -C || $state == words ]] || { state=${asked:+words}; state=${state:-command}; words=($asked); return 1 }
+    print -rl -- "$@"
+}
+asked=$2
+. $1
+END
 breaks=
+path=$room/bin:$PATH
 
 # offered SHELL LINE: what is offered after a line, one a line, in `found`.
 offered() {
     (
         cd empty
-        PATH=$room/bin:$PATH HOME=$room
+        PATH=$path HOME=$room
         export PATH HOME
         case $1 in
             bash) bash --norc --noprofile ../ask.bash "$contrib/undorc.bash" "$2" "$breaks" ;;
@@ -83,38 +96,30 @@ for shell in $shells; do
     done < options
 done
 
-# The text for zsh: lists of options that have names, and of each command its lists and options.
-awk '
-    function adds(text,  at) {
-        while (match(text, /\047(\([^)]*\))?-[A-Za-z]\+?\[/)) {
-            at = substr(text, RSTART, RLENGTH)
-            text = substr(text, RSTART + RLENGTH)
-            sub(/^\047(\([^)]*\))?/, "", at)
-            has = has " " (at ~ /\+/ ? substr(at, 1, 2) "=" : substr(at, 1, 2))
-        }
-    }
-    /^    [a-z]+=\(/ { list = $1; sub(/=.*/, "", list) }
-    list != "" { has = ""; adds($0); lists[list] = lists[list] has }
-    /\)$/ && list != "" { list = "" }
-    /^    case \$command in/ { cases = 1; next }
-    /^    esac/ { cases = 0 }
-    cases && /^        [a-z |]+\)/ { names = $0; sub(/\).*/, "", names); gsub(/[ |]+/, " ", names) }
-    cases {
-        has = ""
-        adds($0)
-        for (each_list in lists) if (index($0 " ", "$" each_list " ")) has = has lists[each_list]
-        many = split(names, each, " ")
-        count = split(has, found, " ")
-        for (i = 1; i <= many; i++) for (j = 1; j <= count; j++) print each[i], found[j]
-    }' "$contrib/_undorc" > found
-cp options wanted
-equals 'zsh, the options'
-sed -n "s/^        '\([a-z]*\):.*'$/\1/p" "$contrib/_undorc" > found
-cp commands wanted
-equals 'zsh, the commands'
-sed -n "s/^    queries+*='\(.*\)'$/\1/p" "$contrib/_undorc" | tr ' ' '\n' | grep . > found
-cp queries wanted
-equals 'zsh, the queries'
+# asks COMMAND: what zsh hands to its own functions for a command, in `handed`.
+asks() {
+    PATH=$path zsh -f ask.zsh "$contrib/_undorc" "$@" > handed 2>&1 < /dev/null || true
+}
+
+if command -v zsh > /dev/null; then
+    asks
+    cp commands wanted
+    sed 's/:.*//' handed > found
+    equals 'zsh, the commands'
+    while read -r command; do
+        asks "$command"
+        sed -n -e 's/^\(([^)]*)\)*\(-[A-Za-z]\)+\[.*/\2=/p' -e 's/^\(([^)]*)\)*\(-[A-Za-z]\)\[.*/\2/p' \
+            handed | grep -v -x -e -h | sed "s/^/$command /"
+    done < own > found
+    cp options wanted
+    equals 'zsh, the options'
+    asks db
+    sed -n 's/^1:query:(\(.*\))$/\1/p' handed | tr ' ' '\n' > found
+    cp queries wanted
+    equals 'zsh, the queries'
+else
+    echo 'skipped: completion in zsh, which is missing (the package zsh)'
+fi
 
 echo 'names'
 UNDORC_DB=$room/base

@@ -1,6 +1,7 @@
 # shellcheck shell=bash
-# Completion of undorc for bash, which reads it by `.`; it needs no other package. Names are those of
-# the database that -b or UNDORC_DB names.
+# Completion of undorc for bash, which reads it by `.`; it needs no other package. Commands, options
+# and queries are those that the program's help has, names those of the database that -b or
+# UNDORC_DB names.
 
 # Splits the line up to the cursor as the shell does, without expanding anything: the array `words`,
 # of which the last is the one that is completed, and `quote`, the quote that is open there.
@@ -26,29 +27,32 @@ _undorc_split() {
     words+=("$word")
 }
 
-# The options of a command.
-_undorc_options() {
-    local making='-w -x -r -c -T -v'
-    case $1 in
-        compile) echo -o -v ;;
-        db) echo -b -d -l ;;
-        plan) echo -b -u -d -D -p -a ;;
-        replay) echo -b ;;
-        session) echo "-b -l -W -n $making" ;;
-        change) echo "-b -l -W -t -n -u -d -D -p -a $making" ;;
-        undo | redo) echo "-b -l -W -t -n $making" ;;
-        update) echo "-b -B -l -W -n $making" ;;
-        live | journal) echo -b -l -W ;;
-    esac
+# Runs the program of the line with these words.
+_undorc_run() {
+    local program=${words[0]}
+    # shellcheck disable=SC2088
+    [[ $program != '~/'* ]] || program=$HOME/${program#'~/'}
+    command "$program" "$@" < /dev/null
 }
 
-# Whether an option of a command has a value.
-_undorc_has_value() {
-    case $1$2 in
-        session-n) return 0 ;;
-        *-[bBlorcxTtw]) return 0 ;;
-    esac
-    return 1
+# Reads what the help of a command has: its options into `options`, what a value of each is called
+# into `values`, and the queries, which `db` alone has, into `queries`.
+_undorc_read() {
+    local line flag='^  (-[[:alpha:]])  ' value='^  (-[[:alpha:]]) <([A-Z]+)>'
+    options=() values=() queries=()
+    while IFS= read -r line; do
+        if [[ $line =~ $value ]]; then
+            options+=("${BASH_REMATCH[1]}")
+            values[${BASH_REMATCH[1]}]=${BASH_REMATCH[2]}
+        elif [[ $line =~ $flag ]]; then
+            options+=("${BASH_REMATCH[1]}")
+        elif [[ $line == *'<QUERY>'*': '* ]]; then
+            line=${line##*: }
+            line=${line//,/ }
+            read -ra queries <<< "${line/ or / }"
+        fi
+    done < <(_undorc_run "$1" -h 2>&1)
+    options+=(-h --help)
 }
 
 # The names of a kind, as `undorc db list` has them.
@@ -62,7 +66,7 @@ _undorc_names() {
     done
     # shellcheck disable=SC2088
     [[ $base != '~/'* ]] || base=$HOME/${base#'~/'}
-    [[ ! $base ]] || command "${words[0]}" db -b "$base" list "$1" 2> /dev/null < /dev/null
+    [[ ! $base ]] || _undorc_run db -b "$base" list "$1" 2> /dev/null
 }
 
 # Puts into `quoted` how a word is to stand on the line.
@@ -84,16 +88,16 @@ _undorc_offer() {
     done
 }
 
-# The words that may stand behind a query.
+# The words that may stand behind a query: any name, where it is none of these.
 _undorc_query_words() {
     case $1 in
+        check | dot) ;;
         list) printf '%s\n' all services oneshots longruns bundles ;;
-        type) _undorc_names all ;;
         timeout | flags) _undorc_names services ;;
         contents) _undorc_names bundles ;;
         pipeline) _undorc_names longruns ;;
         script) _undorc_names oneshots ;;
-        atomics | dependencies | all-dependencies) _undorc_names all ;;
+        *) _undorc_names all ;;
     esac
 }
 
@@ -114,22 +118,27 @@ _undorc_failing() {
 
 # Offers the value of an option.
 _undorc_value() {
-    case $1 in
-        -b | -B | -l | -o)
+    case ${values[$1]}$1 in
+        FILE*)
             compopt -o filenames 2> /dev/null
             mapfile -t COMPREPLY < <(compgen -f -- "${words[-1]}")
             ;;
-        -c | -r) mapfile -t COMPREPLY < <(compgen -c -- "${words[-1]}") ;;
-        -x) _undorc_failing ;;
-        -w) _undorc_offer < <(printf '%s\n' 1 2 4 8 16 32 64) ;;
+        TEXT*) mapfile -t COMPREPLY < <(compgen -c -- "${words[-1]}") ;;
+        LIST*) _undorc_failing ;;
+        N-w) _undorc_offer < <(printf '%s\n' 1 2 4 8 16 32 64) ;;
     esac
+}
+
+# Whether a word is an option that has a value.
+_undorc_has_value() {
+    [[ $1 && ${values[$1]-} ]]
 }
 
 # Offers words that are no options.
 _undorc_words() {
     local command=$1 found=() i
     for ((i = 2; i < ${#words[@]} - 1; i++)); do
-        if _undorc_has_value "$command" "${words[i]}"; then
+        if _undorc_has_value "${words[i]}"; then
             i=$((i + 1))
         elif [[ ${words[i]} != -* ]]; then
             found+=("${words[i]}")
@@ -142,8 +151,7 @@ _undorc_words() {
             ;;
         db)
             if [[ ${#found[@]} -eq 0 ]]; then
-                _undorc_offer < <(printf '%s\n' check dot list type timeout flags contents pipeline \
-                    script atomics dependencies all-dependencies)
+                _undorc_offer < <(printf '%s\n' "${queries[@]}")
             else
                 case ${#found[@]}:${found[0]} in
                     1:* | *:atomics | *:dependencies | *:all-dependencies)
@@ -158,8 +166,7 @@ _undorc_words() {
 }
 
 _undorc_commands() {
-    _undorc_offer < <(printf '%s\n' compile db plan replay session change undo redo update live \
-        journal version help)
+    _undorc_offer < <(_undorc_run -h 2>&1 | sed -n '/^Commands:/,/^$/s/^  \([a-z][a-z]*\)  .*/\1/p')
 }
 
 # Takes from the front what bash does not count to the word: up to the last character at which it
@@ -178,7 +185,8 @@ _undorc_cut() {
 }
 
 _undorc() {
-    local words quote i
+    local words quote options queries
+    local -A values
     COMPREPLY=()
     _undorc_split "${COMP_LINE:0:COMP_POINT}"
     local count=${#words[@]} word=${words[-1]} command=${words[1]-}
@@ -188,14 +196,15 @@ _undorc() {
         else
             _undorc_commands
         fi
-    elif [[ $count -gt 3 ]] && _undorc_has_value "$command" "${words[count - 2]}"; then
-        _undorc_value "${words[count - 2]}"
-    elif [[ $word == -* ]]; then
-        local options
-        read -ra options <<< "$(_undorc_options "$command") -h --help"
-        _undorc_offer < <(printf '%s\n' "${options[@]}")
     else
-        _undorc_words "$command"
+        _undorc_read "$command"
+        if [[ $count -gt 3 ]] && _undorc_has_value "${words[count - 2]}"; then
+            _undorc_value "${words[count - 2]}"
+        elif [[ $word == -* ]]; then
+            _undorc_offer < <(printf '%s\n' "${options[@]}")
+        else
+            _undorc_words "$command"
+        fi
     fi
     _undorc_cut
 }

@@ -1,5 +1,5 @@
-# Completion of undorc for fish, which reads it by `source`. Names are those of the database that -b
-# or UNDORC_DB names.
+# Completion of undorc for fish, which reads it by `source`. Commands, options and queries are those
+# that the program's help has, names those of the database that -b or UNDORC_DB names.
 
 # Whether the command of the line is one of these; with none, whether there is no command yet.
 function __undorc_is
@@ -18,7 +18,7 @@ function __undorc_words
     for word in $words[3..-1]
         if set -q skip[1]
             set -e skip[1]
-        else if string match -q -r -- '^-[bBlorcxTtw]$' $word
+        else if contains -- $words[2]$word $__undorc_valued
             set skip yes
         else if not string match -q -- '-*' $word
             echo -- $word
@@ -41,22 +41,21 @@ function __undorc_names
     test -n "$base"; and command $words[1] db -b $base list $argv[1] 2>/dev/null </dev/null
 end
 
-# The words that may stand behind a query; the query itself where there is none yet.
+# The words that may stand behind a query, any name where it is none that is listed here; the query
+# itself where there is none yet.
 function __undorc_query
     set -l words (__undorc_words)
     switch "$words[1]"
         case ''
-            string split ' ' -- 'check dot list type timeout flags contents pipeline script atomics'
-            string split ' ' -- 'dependencies all-dependencies'
+            string split ' ' -- $__undorc_queries
         case atomics dependencies all-dependencies
             __undorc_names all
     end
     test (count $words) -eq 1; or return
     switch $words[1]
+        case check dot atomics dependencies all-dependencies
         case list
             string split ' ' -- 'all services oneshots longruns bundles'
-        case type
-            __undorc_names all
         case timeout flags
             __undorc_names services
         case contents
@@ -65,6 +64,8 @@ function __undorc_query
             __undorc_names longruns
         case script
             __undorc_names oneshots
+        case '*'
+            __undorc_names all
     end
 end
 
@@ -78,52 +79,53 @@ function __undorc_failing
     end
 end
 
+# Offers an option of a command, with what its value is called, if it has one.
+function __undorc_option -a command letter value about
+    set -l takes
+    switch "$value$letter"
+        case ''$letter
+        case 'FILE*'
+            set takes -r -F
+        case 'TEXT*'
+            set takes -x -a '(__fish_complete_command)'
+        case 'LIST*'
+            set takes -x -a '(__undorc_failing)'
+        case Nw
+            set takes -x -a '1 2 4 8 16 32 64'
+        case '*'
+            set takes -x
+    end
+    test -n "$value"; and set -g -a __undorc_valued $command-$letter
+    complete -c undorc -n "__undorc_is $command" -s $letter $takes -d $about
+end
+
+# Offers what the help of a command has.
+function __undorc_offer -a command
+    for line in (undorc $command -h 2>&1 </dev/null)
+        set -l option
+        if set option (string match -r -- '^  -([A-Za-z]) <([A-Z]+)> +(.*)$' $line)
+            __undorc_option $command $option[2] $option[3] $option[4]
+        else if set option (string match -r -- '^  -([A-Za-z])  +(.*)$' $line)
+            __undorc_option $command $option[2] '' $option[3]
+        else if set option (string match -r -- '<QUERY>.*: (.*)$' $line)
+            set -g __undorc_queries (string replace ' or ' ' ' -- (string replace -a ',' '' -- $option[2]))
+        end
+    end
+end
+
+# Offers what the help of the program has.
+function __undorc_offers
+    for line in (undorc -h 2>&1 </dev/null)
+        if set -l command (string match -r -- '^  ([a-z]+)  +(.*)$' $line)
+            complete -c undorc -n __undorc_is -a $command[2] -d $command[3]
+            test $command[2] = help; or __undorc_offer $command[2]
+        end
+    end
+end
+
 complete -c undorc -f
 complete -c undorc -s h -l help -d 'Print help'
-
-complete -c undorc -n __undorc_is -a compile -d 'Make the database that source directories define'
-complete -c undorc -n __undorc_is -a db -d 'Print the answer of a query about a database'
-complete -c undorc -n __undorc_is -a plan -d 'Print what a change would do'
-complete -c undorc -n __undorc_is -a replay -d 'Print what a script of commands and events comes to'
-complete -c undorc -n __undorc_is -a session -d 'Do what lines say, and answer them'
-complete -c undorc -n __undorc_is -a change -d 'Raise or lower services with all that this needs'
-complete -c undorc -n __undorc_is -a undo -d 'Take the last change back'
-complete -c undorc -n __undorc_is -a redo -d 'Make the change again that was undone last'
-complete -c undorc -n __undorc_is -a update -d 'Carry what is up over to another database'
-complete -c undorc -n __undorc_is -a live -d 'Print what is up'
-complete -c undorc -n __undorc_is -a journal -d 'Print what the changes did'
-complete -c undorc -n __undorc_is -a version -d 'Print the version'
-complete -c undorc -n __undorc_is -a help -d 'Print help'
-
-set -l based db plan replay session change undo redo update live journal
-set -l lived session change undo redo update live journal
-set -l makes session change undo redo update
-set -l once change undo redo
-set -l ways plan change
-
-complete -c undorc -n "__undorc_is $based" -s b -r -F -d 'Read the database from this file'
-complete -c undorc -n "__undorc_is $lived" -s l -r -F -d 'Go on with the session that this file holds'
-complete -c undorc -n "__undorc_is $lived" -s W -d 'Wait where another program holds the file of -l'
-complete -c undorc -n "__undorc_is $makes" -s w -x -a '1 2 4 8 16 32 64' -d 'Make so many transitions at once'
-complete -c undorc -n "__undorc_is $makes" -s x -x -a '(__undorc_failing)' -d 'Start nothing, and let these fail'
-complete -c undorc -n "__undorc_is $makes" -s r -x -a '(__fish_complete_command)' -d 'Start this program for a oneshot'
-complete -c undorc -n "__undorc_is $makes" -s c -x -a '(__fish_complete_command)' -d 'Start this program for a longrun'
-complete -c undorc -n "__undorc_is $makes" -s T -x -d 'Give services without a limit this one, in milliseconds'
-complete -c undorc -n "__undorc_is $makes" -s v -d 'Tell each transition'
-complete -c undorc -n "__undorc_is $once" -s t -x -d 'Begin nothing more behind so many milliseconds'
-complete -c undorc -n "__undorc_is $once" -s n -d 'Print what would be done, and move nothing'
-complete -c undorc -n "__undorc_is $ways" -s u -d 'Raise the names and all that they need'
-complete -c undorc -n "__undorc_is $ways" -s d -d 'Lower the names, but for what essential services hold up'
-complete -c undorc -n "__undorc_is $ways" -s D -d 'Lower the names, essential services too'
-complete -c undorc -n "__undorc_is $ways" -s p -d 'Lower what is not named'
-complete -c undorc -n "__undorc_is $ways" -s a -d 'Name all that is up, too'
+__undorc_offers
 complete -c undorc -n '__undorc_is plan change' -a '(__undorc_names all)' -d 'Name'
-complete -c undorc -n '__undorc_is compile' -s o -r -F -d 'Put the database into this file'
-complete -c undorc -n '__undorc_is compile' -s v -d 'Tell which files were not looked at'
 complete -c undorc -n '__undorc_is compile' -a '(__fish_complete_directories)' -d 'Source directory'
-complete -c undorc -n '__undorc_is db' -s d -d 'Ask for what needs the names, or for the way down'
-complete -c undorc -n '__undorc_is db' -s l -r -F -d 'With dot: fill what is up in this session'
 complete -c undorc -n '__undorc_is db' -a '(__undorc_query)'
-complete -c undorc -n '__undorc_is update' -s B -r -F -d 'Carry over to this database'
-complete -c undorc -n '__undorc_is update' -s n -d 'Print what would be done, and move nothing'
-complete -c undorc -n '__undorc_is session' -s n -x -d 'Keep so many states of a new session'
