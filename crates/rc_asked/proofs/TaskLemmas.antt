@@ -1,23 +1,20 @@
 -- What the words ask, by the matches that `clap` makes of them.
-use Rattle.std.proofs.Common.{◌≡◌, ◌≤◌, ◌∙◌, ℕ, arith, Bool, List, [], Option, None, Some, false, true, if◌then◌else◌, refl, ap, sym, subst, unwrap_or, codes}
+use Rattle.std.proofs.Common.{◌≡◌, ◌≤◌, ◌∙◌, ℕ, arith, Bool, List, [], IfSome, Option, None, Some, false, true, if◌then◌else◌, refl, ap, sym, subst, unwrap_or, codes}
 use Rattle.std.proofs.lemmas.Slice.Eq.{bytes_eq-Decides}
-use Rattle.std.specs.Option.{option_and_then}
 use Rattle.std.specs.Str.{bytes_eq}
 use Rattle.clap.specs.Matches.{first_value, found_of}
-use Rattle.clap.specs.Words.{Row, Text, fault_of, first_of, rows_of, subcommand_of}
+use Rattle.clap.specs.Words.{Row, Text, first_of, rows_of}
 use Rattle.clap.specs.declared.ArgMatches.{ArgMatches}
 use Rattle.clap.proofs.WalkLemmas.{first_value-rows}
 use Rattle.rc_model.specs.Plan.{Ask}
 use Rattle.rc_model.specs.Session.{Add, Change, Delete, Redo, Undo}
 use Rattle.rc_script.specs.Says.{SaysBundles, SaysDry, SaysJournal, SaysLive, SaysNothing, SaysStep, SaysWrong}
-use Rattle.rc_command.specs.Commands.{program}
-use Rattle.rc_command.specs.Words.{has_fault, rows_for, rows_named}
-use Rattle.rc_command.proofs.WordsLemmas.{rows_right, rows_wrong}
-use Rattle.rc_asked.specs.Asked.{ask_in, plan_asked}
-use Rattle.rc_asked.specs.DbAsked.{AsksIn, AsksNothing}
+use Rattle.rc_command.specs.Words.{rows_for, rows_named}
+use Rattle.rc_asked.specs.Asked.{ask_in}
+use Rattle.rc_asked.specs.DbAsked.{AsksIn}
 use Rattle.rc_asked.specs.OnceAsked.{AsksWhatIn, HasNoEvents, OnceAsk, OnceSaying, Said, WantsDryRedo, WantsDryUndo, once_command, once_saying_of}
 use Rattle.rc_asked.specs.Query.{DbAsk}
-use Rattle.rc_asked.specs.SessionAsked.{AsksNoSession, AsksSessionIn, IsBoundIn, IsCrewIn, SessionAsk}
+use Rattle.rc_asked.specs.SessionAsked.{AsksSessionIn, IsBoundIn, IsCrewIn, SessionAsk}
 use Rattle.rc_asked.specs.Task.{AsksEntered, AsksNamed, AsksNoTask, AsksTask, AsksTaskIn, HasBound, HasWorkers, IsEventless, OfCompile, OfDb, OfOnce, OfPlan, OfReplay, OfSession, OfUpdate, OfVersion, TaskAsk, command_of, file_in, task_ask_of}
 use Rattle.rc_asked.specs.UpdateAsked.{AsksUpdateIn, UpdateAsk}
 use Rattle.rc_asked.specs.declared.task.Task.{Task}
@@ -38,34 +35,20 @@ named_back : (name : Text) (entered : Option (Text × List Row)) (rows : List Ro
 named_back name None rows is = cc
 named_back name (Some e) rows is = named_by name e.0 e.1 rows (bytes_eq e.0 name) refl is
 
--- one command is entered, and no other
-other_named : (name other : Text) (entered : Option (Text × List Row)) (rows : List Row) → bytes_eq name other ≡ false → rows_named name entered ≡ Some rows → rows_named other entered ≡ None
-other_named name other entered rows apart is =
-    ap (rows_named other) (named_back name entered rows is) ∙ ap (λ (b : Bool). if b then Some rows else None) apart
-
-other_by : (wrong : Bool) (name other : Text) (entered : Option (Text × List Row)) (rows : List Row) → bytes_eq name other ≡ false
-    → (if wrong then None else rows_named name entered) ≡ Some rows → (if wrong then None else rows_named other entered) ≡ None
-other_by true name other entered rows apart is = refl
-other_by false name other entered rows apart is = other_named name other entered rows apart is
-
-other_rows : (name other : Text) (words : List Text) (rows : List Row) → bytes_eq name other ≡ false → rows_for name words ≡ Some rows → rows_for other words ≡ None
-unfolding rows_for
-other_rows name other words rows apart is = other_by (has_fault (fault_of program words)) name other (subcommand_of program words) rows apart is
-
-pub other_asked : (name : Text) (words : List Text) (task other : Task) → task ≡ other → bytes_eq (command_of (task_ask_of other)) name ≡ false → AsksTask words (task_ask_of task) → rows_for name words ≡ None
-other_asked name words task other is apart asks =
-    other_rows (command_of (task_ask_of task)) name words asks.0 (ap (λ (t : Task). bytes_eq (command_of (task_ask_of t)) name) is ∙ apart) asks.1
+-- what is said of the rows of a command is said of the same rows
+pub same_rows : (Says : List Row → Type 0) (found : Option (List Row)) (rows other : List Row) → found ≡ Some rows → found ≡ Some other → Says other → Says rows
+same_rows Says found rows other is too = subst (λ (o : Option (List Row)). IfSome o Says) (sym too ∙ is)
 
 -- what was entered asks what the words ask, where they have no fault
-pub entered_right : (words : List Text) (entered : Option (Text × List Row)) (ask : TaskAsk) → has_fault (fault_of program words) ≡ false → entered ≡ subcommand_of program words
+pub entered_right : (words : List Text) (entered : Option (Text × List Row)) (ask : TaskAsk) → ((name : Text) → rows_for name words ≡ rows_named name entered)
     → AsksEntered entered ask → AsksTask words ask
-entered_right words entered ask right is asks =
-    (asks.0, rows_right (command_of ask) words entered right is ∙ (ap (rows_named (command_of ask)) asks.1 ∙ named_self (command_of ask) asks.0), asks.2)
+entered_right words entered ask same asks =
+    (asks.0, same (command_of ask) ∙ (ap (rows_named (command_of ask)) asks.1 ∙ named_self (command_of ask) asks.0), asks.2)
 
-pub entered_back : (words : List Text) (entered : Option (Text × List Row)) (ask : TaskAsk) → has_fault (fault_of program words) ≡ false → entered ≡ subcommand_of program words
+pub entered_back : (words : List Text) (entered : Option (Text × List Row)) (ask : TaskAsk) → ((name : Text) → rows_for name words ≡ rows_named name entered)
     → AsksTask words ask → AsksEntered entered ask
-entered_back words entered ask right is asks =
-    (asks.0, named_back (command_of ask) entered asks.0 (sym (rows_right (command_of ask) words entered right is) ∙ asks.1), asks.2)
+entered_back words entered ask same asks =
+    (asks.0, named_back (command_of ask) entered asks.0 (sym (same (command_of ask)) ∙ asks.1), asks.2)
 
 -- a session that is asked has workers
 workers_in : (given : Option Text) (workers : ℕ) → IsCrewIn given workers → (1 ≤ workers) × (workers ≤ 64)
@@ -118,8 +101,8 @@ asked_eventless entered (task.Once request file) asks = what_no_events asks.0 (o
 asked_eventless entered other asks = tt
 
 -- a wrong line asks nothing
-pub wrong_asks : (words : List Text) → has_fault (fault_of program words) ≡ true → AsksNoTask words
-wrong_asks words wrong ask asks = let both : None ≡ Some asks.0 = sym (rows_wrong (command_of ask) words wrong) ∙ asks.1 in cc
+pub wrong_asks : (words : List Text) → ((name : Text) → rows_for name words ≡ None) → AsksNoTask words
+wrong_asks words wrong ask asks = let both : None ≡ Some asks.0 = sym (wrong (command_of ask)) ∙ asks.1 in cc
 
 -- what was entered asks what the matches of its name ask
 pub named_right : (name : Text) (rows : List Row) (entered : Option (Text × List Row)) (ask : TaskAsk) → Some (name, rows) ≡ entered → AsksNamed name rows ask → AsksEntered entered ask
@@ -157,25 +140,6 @@ once_apart name none change undo redo live journal (Said SaysBundles) is = apart
 once_apart name none change undo redo live journal (Said SaysJournal) is = apart name (codes "journal") journal is
 once_apart name none change undo redo live journal WantsDryUndo is = apart name (codes "undo") undo is
 once_apart name none change undo redo live journal WantsDryRedo is = apart name (codes "redo") redo is
-
--- a command of one line is none of the others
-pub once_other : (name : Text) → bytes_eq [] name ≡ false → bytes_eq (codes "change") name ≡ false
-    → bytes_eq (codes "undo") name ≡ false → bytes_eq (codes "redo") name ≡ false
-    → bytes_eq (codes "live") name ≡ false → bytes_eq (codes "journal") name ≡ false
-    → (what : OnceSaying) → bytes_eq (once_command what) name ≡ false
-once_other name none change undo redo live journal (Said SaysNothing) = none
-once_other name none change undo redo live journal (Said SaysWrong) = none
-once_other name none change undo redo live journal (Said (SaysStep (Change ask events))) = change
-once_other name none change undo redo live journal (Said (SaysStep (Undo limit events))) = undo
-once_other name none change undo redo live journal (Said (SaysStep (Redo limit events))) = redo
-once_other name none change undo redo live journal (Said (SaysStep (Add word contents force))) = none
-once_other name none change undo redo live journal (Said (SaysStep (Delete words force))) = none
-once_other name none change undo redo live journal (Said (SaysDry ask)) = change
-once_other name none change undo redo live journal (Said SaysLive) = live
-once_other name none change undo redo live journal (Said SaysBundles) = none
-once_other name none change undo redo live journal (Said SaysJournal) = journal
-once_other name none change undo redo live journal WantsDryUndo = undo
-once_other name none change undo redo live journal WantsDryRedo = redo
 
 -- matches that ask nothing of their command ask nothing
 pub db_none : (rows : List Row) → ((ask : DbAsk) → AsksIn rows ask → ⊥) → (ask : TaskAsk) → AsksNamed (codes "db") rows ask → ⊥
@@ -231,32 +195,3 @@ others_none name rows compile db plan replay session update version none (OfSess
 others_none name rows compile db plan replay session update version none (OfOnce ask file) asks = none ask file asks
 others_none name rows compile db plan replay session update version none (OfUpdate ask file) asks = update asks.0
 others_none name rows compile db plan replay session update version none OfVersion asks = version asks.0
-
--- what a task of another command says of a command
-pub plan_other : (words : List Text) (task other : Task) → task ≡ other → bytes_eq (command_of (task_ask_of other)) (codes "plan") ≡ false → AsksTask words (task_ask_of task) → plan_asked words ≡ None
-plan_other words task other is apart asks = ap (option_and_then ask_in) (other_asked (codes "plan") words task other is apart asks)
-
--- words that ask nothing ask nothing of a command
-ask_none : (words : List Text) (rows : List Row) (ask : Option Ask) → ask_in rows ≡ ask → rows_for (codes "plan") words ≡ Some rows → AsksNoTask words → ask ≡ None
-ask_none words rows None at is never = refl
-ask_none words rows (Some ask) at is never = absurd (never (OfPlan ask (file_in rows)) (rows, is, (at, refl)))
-
-rows_none : (words : List Text) (found : Option (List Row)) → rows_for (codes "plan") words ≡ found → AsksNoTask words → option_and_then ask_in found ≡ None
-rows_none words None is never = refl
-rows_none words (Some rows) is never = ask_none words rows (ask_in rows) refl is never
-
-pub no_plan : (words : List Text) → AsksNoTask words → plan_asked words ≡ None
-no_plan words never = rows_none words (rows_for (codes "plan") words) refl never
-
-replay_none : (words : List Text) (found : Option (List Row)) → rows_for (codes "replay") words ≡ found → AsksNoTask words → found ≡ None
-replay_none words None is never = refl
-replay_none words (Some rows) is never = absurd (never (OfReplay (file_in rows)) (rows, is, refl))
-
-pub no_replay : (words : List Text) → AsksNoTask words → rows_for (codes "replay") words ≡ None
-no_replay words never = replay_none words (rows_for (codes "replay") words) refl never
-
-pub no_db : (words : List Text) → AsksNoTask words → AsksNothing words
-no_db words never ask asks = never (OfDb ask (file_in asks.0)) (asks.0, asks.1, (asks.2, refl))
-
-pub no_session : (words : List Text) → AsksNoTask words → AsksNoSession words
-no_session words never ask asks = never (OfSession ask (file_in asks.0)) (asks.0, asks.1, (asks.2, refl))

@@ -6,7 +6,7 @@ ghost use Rattle.rc_asked.specs.Asked.{ask_in, mode_of, plan_asked};
 ghost use Rattle.rc_streams.specs.Input.{AppendsFront, failure_text, fault_line};
 ghost use Rattle.rc_asked.specs.declared.asked.WordsFault.TheVariants.{Memory};
 
-use crate::task::{Task, task_of};
+use crate::matched::{command_in, matches_in};
 use crate::texts::words_in;
 use clap::{ArgMatches, Error};
 use rc_command::is_on;
@@ -55,15 +55,18 @@ pub fn plan_asked(alloc: Global, words: &[String]) -> Result<Request, WordsFault
     ensures asked { IfOk result (λ request. plan_asked (map string_bytes words.now) ≡ Some (ask_of request)) }
     ensures wrong { IfErr result (λ fault. fault ≢ Memory → plan_asked (map string_bytes words.now) ≡ None) }
 {
-    match task_of(alloc, words) {
-        Ok(Task::Plan(request, _)) => Ok(request),
-        Ok(Task::Compile(_)) => Err(WordsFault::OtherCommand),
-        Ok(Task::Db(..)) => Err(WordsFault::OtherCommand),
-        Ok(Task::Replay(_)) => Err(WordsFault::OtherCommand),
-        Ok(Task::Session(..)) => Err(WordsFault::OtherCommand),
-        Ok(Task::Once(..)) => Err(WordsFault::OtherCommand),
-        Ok(Task::Update(..)) => Err(WordsFault::OtherCommand),
-        Ok(Task::Version) => Err(WordsFault::OtherCommand),
+    match matches_in(alloc, words) {
+        Ok(matches) => match command_in(&matches, "plan") {
+            Some(inner) => {
+                let asked = plan_in(alloc, inner);
+                drop(matches);
+                asked
+            }
+            None => {
+                drop(matches);
+                Err(WordsFault::OtherCommand)
+            }
+        },
         Err(fault) => Err(fault),
     }
 }

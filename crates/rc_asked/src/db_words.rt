@@ -10,8 +10,8 @@ ghost use Rattle.rc_asked.specs.declared.query.NamesQuery.{NamesQuery as OfMany}
 ghost use Rattle.rc_db.specs.declared.which.Which.{Which as Sort};
 
 use crate::asked::WordsFault;
+use crate::matched::{command_in, matches_in};
 use crate::query::{DbRequest, NameQuery, NamesQuery, Query};
-use crate::task::{Task, task_of};
 use crate::texts::strings_of;
 use clap::ArgMatches;
 use rc_command::is_on;
@@ -24,15 +24,18 @@ pub fn db_asked<'a>(alloc: Global, words: &'a [String]) -> Result<DbRequest<'a>,
     ensures asked { IfOk result (λ request. AsksDb (map string_bytes words.entry.now) (db_ask_of request)) }
     ensures wrong { IfErr result (λ fault. fault ≢ Memory → AsksNothing (map string_bytes words.entry.now)) }
 {
-    match task_of(alloc, words) {
-        Ok(Task::Db(request, _)) => Ok(request),
-        Ok(Task::Compile(_)) => Err(WordsFault::OtherCommand),
-        Ok(Task::Plan(..)) => Err(WordsFault::OtherCommand),
-        Ok(Task::Replay(_)) => Err(WordsFault::OtherCommand),
-        Ok(Task::Session(..)) => Err(WordsFault::OtherCommand),
-        Ok(Task::Once(..)) => Err(WordsFault::OtherCommand),
-        Ok(Task::Update(..)) => Err(WordsFault::OtherCommand),
-        Ok(Task::Version) => Err(WordsFault::OtherCommand),
+    match matches_in(alloc, words) {
+        Ok(matches) => match command_in(&matches, "db") {
+            Some(inner) => {
+                let asked = db_in(alloc, inner);
+                drop(matches);
+                asked
+            }
+            None => {
+                drop(matches);
+                Err(WordsFault::OtherCommand)
+            }
+        },
         Err(fault) => Err(fault),
     }
 }

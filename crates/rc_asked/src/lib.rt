@@ -5,6 +5,7 @@ mod asked;
 mod compile_words;
 mod db_words;
 mod limits;
+mod matched;
 mod once_words;
 mod program_words;
 mod query;

@@ -5,7 +5,7 @@ ghost use Rattle.rc_command.specs.Words.{rows_for};
 ghost use Rattle.rc_asked.specs.declared.asked.WordsFault.TheVariants.{Memory};
 
 use crate::asked::WordsFault;
-use crate::task::{Task, task_of};
+use crate::matched::{command_in, matches_in};
 use std::alloc::Global;
 
 /// Whether the words are those of `replay`. The first word is the program's own name.
@@ -13,15 +13,17 @@ pub fn replay_asked(alloc: Global, words: &[String]) -> Result<(), WordsFault>
     ensures asked { OnOk result (AsksReplay (map string_bytes words.now)) }
     ensures wrong { IfErr result (λ fault. fault ≢ Memory → rows_for (codes "replay") (map string_bytes words.now) ≡ None) }
 {
-    match task_of(alloc, words) {
-        Ok(Task::Replay(_)) => Ok(()),
-        Ok(Task::Compile(_)) => Err(WordsFault::OtherCommand),
-        Ok(Task::Db(..)) => Err(WordsFault::OtherCommand),
-        Ok(Task::Plan(..)) => Err(WordsFault::OtherCommand),
-        Ok(Task::Session(..)) => Err(WordsFault::OtherCommand),
-        Ok(Task::Once(..)) => Err(WordsFault::OtherCommand),
-        Ok(Task::Update(..)) => Err(WordsFault::OtherCommand),
-        Ok(Task::Version) => Err(WordsFault::OtherCommand),
+    match matches_in(alloc, words) {
+        Ok(matches) => match command_in(&matches, "replay") {
+            Some(_) => {
+                drop(matches);
+                Ok(())
+            }
+            None => {
+                drop(matches);
+                Err(WordsFault::OtherCommand)
+            }
+        },
         Err(fault) => Err(fault),
     }
 }

@@ -5,8 +5,8 @@ ghost use Rattle.rc_asked.specs.SessionAsked.{AsksNoSession, AsksSession, AsksSe
 ghost use Rattle.rc_asked.specs.declared.asked.WordsFault.TheVariants.{Memory};
 
 use crate::asked::WordsFault;
+use crate::matched::{command_in, matches_in};
 use crate::program_words::{Making, making_in};
-use crate::task::{Task, task_of};
 use clap::ArgMatches;
 use rc_command::is_on;
 use rc_line::USUAL_BOUND;
@@ -46,15 +46,18 @@ pub fn session_asked<'a>(
     ensures asked { IfOk result (λ request. AsksSession (map string_bytes words.entry.now) (session_ask_of request)) }
     ensures wrong { IfErr result (λ fault. fault ≢ Memory → AsksNoSession (map string_bytes words.entry.now)) }
 {
-    match task_of(alloc, words) {
-        Ok(Task::Session(request, _)) => Ok(request),
-        Ok(Task::Compile(_)) => Err(WordsFault::OtherCommand),
-        Ok(Task::Db(..)) => Err(WordsFault::OtherCommand),
-        Ok(Task::Plan(..)) => Err(WordsFault::OtherCommand),
-        Ok(Task::Replay(_)) => Err(WordsFault::OtherCommand),
-        Ok(Task::Once(..)) => Err(WordsFault::OtherCommand),
-        Ok(Task::Update(..)) => Err(WordsFault::OtherCommand),
-        Ok(Task::Version) => Err(WordsFault::OtherCommand),
+    match matches_in(alloc, words) {
+        Ok(matches) => match command_in(&matches, "session") {
+            Some(inner) => {
+                let asked = session_in(alloc, inner);
+                drop(matches);
+                asked
+            }
+            None => {
+                drop(matches);
+                Err(WordsFault::OtherCommand)
+            }
+        },
         Err(fault) => Err(fault),
     }
 }

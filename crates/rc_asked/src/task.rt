@@ -9,12 +9,13 @@ ghost use Rattle.rc_asked.specs.declared.asked.WordsFault.TheVariants.{Memory};
 use crate::asked::{WordsFault, plan_in};
 use crate::compile_words::{CompileRequest, compile_in};
 use crate::db_words::db_in;
+use crate::matched::matches_in;
 use crate::once_words::{OnceRequest, once_in};
 use crate::query::DbRequest;
 use crate::session_words::{SessionRequest, session_in};
 use crate::update_words::{UpdateRequest, update_in};
 use clap::ArgMatches;
-use rc_command::{entered, is_memory, matches_of};
+use rc_command::entered;
 use rc_select::Request;
 use std::alloc::Global;
 
@@ -47,18 +48,13 @@ pub fn task_of<'a>(alloc: Global, words: &'a [String]) -> Result<Task<'a>, Words
     ensures eventless { IfOk result IsEventless }
     ensures wrong { IfErr result (λ fault. fault ≢ Memory → AsksNoTask (map string_bytes words.entry.now)) }
 {
-    match matches_of(alloc, words) {
+    match matches_in(alloc, words) {
         Ok(matches) => {
             let task = task_in(alloc, &matches);
             drop(matches);
             task
         }
-        Err(error) => {
-            if is_memory(&error) {
-                return Err(WordsFault::Memory);
-            }
-            Err(WordsFault::Found(error))
-        }
+        Err(fault) => Err(fault),
     }
 }
 

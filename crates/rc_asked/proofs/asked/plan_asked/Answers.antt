@@ -1,27 +1,23 @@
-use Rattle.std.proofs.Common.{codes, refl}
-use Rattle.rc_asked.proofs.TaskLemmas.{no_plan, once_other, plan_other}
+use Rattle.std.proofs.Common.{◌∙◌, ap, codes, sym}
+use Rattle.std.proofs.lemmas.Result.{IfErr-weaker, IfOk-weaker}
+use Rattle.std.specs.Option.{option_and_then}
+use Rattle.rc_asked.specs.Asked.{ask_in}
 use Rattle.rc_asked.proofs.asked.plan_asked.Goals as goal
 
-pub returns-in-Ok-Compile-clause-wrong : goal.returns-in-Ok-Compile-clause-wrong
-returns-in-Ok-Compile-clause-wrong c = λ _. plan_other _ _ _ c.in-Ok-Compile.field-0-is refl c.in-Ok-Compile.ensures.asked
+pub returns-in-Some-clause-asked : goal.returns-in-Some-clause-asked
+returns-in-Some-clause-asked c =
+    IfOk-weaker c.plan_in-asked.result _ _
+    (λ request is. ap (option_and_then ask_in) (c.in-Ok.ensures.rows (codes "plan") ∙ sym c.in-Some.ensures) ∙ is)
+    c.plan_in-asked.ensures.asked
 
-pub returns-in-Ok-Db-clause-wrong : goal.returns-in-Ok-Db-clause-wrong
-returns-in-Ok-Db-clause-wrong c = λ _. plan_other _ _ _ c.in-Ok-Db.field-0-is refl c.in-Ok-Db.ensures.asked
+pub returns-in-Some-clause-wrong : goal.returns-in-Some-clause-wrong
+returns-in-Some-clause-wrong c =
+    IfErr-weaker c.plan_in-asked.result _ _
+    (λ fault none other. ap (option_and_then ask_in) (c.in-Ok.ensures.rows (codes "plan") ∙ sym c.in-Some.ensures) ∙ none other)
+    c.plan_in-asked.ensures.wrong
 
-pub returns-in-Ok-Replay-clause-wrong : goal.returns-in-Ok-Replay-clause-wrong
-returns-in-Ok-Replay-clause-wrong c = λ _. plan_other _ _ _ c.in-Ok-Replay.field-0-is refl c.in-Ok-Replay.ensures.asked
+pub returns-in-None-clause-wrong : goal.returns-in-None-clause-wrong
+returns-in-None-clause-wrong c = λ _. ap (option_and_then ask_in) (c.in-Ok.ensures.rows (codes "plan") ∙ sym c.in-None.ensures)
 
-pub returns-in-Ok-Session-clause-wrong : goal.returns-in-Ok-Session-clause-wrong
-returns-in-Ok-Session-clause-wrong c = λ _. plan_other _ _ _ c.in-Ok-Session.field-0-is refl c.in-Ok-Session.ensures.asked
-
-pub returns-in-Ok-Once-clause-wrong : goal.returns-in-Ok-Once-clause-wrong
-returns-in-Ok-Once-clause-wrong c = λ _. plan_other _ _ _ c.in-Ok-Once.field-0-is (once_other (codes "plan") refl refl refl refl refl refl _) c.in-Ok-Once.ensures.asked
-
-pub returns-in-Ok-Update-clause-wrong : goal.returns-in-Ok-Update-clause-wrong
-returns-in-Ok-Update-clause-wrong c = λ _. plan_other _ _ _ c.in-Ok-Update.field-0-is refl c.in-Ok-Update.ensures.asked
-
-pub returns-in-Ok-Version-clause-wrong : goal.returns-in-Ok-Version-clause-wrong
-returns-in-Ok-Version-clause-wrong c = λ _. plan_other _ _ _ c.in-Ok-Version.field-0-is refl c.in-Ok-Version.ensures.asked
-
-pub returns-clause-wrong : goal.returns-clause-wrong
-returns-clause-wrong c = λ other. no_plan _ (c.in-Err.ensures.wrong other)
+pub returns-in-Err-clause-wrong : goal.returns-in-Err-clause-wrong
+returns-in-Err-clause-wrong c = λ other. ap (option_and_then ask_in) (c.in-Err.ensures.wrong other (codes "plan"))

@@ -1,27 +1,13 @@
-use Rattle.std.proofs.Common.{refl, codes}
-use Rattle.rc_asked.proofs.TaskLemmas.{no_replay, once_other, other_asked}
+use Rattle.std.proofs.Common.{◌≡◌, ◌∙◌, List, None, Option, Some, codes, sym}
+use Rattle.clap.specs.Words.{Row}
 use Rattle.rc_asked.proofs.replay_words.replay_asked.Goals as goal
 
-pub returns-in-Ok-Compile-clause-wrong : goal.returns-in-Ok-Compile-clause-wrong
-returns-in-Ok-Compile-clause-wrong c = λ _. other_asked (codes "replay") _ _ _ c.in-Ok-Compile.field-0-is refl c.in-Ok-Compile.ensures.asked
+pub returns-in-Some-clause-asked : goal.returns-in-Some-clause-asked
+returns-in-Some-clause-asked c = λ none.
+    let both : ◌≡◌ {A = Option (List Row)} None (Some _) = sym none ∙ (c.in-Ok.ensures.rows (codes "replay") ∙ sym c.in-Some.ensures) in cc
 
-pub returns-in-Ok-Db-clause-wrong : goal.returns-in-Ok-Db-clause-wrong
-returns-in-Ok-Db-clause-wrong c = λ _. other_asked (codes "replay") _ _ _ c.in-Ok-Db.field-0-is refl c.in-Ok-Db.ensures.asked
+pub returns-in-None-clause-wrong : goal.returns-in-None-clause-wrong
+returns-in-None-clause-wrong c = λ _. c.in-Ok.ensures.rows (codes "replay") ∙ sym c.in-None.ensures
 
-pub returns-in-Ok-Plan-clause-wrong : goal.returns-in-Ok-Plan-clause-wrong
-returns-in-Ok-Plan-clause-wrong c = λ _. other_asked (codes "replay") _ _ _ c.in-Ok-Plan.field-0-is refl c.in-Ok-Plan.ensures.asked
-
-pub returns-in-Ok-Session-clause-wrong : goal.returns-in-Ok-Session-clause-wrong
-returns-in-Ok-Session-clause-wrong c = λ _. other_asked (codes "replay") _ _ _ c.in-Ok-Session.field-0-is refl c.in-Ok-Session.ensures.asked
-
-pub returns-in-Ok-Once-clause-wrong : goal.returns-in-Ok-Once-clause-wrong
-returns-in-Ok-Once-clause-wrong c = λ _. other_asked (codes "replay") _ _ _ c.in-Ok-Once.field-0-is (once_other (codes "replay") refl refl refl refl refl refl _) c.in-Ok-Once.ensures.asked
-
-pub returns-in-Ok-Update-clause-wrong : goal.returns-in-Ok-Update-clause-wrong
-returns-in-Ok-Update-clause-wrong c = λ _. other_asked (codes "replay") _ _ _ c.in-Ok-Update.field-0-is refl c.in-Ok-Update.ensures.asked
-
-pub returns-in-Ok-Version-clause-wrong : goal.returns-in-Ok-Version-clause-wrong
-returns-in-Ok-Version-clause-wrong c = λ _. other_asked (codes "replay") _ _ _ c.in-Ok-Version.field-0-is refl c.in-Ok-Version.ensures.asked
-
-pub returns-clause-wrong : goal.returns-clause-wrong
-returns-clause-wrong c = λ other. no_replay _ (c.in-Err.ensures.wrong other)
+pub returns-in-Err-clause-wrong : goal.returns-in-Err-clause-wrong
+returns-in-Err-clause-wrong c = λ other. c.in-Err.ensures.wrong other (codes "replay")

@@ -1,28 +1,25 @@
-use Rattle.std.proofs.Common.{refl, codes}
+use Rattle.std.proofs.Common.{◌∙◌, codes, sym}
+use Rattle.std.proofs.lemmas.Result.{IfErr-weaker, IfOk-weaker}
 use Rattle.rc_asked.proofs.SessionWordsLemmas.{asked_none}
-use Rattle.rc_asked.proofs.TaskLemmas.{no_session, once_other, other_asked}
+use Rattle.rc_asked.specs.SessionAsked.{AsksSessionIn}
+use Rattle.rc_asked.proofs.TaskLemmas.{same_rows}
 use Rattle.rc_asked.proofs.session_words.session_asked.Goals as goal
 
-pub returns-in-Ok-Compile-clause-wrong : goal.returns-in-Ok-Compile-clause-wrong
-returns-in-Ok-Compile-clause-wrong c = λ _. asked_none _ (other_asked (codes "session") _ _ _ c.in-Ok-Compile.field-0-is refl c.in-Ok-Compile.ensures.asked)
+pub returns-in-Some-clause-asked : goal.returns-in-Some-clause-asked
+returns-in-Some-clause-asked c =
+    IfOk-weaker c.session_in-asked.result _ _
+    (λ request asks. (_, c.in-Ok.ensures.rows (codes "session") ∙ sym c.in-Some.ensures, asks))
+    c.session_in-asked.ensures.asked
 
-pub returns-in-Ok-Db-clause-wrong : goal.returns-in-Ok-Db-clause-wrong
-returns-in-Ok-Db-clause-wrong c = λ _. asked_none _ (other_asked (codes "session") _ _ _ c.in-Ok-Db.field-0-is refl c.in-Ok-Db.ensures.asked)
+pub returns-in-Some-clause-wrong : goal.returns-in-Some-clause-wrong
+returns-in-Some-clause-wrong c =
+    IfErr-weaker c.session_in-asked.result _ _
+    (λ fault never other ask asks. never other ask (same_rows (λ rows. AsksSessionIn rows ask) _ _ _
+    (c.in-Ok.ensures.rows (codes "session") ∙ sym c.in-Some.ensures) asks.1 asks.2))
+    c.session_in-asked.ensures.wrong
 
-pub returns-in-Ok-Plan-clause-wrong : goal.returns-in-Ok-Plan-clause-wrong
-returns-in-Ok-Plan-clause-wrong c = λ _. asked_none _ (other_asked (codes "session") _ _ _ c.in-Ok-Plan.field-0-is refl c.in-Ok-Plan.ensures.asked)
+pub returns-in-None-clause-wrong : goal.returns-in-None-clause-wrong
+returns-in-None-clause-wrong c = λ _. asked_none _ (c.in-Ok.ensures.rows (codes "session") ∙ sym c.in-None.ensures)
 
-pub returns-in-Ok-Replay-clause-wrong : goal.returns-in-Ok-Replay-clause-wrong
-returns-in-Ok-Replay-clause-wrong c = λ _. asked_none _ (other_asked (codes "session") _ _ _ c.in-Ok-Replay.field-0-is refl c.in-Ok-Replay.ensures.asked)
-
-pub returns-in-Ok-Once-clause-wrong : goal.returns-in-Ok-Once-clause-wrong
-returns-in-Ok-Once-clause-wrong c = λ _. asked_none _ (other_asked (codes "session") _ _ _ c.in-Ok-Once.field-0-is (once_other (codes "session") refl refl refl refl refl refl _) c.in-Ok-Once.ensures.asked)
-
-pub returns-in-Ok-Update-clause-wrong : goal.returns-in-Ok-Update-clause-wrong
-returns-in-Ok-Update-clause-wrong c = λ _. asked_none _ (other_asked (codes "session") _ _ _ c.in-Ok-Update.field-0-is refl c.in-Ok-Update.ensures.asked)
-
-pub returns-in-Ok-Version-clause-wrong : goal.returns-in-Ok-Version-clause-wrong
-returns-in-Ok-Version-clause-wrong c = λ _. asked_none _ (other_asked (codes "session") _ _ _ c.in-Ok-Version.field-0-is refl c.in-Ok-Version.ensures.asked)
-
-pub returns-clause-wrong : goal.returns-clause-wrong
-returns-clause-wrong c = λ other. no_session _ (c.in-Err.ensures.wrong other)
+pub returns-in-Err-clause-wrong : goal.returns-in-Err-clause-wrong
+returns-in-Err-clause-wrong c = λ other. asked_none _ (c.in-Err.ensures.wrong other (codes "session"))

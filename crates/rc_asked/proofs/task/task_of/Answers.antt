@@ -1,4 +1,3 @@
-use Rattle.std.proofs.Common.{◌≡◌, true}
 use Rattle.std.proofs.lemmas.Result.{IfOk-weaker, IfErr-weaker}
 use Rattle.rc_asked.specs.Task.{task_ask_of}
 use Rattle.rc_asked.proofs.TaskLemmas.{asked_bound, asked_eventless, asked_workers, entered_back, entered_right, wrong_asks}
@@ -7,7 +6,7 @@ use Rattle.rc_asked.proofs.task.task_of.Goals as goal
 pub returns-in-Ok-clause-asked : goal.returns-in-Ok-clause-asked
 returns-in-Ok-clause-asked c =
     IfOk-weaker c.task_in-task.result _ _
-    (λ task asks. entered_right _ _ (task_ask_of task) c.in-Ok.ensures.right c.in-Ok.ensures.rows asks)
+    (λ task asks. entered_right _ _ (task_ask_of task) c.in-Ok.ensures.rows asks)
     c.task_in-task.ensures.asked
 
 pub returns-in-Ok-clause-workers : goal.returns-in-Ok-clause-workers
@@ -28,11 +27,8 @@ returns-in-Ok-clause-eventless c =
 pub returns-in-Ok-clause-wrong : goal.returns-in-Ok-clause-wrong
 returns-in-Ok-clause-wrong c =
     IfErr-weaker c.task_in-task.result _ _
-    (λ fault never other ask asks. never other ask (entered_back _ _ ask c.in-Ok.ensures.right c.in-Ok.ensures.rows asks))
+    (λ fault never other ask asks. never other ask (entered_back _ _ ask c.in-Ok.ensures.rows asks))
     c.task_in-task.ensures.wrong
 
-pub returns-else-is_memory-clause-wrong : goal.returns-else-is_memory-clause-wrong
-returns-else-is_memory-clause-wrong c = λ _. wrong_asks _ (c.in-Err.ensures.wrong (λ memory.
-    let yes : c.is_memory.result ≡ true = c.is_memory.ensures.1 memory in
-    let no = c.if-is_memory.false in
-    cc))
+pub returns-in-Err-clause-wrong : goal.returns-in-Err-clause-wrong
+returns-in-Err-clause-wrong c = λ other. wrong_asks _ (c.in-Err.ensures.wrong other)
