@@ -17,7 +17,7 @@ use rc_source::Definition;
 use std::alloc::Global;
 
 // Tables of names, and services by their places among them.
-#[derive(Debug, Drop)]
+#[derive(Drop)]
 pub(crate) struct Book {
     // The names of services.
     pub(crate) services: Names,

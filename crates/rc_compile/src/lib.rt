@@ -30,35 +30,48 @@ use rc_db::Db;
 use rc_names::Name;
 use rc_source::Definition;
 use std::alloc::{AllocError, Global};
+use std::fmt;
 use thiserror::Error;
 
 /// Why definitions make no database. The first in this order is told, of the least entry.
 #[derive(Debug, Drop, Error)]
 pub enum CompileFault {
     /// There are more than 4,096 services, or more than 4,096 names of bundles and pipelines.
-    #[error("too many names")]
     TooMany,
     /// The entry has a name that stands for nothing: the entry, and the name.
-    #[error("unknown name")]
     UnknownIn(Name, Name),
     /// Bundles hold one another in a circle, which begins with its least name.
-    #[error("bundles hold one another in a circle")]
     BundleCycle(Vec<Name>),
     /// The service writes to or reads from what is no longrun, or is none itself.
-    #[error("a pipe joins longruns alone")]
     PipelineType(Name),
     /// The service names a neighbour in a pipe that does not name it.
-    #[error("a pipe is named from one side alone")]
     PipelineMismatch(Name),
     /// The service names a pipeline by a name that is taken.
-    #[error("the name of a pipeline is taken")]
     PipelineName(Name),
     /// Services need one another in a circle, which begins with its least name.
-    #[error("services need one another in a circle")]
     Cycle(Vec<Name>),
     /// There was no room for the database.
-    #[error("out of memory")]
     Memory,
+}
+
+// What is told of a fault.
+fn told_of(fault: &CompileFault) -> &'static str {
+    match fault {
+        CompileFault::TooMany => "too many names",
+        CompileFault::UnknownIn(_, _) => "unknown name",
+        CompileFault::BundleCycle(_) => "bundles hold one another in a circle",
+        CompileFault::PipelineType(_) => "a pipe joins longruns alone",
+        CompileFault::PipelineMismatch(_) => "a pipe is named from one side alone",
+        CompileFault::PipelineName(_) => "the name of a pipeline is taken",
+        CompileFault::Cycle(_) => "services need one another in a circle",
+        CompileFault::Memory => "out of memory",
+    }
+}
+
+impl fmt::Display for CompileFault {
+    fn fmt<W: fmt::Write>(&self, f: &mut fmt::Formatter<W>) -> fmt::Result {
+        f.write_str(told_of(self))
+    }
 }
 
 impl From<AllocError> for CompileFault {

@@ -17,7 +17,7 @@ use rc_source::Definition;
 use std::alloc::Global;
 
 // What each entry is tested for.
-#[derive(Clone, Copy, PartialEq, Eq, Debug)]
+#[derive(Clone, Copy)]
 pub(crate) enum EntryFlaw {
     Unknown,
     PipelineType,

@@ -13,7 +13,7 @@ use rc_source::Definition;
 use std::alloc::Global;
 
 // Whose names are asked for.
-#[derive(Clone, Copy, PartialEq, Eq, Debug)]
+#[derive(Clone, Copy)]
 pub(crate) enum Which {
     Services,
     Bundles,
