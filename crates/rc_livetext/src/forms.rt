@@ -40,9 +40,27 @@ pub fn read_form(alloc: Global, bytes: &[u8]) -> Result<(LiveForm, &[u8]), FormF
     ensures fault { IfErr result (IsRefused bytes.now) }
 {
     let (services, bound, rest) = head(alloc, bytes)?;
-    let (before, live, rest) = states_to_current(alloc, rest)?;
-    let (bundles, rest) = bundles_at(alloc, rest)?;
-    let (after, rest) = states_to_last(alloc, rest)?;
+    let (before, live, rest) = match states_to_current(alloc, rest) {
+        Ok(read) => read,
+        Err(fault) => {
+            drop(services);
+            return Err(fault);
+        }
+    };
+    let (bundles, rest) = match bundles_at(alloc, rest) {
+        Ok(read) => read,
+        Err(fault) => {
+            drop((services, before, live));
+            return Err(fault);
+        }
+    };
+    let (after, rest) = match states_to_last(alloc, rest) {
+        Ok(read) => read,
+        Err(fault) => {
+            drop((services, before, live, bundles));
+            return Err(fault);
+        }
+    };
     let current = StateForm { live, bundles };
     Ok((
         LiveForm {

@@ -58,7 +58,10 @@ fn services_line(alloc: Global, bytes: &[u8]) -> Result<(Vec<Name>, &[u8]), Form
     let (line, rest) = next_line(alloc, bytes)?;
     match line {
         LineForm::Services(names) => Ok((names, rest)),
-        _ => Err(FormFault::Bad(bytes.len())),
+        other => {
+            drop(other);
+            Err(FormFault::Bad(bytes.len()))
+        }
     }
 }
 
@@ -71,7 +74,10 @@ fn bound_line(alloc: Global, bytes: &[u8]) -> Result<(u32, &[u8]), FormFault>
     let (line, rest) = next_line(alloc, bytes)?;
     match line {
         LineForm::Bound(bound) => Ok((bound, rest)),
-        _ => Err(FormFault::Bad(bytes.len())),
+        other => {
+            drop(other);
+            Err(FormFault::Bad(bytes.len()))
+        }
     }
 }
 

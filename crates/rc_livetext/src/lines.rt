@@ -12,7 +12,7 @@ use rc_textform::{BundleForm, ascend, is, name_of, names_of, number_of, words_of
 use std::alloc::{AllocError, Global};
 
 /// A line by what it says.
-#[derive(Debug, Drop)]
+#[derive(Drop)]
 pub enum LineForm {
     First(bool),
     Services(Vec<Name>),
