@@ -3,15 +3,17 @@ ghost use Rattle.std.specs.Prelude.{◌≡◌, ◌++◌, IfOk, OnErr, take};
 ghost use Rattle.std.specs.Io.{WritesAtMost};
 ghost use Rattle.std.specs.Io.KnownBytes.{Keeps, WriteAppends};
 
-use std::alloc::Global;
+use rc_names::NoMem;
+use std::alloc::{AllocError, Global};
 use std::io;
 use std::io::Write;
 
-/// A writer of faults that keeps what it wrote, as far as there is memory.
+/// A writer of faults that keeps what it wrote, where there is memory for all of it.
 #[derive(Drop)]
 pub struct Told<W> {
     inner: W,
     bytes: Vec<u8>,
+    is_short: bool,
 }
 
 impl<W> Told<W> {
@@ -20,17 +22,26 @@ impl<W> Told<W> {
         Told {
             inner,
             bytes: Vec::new(alloc),
+            is_short: false,
         }
     }
 
-    /// The first word of the fault that was told, and what stands after it in its line.
-    pub fn fault(&self) -> Option<(&str, &str)> {
-        let text = std::str::from_utf8(&self.bytes).ok()?;
-        let line = text.strip_prefix("undorc: ")?.strip_suffix('\n')?;
-        match line.split_once(' ') {
-            Some((word, rest)) => Some((word, rest)),
-            None => Some((line, "")),
+    /// The first word of the fault that was told, and what stands after it in its line, if one was.
+    pub fn fault(&self) -> Result<Option<(&str, &str)>, NoMem> {
+        if self.is_short {
+            return Err(AllocError);
         }
+        Ok(fault_in(&self.bytes))
+    }
+}
+
+/// The first word of a fault's line, and what stands after it.
+fn fault_in(bytes: &[u8]) -> Option<(&str, &str)> {
+    let text = std::str::from_utf8(bytes).ok()?;
+    let line = text.strip_prefix("undorc: ")?.strip_suffix('\n')?;
+    match line.split_once(' ') {
+        Some((word, rest)) => Some((word, rest)),
+        None => Some((line, "")),
     }
 }
 
@@ -40,7 +51,9 @@ impl<W: Write> Write for Told<W> {
     fn write(&mut self, buf: &[u8]) -> io::Result<usize> {
         let outcome = self.inner.write(buf);
         if let Ok(count) = &outcome {
-            let _ = self.bytes.extend_from_slice(&buf[..*count]);
+            if self.bytes.extend_from_slice(&buf[..*count]).is_err() {
+                self.is_short = true;
+            }
         }
         outcome
     }

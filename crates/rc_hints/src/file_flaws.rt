@@ -4,7 +4,7 @@ use crate::listed::{name_on, text_of};
 use crate::places::{line_at, offset_of};
 use crate::search::{Found, MAX_FILE, Search};
 use std::fs::{self, Files};
-use std::io::ErrorKind;
+use std::io::{self, ErrorKind};
 
 /// Adds the first file of an entry that is not what it is to be, as the refusal's word says.
 pub(crate) fn add_flaw(search: &mut Search<'_>, entry: &Entry<'_, '_>, word: &str) {
@@ -35,7 +35,7 @@ fn add_unread(search: &mut Search<'_>, path: &str, is_folder: bool) {
     let why = match found {
         Found::Directory if !is_folder => "is a directory, where a file is due",
         Found::Other if !is_folder => "is a pipe, a socket or a device, where a file is due",
-        _ => match opened(search.rt, path, is_folder) {
+        _ => match opened(search, path, is_folder) {
             None | Some(ErrorKind::NotFound | ErrorKind::FilesystemLoop) => return,
             Some(kind) => word_of(kind),
         },
@@ -44,17 +44,24 @@ fn add_unread(search: &mut Search<'_>, path: &str, is_folder: bool) {
 }
 
 /// How a file, or a folder, refuses to be opened.
-fn opened(rt: &HostRuntime, path: &str, is_folder: bool) -> Option<ErrorKind> {
+fn opened(search: &mut Search<'_>, path: &str, is_folder: bool) -> Option<ErrorKind> {
+    match open(search.rt, path, is_folder) {
+        Ok(()) => None,
+        Err(error) => {
+            search.said.note_error(&error);
+            Some(error.kind())
+        }
+    }
+}
+
+/// Opens a file, or a folder, and closes it.
+fn open(rt: &HostRuntime, path: &str, is_folder: bool) -> io::Result<()> {
     if is_folder {
-        return match rt.open_dir(path) {
-            Ok(_) => None,
-            Err(error) => Some(error.kind()),
-        };
+        rt.open_dir(path)?;
+    } else {
+        fs::open(rt, path)?;
     }
-    match fs::open(rt, path) {
-        Ok(_) => None,
-        Err(error) => Some(error.kind()),
-    }
+    Ok(())
 }
 
 /// Adds that a file is too long, if it is.
@@ -181,7 +188,7 @@ fn add_bad_byte(search: &mut Search<'_>, path: &str, bytes: &[u8]) {
 pub(crate) fn add_root(search: &mut Search<'_>) {
     for root in search.roots {
         let root = root.as_str();
-        if let Some(kind) = opened(search.rt, root, true) {
+        if let Some(kind) = opened(search, root, true) {
             search.said.add_row(root, ": ", word_of(kind));
             return;
         }

@@ -4,6 +4,7 @@ use crate::entries::Entry;
 use crate::name_flaws::{WrongName, wrong_name};
 use rc_names::NoMem;
 use std::alloc::{AllocError, Global};
+use std::io::{self, ErrorKind};
 
 /// What may help after a fault, or nothing; only memory can be short.
 pub(crate) type Hint = Result<Option<String>, NoMem>;
@@ -94,6 +95,13 @@ impl Said {
     /// Notes whether memory was short.
     pub(crate) fn note(&mut self, outcome: Result<(), NoMem>) {
         if outcome.is_err() {
+            self.is_short = true;
+        }
+    }
+
+    /// Notes whether memory was short where the system refused something.
+    pub(crate) fn note_error(&mut self, error: &io::Error) {
+        if error.kind() == ErrorKind::OutOfMemory {
             self.is_short = true;
         }
     }

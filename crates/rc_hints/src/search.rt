@@ -6,7 +6,7 @@ use crate::said::Said;
 use rc_names::NoMem;
 use std::alloc::Global;
 use std::fs::{self, Files};
-use std::io::Read;
+use std::io::{self, Read};
 
 /// The most bytes that a file may have.
 pub(crate) const MAX_FILE: usize = 65536;
@@ -40,12 +40,15 @@ impl<'a> Search<'a> {
     }
 
     /// What stands at a path.
-    pub(crate) fn at(&self, path: &str) -> Found {
+    pub(crate) fn at(&mut self, path: &str) -> Found {
         match self.rt.metadata(path) {
             Ok(found) if found.is_dir() => Found::Directory,
             Ok(found) if found.is_file() => Found::File(found.len()),
             Ok(_) => Found::Other,
-            Err(_) => Found::Nothing,
+            Err(error) => {
+                self.said.note_error(&error);
+                Found::Nothing
+            }
         }
     }
 
@@ -93,16 +96,19 @@ impl<'a> Search<'a> {
     }
 
     /// The bytes of a plain file, where they can be read and are not too many.
-    pub(crate) fn bytes(&self, path: &str) -> Option<Vec<u8>> {
+    pub(crate) fn bytes(&mut self, path: &str) -> Option<Vec<u8>> {
         match self.at(path) {
             Found::File(_) => {}
             _ => return None,
         }
-        let file = fs::open(self.rt, path).ok()?;
         let mut bytes = Vec::new(self.said.alloc);
-        match file.take(MAX_FILE as u64 + 1).read_to_end(&mut bytes) {
+        match read_file(self.rt, path, &mut bytes) {
             Ok(_) if bytes.len() <= MAX_FILE => Some(bytes),
-            _ => None,
+            Ok(_) => None,
+            Err(error) => {
+                self.said.note_error(&error);
+                None
+            }
         }
     }
 
@@ -137,8 +143,8 @@ impl<'a> Search<'a> {
     ) {
         let path = self.said.path(directory, "");
         let mut bytes = Vec::new(self.said.alloc);
-        if let Ok(mut listing) = self.rt.open_dir(path.as_str()) {
-            let _ = listing.read_to_end(&mut bytes);
+        if let Err(error) = read_folder(self.rt, path.as_str(), &mut bytes) {
+            self.said.note_error(&error);
         }
         drop(path);
         self.add_listed(directory, &bytes, only_entries, names);
@@ -179,6 +185,18 @@ impl<'a> Search<'a> {
         }
         matches!(self.found(directory, name), Found::Directory)
     }
+}
+
+/// Adds the bytes of a file, of one that is too long only some.
+fn read_file(rt: &HostRuntime, path: &str, bytes: &mut Vec<u8>) -> io::Result<usize> {
+    let file = fs::open(rt, path)?;
+    file.take(MAX_FILE as u64 + 1).read_to_end(bytes)
+}
+
+/// Adds the names in a directory, each with a byte 0 after it.
+fn read_folder(rt: &HostRuntime, path: &str, bytes: &mut Vec<u8>) -> io::Result<usize> {
+    let mut listing = rt.open_dir(path)?;
+    listing.read_to_end(bytes)
 }
 
 /// Adds a name, but for those of a directory itself and of the one above it.
