@@ -8,13 +8,14 @@ use std::io::{self, Stdout, Write};
 const MOST: usize = 300;
 
 /// Standard output, the database in which a name may be looked for, and the answer that is not
-/// flushed yet, as far as it is short.
+/// flushed yet, as far as it is short and there was memory for it.
 #[derive(Drop)]
 pub struct Answers<'a> {
     rt: &'a HostRuntime,
     inner: Stdout,
     base: Option<&'a [u8]>,
     answer: Vec<u8>,
+    lacks: bool,
     unknown: Vec<String>,
 }
 
@@ -26,6 +27,7 @@ impl<'a> Answers<'a> {
             inner: rt.stdout(),
             base,
             answer: Vec::new(rt.alloc()),
+            lacks: false,
             unknown: Vec::new(rt.alloc()),
         }
     }
@@ -39,6 +41,9 @@ impl<'a> Answers<'a> {
 
     /// Tells what helps after an answer, or keeps the name.
     fn look_at_answer(&mut self) -> Result<(), NoMem> {
+        if self.lacks {
+            return Ok(());
+        }
         let Some(name) = refused_name(&self.answer) else {
             return Ok(());
         };
@@ -64,7 +69,9 @@ impl Write for Answers<'_> {
         if let Ok(count) = &outcome {
             if self.answer.len() < MOST {
                 let front = buf.get(..(*count).min(MOST)).unwrap_or(buf);
-                let _ = self.answer.extend_from_slice(front);
+                if self.answer.extend_from_slice(front).is_err() {
+                    self.lacks = true;
+                }
             }
         }
         outcome
@@ -74,6 +81,7 @@ impl Write for Answers<'_> {
         let outcome = self.inner.flush();
         let _ = self.look_at_answer();
         self.answer.clear();
+        self.lacks = false;
         outcome
     }
 }

@@ -9,6 +9,7 @@ use rc_hints::{
 use rc_names::NoMem;
 use rc_queries::db_as_asked;
 use rc_streams::Noted;
+use std::alloc::AllocError;
 use std::fmt::Display;
 use std::io::{self, ErrorKind, Stderr};
 
@@ -21,12 +22,18 @@ pub type ToldErrors = Told<Stderr>;
 /// What helps after what `compile` told, and what was not looked at.
 pub fn behind_compile(rt: &HostRuntime, request: &CompileRequest<'_>, told: &ToldErrors) {
     let sources = Sources::new(rt, rt.alloc(), &request.sources);
-    if let Some((word, names)) = told.fault() {
-        if let Ok(Some(hint)) = compile_hint(&sources, word, names) {
-            tell_hint(rt, hint.as_str());
+    match told.fault() {
+        Ok(Some((word, names))) => {
+            if let Ok(Some(hint)) = compile_hint(&sources, word, names) {
+                tell_hint(rt, hint.as_str());
+            }
         }
-    } else if let Ok(Some(note)) = looks_like_entry(&sources) {
-        tell_note(rt, note.as_str());
+        Ok(None) => {
+            if let Ok(Some(note)) = looks_like_entry(&sources) {
+                tell_note(rt, note.as_str());
+            }
+        }
+        Err(_) => {}
     }
     if request.tells {
         if let Ok(notes) = unread_files(&sources) {
@@ -38,67 +45,91 @@ pub fn behind_compile(rt: &HostRuntime, request: &CompileRequest<'_>, told: &Tol
 }
 
 /// Where the database of a command stands, in the file of `-b` or at the beginning of standard input,
-/// and what was read of that.
+/// and what was read of that, if there was memory for all of it.
 #[derive(Clone, Copy)]
 pub struct Seen<'a> {
     pub file: Option<&'a str>,
     pub base: Option<&'a [u8]>,
-    pub input: &'a [u8],
+    pub input: Option<&'a [u8]>,
 }
 
 impl<'a> Seen<'a> {
     /// The text that begins with the database.
-    fn database(&self) -> &'a [u8] {
-        self.base.unwrap_or(self.input)
+    fn database(&self) -> Result<&'a [u8], NoMem> {
+        match self.base {
+            Some(base) => Ok(base),
+            None => self.read(),
+        }
     }
 
     /// What a command reads beside the database.
-    fn rest(&self) -> &'a [u8] {
+    fn rest(&self) -> Result<&'a [u8], NoMem> {
+        let input = self.read()?;
         match self.base {
-            Some(_) => self.input,
-            None => behind_end(self.input),
+            Some(_) => Ok(input),
+            None => Ok(behind_end(input)),
+        }
+    }
+
+    /// What was read of standard input.
+    fn read(&self) -> Result<&'a [u8], NoMem> {
+        match self.input {
+            Some(input) => Ok(input),
+            None => Err(AllocError),
         }
     }
 
     /// Whether a database stands there.
-    pub fn is_good(&self, rt: &HostRuntime) -> bool {
+    pub fn is_good(&self, rt: &HostRuntime) -> Result<bool, NoMem> {
         let request = DbRequest {
             query: Query::Check,
             way: Way::Raise,
             live: None,
         };
-        let mut reader = Noted::new(self.input);
-        let mut writer = Noted::new(io::sink());
-        db_as_asked(
+        let database = self.database()?;
+        let status = db_as_asked(
             rt.alloc(),
             &request,
             self.base,
             None,
-            &mut reader,
-            &mut writer,
+            &mut Noted::new(database),
+            &mut Noted::new(io::sink()),
             &mut io::sink(),
-        ) == 0
+        );
+        if status == FAILED {
+            return Err(AllocError);
+        }
+        Ok(status == 0)
     }
 }
 
 /// What helps after what was told of the database, or of what is asked of it.
 pub fn behind_database(rt: &HostRuntime, seen: &Seen<'_>, told: &ToldErrors) {
-    let Some((word, rest)) = told.fault() else {
+    let Ok(Some((word, rest))) = told.fault() else {
         return;
     };
     if let Some(line) = plain_hint(word, rest, seen.file.is_some()) {
         tell_hint(rt, line);
         return;
     }
-    let hint = if word == "NotClosed" {
-        lacking_hint(rt.alloc(), seen.database(), seen.rest())
-    } else {
-        let path = seen.file.unwrap_or("standard input");
-        database_hint(rt.alloc(), path, seen.database(), word, rest)
-    };
-    if let Ok(Some(hint)) = hint {
+    if let Ok(Some(hint)) = hint_on(rt, seen, word, rest) {
         tell_hint(rt, hint.as_str());
     }
+}
+
+/// What helps after a look at the database.
+fn hint_on(
+    rt: &HostRuntime,
+    seen: &Seen<'_>,
+    word: &str,
+    rest: &str,
+) -> Result<Option<String>, NoMem> {
+    let database = seen.database()?;
+    if word == "NotClosed" {
+        return lacking_hint(rt.alloc(), database, seen.rest()?);
+    }
+    let path = seen.file.unwrap_or("standard input");
+    database_hint(rt.alloc(), path, database, word, rest)
 }
 
 /// What helps after what a session told: of the file of `-l`, with what was read there, or of its
@@ -110,10 +141,14 @@ pub fn behind_session(
     seen: &Seen<'_>,
     told: &ToldErrors,
 ) {
-    if let (Some(path), Some((word, rest))) = (live, told.fault()) {
-        if let Ok(Some(hint)) = behind_live(rt, path, text, seen, word, rest) {
-            tell_hint(rt, hint.as_str());
-            return;
+    if let (Some(path), Ok(Some((word, rest)))) = (live, told.fault()) {
+        match behind_live(rt, path, text, seen, word, rest) {
+            Ok(Some(hint)) => {
+                tell_hint(rt, hint.as_str());
+                return;
+            }
+            Ok(None) => {}
+            Err(_) => return,
         }
     }
     behind_database(rt, seen, told);
@@ -140,7 +175,12 @@ fn behind_live(
             )?;
             Ok(Some(hint))
         }
-        Ok(Some(bytes)) if seen.is_good(rt) => live_hint(rt.alloc(), path, bytes, word, rest),
+        Ok(Some(bytes)) => {
+            if seen.is_good(rt)? {
+                return live_hint(rt.alloc(), path, bytes, word, rest);
+            }
+            Ok(None)
+        }
         _ => Ok(None),
     }
 }

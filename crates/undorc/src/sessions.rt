@@ -59,7 +59,9 @@ pub fn session<'a, T: Threads + Wait + Sync>(
         &mut told,
     );
     drop(lock);
-    answers.tell_all(typed.kept());
+    if let Some(database) = typed.kept() {
+        answers.tell_all(database);
+    }
     let seen = Seen {
         file,
         base: base.as_deref(),
@@ -115,7 +117,9 @@ pub fn once<'a, T: Threads + Wait + Sync>(
         &mut told,
     );
     drop(lock);
-    answers.tell_all(typed.kept());
+    if let Some(database) = typed.kept() {
+        answers.tell_all(database);
+    }
     let seen = Seen {
         file,
         base: base.as_deref(),

@@ -7,8 +7,8 @@ use std::io::{self, IsTerminal, Read, Stdin};
 const LINES: &str =
     "undorc: end the session with ^D; its lines are change, undo, redo, live, journal and more";
 
-/// Standard input, and what is still to be said of it. What is read whole is kept, as far as there
-/// is memory.
+/// Standard input, and what is still to be said of it. What is read whole is kept, where there is
+/// memory for all of it.
 #[derive(Drop)]
 pub struct Typed<'a> {
     rt: &'a HostRuntime,
@@ -18,6 +18,7 @@ pub struct Typed<'a> {
     reads: Option<&'static str>,
     keeps: bool,
     kept: Vec<u8>,
+    is_short: bool,
 }
 
 impl<'a> Typed<'a> {
@@ -33,12 +34,16 @@ impl<'a> Typed<'a> {
             reads,
             keeps: reads.is_some(),
             kept: Vec::new(rt.alloc()),
+            is_short: false,
         }
     }
 
-    /// What was read, where it is read whole.
-    pub fn kept(&self) -> &[u8] {
-        &self.kept
+    /// What was read, where it is read whole, if there was memory for it.
+    pub fn kept(&self) -> Option<&[u8]> {
+        if self.is_short {
+            return None;
+        }
+        Some(&self.kept)
     }
 
     /// Says what is read from a terminal.
@@ -58,8 +63,8 @@ impl Read for Typed<'_> {
         }
         let outcome = self.inner.read(buf);
         if let Ok(count) = &outcome {
-            if self.keeps {
-                let _ = self.kept.extend_from_slice(&buf[..*count]);
+            if self.keeps && self.kept.extend_from_slice(&buf[..*count]).is_err() {
+                self.is_short = true;
             }
             if self.helps && asks_for_help(&buf[..*count]) {
                 let _ = self.rt.eprintln(LINES);

@@ -9,6 +9,7 @@ use crate::usual::Usual;
 use rc_asked::{UpdateRequest, WordsFault, tell_words};
 use rc_cli::update_as_asked;
 use rc_hints::Told;
+use rc_names::NoMem;
 use rc_sessions::TextKeeper;
 use rc_streams::Noted;
 use std::fs;
@@ -79,8 +80,9 @@ fn update_at<T: Threads + Wait + Sync>(
         &mut told,
     );
     drop(lock);
-    let seen = seen_of(rt, file, &old, request.new, &new);
-    behind_session(rt, Some(live), &text, &seen, &told);
+    if let Ok(seen) = seen_of(rt, file, &old, request.new, &new) {
+        behind_session(rt, Some(live), &text, &seen, &told);
+    }
     status
 }
 
@@ -91,19 +93,19 @@ fn seen_of<'a>(
     old: &'a [u8],
     new_file: &'a str,
     new: &'a [u8],
-) -> Seen<'a> {
+) -> Result<Seen<'a>, NoMem> {
     let seen = Seen {
         file: Some(file),
         base: Some(old),
-        input: &[],
+        input: None,
     };
     let other = Seen {
         file: Some(new_file),
         base: Some(new),
-        input: &[],
+        input: None,
     };
-    if seen.is_good(rt) && !other.is_good(rt) {
-        return other;
+    if seen.is_good(rt)? && !other.is_good(rt)? {
+        return Ok(other);
     }
-    seen
+    Ok(seen)
 }
