@@ -88,9 +88,7 @@ fn add_step(search: &mut Search<'_>, from: &str, to: &str) {
     let Some(entry) = search.entry(from) else {
         return;
     };
-    if !search.said.is_empty() {
-        search.said.add("\n  ");
-    }
+    search.said.begin_line("  ");
     if add_place(search, &entry, to) {
         search.said.add(" names ");
     } else {

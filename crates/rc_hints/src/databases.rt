@@ -158,8 +158,7 @@ fn add_sorted<'a>(text: &'a str, lines: &mut Vec<&'a str>) -> Result<(), NoMem> 
     for line in text.split('\n') {
         lines.push(line)?;
     }
-    lines.sort()?;
-    Ok(())
+    lines.sort()
 }
 
 /// The first service of a database that is listed, and its first need that is not. The list ascends.

@@ -1,4 +1,5 @@
 //! Source directories, and the entries in them.
+use crate::listed::text_of;
 use crate::search::Search;
 use rc_names::Kind;
 use std::alloc::Global;
@@ -84,18 +85,23 @@ impl Entry<'_, '_> {
 
 /// The kind that the bytes of a file `type` give, where they give one.
 pub(crate) fn kind_of(bytes: &[u8]) -> Option<Kind> {
-    match bytes.strip_suffix(b"\n").unwrap_or(bytes) {
-        b"oneshot" => Some(Kind::Oneshot),
-        b"longrun" => Some(Kind::Longrun),
-        b"bundle" => Some(Kind::Bundle),
+    match without_end(text_of(bytes), '\n') {
+        "oneshot" => Some(Kind::Oneshot),
+        "longrun" => Some(Kind::Longrun),
+        "bundle" => Some(Kind::Bundle),
         _ => None,
     }
 }
 
 /// A directory's path without a slash at its end.
 pub(crate) fn without_slash(path: &str) -> &str {
-    match path.strip_suffix('/') {
+    without_end(path, '/')
+}
+
+/// A text without this at its end.
+pub(crate) fn without_end(text: &str, end: char) -> &str {
+    match text.strip_suffix(end) {
         Some(front) => front,
-        None => path,
+        None => text,
     }
 }

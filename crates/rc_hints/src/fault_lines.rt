@@ -3,6 +3,7 @@ ghost use Rattle.std.specs.Prelude.{◌≡◌, ◌++◌, IfOk, OnErr, take};
 ghost use Rattle.std.specs.Io.{WritesAtMost};
 ghost use Rattle.std.specs.Io.KnownBytes.{Keeps, WriteAppends};
 
+use crate::listed::text_of;
 use rc_names::NoMem;
 use std::alloc::{AllocError, Global};
 use std::io;
@@ -37,8 +38,7 @@ impl<W> Told<W> {
 
 /// The first word of a fault's line, and what stands after it.
 fn fault_in(bytes: &[u8]) -> Option<(&str, &str)> {
-    let text = std::str::from_utf8(bytes).ok()?;
-    let line = text.strip_prefix("undorc: ")?.strip_suffix('\n')?;
+    let line = text_of(bytes).strip_prefix("undorc: ")?.strip_suffix('\n')?;
     match line.split_once(' ') {
         Some((word, rest)) => Some((word, rest)),
         None => Some((line, "")),

@@ -1,5 +1,5 @@
 //! What helps where a file of an entry is not what it is to be.
-use crate::entries::Entry;
+use crate::entries::{Entry, without_end};
 use crate::listed::{name_on, text_of};
 use crate::places::{line_at, offset_of};
 use crate::search::{Found, MAX_FILE, Search};
@@ -9,23 +9,27 @@ use std::io::{self, ErrorKind};
 /// Adds the first file of an entry that is not what it is to be, as the refusal's word says.
 pub(crate) fn add_flaw(search: &mut Search<'_>, entry: &Entry<'_, '_>, word: &str) {
     for file in entry.files() {
-        if !search.said.is_empty() {
-            return;
+        if search.said.is_empty() {
+            let path = search.said.file_path(entry, file);
+            add_flaw_of(search, path.as_str(), file, word);
+            drop(path);
         }
-        let path = search.said.file_path(entry, file);
-        let is_folder = file.ends_with(".d");
-        match word {
-            "Io" => add_unread(search, path.as_str(), is_folder),
-            "TooLong" => add_too_long(search, path.as_str()),
-            "BadName" if is_folder => add_bad_listing(search, path.as_str()),
-            _ => {
-                if let Some(bytes) = search.bytes(path.as_str()) {
-                    add_wrong_text(search, path.as_str(), file, word, &bytes);
-                    drop(bytes);
-                }
+    }
+}
+
+/// Adds what is wrong with a file, if something is.
+fn add_flaw_of(search: &mut Search<'_>, path: &str, file: &str, word: &str) {
+    let is_folder = file.ends_with(".d");
+    match word {
+        "Io" => add_unread(search, path, is_folder),
+        "TooLong" => add_too_long(search, path),
+        "BadName" if is_folder => add_bad_listing(search, path),
+        _ => {
+            if let Some(bytes) = search.bytes(path) {
+                add_wrong_text(search, path, file, word, &bytes);
+                drop(bytes);
             }
         }
-        drop(path);
     }
 }
 
@@ -97,7 +101,7 @@ fn add_wrong_text(search: &mut Search<'_>, path: &str, file: &str, word: &str, b
     let text = text_of(bytes);
     match word {
         "NotText" => add_bad_byte(search, path, bytes),
-        "BadName" => add_bad_line(search, path, file, text),
+        "BadName" if lists_names(file) => add_bad_line(search, path, text),
         "BadType" if file == "type" => {
             add_line(
                 search,
@@ -118,20 +122,17 @@ fn add_wrong_text(search: &mut Search<'_>, path: &str, file: &str, word: &str, b
     }
 }
 
+/// Whether a file gives names, line by line.
+fn lists_names(file: &str) -> bool {
+    matches!(
+        file,
+        "dependencies" | "producer-for" | "consumer-for" | "pipeline-name" | "contents"
+    )
+}
+
 /// Adds the first line of a list that gives something else than a name.
-fn add_bad_line(search: &mut Search<'_>, path: &str, file: &str, list: &str) {
+fn add_bad_line(search: &mut Search<'_>, path: &str, list: &str) {
     let mut number = 0usize;
-    if ![
-        "dependencies",
-        "producer-for",
-        "consumer-for",
-        "pipeline-name",
-        "contents",
-    ]
-    .contains(&file)
-    {
-        return;
-    }
     for line in list.split('\n') {
         number = number.saturating_add(1);
         let name = name_on(line);
@@ -160,10 +161,7 @@ fn add_line(search: &mut Search<'_>, path: &str, due: &str, text: &str) {
 
 /// Whether a text is a limit, with or without a newline at its end.
 fn is_limit(text: &str) -> bool {
-    let digits = match text.strip_suffix('\n') {
-        Some(front) => front,
-        None => text,
-    };
+    let digits = without_end(text, '\n');
     digits.len() <= 10 && !digits.starts_with('+') && digits.parse::<u32>().is_ok()
 }
 

@@ -27,23 +27,34 @@ fn add_unfit(search: &mut Search<'_>, entry: &Entry<'_, '_>, file: &str, back: &
         return;
     }
     let list = search.file(entry, file);
-    for line in text_of(&list).split('\n') {
-        let Some(other) = search.entry(name_on(line)) else {
-            continue;
-        };
-        if !fits(search, entry, &other, back) {
-            search.said.add_file(entry, file);
-            search.said.add_row(" names ", other.name, ", and ");
-            search.said.add_file(&other, back);
-            if back == "type" {
-                search.said.add(" is no longrun");
-            } else {
-                search.said.add_row(" does not name ", entry.name, "");
-            }
-            break;
+    if let Some(other) = unfit_in(search, entry, text_of(&list), back) {
+        search.said.add_file(entry, file);
+        search.said.add_row(" names ", other.name, ", and ");
+        search.said.add_file(&other, back);
+        if back == "type" {
+            search.said.add(" is no longrun");
+        } else {
+            search.said.add_row(" does not name ", entry.name, "");
         }
     }
     drop(list);
+}
+
+/// The first neighbour in a list that does not fit.
+fn unfit_in<'a, 'l>(
+    search: &mut Search<'a>,
+    entry: &Entry<'_, '_>,
+    list: &'l str,
+    back: &str,
+) -> Option<Entry<'a, 'l>> {
+    for line in list.split('\n') {
+        if let Some(other) = search.entry(name_on(line)) {
+            if !fits(search, entry, &other, back) {
+                return Some(other);
+            }
+        }
+    }
+    None
 }
 
 /// Whether a neighbour is a longrun, where it is asked for its type, or else names an entry in a file

@@ -43,6 +43,13 @@ impl Said {
         self.text.is_empty()
     }
 
+    /// Ends the line that was said, if one was, and begins another with this.
+    pub(crate) fn begin_line(&mut self, front: &str) {
+        if !self.text.is_empty() {
+            self.add_row("\n", front, "");
+        }
+    }
+
     /// Adds a text.
     pub(crate) fn add(&mut self, text: &str) {
         let added = self.text.push_str(text);
@@ -77,8 +84,13 @@ impl Said {
 
     /// Adds what is wrong with a name.
     pub(crate) fn add_wrong(&mut self, wrong: WrongName) {
-        let added = write!(self.text, ": {wrong}");
-        self.note(added);
+        match wrong {
+            WrongName::Said(words) => self.add_row(": ", words, ""),
+            WrongName::Byte(byte) => {
+                let added = write!(self.text, ": a name can't hold byte {byte}");
+                self.note(added);
+            }
+        }
     }
 
     /// What is wrong with a name, if it is none.

@@ -4,8 +4,10 @@ use crate::entry_flaws::add_mistaken;
 use crate::places::{line_at, offset_of};
 use crate::said::Hint;
 use crate::search::Search;
-use rc_names::{Kind, NoMem};
-use std::alloc::Global;
+use rc_names::Kind;
+
+/// What stands in front of a note.
+const NOTE: &str = "undorc: ";
 
 /// The files that supervisors look at.
 const SUPERVISED: [&str; 22] = [
@@ -50,31 +52,14 @@ pub fn looks_like_entry(sources: &Sources<'_>) -> Hint {
 }
 
 /// Notes about the entries: which files are not looked at, which texts have a carriage return, and
-/// which bundles have no contents.
-pub fn unread_files(sources: &Sources<'_>) -> Result<Vec<String>, NoMem> {
+/// which bundles have no contents. Each but the first stands on a line of its own, behind `undorc: `.
+pub fn unread_files(sources: &Sources<'_>) -> Hint {
     let mut search = sources.search();
     add_all(&mut search);
-    let alloc = search.said.alloc;
-    match search.said.hint()? {
-        Some(notes) => {
-            let listed = notes_in(alloc, notes.as_str());
-            drop(notes);
-            listed
-        }
-        None => Ok(Vec::new(alloc)),
-    }
+    search.said.hint()
 }
 
-/// The notes of a text, each with a byte 0 after it.
-fn notes_in(alloc: Global, text: &str) -> Result<Vec<String>, NoMem> {
-    let mut notes = Vec::new(alloc);
-    for note in text.split_terminator('\0') {
-        notes.push(String::from_str(alloc, note)?)?;
-    }
-    Ok(notes)
-}
-
-/// Adds the notes about all entries, in byte order, each with a byte 0 after it.
+/// Adds the notes about all entries, in byte order.
 fn add_all(search: &mut Search<'_>) {
     let mut names = search.entries();
     let sorted = names.sort();
@@ -103,8 +88,9 @@ fn add_notes(search: &mut Search<'_>, entry: &Entry<'_, '_>) {
     }
     drop(files);
     if is_empty {
+        search.said.begin_line(NOTE);
         search.said.add_row(entry.root, "/", entry.name);
-        search.said.add(" is a bundle without contents\0");
+        search.said.add(" is a bundle without contents");
     }
 }
 
@@ -113,15 +99,17 @@ fn add_note(search: &mut Search<'_>, entry: &Entry<'_, '_>, file: &str) {
     if entry.reads(file) {
         let bytes = search.file(entry, file);
         if let Some(offset) = offset_of(&bytes, b'\r') {
+            search.said.begin_line(NOTE);
             search.said.add_file(entry, file);
             search.said.add_number(line_at(&bytes, offset));
             search
                 .said
-                .add(" has a carriage return (a Windows line end?)\0");
+                .add(" has a carriage return (a Windows line end?)");
         }
         drop(bytes);
     } else if !SUPERVISED.contains(&file) && !file.starts_with('.') {
+        search.said.begin_line(NOTE);
         search.said.add_file(entry, file);
-        search.said.add(" is not looked at\0");
+        search.said.add(" is not looked at");
     }
 }

@@ -10,21 +10,29 @@ use rc_streams::Noted;
 
 /// Compiles source directories, and answers the status.
 pub fn compile(rt: &HostRuntime, request: &CompileRequest<'_>) -> u8 {
-    let Ok(mut trees) = trees_at(rt, &request.sources) else {
-        return hints::tell_failure(rt, "undorc: Memory");
-    };
-    let mut told = Told::new(rt.alloc(), rt.stderr());
-    let status = match request.output {
-        Some(path) => compile_into(rt, &mut trees, path, &mut told),
-        None => compile_run(
-            rt.alloc(),
-            &mut trees,
-            &mut Noted::new(rt.stdout()),
-            &mut told,
-        ),
+    let mut trees = Vec::new(rt.alloc());
+    let opened = open_all(rt, &request.sources, &mut trees);
+    let status = match opened {
+        Ok(()) => compile_trees(rt, request, &mut trees),
+        Err(_) => hints::tell_failure(rt, "undorc: Memory"),
     };
     drop(trees);
+    status
+}
+
+/// The same with the trees of those directories.
+fn compile_trees(
+    rt: &HostRuntime,
+    request: &CompileRequest<'_>,
+    trees: &mut [FolderTree<HostRuntime>],
+) -> u8 {
+    let mut told = Told::new(rt.alloc(), rt.stderr());
+    let status = match request.output {
+        Some(path) => compile_into(rt, trees, path, &mut told),
+        None => compile_run(rt.alloc(), trees, &mut Noted::new(rt.stdout()), &mut told),
+    };
     hints::behind_compile(rt, request, &told);
+    drop(told);
     status
 }
 
@@ -36,20 +44,36 @@ fn compile_into(
     told: &mut Told<std::io::Stderr>,
 ) -> u8 {
     match text_of(rt.alloc(), trees) {
-        Ok(text) => match replace(rt, path, &text) {
-            Ok(()) => 0,
-            Err(error) => hints::tell_file(rt, path, &error),
-        },
+        Ok(text) => {
+            let replaced = replace(rt, path, &text);
+            drop(text);
+            match replaced {
+                Ok(()) => 0,
+                Err(error) => hints::tell_file(rt, path, &error),
+            }
+        }
         Err(fault) => tell_trees(rt.alloc(), told, &fault),
     }
 }
 
-/// The trees of directories. Nothing is read yet.
-fn trees_at(rt: &HostRuntime, paths: &[String]) -> Result<Vec<FolderTree<HostRuntime>>, NoMem> {
-    let mut trees = Vec::new(rt.alloc());
+/// Adds the trees of directories. Nothing is read yet.
+fn open_all(
+    rt: &HostRuntime,
+    paths: &[String],
+    trees: &mut Vec<FolderTree<HostRuntime>>,
+) -> Result<(), NoMem> {
     for path in paths {
-        let tree = FolderTree::open(rt.clone()?, rt.alloc(), path.as_str())?;
-        trees.push(tree)?;
+        open_tree(rt, path.as_str(), trees)?;
     }
-    Ok(trees)
+    Ok(())
+}
+
+/// Adds the tree of a directory.
+fn open_tree(
+    rt: &HostRuntime,
+    path: &str,
+    trees: &mut Vec<FolderTree<HostRuntime>>,
+) -> Result<(), NoMem> {
+    trees.push(FolderTree::open(rt.clone()?, rt.alloc(), path)?)?;
+    Ok(())
 }

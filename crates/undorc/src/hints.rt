@@ -10,7 +10,6 @@ use rc_names::NoMem;
 use rc_queries::db_as_asked;
 use rc_streams::Noted;
 use std::alloc::AllocError;
-use std::fmt::Display;
 use std::io::{self, ErrorKind, Stderr};
 
 /// A file could not be read, or memory ran out.
@@ -19,28 +18,23 @@ const FAILED: u8 = 111;
 /// A fault writer that keeps what was told.
 pub type ToldErrors = Told<Stderr>;
 
+/// What may help, or nothing; only memory can be short.
+type Hint = Result<Option<String>, NoMem>;
+
 /// What helps after what `compile` told, and what was not looked at.
 pub fn behind_compile(rt: &HostRuntime, request: &CompileRequest<'_>, told: &ToldErrors) {
     let sources = Sources::new(rt, rt.alloc(), &request.sources);
     match told.fault() {
         Ok(Some((word, names))) => {
-            if let Ok(Some(hint)) = compile_hint(&sources, word, names) {
-                tell_hint(rt, hint.as_str());
-            }
+            tell_found(rt, "  ", compile_hint(&sources, word, names));
         }
         Ok(None) => {
-            if let Ok(Some(note)) = looks_like_entry(&sources) {
-                tell_note(rt, note.as_str());
-            }
+            tell_found(rt, "undorc: ", looks_like_entry(&sources));
         }
         Err(_) => {}
     }
     if request.tells {
-        if let Ok(notes) = unread_files(&sources) {
-            for note in &notes {
-                tell_note(rt, note.as_str());
-            }
-        }
+        tell_found(rt, "undorc: ", unread_files(&sources));
     }
 }
 
@@ -48,59 +42,45 @@ pub fn behind_compile(rt: &HostRuntime, request: &CompileRequest<'_>, told: &Tol
 /// and what was read of that, if there was memory for all of it.
 #[derive(Clone, Copy)]
 pub struct Seen<'a> {
-    pub file: Option<&'a str>,
-    pub base: Option<&'a [u8]>,
+    file: Option<&'a str>,
+    base: Option<&'a [u8]>,
     pub input: Option<&'a [u8]>,
 }
 
 impl<'a> Seen<'a> {
-    /// The text that begins with the database.
-    fn database(&self) -> Result<&'a [u8], NoMem> {
-        match self.base {
-            Some(base) => Ok(base),
-            None => self.read(),
-        }
-    }
-
-    /// What a command reads beside the database.
-    fn rest(&self) -> Result<&'a [u8], NoMem> {
-        let input = self.read()?;
-        match self.base {
-            Some(_) => Ok(input),
-            None => Ok(behind_end(input)),
-        }
-    }
-
-    /// What was read of standard input.
-    fn read(&self) -> Result<&'a [u8], NoMem> {
-        match self.input {
-            Some(input) => Ok(input),
-            None => Err(AllocError),
-        }
+    pub fn new(file: Option<&'a str>, base: Option<&'a [u8]>, input: Option<&'a [u8]>) -> Seen<'a> {
+        Seen { file, base, input }
     }
 
     /// Whether a database stands there.
     pub fn is_good(&self, rt: &HostRuntime) -> Result<bool, NoMem> {
-        let request = DbRequest {
-            query: Query::Check,
-            way: Way::Raise,
-            live: None,
-        };
-        let database = self.database()?;
-        let status = db_as_asked(
-            rt.alloc(),
-            &request,
-            self.base,
-            None,
-            &mut Noted::new(database),
-            &mut Noted::new(io::sink()),
-            &mut io::sink(),
-        );
-        if status == FAILED {
+        let Some(database) = self.base.or(self.input) else {
             return Err(AllocError);
+        };
+        match checked(rt, self.base, database) {
+            0 => Ok(true),
+            FAILED => Err(AllocError),
+            _ => Ok(false),
         }
-        Ok(status == 0)
     }
+}
+
+/// The status of `db check` on a database.
+fn checked(rt: &HostRuntime, base: Option<&[u8]>, input: &[u8]) -> u8 {
+    let request = DbRequest {
+        query: Query::Check,
+        way: Way::Raise,
+        live: None,
+    };
+    db_as_asked(
+        rt.alloc(),
+        &request,
+        base,
+        None,
+        &mut Noted::new(input),
+        &mut Noted::new(io::sink()),
+        &mut io::sink(),
+    )
 }
 
 /// What helps after what was told of the database, or of what is asked of it.
@@ -108,28 +88,29 @@ pub fn behind_database(rt: &HostRuntime, seen: &Seen<'_>, told: &ToldErrors) {
     let Ok(Some((word, rest))) = told.fault() else {
         return;
     };
-    if let Some(line) = plain_hint(word, rest, seen.file.is_some()) {
-        tell_hint(rt, line);
-        return;
-    }
-    if let Ok(Some(hint)) = hint_on(rt, seen, word, rest) {
-        tell_hint(rt, hint.as_str());
+    match plain_hint(word, rest, seen.file.is_some()) {
+        Some(line) => tell_hint(rt, line),
+        None => {
+            tell_found(rt, "  ", hint_on(rt, seen, word, rest));
+        }
     }
 }
 
-/// What helps after a look at the database.
-fn hint_on(
-    rt: &HostRuntime,
-    seen: &Seen<'_>,
-    word: &str,
-    rest: &str,
-) -> Result<Option<String>, NoMem> {
-    let database = seen.database()?;
-    if word == "NotClosed" {
-        return lacking_hint(rt.alloc(), database, seen.rest()?);
+/// What helps after a look at the database, and at what a command reads beside it.
+fn hint_on(rt: &HostRuntime, seen: &Seen<'_>, word: &str, rest: &str) -> Hint {
+    let (database, others) = match (seen.base, seen.input) {
+        (Some(base), others) => (base, others),
+        (None, Some(input)) => (input, Some(behind_end(input))),
+        (None, None) => return Err(AllocError),
+    };
+    if word != "NotClosed" {
+        let path = seen.file.unwrap_or("standard input");
+        return database_hint(rt.alloc(), path, database, word, rest);
     }
-    let path = seen.file.unwrap_or("standard input");
-    database_hint(rt.alloc(), path, database, word, rest)
+    match others {
+        Some(others) => lacking_hint(rt.alloc(), database, others),
+        None => Err(AllocError),
+    }
 }
 
 /// What helps after what a session told: of the file of `-l`, with what was read there, or of its
@@ -142,13 +123,8 @@ pub fn behind_session(
     told: &ToldErrors,
 ) {
     if let (Some(path), Ok(Some((word, rest)))) = (live, told.fault()) {
-        match behind_live(rt, path, text, seen, word, rest) {
-            Ok(Some(hint)) => {
-                tell_hint(rt, hint.as_str());
-                return;
-            }
-            Ok(None) => {}
-            Err(_) => return,
+        if tell_found(rt, "  ", behind_live(rt, path, text, seen, word, rest)) {
+            return;
         }
     }
     behind_database(rt, seen, told);
@@ -163,7 +139,7 @@ fn behind_live(
     seen: &Seen<'_>,
     word: &str,
     rest: &str,
-) -> Result<Option<String>, NoMem> {
+) -> Hint {
     match text {
         Err(error) if word == "Io" => {
             let what = word_of(error.kind());
@@ -175,21 +151,18 @@ fn behind_live(
             )?;
             Ok(Some(hint))
         }
-        Ok(Some(bytes)) => {
-            if seen.is_good(rt)? {
-                return live_hint(rt.alloc(), path, bytes, word, rest);
-            }
-            Ok(None)
-        }
+        Ok(Some(bytes)) => match seen.is_good(rt) {
+            Ok(true) => live_hint(rt.alloc(), path, bytes, word, rest),
+            Ok(false) => Ok(None),
+            Err(fault) => Err(fault),
+        },
         _ => Ok(None),
     }
 }
 
 /// Tells which name of a database may have been meant by one that is nobody's.
 pub fn tell_near(rt: &HostRuntime, database: &[u8], name: &str) {
-    if let Ok(Some(hint)) = near_hint(rt.alloc(), database, name) {
-        tell_hint(rt, hint.as_str());
-    }
+    tell_found(rt, "  ", near_hint(rt.alloc(), database, name));
 }
 
 /// What helps without a second look.
@@ -226,12 +199,22 @@ pub fn tell_failure(rt: &HostRuntime, line: &str) -> u8 {
     FAILED
 }
 
-/// A line after a fault.
-pub fn tell_hint(rt: &HostRuntime, hint: impl Display + Drop) {
-    let _ = rt.eprintln(format_args!("  {hint}"));
+/// Tells what helps, if anything does, behind this front. Says whether nothing more is to be
+/// looked for, as something was told, or memory was short.
+fn tell_found(rt: &HostRuntime, front: &str, hint: Hint) -> bool {
+    match hint {
+        Ok(Some(text)) => {
+            let line = text.as_str();
+            let _ = rt.eprintln(format_args!("{front}{line}"));
+            drop(text);
+            true
+        }
+        Ok(None) => false,
+        Err(_) => true,
+    }
 }
 
-/// A note, which is no fault.
-fn tell_note(rt: &HostRuntime, note: &str) {
-    let _ = rt.eprintln(format_args!("undorc: {note}"));
+/// A line after a fault.
+pub fn tell_hint(rt: &HostRuntime, hint: &str) {
+    let _ = rt.eprintln(format_args!("  {hint}"));
 }

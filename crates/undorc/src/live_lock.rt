@@ -1,7 +1,7 @@
 //! The lock of the file in which a session is kept, so that one program at a time goes on with it.
 //! It is a lock on a file beside it, which is made where it is missing, and stays.
 
-use crate::replaced_file::place;
+use crate::replaced_file::{beside, place};
 use std::fs::{self, File, TryLockError};
 use std::io::{self, ErrorKind};
 
@@ -33,15 +33,25 @@ impl LiveLock {
         let Some(file) = lock_file(rt, path)? else {
             return Ok(None);
         };
-        if waits {
-            file.lock()?;
-            return Ok(Some(LiveLock { file }));
-        }
-        match file.try_lock() {
+        match lock(&file, waits) {
             Ok(()) => Ok(Some(LiveLock { file })),
-            Err(TryLockError::WouldBlock) => Err(LockFault::Busy),
-            Err(TryLockError::Error(error)) => Err(LockFault::Failed(error)),
+            Err(fault) => {
+                drop(file);
+                Err(fault)
+            }
         }
+    }
+}
+
+/// Locks a file, or waits until it can be.
+fn lock(file: &File, waits: bool) -> Result<(), LockFault> {
+    if waits {
+        return Ok(file.lock()?);
+    }
+    match file.try_lock() {
+        Ok(()) => Ok(()),
+        Err(TryLockError::WouldBlock) => Err(LockFault::Busy),
+        Err(TryLockError::Error(error)) => Err(LockFault::Failed(error)),
     }
 }
 
@@ -57,9 +67,12 @@ fn lock_file(rt: &HostRuntime, path: &str) -> io::Result<Option<File>> {
         Err(error) => return Err(error),
     }
     let place = place(rt, path)?;
-    let mut beside = place.as_str().to_string(rt.alloc())?;
-    beside.push_str(".lock")?;
-    Ok(Some(open_lock(rt, beside.as_str())?))
+    let beside = beside(rt, &place, ".lock");
+    drop(place);
+    let beside = beside?;
+    let file = open_lock(rt, beside.as_str());
+    drop(beside);
+    Ok(Some(file?))
 }
 
 /// Opens the file that is locked, and makes it where it is missing. A link is not followed, and a
@@ -72,14 +85,20 @@ fn open_lock(rt: &HostRuntime, path: &str) -> io::Result<File> {
         Err(error) if error.kind() == ErrorKind::NotFound => {}
         Err(error) => return Err(error),
     }
-    let opened = match File::open(rt, path) {
-        Ok(file) => file,
+    let opened = open_or_make(rt, path)?;
+    let file = opened.try_clone();
+    drop(opened);
+    file
+}
+
+/// Opens a file, and makes it where it is missing.
+fn open_or_make(rt: &HostRuntime, path: &str) -> io::Result<File> {
+    match File::open(rt, path) {
         Err(error) if error.kind() == ErrorKind::NotFound => {
             let mut options = File::options();
             options.write(true).create(true);
-            options.open(rt, path)?
+            options.open(rt, path)
         }
-        Err(error) => return Err(error),
-    };
-    opened.try_clone()
+        opened => opened,
+    }
 }

@@ -35,28 +35,67 @@ fn write_through(rt: &HostRuntime, path: &str, bytes: &[u8]) -> io::Result<()> {
 /// Puts a file of these bytes, with these rights, in the place of the one that is there, if one is.
 fn put(rt: &HostRuntime, path: &str, rights: Option<Permissions>, bytes: &[u8]) -> io::Result<()> {
     let place = place(rt, path)?;
-    let mut beside = place.as_str().to_string(rt.alloc())?;
-    beside.push_str(".new")?;
-    clear(rt, &beside)?;
-    let put = rename_over(rt, &place, &beside, rights, bytes);
-    if put.is_err() {
-        let _ = clear(rt, &beside);
-    }
+    let put = put_at(rt, &place, rights, bytes);
+    drop(place);
     put
+}
+
+/// The same at a place, to which no link leads.
+fn put_at(
+    rt: &HostRuntime,
+    place: &PathBuf,
+    rights: Option<Permissions>,
+    bytes: &[u8],
+) -> io::Result<()> {
+    let beside = beside(rt, place, ".new")?;
+    let path = beside.as_str();
+    let mut put = clear(rt, path);
+    if put.is_ok() {
+        put = rename_over(rt, place, path, rights, bytes);
+        if put.is_err() {
+            let _ = clear(rt, path);
+        }
+    }
+    drop(beside);
+    put
+}
+
+/// The path of a file beside a place, with this ending.
+pub fn beside(rt: &HostRuntime, place: &PathBuf, ending: &str) -> io::Result<String> {
+    let front = place.as_str();
+    Ok(format!(in rt.alloc(); "{front}{ending}")?)
 }
 
 /// Where a path leads, through links.
 pub fn place(rt: &HostRuntime, path: &str) -> io::Result<PathBuf> {
     let mut place = PathBuf::from_str(rt.alloc(), path)?;
-    for _ in 0..MAX_LINKS {
-        if !is_link(rt, &place)? {
-            return Ok(place);
+    match follow_all(rt, &mut place) {
+        Ok(()) => Ok(place),
+        Err(error) => {
+            drop(place);
+            Err(error)
         }
-        let next = place.read_link(rt)?;
-        place.pop();
-        place.push(&next)?;
+    }
+}
+
+/// Follows the links at a place.
+fn follow_all(rt: &HostRuntime, place: &mut PathBuf) -> io::Result<()> {
+    for _ in 0..MAX_LINKS {
+        if !is_link(rt, place)? {
+            return Ok(());
+        }
+        follow(rt, place)?;
     }
     Err(io::Error::from(ErrorKind::InvalidInput))
+}
+
+/// Follows the link at a place.
+fn follow(rt: &HostRuntime, place: &mut PathBuf) -> io::Result<()> {
+    let next = place.read_link(rt)?;
+    place.pop();
+    let pushed = place.push(&next);
+    drop(next);
+    Ok(pushed?)
 }
 
 /// Whether a link stands there. Where that can't be seen, what stands there is not to be replaced.
@@ -94,14 +133,20 @@ fn rename_over(
     bytes: &[u8],
 ) -> io::Result<()> {
     let mut file = File::create_new(rt, beside)?;
+    let written = write_whole(&mut file, rights, bytes);
+    drop(file);
+    written?;
+    fs::rename(rt, beside, place)?;
+    sync_folder(rt, place)
+}
+
+/// Has these rights and these bytes of a file reach the disk.
+fn write_whole(file: &mut File, rights: Option<Permissions>, bytes: &[u8]) -> io::Result<()> {
     if let Some(rights) = rights {
         file.set_permissions(rights)?;
     }
     file.write_all(bytes)?;
-    file.sync_all()?;
-    drop(file);
-    fs::rename(rt, beside, place)?;
-    sync_folder(rt, place)
+    file.sync_all()
 }
 
 /// Has the new name of the file reach the disk.

@@ -5,7 +5,7 @@ ghost use Rattle.rc_asked.specs.OnceAsked.{HasNoEvents, once_ask_of};
 
 use crate::answers::Answers;
 use crate::asking::base_at;
-use crate::hints::{Seen, behind_session, tell_failure, tell_file};
+use crate::hints::{Seen, ToldErrors, behind_session, tell_failure, tell_file};
 use crate::live_lock::{LiveLock, LockFault};
 use crate::live_store::{LiveStore, keep_fault};
 use crate::terminal::Typed;
@@ -34,41 +34,93 @@ pub fn session<'a, T: Threads + Wait + Sync>(
 {
     let file = usual.base_or(file);
     request.live = usual.live_or(request.live);
-    let base = match base_at(rt, file) {
-        Ok(base) => base,
-        Err(error) => return tell_file(rt, file.unwrap_or(""), &error),
+    match base_at(rt, file) {
+        Ok(base) => {
+            let status = session_on(rt, threads, &request, file, base.as_deref());
+            drop(base);
+            status
+        }
+        Err(error) => tell_file(rt, file.unwrap_or(""), &error),
+    }
+}
+
+/// The same with what was read of the file of `-b`.
+fn session_on<T: Threads + Wait + Sync>(
+    rt: &HostRuntime,
+    threads: &T,
+    request: &SessionRequest<'_>,
+    file: Option<&str>,
+    base: Option<&[u8]>,
+) -> u8
+    requires crew { IsCrew request.now.workers }
+    requires bound { 3 ≤ request.now.bound }
+{
+    match lock_at(rt, request.live, request.waits) {
+        Ok(lock) => {
+            let text = live_at(rt, request.live);
+            let status = session_from(rt, threads, request, file, base, &text, lock);
+            drop(text);
+            status
+        }
+        Err(fault) => tell_lock(rt, request.live, &fault),
+    }
+}
+
+/// The same with the lock, and what was read of the file of `-l`.
+fn session_from<T: Threads + Wait + Sync>(
+    rt: &HostRuntime,
+    threads: &T,
+    request: &SessionRequest<'_>,
+    file: Option<&str>,
+    base: Option<&[u8]>,
+    text: &io::Result<Option<Vec<u8>>>,
+    lock: Option<LiveLock>,
+) -> u8
+    requires crew { IsCrew request.now.workers }
+    requires bound { 3 ≤ request.now.bound }
+{
+    let reads = if file.is_none() {
+        Some("the database and the session's lines")
+    } else {
+        None
     };
-    let lock = match lock_at(rt, request.live, request.waits) {
-        Ok(lock) => lock,
-        Err(fault) => return tell_lock(rt, request.live, &fault),
-    };
-    let text = live_at(rt, request.live);
-    let mut typed = Typed::new(rt, session_input(file));
-    let mut answers = Answers::new(rt, base.as_deref());
+    let mut typed = Typed::new(rt, reads);
+    let mut answers = Answers::new(rt, base);
     let mut told = Told::new(rt.alloc(), rt.stderr());
     let status = session_as_asked(
         threads,
         rt,
         rt.alloc(),
-        &request,
-        base.as_deref(),
-        live_file(&text),
+        request,
+        base,
+        live_file(text),
         &mut TextKeeper::new(LiveStore::new(rt, request.live.unwrap_or(""))),
         &mut Noted::new(&mut typed),
         &mut Noted::new(&mut answers),
         &mut told,
     );
     drop(lock);
-    if let Some(database) = typed.kept() {
+    let seen = Seen::new(file, base, typed.kept());
+    tell_behind(rt, request.live, text, &seen, &answers, &told);
+    drop(told);
+    drop(answers);
+    drop(typed);
+    status
+}
+
+/// Tells what helps after a session.
+fn tell_behind(
+    rt: &HostRuntime,
+    live: Option<&str>,
+    text: &io::Result<Option<Vec<u8>>>,
+    seen: &Seen<'_>,
+    answers: &Answers<'_>,
+    told: &ToldErrors,
+) {
+    if let Some(database) = seen.input {
         answers.tell_all(database);
     }
-    let seen = Seen {
-        file,
-        base: base.as_deref(),
-        input: typed.kept(),
-    };
-    behind_session(rt, request.live, &text, &seen, &told);
-    status
+    behind_session(rt, live, text, seen, told);
 }
 
 /// Runs a session of one line, and answers the status, which tells how the line ended.
@@ -84,48 +136,88 @@ pub fn once<'a, T: Threads + Wait + Sync>(
     requires eventless { HasNoEvents (once_ask_of request).what }
 {
     let file = usual.base_or(file);
-    let live = usual.live_or(request.session.live);
     let mut session = request.session;
-    session.live = live;
+    session.live = usual.live_or(session.live);
     let request = OnceRequest {
         once: request.once,
         session,
     };
-    let base = match base_at(rt, file) {
-        Ok(base) => base,
-        Err(error) => return tell_file(rt, file.unwrap_or(""), &error),
-    };
+    match base_at(rt, file) {
+        Ok(base) => {
+            let status = once_on(rt, threads, &request, file, base.as_deref());
+            drop(base);
+            status
+        }
+        Err(error) => tell_file(rt, file.unwrap_or(""), &error),
+    }
+}
+
+/// The same with what was read of the file of `-b`.
+fn once_on<T: Threads + Wait + Sync>(
+    rt: &HostRuntime,
+    threads: &T,
+    request: &OnceRequest<'_>,
+    file: Option<&str>,
+    base: Option<&[u8]>,
+) -> u8
+    requires crew { IsCrew request.now.session.workers }
+    requires bound { 3 ≤ request.now.session.bound }
+    requires eventless { HasNoEvents (once_ask_of request.now).what }
+{
+    let live = request.session.live;
     let kept = if moves(&request.once) { live } else { None };
-    let lock = match lock_at(rt, kept, request.session.waits) {
-        Ok(lock) => lock,
-        Err(fault) => return tell_lock(rt, live, &fault),
+    match lock_at(rt, kept, request.session.waits) {
+        Ok(lock) => {
+            let text = live_at(rt, live);
+            let status = once_from(rt, threads, request, file, base, &text, lock);
+            drop(text);
+            status
+        }
+        Err(fault) => tell_lock(rt, live, &fault),
+    }
+}
+
+/// The same with the lock, and what was read of the file of `-l`.
+fn once_from<T: Threads + Wait + Sync>(
+    rt: &HostRuntime,
+    threads: &T,
+    request: &OnceRequest<'_>,
+    file: Option<&str>,
+    base: Option<&[u8]>,
+    text: &io::Result<Option<Vec<u8>>>,
+    lock: Option<LiveLock>,
+) -> u8
+    requires crew { IsCrew request.now.session.workers }
+    requires bound { 3 ≤ request.now.session.bound }
+    requires eventless { HasNoEvents (once_ask_of request.now).what }
+{
+    let live = request.session.live;
+    let reads = if file.is_none() {
+        Some("the database")
+    } else {
+        None
     };
-    let text = live_at(rt, live);
-    let mut typed = Typed::new(rt, once_input(file));
-    let mut answers = Answers::new(rt, base.as_deref());
+    let mut typed = Typed::new(rt, reads);
+    let mut answers = Answers::new(rt, base);
     let mut told = Told::new(rt.alloc(), rt.stderr());
     let status = once_as_asked(
         threads,
         rt,
         rt.alloc(),
-        &request,
-        base.as_deref(),
-        live_file(&text),
+        request,
+        base,
+        live_file(text),
         &mut TextKeeper::new(LiveStore::new(rt, live.unwrap_or(""))),
         &mut Noted::new(&mut typed),
         &mut Noted::new(&mut answers),
         &mut told,
     );
     drop(lock);
-    if let Some(database) = typed.kept() {
-        answers.tell_all(database);
-    }
-    let seen = Seen {
-        file,
-        base: base.as_deref(),
-        input: typed.kept(),
-    };
-    behind_session(rt, live, &text, &seen, &told);
+    let seen = Seen::new(file, base, typed.kept());
+    tell_behind(rt, live, text, &seen, &answers, &told);
+    drop(told);
+    drop(answers);
+    drop(typed);
     status
 }
 
@@ -133,22 +225,6 @@ pub fn once<'a, T: Threads + Wait + Sync>(
 /// file is replaced whole, so what is read is one text of it.
 fn moves(once: &Once) -> bool {
     matches!(once, Once::Line(SessionLine::Step(_)))
-}
-
-/// What a session reads whole.
-fn session_input(file: Option<&str>) -> Option<&'static str> {
-    match file {
-        Some(_) => None,
-        None => Some("the database and the session's lines"),
-    }
-}
-
-/// What a session of one line reads.
-fn once_input(file: Option<&str>) -> Option<&'static str> {
-    match file {
-        Some(_) => None,
-        None => Some("the database"),
-    }
 }
 
 /// The lock of the file of `-l`, where one is named. It is held until it is dropped.
