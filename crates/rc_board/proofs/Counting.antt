@@ -2,7 +2,8 @@ use Rattle.std.proofs.Common.{◌≡◌, ◌∙◌, inl, inr, ◌⊎◌, ℕ, ze
 use Rattle.std.proofs.lemmas.List.Sums.{sum_by-cons}
 use Rattle.rc_model.specs.Names.{Has, Holds}
 use Rattle.rc_model.specs.declared.Event.{Event}
-use Rattle.rc_model.specs.Run.{Course, IsCourse, IsPlanned, planned_count, IsRun, IsSettled}
+use Rattle.rc_model.specs.Run.{Course, IsPlanned, IsRun, IsSettled}
+use Rattle.rc_model.specs.Beside.{IsCourse, planned_count}
 use Rattle.rc_model.specs.declared.Event.TheVariants.{Take}
 use Rattle.rc_model.proofs.RunLemmas.{run_empty}
 use Rattle.rc_core.proofs.Opening.{none_happened}

@@ -6,7 +6,8 @@ use Rattle.rc_graph.specs.declared.Way.{Way}
 use Rattle.rc_graph.specs.declared.Way.TheVariants.{Raise, Lower}
 use Rattle.rc_model.specs.declared.Outcome.{Outcome}
 use Rattle.rc_model.specs.declared.Event.{Event}
-use Rattle.rc_model.specs.Run.{Course, IsCourse, IsPlanned}
+use Rattle.rc_model.specs.Run.{Course, IsPlanned}
+use Rattle.rc_model.specs.Beside.{IsCourse}
 use Rattle.rc_core.specs.Settled.{RunSoFar}
 use Rattle.rc_core.specs.Taking.{CanGo}
 use Rattle.rc_board.specs.declared.play.Halt.{Halt}

@@ -2,7 +2,8 @@ use Rattle.std.specs.Prelude.{◌≡◌, ◌≤◌, ◌+◌, ◌*◌, ℕ, List,
 use Rattle.rc_model.specs.declared.Standing.{Standing}
 use Rattle.rc_model.specs.declared.Standing.TheVariants.{Down}
 use Rattle.rc_model.specs.declared.Event.{Event}
-use Rattle.rc_model.specs.Run.{Course, IsCourse, standing_of, IsRun}
+use Rattle.rc_model.specs.Run.{Course, standing_of, IsRun}
+use Rattle.rc_model.specs.Beside.{IsCourse}
 
 -- what is seen of a run: where each service stands, the events so far, how many services are to
 -- move in the runs that it is made for, and how many events there is room for

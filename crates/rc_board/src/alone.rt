@@ -1,7 +1,8 @@
 //! A run that the caller makes alone: no thread is started, and nothing is shared.
 
 ghost use Rattle.std.specs.Prelude.{◌≡◌, ◌<◌, ◌≤◌, ◌+◌, ◌*◌, [], length, IsTrue, IfOk};
-ghost use Rattle.rc_model.specs.Run.{planned_count, IsSettled};
+ghost use Rattle.rc_model.specs.Run.{IsSettled};
+ghost use Rattle.rc_model.specs.Beside.{planned_count};
 ghost use Rattle.rc_board.specs.Made.{AreMade, way_from};
 
 use crate::crew::glance_of;

@@ -2,7 +2,8 @@
 
 ghost use Rattle.std.specs.Prelude.{◌≡◌, ◌↔◌, ℕ, false, [], IsTrue, IfOk, IfErr};
 ghost use Rattle.rc_select.specs.Ask.{ask_of};
-ghost use Rattle.rc_model.specs.Run.{IsCourse, course_of};
+ghost use Rattle.rc_model.specs.Run.{course_of};
+ghost use Rattle.rc_model.specs.Beside.{IsCourse};
 ghost use Rattle.rc_model.specs.Session.{Command, Change, Undo, Redo};
 ghost use Rattle.rc_session.specs.Report.{told_of};
 ghost use Rattle.rc_session.specs.Holding.{IsBegun, with_line};

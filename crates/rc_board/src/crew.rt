@@ -1,7 +1,7 @@
 //! Workers in threads of their own, over one board under a lock.
 
 ghost use Rattle.std.specs.Prelude.{◌≡◌, ◌≤◌, ◌+◌, ℕ, [], All, Option, IfOk, IfSome, IsTrue, vec_len, vec_capacity};
-ghost use Rattle.rc_model.specs.Run.{planned_count};
+ghost use Rattle.rc_model.specs.Beside.{planned_count};
 ghost use Rattle.rc_board.specs.Pads.{Written, AreSaid};
 
 use crate::board::{Board, Start};

@@ -4,7 +4,8 @@
 ghost use Rattle.std.specs.Prelude.{◌≡◌, ◌<◌, ◌≤◌, ◌↔◌, Option, None, length, IsTrue, IfOk, IfSome, IfNone, OnOk, OnErr, MatchBool};
 ghost use Rattle.rc_graph.specs.declared.Way.{Way};
 ghost use Rattle.rc_model.specs.declared.Event.{Event};
-ghost use Rattle.rc_model.specs.Run.{planned_count, IsWorker, IsFree, IsLegal};
+ghost use Rattle.rc_model.specs.Run.{IsWorker, IsFree, IsLegal};
+ghost use Rattle.rc_model.specs.Beside.{planned_count};
 ghost use Rattle.rc_core.specs.Settled.{with_event};
 ghost use Rattle.rc_core.specs.Taking.{IsAnswered};
 ghost use Rattle.rc_board.specs.Pads.{with_note, NotesTook, events_on, own};

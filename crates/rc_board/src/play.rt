@@ -1,7 +1,8 @@
 //! A run that was begun, made by workers.
 
 ghost use Rattle.std.specs.Prelude.{◌≡◌, ◌<◌, ◌≤◌, ℕ, min, [], All, IfOk, IfErr, vec_len, vec_capacity};
-ghost use Rattle.rc_model.specs.Run.{IsCourse, IsPlanned, course_of, planned_count, IsSettled};
+ghost use Rattle.rc_model.specs.Run.{IsPlanned, course_of, IsSettled};
+ghost use Rattle.rc_model.specs.Beside.{IsCourse, planned_count};
 ghost use Rattle.rc_board.specs.Crew.{IsCrew};
 ghost use Rattle.rc_board.specs.Halting.{MayHalt};
 ghost use Rattle.rc_board.specs.Made.{AreMade};

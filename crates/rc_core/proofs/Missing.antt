@@ -8,7 +8,8 @@ use Rattle.rc_model.specs.declared.Standing.TheVariants.{Down, Rising, Up, Sinki
 use Rattle.rc_model.specs.declared.Outcome.{Outcome}
 use Rattle.rc_model.specs.declared.Event.{Event}
 use Rattle.rc_model.specs.declared.Event.TheVariants.{Take, Done}
-use Rattle.rc_model.specs.Run.{Course, IsPlanned, IsCourse, is_success, after_take, standing_of, WasTaken, IsHeldBy, CanMove, IsRun}
+use Rattle.rc_model.specs.Run.{Course, IsPlanned, is_success, after_take, standing_of, WasTaken, IsHeldBy, CanMove, IsRun}
+use Rattle.rc_model.specs.Beside.{IsCourse}
 use Rattle.rc_core.specs.Ready.{IsMissing, IsNext}
 use Rattle.rc_model.proofs.RunLemmas.{taken_was_planned, done_was_taken}
 use Rattle.rc_model.proofs.StandingLemmas.{standing_take_here, standing_take_other, standing_done_here, standing_done_other, standing_first_up, standing_first_down}

@@ -13,7 +13,8 @@ use Rattle.rc_model.specs.declared.Outcome.{Outcome}
 use Rattle.rc_model.specs.declared.Event.{Event}
 use Rattle.rc_model.specs.declared.Event.TheVariants.{Take, Done, Stop}
 use Rattle.rc_core.specs.declared.ready.Ready.{Ready}
-use Rattle.rc_model.specs.Run.{Course, IsPlanned, IsCourse, is_success, standing_of, WasTaken, IsHeldBy, CanMove, IsLegal, IsRun}
+use Rattle.rc_model.specs.Run.{Course, IsPlanned, is_success, standing_of, WasTaken, IsHeldBy, CanMove, IsLegal, IsRun}
+use Rattle.rc_model.specs.Beside.{IsCourse}
 use Rattle.rc_core.specs.Ready.{IsCount, IsMissing, AreReady, IsNext, NotesArrival, TakesOut, IsFirstReady, HasQueue, CanNoteReady, NotesReady}
 use Rattle.rc_core.proofs.Counted.{distinct_both, same_count, less_count, none_of_zero, zero_of_none, some_counts}
 use Rattle.rc_model.proofs.EventLemmas.{still_there, take_then_take, take_then_done, take_then_stop}

@@ -175,7 +175,7 @@ IsName-a = record {
   some = omega arith;
   short = omega arith;
   bytes = record { each = name_byte; no_option = λ same. omega (arith, same); no_comment = λ same. omega (arith, same) };
-  free = λ reserved. false≢true reserved;
+  unreserved = λ reserved. false≢true reserved;
   utf8 = IsUtf8-from_ascii (codes "a") (IsAscii-from_all (codes "a") low);
 }
   where

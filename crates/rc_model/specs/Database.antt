@@ -6,8 +6,8 @@ use Rattle.rc_model.specs.Names.{IsName, IsInByteOrder, AreNames, Has}
 use Rattle.rc_model.specs.declared.Kind.TheVariants.{Longrun, Bundle}
 use Rattle.rc_model.specs.Graph.{Needs, IsAcyclic, AreNeeds}
 
--- what a database says of one service, beside its name
--- and what it needs; limits in milliseconds, 0 for none
+-- what a database says of one service, beside its name and what it needs; its kind is
+-- `Oneshot` or `Longrun` (enums stand in `src/lib.rt`), limits in milliseconds, 0 for none
 pub record Service : Type 0 where
   pub kind : Kind
   pub essential : Bool
@@ -64,8 +64,7 @@ abbrev pub IsKind : Database → ℕ → Kind → Type 0
 IsKind d s kind =
     (service : Service) × (slice_get d.services s ≡ Some service) × (service.kind ≡ kind)
 
--- the service is marked as essential: `Down`, and `Up` with pruning,
--- leave it up where it is; `DownAll`, an undo and a redo do not
+-- the service is marked as essential, so that some changes leave it up where it is up
 abbrev pub IsEssential : Database → ℕ → Type 0
 IsEssential d s =
     (service : Service) × (slice_get d.services s ≡ Some service) × (service.essential ≡ true)

@@ -1,13 +1,13 @@
 -- What holds all along of commands that are played.
-use Rattle.std.specs.Prelude.{◌≡◌, ◌≢◌, ◌≤◌, ◌<◌, ◌+◌, ◌-◌, ◌⊎◌, ◌↔◌, ℕ, false, List, [], ◌∷◌, ◌++◌, length, take, drop, All, Option, Some, slice_get, Result, Ok, Err}
+use Rattle.std.specs.Prelude.{◌≡◌, ◌≢◌, ◌≤◌, ◌<◌, ◌+◌, ◌-◌, ◌⊎◌, ℕ, false, List, [], ◌∷◌, ◌++◌, length, take, drop, All, Option, Some, slice_get, Result, Ok, Err}
 use Rattle.rc_model.specs.Names.{Holds}
-use Rattle.rc_model.specs.Database.{Database}
+use Rattle.rc_model.specs.Database.{Database, IsDatabase}
 use Rattle.rc_model.specs.Plan.{PlanSets, Ask}
 use Rattle.rc_model.specs.Line.{Alteration, IsEdit, State, Entry, IsEntry, entry_back, Line, IsNext, IsEntryBefore, IsEntryAfter, states, cursor}
 use Rattle.rc_model.specs.declared.Event.{Event}
 use Rattle.rc_model.specs.Run.{course_of, TargetOf, IsStrictlyClosed}
 use Rattle.rc_model.specs.declared.Refusal.{Refusal}
-use Rattle.rc_model.specs.Session.{Command, Change, Undo, Redo, Add, Delete, HasRun, IsUndo, IsRedo, events_of, Reported, IsTask, EndsWith, DoesByEdit, Does, IsLineOf, Answers, Plays}
+use Rattle.rc_model.specs.Session.{Command, Change, Undo, Redo, HasRun, IsUndo, IsRedo, events_of, Reported, IsTask, EndsWith, DoesByEdit, Does, IsLineOf, Answers, Plays}
 
 -- a command ran in dependency order: the events that it was given are a settled run of
 -- its task, after each of them each service that is not down has all that it needs up,
@@ -43,10 +43,10 @@ ChangesAreEntered d line =
     Does d line (Change ask events) report new →
     IsEntered line new (record { raised = report.raised; lowered = report.lowered; edit = [] })
 
--- the entry of an edit names exactly the bundles that it altered
+-- the entry of an edit names exactly the bundles that it altered, and no service
 abbrev pub EntersEdit : Line → Line → Type 0
-EntersEdit line new = (edit : List Alteration) → IsEdit line.current.table new.current.table edit →
-    IsEntered line new (record { raised = []; lowered = []; edit = edit })
+EntersEdit line new = (edit : List Alteration) × IsEdit line.current.table new.current.table edit
+    × IsEntered line new (record { raised = []; lowered = []; edit = edit })
 
 -- each edit enters exactly the bundles that it altered
 abbrev pub EditsAreEntered : Database → Line → Type 0
@@ -55,12 +55,12 @@ EditsAreEntered d line = (command : Command) (report : Reported) (new : Line) �
 
 -- of these states one is gone: the oldest or, where that stood beside the current one, the last
 abbrev pub LosesOne : List State → Line → Type 0
-LosesOne held line = (gone : State) × (((held ≡ gone ∷ states line) × (1 ≤ cursor line))
-    ⊎ ((held ≡ states line ++ gone ∷ []) × (cursor line ≡ 1)))
+LosesOne all line = (gone : State) × (((all ≡ gone ∷ states line) × (1 ≤ cursor line))
+    ⊎ ((all ≡ states line ++ gone ∷ []) × (cursor line ≡ 1)))
 
 -- a line has these states and no others or, where they are more than it may have, all but one
 abbrev pub Keeps : List State → Line → Type 0
-Keeps held line = (states line ≡ held) ⊎ ((line.bound < length held) × LosesOne held line)
+Keeps all line = (states line ≡ all) ⊎ ((line.bound < length all) × LosesOne all line)
 
 -- the states of a line with one more, where the command may add one
 abbrev pub with_one_more : Line → Command → State → List State
@@ -71,11 +71,13 @@ with_one_more line (Redo limit events) state = line.before ++ line.current ∷ s
 -- a change or an edit puts it after, in the place of what came after
 with_one_more line other state = line.before ++ line.current ∷ state ∷ []
 
--- the line has its states, or these with the new one, of which only the
--- bound drops any; a change or an edit drops what could be redone first
-abbrev pub KeepsHistory : Line → Command → Line → Type 0
-KeepsHistory line command new =
-    (states new ≡ states line) ⊎ Keeps (with_one_more line command new.current) new
+-- what a command leaves of the history of a line
+pub record KeepsHistory (line : Line) (command : Command) (new : Line) : Type 0 where
+  -- the line may have as many states as before
+  pub bound : new.bound ≡ line.bound
+  -- it has its states, or these with the new one, of which only the
+  -- bound drops any; a change or an edit drops what could be redone first
+  pub history : (states new ≡ states line) ⊎ Keeps (with_one_more line command new.current) new
 
 -- whatever is done, failed or not, keeps history
 abbrev pub HistoryIsKept : Database → Line → Type 0
@@ -90,7 +92,8 @@ WentWell (Err refusal) = ⊥
 -- only the cursor has moved, to this place, and the current
 -- state is the one that stands there, live set and bundles
 pub record HasMovedTo (line new : Line) (place : ℕ) : Type 0 where
-  pub kept : states new ≡ states line
+  pub bound : new.bound ≡ line.bound
+  pub same : states new ≡ states line
   pub there : cursor new ≡ place
   pub restored : slice_get (states line) place ≡ Some new.current
 
@@ -113,12 +116,12 @@ pub record Leaves (back line new : Line) : Type 0 where
   -- the bundles are still as they were
   pub bundles : new.current.table ≡ line.current.table
   -- the entry before the cursor is exactly the inverse of what the undo has still to do
-  pub remains : (entry : Entry) → IsEntryBefore new entry
-      ↔ IsEntry new.current back.current (entry_back entry)
+  pub remains : (entry : Entry) × IsEntryBefore new entry
+      × IsEntry new.current back.current (entry_back entry)
   -- nothing was undone and the line stays, or the entry after
   -- the cursor is exactly the inverse of what the undo did
   pub undone : (new ≡ line) ⊎ ((new.current ≢ line.current)
-      × ((entry : Entry) → IsEntryAfter new entry ↔ IsEntry new.current line.current entry))
+      × ((entry : Entry) × IsEntryAfter new entry × IsEntry new.current line.current entry))
 
 -- each undo comes to the state before, or leaves exactly the inverse of what remains
 abbrev pub UndosLeaveWhatRemains : Database → Line → Type 0
@@ -131,11 +134,11 @@ pub record LeavesAhead (on line new : Line) : Type 0 where
   -- the bundles are still as they were
   pub bundles : new.current.table ≡ line.current.table
   -- the entry after the cursor is exactly what remains to be redone
-  pub remains : (entry : Entry) → IsEntryAfter new entry ↔ IsEntry new.current on.current entry
+  pub remains : (entry : Entry) × IsEntryAfter new entry × IsEntry new.current on.current entry
   -- nothing was redone and the line stays, or what
   -- was redone is exactly the entry before the cursor
   pub redone : (new ≡ line) ⊎ ((new.current ≢ line.current)
-      × ((entry : Entry) → IsEntryBefore new entry ↔ IsEntry line.current new.current entry))
+      × ((entry : Entry) × IsEntryBefore new entry × IsEntry line.current new.current entry))
 
 -- each redo comes to the state after, or leaves exactly what remains
 abbrev pub RedosLeaveWhatRemains : Database → Line → Type 0
@@ -147,18 +150,18 @@ RedosLeaveWhatRemains d line =
 abbrev pub IsFull : Line → Type 0
 IsFull line = length (states line) ≡ line.bound
 
--- the states that are left of those before one: all or, of a full line, all but the oldest
+-- the states that remain of those before one: all or, of a full line, all but the oldest
 abbrev pub AreLeftBefore : Line → List State → List State → Type 0
-AreLeftBefore line held left =
-    (left ≡ held) ⊎ (IsFull line × ((oldest : State) × (held ≡ oldest ∷ left)))
+AreLeftBefore line all rest =
+    (rest ≡ all) ⊎ (IsFull line × ((oldest : State) × (all ≡ oldest ∷ rest)))
 
--- the states that are left of those after one: all or, of a full line, all but the last
+-- the states that remain of those after one: all or, of a full line, all but the last
 abbrev pub AreLeftAfter : Line → List State → List State → Type 0
-AreLeftAfter line held left =
-    (left ≡ held) ⊎ (IsFull line × ((last : State) × (held ≡ left ++ last ∷ [])))
+AreLeftAfter line all rest =
+    (rest ≡ all) ⊎ (IsFull line × ((last : State) × (all ≡ rest ++ last ∷ [])))
 
 -- where an undo did not come to the state before, and the very next command is an undo that
--- goes well, it ends there, with all states before it or, of a full line, all but the oldest
+-- goes well, it ends on that state, with all before it or, of a full line, all but the oldest
 abbrev pub UndosGoOn : Database → Line → Type 0
 UndosGoOn d line =
     (back there new : Line) (first next : Command) (report : Reported)
@@ -167,7 +170,8 @@ UndosGoOn d line =
     Does d line first report there → there ≢ back → Answers d there next answer new →
     (new.current ≡ back.current) × AreLeftBefore line back.before new.before
 
--- and so with a redo, and all after it
+-- where a redo did not come to the state after, and the very next command is a redo that
+-- goes well, it ends on that state, with all after it or, of a full line, all but the last
 abbrev pub RedosGoOn : Database → Line → Type 0
 RedosGoOn d line =
     (on there new : Line) (first next : Command) (report : Reported)
@@ -197,23 +201,10 @@ IsPromisedAllAlong d line commands answers new =
     (k : ℕ) → (here : Line) × IsLineOf d here × Plays d line (take k commands) (take k answers) here
     × Plays d here (drop k commands) (drop k answers) new × IsPromised d here
 
--- where a command that was done leads, and how that is entered
-abbrev pub EndsAsPromised : Line → Command → Reported → Line → Type 0
--- a change is entered as what it is reported to have altered
-EndsAsPromised line (Change ask events) report new =
-    IsEntered line new (record { raised = report.raised; lowered = report.lowered; edit = [] })
--- an undo that goes well comes to the state before; else it does, or leaves what remains
-EndsAsPromised line (Undo limit events) report new = (back : Line) → IsNext back line →
-    (WentWell (Ok report) → new ≡ back) × ((new ≡ back) ⊎ Leaves back line new)
--- a redo the same forwards
-EndsAsPromised line (Redo limit events) report new = (on : Line) → IsNext line on →
-    (WentWell (Ok report) → new ≡ on) × ((new ≡ on) ⊎ LeavesAhead on line new)
-EndsAsPromised line (Add name contents force) report new = EntersEdit line new
-EndsAsPromised line (Delete words force) report new = EntersEdit line new
-
--- what is promised of one command that was done: of where it led and of what it tells
-pub record IsDoneAsPromised (d : Database) (line : Line) (command : Command) (report : Reported)
-    (new : Line) : Type 0 where
-  pub orderly : HasRun command → RanInOrder d line command report new
-  pub ends : EndsAsPromised line command report new
-  pub history : KeepsHistory line command new
+-- the headline: for every database and every line of it, commands that are played one after the
+-- other, each with whatever events, are promised all of this at each place where the line stands
+abbrev pub Headline : Type 0
+Headline = (d : Database) (line new : Line) (commands : List Command)
+    (answers : List (Result Reported Refusal)) →
+    IsDatabase d → IsLineOf d line → Plays d line commands answers new →
+    IsPromisedAllAlong d line commands answers new

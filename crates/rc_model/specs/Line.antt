@@ -56,7 +56,7 @@ pub record Removes (old : Bundles) (words : List (List ℕ)) (new : Bundles) : T
 -- the name may be defined: it is no service's and, where nothing is forced, no bundle's
 pub record MayBeDefined (names : List (List ℕ)) (table : Bundles) (name : List ℕ)
     (force : Bool) : Type 0 where
-  pub free : Contains names name → ⊥
+  pub no_service : Contains names name → ⊥
   pub fresh : force ≡ false → IsBundle table name → ⊥
 
 -- nothing keeps a bundle from being defined: its name may
@@ -71,7 +71,7 @@ pub record CanAdd (names : List (List ℕ)) (table : Bundles) (name : List ℕ)
 -- service's and, where nothing is forced, each is a bundle's
 pub record CanDelete (names : List (List ℕ)) (table : Bundles) (words : List (List ℕ))
     (force : Bool) : Type 0 where
-  pub free : All (λ word. Contains names word → ⊥) words
+  pub no_service : All (λ word. Contains names word → ⊥) words
   pub there : force ≡ false → All (IsBundle table) words
 
 -- when a definition is refused, the first fault in this order; the name has place
@@ -130,11 +130,8 @@ abbrev pub entry_back : Entry → Entry
 entry_back entry =
     record { raised = entry.lowered; lowered = entry.raised; edit = edit_back entry.edit }
 
--- the two states differ in their bundles at most
-abbrev pub IsEditOnly : State → State → Type 0
-IsEditOnly from to = from.live ≡ to.live
-
--- the states before the current one, it, and those after, oldest first, and how many there may be
+-- the states before the current one, it, and those after, oldest
+-- first; the bound of a line is how many states it may have
 pub record Line : Type 0 where
   pub before : List State
   pub current : State
@@ -157,10 +154,10 @@ DifferInTurn (a ∷ b ∷ rest) = (a ≢ b) × DifferInTurn (b ∷ rest)
 
 -- states that a line may have: neighbours differ, all
 -- live sets have this bound, and all tables are such
-pub record AreStates (bound : ℕ) (held : List State) : Type 0 where
-  pub differ : DifferInTurn held
-  pub bounds : All (λ state. length state.live ≡ bound) held
-  pub tables : All (λ state. IsTable state.table) held
+pub record AreStates (bound : ℕ) (all : List State) : Type 0 where
+  pub differ : DifferInTurn all
+  pub bounds : All (λ state. length state.live ≡ bound) all
+  pub tables : All (λ state. IsTable state.table) all
 
 -- how many there may be: at least three, so that what goes never stands beside the current state
 abbrev pub IsBound : ℕ → Type 0
@@ -173,7 +170,8 @@ pub record IsLine (line : Line) : Type 0 where
   pub bound : IsBound line.bound
   pub few : length (states line) ≤ line.bound
 
--- the second line is the first with the cursor one state on
+-- the second line is the first with the cursor one state on:
+-- the current state is left behind, and the one after it is reached
 pub record IsNext (line next : Line) : Type 0 where
   pub left : next.before ≡ line.before ++ line.current ∷ []
   pub reached : line.after ≡ next.current ∷ next.after

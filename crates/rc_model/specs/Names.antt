@@ -17,7 +17,7 @@ pub record HasNameBytes (text : List ℕ) : Type 0 where
   pub no_option : slice_index text 0 ≢ 45
   pub no_comment : slice_index text 0 ≢ 35
 
--- text that begins with `s6rc-`, as the names that are kept for other uses
+-- text that begins with `s6rc-`, as names for other uses do
 abbrev pub IsReserved : List ℕ → Type 0
 IsReserved text = IsTrue (starts_with nat_eq text (codes "s6rc-"))
 
@@ -26,7 +26,7 @@ pub record IsName (text : List ℕ) : Type 0 where
   pub some : 0 < length text
   pub short : length text ≤ 255
   pub bytes : HasNameBytes text
-  pub free : IsReserved text → ⊥
+  pub unreserved : IsReserved text → ⊥
   pub utf8 : IsUtf8 text
 
 -- a text stands before another in byte order
@@ -37,13 +37,14 @@ IsBefore a b = slice_cmp nat_cmp a b ≡ Less
 abbrev pub IsInByteOrder : List (List ℕ) → Type 0
 IsInByteOrder texts = AllPairs IsBefore texts
 
--- what a table holds: names in byte order, and no more of them than there is room for
+-- what a table of names has: names in byte order, at most 4,096 of them
 pub record AreNames (texts : List (List ℕ)) : Type 0 where
   pub order : IsInByteOrder texts
   pub each : All IsName texts
   pub few : length texts ≤ MAX_NAMES
 
--- the set, a list of truth values, has this service
+-- the set, a list with a truth value for each service, has this
+-- service; the bound of a set is the length of the list
 abbrev pub Has : List Bool → ℕ → Type 0
 Has set s = slice_index_or set s false ≡ true
 

@@ -8,6 +8,50 @@ use Rattle.rc_model.specs.Database.{Bundles, Database, IsEssential, Selected, Is
 use Rattle.rc_model.specs.declared.PlanFault.{PlanFault}
 use Rattle.rc_model.specs.declared.PlanFault.TheVariants.{PruneNeedsUp, Unknown, Memory}
 
+-- what a change is asked to do: which way (`Up`, `Down` or `DownAll`), whether what is not
+-- wanted goes (pruning, on the way up alone), whether all that is up is wanted too, the words,
+-- and a limit in milliseconds, 0 for none
+pub record Ask : Type 0 where
+  pub mode : Mode
+  pub prune : Bool
+  pub all : Bool
+  pub words : List (List ℕ)
+  pub limit : ℕ
+
+-- the services that are wanted: those that the words
+-- stand for and, where all are, those that are up
+abbrev pub IsWanted : List (List ℕ) → Bundles → (ℕ → Type 0) → Ask → ℕ → Type 0
+IsWanted names table up ask s = Selected names table ask.words s ⊎ ((ask.all ≡ true) × up s)
+
+-- an essential service that is up
+abbrev pub IsEssentialUp : Database → (ℕ → Type 0) → ℕ → Type 0
+IsEssentialUp d up s = IsEssential d s × up s
+
+-- what essential services hold up: those that are up, with all that they need
+abbrev pub IsHeldUp : List (List ℕ) → (ℕ → Type 0) → ℕ → Type 0
+IsHeldUp needs essential = UpFrom needs essential
+
+-- what is to be up in the end, from what is up, the
+-- essential services among that, and what is wanted
+abbrev pub Target : List (List ℕ) → (ℕ → Type 0) → (ℕ → Type 0) → Mode → Bool → (ℕ → Type 0) → ℕ →
+    Type 0
+-- what is up, and the wanted with all that they need
+Target needs up essential Up false wanted s = up s ⊎ UpFrom needs wanted s
+-- the wanted with all that they need, and what essential services hold up
+Target needs up essential Up true wanted s = UpFrom needs wanted s ⊎ IsHeldUp needs essential s
+-- what is up; but of the wanted, and of what reaches them, only what is held up
+Target needs up essential Down prune wanted s =
+    up s × (DownFrom needs wanted s → IsHeldUp needs essential s)
+-- what is up, and is neither wanted nor reaches what is wanted
+Target needs up essential DownAll prune wanted s = up s × (DownFrom needs wanted s → ⊥)
+
+-- what is told as kept: the essential services that stay up although they were to go
+abbrev pub Kept : List (List ℕ) → (ℕ → Type 0) → Mode → Bool → (ℕ → Type 0) → ℕ → Type 0
+Kept needs essential Up false wanted s = ⊥
+Kept needs essential Up true wanted s = essential s × (UpFrom needs wanted s → ⊥)
+Kept needs essential Down prune wanted s = essential s × DownFrom needs wanted s
+Kept needs essential DownAll prune wanted s = ⊥
+
 -- a plan as its four sets: what is up at first, what goes down, what comes up, what is kept
 pub record PlanSets : Type 0 where
   pub opening : List Bool
@@ -19,63 +63,19 @@ pub record PlanSets : Type 0 where
 abbrev pub Nothing : ℕ → Type 0
 Nothing s = ⊥
 
--- the plan goes from what is up to the target, by their
--- two differences, and lists these services as kept
-pub record IsPlanTo (up : List Bool) (Target Kept : ℕ → Type 0) (plan : PlanSets) : Type 0 where
+-- the plan goes from what is up to a target, by their two
+-- differences, and lists the services that it spares as kept
+pub record IsPlanTo (up : List Bool) (target spared : ℕ → Type 0) (plan : PlanSets) : Type 0 where
   pub opening : plan.opening ≡ up
-  pub lower : Holds plan.lower (λ s. Has up s × (Target s → ⊥))
-  pub raise : Holds plan.raise (λ s. Target s × (Has up s → ⊥))
-  pub kept : Holds plan.kept Kept
+  pub lower : Holds plan.lower (λ s. Has up s × (target s → ⊥))
+  pub raise : Holds plan.raise (λ s. target s × (Has up s → ⊥))
+  pub kept : Holds plan.kept spared
   pub lower_bound : length plan.lower ≡ length up
   pub raise_bound : length plan.raise ≡ length up
   pub kept_bound : length plan.kept ≡ length up
 
--- what essential services hold up: those that are up, with all that they need
-abbrev pub IsHeldUp : List (List ℕ) → (ℕ → Type 0) → ℕ → Type 0
-IsHeldUp needs IsEssentialUp = UpFrom needs IsEssentialUp
-
--- what is to be up in the end, from what is up, the
--- essential services among that, and what is wanted
-abbrev pub Target : List (List ℕ) → (ℕ → Type 0) → (ℕ → Type 0) → Mode → Bool → (ℕ → Type 0) → ℕ →
-    Type 0
--- what is up, and the wanted with all that they need
-Target needs IsUp IsEssentialUp Up false IsWanted s = IsUp s ⊎ UpFrom needs IsWanted s
--- the wanted with all that they need, and what essential services hold up
-Target needs IsUp IsEssentialUp Up true IsWanted s =
-    UpFrom needs IsWanted s ⊎ IsHeldUp needs IsEssentialUp s
--- what is up; but of the wanted, and of what reaches them, only what is held up
-Target needs IsUp IsEssentialUp Down prune IsWanted s =
-    IsUp s × (DownFrom needs IsWanted s → IsHeldUp needs IsEssentialUp s)
--- what is up, and is neither wanted nor reaches what is wanted
-Target needs IsUp IsEssentialUp DownAll prune IsWanted s = IsUp s × (DownFrom needs IsWanted s → ⊥)
-
--- the essential services that stay up although they were to go
-abbrev pub Kept : List (List ℕ) → (ℕ → Type 0) → Mode → Bool → (ℕ → Type 0) → ℕ → Type 0
-Kept needs IsEssentialUp Up false IsWanted s = ⊥
-Kept needs IsEssentialUp Up true IsWanted s = IsEssentialUp s × (UpFrom needs IsWanted s → ⊥)
-Kept needs IsEssentialUp Down prune IsWanted s = IsEssentialUp s × DownFrom needs IsWanted s
-Kept needs IsEssentialUp DownAll prune IsWanted s = ⊥
-
--- what a change is asked to do: which way, whether what is not wanted goes, whether
--- all that is up is wanted too, the words, and a limit in milliseconds, 0 for none
-pub record Ask : Type 0 where
-  pub mode : Mode
-  pub prune : Bool
-  pub all : Bool
-  pub words : List (List ℕ)
-  pub limit : ℕ
-
--- the services that are wanted: those that the words
--- stand for and, where all are, those that are up
-abbrev pub IsWanted : List (List ℕ) → Bundles → (ℕ → Type 0) → Ask → ℕ → Type 0
-IsWanted names table IsUp ask s = Selected names table ask.words s ⊎ ((ask.all ≡ true) × IsUp s)
-
--- an essential service that is up
-abbrev pub IsEssentialUp : Database → (ℕ → Type 0) → ℕ → Type 0
-IsEssentialUp d IsUp s = IsEssential d s × IsUp s
-
 -- the plan of what is asked, where these services are up and these are the
--- bundles, which are those of a line and not those that the database began with
+-- bundles, which may be others than those that the database began with
 abbrev pub IsPlanOf : Database → Bundles → List Bool → Ask → PlanSets → Type 0
 IsPlanOf d table up ask plan =
     let wanted = IsWanted d.names table (Has up) ask in

@@ -1,7 +1,8 @@
 -- Events, where services stand after them, which may come next, and when a run is settled.
-use Rattle.std.specs.Prelude.{◌≡◌, ◌⊎◌, ◌+◌, ℕ, List, Bool, Option, length, count_by, ◌==◌, true, false, if◌then◌else◌, slice_index_or, ◌≤◌, Contains, Some, slice_get, take, ◌≢◌}
+-- An event is a `Take`, a `Done` or a `Stop`; a service stands `Down`, `Rising`, `Up` or `Sinking`.
+use Rattle.std.specs.Prelude.{◌≡◌, ◌⊎◌, ℕ, List, Bool, Option, ◌==◌, true, false, if◌then◌else◌, slice_index_or, ◌≤◌, Contains, Some, slice_get, take, ◌≢◌}
 use Rattle.rc_model.specs.Names.{Has}
-use Rattle.rc_model.specs.Graph.{AreNeeds, IsAcyclic, IsClosed, Needs}
+use Rattle.rc_model.specs.Graph.{Needs}
 use Rattle.rc_model.specs.Plan.{PlanSets}
 use Rattle.std.specs.List.{fold}
 use Rattle.rc_model.specs.declared.Standing.{Standing}
@@ -35,26 +36,9 @@ course_of needs plan deadline =
 abbrev pub IsPlanned : Course → ℕ → Type 0
 IsPlanned c s = Has c.lower s ⊎ Has c.raise s
 
--- how many services the course is to move
-abbrev pub planned_count : Course → ℕ
-planned_count c = count_by (λ flag. flag) c.lower + count_by (λ flag. flag) c.raise
-
 -- what is up at the end where all goes well
 abbrev pub TargetOf : Course → ℕ → Type 0
 TargetOf c s = (Has c.up s × (Has c.lower s → ⊥)) ⊎ Has c.raise s
-
--- no service of the graph needs itself along a path, and the sets are of its services; what is to
--- go down is up, what is to come up is not; what is up at first is closed, and so is the target
-pub record IsCourse (c : Course) : Type 0 where
-  pub lists : AreNeeds c.needs
-  pub acyclic : IsAcyclic c.needs
-  pub up_bound : length c.up ≡ length c.needs
-  pub lower_bound : length c.lower ≡ length c.needs
-  pub raise_bound : length c.raise ≡ length c.needs
-  pub falls : (s : ℕ) → Has c.lower s → Has c.up s
-  pub rises : (s : ℕ) → Has c.raise s → Has c.up s → ⊥
-  pub opening : IsClosed c.needs (Has c.up)
-  pub target : IsClosed c.needs (TargetOf c)
 
 -- whether a transition reached its end
 abbrev pub is_success : Outcome → Bool
@@ -113,10 +97,6 @@ IsFree events w = (s : ℕ) → IsHeldBy events w s → ⊥
 -- no worker holds anything
 abbrev pub NoneHeld : List Event → Type 0
 NoneHeld events = (w : ℕ) → IsFree events w
-
--- some worker holds a service
-abbrev pub SomeHeld : List Event → Type 0
-SomeHeld events = (w : ℕ) × (s : ℕ) × IsHeldBy events w s
 
 -- the service's transition ended, and not with success
 abbrev pub HasFailed : List Event → ℕ → Type 0

@@ -5,16 +5,12 @@ use Rattle.rc_model.specs.Plan.{Ask, PlanSets, IsPlanTo, Nothing, IsPlanOf, CanP
 use Rattle.rc_model.specs.Names.{Has, Holds, Lists}
 use Rattle.rc_model.specs.Database.{Database, Bundles, IsTable, HaveBound, AreApart}
 use Rattle.rc_model.specs.Run.{Course, IsLive, IsSettled, HasFailed, IsStopped, IsLeft, course_of, IsLegal, IsRun}
-use Rattle.rc_model.specs.Line.{Line, IsNext, MovesByChange, MovesByUndo, MovesByRedo, IsGained, Defines, Removes, CanAdd, CanDelete, State, IsLine, states, MovesByEdit, IsAddFault, IsDeleteFault, IsEditOnly}
+use Rattle.rc_model.specs.Line.{Line, IsNext, MovesByChange, MovesByUndo, MovesByRedo, IsGained, Defines, Removes, CanAdd, CanDelete, State, IsLine, states, MovesByEdit, IsAddFault, IsDeleteFault}
 use Rattle.rc_model.specs.Graph.{IsClosed}
-use Rattle.rc_model.specs.declared.PlanFault.{PlanFault}
-use Rattle.rc_model.specs.declared.BundleFault.{BundleFault}
-use Rattle.rc_model.specs.declared.LineFault.{LineFault}
 use Rattle.rc_model.specs.declared.Refusal.{Refusal}
-use Rattle.rc_model.specs.declared.Refusal.TheVariants.{BadEvent, NotSettled, PruneNeedsUp, Unknown, IsAtomic, Exists, Missing, Full, NothingToUndo, NothingToRedo, NotEdit, Memory}
+use Rattle.rc_model.specs.declared.Refusal.TheVariants.{BadEvent, NotSettled, PruneNeedsUp, Unknown, IsAtomic, Exists, Missing, Full, NothingToUndo, NothingToRedo}
 use Rattle.rc_model.specs.declared.PlanFault.TheVariants as plan_fault
 use Rattle.rc_model.specs.declared.BundleFault.TheVariants as bundle_fault
-use Rattle.rc_model.specs.declared.LineFault.TheVariants as line_fault
 
 -- what a session is told to do: a change, an undo or a redo, each with the
 -- events of its run, or an edit of bundles; limits in milliseconds, 0 for none
@@ -51,7 +47,7 @@ IsRedo other = ⊥
 
 -- the moment from which a run that begins at `start` may be stopped: none without a
 -- limit, and no later than the last moment that there is; a command that brings its
--- events begins at 0, since a stop that is legal from a later moment is legal from then
+-- events begins at 0, since a stop that is legal where a run begins later is legal so too
 abbrev pub deadline_of : ℕ → ℕ → Option ℕ
 deadline_of start limit = if limit == 0 then None else Some (min (start + limit) (2 ^ 64 - 1))
 
@@ -60,8 +56,8 @@ deadline_of start limit = if limit == 0 then None else Some (min (start + limit)
 pub record IsWay (from to : List Bool) (start limit : ℕ) (plan : PlanSets)
     (deadline : Option ℕ) : Type 0 where
   pub leads : IsPlanTo from (Has to) Nothing plan
-  pub free : from ≡ to → deadline ≡ None
-  pub bound : (from ≡ to → ⊥) → deadline ≡ deadline_of start limit
+  pub untimed : from ≡ to → deadline ≡ None
+  pub timed : (from ≡ to → ⊥) → deadline ≡ deadline_of start limit
 
 -- the run that a command asks for at a moment, by its plan and its deadline; an edit asks for none
 abbrev pub IsTask : Database → Line → Command → ℕ → PlanSets → Option ℕ → Type 0
@@ -105,8 +101,8 @@ pub record Reported : Type 0 where
   pub trace : List Event
 
 -- what is reported of a run after which these services are live: what
--- was live before it, the two differences, what failed, what was
--- never taken, what was kept, whether it was stopped, and its events
+-- was live before it, the two differences, what failed, what was never taken (blocked or,
+-- where the run was stopped, untried), what was kept, whether it was stopped, and its events
 pub record IsReportOf (c : Course) (plan : PlanSets) (events : List Event) (live : List Bool)
     (report : Reported) : Type 0 where
   pub opening : report.opening ≡ c.up
@@ -203,27 +199,6 @@ IsOwnFault d line (Delete words force) (Missing place) =
     IsDeleteFault d.names line.current.table words force (bundle_fault.Missing place)
 IsOwnFault d line command other = ⊥
 
--- how it is reported why there is no plan
-abbrev pub of_plan : PlanFault → Refusal
-of_plan plan_fault.PruneNeedsUp = PruneNeedsUp
-of_plan (plan_fault.Unknown place) = Unknown place
-of_plan plan_fault.Memory = Memory
-
--- how it is reported why a move is not opened
-abbrev pub of_line : LineFault → Refusal
-of_line line_fault.NothingToUndo = NothingToUndo
-of_line line_fault.NothingToRedo = NothingToRedo
-of_line line_fault.Memory = Memory
-
--- how it is reported why bundles are not defined or removed
-abbrev pub of_bundle : BundleFault → Refusal
-of_bundle (bundle_fault.IsAtomic place) = IsAtomic place
-of_bundle bundle_fault.Exists = Exists
-of_bundle (bundle_fault.Missing place) = Missing place
-of_bundle (bundle_fault.Unknown place) = Unknown place
-of_bundle bundle_fault.Memory = Memory
-of_bundle bundle_fault.Full = Full
-
 -- at this place stands the first event that is not legal after those before it
 abbrev pub IsFirstIllegal : Course → List Event → ℕ → Type 0
 IsFirstIllegal c events place =
@@ -251,15 +226,6 @@ IsRunFault d line command refusal =
 abbrev pub Refuses : Database → Line → Command → Refusal → Type 0
 Refuses d line command refusal =
     IsOwnFault d line command refusal ⊎ IsRunFault d line command refusal
-
--- where only edits may be undone or redone, it cannot be begun:
--- there is nothing to undo or redo, or it would move services
-abbrev pub IsEditFault : Database → Line → Command → Refusal → Type 0
-IsEditFault d line (Undo limit events) NotEdit =
-    (back : Line) × IsNext back line × (IsEditOnly line.current back.current → ⊥)
-IsEditFault d line (Redo limit events) NotEdit =
-    (on : Line) × IsNext line on × (IsEditOnly line.current on.current → ⊥)
-IsEditFault d line command other = IsOwnFault d line command other
 
 -- the answer to a command, and the line from then on:
 -- it is done, or it is refused and the line stays

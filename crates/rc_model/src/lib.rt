@@ -1,5 +1,6 @@
-//! What the headline says, and all that it rests on: eight modules of definitions in `specs/`, to be read in this order,
-//! Names, Graph, Database, Plan, Run, Line, Session, Headline; and here the enums that they speak of.
+//! What the headline says, and all that it rests on: the enums below, to be read first, then eight modules of definitions
+//! in `specs/`, in this order: Names, Graph, Database, Plan, Run, Line, Session, Headline. A ninth, Beside, holds words of
+//! other contracts, on which the headline does not rest.
 #![tactic(auto)]
 
 use std::alloc::AllocError;
@@ -200,7 +201,7 @@ impl From<AllocError> for Refusal {
 
 impl From<PlanFault> for Refusal {
     ghost use Rattle.std.specs.Prelude.{◌≡◌};
-    ghost use Rattle.rc_model.specs.Session.{of_plan};
+    ghost use Rattle.rc_model.specs.Beside.{of_plan};
 
     ghost from_gives = { λ fault refusal. refusal ≡ of_plan fault };
 
@@ -215,7 +216,7 @@ impl From<PlanFault> for Refusal {
 
 impl From<LineFault> for Refusal {
     ghost use Rattle.std.specs.Prelude.{◌≡◌};
-    ghost use Rattle.rc_model.specs.Session.{of_line};
+    ghost use Rattle.rc_model.specs.Beside.{of_line};
 
     ghost from_gives = { λ fault refusal. refusal ≡ of_line fault };
 
@@ -230,7 +231,7 @@ impl From<LineFault> for Refusal {
 
 impl From<BundleFault> for Refusal {
     ghost use Rattle.std.specs.Prelude.{◌≡◌};
-    ghost use Rattle.rc_model.specs.Session.{of_bundle};
+    ghost use Rattle.rc_model.specs.Beside.{of_bundle};
 
     ghost from_gives = { λ fault refusal. refusal ≡ of_bundle fault };
 

@@ -8,7 +8,8 @@ use Rattle.rc_model.specs.Plan.{PlanSets}
 use Rattle.rc_model.specs.declared.Event.{Event}
 use Rattle.rc_model.specs.declared.Outcome.{Outcome}
 use Rattle.rc_model.specs.declared.Standing.TheVariants.{Down, Up}
-use Rattle.rc_model.specs.Run.{Course, IsCourse, IsPlanned, TargetOf, course_of, HasFailed, IsStopped, WasTaken, IsLeft, IsLive, IsSettled, standing_of}
+use Rattle.rc_model.specs.Run.{Course, IsPlanned, TargetOf, course_of, HasFailed, IsStopped, WasTaken, IsLeft, IsLive, IsSettled, standing_of}
+use Rattle.rc_model.specs.Beside.{IsCourse}
 use Rattle.rc_core.proofs.Ends.{came_up, never_sinking, stood_down, stood_up, up_is_not_down, went_down}
 use Rattle.rc_model.proofs.RunLemmas.{taken_was_planned}
 use Rattle.rc_core.proofs.Stories.{IsAtRest, at_rest}

@@ -8,7 +8,8 @@ use Rattle.rc_model.specs.Plan.{PlanSets}
 use Rattle.rc_model.specs.declared.Outcome.{Outcome}
 use Rattle.rc_model.specs.declared.Event.{Event}
 use Rattle.rc_model.specs.declared.Event.TheVariants.{Done, Stop}
-use Rattle.rc_model.specs.Run.{Course, IsCourse, course_of, IsStopped, IsLeft, IsRun}
+use Rattle.rc_model.specs.Run.{Course, course_of, IsStopped, IsLeft, IsRun}
+use Rattle.rc_model.specs.Beside.{IsCourse}
 use Rattle.rc_core.specs.Failing.{EndsAs}
 use Rattle.rc_model.proofs.RunLemmas.{done_was_taken, legal_within, taken_was_planned}
 use Rattle.rc_model.proofs.Standings.{false_unless}
@@ -49,8 +50,8 @@ deadline_from limit x is =
 -- the deadline of a task is that of its command's limit
 task_deadline : (d : Database) (here : Line) (command : Command) (plan : PlanSets) (deadline : Option ℕ) (x : ℕ) → IsTask d here command 0 plan deadline → deadline ≡ Some x → deadline_of 0 (limit_of command) ≡ Some x
 task_deadline d here (Change ask events) plan deadline x task is = sym task.2 ∙ is
-task_deadline d here (Undo limit events) plan deadline x task is = sym (task.2.bound (λ same. let bad : None ≡ Some x = sym (task.2.free same) ∙ is in cc)) ∙ is
-task_deadline d here (Redo limit events) plan deadline x task is = sym (task.2.bound (λ same. let bad : None ≡ Some x = sym (task.2.free same) ∙ is in cc)) ∙ is
+task_deadline d here (Undo limit events) plan deadline x task is = sym (task.2.timed (λ same. let bad : None ≡ Some x = sym (task.2.untimed same) ∙ is in cc)) ∙ is
+task_deadline d here (Redo limit events) plan deadline x task is = sym (task.2.timed (λ same. let bad : None ≡ Some x = sym (task.2.untimed same) ∙ is in cc)) ∙ is
 task_deadline d here (Add name contents force) plan deadline x task is = absurd task
 task_deadline d here (Delete words force) plan deadline x task is = absurd task
 

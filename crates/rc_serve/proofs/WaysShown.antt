@@ -46,7 +46,7 @@ opens d line names Target plan of same leads = ap length leads.opening ∙ (curr
 
 -- a plan to a state is a way without a limit
 way_to : (from to : List Bool) (plan : PlanSets) → IsPlanTo from (Has to) Nothing plan → IsWay from to 0 0 plan None
-way_to from to plan leads = record { leads = leads; free = λ same. refl; bound = λ other. refl }
+way_to from to plan leads = record { leads = leads; untimed = λ same. refl; timed = λ other. refl }
 
 same_state : (a b : Option State) (s t : State) → a ≡ Some s → a ≡ Some t → s ≡ t
 same_state a b s t is too = let all : Some s ≡ Some t = sym is ∙ too in cc

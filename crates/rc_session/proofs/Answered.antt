@@ -134,7 +134,7 @@ module _ (d : Database) (line : Line) (is_db : IsDatabase d) (of : IsLineOf d li
     | inr free ↦ elim (both (force ≡ false) (IsBundle line.current.table name) (flag_decided force false) (member_decided (names_of line.current.table) name same_or_other)) [
       | inl exists ↦ inl (Exists, (free, exists.0, exists.1))
       | inr fresh ↦
-          let may : MayBeDefined d.names line.current.table name force = record { free = free; fresh = λ unforced there. fresh (unforced, there) } in
+          let may : MayBeDefined d.names line.current.table name force = record { no_service = free; fresh = λ unforced there. fresh (unforced, there) } in
           elim (known_or_first d.names line.current.table contents) [
             | inr found ↦ inl (Unknown (suc found.0), (may, (found.0, refl, found.1)))
             | inl known ↦ may_be_added name contents force good may known
@@ -151,11 +151,11 @@ module _ (d : Database) (line : Line) (is_db : IsDatabase d) (of : IsLineOf d li
   delete words force = elim (first_or_none (Contains d.names) (λ word. member_decided d.names word same_or_other) words) [
     | inr found ↦ inl (IsAtomic found.0, found.1)
     | inl free ↦ elim (flag_decided force false) [
-      | inr forced ↦ removed words force (record { free = free; there = λ unforced. absurd (forced unforced) })
+      | inr forced ↦ removed words force (record { no_service = free; there = λ unforced. absurd (forced unforced) })
       | inl unforced ↦ elim (first_or_none (λ word. IsBundle line.current.table word → ⊥) (λ word. not (IsBundle line.current.table word) (member_decided (names_of line.current.table) word same_or_other)) words) [
         | inr found ↦ inl (Missing found.0, (free, unforced, found.1))
         | inl none ↦ removed words force (record {
-          free = free;
+          no_service = free;
           there = λ is k word within. elim (member_decided (names_of line.current.table) (slice_index_or words k word) same_or_other) [
             | inl there ↦ there
             | inr missing ↦ absurd (none k word within missing)

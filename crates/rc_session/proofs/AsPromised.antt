@@ -8,7 +8,7 @@ use Rattle.rc_session.specs.declared.report.Report.{Report}
 use Rattle.rc_model.specs.Session.{Command, Change, Undo, Redo, Add, Delete, Reported, Does, IsLineOf}
 use Rattle.rc_session.specs.Report.{told_of, answer_of}
 use Rattle.rc_session.specs.Holding.{Holding, Obeys, with_run}
-use Rattle.rc_model.specs.Headline.{EndsAsPromised, IsDoneAsPromised}
+use Rattle.rc_model.specs.Beside.{EndsAsPromised, IsDoneAsPromised}
 use Rattle.rc_session.proofs.Entering.{change_entered, edit_entered}
 use Rattle.rc_session.proofs.FailedWays.{redo_leaves}
 use Rattle.rc_session.proofs.History.{history_kept}

@@ -7,6 +7,8 @@ use Rattle.rc_model.specs.Session.{IsLineOf}
 use Rattle.rc_line.proofs.Rewriting.{no_edit}
 use Rattle.rc_line.proofs.Steps.{none_gained}
 use Rattle.rc_model.specs.Headline.{IsEntered, ChangesAreEntered, EditsAreEntered}
+use Rattle.rc_model.proofs.Walking.{current_table}
+use Rattle.rc_session.proofs.Differences.{edit_of}
 use Rattle.rc_session.proofs.Entries.{entry_before}
 
 -- where the line ends in a state, that is the current one
@@ -47,8 +49,11 @@ change_entered d line of ask events told new does = elim does [
 ]
 
 pub edit_entered : (d : Database) (line : Line) → IsLineOf d line → EditsAreEntered d line
-edit_entered d line of command told new makes edit is = enters line new (with_table line makes.table) (record { raised = []; lowered = []; edit = edit }) of.is_line.bound.0 makes.moved (record {
-  raised = none_gained line.current.live;
-  lowered = none_gained line.current.live;
-  edit = subst (λ table. IsEdit line.current.table table edit) (ap (λ s. s.table) (ends_in line new (with_table line makes.table) makes.moved)) is;
-})
+edit_entered d line of command told new makes =
+    let edit = edit_of line.current.table makes.table (current_table line of.is_line).order in
+    let there : new.current.table ≡ makes.table = ap (λ s. s.table) (ends_in line new (with_table line makes.table) makes.moved) in (
+      edit.0,
+      subst (λ table. IsEdit line.current.table table edit.0) (sym there) edit.1,
+      enters line new (with_table line makes.table) (record { raised = []; lowered = []; edit = edit.0 }) of.is_line.bound.0 makes.moved
+          (record { raised = none_gained line.current.live; lowered = none_gained line.current.live; edit = edit.1 }),
+    )

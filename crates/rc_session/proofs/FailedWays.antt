@@ -1,6 +1,7 @@
-use Rattle.std.proofs.Common.{◌≡◌, ◌≢◌, ◌∙◌, ◌↔◌, ◌⊎◌, ◌≤◌, ◌<◌, suc, Bool, List, [], ◌∷◌, ◌++◌, length, length-append, Ok, inl, inr, refl, ap, sym, subst, arith}
-use Rattle.rc_model.specs.Database.{Database, IsDatabase}
-use Rattle.rc_model.specs.Line.{State, IsEntry, Line, IsLine, IsNext, IsEntryBefore, IsEntryAfter, states, within_bound, MovesByUndo, MovesByRedo, put_between, with_live}
+use Rattle.std.proofs.Common.{◌≡◌, ◌≢◌, ◌∙◌, ◌⊎◌, ◌≤◌, ◌<◌, suc, Bool, List, [], ◌∷◌, ◌++◌, length, length-append, Ok, inl, inr, refl, ap, sym, subst, arith}
+use Rattle.rc_model.specs.Database.{IsTable, Database, IsDatabase}
+use Rattle.rc_model.specs.Line.{State, Entry, IsEntry, Line, IsLine, IsNext, IsEntryBefore, IsEntryAfter, states, within_bound, MovesByUndo, MovesByRedo, put_between, with_live}
+use Rattle.rc_model.proofs.Walking.{current_table}
 use Rattle.rc_model.proofs.Lines.{cons_head, cons_tail}
 use Rattle.rc_model.proofs.Fitting.{Loses, Oldest, Last, fitted_cases, fitted_back, fitted_on, fitted_current}
 use Rattle.rc_line.proofs.Closings.{last_same}
@@ -8,20 +9,20 @@ use Rattle.rc_model.specs.Session.{Command, Change, Undo, Redo, Add, Delete, IsU
 use Rattle.rc_model.specs.Headline.{LeavesAhead, RedosLeaveWhatRemains, IsFull, AreLeftBefore, AreLeftAfter, UndosGoOn, RedosGoOn}
 use Rattle.rc_session.proofs.Keeping.{answer_keeps}
 use Rattle.rc_session.proofs.Neighbours.{one_back, one_on, push_front}
-use Rattle.rc_session.proofs.Entries.{entry_before, entry_after}
+use Rattle.rc_session.proofs.Entries.{entry_there, entry_ahead}
 use Rattle.rc_session.proofs.Undos.{undo_well, redo_well}
 
 -- what a redo leaves that altered nothing
-stays : (on line new : Line) → IsNext line on → new ≡ line → LeavesAhead on line new
-stays on line new h same = record {
+stays : (on line new : Line) → IsNext line on → IsTable line.current.table → new ≡ line → LeavesAhead on line new
+stays on line new h is_table same = record {
   bundles = ap (λ l. l.current.table) same;
-  remains = λ entry. subst (λ l. IsEntryAfter l entry ↔ IsEntry l.current on.current entry) (sym same) (entry_after line on h entry);
+  remains = subst (λ l. (entry : Entry) × IsEntryAfter l entry × IsEntry l.current on.current entry) (sym same) (entry_ahead line on h is_table);
   redone = inl same;
 }
 
 -- and one whose end was put between the two
-splits : (on line new : Line) (live : List Bool) → 3 ≤ line.bound → IsNext line on → live ≢ line.current.live → new ≡ within_bound (put_between line (with_live line live) on) → LeavesAhead on line new
-splits on line new live three h differs same =
+splits : (on line new : Line) (live : List Bool) → 3 ≤ line.bound → IsTable line.current.table → IsNext line on → live ≢ line.current.live → new ≡ within_bound (put_between line (with_live line live) on) → LeavesAhead on line new
+splits on line new live three is_table h differs same =
     let full : Line = put_between line (with_live line live) on in
     let current : new.current ≡ with_live line live = ap (λ l. l.current) same ∙ fitted_current full in
     let behind : Line = record { before = line.before; current = line.current; after = full.current ∷ full.after; bound = line.bound } in
@@ -32,22 +33,27 @@ splits on line new live three h differs same =
     let is_ahead : IsNext new right.0 = subst (λ l. IsNext l right.0) (sym same) right.1 in
     record {
       bundles = ap (λ s. s.table) current;
-      remains = λ entry. subst (λ s. IsEntryAfter new entry ↔ IsEntry new.current s entry) right.2 (entry_after new right.0 is_ahead entry);
-      redone = inr ((λ as_before. differs (sym (ap (λ s. s.live) current) ∙ ap (λ s. s.live) as_before)), (λ entry. subst (λ s. IsEntryBefore new entry ↔ IsEntry s new.current entry) left.2 (entry_before left.0 new is_behind entry)));
+      remains = subst (λ s. (entry : Entry) × IsEntryAfter new entry × IsEntry new.current s entry) right.2
+          (entry_ahead new right.0 is_ahead (subst IsTable (sym (ap (λ (s : State). s.table) current)) is_table));
+      redone = inr (
+        (λ as_before. differs (sym (ap (λ s. s.live) current) ∙ ap (λ s. s.live) as_before)),
+        subst (λ s. (entry : Entry) × IsEntryBefore new entry × IsEntry s new.current entry) left.2
+            (entry_there left.0 new is_behind (subst (λ (s : State). IsTable s.table) (sym left.2) is_table)),
+      );
     }
 
-left_ahead : (on line new : Line) (live : List Bool) → 3 ≤ line.bound → IsNext line on → MovesByRedo line live new → (new ≡ on) ⊎ LeavesAhead on line new
-left_ahead on line new live three h r = let same : r.0 ≡ on = one_on line r.0 on r.1 h in elim r.2 [
+left_ahead : (on line new : Line) (live : List Bool) → 3 ≤ line.bound → IsTable line.current.table → IsNext line on → MovesByRedo line live new → (new ≡ on) ⊎ LeavesAhead on line new
+left_ahead on line new live three is_table h r = let same : r.0 ≡ on = one_on line r.0 on r.1 h in elim r.2 [
   | inl there ↦ inl (there.1 ∙ same)
   | inr other ↦ inr (elim other [
-    | inl here ↦ stays on line new h here.2
-    | inr between ↦ splits on line new live three h between.1 (between.2 ∙ ap (λ l. within_bound (put_between line (with_live line live) l)) same)
+    | inl here ↦ stays on line new h is_table here.2
+    | inr between ↦ splits on line new live three is_table h between.1 (between.2 ∙ ap (λ l. within_bound (put_between line (with_live line live) l)) same)
   ])
 ]
 
 pub redo_leaves : (d : Database) (line : Line) → IsLineOf d line → RedosLeaveWhatRemains d line
 redo_leaves d line of on new limit events told h does = elim does [
-  | inl run ↦ left_ahead on line new run.live of.is_line.bound.0 h run.moved
+  | inl run ↦ left_ahead on line new run.live of.is_line.bound.0 (current_table line of.is_line) h run.moved
   | inr edit ↦ absurd edit.altered
 ]
 

@@ -19,6 +19,31 @@ fits held full new three some is same = subst (Keeps held) (sym same) (elim (fit
   )
 ])
 
+-- the bound stays
+added_bound : (line new : Line) (end : State) → MovesTo line end new → new.bound ≡ line.bound
+added_bound line new end ends = elim ends [
+  | inl stays ↦ ap (λ (l : Line). l.bound) stays.1
+  | inr adds ↦ ap (λ (l : Line). l.bound) adds.1 ∙ fitted_bound (put_last line end)
+]
+
+undone_bound : (line new : Line) (live : List Bool) → MovesByUndo line live new → new.bound ≡ line.bound
+undone_bound line new live u = elim u.2 [
+  | inl there ↦ ap (λ (l : Line). l.bound) there.1 ∙ sym u.1.bound
+  | inr other ↦ elim other [
+    | inl here ↦ ap (λ (l : Line). l.bound) here.2
+    | inr between ↦ ap (λ (l : Line). l.bound) between.2 ∙ fitted_bound (put_between u.0 (with_live line live) line) ∙ sym u.1.bound
+  ]
+]
+
+redone_bound : (line new : Line) (live : List Bool) → MovesByRedo line live new → new.bound ≡ line.bound
+redone_bound line new live r = elim r.2 [
+  | inl there ↦ ap (λ (l : Line). l.bound) there.1 ∙ r.1.bound
+  | inr other ↦ elim other [
+    | inl here ↦ ap (λ (l : Line). l.bound) here.2
+    | inr between ↦ ap (λ (l : Line). l.bound) between.2 ∙ fitted_bound (put_between line (with_live line live) r.0)
+  ]
+]
+
 -- a change or edit stays, or adds its end after the current state
 added : (line new : Line) (end : State) → 3 ≤ line.bound → MovesTo line end new → (states new ≡ states line) ⊎ Keeps (line.before ++ line.current ∷ new.current ∷ []) new
 added line new end three ends = elim ends [
@@ -64,15 +89,20 @@ redone line new live three r = elim r.2 [
 
 module _ (d : Database) (line : Line) (of : IsLineOf d line) where
   run_keeps : (command : Command) (told : Reported) (new : Line) → DoesByRun d line command told new → KeepsHistory line command new
-  run_keeps (Change ask events) told new run = added line new (with_live line run.live) of.is_line.bound.0 run.moved
-  run_keeps (Undo limit events) told new run = undone line new run.live of.is_line.bound.0 run.moved
-  run_keeps (Redo limit events) told new run = redone line new run.live of.is_line.bound.0 run.moved
+  run_keeps (Change ask events) told new run =
+      record { bound = added_bound line new (with_live line run.live) run.moved; history = added line new (with_live line run.live) of.is_line.bound.0 run.moved }
+  run_keeps (Undo limit events) told new run =
+      record { bound = undone_bound line new run.live run.moved; history = undone line new run.live of.is_line.bound.0 run.moved }
+  run_keeps (Redo limit events) told new run =
+      record { bound = redone_bound line new run.live run.moved; history = redone line new run.live of.is_line.bound.0 run.moved }
   run_keeps (Add name contents force) told new run = absurd run.task
   run_keeps (Delete words force) told new run = absurd run.task
 
   edit_keeps : (command : Command) (told : Reported) (new : Line) → DoesByEdit d line command told new → KeepsHistory line command new
-  edit_keeps (Add name contents force) told new edit = added line new (with_table line edit.table) of.is_line.bound.0 edit.moved
-  edit_keeps (Delete words force) told new edit = added line new (with_table line edit.table) of.is_line.bound.0 edit.moved
+  edit_keeps (Add name contents force) told new edit =
+      record { bound = added_bound line new (with_table line edit.table) edit.moved; history = added line new (with_table line edit.table) of.is_line.bound.0 edit.moved }
+  edit_keeps (Delete words force) told new edit =
+      record { bound = added_bound line new (with_table line edit.table) edit.moved; history = added line new (with_table line edit.table) of.is_line.bound.0 edit.moved }
   edit_keeps (Change ask events) told new edit = absurd edit.altered
   edit_keeps (Undo limit events) told new edit = absurd edit.altered
   edit_keeps (Redo limit events) told new edit = absurd edit.altered

@@ -43,13 +43,13 @@ covers true x y value = refl
 covers false x y value = refl
 
 -- a table with one more bundle, in its place
-record IsWith (old : Bundles) (name : List ℕ) (set : List Bool) (new : Bundles) : Type 0 where
-  order : IsInByteOrder (names_of new)
-  names : (other : List ℕ) → Contains (names_of new) other → (other ≡ name) ⊎ Contains (names_of old) other
-  now : (q : List ℕ) → value_of new q ≡ cond (bytes_eq q name) (Some set) (value_of old q)
-  long : length new ≡ suc (length old)
+pub record IsWith (old : Bundles) (name : List ℕ) (set : List Bool) (new : Bundles) : Type 0 where
+  pub order : IsInByteOrder (names_of new)
+  pub names : (other : List ℕ) → Contains (names_of new) other → (other ≡ name) ⊎ Contains (names_of old) other
+  pub now : (q : List ℕ) → value_of new q ≡ cond (bytes_eq q name) (Some set) (value_of old q)
+  pub long : length new ≡ suc (length old)
 
-all_from : (P : List ℕ → Type 0) (xs : List (List ℕ)) → ((x : List ℕ) → Contains xs x → P x) → All P xs
+pub all_from : (P : List ℕ → Type 0) (xs : List (List ℕ)) → ((x : List ℕ) → Contains xs x → P x) → All P xs
 all_from P xs each = λ k d within. each (slice_index_or xs k d) (k, within, same_default xs k (slice_index_or xs k d) d within)
   where
     same_default : (ys : List (List ℕ)) (k : ℕ) (a b : List ℕ) → k < length ys → slice_index_or ys k a ≡ slice_index_or ys k b
@@ -57,7 +57,7 @@ all_from P xs each = λ k d within. each (slice_index_or xs k d) (k, within, sam
     same_default (y ∷ ys) zero a b within = refl
     same_default (y ∷ ys) (suc k) a b within = same_default ys k a b (omega arith)
 
-put_in : (table : Bundles) (name : List ℕ) (set : List Bool) → IsInByteOrder (names_of table) → (Contains (names_of table) name → ⊥) → (new : Bundles) × IsWith table name set new
+pub put_in : (table : Bundles) (name : List ℕ) (set : List Bool) → IsInByteOrder (names_of table) → (Contains (names_of table) name → ⊥) → (new : Bundles) × IsWith table name set new
 put_in [] name set order fresh = (
   (name, set) ∷ [],
   record {

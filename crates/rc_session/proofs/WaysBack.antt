@@ -39,8 +39,8 @@ way_between : (from to : List Bool) (limit : ℕ) → length to ≡ length from 
 way_between from to limit long =
     let plan = plan_between from to long in
     elim (list_decided from to flag_decided) [
-      | inl same ↦ (plan.0, None, record { leads = plan.1; free = λ is. refl; bound = λ other. absurd (other same) })
-      | inr other ↦ (plan.0, deadline_of 0 limit, record { leads = plan.1; free = λ same. absurd (other same); bound = λ is. refl })
+      | inl same ↦ (plan.0, None, record { leads = plan.1; untimed = λ is. refl; timed = λ other. absurd (other same) })
+      | inr other ↦ (plan.0, deadline_of 0 limit, record { leads = plan.1; untimed = λ same. absurd (other same); timed = λ is. refl })
     ]
 
 module _ (d : Database) (line : Line) (is_db : IsDatabase d) (of : IsLineOf d line) where

@@ -7,14 +7,15 @@ ghost use Rattle.rc_model.specs.Names.{Holds};
 ghost use Rattle.rc_graph.specs.declared.Way.{Way};
 ghost use Rattle.rc_model.specs.declared.Event.{Event};
 ghost use Rattle.rc_core.specs.End.{EndOf};
-ghost use Rattle.rc_model.specs.Run.{HasFailed, IsCourse, course_of, IsSettled};
+ghost use Rattle.rc_model.specs.Run.{HasFailed, course_of, IsSettled};
+ghost use Rattle.rc_model.specs.Beside.{IsCourse, IsEditOnly};
 ghost use Rattle.rc_core.specs.Failing.{EndsAs};
-ghost use Rattle.rc_model.specs.Line.{IsEditOnly, Line, IsNext};
+ghost use Rattle.rc_model.specs.Line.{Line, IsNext};
 ghost use Rattle.rc_model.specs.declared.Refusal.{Refusal};
 ghost use Rattle.rc_model.specs.Session.{Command, Undo, Redo, events_of, Reported, IsTask, deadline_of, DoesByRun, IsLineOf, Answers, Plays};
 ghost use Rattle.rc_session.specs.Alike.{IsEndOfFailing};
 ghost use Rattle.rc_session.specs.Existence.{WaysBack, WaysOn, EachIsAnswered};
-ghost use Rattle.rc_model.specs.Headline.{RunsAreOrderly, ChangesAreEntered, EditsAreEntered, UndosRestore, RedosRestore, UndosLeaveWhatRemains, RedosLeaveWhatRemains, HistoryIsKept, UndosGoOn, RedosGoOn, IsPromisedAllAlong};
+ghost use Rattle.rc_model.specs.Headline.{RunsAreOrderly, ChangesAreEntered, EditsAreEntered, UndosRestore, RedosRestore, UndosLeaveWhatRemains, RedosLeaveWhatRemains, HistoryIsKept, UndosGoOn, RedosGoOn, Headline};
 
 /// The headline. For every database, every line of it and every list of commands, with whatever
 /// events: each change runs in dependency order and keeps what is live strictly closed; its entry
@@ -24,8 +25,7 @@ ghost use Rattle.rc_model.specs.Headline.{RunsAreOrderly, ChangesAreEntered, Edi
 /// remains, a failed redo what remains; and the next one that goes well ends where the failed one
 /// was to end.
 pub fn headline()
-    ensures { (d : Database) (line new : Line) (commands : List Command) (answers : List (Result Reported Refusal)) →
-        IsDatabase d → IsLineOf d line → Plays d line commands answers new → IsPromisedAllAlong d line commands answers new }
+    ensures { Headline }
 {}
 
 /// What runs is a settled run of its command's task, strictly closed at each moment, and the new state has what is live in the end.

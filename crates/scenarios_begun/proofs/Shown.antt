@@ -1,6 +1,7 @@
 use Rattle.std.proofs.Common.{◌≡◌, ℕ, List, Option, sym, subst}
 use Rattle.rc_model.specs.Plan.{PlanSets}
-use Rattle.rc_model.specs.Run.{course_of, IsCourse}
+use Rattle.rc_model.specs.Run.{course_of}
+use Rattle.rc_model.specs.Beside.{IsCourse}
 
 -- a course of the same needs, plan and deadline is one
 pub shown : (needs other : List (List ℕ)) (plan shown_plan : PlanSets) (deadline shown_deadline : Option ℕ) →

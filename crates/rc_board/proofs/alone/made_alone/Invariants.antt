@@ -1,5 +1,5 @@
 use Rattle.std.proofs.Common.{◌≡◌, ◌+◌, ◌-◌, ◌*◌, length}
-use Rattle.rc_model.specs.Run.{planned_count}
+use Rattle.rc_model.specs.Beside.{planned_count}
 use Rattle.rc_board.specs.Made.{AreMade}
 use Rattle.rc_board.proofs.alone.made_alone.Given as goal
 

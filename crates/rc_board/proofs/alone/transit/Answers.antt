@@ -1,5 +1,5 @@
 use Rattle.std.proofs.Common.{◌≤◌, ◌+◌, ◌*◌, arith}
-use Rattle.rc_model.specs.Run.{planned_count}
+use Rattle.rc_model.specs.Beside.{planned_count}
 use Rattle.rc_board.proofs.Counting.{run_fits}
 use Rattle.rc_board.proofs.alone.transit.Goals as goal
 

@@ -1,6 +1,7 @@
 use Rattle.std.proofs.Common.{◌≡◌, ◌∙◌, ◌<◌, ◌≤◌, ℕ, [], ap, sym, subst, rules}
 use Rattle.std.proofs.Math.Nat.{min-le_left}
-use Rattle.rc_model.specs.Run.{Course, IsPlanned, course_of, planned_count, IsSettled}
+use Rattle.rc_model.specs.Run.{Course, IsPlanned, course_of, IsSettled}
+use Rattle.rc_model.specs.Beside.{planned_count}
 use Rattle.rc_core.specs.Settled.{RunSoFar}
 use Rattle.rc_board.proofs.Counting.{idle_settled, none_planned, one_planned, ok_always}
 use Rattle.rc_board.proofs.Making.{ok_by_more, may_halt}

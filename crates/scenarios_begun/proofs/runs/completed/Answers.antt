@@ -1,7 +1,8 @@
 use Rattle.std.proofs.Common.{◌≡◌, ◌∙◌, List, ℕ, ap}
 use Rattle.rc_model.specs.Database.{Database}
 use Rattle.rc_session.specs.Holding.{Holding}
-use Rattle.rc_model.specs.Run.{course_of, IsCourse}
+use Rattle.rc_model.specs.Run.{course_of}
+use Rattle.rc_model.specs.Beside.{IsCourse}
 use Rattle.scenarios_begun.proofs.Shown.{shown}
 use Rattle.scenarios_begun.proofs.runs.completed.Goals as goal
 

@@ -1,6 +1,6 @@
 use Rattle.std.proofs.Common.{◌≡◌, ◌∙◌, ◌≤◌, ◌+◌, ◌*◌, List, length, vec_capacity, ap, sym, subst, arith}
 use Rattle.rc_model.specs.declared.Event.{Event}
-use Rattle.rc_model.specs.Run.{planned_count}
+use Rattle.rc_model.specs.Beside.{planned_count}
 use Rattle.rc_board.specs.Sight.{Sight}
 use Rattle.rc_board.proofs.Counting.{run_fits}
 use Rattle.rc_board.proofs.glance.Glance.refill.Goals as goal
