@@ -275,6 +275,31 @@ done
 rm -f come.*
 session 'raised s1 s2 s3 s4 s5\nok\n' '' 'change s1 s2 s3 s4 s5\n' -w 5
 
+# One that goes down and one that comes up wait for each other.
+begin_tree
+oneshot a true
+down a "$(meets a b 40)"
+oneshot b "$(meets b a 40)"
+for workers in 2 64; do
+    rm -f come.*
+    session 'raised a\nok\nlowered a\nraised b\nok\n' '' '-u change a\n-p change b\n' -w "$workers"
+done
+rm -f come.*
+tells 'raised a\nok\nraised b\nfailed a\nok\n' 'up a: started\nup a: ok\ndown a: started\ndown a: failed 9\nup b: started\nup b: ok\n' \
+    '-u change a\n-p change b\n' -w 1
+
+# 64 that come up wait for each other.
+begin_tree
+all=$(seq 10 73 | sed 's/^/s/' | tr '\n' ' ')
+all=${all% }
+for name in $all; do
+    oneshot "$name" "touch come.$name; n=0
+        until [ -e come.all ]; do n=\$((n + 1)); [ \$n -le 400 ] || exit 9; sleep 0.05
+            set -- come.s*; [ \$# -lt 64 ] || touch come.all; done"
+done
+rm -f come.*
+session "raised $all\nok\n" '' "change $all\n" -w 64
+
 # 300 oneshots with drawn needs: each begins after all that it needs have ended, and on the way down before.
 awk 'BEGIN {
     srand(7)

@@ -34,7 +34,7 @@ pub fn sample(alloc: Global) -> Result<Db, Fail> {
 
 /// The database of these services, in the order of their names, of these needs and these bundles. Each oneshot
 /// runs the one text on both ways, but an essential one has nothing to run on the way down.
-pub fn db_of(
+fn db_of(
     alloc: Global,
     rows: &[Row],
     needs: &[(u16, u16)],
@@ -120,7 +120,7 @@ fn text_of(alloc: Global, has_text: bool) -> Result<Option<String>, NoMem> {
 }
 
 /// The table of these bundles, whose sets have this bound.
-pub fn table_of(alloc: Global, bound: u16, bundles: &[Bundle]) -> Result<Table, Fail>
+fn table_of(alloc: Global, bound: u16, bundles: &[Bundle]) -> Result<Table, Fail>
     requires { bound ≤ 4096 }
 {
     let mut table = Table::new(alloc);

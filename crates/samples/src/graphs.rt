@@ -1,11 +1,10 @@
-//! Small sets and graphs, and how a table of rows is told.
+//! Small sets and graphs.
 
 ghost use Rattle.std.specs.Prelude.{◌≡◌, ◌≤◌, length, IfOk};
 
 use rc_graph::{Draft, Graph};
 use rc_set::{NoMem, Set};
 use std::alloc::Global;
-use std::io;
 use std::test::Fail;
 
 /// The services of the sample, in the order of their names.
@@ -43,7 +42,7 @@ pub fn has_ids(alloc: Global, set: &Set, ids: &[u16]) -> Result<bool, NoMem> {
 }
 
 /// The draft of these pairs, without those that name what is no service.
-pub fn draft_of(alloc: Global, services: u16, pairs: &[(u16, u16)]) -> Result<Draft, NoMem>
+fn draft_of(alloc: Global, services: u16, pairs: &[(u16, u16)]) -> Result<Draft, NoMem>
     requires { services ≤ 4096 }
     ensures { IfOk result (λ draft. length draft ≡ services) }
 {
@@ -74,12 +73,4 @@ pub fn widest_fan(alloc: Global) -> Result<Graph, Fail>
         pairs.push((service, 0))?;
     }
     graph_of(alloc, 4096, &pairs)
-}
-
-/// Tells the number of a row that is wrong, and nothing of one that is right.
-pub fn show_row(rt: &impl Print, number: usize, is_right: bool) -> io::Result<()> {
-    if is_right {
-        return Ok(());
-    }
-    print!(rt; ", row {number} is wrong")
 }

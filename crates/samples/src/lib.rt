@@ -1,5 +1,5 @@
 //! What tests share: small sets, graphs and databases, changes that are drawn with what they come to by plain rules and
-//! workers that carry them out in drawn orders, and how a table of rows is told.
+//! workers that carry them out in drawn orders.
 #![tactic(auto)]
 
 mod databases;
@@ -9,13 +9,9 @@ mod plain;
 mod same;
 mod work;
 
-pub use crate::databases::{
-    BUNDLES, Bundle, Row, SERVICES, db_of, parts_of, sample, table_of, words_of,
-};
+pub use crate::databases::{BUNDLES, Bundle, Row, SERVICES, parts_of, sample, words_of};
 pub use crate::draw::{Change, Draw, drawn_needs};
-pub use crate::graphs::{
-    DB, LOG, NEEDS, NET, ROOT, WEB, draft_of, graph_of, has_ids, set_of, show_row, widest_fan,
-};
+pub use crate::graphs::{DB, LOG, NEEDS, NET, ROOT, WEB, graph_of, has_ids, set_of, widest_fan};
 pub use crate::plain::{End, end_of};
 pub use crate::same::is_same;
 pub use crate::work::{carry_out, run_between};

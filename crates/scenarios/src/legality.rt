@@ -1,10 +1,11 @@
-//! Each list of a few events is taken exactly where the plain program says that it is legal.
+//! Each list of a few events is taken exactly where the plain program says that it is legal, and who asks for a job after
+//! one is answered as that program says.
 
 ghost use Rattle.std.specs.Prelude.{◌≤◌};
 
-use crate::plain::{Plain, is_legal};
+use crate::plain::{Asked, Plain, answer_to, is_legal};
 use crate::steps::make;
-use rc_core::{Event, Outcome, Run};
+use rc_core::{Event, NotLegal, Outcome, Run, Took};
 use rc_graph::Graph;
 use rc_set::NoMem;
 use samples::{graph_of, run_between};
@@ -33,12 +34,17 @@ struct Trial<'a> {
     alphabet: &'a [Event],
 }
 
-/// How many lists were tried, and how many of them were taken or refused otherwise than the plain program says.
+/// How many lists were tried, how many workers asked after one, and how often that came to something else than the plain
+/// program says.
 #[derive(Clone, Copy, Drop)]
 struct Tally {
     tried: u32,
+    asked: u32,
     wrong: u32,
 }
+
+/// Who asks: the workers of the events, another, and two that are none.
+const WORKERS: [u8; 5] = [1, 2, 64, 0, 65];
 
 /// Tries each event after each list of at most so many legal ones. A refused event changes nothing, so these are all lists.
 fn try_all(alloc: Global, plain: &Plain, alphabet: &[Event], length: u32) -> Result<Tally, Fail>
@@ -63,7 +69,11 @@ fn try_on(
         alphabet,
     };
     let mut made = Vec::new(alloc);
-    let mut tally = Tally { tried: 0, wrong: 0 };
+    let mut tally = Tally {
+        tried: 0,
+        asked: 0,
+        wrong: 0,
+    };
     try_after(alloc, &trial, &mut made, length, &mut tally)?;
     Ok(tally)
 }
@@ -75,6 +85,9 @@ fn try_after(
     more: u32,
     tally: &mut Tally,
 ) -> Result<(), NoMem> {
+    for worker in WORKERS {
+        ask_one(alloc, trial, made, worker, tally)?;
+    }
     for event in trial.alphabet {
         if try_one(alloc, trial, made, *event, tally)? && more > 0 {
             made.push(*event)?;
@@ -100,6 +113,58 @@ fn try_one(
         tally.wrong = tally.wrong.saturating_add(1);
     }
     Ok(legal)
+}
+
+/// A worker asks after a list.
+fn ask_one(
+    alloc: Global,
+    trial: &Trial,
+    made: &[Event],
+    worker: u8,
+    tally: &mut Tally,
+) -> Result<(), NoMem> {
+    let want = answer_to(trial.plain, made, worker);
+    let answer = answered(alloc, trial, made, worker)?;
+    tally.asked = tally.asked.saturating_add(1);
+    if answer != Some(want) {
+        tally.wrong = tally.wrong.saturating_add(1);
+    }
+    Ok(())
+}
+
+/// What a worker is answered after these events, or nothing where these are refused, its job is not legal, or the trace is
+/// not as it must be.
+fn answered(
+    alloc: Global,
+    trial: &Trial,
+    made: &[Event],
+    worker: u8,
+) -> Result<Option<Asked>, NoMem> {
+    let plain = trial.plain;
+    match run_between(alloc, trial.graph, plain.up, plain.target, plain.deadline)? {
+        Some(run) => Ok(answer_of(run, plain, made, worker)),
+        None => Ok(None),
+    }
+}
+
+fn answer_of(mut run: Run, plain: &Plain, made: &[Event], worker: u8) -> Option<Asked> {
+    let is_made = make(&mut run, made).is_ok();
+    let took = run.take(worker);
+    let events = run.trace().len();
+    drop(run);
+    let (answer, is_right) = match took {
+        Ok(Took::Job(job)) => {
+            let event = Event::Take(worker, job.service());
+            (
+                Asked::Job,
+                is_legal(plain, made, event) && events == made.len() + 1,
+            )
+        }
+        Ok(Took::Wait) => (Asked::Wait, events == made.len()),
+        Ok(Took::Settled) => (Asked::Settled, events == made.len()),
+        Err(NotLegal) => (Asked::NotLegal, events == made.len()),
+    };
+    (is_made && is_right).then_some(answer)
 }
 
 /// Whether a run takes one more event after these, or nothing where these are refused or its trace is not as it must be.
@@ -194,7 +259,7 @@ fn tried(alloc: Global, plain: &Plain, further: &[Event], length: u32) -> Result
 
 fn show_tally(rt: &impl Print, what: &str, tally: Tally) -> io::Result<()> {
     println!(rt;
-        "{what}: {} lists, taken or refused otherwise than the rules say: {}",
-        tally.tried, tally.wrong
+        "{what}: {} lists, {} times a worker that asks, otherwise than the rules say: {}",
+        tally.tried, tally.asked, tally.wrong
     )
 }

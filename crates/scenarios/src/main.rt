@@ -1,40 +1,42 @@
-//! Whole runs: what a worker that asks is answered, whether lists of events are taken exactly where a plain program says
-//! that they are legal, a graph of as many services as there may be, and drawn changes, each carried out in many orders.
+//! What no command of the built program shows: which texts are names and the words of some refusals, sets of all ids below
+//! a bound, parts of a database that do not fit together, trees in memory, and a graph of as many services as there may
+//! be. Whether lists of events are taken, and who asks is answered, exactly where a plain program says so. Drawn changes,
+//! each carried out in many orders, and drawn databases, each written and read back, and once more after edits of bytes.
 #![tactic(auto)]
 
+mod compare;
+mod device;
+mod drawn;
+mod edits;
+mod joining;
 mod legality;
+mod names;
 mod plain;
 mod schedules;
+mod sets;
 mod steps;
-mod taking;
+mod trees;
+mod tried;
 mod wide;
 
+use crate::joining::show_joined;
 use crate::legality::show_legality;
+use crate::names::{show_names, show_words};
 use crate::schedules::show_schedules;
-use crate::taking::show_asked;
+use crate::sets::show_sets;
+use crate::trees::show_trees;
+use crate::tried::show_drawn;
 use crate::wide::show_wide;
-use rc_core::NotLegal;
-use rc_graph::Graph;
-use samples::{NEEDS, graph_of};
-use std::io;
 use std::test::Fail;
 
 fn main(rt: HostRuntime) -> Result<(), Fail> {
-    show_runs(&rt)?;
+    show_names(&rt)?;
+    show_words(&rt)?;
+    show_sets(&rt)?;
+    show_joined(&rt)?;
+    show_trees(&rt)?;
     show_wide(&rt)?;
     show_legality(&rt)?;
-    show_schedules(&rt)
-}
-
-fn show_runs(rt: &(impl Print + AllocGlobal)) -> Result<(), Fail> {
-    let graph = graph_of(rt.alloc(), 5, &NEEDS)?;
-    let shown = show_sample(rt, &graph);
-    drop(graph);
-    Ok(shown?)
-}
-
-/// Runs on the sample.
-fn show_sample(rt: &(impl Print + AllocGlobal), graph: &Graph) -> io::Result<()> {
-    show_asked(rt, graph)?;
-    println!(rt; "a refusal says: {NotLegal}")
+    show_schedules(&rt)?;
+    show_drawn(&rt)
 }

@@ -28,6 +28,38 @@ pub(crate) fn is_legal(p: &Plain, events: &[Event], event: Event) -> bool {
     }
 }
 
+/// What a worker that asks is answered.
+#[derive(Clone, Copy, PartialEq, Eq)]
+pub(crate) enum Asked {
+    /// It is no worker, or holds a service.
+    NotLegal,
+    Job,
+    /// There is nothing to take now, and some worker holds a service.
+    Wait,
+    Settled,
+}
+
+/// What a worker is answered after a list of events.
+pub(crate) fn answer_to(p: &Plain, events: &[Event], worker: u8) -> Asked {
+    if !is_worker(worker) || is_busy(p, events, worker) {
+        return Asked::NotLegal;
+    }
+    let mut answer = Asked::Settled;
+    for service in 0..p.services {
+        if is_legal(p, events, Event::Take(worker, service)) {
+            return Asked::Job;
+        }
+        if is_moving(standing(p, events, service)) {
+            answer = Asked::Wait;
+        }
+    }
+    answer
+}
+
+fn is_moving(standing: Standing) -> bool {
+    matches!(standing, Standing::Rising | Standing::Sinking)
+}
+
 fn is_worker(worker: u8) -> bool {
     (1..=64).contains(&worker)
 }

@@ -1,10 +1,6 @@
 //! Events that are made on a run, and events that it refuses.
 
 use rc_core::{Event, NotLegal, Run};
-use samples::{DB, LOG, NET, ROOT, WEB};
-
-/// The services of the sample.
-pub(crate) const ALL: [u16; 5] = [DB, LOG, NET, ROOT, WEB];
 
 pub(crate) fn make(run: &mut Run, events: &[Event]) -> Result<(), NotLegal> {
     for event in events {

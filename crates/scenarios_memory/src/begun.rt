@@ -7,13 +7,14 @@ ghost use Rattle.rc_model.specs.Run.{course_of, TargetOf};
 ghost use Rattle.rc_model.specs.Session.{HasRun};
 ghost use Rattle.rc_session.specs.Commands.{command_of};
 
+use crate::calls::{by_events, planned};
 use rc_core::{Ended, Event, Outcome, Run, Standing, Took};
 use rc_graph::Graph;
 use rc_select::Plan;
 use rc_session::{Refusal, Session, Step};
 use rc_set::NoMem;
 use samples::{ROOT, run_between};
-use std::alloc::{AllocError, AllocGlobal};
+use std::alloc::{AllocError, AllocGlobal, Global};
 use std::io::Print;
 
 /// More turns than an undo asks for.
@@ -41,11 +42,26 @@ pub(crate) fn abandoned(
     if spoils {
         go_on_to(rt, "spoil");
         session.spoil(begun);
-    } else {
-        go_on_to(rt, "abandon");
-        session.abandon(begun);
+        go_on_to(rt, "a plan and the change once more");
+        return refused(rt.alloc(), session, step);
     }
+    go_on_to(rt, "abandon");
+    session.abandon(begun);
     Ok(())
+}
+
+/// Whether a poisoned session refuses a plan and a step.
+fn refused(alloc: Global, session: &mut Session, step: &Step) -> Result<(), Refusal>
+    requires { session.old.begun ≡ false }
+    ensures { session.new.begun ≡ false }
+{
+    let planned = planned(alloc, session, step);
+    let made = by_events(alloc, session, step);
+    if matches!(planned, Err(Refusal::Strange)) && matches!(made, Err(Refusal::Strange)) {
+        Ok(())
+    } else {
+        Err(Refusal::NotEdit)
+    }
 }
 
 /// Whether a step is a change, an undo or a redo.
@@ -72,8 +88,13 @@ pub(crate) fn completed(
         Ok(run) => {
             go_on_to(rt, "complete");
             let report = session.complete(begun, run);
+            let moved = report.lowered.len().saturating_add(report.raised.len());
             drop(report);
-            Ok(())
+            if moved == 5 {
+                Ok(())
+            } else {
+                Err(Refusal::Strange)
+            }
         }
         Err(_) => {
             session.abandon(begun);

@@ -6,7 +6,7 @@ use crate::begun::{abandoned, completed, is_stopped};
 use crate::lines::{is_of_states, is_stepped_on};
 use crate::rows::How;
 use crate::values::told_of;
-use crate::workers::by_workers;
+use crate::workers::{by_workers, within};
 use rc_board::Fault;
 use rc_session::{Refusal, Session, Step};
 use rc_set::NoMem;
@@ -26,12 +26,13 @@ pub(crate) fn made<R: Print + AllocGlobal + Threads + Wait + Sync>(
     requires { session.old.begun ≡ false }
     ensures { session.new.begun ≡ false }
 {
-    if let How::Workers(workers) = how {
-        return by_workers(rt, session, workers, steps.first());
-    }
-    match told(rt, session, how, steps, text) {
-        Ok(()) => Ok(()),
-        Err(refusal) => Err(Fault::Refused(refusal)),
+    match how {
+        How::Workers(workers) => by_workers(rt, session, workers, steps.first()),
+        How::Within => within(rt, session, steps.first()),
+        _ => match told(rt, session, how, steps, text) {
+            Ok(()) => Ok(()),
+            Err(refusal) => Err(Fault::Refused(refusal)),
+        },
     }
 }
 
@@ -47,7 +48,7 @@ fn told(
 {
     let alloc = rt.alloc();
     match (how, steps.first()) {
-        (How::Value(value), _) => told_of(alloc, session, value, text),
+        (How::Of(value), _) => told_of(alloc, session, value, text),
         (How::Stop, _) => answered(is_stopped(rt, session.db().graph())),
         (How::States, _) => answered(is_of_states(rt, session.db().table(), session.table())),
         (How::StepOn, _) => answered(is_stepped_on(rt, session.journal(), session.table())),
@@ -81,7 +82,7 @@ fn played(alloc: Global, session: &mut Session, steps: &[Step]) -> Result<(), Re
     }
 }
 
-fn by_events(alloc: Global, session: &mut Session, step: &Step) -> Result<(), Refusal>
+pub(crate) fn by_events(alloc: Global, session: &mut Session, step: &Step) -> Result<(), Refusal>
     requires { session.old.begun ≡ false }
     ensures { session.new.begun ≡ false }
 {
@@ -111,7 +112,7 @@ fn edited(alloc: Global, session: &mut Session, step: &Step) -> Result<(), Refus
     }
 }
 
-fn planned(alloc: Global, session: &Session, step: &Step) -> Result<(), Refusal> {
+pub(crate) fn planned(alloc: Global, session: &Session, step: &Step) -> Result<(), Refusal> {
     let Step::Change(request, _) = step else {
         return Err(Refusal::Strange);
     };

@@ -19,7 +19,7 @@ use crate::calls::made;
 use crate::lines::show_edit;
 use crate::own::{show_came, show_own};
 use crate::rows::{How, ROWS, Row};
-use crate::steps::{Kind, steps_of};
+use crate::steps::steps_of;
 use crate::tables::altered;
 use rc_board::Fault;
 use rc_db::Db;
@@ -64,12 +64,12 @@ fn show_on<R: Print + AllocGlobal + Threads + Wait + Sync>(
 ) -> io::Result<()>
     requires { session.old.begun ≡ false }
 {
-    let (what, before, how, kinds) = row;
+    let (what, before, how, words) = row;
     set_up(rt.alloc(), session, before)?;
-    let steps = steps_of(rt.alloc(), kinds)?;
+    let steps = steps_of(rt.alloc(), words)?;
     let shown = match how {
         How::Table => show_table(rt, session.db(), what, steps.first()),
-        How::Own(own) => show_own(rt, what, *own),
+        How::Own(given) => show_own(rt, what, *given),
         How::Line => show_edit(rt, session.journal(), what),
         _ => show_call(rt, session, what, *how, &steps),
     };
@@ -77,11 +77,11 @@ fn show_on<R: Print + AllocGlobal + Threads + Wait + Sync>(
     shown
 }
 
-fn set_up(alloc: Global, session: &mut Session, kinds: &[Kind]) -> Result<(), NoMem>
+fn set_up(alloc: Global, session: &mut Session, words: &str) -> Result<(), NoMem>
     requires { session.old.begun ≡ false }
     ensures { session.new.begun ≡ false }
 {
-    let steps = steps_of(alloc, kinds)?;
+    let steps = steps_of(alloc, words)?;
     let played = session.play(alloc, &steps);
     drop(steps);
     match played {
@@ -118,16 +118,14 @@ fn show_table(
     let _ = print!(rt; "{what}: ");
     let came = altered(rt.alloc(), &mut table, db, step);
     let is_same = table.same(db.table());
+    let bundles = table.len();
     drop(table);
     show_came(rt, came)?;
-    println!(rt;
-        "{}",
-        if is_same {
-            "as before"
-        } else {
-            "now another table"
-        }
-    )
+    if is_same {
+        println!(rt; "as before")
+    } else {
+        println!(rt; "now {bundles} bundles")
+    }
 }
 
 /// Whether a session has this text, or else where it stands.

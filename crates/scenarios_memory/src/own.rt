@@ -3,7 +3,7 @@
 ghost use Rattle.std.specs.Prelude.{◌≡◌, ◌≤◌, length, IfOk};
 
 use crate::begun::go_on_to;
-use crate::rows::Own;
+use crate::rows::Given;
 use crate::steps::name_of;
 use rc_board::Fault;
 use rc_db::{MAX_BUNDLES, Table};
@@ -11,7 +11,7 @@ use rc_graph::Draft;
 use rc_names::{MAX_NAMES, Name, Names};
 use rc_session::Refusal;
 use rc_set::{NoMem, Set};
-use samples::{draft_of, set_of};
+use samples::set_of;
 use std::alloc::{AllocGlobal, Global};
 use std::io;
 use std::io::Print;
@@ -20,16 +20,7 @@ use std::io::Print;
 static NINE: [&str; 9] = ["b", "c", "d", "e", "f", "g", "h", "i", "j"];
 
 /// As many needs of the first service as stand in a list that has taken no memory.
-static NEEDS: [(u16, u16); 8] = [
-    (0, 1),
-    (0, 2),
-    (0, 3),
-    (0, 4),
-    (0, 5),
-    (0, 6),
-    (0, 7),
-    (0, 8),
-];
+const EIGHT: [u16; 8] = [1, 2, 3, 4, 5, 6, 7, 8];
 
 /// What a call is refused for.
 pub(crate) fn fault_of(came: Result<(), NoMem>) -> Result<(), Fault> {
@@ -40,11 +31,15 @@ pub(crate) fn fault_of(came: Result<(), NoMem>) -> Result<(), Fault> {
 }
 
 /// The call, what it came to, and whether the value is as it was.
-pub(crate) fn show_own(rt: &(impl Print + AllocGlobal), what: &str, own: Own) -> io::Result<()> {
-    match own {
-        Own::Names => show_names(rt, what),
-        Own::Draft => show_draft(rt, what),
-        Own::Table => show_table(rt, what),
+pub(crate) fn show_own(
+    rt: &(impl Print + AllocGlobal),
+    what: &str,
+    given: Given,
+) -> io::Result<()> {
+    match given {
+        Given::Names => show_names(rt, what),
+        Given::Draft => show_draft(rt, what),
+        Given::Bundles => show_table(rt, what),
     }
 }
 
@@ -104,11 +99,21 @@ fn are_nine(names: &Names) -> bool {
 }
 
 fn show_draft(rt: &(impl Print + AllocGlobal), what: &str) -> io::Result<()> {
-    let mut draft = draft_of(rt.alloc(), 10, &NEEDS)?;
+    let mut draft = eight_needs(rt.alloc())?;
     let _ = print!(rt; "{what}: ");
     let came = needed(rt, &mut draft);
     show_came(rt, fault_of(came))?;
     show_same(rt, has_eight_needs(draft))
+}
+
+fn eight_needs(alloc: Global) -> Result<Draft, NoMem>
+    ensures { IfOk result (λ draft. length draft ≡ 10) }
+{
+    let mut draft = Draft::new(alloc, 10)?;
+    for service in 1..9 {
+        draft.need(0, service)?;
+    }
+    Ok(draft)
 }
 
 fn needed(rt: &impl Print, draft: &mut Draft) -> Result<(), NoMem>
@@ -122,7 +127,7 @@ fn needed(rt: &impl Print, draft: &mut Draft) -> Result<(), NoMem>
 /// Whether the first service needs the eight after it, and nothing else.
 fn has_eight_needs(draft: Draft) -> bool {
     match draft.finish() {
-        Ok(graph) => graph.len() > 0 && graph.needs(0) == [1, 2, 3, 4, 5, 6, 7, 8].as_slice(),
+        Ok(graph) => graph.len() > 0 && graph.needs(0) == EIGHT.as_slice(),
         Err(_) => false,
     }
 }

@@ -1,12 +1,18 @@
 //! The calls: the name of each, what was done before it, how it is made and by which steps.
 
-use crate::steps::Kind;
-use crate::values::Value;
+use crate::rows::How::{
+    Abandon, By, Complete, Dry, Edit, Line, Of, Own, Play, Spoil, States, StepOn, Stop, Table,
+    Within, Workers,
+};
+use crate::values::Value::{
+    self, DownOf, EditBetween, EditCopy, GraphShare, LineCopy, LineState, NameCopy, NameRead,
+    PadNew, PlanBetween, PlanUp, ReadLive, SetCopy, SetEmpty, SetIds, TableCopy, UpOf, WriteLive,
+};
 
 #[derive(Clone, Copy)]
 pub(crate) enum How {
     /// On what the session holds.
-    Value(Value),
+    Of(Value),
     /// A run is begun and abandoned.
     Abandon,
     /// A run is begun and poisoned.
@@ -25,6 +31,8 @@ pub(crate) enum How {
     Play,
     /// By so many workers, with a gate.
     Workers(u8),
+    /// By one worker, with a gate whose third moment is 5.
+    Within,
     /// A run that is stopped.
     Stop,
     /// A line of two states.
@@ -34,178 +42,82 @@ pub(crate) enum How {
     /// On a copy of the session's line.
     Line,
     /// On a value of its own.
-    Own(Own),
+    Own(Given),
 }
 
 #[derive(Clone, Copy)]
-pub(crate) enum Own {
+pub(crate) enum Given {
     /// Names, to which one is added.
     Names,
     /// A draft, in which one service needs one more.
     Draft,
     /// A table, into which a bundle is put.
-    Table,
+    Bundles,
 }
 
-pub(crate) type Row = (&'static str, &'static [Kind], How, &'static [Kind]);
+pub(crate) type Row = (&'static str, &'static str, How, &'static str);
 
-const NONE: &[Kind] = &[];
-
-pub(crate) static ROWS: [Row; 46] = [
+pub(crate) static ROWS: [Row; 57] = [
     (
         "Set::empty, and insert, remove, contains, join, without, same, len, is_empty and bound",
-        &[Kind::Up],
-        How::Value(Value::SetEmpty),
-        NONE,
+        "up",
+        Of(SetEmpty),
+        "",
     ),
-    ("Set::copy", &[Kind::Up], How::Value(Value::SetCopy), NONE),
-    ("Set::ids", &[Kind::Up], How::Value(Value::SetIds), NONE),
-    ("Name::read", NONE, How::Value(Value::NameRead), NONE),
-    ("Name::copy", NONE, How::Value(Value::NameCopy), NONE),
-    ("Names::add", NONE, How::Own(Own::Names), NONE),
-    ("Draft::need", NONE, How::Own(Own::Draft), NONE),
-    ("Graph::share", NONE, How::Value(Value::GraphShare), NONE),
-    ("Graph::up_of", &[Kind::Up], How::Value(Value::UpOf), NONE),
-    (
-        "Graph::down_of",
-        &[Kind::Up],
-        How::Value(Value::DownOf),
-        NONE,
-    ),
-    ("Table::set", NONE, How::Own(Own::Table), NONE),
-    (
-        "Table::copy",
-        &[Kind::Add],
-        How::Value(Value::TableCopy),
-        NONE,
-    ),
-    (
-        "Edit::between",
-        &[Kind::Add],
-        How::Value(Value::EditBetween),
-        NONE,
-    ),
-    (
-        "Edit::copy",
-        &[Kind::Up, Kind::Add],
-        How::Value(Value::EditCopy),
-        NONE,
-    ),
-    (
-        "rc_select::between",
-        &[Kind::Up],
-        How::Value(Value::PlanBetween),
-        NONE,
-    ),
-    (
-        "rc_select::plan_up",
-        &[Kind::Up],
-        How::Value(Value::PlanUp),
-        NONE,
-    ),
-    (
-        "Line::copy",
-        &[Kind::Up, Kind::Add, Kind::Back],
-        How::Value(Value::LineCopy),
-        NONE,
-    ),
-    (
-        "Line::state",
-        &[Kind::Up, Kind::Add],
-        How::Value(Value::LineState),
-        NONE,
-    ),
-    ("two states", &[Kind::Add], How::States, NONE),
-    ("Line::state", &[Kind::Up, Kind::Add], How::StepOn, NONE),
-    ("Line::open_edit", NONE, How::Line, NONE),
-    (
-        "write_live",
-        &[Kind::Up, Kind::Add],
-        How::Value(Value::WriteLive),
-        NONE,
-    ),
-    (
-        "read_live",
-        &[Kind::Up, Kind::Add],
-        How::Value(Value::ReadLive),
-        NONE,
-    ),
-    ("rc_bundle::add", NONE, How::Table, &[Kind::Add]),
-    ("rc_bundle::delete", NONE, How::Table, &[Kind::Delete]),
-    ("a plan and Run::open", NONE, How::Stop, NONE),
-    ("Pad::new", NONE, How::Value(Value::PadNew), NONE),
-    (
-        "Session::begin of a change",
-        NONE,
-        How::Abandon,
-        &[Kind::Up],
-    ),
-    (
-        "Session::begin of an undo",
-        &[Kind::Up],
-        How::Abandon,
-        &[Kind::Undo],
-    ),
-    (
-        "Session::begin of a redo",
-        &[Kind::Up, Kind::Undo],
-        How::Spoil,
-        &[Kind::Redo],
-    ),
-    (
-        "Session::begin of an undo",
-        &[Kind::Up],
-        How::Complete,
-        &[Kind::Undo],
-    ),
-    ("Session::change_by", NONE, How::By, &[Kind::Up]),
-    ("Session::undo_by", &[Kind::Up], How::By, &[Kind::Undo]),
-    (
-        "Session::redo_by",
-        &[Kind::Up, Kind::Undo],
-        How::By,
-        &[Kind::Redo],
-    ),
-    ("Session::bundle_add", &[Kind::Up], How::By, &[Kind::Add]),
-    (
-        "Session::bundle_delete",
-        &[Kind::Up],
-        How::By,
-        &[Kind::Delete],
-    ),
-    (
-        "Session::undo_edit",
-        &[Kind::Up, Kind::Add],
-        How::Edit,
-        &[Kind::Back],
-    ),
-    (
-        "Session::redo_edit",
-        &[Kind::Add, Kind::Back],
-        How::Edit,
-        &[Kind::On],
-    ),
-    (
-        "Session::play",
-        &[Kind::Up],
-        How::Play,
-        &[Kind::Add, Kind::Delete, Kind::Back],
-    ),
-    ("Session::dry", &[Kind::Up], How::Dry, &[Kind::Up]),
-    ("change by 1", NONE, How::Workers(1), &[Kind::Up]),
-    ("undo by 1", &[Kind::Up], How::Workers(1), &[Kind::Undo]),
-    (
-        "redo by 1",
-        &[Kind::Up, Kind::Undo],
-        How::Workers(1),
-        &[Kind::Redo],
-    ),
-    ("change by 3", NONE, How::Workers(3), &[Kind::Up]),
-    ("undo by 3", &[Kind::Up], How::Workers(3), &[Kind::Undo]),
-    (
-        "redo by 3",
-        &[Kind::Up, Kind::Undo],
-        How::Workers(3),
-        &[Kind::Redo],
-    ),
+    ("Set::copy", "up", Of(SetCopy), ""),
+    ("Set::ids", "up", Of(SetIds), ""),
+    ("Name::read", "", Of(NameRead), ""),
+    ("Name::copy", "", Of(NameCopy), ""),
+    ("Names::add", "", Own(Given::Names), ""),
+    ("Draft::need", "", Own(Given::Draft), ""),
+    ("Graph::share", "", Of(GraphShare), ""),
+    ("Graph::up_of", "up", Of(UpOf), ""),
+    ("Graph::down_of", "up", Of(DownOf), ""),
+    ("Table::set", "", Own(Given::Bundles), ""),
+    ("Table::copy", "add", Of(TableCopy), ""),
+    ("Edit::between", "add", Of(EditBetween), ""),
+    ("Edit::copy", "up add", Of(EditCopy), ""),
+    ("rc_select::between", "up", Of(PlanBetween), ""),
+    ("rc_select::plan_up", "", Of(PlanUp), ""),
+    ("Line::copy", "up add back", Of(LineCopy), ""),
+    ("Line::state", "up add", Of(LineState), ""),
+    ("two states", "add", States, ""),
+    ("Line::state", "up add", StepOn, ""),
+    ("Line::open_edit", "", Line, ""),
+    ("write_live", "up add", Of(WriteLive), ""),
+    ("read_live", "up add", Of(ReadLive), ""),
+    ("rc_bundle::add", "", Table, "add"),
+    ("rc_bundle::delete", "", Table, "delete"),
+    ("a plan and Run::open", "", Stop, ""),
+    ("Pad::new", "", Of(PadNew), ""),
+    ("Session::begin of a change", "", Spoil, "up"),
+    ("Session::begin of an undo", "up", Abandon, "undo"),
+    ("Session::begin of a redo", "up undo", Abandon, "redo"),
+    ("Session::begin of a change", "", Complete, "up"),
+    ("Session::begin of an undo", "up", Complete, "undo"),
+    ("Session::begin of a redo", "up undo", Complete, "redo"),
+    ("Session::change_by", "", By, "up"),
+    ("Session::undo_by", "up", By, "undo"),
+    ("Session::redo_by", "up undo", By, "redo"),
+    ("Session::bundle_add", "up", By, "add"),
+    ("Session::bundle_delete", "up", By, "delete"),
+    ("Session::undo_edit", "up add", Edit, "back"),
+    ("Session::redo_edit", "add back", Edit, "on"),
+    ("undo_edit of nothing", "", Edit, "back"),
+    ("redo_edit of nothing", "", Edit, "on"),
+    ("undo_edit of a change", "up", Edit, "back"),
+    ("redo_edit of a change", "up undo", Edit, "on"),
+    ("Session::play", "up", Play, "add delete back"),
+    ("Session::dry", "up", Dry, "up"),
+    ("change by 1", "", Workers(1), "up"),
+    ("undo by 1", "up", Workers(1), "undo"),
+    ("redo by 1", "up undo", Workers(1), "redo"),
+    ("change by 3", "", Workers(3), "up"),
+    ("undo by 3", "up", Workers(3), "undo"),
+    ("redo by 3", "up undo", Workers(3), "redo"),
+    ("change by 64", "", Workers(64), "up"),
+    ("change by 0", "", Workers(0), "up"),
+    ("change by 65", "", Workers(65), "up"),
+    ("a clock", "", Within, "limited"),
+    ("a clock", "up", Within, "limited"),
 ];

@@ -8,82 +8,58 @@ use rc_set::NoMem;
 use samples::{DB, LOG, NET, ROOT, WEB, words_of};
 use std::alloc::{AllocError, Global};
 
-#[derive(Clone, Copy)]
-pub(crate) enum Kind {
-    /// Brings `site` up.
-    Up,
-    /// Brings all down that came up.
-    Undo,
-    /// Brings it up again.
-    Redo,
-    /// Defines the bundle `pair`.
-    Add,
-    /// Removes `site`.
-    Delete,
-    /// Undoes an edit.
-    Back,
-    /// Redoes it.
-    On,
-}
+/// The order in which one worker brings all up.
+const RISE: [u16; 5] = [ROOT, NET, DB, LOG, WEB];
 
-/// A run in which one worker brings all up.
-static RISE: [Event; 10] = [
-    Event::Take(1, ROOT),
-    Event::Done(1, ROOT, Outcome::Ok),
-    Event::Take(1, NET),
-    Event::Done(1, NET, Outcome::Ok),
-    Event::Take(1, DB),
-    Event::Done(1, DB, Outcome::Ok),
-    Event::Take(1, LOG),
-    Event::Done(1, LOG, Outcome::Ok),
-    Event::Take(1, WEB),
-    Event::Done(1, WEB, Outcome::Ok),
-];
+/// The order in which it brings all down.
+const FALL: [u16; 5] = [WEB, LOG, DB, NET, ROOT];
 
-/// One in which it brings all down.
-static FALL: [Event; 10] = [
-    Event::Take(1, WEB),
-    Event::Done(1, WEB, Outcome::Ok),
-    Event::Take(1, LOG),
-    Event::Done(1, LOG, Outcome::Ok),
-    Event::Take(1, DB),
-    Event::Done(1, DB, Outcome::Ok),
-    Event::Take(1, NET),
-    Event::Done(1, NET, Outcome::Ok),
-    Event::Take(1, ROOT),
-    Event::Done(1, ROOT, Outcome::Ok),
-];
-
-pub(crate) fn steps_of(alloc: Global, kinds: &[Kind]) -> Result<Vec<Step>, NoMem> {
+/// These steps, with a space between two.
+pub(crate) fn steps_of(alloc: Global, words: &str) -> Result<Vec<Step>, NoMem> {
     let mut steps = Vec::new(alloc);
-    for kind in kinds {
-        steps.push(step_of(alloc, *kind)?)?;
+    for word in words.split(' ') {
+        if !word.is_empty() {
+            steps.push(step_of(alloc, word)?)?;
+        }
     }
     Ok(steps)
 }
 
-fn step_of(alloc: Global, kind: Kind) -> Result<Step, NoMem> {
-    match kind {
-        Kind::Up => up_site(alloc),
-        Kind::Undo => Ok(Step::Undo(0, Vec::from_slice(alloc, &FALL)?)),
-        Kind::Redo => Ok(Step::Redo(0, Vec::from_slice(alloc, &RISE)?)),
-        Kind::Add => add_pair(alloc),
-        Kind::Delete => Ok(Step::Delete(words_of(alloc, &["site"])?, false)),
-        Kind::Back => Ok(Step::Undo(0, Vec::new(alloc))),
-        Kind::On => Ok(Step::Redo(0, Vec::new(alloc))),
+/// `up` brings `site` up, `limited` does so within a limit, `undo` and `redo` bring all down again and up again. `add`
+/// defines the bundle `pair`, `delete` removes `site`, `back` and `on` undo and redo an edit.
+fn step_of(alloc: Global, word: &str) -> Result<Step, NoMem> {
+    match word {
+        "up" => up_site(alloc, 0),
+        "limited" => up_site(alloc, 5),
+        "undo" => Ok(Step::Undo(0, run_of(alloc, &FALL)?)),
+        "redo" => Ok(Step::Redo(0, run_of(alloc, &RISE)?)),
+        "add" => add_pair(alloc),
+        "delete" => Ok(Step::Delete(words_of(alloc, &["site"])?, false)),
+        "back" => Ok(Step::Undo(0, Vec::new(alloc))),
+        _ => Ok(Step::Redo(0, Vec::new(alloc))),
     }
 }
 
-fn up_site(alloc: Global) -> Result<Step, NoMem> {
+/// A run in which one worker takes these services and ends them well.
+fn run_of(alloc: Global, services: &[u16]) -> Result<Vec<Event>, NoMem> {
+    let mut events = Vec::new(alloc);
+    for service in services {
+        events.push(Event::Take(1, *service))?;
+        events.push(Event::Done(1, *service, Outcome::Ok))?;
+    }
+    Ok(events)
+}
+
+fn up_site(alloc: Global, limit: u32) -> Result<Step, NoMem> {
     let names = words_of(alloc, &["site"])?;
     let request = Request {
         mode: Mode::Up,
         prune: false,
         all: false,
         names,
-        limit: 0,
+        limit,
     };
-    Ok(Step::Change(request, Vec::from_slice(alloc, &RISE)?))
+    Ok(Step::Change(request, run_of(alloc, &RISE)?))
 }
 
 fn add_pair(alloc: Global) -> Result<Step, NoMem> {

@@ -24,7 +24,8 @@ pub(crate) fn altered(
         _ => return Err(Fault::Strange),
     };
     match edit {
-        Ok(_) => Ok(()),
+        Ok(edit) if edit.len() == 1 => Ok(()),
+        Ok(_) => Err(Fault::Strange),
         Err(BundleFault::Memory) => Err(Fault::Refused(Refusal::Memory)),
         Err(_) => Err(Fault::Strange),
     }

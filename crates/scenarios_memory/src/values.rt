@@ -50,9 +50,13 @@ pub(crate) fn told_of(
         Value::SetEmpty | Value::SetCopy | Value::SetIds => is_set(alloc, session.live(), value)?,
         Value::NameRead => is_name(alloc)?,
         Value::NameCopy => is_copied(alloc, session.db().names())?,
-        Value::GraphShare | Value::UpOf | Value::DownOf | Value::PlanBetween | Value::PlanUp => {
+        Value::GraphShare | Value::UpOf | Value::DownOf | Value::PlanBetween => {
             is_on_graph(alloc, session.db().graph(), session.live(), value)?
         }
+        Value::PlanUp => match session.table().get("site") {
+            Some(site) => brings_all_up(alloc, session.db().graph(), session.live(), site)?,
+            None => false,
+        },
         Value::PadNew => Pad::new(alloc, 5)?.room() == 11,
         _ => is_on_session(alloc, session, value, text)?,
     };
@@ -111,9 +115,18 @@ fn is_on_graph(alloc: Global, graph: &Graph, set: &Set, value: Value) -> Result<
         Value::GraphShare => Ok(graph.share()?.len() == 5),
         Value::UpOf => Ok(graph.up_of(alloc, set)?.len() == 5),
         Value::DownOf => Ok(graph.down_of(alloc, set)?.len() == 5),
-        Value::PlanBetween => Ok(between(alloc, graph, set, set)?.raise().is_empty()),
-        _ => Ok(plan_up(alloc, graph, set, set)?.lower().is_empty()),
+        _ => Ok(between(alloc, graph, set, set)?.raise().is_empty()),
     }
+}
+
+/// Whether bringing these up where nothing is up brings all up.
+fn brings_all_up(alloc: Global, graph: &Graph, up: &Set, wanted: &Set) -> Result<bool, NoMem> {
+    if up.bound() != graph.len() || wanted.bound() != graph.len() || !graph.closed(up) {
+        return Ok(false);
+    }
+    let plan = plan_up(alloc, graph, up, wanted)?;
+    let is_rise = plan.opening().is_empty() && plan.lower().is_empty() && plan.kept().is_empty();
+    Ok(is_rise && plan.raise().len() == 5)
 }
 
 fn is_on_session(alloc: Global, session: &Session, value: Value, text: &[u8]) -> Result<bool, NoMem>
@@ -144,11 +157,21 @@ fn is_on_line(alloc: Global, line: &Line, value: Value) -> Result<bool, NoMem>
         return Ok(false);
     }
     match value {
-        Value::LineCopy => Ok(line.copy(alloc)?.states() == 3),
+        Value::LineCopy => Ok(is_alike(&line.copy(alloc)?, line)),
         Value::EditCopy => Ok(line.entry(1).edit().copy(alloc)?.len() == 1),
         _ => {
             let (live, table) = line.state(alloc, 0)?;
             Ok(live.is_empty() && table.len() == 1)
         }
     }
+}
+
+/// Whether two lines have as many states, and stand on the same one.
+fn is_alike(one: &Line, other: &Line) -> bool {
+    one.states() == other.states()
+        && one.cursor() == other.cursor()
+        && one.bound() == other.bound()
+        && one.live().bound() == other.live().bound()
+        && one.live().same(other.live())
+        && one.table().same(other.table())
 }

@@ -1,0 +1,89 @@
+//! What is a name, and the words of refusals that no command tells.
+
+use rc_core::NotLegal;
+use rc_model::LineFault;
+use rc_names::{Name, NameFault, NoMem};
+use std::alloc::Global;
+use std::io;
+
+/// So many times a text, and the number of the fault for which that is no name, or 0.
+const TEXTS: &str = "\
+1||1
+1|web|0
+1|a/b|3
+1|a b|3
+1|a\tb|3
+1|a\u{1}|3
+1|a\u{7f}|3
+1|!|0
+1|~|0
+1|-x|3
+1|#x|3
+1|a-b|0
+1|a#|0
+1|.x|0
+1|é|0
+1|s6rc-x|4
+1|s6rc-|4
+1|s6rc|0
+1|x-s6rc-|0
+1|s6rc- x|3
+255|a|0
+256|a|2
+255|/|3
+300|/|2
+127|é|0
+128|é|2";
+
+const NAME_FAULTS: [NameFault; 5] = [
+    NameFault::Empty,
+    NameFault::Long,
+    NameFault::BadByte,
+    NameFault::Reserved,
+    NameFault::Memory,
+];
+
+const LINE_FAULTS: [LineFault; 3] = [
+    LineFault::NothingToUndo,
+    LineFault::NothingToRedo,
+    LineFault::Memory,
+];
+
+/// Shows how many texts are read as they must be, and each that is not.
+pub(crate) fn show_names(rt: &(impl Print + AllocGlobal)) -> io::Result<()> {
+    let mut right = 0u8;
+    for row in TEXTS.lines() {
+        if is_read_so(rt.alloc(), row)? {
+            right = right.saturating_add(1);
+        } else {
+            println!(rt; "read otherwise: {row}")?;
+        }
+    }
+    println!(rt; "texts that are names or say why not: {right}")
+}
+
+fn is_read_so(alloc: Global, row: &str) -> Result<bool, NoMem> {
+    let (count, row) = row.split_once('|').unwrap_or(("", ""));
+    let (part, code) = row.split_once('|').unwrap_or(("", ""));
+    let text = part.repeat(alloc, count.parse::<usize>().unwrap_or(0))?;
+    let found = code_of(alloc, text.as_str());
+    Ok(code.parse::<u8>().unwrap_or(u8::MAX) == found)
+}
+
+/// A name keeps its text.
+fn code_of(alloc: Global, text: &str) -> u8 {
+    match Name::read(alloc, text) {
+        Ok(name) => if name.text() == text { 0 } else { u8::MAX },
+        Err(fault) => fault as u8,
+    }
+}
+
+pub(crate) fn show_words(rt: &impl Print) -> io::Result<()> {
+    for fault in NAME_FAULTS {
+        println!(rt; "{} {fault}", fault as u8)?;
+    }
+    for fault in LINE_FAULTS {
+        println!(rt; "{} {fault}", fault as u8)?;
+    }
+    println!(rt; "{NotLegal}")
+}
