@@ -1,11 +1,13 @@
 -- Sets that queries answer.
-use Rattle.std.proofs.Common.{◌≡◌, ◌+◌, ◌↔◌, ◌⊎◌, ⊎_elim, inl, inr, ℕ, Bool, List, [], ◌∷◌, ◌++◌, take, slice_get, Contains, Some, sym, subst}
+use Rattle.std.proofs.Common.{◌≡◌, ◌+◌, ◌<◌, ◌≤◌, ◌↔◌, ◌⊎◌, ⊎_elim, inl, inr, ℕ, Bool, List, [], ◌∷◌, ◌++◌, length, take, slice_get, Contains, Some, sym, subst, arith}
+use Rattle.std.proofs.lemmas.Bool.{cases_lt}
 use Rattle.std.proofs.lemmas.List.Elements.{Contains-push, Contains-push_cases, Contains-append_left}
 use Rattle.rc_model.specs.Names.{Has, Holds}
 use Rattle.rc_graph.specs.declared.Way.{Way}
 use Rattle.rc_graph.specs.declared.Way.TheVariants.{Raise, Lower}
-use Rattle.rc_db.specs.Queries.{IsNextTo, IsWithAll}
+use Rattle.rc_db.specs.Queries.{IsBeside, IsNextTo, IsWithAll}
 use Rattle.rc_model.proofs.Places.{take_next}
+use Rattle.rc_model.proofs.SetMembers.{has_within}
 
 -- what stands beside the members of a set stands beside those of whom a fact holds that says who they are
 pub next_as : (needs : List (List ℕ)) (way : Way) (set : List Bool) (P : ℕ → Type 0) → Holds set P → (t : ℕ) → IsNextTo needs way (Has set) t ↔ IsNextTo needs way P t
@@ -41,3 +43,35 @@ one_more_id old mid new list i t there holds one s =
           (Contains-push_cases (take i list) t s there_next))
           (subst In next in_next),
     )
+
+-- what stands beside a member that is passed
+abbrev pub IsBesidePassed : List (List ℕ) → Way → List Bool → ℕ → ℕ → Type 0
+IsBesidePassed needs way set i t = (k : ℕ) × (k < i) × Has set k × IsBeside needs way k t
+
+-- one more is passed
+pub beside_more : (needs : List (List ℕ)) (way : Way) (set old new : List Bool) (i : ℕ) → Holds old (IsBesidePassed needs way set i)
+    → Holds new (λ t. Has old t ⊎ (Has set i × IsBeside needs way i t)) → Holds new (IsBesidePassed needs way set (i + 1))
+beside_more needs way set old new i before more t = (
+  λ has. ⊎_elim
+      (λ was. let at = (before t).0 was in let low : at.0 < i + 1 = omega (arith, at.1) in (at.0, low, at.2, at.3))
+      (λ here. let low : i < i + 1 = omega arith in (i, low, here.0, here.1))
+      ((more t).0 has),
+  λ at. ⊎_elim
+      (λ (low : at.0 < i). (more t).1 (inl ((before t).1 (at.0, low, at.2, at.3))))
+      (λ (high : i ≤ at.0).
+      let same : at.0 ≡ i = omega (arith, at.1) in
+      let Here : ℕ → Type 0 = λ k. Has set k × IsBeside needs way k t in
+      (more t).1 (inr (subst Here same (at.2, at.3))))
+      (cases_lt at.0 i),
+)
+
+-- all are passed
+pub beside_all : (needs : List (List ℕ)) (way : Way) (set next : List Bool) (i : ℕ) → length set ≤ i → Holds next (IsBesidePassed needs way set i)
+    → Holds next (IsNextTo needs way (Has set))
+beside_all needs way set next i whole before t = (
+  λ has. let at = (before t).0 has in (at.0, at.2, at.3),
+  λ at.
+      let within : at.0 < length set = has_within set at.0 at.1 in
+      let low : at.0 < i = omega arith in
+      (before t).1 (at.0, low, at.1, at.2),
+)

@@ -8,6 +8,7 @@ ghost use Rattle.rc_db.specs.QueryFaults.{OfLongrun, IsSuch, IsQueryFault};
 
 use crate::db::Db;
 use crate::fault::QueryFault;
+use crate::reach::ids_of;
 use rc_set::{NoMem, Set};
 use std::alloc::Global;
 
@@ -24,7 +25,7 @@ impl Db {
             return Err(QueryFault::NotLongrun);
         }
         let set = pipeline_of(alloc, self, id)?;
-        Ok(set.ids(alloc)?)
+        ids_of(alloc, set)
     }
 }
 

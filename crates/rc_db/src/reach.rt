@@ -24,7 +24,7 @@ impl Db {
             (IsNamesFault self.now.names self.now.table (map string_bytes names.now)) }
     {
         let set = self.chosen(alloc, names)?;
-        Ok(set.ids(alloc)?)
+        ids_of(alloc, set)
     }
 
     /// What the services of the names need, ascending; on the way down what needs them.
@@ -42,8 +42,9 @@ impl Db {
             (IsNamesFault self.now.names self.now.table (map string_bytes names.now)) }
     {
         let set = self.chosen(alloc, names)?;
-        let next = next_to(alloc, self.graph(), &set, way)?;
-        Ok(next.ids(alloc)?)
+        let next = next_to(alloc, self.graph(), &set, way);
+        drop(set);
+        ids_of(alloc, next?)
     }
 
     /// The services of the names with all that they reach, ascending; on the way down with all that
@@ -62,8 +63,9 @@ impl Db {
             (IsNamesFault self.now.names self.now.table (map string_bytes names.now)) }
     {
         let set = self.chosen(alloc, names)?;
-        let all = with_all(alloc, self.graph(), &set, way)?;
-        Ok(all.ids(alloc)?)
+        let all = with_all(alloc, self.graph(), &set, way);
+        drop(set);
+        ids_of(alloc, all?)
     }
 
     /// The services that names stand for by the database's own bundles.
@@ -78,6 +80,16 @@ impl Db {
     {
         self.selected(alloc, self.table(), names)
     }
+}
+
+/// The members of a set, which is let go.
+pub(crate) fn ids_of(alloc: Global, set: Set) -> Result<Vec<u16>, QueryFault>
+    ensures ids { IfOk result (λ ids. Lists (Has set) ids.items) }
+    ensures fault { IfErr result (λ fault. fault ≡ QueryFault.Memory) }
+{
+    let ids = set.ids(alloc);
+    drop(set);
+    Ok(ids?)
 }
 
 /// A set with all that its members reach, or that reach them.

@@ -1,4 +1,4 @@
-use Rattle.std.proofs.Common.{◌≢◌, ℕ, List, All, refl, subst, arith}
+use Rattle.std.proofs.Common.{◌≢◌, ℕ, List, All, refl, sym, subst, true≢false, arith}
 use Rattle.rc_model.specs.declared.Kind.TheVariants.{Bundle}
 use Rattle.rc_model.specs.Database.{Service, HasLimits, HaveBound, AreApart, FitTogether, IsDatabase}
 use Rattle.rc_db.specs.Parts.{database_of}
@@ -19,6 +19,20 @@ with_apart c apart =
       fed = c.if-not-all_feed_needed_longruns.ensures.0 refl;
       apart = apart;
     }
+
+pub returns-then-not-are_below-clause-fit : goal.returns-then-not-are_below-clause-fit
+returns-then-not-are_below-clause-fit c =
+    let Bounds : ℕ → Type 0 = λ n. HaveBound n c.args.parts.now.table in
+    (λ no. absurd (true≢false (sym no)), λ fit. c.if-not-are_below.ensures.bounds.1 (subst Bounds (sym c.len-count.ensures.len) fit.bounds))
+
+pub returns-then-not-are_services-clause-fit : goal.returns-then-not-are_services-clause-fit
+returns-then-not-are_services-clause-fit c =
+    let Kinds : List Service → Type 0 = λ services. All (λ s. s.kind ≢ Bundle) services in
+    (λ no. absurd (true≢false (sym no)), λ fit. c.if-not-are_services.ensures.services.1 (subst Kinds (sym c.deref.ensures.value) fit.kinds))
+
+pub returns-then-not-all_feed_needed_longruns-clause-fit : goal.returns-then-not-all_feed_needed_longruns-clause-fit
+returns-then-not-all_feed_needed_longruns-clause-fit c =
+    (λ no. absurd (true≢false (sym no)), λ fit. c.if-not-all_feed_needed_longruns.ensures.1 fit.fed)
 
 pub returns-clause-fit : goal.returns-clause-fit
 returns-clause-fit c = (λ yes. with_apart c (c.are_apart.ensures.0 yes), λ fit. c.are_apart.ensures.1 fit.apart)

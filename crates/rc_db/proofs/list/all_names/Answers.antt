@@ -9,6 +9,15 @@ use Rattle.rc_db.proofs.Listing.{all_merged, flipped, next_merged, shown_more}
 use Rattle.rc_db.proofs.list.all_names.Goals as goal
 use Rattle.rc_db.proofs.list.all_names.Goals.{then-is_service_next+in_ok-push, else-is_service_next+in_ok-push-2}
 
+pub is_service_next-requires-clause-id : goal.is_service_next-requires-clause-id
+is_service_next-requires-clause-id c = c.loop-turn.invariant.services
+
+pub is_service_next-requires-clause-place : goal.is_service_next-requires-clause-place
+is_service_next-requires-clause-place c = c.loop-turn.invariant.bundles
+
+pub is_service_next-requires-clause-apart : goal.is_service_next-requires-clause-apart
+is_service_next-requires-clause-apart c = c.requires.apart
+
 pub loop-turn-preserved : goal.loop-turn-preserved
 loop-turn-preserved c =
     let names = c.args.names.now in

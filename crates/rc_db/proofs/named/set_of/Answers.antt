@@ -1,10 +1,18 @@
-use Rattle.std.proofs.Common.{◌≡◌, ◌∙◌, ◌⊎◌, List, ℕ, Bool, map, slice_get, Some, subst, arith}
+use Rattle.std.proofs.Common.{◌≡◌, ◌∙◌, ◌⊎◌, List, ℕ, Bool, map, slice_get, Some, sym, subst, arith}
 use Rattle.std.proofs.lemmas.List.{length-map, take_all}
 use Rattle.std.specs.String.{string_bytes}
 use Rattle.rc_model.specs.Names.{Has, Holds}
-use Rattle.rc_model.specs.Database.{value_of, Selected}
+use Rattle.rc_model.specs.Database.{HaveBound, value_of, Selected}
 use Rattle.rc_db.proofs.Words.{mapped_at, one_more_word}
 use Rattle.rc_db.proofs.named.set_of.Goals as goal
+
+pub add_service-requires-clause-bound : goal.add_service-requires-clause-bound
+add_service-requires-clause-bound c = c.loop-word.invariant.bound
+
+pub add_bundle-requires : goal.add_bundle-requires
+add_bundle-requires c =
+    let P : ℕ → Type 0 = λ bound. HaveBound bound c.args.table.now in
+    subst P (sym (c.add_service.ensures.bound ∙ c.loop-word.invariant.bound)) c.requires
 
 pub loop-word-preserved : goal.loop-word-preserved
 loop-word-preserved c =

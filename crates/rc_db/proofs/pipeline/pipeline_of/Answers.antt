@@ -3,6 +3,15 @@ use Rattle.rc_db.specs.Pipeline.{InPipelineOf, IsLastConsumer}
 use Rattle.rc_db.proofs.Pipelines.{one_more_passed, all_passed, in_pipeline_within}
 use Rattle.rc_db.proofs.pipeline.pipeline_of.Goals as goal
 
+pub add_if_in_pipeline-requires-clause-set : goal.add_if_in_pipeline-requires-clause-set
+add_if_in_pipeline-requires-clause-set c = c.loop-s.invariant.bound
+
+pub add_if_in_pipeline-requires-clause-id : goal.add_if_in_pipeline-requires-clause-id
+add_if_in_pipeline-requires-clause-id c = c.requires
+
+pub add_if_in_pipeline-requires-clause-bound : goal.add_if_in_pipeline-requires-clause-bound
+add_if_in_pipeline-requires-clause-bound c = ap length c.deref.ensures.value ∙ c.in_ok-ends.ensures.bound
+
 pub add_if_in_pipeline-requires-clause-ends : goal.add_if_in_pipeline-requires-clause-ends
 add_if_in_pipeline-requires-clause-ends c =
     let P : List ℕ → Type 0 = λ ends. (t : ℕ) → t < length c.args.db.now.names → IsLastConsumer c.args.db.now t (slice_index ends t) in

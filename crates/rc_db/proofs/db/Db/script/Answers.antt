@@ -2,6 +2,17 @@ use Rattle.std.proofs.Common.{◌∙◌, refl, sym, true≢false}
 use Rattle.rc_db.proofs.KindLemmas.{longrun_or}
 use Rattle.rc_db.proofs.db.Db.script.Goals as goal
 
+pub returns-clause-text : goal.returns-clause-text
+returns-clause-text c =
+    (c.service-service.result.now, (c.in_ok-service_named.field-0, c.in_ok-service_named.ensures.service, c.service-service.ensures), c.in_ok-script.ensures)
+
+pub returns-clause-oneshot : goal.returns-clause-oneshot
+returns-clause-oneshot c = (
+  c.service-service.result.now,
+  (c.in_ok-service_named.field-0, c.in_ok-service_named.ensures.service, c.service-service.ensures),
+  c.is_oneshot.ensures.0 c.if-not-is_oneshot.false,
+)
+
 pub returns-then-not-is_oneshot-clause-fault : goal.returns-then-not-is_oneshot-clause-fault
 returns-then-not-is_oneshot-clause-fault c = (
   refl,
