@@ -71,7 +71,8 @@ pub fn added(
     ensures fault { IfErr result (IsAddFault db.now.names table.now name.now (map string_bytes contents.now) force) }
 {
     check_add(table, db, name, contents, force)?;
-    let (_, edit) = defined(alloc, table, db, name, contents)?;
+    let (new, edit) = defined(alloc, table, db, name, contents)?;
+    drop(new);
     Ok(edit)
 }
 
@@ -88,7 +89,8 @@ pub fn removed(
     ensures fault { IfErr result (IsDeleteFault db.now.names table.now (map string_bytes names.now) force) }
 {
     check_delete(table, db, names, force)?;
-    let (_, edit) = cleared(alloc, table, names)?;
+    let (new, edit) = cleared(alloc, table, names)?;
+    drop(new);
     Ok(edit)
 }
 
@@ -170,9 +172,21 @@ fn defined(
         Ok(set) => set,
         Err(_) => return Err(AllocError),
     };
-    let mut new = table.copy(alloc)?;
-    new.set(name, set)?;
-    let edit = Edit::between(alloc, table, &new)?;
+    let Ok(mut new) = table.copy(alloc) else {
+        drop(set);
+        return Err(AllocError);
+    };
+    let Ok(before) = new.set(name, set) else {
+        drop(new);
+        return Err(AllocError);
+    };
+    drop(before);
+    // What its length tells of the table is that it is one.
+    let _len = new.len();
+    let Ok(edit) = Edit::between(alloc, table, &new) else {
+        drop(new);
+        return Err(AllocError);
+    };
     Ok((new, edit))
 }
 
@@ -185,8 +199,13 @@ fn cleared(alloc: Global, table: &Table, names: &[String]) -> Result<(Table, Edi
 {
     let mut new = table.copy(alloc)?;
     for name in names {
-        let _ = new.clear(name.as_str());
+        drop(new.clear(name.as_str()));
     }
-    let edit = Edit::between(alloc, table, &new)?;
+    // What its length tells of the table is that it is one.
+    let _len = new.len();
+    let Ok(edit) = Edit::between(alloc, table, &new) else {
+        drop(new);
+        return Err(AllocError);
+    };
     Ok((new, edit))
 }

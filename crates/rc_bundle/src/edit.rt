@@ -1,4 +1,4 @@
-ghost use Rattle.std.specs.Prelude.{◌≡◌, ◌<◌, ◌≤◌, ◌⊎◌, ◌↔◌, ℕ, length, Some, IfOk, OnOk, OnErr, IsTrue, slice_get};
+ghost use Rattle.std.specs.Prelude.{◌≡◌, ◌<◌, ◌≤◌, ◌⊎◌, ◌↔◌, ◌++◌, ◌∷◌, [], ℕ, length, Some, IfOk, OnOk, OnErr, IsTrue, slice_get};
 ghost use Rattle.std.specs.Option.{option_copied};
 ghost use Rattle.rc_model.specs.Names.{IsInByteOrder};
 ghost use Rattle.rc_model.specs.Line.{IsEdit, names_altered};
@@ -7,7 +7,7 @@ ghost use Rattle.rc_bundle.specs.Walk.{IsNextName, IsNoted, next_place};
 use rc_db::Table;
 use rc_names::Name;
 use rc_set::{NoMem, Set};
-use std::alloc::Global;
+use std::alloc::{AllocError, Global};
 use std::cmp::Ordering;
 use std::marker::Model;
 
@@ -32,11 +32,7 @@ impl Change {
     fn copy(&self, alloc: Global) -> Result<Change, NoMem>
         ensures { IfOk result (λ copy. copy ≡ self.now) }
     {
-        Ok(Change {
-            name: self.name.copy(alloc)?,
-            before: copy_set(alloc, self.before.as_ref())?,
-            after: copy_set(alloc, self.after.as_ref())?,
-        })
+        change_of(alloc, &self.name, self.before.as_ref(), self.after.as_ref())
     }
 }
 
@@ -95,7 +91,10 @@ impl Edit {
         let (mut i, mut j) = (0, 0);
         while i < from_len || j < to_len {
             let (name, before, after) = next_name(from, i, to, j);
-            note(alloc, &mut changes, name, before, after)?;
+            let Ok(()) = note(alloc, &mut changes, name, before, after) else {
+                drop(changes);
+                return Err(AllocError);
+            };
             i = place_after(i, before);
             j = place_after(j, after);
         }
@@ -109,9 +108,21 @@ fn copy_changes(alloc: Global, changes: &[Change]) -> Result<Vec<Change>, NoMem>
 {
     let mut copies = Vec::new(alloc);
     for change in changes {
-        copies.push(change.copy(alloc)?)?;
+        let Ok(()) = push_copy(alloc, &mut copies, change) else {
+            drop(copies);
+            return Err(AllocError);
+        };
     }
     Ok(copies)
+}
+
+/// One more alteration, the same as another.
+fn push_copy(alloc: Global, copies: &mut Vec<Change>, change: &Change) -> Result<(), NoMem>
+    ensures { OnOk result (copies.new.items ≡ copies.old.items ++ change.now ∷ []) }
+{
+    let copy = change.copy(alloc)?;
+    copies.push(copy)?;
+    Ok(())
 }
 
 /// The least of the names at two places of two tables, with its sets.
@@ -164,12 +175,38 @@ fn note(
     if are_same(before, after) {
         return Ok(());
     }
-    changes.push(Change {
-        name: name.copy(alloc)?,
-        before: copy_set(alloc, before)?,
-        after: copy_set(alloc, after)?,
-    })?;
+    let change = change_of(alloc, name, before, after)?;
+    changes.push(change)?;
     Ok(())
+}
+
+/// The change of a name, with copies of its sets.
+fn change_of(
+    alloc: Global,
+    name: &Name,
+    before: Option<&Set>,
+    after: Option<&Set>,
+) -> Result<Change, NoMem>
+    ensures { IfOk result (λ change. change ≡ record {
+      name = name.now;
+      before = option_copied before.entry;
+      after = option_copied after.entry;
+    }) }
+{
+    let name = name.copy(alloc)?;
+    let Ok(before) = copy_set(alloc, before) else {
+        drop(name);
+        return Err(AllocError);
+    };
+    let Ok(after) = copy_set(alloc, after) else {
+        drop((name, before));
+        return Err(AllocError);
+    };
+    Ok(Change {
+        name,
+        before,
+        after,
+    })
 }
 
 /// Whether a name has the same set, or none, on both sides.

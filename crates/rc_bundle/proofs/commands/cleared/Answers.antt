@@ -1,5 +1,5 @@
 use Rattle.std.proofs.Common.{List, ℕ, None, string_bytes, subst, sym, arith}
-use Rattle.rc_model.specs.Database.{IsTable, IsChangedAt}
+use Rattle.rc_model.specs.Database.{IsChangedAt}
 use Rattle.rc_model.specs.Line.{Removes}
 use Rattle.rc_bundle.proofs.Changes.{removes_more, removed_below}
 use Rattle.rc_bundle.proofs.GoneOver.{take_word, take_words}
@@ -15,7 +15,7 @@ returns-clause-table c =
     subst (λ (words : List (List ℕ)). Removes c.args.table.now words c.loop-name.new) (take_words string_bytes c.args.names.now c.loop-name.name-index (omega arith)) c.loop-name.invariant
 
 pub returns-clause-bounds : goal.returns-clause-bounds
-returns-clause-bounds c = removed_below _ _ _ (subst IsTable c.new.view_is c.new.invariant.1) c.loop-name.invariant
+returns-clause-bounds c = removed_below _ _ _ c.len-len.ensures.table c.loop-name.invariant
 
 pub returns-clause-is_table : goal.returns-clause-is_table
-returns-clause-is_table c = subst IsTable c.new.view_is c.new.invariant.1
+returns-clause-is_table c = c.len-len.ensures.table

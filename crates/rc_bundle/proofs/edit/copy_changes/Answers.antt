@@ -4,6 +4,6 @@ use Rattle.rc_bundle.proofs.edit.copy_changes.Goals as goal
 
 pub loop-change-preserved : goal.loop-change-preserved
 loop-change-preserved c =
-    c.in_ok-push.ensures.items
-    ∙ (λ i. c.loop-change.invariant i ++ (c.in_ok-copy.ensures ∙ c.change-item.is) i ∷ [])
+    c.in-Ok.ensures
+    ∙ (λ i. c.loop-change.invariant i ++ c.change-item.is i ∷ [])
     ∙ sym (take_more c.args.changes.now c.loop-change.change-index c.change-item.result c.loop-change-test.true)

@@ -1,7 +1,16 @@
-use Rattle.std.proofs.Common.{rules, string_bytes, subst, arith}
+use Rattle.std.proofs.Common.{◌∙◌, rules, string_bytes, subst, sym, arith, true≢false}
 use Rattle.rc_model.specs.Line.{IsBundle}
+use Rattle.rc_db.proofs.Words.{mapped_at}
 use Rattle.rc_bundle.proofs.GoneOver.{all_next, all_end}
 use Rattle.rc_bundle.proofs.words.first_missing.Goals as goal
+
+pub returns-then-not-has_bundle-clause-some : goal.returns-then-not-has_bundle-clause-some
+returns-then-not-has_bundle-clause-some c = (
+  string_bytes c.index-words-place.result,
+  mapped_at string_bytes c.args.words.now c.loop-place.place c.index-words-place.result (omega arith) c.index-words-place.is,
+  λ there. true≢false (sym (c.has_bundle.ensures.1 (subst (IsBundle c.args.table.now) (sym c.as_str.ensures.value) there)) ∙ c.if-not-has_bundle.true),
+  λ k d within not_there. not_there (c.loop-place.invariant k d within),
+)
 
 pub loop-place-preserved : goal.loop-place-preserved
 loop-place-preserved c =

@@ -1,6 +1,16 @@
 use Rattle.std.proofs.Common.{Contains, List, ℕ, string_bytes, subst, sym, arith, true≢false, ◌∙◌}
+use Rattle.rc_db.proofs.Words.{mapped_at}
 use Rattle.rc_bundle.proofs.GoneOver.{all_next, all_end}
 use Rattle.rc_bundle.proofs.words.first_service.Goals as goal
+
+pub returns-then-has_name-clause-some : goal.returns-then-has_name-clause-some
+returns-then-has_name-clause-some c = (
+  string_bytes c.index-words-place.result,
+  mapped_at string_bytes c.args.words.now c.loop-place.place c.index-words-place.result (omega arith) c.index-words-place.is,
+  subst (λ (names : List (List ℕ)). Contains names (string_bytes c.index-words-place.result)) c.names.ensures.names
+      (subst (λ (word : List ℕ). Contains c.names.result.now word) c.as_str.ensures.value (c.has_name.ensures.0 c.if-has_name.true)),
+  c.loop-place.invariant,
+)
 
 pub loop-place-preserved : goal.loop-place-preserved
 loop-place-preserved c =
