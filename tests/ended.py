@@ -11,10 +11,6 @@ The status is 0, or the one in `status.none`.
 import re
 from collections import Counter
 
-# Whether the lines that help are compared where one growth alone is refused, too. Not yet: three of them
-# are wrong then, those behind two refusals, and a file that is said to be not looked at.
-HELP_IS_TRUE_ALONE = False
-
 PROGRESS = re.compile(r"undorc: +[0-9]+\.[0-9]+ s  ((up|down) ([a-z]): (started|ok|not started))\Z")
 HELP = re.compile(r"  (nothing is named|options stand) ")
 MAY_BE_DONE = ("undorc: Memory", "undorc: Io", "undorc: Write")
@@ -96,7 +92,7 @@ class Rules:
         self.lengths = {}
 
     def of(self, run):
-        """What is wrong with a run, or nothing. `run.single`: one growth alone was refused."""
+        """What is wrong with a run, or nothing."""
         if self.options["told"]:
             return self.refused(run)
         key, fault = told_of(self.unnoted(run))
@@ -131,10 +127,7 @@ class Rules:
             self.endings.add("111 undorc: Memory")
             return ""
         whole = run.text_of("whole.err")
-        told = is_front(run.err, whole)
-        if run.single and not HELP_IS_TRUE_ALONE:
-            told = run.err.endswith("\n") and lines_of(run.err)[0] == lines_of(whole)[0]
-        if run.status != int(self.options["told"]) or not told:
+        if run.status != int(self.options["told"]) or not is_front(run.err, whole):
             return f"status {run.status}, told: {run.err}"
         self.endings.add(str(run.status))
         return ""
@@ -147,8 +140,6 @@ class Rules:
         for note in run.text_of("whole.err").splitlines(keepends=True):
             if note in lines:
                 lines.remove(note)
-        if run.single and not HELP_IS_TRUE_ALONE:
-            lines = [line for line in lines if not line.endswith(" is not looked at\n")]
         return "".join(lines)
 
     def by_reading(self, run):

@@ -76,7 +76,6 @@ class Run:
     def __init__(self, number, options):
         self.number = number
         self.options = options
-        self.single = options["way"] == "GROWTH"
         self.kept = f"live.{number}"
         self.place = f"place.{number}"
         # What is left by a run may note something later, so its file is no other run's.
