@@ -3,10 +3,10 @@ use Rattle.std.proofs.Common.{◌≡◌, ◌∙◌, ◌<◌, Bor, List, [], ◌�
 use Rattle.std.proofs.lemmas.Option.{IfSome_then}
 use Rattle.std.specs.Option.{option_map_or}
 use Rattle.clap.specs.Words.{Row, Text, first_of}
-use Rattle.rc_asked.specs.DbAsked.{AsksIn, AsksNothing, query_words, way_of}
-use Rattle.rc_asked.specs.Query.{Check, DbAsk, Dot, ListOf, OfName, OfNames, Question, ShowsByPicture, question_of, words_of_query}
-use Rattle.rc_asked.specs.declared.query.NamesQuery.TheVariants.{Atomics, Dependencies, AllDependencies}
-use Rattle.rc_asked.specs.declared.query.Query.{Query}
+use Rattle.rc_asked.specs.DbAsked.{AsksIn, AsksNothing, DbAsk, ShowsByPicture, ask_by, query_words}
+use Rattle.rc_asked.specs.Query.{Check, Dot, ListOf, OfName, OfNames, Question, question_of, words_of_query}
+use Rattle.rc_asked.specs.declared.db_words.NamesQuery.TheVariants.{Atomics, Dependencies, AllDependencies}
+use Rattle.rc_asked.specs.declared.db_words.Query.{Query}
 use Rattle.rc_command.specs.Words.{rows_for, words_in}
 
 -- words without matches of `db` ask nothing
@@ -51,20 +51,10 @@ picture_alone (OfNames Atomics names) e = cc
 picture_alone (OfNames Dependencies names) e = cc
 picture_alone (OfNames AllDependencies names) e = cc
 
--- what the matches ask, by what was found in them
-pub asks_as : (rows : List Row) (ask given : DbAsk) → query_words rows ≡ words_of_query given.question → given.way ≡ way_of rows → given.live ≡ first_of (codes "live") rows
-    → (ask ≡ given) × ShowsByPicture ask → AsksIn rows ask
-asks_as rows ask given words way live both =
-    let same : given ≡ ask = sym both.0 in (
-      words ∙ ap (λ (a : DbAsk). words_of_query a.question) same,
-      sym (ap (λ (a : DbAsk). a.way) same) ∙ way,
-      sym (ap (λ (a : DbAsk). a.live) same) ∙ live,
-      both.1,
-    )
-
 -- where the matches ask something, what was found in them shows a session by a picture alone
-pub shown_by_picture : (rows : List Row) (given : DbAsk) → query_words rows ≡ words_of_query given.question → given.live ≡ first_of (codes "live") rows
+pub shown_by_picture : (rows : List Row) (given : DbAsk) → query_words rows ≡ words_of_query given.question → given ≡ ask_by rows given.question
     → (ShowsByPicture given → ⊥) → (ask : DbAsk) → AsksIn rows ask → ⊥
-shown_by_picture rows given words live never ask asks =
-    never (subst (λ (o : Option Text). IfSome o (λ file. given.question ≡ Dot)) (asks.2 ∙ sym live)
-    (IfSome_then ask.live asks.3 (λ file is. picture_alone given.question (sym (ap words_of_query is) ∙ sym asks.0 ∙ words))))
+shown_by_picture rows given words options never ask asks =
+    let live : ask.live ≡ given.live = ap (λ (a : DbAsk). a.live) asks.1 ∙ sym (ap (λ (a : DbAsk). a.live) options) in
+    never (subst (λ (o : Option Text). IfSome o (λ file. given.question ≡ Dot)) live
+    (IfSome_then ask.live asks.2 (λ file is. picture_alone given.question (sym (ap words_of_query is) ∙ sym asks.0 ∙ words))))

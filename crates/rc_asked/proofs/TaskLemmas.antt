@@ -11,9 +11,8 @@ use Rattle.rc_model.specs.Session.{Add, Change, Delete, Redo, Undo}
 use Rattle.rc_script.specs.Says.{SaysBundles, SaysDry, SaysJournal, SaysLive, SaysNothing, SaysStep, SaysWrong}
 use Rattle.rc_command.specs.Words.{rows_for, rows_named}
 use Rattle.rc_asked.specs.Asked.{ask_in}
-use Rattle.rc_asked.specs.DbAsked.{AsksIn}
+use Rattle.rc_asked.specs.DbAsked.{AsksIn, DbAsk}
 use Rattle.rc_asked.specs.OnceAsked.{AsksWhatIn, HasNoEvents, OnceAsk, OnceSaying, Said, WantsDryRedo, WantsDryUndo, once_command, once_saying_of}
-use Rattle.rc_asked.specs.Query.{DbAsk}
 use Rattle.rc_asked.specs.SessionAsked.{AsksSessionIn, IsBoundIn, IsCrewIn, SessionAsk}
 use Rattle.rc_asked.specs.Task.{AsksEntered, AsksNamed, AsksNoTask, AsksTask, AsksTaskIn, HasBound, HasWorkers, IsEventless, OfCompile, OfDb, OfOnce, OfPlan, OfReplay, OfSession, OfUpdate, OfVersion, TaskAsk, command_of, file_in, task_ask_of}
 use Rattle.rc_asked.specs.UpdateAsked.{AsksUpdateIn, UpdateAsk}

@@ -1,17 +1,14 @@
 -- What may be asked of a database, and the words that ask it.
-use Rattle.std.specs.Prelude.{◌≡◌, List, [], ◌∷◌, Option, IfSome, codes, map, option_map, string_bytes}
-use Rattle.std.specs.Borrow.{Bor}
+use Rattle.std.specs.Prelude.{List, [], ◌∷◌, codes, map, string_bytes}
 use Rattle.clap.specs.Words.{Text}
-use Rattle.rc_graph.specs.declared.Way.{Way}
 use Rattle.rc_db.specs.declared.which.Which.{Which}
 use Rattle.rc_db.specs.declared.which.Which.TheVariants as which
-use Rattle.rc_asked.specs.declared.query.DbRequest.{DbRequest}
-use Rattle.rc_asked.specs.declared.query.Query.{Query}
-use Rattle.rc_asked.specs.declared.query.Query.TheVariants as query
-use Rattle.rc_asked.specs.declared.query.NameQuery.{NameQuery}
-use Rattle.rc_asked.specs.declared.query.NameQuery.TheVariants as of_name
-use Rattle.rc_asked.specs.declared.query.NamesQuery.{NamesQuery}
-use Rattle.rc_asked.specs.declared.query.NamesQuery.TheVariants as of_names
+use Rattle.rc_asked.specs.declared.db_words.Query.{Query}
+use Rattle.rc_asked.specs.declared.db_words.Query.TheVariants as query
+use Rattle.rc_asked.specs.declared.db_words.NameQuery.{NameQuery}
+use Rattle.rc_asked.specs.declared.db_words.NameQuery.TheVariants as of_name
+use Rattle.rc_asked.specs.declared.db_words.NamesQuery.{NamesQuery}
+use Rattle.rc_asked.specs.declared.db_words.NamesQuery.TheVariants as of_names
 
 -- what is asked of a database: whether it is one, its picture, a list of names, or something of one name or of any number of them
 pub data Question : Type 0 where
@@ -20,16 +17,6 @@ pub data Question : Type 0 where
   ListOf : Which → Question
   OfName : NameQuery → Text → Question
   OfNames : NamesQuery → List Text → Question
-
--- a question, the way that it is asked for, and the file of a session that is to be shown
-pub record DbAsk : Type 0 where
-  pub question : Question
-  pub way : Way
-  pub live : Option Text
-
--- only a picture shows a session
-abbrev pub ShowsByPicture : DbAsk → Type 0
-ShowsByPicture ask = IfSome ask.live (λ file. ask.question ≡ Dot)
 
 -- the word of a query of one name
 abbrev pub name_word : NameQuery → Text
@@ -77,11 +64,3 @@ question_of query.Dot = Dot
 question_of (query.List which) = ListOf which
 question_of (query.OfName query name) = OfName query name.now
 question_of (query.OfNames query names) = OfNames query (map string_bytes names.items)
-
--- what is asked by a query, a way, and a file
-abbrev pub ask_by : Query → Way → Option (Bor Text) → DbAsk
-ask_by query way file = record { question = question_of query; way = way; live = option_map (λ f. f.now) file }
-
--- what a request of the program asks
-abbrev pub db_ask_of : DbRequest → DbAsk
-db_ask_of request = ask_by request.query request.way request.live

@@ -7,8 +7,7 @@ use Rattle.rc_command.specs.Words.{rows_for}
 use Rattle.rc_asked.specs.Asked.{ask_in}
 use Rattle.rc_asked.specs.CompileAsked.{AsksCompileIn, CompileAsk, compile_ask_of}
 use Rattle.rc_asked.specs.OnceAsked.{AsksOnceIn, HasNoEvents, OnceAsk, once_ask_of, once_command}
-use Rattle.rc_asked.specs.DbAsked.{AsksIn}
-use Rattle.rc_asked.specs.Query.{DbAsk, db_ask_of}
+use Rattle.rc_asked.specs.DbAsked.{AsksIn, DbAsk, db_ask_of}
 use Rattle.rc_asked.specs.SessionAsked.{AsksSessionIn, SessionAsk, session_ask_of}
 use Rattle.rc_asked.specs.UpdateAsked.{AsksUpdateIn, UpdateAsk, update_ask_of}
 use Rattle.rc_asked.specs.declared.task.Task.{Task}

@@ -1,23 +1,66 @@
 //! What the words ask of `db`.
 ghost use Rattle.std.specs.Prelude.{◌≡◌, ◌≢◌, ◌↔◌, ◌∷◌, [], codes, if◌then◌else◌, map, string_bytes, IfErr, IfNone, IfOk, IfSome, IsTrue};
 ghost use Rattle.clap.specs.Words.{found_of, rows_of};
-ghost use Rattle.rc_asked.specs.DbAsked.{AsksDb, AsksIn, AsksNothing};
-ghost use Rattle.rc_asked.specs.Query.{DbAsk, Dot, Question, ShowsByPicture, ask_by, db_ask_of, list_word, name_word, names_word, question_of, words_of_query};
+ghost use Rattle.rc_asked.specs.DbAsked.{AsksDb, AsksIn, AsksNothing, DbAsk, ShowsByPicture, db_ask_of};
+ghost use Rattle.rc_asked.specs.Query.{Dot, Question, list_word, name_word, names_word, question_of, words_of_query};
 ghost use Rattle.rc_command.specs.Words.{words_in};
 ghost use Rattle.rc_asked.specs.declared.asked.WordsFault.TheVariants.{Memory};
-ghost use Rattle.rc_asked.specs.declared.query.NameQuery.{NameQuery as OfOne};
-ghost use Rattle.rc_asked.specs.declared.query.NamesQuery.{NamesQuery as OfMany};
+ghost use Rattle.rc_asked.specs.declared.db_words.NameQuery.{NameQuery as OfOne};
+ghost use Rattle.rc_asked.specs.declared.db_words.NamesQuery.{NamesQuery as OfMany};
 ghost use Rattle.rc_db.specs.declared.which.Which.{Which as Sort};
 
 use crate::asked::WordsFault;
 use crate::matched::{command_in, matches_in};
-use crate::query::{DbRequest, NameQuery, NamesQuery, Query};
 use crate::texts::strings_of;
 use clap::ArgMatches;
 use rc_command::is_on;
 use rc_db::{NoMem, Which};
 use rc_graph::Way;
 use std::alloc::Global;
+
+/// What the words ask of `db`.
+#[derive(Drop)]
+pub struct DbRequest<'a> {
+    pub query: Query<'a>,
+    /// The way that is asked about, where the query has one.
+    pub way: Way,
+    /// The file of a session, of which a picture shows what is up.
+    pub live: Option<&'a str>,
+}
+
+/// What is asked of a database.
+#[derive(Drop)]
+pub enum Query<'a> {
+    /// Whether it is one.
+    Check,
+    /// Its picture.
+    Dot,
+    /// The names of one sort.
+    List(Which),
+    /// What is said of one name.
+    OfName(NameQuery, &'a str),
+    /// Which services any number of names stand for, need, or are needed by.
+    OfNames(NamesQuery, Vec<String>),
+}
+
+/// A query of one name.
+#[derive(Clone, Copy)]
+pub enum NameQuery {
+    Kind,
+    Limit,
+    Flags,
+    Contents,
+    Pipeline,
+    Script,
+}
+
+/// A query of any number of names.
+#[derive(Clone, Copy)]
+pub enum NamesQuery {
+    Atomics,
+    Dependencies,
+    AllDependencies,
+}
 
 /// What the words ask of `db`. The first word is the program's own name.
 pub fn db_asked<'a>(alloc: Global, words: &'a [String]) -> Result<DbRequest<'a>, WordsFault>
@@ -51,27 +94,25 @@ pub(crate) fn db_in<'a>(
     let Some(word) = matches.get_str("query") else {
         return Err(WordsFault::Query);
     };
-    let way = way_of(is_on(matches, "down"));
     match query_in(alloc, word, matches)? {
-        Some(query) => request_of(query, way, matches.get_str("live")),
+        Some(query) => shown(DbRequest {
+            query,
+            way: way_of(is_on(matches, "down")),
+            live: matches.get_str("live"),
+        }),
         None => Err(WordsFault::Query),
     }
 }
 
-// The request of a query, a way, and the file of a session, if one is named.
-fn request_of<'a>(
-    query: Query<'a>,
-    way: Way,
-    live: Option<&'a str>,
-) -> Result<DbRequest<'a>, WordsFault>
-    ensures asked { IfOk result (λ request. (db_ask_of request ≡ ask_by query.entry way live.entry)
-        × ShowsByPicture (db_ask_of request)) }
-    ensures wrong { IfErr result (λ fault. ShowsByPicture (ask_by query.entry way live.entry) → ⊥) }
+// The request, unless it is to show a session, and asks for no picture.
+fn shown<'a>(request: DbRequest<'a>) -> Result<DbRequest<'a>, WordsFault>
+    ensures asked { IfOk result (λ same. (same ≡ request.entry) × ShowsByPicture (db_ask_of request.entry)) }
+    ensures wrong { IfErr result (λ fault. ShowsByPicture (db_ask_of request.entry) → ⊥) }
 {
-    if live.is_some() && !is_picture(&query) {
+    if request.live.is_some() && !is_picture(&request.query) {
         return Err(WordsFault::Live);
     }
-    Ok(DbRequest { query, way, live })
+    Ok(request)
 }
 
 // Whether a query is that of a picture.

@@ -8,10 +8,9 @@ ghost use Rattle.rc_asked.specs.declared.asked.WordsFault.TheVariants.{Memory};
 
 use crate::asked::{WordsFault, plan_in};
 use crate::compile_words::{CompileRequest, compile_in};
-use crate::db_words::db_in;
+use crate::db_words::{DbRequest, db_in};
 use crate::matched::matches_in;
 use crate::once_words::{OnceRequest, once_in};
-use crate::query::DbRequest;
 use crate::session_words::{SessionRequest, session_in};
 use crate::update_words::{UpdateRequest, update_in};
 use clap::ArgMatches;

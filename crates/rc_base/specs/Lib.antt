@@ -2,3 +2,4 @@ pub mod Base
 pub mod Opening
 pub mod TextFaultWord
 pub mod LiveFaultWord
+pub mod UnknownWord

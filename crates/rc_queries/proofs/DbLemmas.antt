@@ -16,9 +16,10 @@ use Rattle.rc_base.specs.Base.{Spells}
 use Rattle.rc_queries.specs.DbFaults.{IfRead, IsDbRefused, IsOfQuery, IsQuestionFault, IsUnanswered}
 use Rattle.rc_queries.specs.declared.db_fault.DbFault.{DbFault}
 use Rattle.rc_queries.specs.declared.db_fault.DbFault.TheVariants.{OfText, OfQuery, OfLive, Memory}
-use Rattle.rc_asked.specs.Query.{DbAsk, Question}
-use Rattle.rc_asked.specs.declared.query.NamesQuery.{NamesQuery}
-use Rattle.rc_asked.specs.declared.query.NamesQuery.TheVariants.{Atomics, Dependencies, AllDependencies}
+use Rattle.rc_asked.specs.DbAsked.{DbAsk}
+use Rattle.rc_asked.specs.Query.{Question}
+use Rattle.rc_asked.specs.declared.db_words.NamesQuery.{NamesQuery}
+use Rattle.rc_asked.specs.declared.db_words.NamesQuery.TheVariants.{Atomics, Dependencies, AllDependencies}
 
 -- all of a list is below a bound, where that is so of all that it lists
 pub listed_within : (P : ℕ → Type 0) (ids list : List ℕ) (names more : List (List ℕ)) → Lists P ids → list ≡ ids → more ≡ names → ((s : ℕ) → P s → s < length names) → All (λ s. s < length more) list

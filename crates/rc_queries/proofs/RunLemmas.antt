@@ -3,8 +3,7 @@ use Rattle.std.proofs.Common.{◌≡◌, ◌⊎◌, ℕ, List, Option, None, Som
 use Rattle.rc_model.specs.Plan.{Ask}
 use Rattle.rc_streams.specs.Input.{WritesAll, WritesFront}
 use Rattle.rc_asked.specs.Asked.{plan_asked}
-use Rattle.rc_asked.specs.DbAsked.{AsksDb}
-use Rattle.rc_asked.specs.Query.{DbAsk}
+use Rattle.rc_asked.specs.DbAsked.{AsksDb, DbAsk}
 use Rattle.rc_queries.specs.DbAnswer.{IsAnswerFor, IsDbAnswer}
 use Rattle.rc_queries.specs.PlanText.{IsAnswer, IsPlanFor}
 

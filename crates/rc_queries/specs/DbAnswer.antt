@@ -11,17 +11,18 @@ use Rattle.rc_db.specs.Pipeline.{InPipelineOf}
 use Rattle.rc_names.specs.Names.{ListsNames}
 use Rattle.rc_db.specs.Queries.{IsKindOf, IsNextTo, IsServiceNamed, IsShown, IsWithAll}
 use Rattle.rc_db.specs.Service.{limit_of, script_of}
+use Rattle.rc_db.specs.declared.which.Which.{Which}
 use Rattle.rc_model.specs.Line.{Line}
 use Rattle.rc_livetext.specs.Spelling as texts
 use Rattle.rc_render.specs.DotText.{dot_text}
 use Rattle.rc_render.specs.Lines.{line, name_lines, names_at}
 use Rattle.rc_base.specs.Base.{Spells}
-use Rattle.rc_asked.specs.DbAsked.{AsksDb}
-use Rattle.rc_asked.specs.Query.{Check, DbAsk, Dot, ListOf, OfName, OfNames, Question}
-use Rattle.rc_asked.specs.declared.query.NameQuery.{NameQuery}
-use Rattle.rc_asked.specs.declared.query.NameQuery.TheVariants as of_name
-use Rattle.rc_asked.specs.declared.query.NamesQuery.{NamesQuery}
-use Rattle.rc_asked.specs.declared.query.NamesQuery.TheVariants as of_names
+use Rattle.rc_asked.specs.DbAsked.{AsksDb, DbAsk}
+use Rattle.rc_asked.specs.Query.{Check, Dot, ListOf, OfName, OfNames, Question}
+use Rattle.rc_asked.specs.declared.db_words.NameQuery.{NameQuery}
+use Rattle.rc_asked.specs.declared.db_words.NameQuery.TheVariants as of_name
+use Rattle.rc_asked.specs.declared.db_words.NamesQuery.{NamesQuery}
+use Rattle.rc_asked.specs.declared.db_words.NamesQuery.TheVariants as of_names
 
 -- the names of the services of which this holds, one a line, in byte order
 abbrev pub IsListed : Database → (ℕ → Type 0) → List ℕ → Type 0
@@ -90,20 +91,28 @@ IsLiveBy d (Some bytes) live = (line : Line) × texts.Spells d bytes line × (li
 abbrev pub IsPicture : Database → Option (List ℕ) → List ℕ → Type 0
 IsPicture d shown text = (live : List Bool) × IsLiveBy d shown live × (text ≡ dot_text d live)
 
--- the answer of a question: nothing, the picture, names in byte order, or that of its query
-abbrev pub IsAnswerTo : Database → Way → Option (List ℕ) → Question → List ℕ → Type 0
-IsAnswerTo d way shown Check text = text ≡ []
-IsAnswerTo d way shown Dot text = IsPicture d shown text
-IsAnswerTo d way shown (ListOf which) text = (names : List Text) × ListsNames (IsShown d which) names × (text ≡ name_lines names)
-IsAnswerTo d way shown (OfName query name) text = IsNameAnswer d way query name text
-IsAnswerTo d way shown (OfNames query names) text = IsNamesAnswer d way query names text
+-- the names of one sort, in byte order
+abbrev pub IsListText : Database → Which → List ℕ → Type 0
+IsListText d which text = (names : List Text) × ListsNames (IsShown d which) names × (text ≡ name_lines names)
+
+-- the answer of a question that is asked so: nothing, the picture, names, or that of its query
+abbrev pub IsAnswerOf : Database → DbAsk → Option (List ℕ) → Question → List ℕ → Type 0
+IsAnswerOf d ask shown Check text = text ≡ []
+IsAnswerOf d ask shown Dot text = IsPicture d shown text
+IsAnswerOf d ask shown (ListOf which) text = IsListText d which text
+IsAnswerOf d ask shown (OfName query name) text = IsNameAnswer d ask.way query name text
+IsAnswerOf d ask shown (OfNames query names) text = IsNamesAnswer d ask.way query names text
+
+-- the answer of what is asked
+abbrev pub IsAnswerTo : Database → DbAsk → Option (List ℕ) → List ℕ → Type 0
+IsAnswerTo d ask shown text = IsAnswerOf d ask shown ask.question text
 
 -- what is written for what is asked, in the database that is spelled, where this is the text of the session to show
 pub record IsAnswerFor (ask : DbAsk) (base shown : Option (List ℕ)) (input output : List ℕ) : Type 0 where
   pub database : Database
   pub rest : List ℕ
   pub spelled : Spells base input database rest
-  pub text : IsAnswerTo database ask.way shown ask.question output
+  pub text : IsAnswerTo database ask shown output
 
 -- the same, of the words that ask
 abbrev pub IsDbAnswer : List Text → (base shown : Option (List ℕ)) → List ℕ → List ℕ → Type 0

@@ -1,5 +1,5 @@
 -- When `db` refuses, and how it tells that.
-use Rattle.std.specs.Prelude.{◌≡◌, ◌≢◌, ◌⊎◌, ◌++◌, ℕ, List, [], Option, None, Some, IfSome, codes, slice_get, unwrap_or}
+use Rattle.std.specs.Prelude.{◌≡◌, ◌≢◌, ◌⊎◌, ℕ, List, [], Option, None, Some, IfSome, codes, slice_get, unwrap_or}
 use Rattle.clap.specs.Words.{Text}
 use Rattle.rc_model.specs.Database.{Database}
 use Rattle.rc_db.specs.QueryFaults.{AnyName, Asked, IsNamesFault, IsQueryFault, OfBundle, OfLongrun, OfOneshot, OfService}
@@ -10,16 +10,17 @@ use Rattle.rc_dbtext.specs.declared.fault.TextFault.TheVariants as text
 use Rattle.rc_base.specs.Base.{IsTextFault, Spells}
 use Rattle.rc_base.specs.LiveFaultWord.{live_word}
 use Rattle.rc_base.specs.TextFaultWord.{text_word}
+use Rattle.rc_base.specs.UnknownWord.{unknown_word}
 use Rattle.rc_livetext.specs.LiveFaults.{IsLiveFault}
 use Rattle.rc_livetext.specs.declared.fault.LiveFault.{LiveFault}
 use Rattle.rc_livetext.specs.declared.fault.LiveFault.TheVariants as live
-use Rattle.rc_asked.specs.DbAsked.{AsksDb}
+use Rattle.rc_asked.specs.DbAsked.{AsksDb, DbAsk}
 use Rattle.rc_streams.specs.Input.{AppendsFront, fault_line}
-use Rattle.rc_asked.specs.Query.{Check, DbAsk, Dot, ListOf, OfName, OfNames, Question, names_in}
+use Rattle.rc_asked.specs.Query.{Check, Dot, ListOf, OfName, OfNames, Question, names_in}
 use Rattle.rc_queries.specs.declared.db_fault.DbFault.{DbFault}
 use Rattle.rc_queries.specs.declared.db_fault.DbFault.TheVariants.{OfText, OfQuery, OfLive, Memory}
-use Rattle.rc_asked.specs.declared.query.NameQuery.{NameQuery}
-use Rattle.rc_asked.specs.declared.query.NameQuery.TheVariants as of_name
+use Rattle.rc_asked.specs.declared.db_words.NameQuery.{NameQuery}
+use Rattle.rc_asked.specs.declared.db_words.NameQuery.TheVariants as of_name
 
 -- what a query asks of its one name
 abbrev pub asked_by : NameQuery → Asked
@@ -65,7 +66,7 @@ IsDbRefused fault ask base shown input = (d : Database) × (rest : List ℕ) × 
 
 -- a fault of a question in words: of an unknown name the name, too
 abbrev pub query_word : QueryFault → Question → List ℕ
-query_word (wrong.Unknown place) question = codes "Unknown " ++ unwrap_or (slice_get (names_in question) place) []
+query_word (wrong.Unknown place) question = unknown_word (unwrap_or (slice_get (names_in question) place) [])
 query_word wrong.NotAtomic question = codes "NotAtomic"
 query_word wrong.NotBundle question = codes "NotBundle"
 query_word wrong.NotLongrun question = codes "NotLongrun"

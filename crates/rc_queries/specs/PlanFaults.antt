@@ -14,6 +14,7 @@ use Rattle.rc_queries.specs.declared.plan.PlanFault.{PlanFault}
 use Rattle.rc_queries.specs.declared.plan.PlanFault.TheVariants.{Bad, Version, NotSorted, Cyclic, TooMany, Dangling, Unknown, NotClosed, PruneNeedsUp, Memory}
 use Rattle.rc_asked.specs.Asked.{plan_asked}
 use Rattle.rc_base.specs.Base.{IsTextFault, Spells}
+use Rattle.rc_base.specs.UnknownWord.{unknown_word}
 use Rattle.rc_streams.specs.Input.{AppendsFront, fault_line}
 use Rattle.rc_queries.specs.Named.{AreNamed, IsFirstUnknown, IsNamed, word_lines}
 use Rattle.rc_queries.specs.PlanText.{AreUp}
@@ -59,7 +60,7 @@ fault_text TooMany = codes "TooMany"
 fault_text NotSorted = codes "NotSorted"
 fault_text Dangling = codes "Dangling"
 fault_text Cyclic = codes "Cyclic"
-fault_text (Unknown word) = codes "Unknown " ++ word.now
+fault_text (Unknown word) = unknown_word word.now
 fault_text NotClosed = codes "NotClosed"
 fault_text PruneNeedsUp = codes "PruneNeedsUp"
 fault_text Memory = codes "Memory"

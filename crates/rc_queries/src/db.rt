@@ -3,11 +3,10 @@ ghost use Rattle.std.specs.Prelude.{◌≡◌, ◌≢◌, ◌⊎◌, ◌<◌, �
 ghost use Rattle.std.specs.Io.KnownBytes.{IsAtEnd};
 ghost use Rattle.rc_base.specs.Base.{bytes_of};
 ghost use Rattle.rc_queries.specs.DbAnswer.{IsAnswerFor, IsDbAnswer};
-ghost use Rattle.rc_asked.specs.DbAsked.{AsksNothing, AsksSomething};
+ghost use Rattle.rc_asked.specs.DbAsked.{AsksNothing, AsksSomething, db_ask_of};
 ghost use Rattle.rc_queries.specs.DbFaults.{IfRead, IsDbRefused, TellsAnswerFault, TellsDbFault};
 ghost use Rattle.rc_streams.specs.Input.{ConsumesAtMost, FailsWith, IsCause, TellsFailure, WritesAll, WritesFront};
 ghost use Rattle.rc_streams.specs.Noting.{HasFailed, inner_of};
-ghost use Rattle.rc_asked.specs.Query.{db_ask_of};
 
 use crate::db_answer::answer_to;
 use crate::db_fault::{DbFault, tell_db_fault};
@@ -188,7 +187,7 @@ fn answer_for(
         (bytes_of base.entry) (bytes_of shown.entry) input.now) }
 {
     let (db, _rest) = database_of(alloc, base, input)?;
-    let answer = answer_to(alloc, &db, &request.query, request.way, shown);
+    let answer = answer_to(alloc, &db, request, shown);
     drop(db);
     answer
 }

@@ -6,12 +6,13 @@ ghost use Rattle.rc_render.specs.Lines.{line};
 ghost use Rattle.rc_base.specs.Base.{bytes_of};
 ghost use Rattle.rc_model.specs.Database.{IsKnown, Selected};
 ghost use Rattle.rc_db.specs.QueryFaults.{AnyName, IsNamesFault, IsQueryFault, OfBundle, OfLongrun, OfOneshot, OfService};
-ghost use Rattle.rc_queries.specs.DbAnswer.{IsAnswerTo, IsContentsText, IsFlagsText, IsFound, IsKindText, IsLimitText, IsNameAnswer, IsNamesAnswer, IsPicture, IsPipelineText, IsScriptText, kind_word};
+ghost use Rattle.rc_queries.specs.DbAnswer.{IsAnswerTo, IsContentsText, IsFlagsText, IsFound, IsKindText, IsLimitText, IsListText, IsNameAnswer, IsNamesAnswer, IsPicture, IsPipelineText, IsScriptText, kind_word};
 ghost use Rattle.rc_queries.specs.DbFaults.{IsOfQuery, IsUnanswered, asked_by};
-ghost use Rattle.rc_asked.specs.Query.{Dot, ListOf, question_of};
+ghost use Rattle.rc_asked.specs.DbAsked.{db_ask_of};
+ghost use Rattle.rc_asked.specs.Query.{Dot, question_of};
 
 use crate::db_fault::DbFault;
-use rc_asked::{NameQuery, NamesQuery, Query};
+use rc_asked::{DbRequest, NameQuery, NamesQuery, Query};
 use rc_db::{Db, QueryFault, Which};
 use rc_graph::Way;
 use rc_livetext::read_live;
@@ -20,18 +21,20 @@ use rc_render::{dot_text, id_lines, name_lines};
 use rc_set::Set;
 use std::alloc::Global;
 
-/// What is printed for a query.
+/// What is printed for what is asked.
 pub(crate) fn answer_to(
     alloc: Global,
     db: &Db,
-    query: &Query<'_>,
-    way: Way,
+    request: &DbRequest<'_>,
     shown: Option<&[u8]>,
 ) -> Result<Vec<u8>, DbFault>
-    ensures text { IfOk result (λ text. IsAnswerTo db.now way (bytes_of shown.entry) (question_of query.now) text.items) }
-    ensures fault { IfErr result (IsUnanswered db.now (question_of query.now) (bytes_of shown.entry)) }
+    ensures text { IfOk result (λ text. IsAnswerTo db.now (db_ask_of request.now)
+        (bytes_of shown.entry) text.items) }
+    ensures fault { IfErr result (IsUnanswered db.now (question_of request.now.query)
+        (bytes_of shown.entry)) }
 {
-    match query {
+    let way = request.way;
+    match &request.query {
         Query::Check => Ok(Vec::new(alloc)),
         Query::Dot => picture(alloc, db, shown),
         Query::List(which) => list_text(alloc, db, *which),
@@ -76,7 +79,7 @@ fn filled_picture(alloc: Global, db: &Db, bytes: &[u8]) -> Result<Vec<u8>, DbFau
 
 // The names of one sort.
 fn list_text(alloc: Global, db: &Db, which: Which) -> Result<Vec<u8>, DbFault>
-    ensures text { IfOk result (λ text. IsAnswerTo db.now Way.Raise None (ListOf which) text.items) }
+    ensures text { IfOk result (λ text. IsListText db.now which text.items) }
     ensures fault { IfErr result (λ fault. fault ≡ DbFault.Memory) }
 {
     let names = db.list(alloc, which)?;

@@ -6,7 +6,7 @@ ghost use Rattle.rc_asked.specs.Query.{names_in, question_of};
 ghost use Rattle.rc_queries.specs.declared.db_fault.DbFault.TheVariants.{Memory};
 
 use rc_asked::Query;
-use rc_base::{live_word, text_word};
+use rc_base::{live_word, text_word, unknown_word};
 use rc_db::{NoMem, QueryFault};
 use rc_dbtext::TextFault;
 use rc_livetext::LiveFault;
@@ -110,9 +110,7 @@ fn query_word(alloc: Global, fault: QueryFault, query: &Query<'_>) -> Result<Vec
 {
     match fault {
         QueryFault::Unknown(place) => {
-            let mut text = Vec::from_slice(alloc, b"Unknown ")?;
-            text.extend_from_slice(name_at(query, place).unwrap_or("").as_bytes())?;
-            Ok(text)
+            unknown_word(alloc, name_at(query, place).unwrap_or("").as_bytes())
         }
         QueryFault::NotAtomic => Vec::from_slice(alloc, b"NotAtomic"),
         QueryFault::NotBundle => Vec::from_slice(alloc, b"NotBundle"),

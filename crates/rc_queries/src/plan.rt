@@ -16,7 +16,7 @@ ghost use Rattle.rc_queries.specs.declared.plan.PlanFault.TheVariants.{Memory};
 
 use crate::named::{NamedFault, named_set, word_lines};
 use rc_asked::{plan_asked, tell_words};
-use rc_base::{OpenFault, open};
+use rc_base::{OpenFault, open, unknown_word};
 use rc_db::Db;
 use rc_dbtext::TextFault;
 use rc_graph::Graph;
@@ -343,11 +343,7 @@ fn text_of(alloc: Global, fault: PlanFault<'_>) -> Result<Vec<u8>, NoMem>
 {
     match fault {
         PlanFault::Bad(offset) => Ok(format!(in alloc; "Bad {offset}")?.into_bytes()),
-        PlanFault::Unknown(word) => {
-            let mut text = Vec::from_slice(alloc, b"Unknown ")?;
-            text.extend_from_slice(word)?;
-            Ok(text)
-        }
+        PlanFault::Unknown(word) => unknown_word(alloc, word),
         PlanFault::Version => Vec::from_slice(alloc, b"Version"),
         PlanFault::NotSorted => Vec::from_slice(alloc, b"NotSorted"),
         PlanFault::Cyclic => Vec::from_slice(alloc, b"Cyclic"),

@@ -1,5 +1,5 @@
 -- When `session` refuses or fails, and how it tells that.
-use Rattle.std.specs.Prelude.{◌≡◌, ◌≢◌, ◌⊎◌, ◌++◌, ℕ, List, Option, codes, ◌<◌, None, IfSome, length}
+use Rattle.std.specs.Prelude.{◌≡◌, ◌≢◌, ◌⊎◌, ℕ, List, Option, codes, ◌<◌, None, IfSome, length}
 use Rattle.std.specs.Fmt.{decimal}
 use Rattle.rc_graph.specs.declared.Way.{Way}
 use Rattle.rc_livetext.specs.LiveFaults.{IsLiveFault}
@@ -24,6 +24,7 @@ use Rattle.rc_base.specs.Base.{IsTextFault, Spells}
 use Rattle.rc_base.specs.Opening.{Reads}
 use Rattle.rc_base.specs.LiveFaultWord.{live_word}
 use Rattle.rc_base.specs.TextFaultWord.{text_word}
+use Rattle.rc_base.specs.UnknownWord.{unknown_word}
 use Rattle.rc_sessions.specs.Serving.{IsOfFile, RunsFor, RunsGated, ServesUpTo}
 use Rattle.rc_sessions.specs.Session.{Runs, RunsAsked}
 use Rattle.rc_serve.specs.Meeting.{Doing}
@@ -172,7 +173,7 @@ serve_word Io = codes "Io"
 -- how a fault is told
 abbrev pub session_fault_text : SessionFault → List ℕ
 session_fault_text (OfText fault) = text_word fault
-session_fault_text (Unknown word) = codes "Unknown " ++ word.now
+session_fault_text (Unknown word) = unknown_word word.now
 session_fault_text (OfLive fault) = live_word fault
 session_fault_text (Failed fault) = serve_word fault
 

@@ -7,7 +7,7 @@ ghost use Rattle.rc_serve.specs.declared.fault.ServeFault.{ServeFault as Failing
 ghost use Rattle.rc_serve.specs.declared.fault.ServeFault.TheVariants.{Memory};
 
 use crate::failing::GateFault;
-use rc_base::{live_word, text_word};
+use rc_base::{live_word, text_word, unknown_word};
 use rc_db::NoMem;
 use rc_dbtext::TextFault;
 use rc_livetext::LiveFault;
@@ -146,11 +146,7 @@ fn text_of(alloc: Global, fault: SessionFault<'_>) -> Result<Vec<u8>, NoMem>
 {
     match fault {
         SessionFault::OfText(fault) => text_word(alloc, fault),
-        SessionFault::Unknown(word) => {
-            let mut text = Vec::from_slice(alloc, b"Unknown ")?;
-            text.extend_from_slice(word)?;
-            Ok(text)
-        }
+        SessionFault::Unknown(word) => unknown_word(alloc, word),
         SessionFault::OfLive(fault) => live_word(alloc, fault),
         SessionFault::Failed(fault) => Vec::from_slice(alloc, serve_word(fault)),
     }

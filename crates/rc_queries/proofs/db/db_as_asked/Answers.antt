@@ -2,7 +2,7 @@ use Rattle.std.proofs.Common.{◌≡◌, ◌∙◌, ℕ, List, subst}
 use Rattle.rc_base.specs.Base.{bytes_of}
 use Rattle.rc_streams.specs.Noting.{inner_of}
 use Rattle.rc_queries.specs.DbFaults.{IsDbRefused, TellsAnswerFault}
-use Rattle.rc_asked.specs.Query.{db_ask_of}
+use Rattle.rc_asked.specs.DbAsked.{db_ask_of}
 use Rattle.rc_queries.proofs.DbLemmas.{if_read_then}
 use Rattle.rc_queries.proofs.db.db_as_asked.Goals as goal
 

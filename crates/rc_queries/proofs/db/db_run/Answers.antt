@@ -1,5 +1,5 @@
 use Rattle.std.proofs.Common.{inl, inr, map, string_bytes}
-use Rattle.rc_asked.specs.Query.{db_ask_of}
+use Rattle.rc_asked.specs.DbAsked.{db_ask_of}
 use Rattle.rc_base.specs.Base.{bytes_of}
 use Rattle.rc_streams.specs.Noting.{inner_of}
 use Rattle.rc_queries.proofs.DbLemmas.{if_read_then}
