@@ -6,8 +6,9 @@ use Rattle.rc_model.specs.Names.{IsName, IsInByteOrder, AreNames, Has}
 use Rattle.rc_model.specs.declared.Kind.TheVariants.{Longrun, Bundle}
 use Rattle.rc_model.specs.Graph.{Needs, IsAcyclic, AreNeeds}
 
--- what a database says of one service, beside its name and what it needs; its kind is
--- `Oneshot` or `Longrun` (enums stand in `src/lib.rt`), limits in milliseconds, 0 for none
+-- what a database says of one service, beside its name and what it needs: its kind, `Oneshot`
+-- or `Longrun` (enums stand in `src/lib.rt`), limits in milliseconds, 0 for none, the texts
+-- of its scripts, if it has any, and the service that reads what it writes, if one does
 pub record Service : Type 0 where
   pub kind : Kind
   pub essential : Bool
@@ -78,8 +79,8 @@ Feeds d s t =
 abbrev pub AreApart : List (List ℕ) → Bundles → Type 0
 AreApart names table = (name : List ℕ) → Contains names name → Contains (names_of table) name → ⊥
 
--- parts that fit together: one number of services in all of them, services
--- and not bundles, each fed service a longrun that is needed, names apart
+-- parts that fit together: one number of services in all of them, services and not
+-- bundles, what a service feeds is a longrun that the service needs, names apart
 pub record FitTogether (d : Database) : Type 0 where
   pub services : length d.services ≡ length d.names
   pub graph : length d.needs ≡ length d.names

@@ -197,7 +197,8 @@ but_last [] = []
 but_last (a ∷ []) = []
 but_last (a ∷ b ∷ rest) = a ∷ but_last (b ∷ rest)
 
--- without the first of those before or, where it stands beside the current state, without the last
+-- without the first of those before or, where that
+-- stands beside the current state, or none does, without the last
 abbrev pub shorter : List State → Line → Line
 shorter [] line = record line { after = but_last line.after }
 shorter (a ∷ []) line = record line { after = but_last line.after }
@@ -244,9 +245,9 @@ abbrev pub put_between : Line → State → Line → Line
 put_between line end next =
     record { before = next.before; current = end; after = line.after; bound = line.bound }
 
--- an undo after which these services are live: those of the state
--- before, and the cursor goes back; those of the current state, and the
--- line stays; else the end is put between the two, within the bound
+-- an undo after which these services are live: those of the state before (as always where
+-- only bundles differ), and the cursor goes back; else those of the current state, and the
+-- line stays; else these, with the current bundles, are put between the two, within the bound
 abbrev pub MovesByUndo : Line → List Bool → Line → Type 0
 MovesByUndo line live new =
     (back : Line) × IsNext back line × (((live ≡ back.current.live) × (new ≡ back))
@@ -254,9 +255,9 @@ MovesByUndo line live new =
     ⊎ ((live ≢ back.current.live) × (live ≢ line.current.live)
     × (new ≡ within_bound (put_between back (with_live line live) line))))
 
--- a redo after which these services are live: those of the state
--- after, and the cursor goes on; those of the current state, and the
--- line stays; else the end is put between the two, within the bound
+-- a redo after which these services are live: those of the state after (as always where
+-- only bundles differ), and the cursor goes on; else those of the current state, and the
+-- line stays; else these, with the current bundles, are put between the two, within the bound
 abbrev pub MovesByRedo : Line → List Bool → Line → Type 0
 MovesByRedo line live new = (on : Line) × IsNext line on × (((live ≡ on.current.live) × (new ≡ on))
     ⊎ ((live ≢ on.current.live) × (live ≡ line.current.live) × (new ≡ line))

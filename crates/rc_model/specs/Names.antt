@@ -43,8 +43,8 @@ pub record AreNames (texts : List (List ℕ)) : Type 0 where
   pub each : All IsName texts
   pub few : length texts ≤ MAX_NAMES
 
--- the set, a list with a truth value for each service, has this
--- service; the bound of a set is the length of the list
+-- the set, a list with a truth value for each service, has this service, which is a number,
+-- also called its id: its place among the names; the bound of a set is the length of the list
 abbrev pub Has : List Bool → ℕ → Type 0
 Has set s = slice_index_or set s false ≡ true
 

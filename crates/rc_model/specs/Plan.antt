@@ -27,7 +27,7 @@ IsWanted names table up ask s = Selected names table ask.words s ⊎ ((ask.all �
 abbrev pub IsEssentialUp : Database → (ℕ → Type 0) → ℕ → Type 0
 IsEssentialUp d up s = IsEssential d s × up s
 
--- what essential services hold up: those that are up, with all that they need
+-- what essential services hold up: themselves, those of them that are up, with all that they need
 abbrev pub IsHeldUp : List (List ℕ) → (ℕ → Type 0) → ℕ → Type 0
 IsHeldUp needs essential = UpFrom needs essential
 

@@ -40,7 +40,7 @@ IsPlanned c s = Has c.lower s ⊎ Has c.raise s
 abbrev pub TargetOf : Course → ℕ → Type 0
 TargetOf c s = (Has c.up s × (Has c.lower s → ⊥)) ⊎ Has c.raise s
 
--- whether a transition reached its end
+-- whether a transition went well
 abbrev pub is_success : Outcome → Bool
 is_success outcome.Ok = true
 is_success (outcome.Failed status) = false

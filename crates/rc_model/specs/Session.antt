@@ -46,13 +46,14 @@ IsRedo (Redo limit events) = Unit {0}
 IsRedo other = ⊥
 
 -- the moment from which a run that begins at `start` may be stopped: none without a
--- limit, and no later than the last moment that there is; a command that brings its
--- events begins at 0, since a stop that is legal where a run begins later is legal so too
+-- limit, and no later than the last moment that there is; for a command that brings its events
+-- `start` is 0: each stop that is legal from a later start is legal then, and so are earlier
+-- ones, so nothing is said here of how long was waited
 abbrev pub deadline_of : ℕ → ℕ → Option ℕ
 deadline_of start limit = if limit == 0 then None else Some (min (start + limit) (2 ^ 64 - 1))
 
--- the way from some live services to others: the plan
--- between them, and a deadline only where they differ
+-- the way from some live services to others: the plan between them, which
+-- spares no essential service, and a deadline only where they differ
 pub record IsWay (from to : List Bool) (start limit : ℕ) (plan : PlanSets)
     (deadline : Option ℕ) : Type 0 where
   pub leads : IsPlanTo from (Has to) Nothing plan

@@ -125,7 +125,7 @@ pub enum Standing {
     Sinking,
 }
 
-/// Why a move was not opened. Nothing has changed.
+/// Why an undo, a redo or an edit was not begun on a line of states. Nothing has changed.
 #[derive(Clone, Copy, PartialEq, Eq, Debug, Error)]
 pub enum LineFault {
     /// The current state is the first.
@@ -178,12 +178,13 @@ pub enum Refusal {
     NothingToUndo,
     #[error("there is nothing to redo")]
     NothingToRedo,
-    /// Services moved between the two states.
+    /// Services moved between the two states: of calls that take back edits alone.
     #[error("services moved between the two states")]
     NotEdit,
-    /// The session is poisoned.
+    /// The session is poisoned. No answer of the definitions is this.
     #[error("the session is poisoned")]
     Strange,
+    /// No answer of the definitions is this, either.
     #[error("out of memory")]
     Memory,
 }
