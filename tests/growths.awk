@@ -2,6 +2,7 @@
 # this order, tests/growths.txt, what is written where nothing is refused, and the run. way: GROWTHS, this
 # growth `n` of each call and all that follow; GROWTH, this one alone, where a vector may have asked for
 # less and all goes on; THREAD, this start of a thread. It prints the lines that are wrong.
+# A vector that can't be made as short as what it holds stays as long as it is.
 # A thread's start takes memory too, and more where none has ended before: where that is refused the call
 # is out of threads.
 FNR == 1 { part++ }
@@ -12,7 +13,8 @@ part == 1 { counts[FNR] = $0 }
 part == 2 { whole[FNR] = $0; lines = FNR }
 
 # Sets `before`, what is written of a line before the first call that is refused, with its name, and
-# `threads`, how many that starts; and `over`, by how many growths it is before its end. 0: none is refused.
+# `threads`, how many that starts; `over`, by how many growths it is before its end; and `shrinks`, whether
+# the last of them is to shrink. 0: none is refused.
 function is_refused(line,    calls, numbers, many, i, name, pair) {
     many = split(whole[line], calls, "; ")
     split(counts[line], numbers, "; ")
@@ -22,6 +24,7 @@ function is_refused(line,    calls, numbers, many, i, name, pair) {
         sub(/: [^:]*$/, "", name)
         split(substr(numbers[i], length(name) + 3), pair, " ")
         threads = pair[2] + 0
+        shrinks = numbers[i] ~ /, the last to shrink$/
         over = (way == "THREAD" ? threads : pair[1]) - n
         if (over >= 0) {
             before = before name
@@ -35,7 +38,7 @@ function is_refused(line,    calls, numbers, many, i, name, pair) {
 
 function is_right(line, text,    refused) {
     refused = is_refused(line)
-    if (text == whole[line] && (!refused || way == "GROWTH")) return 1
+    if (text == whole[line] && (!refused || way == "GROWTH" || shrinks && over == 0)) return 1
     if (text == before ": out of memory, as before") return refused && way != "THREAD"
     if (text == before ": out of threads, as before")
         return threads > 0 && (refused || (way != "THREAD" && over >= -2 * threads))
