@@ -89,8 +89,8 @@ pub record FitTogether (d : Database) : Type 0 where
   pub fed : (s t : ℕ) → Feeds d s t → IsKind d t Longrun × Needs d.needs s t
   pub apart : AreApart d.names d.table
 
--- a database: its names, needs, bundles and limits are such,
--- no service reaches itself, and its parts fit together
+-- a database: each of its parts is as said above (names, needs, bundles,
+-- limits), no service reaches itself, and the parts fit together
 pub record IsDatabase (d : Database) : Type 0 where
   pub names : AreNames d.names
   pub needs : AreNeeds d.needs

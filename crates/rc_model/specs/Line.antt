@@ -1,9 +1,15 @@
--- Edits of bundles, states, the entries between them, and the moves of a line.
+-- States, edits of bundles, the entries between states, and the moves of a line.
 use Rattle.std.specs.Prelude.{◌≡◌, ◌≢◌, ◌↔◌, ℕ, Bool, List, map, Contains, Option, ◌≤◌, suc, false, length, All, Some, None, ◌<◌, ◌^◌, [], ◌∷◌, ◌++◌, slice_get, ltb, if◌then◌else◌, ◌⊎◌}
 use Rattle.rc_model.specs.Names.{IsInByteOrder, Holds, Has, Lists}
 use Rattle.rc_model.specs.Database.{Bundles, value_of, names_of, IsChangedAt, Selected, IsKnown, IsFirst, IsUnknownAt, IsTable}
 use Rattle.rc_model.specs.declared.BundleFault.{BundleFault}
 use Rattle.rc_model.specs.declared.BundleFault.TheVariants.{IsAtomic, Exists, Missing, Unknown, Memory, Full}
+
+-- what a change, an edit, an undo and a redo go
+-- between: the services that are live, and the bundles
+pub record State : Type 0 where
+  pub live : List Bool
+  pub table : Bundles
 
 -- a name whose set alters, with the set before and the set after; none where the name is no bundle
 pub record Alteration : Type 0 where
@@ -102,12 +108,6 @@ IsDeleteFault names table words force Exists = ⊥
 IsDeleteFault names table words force (Unknown place) = ⊥
 IsDeleteFault names table words force Full = ⊥
 
--- what a change, an edit, an undo and a redo go
--- between: the services that are live, and the bundles
-pub record State : Type 0 where
-  pub live : List Bool
-  pub table : Bundles
-
 -- the difference of two states: the services that went
 -- up, those that went down, and each bundle that altered
 pub record Entry : Type 0 where
@@ -152,8 +152,8 @@ DifferInTurn [] = Unit {0}
 DifferInTurn (a ∷ []) = Unit {0}
 DifferInTurn (a ∷ b ∷ rest) = (a ≢ b) × DifferInTurn (b ∷ rest)
 
--- states that a line may have: neighbours differ, all
--- live sets have this bound, and all tables are such
+-- states that a line may have: neighbours differ, all live sets
+-- have this bound, and all tables are tables of bundles as said above
 pub record AreStates (bound : ℕ) (all : List State) : Type 0 where
   pub differ : DifferInTurn all
   pub bounds : All (λ state. length state.live ≡ bound) all
@@ -163,8 +163,8 @@ pub record AreStates (bound : ℕ) (all : List State) : Type 0 where
 abbrev pub IsBound : ℕ → Type 0
 IsBound bound = (3 ≤ bound) × (bound < 2 ^ 32)
 
--- a line: its states are such, all live sets as long as that
--- of the current one, and no more of them than there may be
+-- a line: its states are those that a line may have, all live sets as
+-- long as that of the current one, and no more of them than there may be
 pub record IsLine (line : Line) : Type 0 where
   pub held : AreStates (length line.current.live) (states line)
   pub bound : IsBound line.bound
