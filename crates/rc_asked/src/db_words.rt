@@ -106,7 +106,8 @@ pub(crate) fn db_in<'a>(
 
 // The request, unless it is to show a session, and asks for no picture.
 fn shown<'a>(request: DbRequest<'a>) -> Result<DbRequest<'a>, WordsFault>
-    ensures asked { IfOk result (λ same. (same ≡ request.entry) × ShowsByPicture (db_ask_of request.entry)) }
+    ensures asked { IfOk result (λ same. (same ≡ request.entry)
+        × ShowsByPicture (db_ask_of request.entry)) }
     ensures wrong { IfErr result (λ fault. ShowsByPicture (db_ask_of request.entry) → ⊥) }
 {
     if request.live.is_some() && !is_picture(&request.query) {

@@ -93,7 +93,8 @@ IsPicture d shown text = (live : List Bool) × IsLiveBy d shown live × (text �
 
 -- the names of one sort, in byte order
 abbrev pub IsListText : Database → Which → List ℕ → Type 0
-IsListText d which text = (names : List Text) × ListsNames (IsShown d which) names × (text ≡ name_lines names)
+IsListText d which text =
+    (names : List Text) × ListsNames (IsShown d which) names × (text ≡ name_lines names)
 
 -- the answer of a question that is asked so: nothing, the picture, names, or that of its query
 abbrev pub IsAnswerOf : Database → DbAsk → Option (List ℕ) → Question → List ℕ → Type 0

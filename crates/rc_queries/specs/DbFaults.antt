@@ -66,7 +66,8 @@ IsDbRefused fault ask base shown input = (d : Database) × (rest : List ℕ) × 
 
 -- a fault of a question in words: of an unknown name the name, too
 abbrev pub query_word : QueryFault → Question → List ℕ
-query_word (wrong.Unknown place) question = unknown_word (unwrap_or (slice_get (names_in question) place) [])
+query_word (wrong.Unknown place) question =
+    unknown_word (unwrap_or (slice_get (names_in question) place) [])
 query_word wrong.NotAtomic question = codes "NotAtomic"
 query_word wrong.NotBundle question = codes "NotBundle"
 query_word wrong.NotLongrun question = codes "NotLongrun"
