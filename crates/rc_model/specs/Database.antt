@@ -7,8 +7,8 @@ use Rattle.rc_model.specs.declared.Kind.TheVariants.{Longrun, Bundle}
 use Rattle.rc_model.specs.Graph.{Needs, IsAcyclic, AreNeeds}
 
 -- what a database says of one service, beside its name and what it needs: its kind, `Oneshot`
--- or `Longrun` (enums stand in `src/lib.rt`), limits in milliseconds, 0 for none, the texts
--- of its scripts, if it has any, and the service that reads what it writes, if one does
+-- or `Longrun` (enums stand in `src/lib.rt`), whether it is essential, limits in milliseconds,
+-- 0 for none, the texts of its scripts, if any, and the service that reads what it writes, if any
 pub record Service : Type 0 where
   pub kind : Kind
   pub essential : Bool

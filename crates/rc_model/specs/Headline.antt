@@ -76,7 +76,7 @@ pub record KeepsHistory (line : Line) (command : Command) (new : Line) : Type 0 
   -- the line may have as many states as before
   pub bound : new.bound ≡ line.bound
   -- it has its states, or these with the new one, of which only the
-  -- bound drops any; a change or an edit drops what could be redone first
+  -- bound drops any; a change or an edit first drops what could be redone
   pub history : (states new ≡ states line) ⊎ Keeps (with_one_more line command new.current) new
 
 -- whatever is done, failed or not, keeps history

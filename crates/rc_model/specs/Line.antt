@@ -66,7 +66,7 @@ pub record MayBeDefined (names : List (List ℕ)) (table : Bundles) (name : List
   pub fresh : force ≡ false → IsBundle table name → ⊥
 
 -- nothing keeps a bundle from being defined: its name may
--- be, its contents are names, and there is a place for it
+-- be, its contents are names, and there is room for it
 pub record CanAdd (names : List (List ℕ)) (table : Bundles) (name : List ℕ)
     (contents : List (List ℕ)) (force : Bool) : Type 0 where
   pub name_may : MayBeDefined names table name force
@@ -159,7 +159,8 @@ pub record AreStates (bound : ℕ) (all : List State) : Type 0 where
   pub bounds : All (λ state. length state.live ≡ bound) all
   pub tables : All (λ state. IsTable state.table) all
 
--- how many there may be: at least three, so that what goes never stands beside the current state
+-- how many states a line may have: at least three, so that the one which goes where
+-- there would be one more (`within_bound`) never stands beside the current one
 abbrev pub IsBound : ℕ → Type 0
 IsBound bound = (3 ≤ bound) × (bound < 2 ^ 32)
 
@@ -197,8 +198,8 @@ but_last [] = []
 but_last (a ∷ []) = []
 but_last (a ∷ b ∷ rest) = a ∷ but_last (b ∷ rest)
 
--- without the first of those before or, where that
--- stands beside the current state, or none does, without the last
+-- the line, whose states before the current one are handed in too, without the first of
+-- them or, where that stands beside the current one, or there is none, without its last
 abbrev pub shorter : List State → Line → Line
 shorter [] line = record line { after = but_last line.after }
 shorter (a ∷ []) line = record line { after = but_last line.after }
@@ -245,8 +246,8 @@ abbrev pub put_between : Line → State → Line → Line
 put_between line end next =
     record { before = next.before; current = end; after = line.after; bound = line.bound }
 
--- an undo after which these services are live: those of the state before (as always where
--- only bundles differ), and the cursor goes back; else those of the current state, and the
+-- an undo after which these services are live: those of the state before, and the cursor goes
+-- back, also where the current state has the same; else those of the current state, and the
 -- line stays; else these, with the current bundles, are put between the two, within the bound
 abbrev pub MovesByUndo : Line → List Bool → Line → Type 0
 MovesByUndo line live new =
@@ -255,8 +256,8 @@ MovesByUndo line live new =
     ⊎ ((live ≢ back.current.live) × (live ≢ line.current.live)
     × (new ≡ within_bound (put_between back (with_live line live) line))))
 
--- a redo after which these services are live: those of the state after (as always where
--- only bundles differ), and the cursor goes on; else those of the current state, and the
+-- a redo after which these services are live: those of the state after, and the cursor goes
+-- on, also where the current state has the same; else those of the current state, and the
 -- line stays; else these, with the current bundles, are put between the two, within the bound
 abbrev pub MovesByRedo : Line → List Bool → Line → Type 0
 MovesByRedo line live new = (on : Line) × IsNext line on × (((live ≡ on.current.live) × (new ≡ on))

@@ -10,7 +10,7 @@ use Rattle.rc_model.specs.declared.PlanFault.TheVariants.{PruneNeedsUp, Unknown,
 
 -- what a change is asked to do: which way (`Up`, `Down` or `DownAll`), whether what is not
 -- wanted goes (pruning, on the way up alone), whether all that is up is wanted too, the words,
--- and a limit in milliseconds, 0 for none
+-- and a limit of its run in milliseconds, 0 for none
 pub record Ask : Type 0 where
   pub mode : Mode
   pub prune : Bool
@@ -27,7 +27,7 @@ IsWanted names table up ask s = Selected names table ask.words s ⊎ ((ask.all �
 abbrev pub IsEssentialUp : Database → (ℕ → Type 0) → ℕ → Type 0
 IsEssentialUp d up s = IsEssential d s × up s
 
--- what essential services hold up: themselves, those of them that are up, with all that they need
+-- what these essential services hold up: themselves, with all that they need
 abbrev pub IsHeldUp : List (List ℕ) → (ℕ → Type 0) → ℕ → Type 0
 IsHeldUp needs essential = UpFrom needs essential
 

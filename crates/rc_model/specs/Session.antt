@@ -46,9 +46,9 @@ IsRedo (Redo limit events) = Unit {0}
 IsRedo other = ⊥
 
 -- the moment from which a run that begins at `start` may be stopped: none without a
--- limit, and no later than the last moment that there is; for a command that brings its events
--- `start` is 0: each stop that is legal from a later start is legal then, and so are earlier
--- ones, so nothing is said here of how long was waited
+-- limit, and no later than the last moment that there is; in these modules `start` is 0, since
+-- commands bring their events and no clock: each stop that is legal from a later start is legal
+-- then, and so are earlier ones, so nothing is said here of how long was waited
 abbrev pub deadline_of : ℕ → ℕ → Option ℕ
 deadline_of start limit = if limit == 0 then None else Some (min (start + limit) (2 ^ 64 - 1))
 
@@ -89,7 +89,8 @@ MovesBy line (Add name contents force) live new = ⊥
 MovesBy line (Delete words force) live new = ⊥
 
 -- what is reported of a command: what was live before it, which services went down, came
--- up, failed, were blocked, were untried, were kept, whether it was stopped, and its events
+-- up, failed, were never taken in a run that was not stopped (blocked) or in one that was
+-- (untried), were kept, whether it was stopped, and its events
 pub record Reported : Type 0 where
   pub opening : List Bool
   pub lowered : List ℕ

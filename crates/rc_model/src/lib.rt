@@ -161,7 +161,7 @@ pub enum Refusal {
     NotSettled(usize),
     #[error("prune goes with up alone")]
     PruneNeedsUp,
-    /// The word at this place is no name.
+    /// The word at this place is the name of nothing.
     #[error("unknown name")]
     Unknown(usize),
     /// The word at this place is the name of a service.
@@ -178,13 +178,13 @@ pub enum Refusal {
     NothingToUndo,
     #[error("there is nothing to redo")]
     NothingToRedo,
-    /// Services moved between the two states: of calls that take back edits alone.
+    /// Services moved between the two states. As the two below it is in no answer of the eight
+    /// modules: calls that take back edits alone give it.
     #[error("services moved between the two states")]
     NotEdit,
-    /// The session is poisoned. No answer of the definitions is this.
+    /// The session is poisoned.
     #[error("the session is poisoned")]
     Strange,
-    /// No answer of the definitions is this, either.
     #[error("out of memory")]
     Memory,
 }
