@@ -1,6 +1,7 @@
-//! What the headline says, and all that it rests on: the enums below, to be read first, then eight modules of definitions
-//! in `specs/`, in this order: Names, Graph, Database, Plan, Run, Line, Session, Headline. A ninth, Beside, holds words of
-//! other contracts, on which the headline does not rest.
+//! What the headline says, and all that it rests on: the enums below, to be read first, then eight
+//! modules of definitions in `specs/`, in this order: Names, Graph, Database, Plan, Run, Line,
+//! Session, Headline. A ninth, Beside, holds words of other contracts, on which the headline does
+//! not rest.
 #![tactic(auto)]
 
 use std::alloc::AllocError;

@@ -1,5 +1,5 @@
-//! Each list of a few events is taken exactly where the plain program says that it is legal, and who asks for a job after
-//! one is answered as that program says.
+//! Each list of a few events is taken exactly where the plain program says that it is legal, and
+//! who asks for a job after one is answered as that program says.
 
 ghost use Rattle.std.specs.Prelude.{◌≤◌};
 
@@ -34,8 +34,8 @@ struct Trial<'a> {
     alphabet: &'a [Event],
 }
 
-/// How many lists were tried, how many workers asked after one, and how often that came to something else than the plain
-/// program says.
+/// How many lists were tried, how many workers asked after one, and how often that came to
+/// something else than the plain program says.
 #[derive(Clone, Copy, Drop)]
 struct Tally {
     tried: u32,
@@ -132,8 +132,8 @@ fn ask_one(
     Ok(())
 }
 
-/// What a worker is answered after these events, or nothing where these are refused, its job is not legal, or the trace is
-/// not as it must be.
+/// What a worker is answered after these events, or nothing where these are refused, its job is not
+/// legal, or the trace is not as it must be.
 fn answered(
     alloc: Global,
     trial: &Trial,

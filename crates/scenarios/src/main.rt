@@ -1,7 +1,9 @@
-//! What no command of the built program shows: which texts are names and the words of some refusals, sets of all ids below
-//! a bound, parts of a database that do not fit together, trees in memory, and a graph of as many services as there may
-//! be. Whether lists of events are taken, and who asks is answered, exactly where a plain program says so. Drawn changes,
-//! each carried out in many orders, and drawn databases, each written and read back, and once more after edits of bytes.
+//! What no command of the built program shows: which texts are names and the words of some
+//! refusals, sets of all ids below a bound, parts of a database that do not fit together, trees in
+//! memory, and a graph of as many services as there may be. Whether lists of events are taken, and
+//! who asks is answered, exactly where a plain program says so. Drawn changes, each carried out in
+//! many orders, and drawn databases, each written and read back, and once more after edits of
+//! bytes.
 #![tactic(auto)]
 
 mod compare;

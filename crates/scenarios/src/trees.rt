@@ -24,7 +24,8 @@ const FLUSHES: [Option<ErrorKind>; 3] = [
     Some(ErrorKind::Interrupted),
 ];
 
-/// Shows what is made of the files over writers whose flush does well or not, and of an empty directory.
+/// Shows what is made of the files over writers whose flush does well or not, and of an empty
+/// directory.
 pub(crate) fn show_trees(rt: &(impl Print + AllocGlobal)) -> io::Result<()> {
     for failing in FLUSHES {
         show_with(rt, "two services", FILES, failing)?;

@@ -25,8 +25,9 @@ pub(crate) fn steps_of(alloc: Global, words: &str) -> Result<Vec<Step>, NoMem> {
     Ok(steps)
 }
 
-/// `up` brings `site` up, `limited` does so within a limit, `undo` and `redo` bring all down again and up again. `add`
-/// defines the bundle `pair`, `delete` removes `site`, `back` and `on` undo and redo an edit.
+/// `up` brings `site` up, `limited` does so within a limit, `undo` and `redo` bring all down again
+/// and up again. `add` defines the bundle `pair`, `delete` removes `site`, `back` and `on` undo and
+/// redo an edit.
 fn step_of(alloc: Global, word: &str) -> Result<Step, NoMem> {
     match word {
         "up" => up_site(alloc, 0),

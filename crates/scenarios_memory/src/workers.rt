@@ -14,8 +14,8 @@ use std::sync::Wait;
 use std::sync::atomic::{AtomicUsize, Ordering};
 use std::thread::Threads;
 
-/// A gate at which all goes well, that counts what it is asked, and a watch that counts its looks, and
-/// remembers the most that one of them saw.
+/// A gate at which all goes well, that counts what it is asked, and a watch that counts its looks,
+/// and remembers the most that one of them saw.
 #[derive(Drop)]
 struct Counting {
     clock: StepClock,
@@ -64,8 +64,8 @@ fn up_in(glance: &Glance) -> usize {
     up
 }
 
-/// Whether the gate was asked once for each take of a run, each event was followed by a look, and one saw
-/// all events. Where nothing went down, one saw all up that came up.
+/// Whether the gate was asked once for each take of a run, each event was followed by a look, and
+/// one saw all events. Where nothing went down, one saw all up that came up.
 fn is_seen(seen: &Counting, report: &Report) -> bool {
     let events = report.trace.len();
     seen.calls.load(Ordering::SeqCst) == takes_in(&report.trace)
@@ -119,7 +119,8 @@ pub(crate) fn within<R: Print + AllocGlobal + Threads + Wait + Sync>(
     by_clock(rt, session, 1, step, StepClock::new(moments))
 }
 
-/// It is strange that a step is refused and the gate was asked, and that what was seen is not the run.
+/// It is strange that a step is refused and the gate was asked, and that what was seen is not the
+/// run.
 fn by_clock<R: AllocGlobal + Threads + Wait + Sync>(
     rt: &R,
     session: &mut Session,
