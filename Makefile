@@ -5,7 +5,7 @@ PREFIX ?= /usr/local
 PROGRAM := crates/undorc/out/undorc
 SOURCES := $(shell find crates -name out -prune -o -type f -print) crates.txt
 
-.PHONY: build demo model test install release
+.PHONY: build demo model pages test install release
 
 # Only a proved crate is built, so the first build proves everything below the program. `make test`
 # builds the program too.
@@ -21,6 +21,10 @@ demo:
 # The list of definitions with the contracts that name them, from the sources.
 model:
 	@python3 tests/words.py > docs/WORDS.md
+
+# The lists of the man pages that are tables of docs/FORMATS.md.
+pages:
+	@python3 tests/manual.py
 
 test:
 	@sh tests/all.sh

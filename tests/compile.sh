@@ -306,37 +306,7 @@ rm first/b/up
 expect 1 '' 'undorc: NoUp b\n' '' compile first nowhere
 expect 111 '' 'undorc: Io\n' '' compile nowhere first
 
-# What definitions are refused for.
-tree apart
-oneshot apart/a
-printf b > apart/a/dependencies
-fails 1 'UnknownIn a b' apart
-oneshot apart/b
-printf c > apart/b/dependencies
-oneshot apart/c
-printf a > apart/c/dependencies
-fails 1 'Cycle a b c' apart
-printf a > apart/a/dependencies
-fails 1 'Cycle a' apart
-bundle apart/x 'y\n'
-bundle apart/y 'x\n'
-fails 1 'BundleCycle x y' apart
-tree pipes
-longrun pipes/p
-printf c > pipes/p/producer-for
-longrun pipes/c
-fails 1 'PipelineMismatch p' pipes
-printf oneshot > pipes/p/type
-printf up > pipes/p/up
-fails 1 'PipelineType p' pipes
-printf longrun > pipes/p/type
-printf p > pipes/c/consumer-for
-printf q > pipes/c/pipeline-name
-compiles "${first}services 2\\nservice c longrun plain 0 0\\nneeds\\nproducer -\\nservice p longrun plain 0 0\\nneeds c\\nproducer c\\nbundles 1\\nbundle q c p\\nend\\n" pipes
-oneshot pipes/q
-fails 1 'PipelineName c' pipes
-
-# A need on a bundle is one on all that it holds, through bundles in bundles; a pipeline reaches back over all producers.
+# A need on a bundle is one on all that it holds, through bundles in bundles; and a pipeline in the sample.
 empty_needs='oneshot plain 0 0\nneeds\nup 2\nup\ndown -\n'
 tree deep
 oneshot deep/a
@@ -350,19 +320,6 @@ text='service a oneshot plain 0 0\nneeds b c\nup 2\nup\ndown -\n'"service b ${em
 compiles "${first}services 3\\n${text}bundles 3\\nbundle g b c\\nbundle h c\\nbundle nil\\nend\\n" deep
 printf a > deep/c/dependencies
 fails 1 'Cycle a c' deep
-tree three
-for name in p q r; do longrun "three/$name"; done
-printf q > three/p/producer-for
-printf p > three/q/consumer-for
-printf r > three/q/producer-for
-printf q > three/r/consumer-for
-printf pipe > three/r/pipeline-name
-printf mid > three/q/pipeline-name
-text='service p longrun plain 0 0\nneeds q\nproducer q\nservice q longrun plain 0 0\nneeds r\nproducer r\n'
-text="$text"'service r longrun plain 0 0\nneeds\nproducer -\n'
-compiles "${first}services 3\\n${text}bundles 1\\nbundle pipe p q r\\nend\\n" three
-oneshot three/pipe
-fails 1 'PipelineName r' three
 cp -r "$samples/source" piped
 printf weblog > piped/log/pipeline-name
 compiles "$(with 'bundles 1' 'bundles 2' | sed 's/bundle site web/bundle site web\\nbundle weblog log web/')" piped

@@ -412,11 +412,11 @@ class Trial:
             self.fail(edit.crate, edit.name, what)
 
     def batches(self, lanes):
-        """The copies by runs: as few as may be, but one for each lane, each with crates that stand on much the same."""
+        """The copies by runs: as few as may be, but as many for each lane, each with crates that stand on much the same."""
         order = [*self.crates.uses]
         copies = sorted(self.copies, key=lambda it: order.index(it.crate))
         total = sum(len(it.edits) for it in copies)
-        count = min(len(copies), -(-total // EDITS) if total > EDITS * lanes else lanes)
+        count = min(len(copies), -(-total // (EDITS * lanes)) * lanes)
         batches, done = [[] for _ in range(count)], 0
         for copy in copies:
             batches[done * count // total].append(copy)

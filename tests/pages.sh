@@ -92,7 +92,7 @@ equals 'the options that are described'
 cp queries wanted
 items undorc.1 QUERIES Cm > found
 equals 'the queries that are described'
-sed -n '/^## The queries of `db`/,/^## /s/^| `\([a-z-]*\)`.*/\1/p' "$top/docs/FORMATS.md" > found
+sed -n '/^## The queries of `db`/,/^## /s/^| `\([a-z][a-z-]*\)[ `].*/\1/p' "$top/docs/FORMATS.md" > found
 equals 'the queries of docs/FORMATS.md'
 
 # Statuses: of the table of one-shot commands.
@@ -140,6 +140,14 @@ for page in "$pages"/*.[15]; do
     grep '^\.' "$page" | tr -s ' ' '\n' > found
     [ ! -s wanted ] || holds "$(basename "$page"), of the tables of docs/FORMATS.md,"
 done
+
+# Lists of the pages that are made from these tables.
+if python3 "$here/manual.py" --check; then
+    passed=$((passed + 1))
+else
+    failed=$((failed + 1))
+    echo 'FAILED: lists of the man pages are not those of docs/FORMATS.md: run make pages'
+fi
 
 # Words of answers: in the page of sessions.
 grep -r -h -o --include='*.rt' 'line([a-z &]*, b"[a-z]*"' "$top/crates/rc_render/src" |

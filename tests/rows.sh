@@ -11,6 +11,7 @@
 #   | COMMAND    what a shell command writes as input; it may read these files
 #   > LINE       a line that the run before writes
 #   ! LINE       a line that it writes to standard error
+#   !! TEXT      a text in a line that stands behind a fault, to help, and begins with two spaces
 #   = N          the status with which it ends, where that is not 0
 #   @ WORDS      in place of $: a session with these words on the database that `<< NAME` in front of it gives, in three
 #                ways: with the database in front of its lines; with -b NAME -w 64; and with -b NAME -w 1 through two
@@ -50,6 +51,7 @@ translate() {
         written(three ? own : common own, "in")
         written(wanted, "out.wanted")
         written(told, "err.wanted")
+        written(helped, "behind")
         place = quoted(topic ":" begun ": " title)
         if (three) print "talk() {\n:\n" talk "}\nsession " place " " quoted(words) " " quoted(front)
         else print "run " place " " status + 0 " " quoted(words)
@@ -77,7 +79,7 @@ translate() {
         begun = NR
         runs++
         three = (mark == "@")
-        wanted = told = talk = status = ""
+        wanted = told = helped = talk = status = ""
         if (three && (front == "" || common != "cat " quoted(front) " || lacks\n" || words !~ /^session /))
             amiss("a session in three ways on no database")
     }
@@ -101,6 +103,7 @@ translate() {
     words == "" { amiss("no mark, or a line in front of its run: " $0); next }
     mark == ">" { wanted = wanted prints(rest); if (three && unheard) talk = talk "hear\n"; unheard = 0; next }
     mark == "!" && !three { told = told prints(rest); next }
+    mark == "!!" && !three && rest != "" { helped = helped prints(rest); next }
     mark == "=" && !three && status == "" && rest ~ /^[1-9][0-9]*$/ && rest + 0 < 256 { status = rest; next }
     { amiss("no mark, or a line that has no place here: " $0) }
     END { close_row(); if (!rows) amiss("no rows"); print "whole=" quoted(topic) }' "$2"
@@ -143,6 +146,10 @@ run() {
     fi
     echo 0 > status
     (set -f; eval "set -- $3"; exec "$program" "$@") < in > out 2> err || echo $? > status
+    sed -n '2,$ { /^  /p; }' err > helping
+    while IFS= read -r text; do
+        grep -q -F -e "$text" helping || amiss "$1 (\$ $3): no line behind the fault has: $text"
+    done < behind
     judge "$1 (\$ $3)" "$2"
 }
 

@@ -256,6 +256,10 @@ rm live
 mkdir live
 fails_on live
 rmdir live
+mkfifo live
+fails_on live
+rm live
+fails_on /dev/null
 fails_on nowhere/live
 fails_on ''
 mkdir live.new

@@ -156,7 +156,7 @@ base=
 expect 111 '' 'undorc: Io\n' '' session -b slow -x none -l .
 expect 111 '' 'undorc: Io\n' '' session -b slow -x none -l ''
 expect 111 '' 'undorc: Io\n' '' session -b slow -x none -l nowhere/live
-expect 1 '' 'undorc: Bad 0\n' '' session -b slow -x none -l /dev/null
+expect 111 '' 'undorc: Io\n' '' session -b slow -x none -l /dev/null
 find . /dev -maxdepth 1 -name '*.lock' ! -name live.lock > out
 : > err
 echo 0 > status

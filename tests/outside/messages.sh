@@ -157,32 +157,6 @@ helps 111 'undorc: Io web\n' 'services/web/dependencies.d: is no directory' -- c
 helps 111 'undorc: Io\n' 'nowhere: no such file or directory' -- compile nowhere
 helps 111 'undorc: Io\n' 'services/web/type: is no directory' -- compile services/web/type
 
-# Circles, and pipelines that do not fit together.
-newcomer
-echo all > services/disk/dependencies
-helps 1 'undorc: Cycle disk\n' 'services/disk/dependencies:1 names the bundle all, which holds disk' -- compile services
-newcomer
-echo web > services/disk/dependencies
-helps 1 'undorc: Cycle disk web\n' 'services/disk/dependencies:1 names web' 'services/web/dependencies:1 names disk' -- compile services
-newcomer
-mkdir services/site
-echo bundle > services/site/type
-echo all > services/site/contents
-echo site > services/all/contents
-helps 1 'undorc: BundleCycle all site\n' 'services/all/contents:1 names site' 'services/site/contents:1 names all' -- compile services
-newcomer
-echo disk > services/web/producer-for
-helps 1 'undorc: PipelineType web\n' 'services/web/producer-for names disk, and services/disk/type is no longrun' -- compile services
-newcomer
-mkdir services/log
-echo longrun > services/log/type
-: > services/log/run
-echo log > services/web/producer-for
-helps 1 'undorc: PipelineMismatch web\n' 'services/web/producer-for names log, and services/log/consumer-for does not name web' -- compile services
-echo web > services/log/consumer-for
-echo disk > services/log/pipeline-name
-helps 1 'undorc: PipelineName log\n' 'services/log/pipeline-name: services/disk has this name' -- compile services
-
 # What nothing was said of.
 newcomer
 notes 'undorc: services/web looks like an entry: name the directory above it' compile services/web
@@ -297,7 +271,7 @@ helps 1 'undorc: SameState\n' 'other: two states in a row are the same' -- undo 
 sed 's/^now .*/now wbe/' state > other
 helps 1 'undorc: Unknown\n' 'other: a state names what is no service of the database' -- live -b db -l other
 sed 's/^services .*/services disk/' state > other
-helps 1 'undorc: OtherDb\n' 'other: the session of another database' -- live -b db -l other
+helps 1 'undorc: OtherDb\n' 'other: the session of another database; take that one, or carry it over by undorc update' -- live -b db -l other
 helps 1 'undorc: Bad 0\n' 'state is no database: undorc compile makes one' -- live -b state -l state
 helps 1 'undorc: Unknown wbe\n' 'nothing is named wbe; is web meant?' -- change web -b db -x up:wbe -l state
 helps 111 'undorc: Io\n' 'services: is a directory' -- live -b db -l services

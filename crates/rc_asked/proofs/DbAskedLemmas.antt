@@ -1,13 +1,14 @@
 -- What the words ask of `db`, by the matches that `clap` makes of them.
-use Rattle.std.proofs.Common.{◌≡◌, ◌∙◌, ◌<◌, Bor, List, [], ◌∷◌, Option, None, Some, IfNone, IfSome, ap, arith, length, map, refl, sym, subst, codes}
+use Rattle.std.proofs.Common.{◌≡◌, ◌∙◌, ◌<◌, Bor, List, rules, [], ◌∷◌, Option, None, Some, IfNone, IfSome, ap, arith, length, map, refl, sym, subst, codes}
 use Rattle.std.proofs.lemmas.Option.{IfSome_then}
 use Rattle.std.specs.Option.{option_map_or}
 use Rattle.clap.specs.Words.{Row, Text, first_of}
 use Rattle.rc_asked.specs.DbAsked.{AsksIn, AsksNothing, DbAsk, ShowsByPicture, ask_by, query_words}
 use Rattle.rc_asked.specs.Query.{Check, Dot, ListOf, OfName, OfNames, Question, question_of, words_of_query}
-use Rattle.rc_asked.specs.declared.db_words.NamesQuery.TheVariants.{Atomics, Dependencies, AllDependencies}
+use Rattle.rc_command.specs.declared.query_words.NamesQuery.{NamesQuery}
 use Rattle.rc_asked.specs.declared.db_words.Query.{Query}
 use Rattle.rc_command.specs.Words.{rows_for, words_in}
+use Rattle.rc_command.specs.QueryWords.{names_word}
 
 -- words without matches of `db` ask nothing
 pub asked_none : (words : List Text) → rows_for (codes "db") words ≡ None → AsksNothing words
@@ -41,15 +42,24 @@ pub alone : (word text : Text) (words : List (Bor Text)) → length words < 1 �
 alone word text [] few is = ap (λ w. w ∷ []) is
 alone word text (w ∷ words) few is = absurd (omega arith)
 
+-- what is asked by matches is asked by them for its own question, and is spelled as that
+pub with_options : (rows : List Row) (question : Question) (given : DbAsk) → given ≡ ask_by rows question → given ≡ ask_by rows given.question
+with_options rows question given is = is ∙ ap (ask_by rows) (sym (ap (λ (a : DbAsk). a.question) is))
+
+pub spelled_so : (rows : List Row) (question : Question) (given : DbAsk) → given ≡ ask_by rows question → query_words rows ≡ words_of_query question → query_words rows ≡ words_of_query given.question
+spelled_so rows question given is words = words ∙ sym (ap (λ (a : DbAsk). words_of_query a.question) is)
+
+-- no query of any number of names has the picture's word
+no_picture : (query : NamesQuery) → codes "dot" ≡ names_word query → ⊥
+no_picture query is = search rules
+
 -- one word of the picture's, and no word of another question, is a question's spelling
 pub picture_alone : (question : Question) → words_of_query Dot ≡ words_of_query question → question ≡ Dot
 picture_alone Check e = cc
 picture_alone Dot e = refl
 picture_alone (ListOf which) e = cc
 picture_alone (OfName query name) e = cc
-picture_alone (OfNames Atomics names) e = cc
-picture_alone (OfNames Dependencies names) e = cc
-picture_alone (OfNames AllDependencies names) e = cc
+picture_alone (OfNames query names) e = let same : codes "dot" ≡ names_word query = cc in absurd (no_picture query same)
 
 -- where the matches ask something, what was found in them shows a session by a picture alone
 pub shown_by_picture : (rows : List Row) (given : DbAsk) → query_words rows ≡ words_of_query given.question → given ≡ ask_by rows given.question

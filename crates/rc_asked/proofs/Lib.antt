@@ -1,7 +1,7 @@
-pub mod TaskLemmas
-pub mod AskedLemmas
-pub mod DbAskedLemmas
-pub mod SessionWordsLemmas
-pub mod OnceLemmas
-pub mod Spelling
+mod TaskLemmas
+mod AskedLemmas
+mod DbAskedLemmas
+mod SessionWordsLemmas
+mod OnceLemmas
+mod Spelling
 mod TextWords

@@ -2,11 +2,7 @@
 use Rattle.std.proofs.Common.{◌≡◌, ◌≤◌, ◌∙◌, ℕ, arith, Bool, List, [], IfSome, Option, None, Some, false, true, if◌then◌else◌, refl, ap, sym, subst, unwrap_or, codes}
 use Rattle.std.proofs.lemmas.Slice.Eq.{bytes_eq-Decides}
 use Rattle.std.specs.Str.{bytes_eq}
-use Rattle.clap.specs.Matches.{first_value, found_of}
-use Rattle.clap.specs.Words.{Row, Text, first_of, rows_of}
-use Rattle.clap.specs.declared.ArgMatches.{ArgMatches}
-use Rattle.clap.proofs.WalkLemmas.{first_value-rows}
-use Rattle.rc_model.specs.Plan.{Ask}
+use Rattle.clap.specs.Words.{Row, Text, first_of}
 use Rattle.rc_model.specs.Session.{Add, Change, Delete, Redo, Undo}
 use Rattle.rc_script.specs.Says.{SaysBundles, SaysDry, SaysJournal, SaysLive, SaysNothing, SaysStep, SaysWrong}
 use Rattle.rc_command.specs.Words.{rows_for, rows_named}
@@ -14,7 +10,7 @@ use Rattle.rc_asked.specs.Asked.{ask_in}
 use Rattle.rc_asked.specs.DbAsked.{AsksIn, DbAsk}
 use Rattle.rc_asked.specs.OnceAsked.{AsksWhatIn, HasNoEvents, OnceAsk, OnceSaying, Said, WantsDryRedo, WantsDryUndo, once_command, once_saying_of}
 use Rattle.rc_asked.specs.SessionAsked.{AsksSessionIn, IsBoundIn, IsCrewIn, SessionAsk}
-use Rattle.rc_asked.specs.Task.{AsksEntered, AsksNamed, AsksNoTask, AsksTask, AsksTaskIn, HasBound, HasWorkers, IsEventless, OfCompile, OfDb, OfOnce, OfPlan, OfReplay, OfSession, OfUpdate, OfVersion, TaskAsk, command_of, file_in, task_ask_of}
+use Rattle.rc_asked.specs.Task.{AsksEntered, AsksNamed, AsksNoTask, AsksTask, AsksTaskIn, HasBound, HasWorkers, IsEventless, OfCompile, OfDb, OfOnce, OfPlan, OfReplay, OfSession, OfUpdate, OfVersion, TaskAsk, command_of, task_ask_of}
 use Rattle.rc_asked.specs.UpdateAsked.{AsksUpdateIn, UpdateAsk}
 use Rattle.rc_asked.specs.declared.task.Task.{Task}
 use Rattle.rc_asked.specs.declared.task.Task.TheVariants as task
@@ -112,10 +108,6 @@ entered_named name rows entered ask is asks =
     let both : ◌≡◌ {A = Option (Text × List Row)} (Some (name, rows)) (Some (command_of ask, asks.0)) = is ∙ asks.1 in
     let same : rows ≡ asks.0 = ap (λ (o : Option (Text × List Row)). (unwrap_or o (name, rows)).1) both in
     (ap (λ (o : Option (Text × List Row)). (unwrap_or o (name, rows)).0) both, subst (λ (rs : List Row). AsksTaskIn rs ask) (sym same) asks.2)
-
--- the file of the matches, by the text that is found in them
-pub file_found : (m : ArgMatches) (file : Option Text) → file ≡ first_value (found_of m) (codes "base") → file ≡ file_in (rows_of (found_of m))
-file_found m file is = is ∙ first_value-rows (found_of m) (codes "base")
 
 -- two names are apart
 pub apart : (name other : Text) → bytes_eq name other ≡ false → name ≡ other → ⊥

@@ -5,10 +5,9 @@ use Rattle.rc_db.specs.declared.which.Which.{Which}
 use Rattle.rc_db.specs.declared.which.Which.TheVariants as which
 use Rattle.rc_asked.specs.declared.db_words.Query.{Query}
 use Rattle.rc_asked.specs.declared.db_words.Query.TheVariants as query
-use Rattle.rc_asked.specs.declared.db_words.NameQuery.{NameQuery}
-use Rattle.rc_asked.specs.declared.db_words.NameQuery.TheVariants as of_name
-use Rattle.rc_asked.specs.declared.db_words.NamesQuery.{NamesQuery}
-use Rattle.rc_asked.specs.declared.db_words.NamesQuery.TheVariants as of_names
+use Rattle.rc_command.specs.QueryWords.{name_word, names_word}
+use Rattle.rc_command.specs.declared.query_words.NameQuery.{NameQuery}
+use Rattle.rc_command.specs.declared.query_words.NamesQuery.{NamesQuery}
 
 -- what is asked of a database: whether it is one, its picture, a list of names, or something of one name or of any number of them
 pub data Question : Type 0 where
@@ -17,21 +16,6 @@ pub data Question : Type 0 where
   ListOf : Which → Question
   OfName : NameQuery → Text → Question
   OfNames : NamesQuery → List Text → Question
-
--- the word of a query of one name
-abbrev pub name_word : NameQuery → Text
-name_word of_name.Kind = codes "type"
-name_word of_name.Limit = codes "timeout"
-name_word of_name.Flags = codes "flags"
-name_word of_name.Contents = codes "contents"
-name_word of_name.Pipeline = codes "pipeline"
-name_word of_name.Script = codes "script"
-
--- the word of a query of any number of names
-abbrev pub names_word : NamesQuery → Text
-names_word of_names.Atomics = codes "atomics"
-names_word of_names.Dependencies = codes "dependencies"
-names_word of_names.AllDependencies = codes "all-dependencies"
 
 -- the word of a list
 abbrev pub list_word : Which → Text

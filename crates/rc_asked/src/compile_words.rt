@@ -3,7 +3,7 @@ ghost use Rattle.std.specs.Prelude.{IfOk};
 ghost use Rattle.clap.specs.Words.{found_of, rows_of};
 ghost use Rattle.rc_asked.specs.CompileAsked.{AsksCompileIn, compile_ask_of};
 
-use crate::texts::words_in;
+use crate::texts::{text_in, words_in};
 use clap::ArgMatches;
 use rc_command::is_on;
 use std::alloc::{AllocError, Global};
@@ -29,7 +29,7 @@ pub(crate) fn compile_in<'a>(
 {
     Ok(CompileRequest {
         sources: words_in(alloc, matches)?,
-        output: matches.get_str("output"),
+        output: text_in(matches, "output"),
         tells: is_on(matches, "verbose"),
     })
 }

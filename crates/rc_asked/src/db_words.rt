@@ -1,19 +1,19 @@
 //! What the words ask of `db`.
 ghost use Rattle.std.specs.Prelude.{◌≡◌, ◌≢◌, ◌↔◌, ◌∷◌, [], codes, if◌then◌else◌, map, string_bytes, IfErr, IfNone, IfOk, IfSome, IsTrue};
 ghost use Rattle.clap.specs.Words.{found_of, rows_of};
-ghost use Rattle.rc_asked.specs.DbAsked.{AsksDb, AsksIn, AsksNothing, DbAsk, ShowsByPicture, db_ask_of};
-ghost use Rattle.rc_asked.specs.Query.{Dot, Question, list_word, name_word, names_word, question_of, words_of_query};
+ghost use Rattle.rc_asked.specs.DbAsked.{AsksDb, AsksIn, AsksNothing, DbAsk, ShowsByPicture, ask_by, db_ask_of};
+ghost use Rattle.rc_asked.specs.Query.{Dot, Question, list_word, question_of, words_of_query};
+ghost use Rattle.rc_command.specs.QueryWords.{names_word};
 ghost use Rattle.rc_command.specs.Words.{words_in};
 ghost use Rattle.rc_asked.specs.declared.asked.WordsFault.TheVariants.{Memory};
-ghost use Rattle.rc_asked.specs.declared.db_words.NameQuery.{NameQuery as OfOne};
-ghost use Rattle.rc_asked.specs.declared.db_words.NamesQuery.{NamesQuery as OfMany};
+ghost use Rattle.rc_command.specs.declared.query_words.NamesQuery.{NamesQuery as OfMany};
 ghost use Rattle.rc_db.specs.declared.which.Which.{Which as Sort};
 
 use crate::asked::WordsFault;
 use crate::matched::{command_in, matches_in};
-use crate::texts::strings_of;
+use crate::texts::{strings_of, text_in};
 use clap::ArgMatches;
-use rc_command::is_on;
+use rc_command::{NameQuery, NamesQuery, is_on, name_query, names_query};
 use rc_db::{NoMem, Which};
 use rc_graph::Way;
 use std::alloc::Global;
@@ -26,6 +26,19 @@ pub struct DbRequest<'a> {
     pub way: Way,
     /// The file of a session, of which a picture shows what is up.
     pub live: Option<&'a str>,
+}
+
+impl<'a> DbRequest<'a> {
+    /// A query with none of the options.
+    pub fn of(query: Query<'a>) -> DbRequest<'a>
+        ensures { db_ask_of result ≡ ask_by [] (question_of query.entry) }
+    {
+        DbRequest {
+            query,
+            way: Way::Raise,
+            live: None,
+        }
+    }
 }
 
 /// What is asked of a database.
@@ -41,25 +54,6 @@ pub enum Query<'a> {
     OfName(NameQuery, &'a str),
     /// Which services any number of names stand for, need, or are needed by.
     OfNames(NamesQuery, Vec<String>),
-}
-
-/// A query of one name.
-#[derive(Clone, Copy)]
-pub enum NameQuery {
-    Kind,
-    Limit,
-    Flags,
-    Contents,
-    Pipeline,
-    Script,
-}
-
-/// A query of any number of names.
-#[derive(Clone, Copy)]
-pub enum NamesQuery {
-    Atomics,
-    Dependencies,
-    AllDependencies,
 }
 
 /// What the words ask of `db`. The first word is the program's own name.
@@ -95,12 +89,19 @@ pub(crate) fn db_in<'a>(
         return Err(WordsFault::Query);
     };
     match query_in(alloc, word, matches)? {
-        Some(query) => shown(DbRequest {
-            query,
-            way: way_of(is_on(matches, "down")),
-            live: matches.get_str("live"),
-        }),
+        Some(query) => shown(request_in(query, matches)),
         None => Err(WordsFault::Query),
+    }
+}
+
+// A query with the options of the matches.
+fn request_in<'a>(query: Query<'a>, matches: &ArgMatches<'a>) -> DbRequest<'a>
+    ensures { db_ask_of result ≡ ask_by (rows_of (found_of matches.now)) (question_of query.entry) }
+{
+    DbRequest {
+        query,
+        way: way_of(is_on(matches, "down")),
+        live: text_in(matches, "live"),
     }
 }
 
@@ -218,35 +219,6 @@ fn which_of(word: &str) -> Option<Which>
         "oneshots" => Some(Which::Oneshots),
         "longruns" => Some(Which::Longruns),
         "bundles" => Some(Which::Bundles),
-        _ => None,
-    }
-}
-
-// The query of one name that has this word.
-fn name_query(word: &str) -> Option<NameQuery>
-    ensures some { IfSome result (λ query. word.now ≡ name_word query) }
-    ensures none { IfNone result ((query : OfOne) → word.now ≡ name_word query → ⊥) }
-{
-    match word {
-        "type" => Some(NameQuery::Kind),
-        "timeout" => Some(NameQuery::Limit),
-        "flags" => Some(NameQuery::Flags),
-        "contents" => Some(NameQuery::Contents),
-        "pipeline" => Some(NameQuery::Pipeline),
-        "script" => Some(NameQuery::Script),
-        _ => None,
-    }
-}
-
-// The query of any number of names that has this word.
-fn names_query(word: &str) -> Option<NamesQuery>
-    ensures some { IfSome result (λ query. word.now ≡ names_word query) }
-    ensures none { IfNone result ((query : OfMany) → word.now ≡ names_word query → ⊥) }
-{
-    match word {
-        "atomics" => Some(NamesQuery::Atomics),
-        "dependencies" => Some(NamesQuery::Dependencies),
-        "all-dependencies" => Some(NamesQuery::AllDependencies),
         _ => None,
     }
 }

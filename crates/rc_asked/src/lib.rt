@@ -17,7 +17,7 @@ mod update_words;
 
 pub use crate::asked::{WordsFault, plan_asked, tell_words};
 pub use crate::compile_words::CompileRequest;
-pub use crate::db_words::{DbRequest, NameQuery, NamesQuery, Query, db_asked};
+pub use crate::db_words::{DbRequest, Query, db_asked};
 pub use crate::once_words::{Once, OnceRequest};
 pub use crate::program_words::{Making, Programs};
 pub use crate::replay_words::replay_asked;

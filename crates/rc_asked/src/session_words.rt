@@ -7,6 +7,7 @@ ghost use Rattle.rc_asked.specs.declared.asked.WordsFault.TheVariants.{Memory};
 use crate::asked::WordsFault;
 use crate::matched::{command_in, matches_in};
 use crate::program_words::{Making, making_in};
+use crate::texts::text_in;
 use clap::ArgMatches;
 use rc_command::is_on;
 use rc_line::USUAL_BOUND;
@@ -83,7 +84,7 @@ pub(crate) fn session_in<'a>(
             making,
             tells,
             bound,
-            live: matches.get_str("live"),
+            live: text_in(matches, "live"),
             waits: is_on(matches, "wait"),
         }),
         Err(fault) => Err(fault),

@@ -12,6 +12,7 @@ use crate::db_words::{DbRequest, db_in};
 use crate::matched::matches_in;
 use crate::once_words::{OnceRequest, once_in};
 use crate::session_words::{SessionRequest, session_in};
+use crate::texts::text_in;
 use crate::update_words::{UpdateRequest, update_in};
 use clap::ArgMatches;
 use rc_command::entered;
@@ -81,7 +82,7 @@ fn task_named<'a>(
         "compile" => compile_task(alloc, matches),
         "db" => db_task(alloc, matches),
         "plan" => plan_task(alloc, matches),
-        "replay" => Ok(Task::Replay(matches.get_str("base"))),
+        "replay" => Ok(Task::Replay(text_in(matches, "base"))),
         "session" => session_task(alloc, matches),
         "update" => update_task(alloc, matches),
         "version" => Ok(Task::Version),
@@ -103,7 +104,7 @@ fn db_task<'a>(alloc: Global, matches: &ArgMatches<'a>) -> Result<Task<'a>, Word
     ensures wrong { IfErr result (λ fault. fault ≢ Memory → (ask : TaskAsk) → AsksNamed (codes "db") (rows_of (found_of matches.now)) ask → ⊥) }
 {
     match db_in(alloc, matches) {
-        Ok(request) => Ok(Task::Db(request, matches.get_str("base"))),
+        Ok(request) => Ok(Task::Db(request, text_in(matches, "base"))),
         Err(fault) => Err(fault),
     }
 }
@@ -114,7 +115,7 @@ fn plan_task<'a>(alloc: Global, matches: &ArgMatches<'a>) -> Result<Task<'a>, Wo
     ensures wrong { IfErr result (λ fault. fault ≢ Memory → (ask : TaskAsk) → AsksNamed (codes "plan") (rows_of (found_of matches.now)) ask → ⊥) }
 {
     match plan_in(alloc, matches) {
-        Ok(request) => Ok(Task::Plan(request, matches.get_str("base"))),
+        Ok(request) => Ok(Task::Plan(request, text_in(matches, "base"))),
         Err(fault) => Err(fault),
     }
 }
@@ -125,7 +126,7 @@ fn session_task<'a>(alloc: Global, matches: &ArgMatches<'a>) -> Result<Task<'a>,
     ensures wrong { IfErr result (λ fault. fault ≢ Memory → (ask : TaskAsk) → AsksNamed (codes "session") (rows_of (found_of matches.now)) ask → ⊥) }
 {
     match session_in(alloc, matches) {
-        Ok(request) => Ok(Task::Session(request, matches.get_str("base"))),
+        Ok(request) => Ok(Task::Session(request, text_in(matches, "base"))),
         Err(fault) => Err(fault),
     }
 }
@@ -136,7 +137,7 @@ fn update_task<'a>(alloc: Global, matches: &ArgMatches<'a>) -> Result<Task<'a>, 
     ensures wrong { IfErr result (λ fault. fault ≢ Memory → (ask : TaskAsk) → AsksNamed (codes "update") (rows_of (found_of matches.now)) ask → ⊥) }
 {
     match update_in(alloc, matches) {
-        Ok(request) => Ok(Task::Update(request, matches.get_str("base"))),
+        Ok(request) => Ok(Task::Update(request, text_in(matches, "base"))),
         Err(fault) => Err(fault),
     }
 }
@@ -151,7 +152,7 @@ fn once_task<'a>(
     ensures wrong { IfErr result (λ fault. fault ≢ Memory → (ask : OnceAsk) (file : Option Text) → AsksNamed name.now (rows_of (found_of matches.now)) (OfOnce ask file) → ⊥) }
 {
     match once_in(alloc, name, matches) {
-        Ok(request) => Ok(Task::Once(request, matches.get_str("base"))),
+        Ok(request) => Ok(Task::Once(request, text_in(matches, "base"))),
         Err(fault) => Err(fault),
     }
 }

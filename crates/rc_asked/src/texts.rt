@@ -1,6 +1,6 @@
-//! The words of a command, as texts of one's own.
-ghost use Rattle.std.specs.Prelude.{◌≡◌, map, string_bytes, IfOk};
-ghost use Rattle.clap.specs.Words.{found_of, rows_of};
+//! The words of a command, as texts of one's own, and the text of an option.
+ghost use Rattle.std.specs.Prelude.{◌≡◌, map, option_map, string_bytes, IfOk};
+ghost use Rattle.clap.specs.Words.{first_of, found_of, rows_of};
 ghost use Rattle.rc_command.specs.Words.{words_in};
 
 use clap::ArgMatches;
@@ -27,4 +27,12 @@ pub fn strings_of(alloc: Global, words: &[&str]) -> Result<Vec<String>, AllocErr
         strings.push(string)?;
     }
     Ok(strings)
+}
+
+/// The text of an option that is given.
+pub fn text_in<'a>(matches: &ArgMatches<'a>, id: &str) -> Option<&'a str>
+    ensures { option_map (λ text. text.now) result
+        ≡ first_of id.now (rows_of (found_of matches.now)) }
+{
+    matches.get_str(id)
 }

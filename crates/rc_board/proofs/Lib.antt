@@ -1,6 +1,6 @@
-pub mod Carrying
-pub mod Counting
-pub mod Joining
-pub mod Lasting
-pub mod Making
-pub mod Placing
+mod Carrying
+mod Counting
+mod Joining
+mod Lasting
+mod Making
+mod Placing

@@ -3,8 +3,8 @@ use Rattle.std.proofs.Common.{◌≡◌, inl, inr, ℕ, Bool, List, [], ◌∷�
 use Rattle.std.proofs.lemmas.List.Elements.{Contains-push, Contains-push_cases, Contains-append_left}
 use Rattle.std.proofs.lemmas.Option.{slice_get-get_or}
 use Rattle.rc_model.proofs.ByteOrder.{same_or_other}
-use Rattle.rc_model.specs.Database.{Bundles, value_of, IsTable, HaveBound, IsChangedAt}
-use Rattle.rc_model.specs.Line.{Removes}
+use Rattle.rc_model.specs.Database.{Bundles, value_of, IsTable, HaveBound}
+use Rattle.rc_model.specs.Line.{Removes, IsChangedAt}
 use Rattle.rc_db.proofs.Words.{bound_of_value}
 use Rattle.rc_bundle.proofs.Places.{value_at}
 

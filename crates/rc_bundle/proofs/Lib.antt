@@ -1,4 +1,4 @@
-pub mod Places
-pub mod Walking
+mod Places
+mod Walking
 pub mod Changes
-pub mod GoneOver
+mod GoneOver

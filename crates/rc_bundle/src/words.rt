@@ -1,6 +1,5 @@
 ghost use Rattle.std.specs.Prelude.{map, All, Contains, IfSome, IfNone, string_bytes};
-ghost use Rattle.rc_model.specs.Database.{IsFirst};
-ghost use Rattle.rc_model.specs.Line.{IsBundle};
+ghost use Rattle.rc_model.specs.Database.{IsFirst, IsBundle};
 
 use rc_db::{Db, Table, has_bundle, has_name};
 

@@ -1,3 +1,3 @@
-pub mod OnceLemmas
-pub mod UpdateLemmas
-pub mod SparingLemmas
+mod OnceLemmas
+mod UpdateLemmas
+mod SparingLemmas

@@ -1,5 +1,5 @@
 -- How one line is served, and how a one-shot command ends.
-use Rattle.std.proofs.Common.{◌≡◌, ◌≢◌, ◌∙◌, ◌⊎◌, ℕ, Bool, true, false, IsTrue, List, [], Option, None, Some, Result, Ok, Err, IfErr, IfOk, OnOk, inl, inr, ap, arith, refl, sym, subst}
+use Rattle.std.proofs.Common.{◌≡◌, ◌≢◌, ◌∙◌, ◌⊎◌, ℕ, true, false, List, [], Option, None, Some, Result, Ok, Err, IfErr, IfOk, OnOk, inl, inr, ap, refl, sym, subst}
 use Rattle.std.specs.Io.KnownBytes.{Appends}
 use Rattle.clap.specs.Words.{Text, Text as Path}
 use Rattle.rc_graph.specs.declared.Way.{Way}
@@ -11,7 +11,7 @@ use Rattle.rc_runner.specs.Moments.{IsMomentOf}
 use Rattle.rc_runner.specs.Shell.{MayAnswer, Scripts, scripts_of}
 use Rattle.rc_model.specs.Session.{Command, Redo, Undo, events_of}
 use Rattle.rc_session.specs.Holding.{Holding}
-use Rattle.rc_streams.specs.Input.{AppendsFront, fault_line}
+use Rattle.rc_streams.specs.Exchange.{Exchange}
 use Rattle.rc_script.specs.Says.{Saying, SaysNothing, SaysWrong, SaysStep, SaysDry, SaysLive, SaysBundles, SaysJournal}
 use Rattle.rc_serve.specs.declared.ending.Ending.{Ending}
 use Rattle.rc_serve.specs.declared.ending.Ending.TheVariants.{Done, Refused}
@@ -30,19 +30,19 @@ use Rattle.rc_asked.specs.Programs.{ByPrograms, ByTable, MakingAsk, listed_in}
 use Rattle.rc_asked.specs.SessionAsked.{SessionAsk}
 use Rattle.rc_base.specs.Base.{Spells}
 use Rattle.rc_base.specs.Opening.{Reads}
-use Rattle.rc_sessions.specs.Filing.{BeginsWith, CannotKeep, Filing, HoldsBy, IsLeft, IsLeftOrFirst, IsUnread, filing_of}
+use Rattle.rc_sessions.specs.Filing.{BeginsWith, CannotKeep, Filing, IsLeft, IsLeftOrFirst, IsUnread, filing_of}
 use Rattle.rc_sessions.specs.Finding.{AreFound, IsFirstUnknown, IsGateFault}
 use Rattle.rc_sessions.specs.Serving.{IsOfFile, session_on}
 use Rattle.rc_sessions.specs.Storing.{HoldsText}
-use Rattle.rc_sessions.specs.SessionFaults.{AreAllFound, IsBeginFault, IsGateFailing, IsRefusal, IsRefusedBy, IsToldAs, serve_word}
+use Rattle.rc_sessions.specs.SessionFaults.{AreAllFound, IsBeginFault, IsGateFailing, IsRefusal, IsRefusedBy, IsToldAs}
 use Rattle.rc_sessions.specs.declared.failing.GateFault.{GateFault}
 use Rattle.rc_sessions.specs.declared.failing.GateFault.TheVariants as gate
 use Rattle.rc_sessions.specs.declared.keeping.LiveFile.{LiveFile}
 use Rattle.rc_sessions.specs.declared.session_fault.SessionFault.{SessionFault}
 use Rattle.rc_sessions.specs.declared.session_fault.SessionFault.TheVariants.{OfText, Unknown, OfLive, Failed}
 use Rattle.rc_sessions.proofs.SessionLemmas.{fault_wider, not_begun, of_file}
-use Rattle.rc_cli.specs.Once.{AnswersOnce, ArrivesOnce, DoesBy, EndsOnce, HoldsOnce, IsCommand, KeepsOnce, RunsOnce, ServesOnce}
-use Rattle.rc_cli.specs.OnceEnds.{EndsGatedOnce, EndsOnceBy, EndsOnceOn, FailsOnce, StopsFrom, StopsLine, StopsOnceBy, StopsServing, WantsWorkOnce}
+use Rattle.rc_cli.specs.Once.{AnswersOnce, DoesBy, EndsOnce, HoldsOnce, IsCommand, KeepsOnce, RunsOnce, ServesOnce}
+use Rattle.rc_cli.specs.OnceEnds.{EndsGatedOnce, EndsOnceBy, EndsOnceOn, FailsOnce, StopsFrom, StopsLine, StopsServing, WantsWorkOnce}
 
 -- what brings no events brings none as a command
 pub no_events : (saying : Saying) (command : Command) → HasNoEvents (Said saying) → saying ≡ SaysStep command → events_of command ≡ []
@@ -341,54 +341,54 @@ stops_gated fault filing As d what written gained old reader writer keeper (star
     )
 
 -- a command on the database that stands there is one of the base and the input
-pub answers_with : {E : Type 0} (result : Result Ending E) (base : Option (List ℕ)) (ask : OnceAsk) (file : LiveFile) (was is : Option (List ℕ)) (d : Database) (input rest : List ℕ) (remaining after written gained : Option (List ℕ))
-    → Reads base remaining after input → Spells base input d rest → OnOk result (AreAllFound d (listed_in ask.session.making))
-    → IfOk result (λ ending. RunsOnce (filing_of ask.session file was is) (DoesBy d ask.session.workers ask.session.making) ending d ask.what written gained)
-    → IfOk result (λ ending. AnswersOnce ending base ask file was is remaining after written gained)
-answers_with (Ok ending) base ask file was is d input rest remaining after written gained reads spelled found run =
+pub answers_with : {E : Type 0} (result : Result Ending E) (base : Option (List ℕ)) (ask : OnceAsk) (file : LiveFile) (was is : Option (List ℕ)) (d : Database) (input rest : List ℕ) (io : Exchange)
+    → Reads base io.input io.left input → Spells base input d rest → OnOk result (AreAllFound d (listed_in ask.session.making))
+    → IfOk result (λ ending. RunsOnce (filing_of ask.session file was is) (DoesBy d ask.session.workers ask.session.making) ending d ask.what io.written io.gained)
+    → IfOk result (λ ending. AnswersOnce ending base ask file was is io)
+answers_with (Ok ending) base ask file was is d input rest io reads spelled found run =
     record { database = d; input = input; rest = rest; reads = reads; spelled = spelled; found = found; run = run }
-answers_with (Err e) base ask file was is d input rest remaining after written gained reads spelled found run = tt
+answers_with (Err e) base ask file was is d input rest io reads spelled found run = tt
 
-pub ends_with : (fault : SessionFault) (base : Option (List ℕ)) (ask : OnceAsk) (file : LiveFile) (was is : Option (List ℕ)) (d : Database) (input rest : List ℕ) (remaining after written gained : Option (List ℕ)) (reader more writer keeper : Type 0)
-    → (reader → more) → Reads base remaining after input → Spells base input d rest → EndsOnceOn fault (filing_of ask.session file was is) d ask.session.workers ask.session.making ask.what written gained reader writer keeper
-    → EndsOnceBy fault base ask file was is remaining after written gained more writer keeper
-ends_with (OfText fault) base ask file was is d input rest remaining after written gained reader more writer keeper f reads spelled end = absurd end
-ends_with (Unknown word) base ask file was is d input rest remaining after written gained reader more writer keeper f reads spelled end = ((input, reads, (d, rest, spelled, end.0)), end.1, end.2)
-ends_with (OfLive fault) base ask file was is d input rest remaining after written gained reader more writer keeper f reads spelled end = ((input, reads, (d, rest, spelled, end.0.0, end.0.1)), end.1, end.2)
-ends_with (Failed fault) base ask file was is d input rest remaining after written gained reader more writer keeper f reads spelled end = (
+pub ends_with : (fault : SessionFault) (base : Option (List ℕ)) (ask : OnceAsk) (file : LiveFile) (was is : Option (List ℕ)) (d : Database) (input rest : List ℕ) (io : Exchange) (reader more writer keeper : Type 0)
+    → (reader → more) → Reads base io.input io.left input → Spells base input d rest → EndsOnceOn fault (filing_of ask.session file was is) d ask.session.workers ask.session.making ask.what io.written io.gained reader writer keeper
+    → EndsOnceBy fault base ask file was is io more writer keeper
+ends_with (OfText fault) base ask file was is d input rest io reader more writer keeper f reads spelled end = absurd end
+ends_with (Unknown word) base ask file was is d input rest io reader more writer keeper f reads spelled end = ((input, reads, (d, rest, spelled, end.0)), end.1, end.2)
+ends_with (OfLive fault) base ask file was is d input rest io reader more writer keeper f reads spelled end = ((input, reads, (d, rest, spelled, end.0.0, end.0.1)), end.1, end.2)
+ends_with (Failed fault) base ask file was is d input rest io reader more writer keeper f reads spelled end = (
   fault_wider fault reader writer keeper more writer keeper f (λ w. w) (λ k. k) end.0,
   elim end.1 [
-    | inl un ↦ inl (not_begun fault base remaining d (filing_of ask.session file was is) written gained un)
+    | inl un ↦ inl (not_begun fault base d (filing_of ask.session file was is) io un)
     | inr stops ↦ inr (record { database = d; input = input; rest = rest; reads = reads; spelled = spelled; found = stops.0; stops = stops.1 })
   ],
 )
 
 -- what holds where a refusal is told
-pub refusal_once : (fault : SessionFault) (base : Option (List ℕ)) (ask : OnceAsk) (file : LiveFile) (was is : Option (List ℕ)) (remaining after written gained : Option (List ℕ)) (reader writer keeper : Type 0)
-    → IsRefusal fault → EndsOnceBy fault base ask file was is remaining after written gained reader writer keeper
-    → IsRefusedBy fault base ask.session (filing_of ask.session file was is) remaining after × (gained ≡ written) × (is ≡ was)
-refusal_once (OfText fault) base ask file was is remaining after written gained reader writer keeper told end = end
-refusal_once (Unknown word) base ask file was is remaining after written gained reader writer keeper told end = end
-refusal_once (OfLive fault) base ask file was is remaining after written gained reader writer keeper told end = end
-refusal_once (Failed fault) base ask file was is remaining after written gained reader writer keeper told end = absurd told
+pub refusal_once : (fault : SessionFault) (base : Option (List ℕ)) (ask : OnceAsk) (file : LiveFile) (was is : Option (List ℕ)) (io : Exchange) (reader writer keeper : Type 0)
+    → IsRefusal fault → EndsOnceBy fault base ask file was is io reader writer keeper
+    → IsRefusedBy fault base ask.session (filing_of ask.session file was is) io.input io.left × (io.gained ≡ io.written) × (is ≡ was)
+refusal_once (OfText fault) base ask file was is io reader writer keeper told end = end
+refusal_once (Unknown word) base ask file was is io reader writer keeper told end = end
+refusal_once (OfLive fault) base ask file was is io reader writer keeper told end = end
+refusal_once (Failed fault) base ask file was is io reader writer keeper told end = absurd told
 
 -- what holds where a failure is told: a refusal that could not be told is told as out of memory
-memory_once : (told : ServeFault) (base : Option (List ℕ)) (ask : OnceAsk) (file : LiveFile) (was is : Option (List ℕ)) (remaining after written gained : Option (List ℕ)) (reader writer keeper : Type 0)
-    → told ≡ Memory → gained ≡ written → is ≡ was → IsServeFault reader writer keeper told × FailsOnce told base ask file was is remaining after written gained
-memory_once told base ask file was is remaining after written gained reader writer keeper same none left =
-    subst (λ (f : ServeFault). IsServeFault reader writer keeper f × FailsOnce f base ask file was is remaining after written gained) (sym same) (tt, inl (tt, none, inl left))
+memory_once : (told : ServeFault) (base : Option (List ℕ)) (ask : OnceAsk) (file : LiveFile) (was is : Option (List ℕ)) (io : Exchange) (reader writer keeper : Type 0)
+    → told ≡ Memory → io.gained ≡ io.written → is ≡ was → IsServeFault reader writer keeper told × FailsOnce told base ask file was is io
+memory_once told base ask file was is io reader writer keeper same none left =
+    subst (λ (f : ServeFault). IsServeFault reader writer keeper f × FailsOnce f base ask file was is io) (sym same) (tt, inl (tt, none, inl left))
 
-pub failure_once : (fault : SessionFault) (told : ServeFault) (base : Option (List ℕ)) (ask : OnceAsk) (file : LiveFile) (was is : Option (List ℕ)) (remaining after written gained : Option (List ℕ)) (reader writer keeper : Type 0)
-    → IsToldAs fault told → EndsOnceBy fault base ask file was is remaining after written gained reader writer keeper
-    → IsServeFault reader writer keeper told × FailsOnce told base ask file was is remaining after written gained
-failure_once (Failed fault) told base ask file was is remaining after written gained reader writer keeper same end =
-    subst (λ (f : ServeFault). IsServeFault reader writer keeper f × FailsOnce f base ask file was is remaining after written gained) (sym same) end
-failure_once (OfText fault) told base ask file was is remaining after written gained reader writer keeper same end =
-    memory_once told base ask file was is remaining after written gained reader writer keeper same end.1 end.2
-failure_once (Unknown word) told base ask file was is remaining after written gained reader writer keeper same end =
-    memory_once told base ask file was is remaining after written gained reader writer keeper same end.1 end.2
-failure_once (OfLive fault) told base ask file was is remaining after written gained reader writer keeper same end =
-    memory_once told base ask file was is remaining after written gained reader writer keeper same end.1 end.2
+pub failure_once : (fault : SessionFault) (told : ServeFault) (base : Option (List ℕ)) (ask : OnceAsk) (file : LiveFile) (was is : Option (List ℕ)) (io : Exchange) (reader writer keeper : Type 0)
+    → IsToldAs fault told → EndsOnceBy fault base ask file was is io reader writer keeper
+    → IsServeFault reader writer keeper told × FailsOnce told base ask file was is io
+failure_once (Failed fault) told base ask file was is io reader writer keeper same end =
+    subst (λ (f : ServeFault). IsServeFault reader writer keeper f × FailsOnce f base ask file was is io) (sym same) end
+failure_once (OfText fault) told base ask file was is io reader writer keeper same end =
+    memory_once told base ask file was is io reader writer keeper same end.1 end.2
+failure_once (Unknown word) told base ask file was is io reader writer keeper same end =
+    memory_once told base ask file was is io reader writer keeper same end.1 end.2
+failure_once (OfLive fault) told base ask file was is io reader writer keeper same end =
+    memory_once told base ask file was is io reader writer keeper same end.1 end.2
 
 -- all names are found at the gate of a table, whatever the result
 pub found_in : (d : Database) (names : List (List ℕ)) (listed : List Listed) (table : Table) → names ≡ d.names → AreFound names listed table.failing → AreAllFound d listed

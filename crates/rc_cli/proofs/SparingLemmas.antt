@@ -1,12 +1,12 @@
 -- What the steps of an update move.
-use Rattle.std.proofs.Common.{◌≡◌, ◌∙◌, ◌↔◌, ◌⊎◌, ◌<◌, inl, inr, ℕ, Bool, true, false, List, [], Some, Contains, length, slice_get, sym, ap, subst, arith}
-use Rattle.std.proofs.lemmas.Option.{slice_get-get_or, slice_get_within}
-use Rattle.rc_model.specs.Names.{Has, Holds}
+use Rattle.std.proofs.Common.{◌≡◌, ◌↔◌, ◌<◌, inl, inr, ℕ, Bool, true, false, List, [], Some, length, slice_get, subst, arith}
+use Rattle.std.proofs.lemmas.Option.{slice_get-get_or}
+use Rattle.rc_model.specs.Names.{Has}
 use Rattle.rc_model.proofs.SetMembers.{has_within}
 use Rattle.rc_model.specs.Graph.{DownFrom, UpFrom}
 use Rattle.rc_model.proofs.ByteOrder.{one_place}
 use Rattle.rc_model.proofs.Members.{contains_at}
-use Rattle.rc_model.specs.Database.{Bundles, names_of, AreApart, Database, IsDatabase}
+use Rattle.rc_model.specs.Database.{Bundles, AreApart, Database, IsDatabase}
 use Rattle.rc_db.proofs.Values.{named_by_value}
 use Rattle.rc_model.specs.Line.{Line}
 use Rattle.rc_model.specs.Plan.{IsPlanOf, IsWanted, PlanSets}

@@ -17,7 +17,6 @@ use Rattle.rc_serve.specs.Faults.{IsServeFault}
 use Rattle.rc_serve.specs.Keeping.{Keeping}
 use Rattle.rc_asked.specs.OnceAsked.{HasNoEvents, OnceSaying, Said}
 use Rattle.rc_asked.specs.UpdateAsked.{UpdateAsk}
-use Rattle.rc_script.specs.Says.{Saying}
 use Rattle.rc_model.specs.Plan.{Ask}
 use Rattle.rc_asked.specs.Listed.{Listed}
 use Rattle.rc_asked.specs.Programs.{ByTable, MakingAsk}
@@ -35,7 +34,7 @@ use Rattle.rc_sessions.specs.declared.keeping.LiveFile.{LiveFile}
 use Rattle.rc_cli.specs.Once.{DoesBy, HoldsOnce, ServesOnce}
 use Rattle.rc_cli.specs.OnceEnds.{StopsServing}
 use Rattle.rc_cli.specs.Updating.{EndsBoth, EndsUpdate, IsUpdate, Parts, ServesBoth, carried_line, ending_behind, listed_by, listed_on, lowering, making_on, raising, session_with, step_by}
-use Rattle.rc_cli.specs.UpdateEnds.{AnswersUpdate, AreFoundInBoth, EndsGatedUpdate, EndsUpdateBy, EndsUpdateOn, FailsUpdate, IsGatesFault, IsTextRefused, RunsUpdate, StopsBoth, StopsSecond, StopsUpdate}
+use Rattle.rc_cli.specs.UpdateEnds.{AnswersUpdate, AreFoundInBoth, EndsGatedUpdate, EndsUpdateBy, EndsUpdateOn, FailsUpdate, IsGatesFault, IsTextRefused, RunsUpdate, StopsBoth, StopsUpdate}
 use Rattle.rc_sessions.proofs.SessionLemmas.{fault_wider}
 use Rattle.rc_cli.proofs.OnceLemmas.{file_fault, line_as, once_on}
 

@@ -5,7 +5,7 @@ use Rattle.clap.specs.Words.{Text as Path}
 use Rattle.rc_graph.specs.declared.Way.{Way}
 use Rattle.rc_model.specs.Database.{Database}
 use Rattle.rc_model.specs.Line.{Line}
-use Rattle.rc_model.specs.Session.{Command, Redo, Undo}
+use Rattle.rc_model.specs.Session.{Redo, Undo}
 use Rattle.rc_session.specs.Holding.{Holding}
 use Rattle.rc_script.specs.Says.{Saying, SaysStep}
 use Rattle.rc_runner.specs.Failing.{outcome_in}
@@ -16,6 +16,7 @@ use Rattle.rc_serve.specs.declared.ending.Ending.TheVariants.{Done}
 use Rattle.rc_serve.specs.Ending.{ArrivesSaying, Ends, EndsIn, EndsWay, IsDoneAs}
 use Rattle.rc_asked.specs.OnceAsked.{OnceAsk, OnceSaying, Said, WantsDryRedo, WantsDryUndo}
 use Rattle.rc_asked.specs.Programs.{ByPrograms, ByTable, MakingAsk, listed_in}
+use Rattle.rc_streams.specs.Exchange.{Exchange}
 use Rattle.rc_base.specs.Base.{Spells}
 use Rattle.rc_base.specs.Opening.{Reads}
 use Rattle.rc_sessions.specs.Filing.{BeginsWith, Filing, HoldsBy, filing_of}
@@ -86,14 +87,13 @@ pub record RunsOnce (filing : Filing) (As : EndsIn) (ending : Ending) (d : Datab
 
 -- there is a database, each name that is to fail is a service's, and one line was served on it
 pub record AnswersOnce (ending : Ending) (base : Option (List ℕ)) (ask : OnceAsk)
-    (file : LiveFile) (was is : Option (List ℕ))
-    (remaining after written gained : Option (List ℕ)) : Type 0 where
+    (file : LiveFile) (was is : Option (List ℕ)) (io : Exchange) : Type 0 where
   pub database : Database
   pub input : List ℕ
   pub rest : List ℕ
-  pub reads : Reads base remaining after input
+  pub reads : Reads base io.input io.left input
   pub spelled : Spells base input database rest
   pub found : AreAllFound database (listed_in ask.session.making)
   pub run : RunsOnce (filing_of ask.session file was is)
       (DoesBy database ask.session.workers ask.session.making) ending database ask.what
-      written gained
+      io.written io.gained

@@ -4,6 +4,7 @@ use Rattle.std.specs.Io.KnownBytes.{Appends}
 use Rattle.rc_model.specs.Database.{Database}
 use Rattle.rc_model.specs.Line.{Line}
 use Rattle.rc_session.specs.Holding.{Holding}
+use Rattle.rc_streams.specs.Exchange.{Exchange}
 use Rattle.rc_streams.specs.Input.{AppendsFront, fault_line}
 use Rattle.rc_serve.specs.declared.ending.Ending.{Ending}
 use Rattle.rc_serve.specs.declared.fault.ServeFault.{ServeFault}
@@ -58,24 +59,24 @@ StopsFrom fault filing As d what written gained = (start : Line) × BeginsWith d
 -- there is a database, each name that is to fail is a service's, and one line was served on it up
 -- to a fault
 pub record StopsOnceBy (fault : ServeFault) (base : Option (List ℕ)) (ask : OnceAsk)
-    (file : LiveFile) (was is : Option (List ℕ))
-    (remaining after written gained : Option (List ℕ)) : Type 0 where
+    (file : LiveFile) (was is : Option (List ℕ)) (io : Exchange) : Type 0 where
   pub database : Database
   pub input : List ℕ
   pub rest : List ℕ
-  pub reads : Reads base remaining after input
+  pub reads : Reads base io.input io.left input
   pub spelled : Spells base input database rest
   pub found : AreAllFound database (listed_in ask.session.making)
   pub stops : StopsFrom fault (filing_of ask.session file was is)
-      (DoesBy database ask.session.workers ask.session.making) database ask.what written gained
+      (DoesBy database ask.session.workers ask.session.making) database ask.what
+      io.written io.gained
 
 -- how a command failed: it was not begun, with nothing written, and its store was left alone or
 -- holds the text of the line with which the session begins; or its line was served up to the fault
-abbrev pub FailsOnce : ServeFault → Option (List ℕ) → OnceAsk → LiveFile →
-    (was is : Option (List ℕ)) → (remaining after written gained : Option (List ℕ)) → Type 0
-FailsOnce fault base ask file was is remaining after written gained =
-    IsNotBegun fault base (filing_of ask.session file was is) remaining written gained
-    ⊎ StopsOnceBy fault base ask file was is remaining after written gained
+abbrev pub FailsOnce : ServeFault → Option (List ℕ) → OnceAsk → LiveFile
+    → (was is : Option (List ℕ)) → Exchange → Type 0
+FailsOnce fault base ask file was is io =
+    IsNotBegun fault base (filing_of ask.session file was is) io
+    ⊎ StopsOnceBy fault base ask file was is io
 
 -- why a one-shot command on a database has no answer, past some gate: its file is refused, with
 -- nothing written and its store left alone; or a fault came, before the session was begun, or where
@@ -108,21 +109,19 @@ EndsOnceOn (Failed fault) filing d workers making what written gained reader wri
     × StopsFrom fault filing (DoesBy d workers making) d what written gained))
 
 -- the same of a command whose database is looked for first
-abbrev pub EndsOnceBy : SessionFault → Option (List ℕ) → OnceAsk → LiveFile →
-    (was is : Option (List ℕ)) → (remaining after written gained : Option (List ℕ)) →
-    (reader writer keeper : Type 0) → Type 0
-EndsOnceBy (Failed fault) base ask file was is remaining after written gained reader writer keeper =
+abbrev pub EndsOnceBy : SessionFault → Option (List ℕ) → OnceAsk → LiveFile
+    → (was is : Option (List ℕ)) → Exchange → (reader writer keeper : Type 0) → Type 0
+EndsOnceBy (Failed fault) base ask file was is io reader writer keeper =
     IsServeFault reader writer keeper fault
-    × FailsOnce fault base ask file was is remaining after written gained
-EndsOnceBy fault base ask file was is remaining after written gained reader writer keeper =
-    IsRefusedBy fault base ask.session (filing_of ask.session file was is) remaining after
-    × (gained ≡ written) × (is ≡ was)
+    × FailsOnce fault base ask file was is io
+EndsOnceBy fault base ask file was is io reader writer keeper =
+    IsRefusedBy fault base ask.session (filing_of ask.session file was is) io.input io.left
+    × (io.gained ≡ io.written) × (is ≡ was)
 
 -- a fault is told
-abbrev pub TellsFault : Option (List ℕ) → OnceAsk → LiveFile → (was is : Option (List ℕ)) →
-    (remaining after written gained : Option (List ℕ)) → (reader writer keeper : Type 0) →
-    (old new : Option (List ℕ)) → Type 0
-TellsFault base ask file was is remaining after written gained reader writer keeper old new =
+abbrev pub TellsFault : Option (List ℕ) → OnceAsk → LiveFile → (was is : Option (List ℕ))
+    → Exchange → (reader writer keeper : Type 0) → (old new : Option (List ℕ)) → Type 0
+TellsFault base ask file was is io reader writer keeper old new =
     (fault : ServeFault) × IsServeFault reader writer keeper fault
     × AppendsFront old new (fault_line (serve_word fault))
-    × FailsOnce fault base ask file was is remaining after written gained
+    × FailsOnce fault base ask file was is io

@@ -2,6 +2,7 @@
 //! how the line ended.
 ghost use Rattle.std.specs.Prelude.{◌≡◌, ◌≤◌, ◌⊎◌, ◌+◌, None, Some, IfErr, IfOk};
 ghost use Rattle.rc_board.specs.Crew.{IsCrew};
+ghost use Rattle.rc_streams.specs.Exchange.{exchanged};
 ghost use Rattle.rc_streams.specs.Input.{ConsumesAtMost};
 ghost use Rattle.rc_streams.specs.Noting.{HasFailed, inner_of};
 ghost use Rattle.rc_serve.specs.declared.ending.Ending.TheVariants.{Done, Refused, Hindered};
@@ -64,15 +65,13 @@ pub fn once_as_asked<T: Threads + Wait + Sync, R: Read, W: Write, F: Write, S: S
     ensures done { result ≡ 0 → AnswersOnce Done
         (bytes_of base.entry) (once_ask_of request.now) live.entry
         (S.holds (store_of keeper.old)) (S.holds (store_of keeper.new))
-        (R.remaining (inner_of reader.old)) (R.remaining (inner_of reader.new))
-        (W.contents (inner_of writer.old)) (W.contents (inner_of writer.new)) }
+        (exchanged R.remaining W.contents reader.old reader.new writer.old writer.new) }
 
     // It was carried out, and its report tells what failed, was blocked or was not tried.
     ensures hindered { result ≡ 2 → AnswersOnce Hindered
         (bytes_of base.entry) (once_ask_of request.now) live.entry
         (S.holds (store_of keeper.old)) (S.holds (store_of keeper.new))
-        (R.remaining (inner_of reader.old)) (R.remaining (inner_of reader.new))
-        (W.contents (inner_of writer.old)) (W.contents (inner_of writer.new)) }
+        (exchanged R.remaining W.contents reader.old reader.new writer.old writer.new) }
     ensures untold { (result ≡ 0) ⊎ (result ≡ 2) → F.contents faults.new ≡ F.contents faults.old }
 
     // The answer is why it is refused, and nothing was told; or a refusal of the texts or of a name
@@ -80,8 +79,7 @@ pub fn once_as_asked<T: Threads + Wait + Sync, R: Read, W: Write, F: Write, S: S
     ensures refused { result ≡ 1 →
         (AnswersOnce Refused (bytes_of base.entry) (once_ask_of request.now) live.entry
         (S.holds (store_of keeper.old)) (S.holds (store_of keeper.new))
-        (R.remaining (inner_of reader.old)) (R.remaining (inner_of reader.new))
-        (W.contents (inner_of writer.old)) (W.contents (inner_of writer.new))
+        (exchanged R.remaining W.contents reader.old reader.new writer.old writer.new)
         × (F.contents faults.new ≡ F.contents faults.old))
         ⊎ (TellsSessionRefusal (once_ask_of request.now).session (bytes_of base.entry) live.entry
         (S.holds (store_of keeper.old)) (S.holds (store_of keeper.new))
@@ -96,8 +94,7 @@ pub fn once_as_asked<T: Threads + Wait + Sync, R: Read, W: Write, F: Write, S: S
     ensures failed { result ≡ 111 → TellsFault
         (bytes_of base.entry) (once_ask_of request.now) live.entry
         (S.holds (store_of keeper.old)) (S.holds (store_of keeper.new))
-        (R.remaining (inner_of reader.old)) (R.remaining (inner_of reader.new))
-        (W.contents (inner_of writer.old)) (W.contents (inner_of writer.new))
+        (exchanged R.remaining W.contents reader.old reader.new writer.old writer.new)
         (HasFailed reader.new) (HasFailed writer.new)
         (CannotKeep (once_ask_of request.now).session live.entry (S.failed (store_of keeper.new)))
         (F.contents faults.old) (F.contents faults.new) }
@@ -146,13 +143,11 @@ fn run_asked<'a, T: Threads + Wait + Sync, R: Read, W: Write, S: Store>(
     ensures done { IfOk result (λ ending. AnswersOnce ending
         (bytes_of base.entry) (once_ask_of request.now) live.entry
         (S.holds (store_of keeper.old)) (S.holds (store_of keeper.new))
-        (R.remaining (inner_of reader.old)) (R.remaining (inner_of reader.new))
-        (W.contents (inner_of writer.old)) (W.contents (inner_of writer.new))) }
+        (exchanged R.remaining W.contents reader.old reader.new writer.old writer.new)) }
     ensures ended { IfErr result (λ fault. EndsOnceBy fault (bytes_of base.entry)
         (once_ask_of request.now) live.entry
         (S.holds (store_of keeper.old)) (S.holds (store_of keeper.new))
-        (R.remaining (inner_of reader.old)) (R.remaining (inner_of reader.new))
-        (W.contents (inner_of writer.old)) (W.contents (inner_of writer.new))
+        (exchanged R.remaining W.contents reader.old reader.new writer.old writer.new)
         (HasFailed reader.new) (HasFailed writer.new)
         (CannotKeep (once_ask_of request.now).session live.entry
         (S.failed (store_of keeper.new)))) }
@@ -186,13 +181,11 @@ fn run_on_base<'a, T: Threads + Wait + Sync, R: Read, W: Write, S: Store>(
     ensures done { IfOk result (λ ending. AnswersOnce ending (Some base.now)
         (once_ask_of request.now) live.entry
         (S.holds (store_of keeper.old)) (S.holds (store_of keeper.new))
-        (R.remaining (inner_of _reader.old)) (R.remaining (inner_of _reader.new))
-        (W.contents (inner_of writer.old)) (W.contents (inner_of writer.new))) }
+        (exchanged R.remaining W.contents _reader.old _reader.new writer.old writer.new)) }
     ensures ended { IfErr result (λ fault. EndsOnceBy fault (Some base.now)
         (once_ask_of request.now) live.entry
         (S.holds (store_of keeper.old)) (S.holds (store_of keeper.new))
-        (R.remaining (inner_of _reader.old)) (R.remaining (inner_of _reader.new))
-        (W.contents (inner_of writer.old)) (W.contents (inner_of writer.new))
+        (exchanged R.remaining W.contents _reader.old _reader.new writer.old writer.new)
         (HasFailed _reader.new) (HasFailed writer.new)
         (CannotKeep (once_ask_of request.now).session live.entry
         (S.failed (store_of keeper.new)))) }
@@ -222,13 +215,11 @@ fn run_on_input<'a, T: Threads + Wait + Sync, R: Read, W: Write, S: Store>(
     ensures done { IfOk result (λ ending. AnswersOnce ending None
         (once_ask_of request.now) live.entry
         (S.holds (store_of keeper.old)) (S.holds (store_of keeper.new))
-        (R.remaining (inner_of reader.old)) (R.remaining (inner_of reader.new))
-        (W.contents (inner_of writer.old)) (W.contents (inner_of writer.new))) }
+        (exchanged R.remaining W.contents reader.old reader.new writer.old writer.new)) }
     ensures ended { IfErr result (λ fault. EndsOnceBy fault None
         (once_ask_of request.now) live.entry
         (S.holds (store_of keeper.old)) (S.holds (store_of keeper.new))
-        (R.remaining (inner_of reader.old)) (R.remaining (inner_of reader.new))
-        (W.contents (inner_of writer.old)) (W.contents (inner_of writer.new))
+        (exchanged R.remaining W.contents reader.old reader.new writer.old writer.new)
         (HasFailed reader.new) (HasFailed writer.new)
         (CannotKeep (once_ask_of request.now).session live.entry
         (S.failed (store_of keeper.new)))) }

@@ -9,6 +9,7 @@ ghost use Rattle.rc_command.specs.Commands.{base_option, flag, new_option, optio
 ghost use Rattle.rc_command.specs.Commands.{with_crew, with_live, with_making, with_names, with_once, with_programs};
 ghost use Rattle.rc_command.specs.Commands.{with_session, with_shown, with_update, with_watch, with_ways};
 
+use crate::query_words::QUERIES;
 use clap::{Arg, ArgAction, Command};
 use std::alloc::{AllocError, Global};
 
@@ -573,9 +574,7 @@ fn query_argument<'a>(alloc: Global) -> Arg<'a>
         .value_name("QUERY")
         .action(ArgAction::Set)
         .required(true)
-        .help(
-            "What is asked: check, dot, list, type, timeout, flags, contents, pipeline, script, atomics, dependencies or all-dependencies",
-        )
+        .help(QUERIES)
 }
 
 #[tactic(auto, unfolding(crate::specs::Commands::rule_in, crate::specs::Commands::IsOwn, crate::specs::Commands::source_list))]

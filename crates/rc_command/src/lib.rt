@@ -2,6 +2,8 @@
 #![tactic(auto)]
 
 mod commands;
+mod query_words;
 mod words;
 
+pub use crate::query_words::{NameQuery, NamesQuery, name_query, names_query};
 pub use crate::words::{entered, is_memory, is_on, matches_of};

@@ -10,7 +10,7 @@ use Rattle.rc_source.proofs.Members.{Contains-cons_cases, Contains-there, Contai
 use Rattle.rc_holds.specs.Pipelines.{IsDefined, IsLongrun, WritesTo, ReadsFrom}
 use Rattle.rc_holds.specs.Sets.{ArePiped, AreApart}
 use Rattle.rc_holds.proofs.Meanings.{only_one}
-use Rattle.rc_compile.specs.Pipes.{HasWrongType, HasNoMatch, HasTakenName}
+use Rattle.rc_compile.specs.CompileFaults.{HasWrongType, HasNoMatch, HasTakenName}
 
 pub same_or_other : (a b : List ℕ) → (a ≡ b) ⊎ (a ≢ b)
 same_or_other a b = by (bytes_eq a b) refl

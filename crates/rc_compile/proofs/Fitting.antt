@@ -17,7 +17,7 @@ use Rattle.rc_holds.specs.Mirror.{Mirrors}
 use Rattle.rc_holds.proofs.Meanings.{only_one, longrun_is_service}
 use Rattle.rc_model.proofs.BundleOrders.{contains_at}
 use Rattle.rc_compile.specs.Compiled.{IsAsDefined, IsDatabaseOf}
-use Rattle.rc_compile.specs.Pipes.{HasTakenName, HasWrongType}
+use Rattle.rc_compile.specs.CompileFaults.{HasTakenName, HasWrongType}
 use Rattle.rc_compile.specs.Placed.{AreAsDefined}
 use Rattle.rc_compile.proofs.Bridges.{both_longruns, are_apart}
 

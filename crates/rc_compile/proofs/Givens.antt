@@ -17,7 +17,7 @@ use Rattle.rc_model.proofs.Places.{contains_at, place_of}
 use Rattle.rc_source.specs.Meaning.{Meaning}
 use Rattle.rc_compile.specs.declared.tables.Which.{Which}
 use Rattle.rc_compile.specs.declared.tables.Which.TheVariants.{Services, Bundles}
-use Rattle.rc_compile.specs.Pipes.{AreTooMany}
+use Rattle.rc_compile.specs.CompileFaults.{AreTooMany}
 use Rattle.rc_compile.specs.Given.{Gives, IsNameOf, IsFull}
 
 -- an entry among the first so many of which this holds

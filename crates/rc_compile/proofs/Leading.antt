@@ -1,23 +1,31 @@
-use Rattle.std.proofs.Common.{◌≡◌, ℕ, inl, List, Contains, arith, refl}
+use Rattle.std.proofs.Common.{◌≡◌, ℕ, inl, List, Contains, refl}
 use Rattle.rc_source.specs.Meaning.{Meaning}
 use Rattle.rc_compile.specs.declared.CompileFault.{CompileFault}
 use Rattle.rc_compile.specs.declared.CompileFault.TheVariants as fault
-use Rattle.rc_compile.specs.declared.scan.EntryFlaw.TheVariants as flaw
 use Rattle.rc_holds.specs.Pipelines.{IsDefined, IsService, IsLongrun, WritesTo, InPipelineOf}
 use Rattle.rc_holds.specs.Standing.{HoldsName, StandsFor, NeedsNamed}
 use Rattle.rc_holds.proofs.Stands.{step_leads}
-use Rattle.rc_compile.specs.CompileFaults.{Flaw, TooMany, OfEntry, BundleCycle, Cycle, HaveNoFlaw, IsCompileFault}
+use Rattle.rc_compile.specs.declared.flaws.EntryFlaw.{EntryFlaw}
+use Rattle.rc_compile.specs.declared.flaws.EntryFlaw.TheVariants.{PipelineType, PipelineMismatch, PipelineName}
+use Rattle.rc_compile.specs.CompileFaults.{TooMany, Unknown, BundleCycle, OfEntry, Cycle, HaveNoFlaw, IsCompileFault, IsFirstIn, entry_fault}
 
 pub not_refused : (ms : List Meaning) (f : CompileFault) → HaveNoFlaw ms → IsCompileFault ms f → f ≡ fault.Memory
 unfolding IsCompileFault
 not_refused ms fault.TooMany free h = absurd (free TooMany h.1)
-not_refused ms (fault.UnknownIn s name) free h = absurd (free (OfEntry flaw.Unknown) (s, h.0.1.0))
+not_refused ms (fault.UnknownIn s name) free h = absurd (free Unknown (s, h.1.0))
 not_refused ms (fault.BundleCycle names) free h = absurd (free BundleCycle (names.items, h.1))
-not_refused ms (fault.PipelineType s) free h = absurd (free (OfEntry flaw.PipelineType) (s, h.1.0))
-not_refused ms (fault.PipelineMismatch s) free h = absurd (free (OfEntry flaw.PipelineMismatch) (s, h.1.0))
-not_refused ms (fault.PipelineName s) free h = absurd (free (OfEntry flaw.PipelineName) (s, h.1.0))
+not_refused ms (fault.PipelineType s) free h = absurd (free (OfEntry PipelineType) (s, h.1.0))
+not_refused ms (fault.PipelineMismatch s) free h = absurd (free (OfEntry PipelineMismatch) (s, h.1.0))
+not_refused ms (fault.PipelineName s) free h = absurd (free (OfEntry PipelineName) (s, h.1.0))
 not_refused ms (fault.Cycle names) free h = absurd (free Cycle (names.items, h.1))
 not_refused ms fault.Memory free h = refl
+
+-- the first flaw of entries is told by its fault
+pub told_first : (ms : List Meaning) (flaw : EntryFlaw) (s : List ℕ) → IsFirstIn ms flaw s → IsCompileFault ms (entry_fault flaw s)
+unfolding IsCompileFault
+told_first ms PipelineType s first = first
+told_first ms PipelineMismatch s first = first
+told_first ms PipelineName s first = first
 
 pub through : (ms : List Meaning) (name inner s : List ℕ) → HoldsName ms name inner → StandsFor ms inner s → StandsFor ms name s
 through ms name inner s h stands = (stands.0, step_leads (HoldsName ms) name inner s h stands.1)

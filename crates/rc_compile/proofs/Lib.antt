@@ -1,18 +1,18 @@
-pub mod Leading
-pub mod Rings
-pub mod One
-pub mod Givens
-pub mod Needing
-pub mod Defined
-pub mod Shown
-pub mod Sharing
-pub mod NeedsByName
-pub mod Looking
-pub mod Stages
-pub mod Lowest
-pub mod Mentioned
-pub mod Passing
-pub mod Tabled
-pub mod Bridges
-pub mod Placing
-pub mod Fitting
+mod Leading
+mod Rings
+mod One
+mod Givens
+mod Needing
+mod Defined
+mod Shown
+mod Sharing
+mod NeedsByName
+mod Looking
+mod Stages
+mod Lowest
+mod Mentioned
+mod Passing
+mod Tabled
+mod Bridges
+mod Placing
+mod Fitting

@@ -1,4 +1,4 @@
--- The tables show a flaw of an entry where it has it.
+-- The tables show of an entry what it has.
 use Rattle.std.proofs.Common.{◌≡◌, ◌≢◌, ◌∙◌, ◌<◌, ◌⊎◌, ◌↔◌, ⊎_elim, inl, inr, ℕ, List, slice_get, Contains, Some, refl, sym, ap, subst, arith}
 use Rattle.std.proofs.lemmas.Bool.{cases_lt}
 use Rattle.std.proofs.lemmas.Option.{same_Some}
@@ -11,13 +11,11 @@ use Rattle.rc_holds.specs.Pipelines.{IsService, IsLongrun, WritesTo, ReadsFrom, 
 use Rattle.rc_holds.specs.Standing.{IsKnown}
 use Rattle.rc_holds.proofs.Meanings.{only_one, longrun_is_service}
 use Rattle.rc_compile.specs.declared.book.Book.{Book}
-use Rattle.rc_compile.specs.declared.scan.EntryFlaw.{EntryFlaw}
-use Rattle.rc_compile.specs.declared.scan.EntryFlaw.TheVariants.{Unknown, PipelineType, PipelineMismatch, PipelineName}
+use Rattle.rc_compile.specs.declared.scan.Sought.TheVariants.{Unknown}
 use Rattle.rc_compile.specs.declared.tables.Which.TheVariants.{Bundles}
 use Rattle.rc_compile.specs.Given.{Gives}
-use Rattle.rc_compile.specs.Pipes.{HasWrongType, HasNoMatch, HasTakenName}
-use Rattle.rc_compile.specs.CompileFaults.{HasEntryFlaw, HasUnknown, Mentions}
-use Rattle.rc_compile.specs.Book.{IsBook, IsShared, Shows, HasNamed, JoinsOther, IsUnmatched, IsTaken}
+use Rattle.rc_compile.specs.CompileFaults.{HasWrongType, HasNoMatch, HasTakenName, HasUnknown, HasSomeUnknown, Mentions}
+use Rattle.rc_compile.specs.Book.{IsBook, IsShared, IsSought, ShowsUnknown, HasNamed, JoinsOther, IsUnmatched, IsTaken}
 use Rattle.rc_compile.proofs.Defined.{apart, writer_is_service, reader_is_service, bundle_or_not}
 
 pub same_least : (P Q : List ℕ → Type 0) → ((x : List ℕ) → P x ↔ Q x) → (x : List ℕ) → IsLeast P x → IsLeast Q x
@@ -49,7 +47,7 @@ module _ (ms : List Meaning) (book : Book) (are : AreMeanings ms) (is : IsBook m
     λ (defined, not). (only_one ms are (λ x. Mentions x name) m within defined, λ there. not ((known_same name).0 there)),
   )
 
-  type_same : (m : Meaning) → Contains ms m → JoinsOther book.services book.longruns m ↔ HasWrongType ms m.name
+  pub type_same : (m : Meaning) → Contains ms m → JoinsOther book.services book.longruns m ↔ HasWrongType ms m.name
   type_same m within = (
     λ (t, names, not). (
       t,
@@ -76,7 +74,7 @@ module _ (ms : List Meaning) (book : Book) (are : AreMeanings ms) (is : IsBook m
         (at.0, at.1, (is.matched at.0).1 (m, there, (a, reads, at.1, (is.writes a m.name).1 (in_a, in_services m.name (reader_is_service ms are m.name a (m, there, refl, reads)), own)))),
   )
 
-  match_same : (m : Meaning) → Contains ms m → IsUnmatched book.services (rows book.feeds.items) book.matched m ↔ HasNoMatch ms m.name
+  pub match_same : (m : Meaning) → Contains ms m → IsUnmatched book.services (rows book.feeds.items) book.matched m ↔ HasNoMatch ms m.name
   match_same m within = (
     λ (t, cases). (
       t,
@@ -134,7 +132,7 @@ module _ (ms : List Meaning) (book : Book) (are : AreMeanings ms) (is : IsBook m
         gives,
   )
 
-  taken_same : (m : Meaning) → Contains ms m → IsTaken book.services book.bundles book.shared m ↔ HasTakenName ms m.name
+  pub taken_same : (m : Meaning) → Contains ms m → IsTaken book.services book.bundles book.shared m ↔ HasTakenName ms m.name
   taken_same m within = (forth, back)
     where
       forth : IsTaken book.services book.bundles book.shared m → HasTakenName ms m.name
@@ -169,29 +167,25 @@ module _ (ms : List Meaning) (book : Book) (are : AreMeanings ms) (is : IsBook m
                 cases,
           )
 
-  -- the tables show a flaw of an entry where it has it
-  pub shows_same : (flaw : EntryFlaw) (m : Meaning) → Contains ms m → Shows book flaw m ↔ HasEntryFlaw ms flaw m.name
-  shows_same Unknown m within = (
+  -- an entry has a name that stands for nothing where the tables show it
+  pub shown_unknown : (m : Meaning) → Contains ms m → ShowsUnknown book m ↔ HasSomeUnknown ms m.name
+  shown_unknown m within = (
     λ (name, mentions, not). (name, (unknown_same m within name).0 (mentions, not)),
     λ (name, unknown). let both = (unknown_same m within name).1 unknown in (name, both.0, both.1),
   )
-  shows_same PipelineType m within = type_same m within
-  shows_same PipelineMismatch m within = match_same m within
-  shows_same PipelineName m within = taken_same m within
 
-  -- what has a flaw is an entry
-  entry_of : (flaw : EntryFlaw) (s : List ℕ) → HasEntryFlaw ms flaw s → (m : Meaning) × Contains ms m × (m.name ≡ s)
-  entry_of Unknown s (name, ((m, there, named, mentions), not)) = (m, there, named)
-  entry_of PipelineType s (t, inl (m, there, named, w), not) = (m, there, named)
-  entry_of PipelineType s (t, inr (m, there, named, r), not) = (m, there, named)
-  entry_of PipelineMismatch s (t, inl ((m, there, named, w), not)) = (m, there, named)
-  entry_of PipelineMismatch s (t, inr ((m, there, named, r), not)) = (m, there, named)
-  entry_of PipelineName s (name, (m, there, named, names), taken) = (m, there, named)
+  -- those of which the tables show one
+  pub entries_unknown : (s : List ℕ) → HasSomeUnknown ms s → (m : Meaning) × Contains ms m × ((m.name ≡ s) × ShowsUnknown book m)
+  entries_unknown s (name, ((m, there, named, mentions), not)) = (m, there, (named, (name, mentions, λ known. not ((known_same name).0 known))))
 
-  -- the names of the entries that show a flaw
-  pub flawed_same : (flaw : EntryFlaw) (s : List ℕ) → ((m : Meaning) × Contains ms m × ((m.name ≡ s) × Shows book flaw m)) ↔ HasEntryFlaw ms flaw s
-  flawed_same flaw s = (
-    λ (m, there, (named, shows)). subst (HasEntryFlaw ms flaw) named ((shows_same flaw m there).0 shows),
-    λ has. let entry = entry_of flaw s has in
-        (entry.0, entry.1, (entry.2, (shows_same flaw entry.0 entry.1).1 (subst (HasEntryFlaw ms flaw) (sym entry.2) has))),
+module _ (ms : List Meaning) where
+  -- those that are sought for such a name
+  pub sought_unknown : (s : List ℕ) → IsSought ms Unknown s ↔ HasSomeUnknown ms s
+  sought_unknown s = (
+    λ (m, there, named, has). subst (HasSomeUnknown ms) named has,
+    λ (name, ((m, there, named, mentions), not)). (m, there, named, (name, ((m, there, refl, mentions), not))),
   )
+
+  -- the least of those that are sought for such a name
+  pub least_with_unknown : (s : List ℕ) → IsLeast (IsSought ms Unknown) s → IsLeast (HasSomeUnknown ms) s
+  least_with_unknown = same_least (IsSought ms Unknown) (HasSomeUnknown ms) sought_unknown

@@ -6,8 +6,9 @@ use Rattle.std.proofs.lemmas.List.{length-map, length-take, get_or-take, take_mo
 use Rattle.std.proofs.lemmas.List.Elements.{Contains-push, Contains-push_cases, Contains-append_left, All-cons, All-nil, All-contains}
 use Rattle.std.proofs.lemmas.Option.{get_or_from_slice_get, same_Some, slice_get_within}
 use Rattle.std.proofs.lemmas.Slice.Eq.{bytes_eq-Decides}
+use Rattle.rc_model.specs.Line.{IsChangedAt}
 use Rattle.rc_model.specs.Names.{IsBefore, IsInByteOrder, Has}
-use Rattle.rc_model.specs.Database.{Bundles, names_of, value_of, HaveBound, IsChangedAt, IsTable}
+use Rattle.rc_model.specs.Database.{Bundles, names_of, value_of, HaveBound, IsTable}
 use Rattle.rc_db.proofs.Words.{value_of-named}
 use Rattle.rc_db.proofs.Values.{named_by_value}
 use Rattle.rc_model.proofs.ByteOrder.{order_head, order_tail, same_names}

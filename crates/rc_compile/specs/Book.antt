@@ -4,14 +4,14 @@ use Rattle.rc_model.specs.Names.{Has, Holds}
 use Rattle.rc_model.specs.Graph.{Needs}
 use Rattle.rc_holds.specs.Rows.{rows}
 use Rattle.rc_source.specs.Meaning.{Meaning}
-use Rattle.rc_holds.specs.Pipelines.{IsService, WritesTo, NamesPipeline}
+use Rattle.rc_holds.specs.Pipelines.{IsDefined, IsService, WritesTo, NamesPipeline}
 use Rattle.rc_holds.specs.Standing.{IsBundle}
 use Rattle.rc_compile.specs.declared.book.Book.{Book}
-use Rattle.rc_compile.specs.declared.scan.EntryFlaw.{EntryFlaw}
-use Rattle.rc_compile.specs.declared.scan.EntryFlaw.TheVariants.{Unknown, PipelineType, PipelineMismatch, PipelineName}
+use Rattle.rc_compile.specs.declared.scan.Sought.{Sought}
+use Rattle.rc_compile.specs.declared.scan.Sought.TheVariants.{Unknown, Flawed}
 use Rattle.rc_compile.specs.declared.tables.Which.TheVariants.{Bundles}
 use Rattle.rc_compile.specs.Given.{Gives}
-use Rattle.rc_compile.specs.CompileFaults.{Mentions}
+use Rattle.rc_compile.specs.CompileFaults.{Mentions, HasFlaw, HasSomeUnknown}
 
 -- two entries give this name to a bundle
 abbrev pub IsShared : List Meaning → List ℕ → Type 0
@@ -66,9 +66,15 @@ pub record IsBook (ms : List Meaning) (book : Book) : Type 0 where
   pub writes : (a b : List ℕ) → HasPair book.services (rows book.feeds.items) a b ↔ (Contains book.services a × Contains book.services b × WritesTo ms a b)
   pub matched : Holds book.matched (λ s. (m : Meaning) × Contains ms m × IsMatchedAt book.services (rows book.feeds.items) m s)
 
--- by the tables, the entry has the flaw
-abbrev pub Shows : Book → EntryFlaw → Meaning → Type 0
-Shows book Unknown m = (name : List ℕ) × Mentions m name × (Contains book.services name ⊎ Contains book.bundles name → ⊥)
-Shows book PipelineType m = JoinsOther book.services book.longruns m
-Shows book PipelineMismatch m = IsUnmatched book.services (rows book.feeds.items) book.matched m
-Shows book PipelineName m = IsTaken book.services book.bundles book.shared m
+-- by the tables, the entry has a name that stands for nothing
+abbrev pub ShowsUnknown : Book → Meaning → Type 0
+ShowsUnknown book m = (name : List ℕ) × Mentions m name × (Contains book.services name ⊎ Contains book.bundles name → ⊥)
+
+-- the entry has what is sought
+abbrev pub HasSought : List Meaning → Sought → List ℕ → Type 0
+HasSought ms Unknown s = HasSomeUnknown ms s
+HasSought ms (Flawed flaw) s = HasFlaw ms flaw s
+
+-- the name is that of an entry, which has what is sought
+abbrev pub IsSought : List Meaning → Sought → List ℕ → Type 0
+IsSought ms sought s = IsDefined ms (λ m. HasSought ms sought m.name) s

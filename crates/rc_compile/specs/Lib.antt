@@ -1,4 +1,3 @@
-pub mod Pipes
 pub mod Given
 pub mod Compiled
 pub mod CompileFaults

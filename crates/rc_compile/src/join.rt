@@ -9,7 +9,7 @@ ghost use Rattle.rc_holds.specs.Pipelines.{IsService};
 ghost use Rattle.rc_holds.specs.Standing.{IsBundle, NeedsNamed, StandsFor};
 ghost use Rattle.rc_holds.specs.Mirror.{Mirrors};
 ghost use Rattle.rc_compile.specs.Compiled.{IsDatabaseOf};
-ghost use Rattle.rc_compile.specs.Pipes.{HasTakenName, HasWrongType};
+ghost use Rattle.rc_compile.specs.CompileFaults.{HasTakenName, HasWrongType};
 ghost use Rattle.rc_compile.specs.Placed.{AreAsDefined};
 
 use rc_db::{Db, Parts, Service, Table};

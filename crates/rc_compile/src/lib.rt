@@ -11,6 +11,7 @@ ghost use Rattle.rc_compile.specs.CompileFaults.{HaveNoFlaw, IsCompileFault};
 mod book;
 mod build;
 mod database;
+mod flaws;
 mod join;
 pub mod laws;
 mod least;

@@ -1,28 +1,46 @@
-// The tests of entries, one by one: a flaw is told of the least entry that has it.
-ghost use Rattle.std.specs.Prelude.{◌≡◌, ◌↔◌, ◌⊎◌, ℕ, List, length, map, Contains, IsTrue, IfOk, IfErr, IfSome, IfNone, OnOk};
-ghost use Rattle.rc_source.specs.Meaning.{Meaning, AreMeanings};
+// What is looked for in entries, one by one, and told of the least that has it.
+ghost use Rattle.std.specs.Prelude.{◌≡◌, ◌↔◌, ◌⊎◌, ℕ, List, map, Contains, IsTrue, IfOk, IfErr, IfSome, IfNone, OnOk};
+ghost use Rattle.rc_source.specs.Meaning.{AreMeanings};
 ghost use Rattle.rc_source.specs.Said.{meaning_of};
 ghost use Rattle.rc_holds.specs.Along.{IsLeast};
-ghost use Rattle.rc_compile.specs.Book.{IsBook, Shows};
-ghost use Rattle.rc_compile.specs.CompileFaults.{AreFreeBefore, HasEntryFlaw, HasUnknown, HaveFlaw, IsCompileFault, OfEntry};
+ghost use Rattle.rc_compile.specs.Book.{IsBook, HasSought, IsSought, ShowsUnknown};
+ghost use Rattle.rc_compile.specs.CompileFaults.{AreFreeBefore, HasSomeUnknown, HasUnknown, HaveFlaw, IsCompileFault, OfEntry, Unknown};
 
 use crate::CompileFault;
 use crate::book::Book;
+use crate::flaws::{EntryFlaw, has_flaw};
 use crate::least::least;
-use crate::pipes::{has_taken_name, is_unmatched, joins_other};
 use crate::unknown::unknown_in;
 use rc_names::Name;
 use rc_set::NoMem;
 use rc_source::Definition;
 use std::alloc::Global;
 
-// What each entry is tested for.
+// What is looked for: a name that stands for nothing, or a flaw.
 #[derive(Clone, Copy)]
-pub(crate) enum EntryFlaw {
+pub(crate) enum Sought {
     Unknown,
-    PipelineType,
-    PipelineMismatch,
-    PipelineName,
+    Flawed(EntryFlaw),
+}
+
+// Tests that each name of each entry stands for something.
+#[tactic(auto, unfolding(crate::specs::CompileFaults::IsCompileFault))]
+pub(crate) fn test_unknown(
+    alloc: Global,
+    definitions: &[Definition],
+    book: &Book,
+) -> Result<(), CompileFault>
+    requires meanings { AreMeanings (map meaning_of definitions.now) }
+    requires book { IsBook (map meaning_of definitions.now) book.now }
+    requires before { AreFreeBefore (map meaning_of definitions.now) Unknown }
+    ensures none { OnOk result (HaveFlaw (map meaning_of definitions.now) Unknown → ⊥) }
+    ensures fault { IfErr result (IsCompileFault (map meaning_of definitions.now)) }
+{
+    let Some(entry) = least_sought(alloc, definitions, book, Sought::Unknown)? else {
+        return Ok(());
+    };
+    let name = least_unknown(alloc, definitions, book, &entry)?;
+    Err(CompileFault::UnknownIn(entry, name))
 }
 
 // Tests that no entry has a flaw.
@@ -39,109 +57,103 @@ pub(crate) fn test_entries(
     ensures none { OnOk result (HaveFlaw (map meaning_of definitions.now) (OfEntry flaw) → ⊥) }
     ensures fault { IfErr result (IsCompileFault (map meaning_of definitions.now)) }
 {
-    let Some(entry) = least_flawed(alloc, definitions, book, flaw)? else {
-        return Ok(());
-    };
-    match flaw {
-        EntryFlaw::Unknown => {
-            let name = least_unknown(alloc, definitions, book, &entry)?;
-            Err(CompileFault::UnknownIn(entry, name))
-        }
-        EntryFlaw::PipelineType => Err(CompileFault::PipelineType(entry)),
-        EntryFlaw::PipelineMismatch => Err(CompileFault::PipelineMismatch(entry)),
-        EntryFlaw::PipelineName => Err(CompileFault::PipelineName(entry)),
+    match least_sought(alloc, definitions, book, Sought::Flawed(flaw))? {
+        Some(entry) => Err(flaw.of(entry)),
+        None => Ok(()),
     }
 }
 
-// The least entry that has a flaw, if there is one.
-fn least_flawed(
+// The least entry that has what is sought, if there is one.
+fn least_sought(
     alloc: Global,
     definitions: &[Definition],
     book: &Book,
-    flaw: EntryFlaw,
+    sought: Sought,
 ) -> Result<Option<Name>, NoMem>
     requires meanings { AreMeanings (map meaning_of definitions.now) }
     requires book { IsBook (map meaning_of definitions.now) book.now }
-    ensures some { IfOk result (λ found. IfSome found (IsLeast (HasEntryFlaw (map meaning_of definitions.now) flaw))) }
-    ensures none { IfOk result (λ found. IfNone found ((s : List ℕ) → HasEntryFlaw (map meaning_of definitions.now) flaw s → ⊥)) }
+    ensures some { IfOk result (λ found. IfSome found
+        (IsLeast (IsSought (map meaning_of definitions.now) sought))) }
+    ensures none { IfOk result (λ found. IfNone found
+        ((s : List ℕ) → IsSought (map meaning_of definitions.now) sought s → ⊥)) }
 {
-    let names = flawed(alloc, definitions, book, flaw)?;
+    let names = with_sought(alloc, definitions, book, sought)?;
     least(alloc, &names)
 }
 
-// The entries that have a flaw.
-fn flawed(
+// The entries that have what is sought.
+fn with_sought(
     alloc: Global,
     definitions: &[Definition],
     book: &Book,
-    flaw: EntryFlaw,
+    sought: Sought,
 ) -> Result<Vec<Name>, NoMem>
-    requires { IsBook (map meaning_of definitions.now) book.now }
+    requires meanings { AreMeanings (map meaning_of definitions.now) }
+    requires book { IsBook (map meaning_of definitions.now) book.now }
     ensures { IfOk result (λ names. (s : List ℕ) → Contains names.items s
-        ↔ ((m : Meaning) × Contains (map meaning_of definitions.now) m × ((m.name ≡ s) × Shows book.now flaw m))) }
+        ↔ IsSought (map meaning_of definitions.now) sought s) }
 {
     let mut names = Vec::new(alloc);
     for definition in definitions {
-        add_flawed(alloc, &mut names, book, definition, flaw)?;
+        add_sought(alloc, &mut names, definitions, book, definition, sought)?;
     }
     Ok(names)
 }
 
-// Puts the name of a definition in that has a flaw.
-fn add_flawed(
+// Puts the name of an entry in that has what is sought.
+fn add_sought(
     alloc: Global,
     names: &mut Vec<Name>,
+    definitions: &[Definition],
     book: &Book,
     definition: &Definition,
-    flaw: EntryFlaw,
+    sought: Sought,
 ) -> Result<(), NoMem>
-    requires longruns { length book.now.longruns ≡ length book.now.services }
-    requires marked { length book.now.shared ≡ length book.now.bundles }
-    requires feeds { length book.now.feeds.items ≡ length book.now.services }
-    requires matched { length book.now.matched ≡ length book.now.services }
+    requires meanings { AreMeanings (map meaning_of definitions.now) }
+    requires book { IsBook (map meaning_of definitions.now) book.now }
+    requires within { Contains (map meaning_of definitions.now) (meaning_of definition.now) }
     ensures { OnOk result ((s : List ℕ) → Contains names.new.items s
-        ↔ (Contains names.old.items s ⊎ ((definition.now.name ≡ s) × Shows book.now flaw (meaning_of definition.now)))) }
+        ↔ (Contains names.old.items s ⊎ ((definition.now.name ≡ s)
+        × HasSought (map meaning_of definitions.now) sought definition.now.name))) }
 {
-    if has_flaw(alloc, book, definition, flaw)? {
+    if has_sought(alloc, definitions, book, definition, sought)? {
         names.push(definition.name.copy(alloc)?)?;
     }
     Ok(())
 }
 
-// Whether a definition has a flaw.
-fn has_flaw(
+// Whether an entry has what is sought.
+fn has_sought(
     alloc: Global,
+    definitions: &[Definition],
     book: &Book,
     definition: &Definition,
-    flaw: EntryFlaw,
+    sought: Sought,
 ) -> Result<bool, NoMem>
-    requires longruns { length book.now.longruns ≡ length book.now.services }
-    requires marked { length book.now.shared ≡ length book.now.bundles }
-    requires feeds { length book.now.feeds.items ≡ length book.now.services }
-    requires matched { length book.now.matched ≡ length book.now.services }
-    ensures { IfOk result (λ flawed. IsTrue flawed ↔ Shows book.now flaw (meaning_of definition.now)) }
+    requires meanings { AreMeanings (map meaning_of definitions.now) }
+    requires book { IsBook (map meaning_of definitions.now) book.now }
+    requires within { Contains (map meaning_of definitions.now) (meaning_of definition.now) }
+    ensures { IfOk result (λ has. IsTrue has
+        ↔ HasSought (map meaning_of definitions.now) sought definition.now.name) }
 {
-    match flaw {
-        EntryFlaw::Unknown => has_unknown(alloc, book, definition),
-        EntryFlaw::PipelineType => Ok(joins_other(&book.services, &book.longruns, definition)),
-        EntryFlaw::PipelineMismatch => Ok(is_unmatched(
-            &book.services,
-            &book.feeds,
-            &book.matched,
-            definition,
-        )),
-        EntryFlaw::PipelineName => Ok(has_taken_name(
-            &book.services,
-            &book.bundles,
-            &book.shared,
-            definition,
-        )),
+    match sought {
+        Sought::Unknown => has_unknown(alloc, definitions, book, definition),
+        Sought::Flawed(flaw) => Ok(has_flaw(definitions, book, definition, flaw)),
     }
 }
 
-// Whether a definition has a name that stands for nothing.
-fn has_unknown(alloc: Global, book: &Book, definition: &Definition) -> Result<bool, NoMem>
-    ensures { IfOk result (λ flawed. IsTrue flawed ↔ Shows book.now EntryFlaw.Unknown (meaning_of definition.now)) }
+// Whether an entry has a name that stands for nothing.
+fn has_unknown(
+    alloc: Global,
+    definitions: &[Definition],
+    book: &Book,
+    definition: &Definition,
+) -> Result<bool, NoMem>
+    requires meanings { AreMeanings (map meaning_of definitions.now) }
+    requires book { IsBook (map meaning_of definitions.now) book.now }
+    requires within { Contains (map meaning_of definitions.now) (meaning_of definition.now) }
+    ensures { IfOk result (λ has. IsTrue has
+        ↔ HasSomeUnknown (map meaning_of definitions.now) definition.now.name) }
 {
     let unknown = unknown_in(alloc, &book.services, &book.bundles, definition)?;
     Ok(!unknown.is_empty())
@@ -156,7 +168,7 @@ fn least_unknown(
 ) -> Result<Name, NoMem>
     requires book { IsBook (map meaning_of definitions.now) book.now }
     requires meanings { AreMeanings (map meaning_of definitions.now) }
-    requires flaw { HasEntryFlaw (map meaning_of definitions.now) EntryFlaw.Unknown entry.now }
+    requires flaw { HasSomeUnknown (map meaning_of definitions.now) entry.now }
     ensures { IfOk result (IsLeast (HasUnknown (map meaning_of definitions.now) entry.now)) }
 {
     for definition in definitions {

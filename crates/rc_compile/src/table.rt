@@ -1,7 +1,8 @@
 // The bundles with their sets.
 ghost use Rattle.std.specs.Prelude.{◌≡◌, ◌<◌, ◌≤◌, ℕ, List, Bool, [], length, All, Some, IfOk, OnOk, slice_get, slice_index_or};
 ghost use Rattle.rc_holds.specs.Joining.{AllWithin};
-ghost use Rattle.rc_model.specs.Database.{HaveBound, IsChangedAt, IsTable, names_of, value_of};
+ghost use Rattle.rc_model.specs.Line.{IsChangedAt};
+ghost use Rattle.rc_model.specs.Database.{HaveBound, IsTable, names_of, value_of};
 
 use rc_db::Table;
 use rc_names::{Name, Names};

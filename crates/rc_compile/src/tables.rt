@@ -3,7 +3,7 @@ ghost use Rattle.std.specs.Prelude.{◌≡◌, ◌↔◌, ◌⊎◌, ℕ, List, 
 ghost use Rattle.rc_names.specs.Names.{Adds};
 ghost use Rattle.rc_model.specs.Names.{AreNames};
 ghost use Rattle.rc_source.specs.Said.{meaning_of};
-ghost use Rattle.rc_compile.specs.Pipes.{AreTooMany};
+ghost use Rattle.rc_compile.specs.CompileFaults.{AreTooMany};
 ghost use Rattle.rc_compile.specs.Given.{Gives, IsNameOf, IsFull};
 
 use rc_holds::pipeline_name;

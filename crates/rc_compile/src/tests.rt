@@ -4,19 +4,20 @@ ghost use Rattle.rc_source.specs.Meaning.{AreMeanings};
 ghost use Rattle.rc_source.specs.Said.{meaning_of};
 ghost use Rattle.rc_holds.specs.Standing.{HasContent};
 ghost use Rattle.rc_holds.specs.Mirror.{Mirrors};
-ghost use Rattle.rc_compile.specs.declared.scan.EntryFlaw.TheVariants.{PipelineType, Unknown};
 ghost use Rattle.rc_compile.specs.Book.{IsBook};
-ghost use Rattle.rc_compile.specs.CompileFaults.{AreFreeBefore, Cycle, IsCompileFault, OfEntry};
+ghost use Rattle.rc_compile.specs.CompileFaults.{AreFreeBefore, BundleCycle, Cycle, HaveFlaw, IsCompileFault, TooMany, Unknown};
 
 use crate::CompileFault;
 use crate::book::Book;
-use crate::scan::{EntryFlaw, test_entries};
+use crate::flaws::entry_flaws;
+use crate::scan::{test_entries, test_unknown};
 use rc_graph::Graph;
 use rc_holds::{CycleFault, bundle_graph};
 use rc_source::Definition;
 use std::alloc::Global;
 
-// All tests but the one for a circle of services. The graph says which bundle holds which.
+// All tests but those for too many names and for a circle of services. The graph says which bundle
+// holds which.
 pub(crate) fn test_all(
     alloc: Global,
     definitions: &[Definition],
@@ -24,13 +25,14 @@ pub(crate) fn test_all(
 ) -> Result<Graph, CompileFault>
     requires meanings { AreMeanings (map meaning_of definitions.now) }
     requires book { IsBook (map meaning_of definitions.now) book.now }
-    requires before { AreFreeBefore (map meaning_of definitions.now) (OfEntry Unknown) }
-    ensures graph { IfOk result (λ graph. Mirrors (HasContent (map meaning_of definitions.now)) book.now.bundles book.now.bundles graph) }
+    requires few { HaveFlaw (map meaning_of definitions.now) TooMany → ⊥ }
+    ensures graph { IfOk result (Mirrors (HasContent (map meaning_of definitions.now))
+        book.now.bundles book.now.bundles) }
     ensures before { OnOk result (AreFreeBefore (map meaning_of definitions.now) Cycle) }
     ensures fault { IfErr result (IsCompileFault (map meaning_of definitions.now)) }
 {
     let graph = test_names(alloc, definitions, book)?;
-    test_pipes(alloc, definitions, book)?;
+    test_flaws(alloc, definitions, book)?;
     Ok(graph)
 }
 
@@ -39,12 +41,14 @@ pub(crate) fn test_all(
 fn test_names(alloc: Global, definitions: &[Definition], book: &Book) -> Result<Graph, CompileFault>
     requires meanings { AreMeanings (map meaning_of definitions.now) }
     requires book { IsBook (map meaning_of definitions.now) book.now }
-    requires before { AreFreeBefore (map meaning_of definitions.now) (OfEntry Unknown) }
-    ensures graph { IfOk result (λ graph. Mirrors (HasContent (map meaning_of definitions.now)) book.now.bundles book.now.bundles graph) }
-    ensures before { OnOk result (AreFreeBefore (map meaning_of definitions.now) (OfEntry PipelineType)) }
+    requires few { HaveFlaw (map meaning_of definitions.now) TooMany → ⊥ }
+    ensures graph { IfOk result (Mirrors (HasContent (map meaning_of definitions.now))
+        book.now.bundles book.now.bundles) }
+    ensures known { OnOk result (HaveFlaw (map meaning_of definitions.now) Unknown → ⊥) }
+    ensures free { OnOk result (HaveFlaw (map meaning_of definitions.now) BundleCycle → ⊥) }
     ensures fault { IfErr result (IsCompileFault (map meaning_of definitions.now)) }
 {
-    test_entries(alloc, definitions, book, EntryFlaw::Unknown)?;
+    test_unknown(alloc, definitions, book)?;
     match bundle_graph(alloc, definitions, &book.bundles) {
         Ok(graph) => Ok(graph),
         Err(CycleFault::Cycle(names)) => Err(CompileFault::BundleCycle(names)),
@@ -52,16 +56,18 @@ fn test_names(alloc: Global, definitions: &[Definition], book: &Book) -> Result<
     }
 }
 
-// Tests the pipes.
-#[tactic(auto, unfolding(crate::specs::CompileFaults::AreFreeBefore))]
-fn test_pipes(alloc: Global, definitions: &[Definition], book: &Book) -> Result<(), CompileFault>
+// Tests that no entry has a flaw: one flaw after the other.
+fn test_flaws(alloc: Global, definitions: &[Definition], book: &Book) -> Result<(), CompileFault>
     requires meanings { AreMeanings (map meaning_of definitions.now) }
     requires book { IsBook (map meaning_of definitions.now) book.now }
-    requires before { AreFreeBefore (map meaning_of definitions.now) (OfEntry PipelineType) }
+    requires few { HaveFlaw (map meaning_of definitions.now) TooMany → ⊥ }
+    requires known { HaveFlaw (map meaning_of definitions.now) Unknown → ⊥ }
+    requires free { HaveFlaw (map meaning_of definitions.now) BundleCycle → ⊥ }
     ensures before { OnOk result (AreFreeBefore (map meaning_of definitions.now) Cycle) }
     ensures fault { IfErr result (IsCompileFault (map meaning_of definitions.now)) }
 {
-    test_entries(alloc, definitions, book, EntryFlaw::PipelineType)?;
-    test_entries(alloc, definitions, book, EntryFlaw::PipelineMismatch)?;
-    test_entries(alloc, definitions, book, EntryFlaw::PipelineName)
+    for flaw in entry_flaws() {
+        test_entries(alloc, definitions, book, *flaw)?;
+    }
+    Ok(())
 }

@@ -1,6 +1,7 @@
 use Rattle.std.specs.Prelude.{◌≡◌, ◌≢◌, ◌+◌, ◌<◌, ◌≤◌, ◌⊎◌, ◌↔◌, ℕ, List, Bool, true, false, length, slice_index, slice_index_or, Contains, vec_len, vec_capacity}
 use Rattle.std.specs.Global.{Vec}
-use Rattle.rc_model.specs.Names.{Has, Lists}
+use Rattle.rc_model.specs.Line.{Lists}
+use Rattle.rc_model.specs.Names.{Has}
 use Rattle.rc_model.specs.Graph.{Needs}
 use Rattle.rc_graph.specs.Order.{AreDistinct}
 use Rattle.rc_graph.specs.Placing.{Meets}

@@ -5,7 +5,8 @@ use Rattle.std.specs.Map.{lookup, remove_entry, keys_of, values_of}
 use Rattle.std.proofs.lemmas.Option.{slice_get-map}
 use Rattle.std.specs.Option.{option_map}
 use Rattle.std.specs.Str.{bytes_eq}
-use Rattle.rc_model.specs.Database.{Bundles, names_of, value_of, IsTable, IsChangedAt}
+use Rattle.rc_model.specs.Line.{IsChangedAt}
+use Rattle.rc_model.specs.Database.{Bundles, names_of, value_of, IsTable}
 use Rattle.rc_db.proofs.Values.{changed_at, take_out, set_at, table_without, table_written, names_of-set_value_at}
 
 module _ {K : Type 0} (bytes : K → List ℕ) where

@@ -14,8 +14,9 @@ use Rattle.std.specs.Str.{bytes_eq}
 use Rattle.indexmap.proofs.SortedLemmas.{absent_pushes}
 use Rattle.indexmap.specs.IndexMap.{move_index, insert_entry, index_before}
 use Rattle.rc_names.proofs.Growth.{map-insert, insert_sorted-new, none_same, IsInByteOrder-from_sorted}
+use Rattle.rc_model.specs.Line.{IsChangedAt}
 use Rattle.rc_model.specs.Names.{IsName, IsBefore, IsInByteOrder}
-use Rattle.rc_model.specs.Database.{Bundles, names_of, IsTable, IsChangedAt}
+use Rattle.rc_model.specs.Database.{Bundles, names_of, IsTable}
 use Rattle.rc_model.proofs.ByteOrder.{not_before_itself}
 use Rattle.rc_db.proofs.Entries.{Agree, ShowsChange}
 use Rattle.rc_db.proofs.Values.{changed_at, insert_new, value_of-absent}

@@ -1,9 +1,9 @@
-pub mod Entries
-pub mod Fits
-pub mod Growing
-pub mod KindLemmas
+mod Entries
+mod Fits
+mod Growing
+mod KindLemmas
 pub mod Listing
 pub mod Pipelines
-pub mod Reaching
+mod Reaching
 pub mod Values
 pub mod Words

@@ -13,8 +13,9 @@ use Rattle.std.specs.List.{IsDistinct, AllByRecursion}
 use Rattle.std.specs.Map.{lookup, remove_entry}
 use Rattle.std.specs.Option.{option_map}
 use Rattle.std.specs.Str.{bytes_eq}
+use Rattle.rc_model.specs.Line.{IsChangedAt}
 use Rattle.rc_model.specs.Names.{IsName, IsBefore, IsInByteOrder}
-use Rattle.rc_model.specs.Database.{Bundles, names_of, value_of, IsTable, IsChangedAt}
+use Rattle.rc_model.specs.Database.{Bundles, names_of, value_of, IsTable}
 use Rattle.rc_model.proofs.ByteOrder.{apart, order_tail, order_head}
 
 -- a look-up is the first entry's value

@@ -1,7 +1,8 @@
 //! Pipelines: longruns that hand on what they write, to the same last one.
 
 ghost use Rattle.std.specs.Prelude.{◌≡◌, ◌<◌, ◌⊎◌, ◌↔◌, ℕ, length, slice_get, slice_index, Some, IsTrue, IfOk, IfErr, IfSome, IfNone, OnOk};
-ghost use Rattle.rc_model.specs.Names.{Has, Holds, Lists};
+ghost use Rattle.rc_model.specs.Line.{Lists};
+ghost use Rattle.rc_model.specs.Names.{Has, Holds};
 ghost use Rattle.rc_model.specs.Database.{Feeds, IsDatabase};
 ghost use Rattle.rc_db.specs.Pipeline.{InPipelineOf, IsLastConsumer};
 ghost use Rattle.rc_db.specs.QueryFaults.{OfLongrun, IsSuch, IsQueryFault};

@@ -1,7 +1,8 @@
 //! Queries of one name.
 
 ghost use Rattle.std.specs.Prelude.{◌≡◌, ◌≢◌, ℕ, List, Bool, Some, slice_get, string_bytes, IfOk, IfErr, OnOk};
-ghost use Rattle.rc_model.specs.Names.{Has, Lists};
+ghost use Rattle.rc_model.specs.Line.{Lists};
+ghost use Rattle.rc_model.specs.Names.{Has};
 ghost use Rattle.rc_model.specs.Database.{Service as Facts, value_of, IsDatabase};
 ghost use Rattle.rc_db.specs.Service.{limit_of, script_of};
 ghost use Rattle.rc_db.specs.Queries.{IsKindOf, IsServiceNamed};

@@ -1,7 +1,8 @@
 //! Queries of several names: what they stand for, and what they need or are needed by.
 
 ghost use Rattle.std.specs.Prelude.{◌≡◌, ◌<◌, ◌⊎◌, ◌↔◌, ℕ, length, map, string_bytes, All, Contains, IfOk, IfErr, OnOk};
-ghost use Rattle.rc_model.specs.Names.{Has, Holds, Lists};
+ghost use Rattle.rc_model.specs.Line.{Lists};
+ghost use Rattle.rc_model.specs.Names.{Has, Holds};
 ghost use Rattle.rc_model.specs.Graph.{AreNeeds};
 ghost use Rattle.rc_model.specs.Database.{IsKnown, Selected};
 ghost use Rattle.rc_db.specs.Queries.{IsBeside, IsNextTo, IsWithAll};

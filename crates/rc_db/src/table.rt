@@ -1,7 +1,8 @@
 ghost use Rattle.std.specs.Prelude.{◌≡◌, ◌<◌, ◌↔◌, ◌⊎◌, ℕ, [], ◌∷◌, ◌++◌, length, All, Contains, Some, None, IfOk, OnOk, OnErr, IsTrue, slice_get};
 ghost use Rattle.std.specs.Option.{option_copied};
+ghost use Rattle.rc_model.specs.Line.{IsChangedAt};
 ghost use Rattle.rc_model.specs.Names.{IsBefore};
-ghost use Rattle.rc_model.specs.Database.{names_of, value_of, IsTable, IsChangedAt};
+ghost use Rattle.rc_model.specs.Database.{names_of, value_of, IsTable};
 
 use indexmap::IndexMap;
 use rc_names::Name;

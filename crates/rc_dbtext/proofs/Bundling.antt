@@ -6,8 +6,9 @@ use Rattle.std.proofs.lemmas.List.Elements.{All-head, All-tail, All-push, All-co
 use Rattle.std.proofs.lemmas.List.Quantifiers.{all_pairs_push}
 use Rattle.std.proofs.lemmas.Slice.Eq.{bytes_eq-Decides}
 use Rattle.std.specs.Str.{bytes_eq}
+use Rattle.rc_model.specs.Line.{IsChangedAt}
 use Rattle.rc_model.specs.Names.{Has, Holds, IsAscending, IsName, IsBefore, IsInByteOrder}
-use Rattle.rc_model.specs.Database.{Bundles, names_of, value_of, IsTable, IsChangedAt}
+use Rattle.rc_model.specs.Database.{Bundles, names_of, value_of, IsTable}
 use Rattle.rc_dbtext.specs.Parts.{IsNamed}
 use Rattle.rc_dbtext.specs.Spelling.{members, name_at}
 use Rattle.rc_model.proofs.ByteOrder.{not_before_itself}

@@ -1,4 +1,4 @@
-pub mod Orders
+mod Orders
 pub mod Naming
 mod Drafting
 mod Joining
@@ -11,5 +11,5 @@ mod Completing
 mod Lawful
 pub mod LineLemmas
 pub mod Unique
-pub mod Writing
+mod Writing
 mod OneFault

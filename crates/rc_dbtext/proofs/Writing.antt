@@ -8,7 +8,8 @@ use Rattle.std.specs.Prelude.{codes}
 use Rattle.std.specs.Fmt.{decimal}
 use Rattle.std.specs.List.{flat_map}
 use Rattle.std.specs.Option.{option_map}
-use Rattle.rc_model.specs.Names.{Has, Lists, IsInByteOrder}
+use Rattle.rc_model.specs.Line.{Lists}
+use Rattle.rc_model.specs.Names.{Has, IsInByteOrder}
 use Rattle.rc_model.specs.Database.{Service, Database, IsDatabase}
 use Rattle.rc_dbform.specs.Text.{Line, OfService, OfNeeds, Last, ServiceText, BundleText, body_lines, bundle_lines, service_lines, spell, spells, line_of_words}
 use Rattle.rc_dbtext.specs.Lines.{bundles_part, services_part}

@@ -45,7 +45,8 @@ pub fn live_hint(alloc: Global, path: &str, bytes: &[u8], word: &str, rest: &str
     let what = match word {
         "Bad" => return bad_line(alloc, path, bytes, rest, &SESSION),
         "Version" => ":1: this program reads 'undorc-live 2' and 'undorc-live 1'",
-        "OtherDb" => ": the session of another database; give it a file of its own",
+        "OtherDb" =>
+            ": the session of another database; take that one, or carry it over by undorc update",
         "Unknown" if rest.is_empty() => ": a state names what is no service of the database",
         "NotClosed" => ": a service is up without one that it needs, in state ",
         "SameState" => ": two states in a row are the same",

@@ -1,9 +1,9 @@
-pub mod Walks
-pub mod Joins
-pub mod Listing
+mod Walks
+mod Joins
+mod Listing
 pub mod Cycles
 pub mod Drafts
 pub mod Meanings
 pub mod Stands
-pub mod SetLists
+mod SetLists
 pub mod RowLemmas

@@ -1,8 +1,7 @@
 -- Each way to end a move: what the stacks show then is the move, and they fit.
 use Rattle.std.proofs.Common.{ℕ, ◌≡◌, ◌≢◌, ◌∙◌, ◌+◌, ◌≤◌, List, [], ◌∷◌, ◌++◌, reverse, Bool, true, false, Option, length, inl, inr, refl, ap, subst, sym, arith}
-use Rattle.rc_model.specs.Names.{Lists}
 use Rattle.rc_model.specs.Database.{Bundles, IsTable}
-use Rattle.rc_model.specs.Line.{Alteration, IsEdit, State, Entry, IsGained, Line, IsBound, IsNext, states, cursor, but_last, shorter, within_bound, MovesTo, MovesByChange, MovesByEdit, MovesByUndo, MovesByRedo, put_between, put_last, with_live, with_table}
+use Rattle.rc_model.specs.Line.{Alteration, IsEdit, State, Entry, IsGained, Line, IsBound, IsNext, states, cursor, but_last, shorter, within_bound, MovesTo, MovesByChange, MovesByEdit, MovesByUndo, MovesByRedo, put_between, put_last, with_live, with_table, Lists}
 use Rattle.rc_line.specs.declared.aim.Aim.TheVariants.{Undo, Redo}
 use Rattle.rc_model.proofs.Fitting.{fitted_short, fitted_long, shorter_first, shorter_last, but_last_push}
 use Rattle.rc_line.specs.Opening.{table_or, AimsAt}

@@ -7,8 +7,7 @@ use Rattle.rc_line.specs.declared.aim.Aim.{Aim}
 use Rattle.rc_line.specs.declared.aim.Aim.TheVariants.{Change, Edit, Undo, Redo}
 use Rattle.rc_line.specs.declared.room.Room.{Room}
 use Rattle.rc_model.specs.Database.{Bundles, IsTable, value_of}
-use Rattle.rc_model.specs.Line.{Alteration, State, Entry, IsGained, IsEntry, Line, IsBound, states}
-use Rattle.rc_model.specs.Names.{Lists}
+use Rattle.rc_model.specs.Line.{Alteration, State, Entry, IsGained, IsEntry, Line, IsBound, states, Lists}
 
 -- How a line is kept, for its view alone: the current state, and two stacks of entries. No public contract speaks of it.
 

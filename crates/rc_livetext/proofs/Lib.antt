@@ -1,14 +1,14 @@
-pub mod LineWords
-pub mod ManyLines
-pub mod Structure
-pub mod OneText
-pub mod Follows
-pub mod PartLemmas
-pub mod Adding
-pub mod Missing
-pub mod Heading
-pub mod StateLines
-pub mod Whole
+mod LineWords
+mod ManyLines
+mod Structure
+mod OneText
+mod Follows
+mod PartLemmas
+mod Adding
+mod Missing
+mod Heading
+mod StateLines
+mod Whole
 mod Texts
 mod OneFault
 mod Naming

@@ -2,9 +2,9 @@ use Rattle.std.proofs.Common.{◌≡◌, ℕ, ◌+◌, ◌<◌, ◌≤◌, ◌�
 use Rattle.std.proofs.lemmas.List.Elements.{Contains-push, Contains-push_cases, Contains-append_left, All-push}
 use Rattle.std.proofs.lemmas.Bool.{cases_lt}
 use Rattle.std.proofs.lemmas.List.Quantifiers.{all_pairs_push}
-use Rattle.rc_model.specs.Names.{IsAscending, Lists}
+use Rattle.rc_model.specs.Names.{IsAscending}
 use Rattle.rc_model.proofs.SetMembers.{has_within}
-use Rattle.rc_model.specs.Line.{IsGained}
+use Rattle.rc_model.specs.Line.{IsGained, Lists}
 
 -- the ids below a bound that the second set has and the first lacks, ascending
 pub record GainedBelow (from to : List Bool) (bound : ℕ) (ids : List ℕ) : Type 0 where

@@ -1,9 +1,9 @@
 use Rattle.std.proofs.Common.{◌≡◌, ◌∙◌, ◌↔◌, ℕ, Bool, true, false, List, [], Option, if◌then◌else◌, refl, sym, subst, rules}
-use Rattle.rc_model.specs.Names.{Has, Lists}
+use Rattle.rc_model.specs.Names.{Has}
 use Rattle.rc_model.specs.Plan.{PlanSets}
 use Rattle.rc_model.specs.declared.Event.{Event}
 use Rattle.rc_model.specs.Run.{course_of, HasFailed, IsStopped, IsLeft}
-use Rattle.rc_model.specs.Line.{IsGained}
+use Rattle.rc_model.specs.Line.{IsGained, Lists}
 use Rattle.rc_model.proofs.Members.{none_contained}
 use Rattle.rc_model.specs.Session.{Reported, IsReportOf}
 

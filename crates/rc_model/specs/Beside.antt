@@ -14,8 +14,8 @@ use Rattle.rc_model.specs.declared.Refusal.TheVariants.{PruneNeedsUp, Unknown, I
 use Rattle.rc_model.specs.declared.PlanFault.TheVariants as plan_fault
 use Rattle.rc_model.specs.declared.BundleFault.TheVariants as bundle_fault
 use Rattle.rc_model.specs.declared.LineFault.TheVariants as line_fault
-use Rattle.rc_model.specs.Session.{Command, Change, Undo, Redo, Add, Delete, HasRun, Reported, IsOwnFault}
-use Rattle.rc_model.specs.Headline.{RanInOrder, IsEntered, EntersEdit, KeepsHistory, WentWell, Leaves, LeavesAhead}
+use Rattle.rc_model.specs.Session.{Command, Change, Undo, Redo, Add, Delete, Reported, IsOwnFault}
+use Rattle.rc_model.specs.Headline.{RanInOrder, IsEntered, EntersEdit, KeepsHistory, WentWell, Leaves, LeavesAhead, HasRun}
 
 -- no service of the graph needs itself along a path, and the sets are of its services; what is to
 -- go down is up, what is to come up is not; what is up at first is closed, and so is the target

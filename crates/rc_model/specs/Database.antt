@@ -30,30 +30,27 @@ Bundles = List (List ℕ × List Bool)
 abbrev pub names_of : Bundles → List (List ℕ)
 names_of table = map (λ bundle. bundle.0) table
 
+-- the name of a bundle
+abbrev pub IsBundle : Bundles → List ℕ → Type 0
+IsBundle table name = Contains (names_of table) name
+
 -- the set of a name, if it is the name of a bundle
 abbrev pub value_of : Bundles → List ℕ → Option (List Bool)
 value_of [] name = None
 value_of (bundle ∷ rest) name = if bytes_eq name bundle.0 then Some bundle.1 else value_of rest name
 
--- at most 4,096 bundles, their names in byte order, so that each stands once
+-- at most 4,096 bundles, their names as `IsName` says, in byte order, so that each stands once
 pub record IsTable (table : Bundles) : Type 0 where
   pub order : IsInByteOrder (names_of table)
   pub each : All IsName (names_of table)
   pub few : length table ≤ 4096
 
--- all sets have this bound
+-- all sets have this bound, which is the length of each
 abbrev pub HaveBound : ℕ → Bundles → Type 0
 HaveBound bound table = All (λ bundle. length bundle.1 ≡ bound) table
 
--- the new table gives the name this value, where none means
--- that it is no bundle, and each other name the one that it had
-pub record IsChangedAt (old : Bundles) (name : List ℕ) (value : Option (List Bool))
-    (new : Bundles) : Type 0 where
-  pub here : value_of new name ≡ value
-  pub others : (other : List ℕ) → other ≢ name → value_of new other ≡ value_of old other
-
--- services, each with its name, its description and what it
--- needs, and the bundles; a service is its place among the names
+-- the services' names, what is said of each (`Service`), and what each needs, lists
+-- of one length; and the bundles; a service is its place among the names
 pub record Database : Type 0 where
   pub names : List (List ℕ)
   pub services : List Service
@@ -89,8 +86,8 @@ pub record FitTogether (d : Database) : Type 0 where
   pub fed : (s t : ℕ) → Feeds d s t → IsKind d t Longrun × Needs d.needs s t
   pub apart : AreApart d.names d.table
 
--- a database: each of its parts is as said above (names, needs, bundles,
--- limits), no service reaches itself, and the parts fit together
+-- a database: names in byte order, needs ascending and of services alone, bundles in byte order,
+-- limits of 32 bits, no service reaches itself, and the parts fit together
 pub record IsDatabase (d : Database) : Type 0 where
   pub names : AreNames d.names
   pub needs : AreNeeds d.needs

@@ -12,7 +12,7 @@ EachNeedsNext needs [] = Unit {0}
 EachNeedsNext needs (s ∷ []) = Unit {0}
 EachNeedsNext needs (s ∷ t ∷ rest) = Needs needs s t × EachNeedsNext needs (t ∷ rest)
 
--- a list of at least two services leads from s to t, each needing the next
+-- a path of one step or more leads from s to t: the transitive closure of `Needs`
 abbrev pub Reaches : List (List ℕ) → ℕ → ℕ → Type 0
 Reaches needs s t = (between : List ℕ) × EachNeedsNext needs (s ∷ (between ++ t ∷ []))
 
@@ -30,14 +30,14 @@ pub record AreNeeds (needs : List (List ℕ)) : Type 0 where
   pub ascending : (s : ℕ) → IsAscending (slice_index_or needs s [])
   pub known : AreServices needs
 
--- all that a member needs is a member
+-- closed under needs: all that a member needs is a member
 abbrev pub IsClosed : List (List ℕ) → (ℕ → Type 0) → Type 0
 IsClosed needs In = (s t : ℕ) → In s → Needs needs s t → In t
 
--- the members, with all that they reach along needs
+-- the members, and all that they need, directly or not: what comes up with them
 abbrev pub UpFrom : List (List ℕ) → (ℕ → Type 0) → ℕ → Type 0
 UpFrom needs In t = In t ⊎ ((s : ℕ) × In s × Reaches needs s t)
 
--- the members, with all that reach one of them
+-- the members, and all that need one of them, directly or not: what goes down with them
 abbrev pub DownFrom : List (List ℕ) → (ℕ → Type 0) → ℕ → Type 0
 DownFrom needs In s = In s ⊎ ((t : ℕ) × In t × Reaches needs s t)

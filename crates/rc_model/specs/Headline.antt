@@ -3,15 +3,22 @@ use Rattle.std.specs.Prelude.{◌≡◌, ◌≢◌, ◌≤◌, ◌<◌, ◌+◌,
 use Rattle.rc_model.specs.Names.{Holds}
 use Rattle.rc_model.specs.Database.{Database, IsDatabase}
 use Rattle.rc_model.specs.Plan.{PlanSets, Ask}
-use Rattle.rc_model.specs.Line.{Alteration, IsEdit, State, Entry, IsEntry, entry_back, Line, IsNext, IsEntryBefore, IsEntryAfter, states, cursor}
+use Rattle.rc_model.specs.Line.{Alteration, IsEdit, State, Entry, IsEntry, entry_back, Line, IsNext, IsEntryBefore, IsEntryAfter, states, cursor, put_last}
 use Rattle.rc_model.specs.declared.Event.{Event}
 use Rattle.rc_model.specs.Run.{course_of, TargetOf, IsStrictlyClosed}
 use Rattle.rc_model.specs.declared.Refusal.{Refusal}
-use Rattle.rc_model.specs.Session.{Command, Change, Undo, Redo, HasRun, IsUndo, IsRedo, events_of, Reported, IsTask, EndsWith, DoesByEdit, Does, IsLineOf, Answers, Plays}
+use Rattle.rc_model.specs.Session.{Command, Change, Undo, Redo, events_of, Reported, IsTask, EndsWith, DoesByEdit, Does, IsLineOf, Answers, Plays, Add, Delete}
 
--- a command ran in dependency order: the events that it was given are a settled run of
--- its task, after each of them each service that is not down has all that it needs up,
--- the new state has what is live in the end, and where all went well that is the target
+-- a command that a run carries out: a change, an undo or a redo
+abbrev pub HasRun : Command → Type 0
+HasRun (Add name contents force) = ⊥
+HasRun (Delete words force) = ⊥
+HasRun other = Unit {0}
+
+-- a command ran in dependency order: the events that it was given are a settled run of its
+-- task, which is how `DoesByRun` begins; and it is promised that after each of them each service
+-- that is not down has all that it needs up, that the new state has what is live in the end, and
+-- that where all went well this is the target of its plan
 pub record RanInOrder (d : Database) (line : Line) (command : Command) (report : Reported)
     (new : Line) : Type 0 where
   pub plan : PlanSets
@@ -30,13 +37,13 @@ RunsAreOrderly d line =
     Does d line command report new → RanInOrder d line command report new
 
 -- the entry names exactly what differs between the states before and after; where nothing
--- does the line stays, else the entry is the last one of the line, with the cursor after it
+-- differs the line stays, else the entry is the last one of the line, with the cursor after it
 pub record IsEntered (line new : Line) (entry : Entry) : Type 0 where
   pub exact : IsEntry line.current new.current entry
   pub entered : (new ≡ line) ⊎ ((new.current ≢ line.current) × (new.after ≡ [])
       × IsEntryBefore new entry)
 
--- each change enters exactly what it is reported to have altered, and no more
+-- each change enters exactly what it is reported to have altered, and no bundle
 abbrev pub ChangesAreEntered : Database → Line → Type 0
 ChangesAreEntered d line =
     (ask : Ask) (events : List Event) (report : Reported) (new : Line) →
@@ -53,38 +60,53 @@ abbrev pub EditsAreEntered : Database → Line → Type 0
 EditsAreEntered d line = (command : Command) (report : Reported) (new : Line) →
     DoesByEdit d line command report new → EntersEdit line new
 
--- of these states one is gone: the oldest or, where that stood beside the current one, the last
-abbrev pub LosesOne : List State → Line → Type 0
-LosesOne all line = (gone : State) × (((all ≡ gone ∷ states line) × (1 ≤ cursor line))
-    ⊎ ((all ≡ states line ++ gone ∷ []) × (cursor line ≡ 1)))
+-- the second line is the first but for one state, as `shorter` drops it: the oldest is gone or,
+-- where the current one is the second, the last; it is never the first, as it was put after another
+abbrev pub LosesOne : Line → Line → Type 0
+LosesOne more line = (gone : State)
+    × (((more ≡ record line { before = gone ∷ line.before }) × (1 ≤ cursor line))
+    ⊎ ((more ≡ record line { after = line.after ++ gone ∷ [] }) × (cursor line ≡ 1)))
 
--- a line has these states and no others or, where they are more than it may have, all but one
-abbrev pub Keeps : List State → Line → Type 0
-Keeps all line = (states line ≡ all) ⊎ ((line.bound < length all) × LosesOne all line)
+-- the second line is the first or, where that has more states than it may have, all but one of them
+abbrev pub Keeps : Line → Line → Type 0
+Keeps more line = (line ≡ more) ⊎ ((line.bound < length (states more)) × LosesOne more line)
 
--- the states of a line with one more, where the command may add one
-abbrev pub with_one_more : Line → Command → State → List State
+-- a line with one state more and the cursor on it, where the command may add one
+abbrev pub with_one_more : Line → Command → State → Line
 -- an undo puts it in front of the current one
-with_one_more line (Undo limit events) state = line.before ++ state ∷ line.current ∷ line.after
+with_one_more line (Undo limit events) state =
+    record line { current = state; after = line.current ∷ line.after }
 -- a redo puts it after
-with_one_more line (Redo limit events) state = line.before ++ line.current ∷ state ∷ line.after
+with_one_more line (Redo limit events) state =
+    record line { before = line.before ++ line.current ∷ []; current = state }
 -- a change or an edit puts it after, in the place of what came after
-with_one_more line other state = line.before ++ line.current ∷ state ∷ []
+with_one_more line other state = put_last line state
 
 -- what a command leaves of the history of a line
 pub record KeepsHistory (line : Line) (command : Command) (new : Line) : Type 0 where
   -- the line may have as many states as before
   pub bound : new.bound ≡ line.bound
-  -- it has its states, or these with the new one, of which only the
-  -- bound drops any; a change or an edit first drops what could be redone
-  pub history : (states new ≡ states line) ⊎ Keeps (with_one_more line command new.current) new
+  -- it stays, or its cursor goes one back or on, or it gets the new state, with the cursor on it;
+  -- only the bound drops any, but a change or an edit first drops what could be redone
+  pub history : (new ≡ line) ⊎ IsNext new line ⊎ IsNext line new
+      ⊎ Keeps (with_one_more line command new.current) new
 
 -- whatever is done, failed or not, keeps history
 abbrev pub HistoryIsKept : Database → Line → Type 0
 HistoryIsKept d line = (command : Command) (report : Reported) (new : Line) →
     Does d line command report new → KeepsHistory line command new
 
--- a command was not refused, nothing failed in it, and it was not stopped
+-- an undo
+abbrev pub IsUndo : Command → Type 0
+IsUndo (Undo limit events) = Unit {0}
+IsUndo other = ⊥
+
+-- a redo
+abbrev pub IsRedo : Command → Type 0
+IsRedo (Redo limit events) = Unit {0}
+IsRedo other = ⊥
+
+-- a command was not refused, nothing failed in it, so nothing was blocked, and it was not stopped
 abbrev pub WentWell : Result Reported Refusal → Type 0
 WentWell (Ok report) = (report.failed ≡ []) × (report.stopped ≡ false)
 WentWell (Err refusal) = ⊥
@@ -150,37 +172,40 @@ RedosLeaveWhatRemains d line =
 abbrev pub IsFull : Line → Type 0
 IsFull line = length (states line) ≡ line.bound
 
--- the states that remain of those before one: all or, of a full line, all but the oldest
-abbrev pub AreLeftBefore : Line → List State → List State → Type 0
-AreLeftBefore line all rest =
-    (rest ≡ all) ⊎ (IsFull line × ((oldest : State) × (all ≡ oldest ∷ rest)))
+-- of the states before some state these remain, after a command that led from the one line to the
+-- other: all or, where the line was full and is another now (a state was put between), all but
+-- the oldest
+abbrev pub AreLeftBefore : Line → Line → List State → List State → Type 0
+AreLeftBefore line there all rest = (rest ≡ all)
+    ⊎ ((there ≢ line) × IsFull line × ((oldest : State) × (all ≡ oldest ∷ rest)))
 
--- the states that remain of those after one: all or, of a full line, all but the last
-abbrev pub AreLeftAfter : Line → List State → List State → Type 0
-AreLeftAfter line all rest =
-    (rest ≡ all) ⊎ (IsFull line × ((last : State) × (all ≡ rest ++ last ∷ [])))
+-- of the states after some state these remain, after a command that led from the one line to the
+-- other: all or, where the line was full and is another now, all but the last
+abbrev pub AreLeftAfter : Line → Line → List State → List State → Type 0
+AreLeftAfter line there all rest = (rest ≡ all)
+    ⊎ ((there ≢ line) × IsFull line × ((last : State) × (all ≡ rest ++ last ∷ [])))
 
--- where an undo did not come to the state before, and the very next command is an undo that
--- goes well, it ends on that state, with all before it or, of a full line, all but the oldest
+-- where an undo did not come to the state before, and the very next command is an undo that goes
+-- well, it ends on that state, with all before it or, where a full line altered, all but the oldest
 abbrev pub UndosGoOn : Database → Line → Type 0
 UndosGoOn d line =
     (back there new : Line) (first next : Command) (report : Reported)
     (answer : Result Reported Refusal) →
     IsUndo first → IsUndo next → WentWell answer → IsNext back line →
     Does d line first report there → there ≢ back → Answers d there next answer new →
-    (new.current ≡ back.current) × AreLeftBefore line back.before new.before
+    (new.current ≡ back.current) × AreLeftBefore line there back.before new.before
 
--- where a redo did not come to the state after, and the very next command is a redo that
--- goes well, it ends on that state, with all after it or, of a full line, all but the last
+-- where a redo did not come to the state after, and the very next command is a redo that goes
+-- well, it ends on that state, with all after it or, where a full line altered, all but the last
 abbrev pub RedosGoOn : Database → Line → Type 0
 RedosGoOn d line =
     (on there new : Line) (first next : Command) (report : Reported)
     (answer : Result Reported Refusal) →
     IsRedo first → IsRedo next → WentWell answer → IsNext line on →
     Does d line first report there → there ≢ on → Answers d there next answer new →
-    (new.current ≡ on.current) × AreLeftAfter line on.after new.after
+    (new.current ≡ on.current) × AreLeftAfter line there on.after new.after
 
--- all of this holds of what may follow where the line stands
+-- all of this holds of all commands that may come where the line stands
 pub record IsPromised (d : Database) (line : Line) : Type 0 where
   pub orderly : RunsAreOrderly d line
   pub changes : ChangesAreEntered d line
@@ -193,16 +218,18 @@ pub record IsPromised (d : Database) (line : Line) : Type 0 where
   pub undos_go_on : UndosGoOn d line
   pub redos_go_on : RedosGoOn d line
 
--- at each place of a list of commands that is played: the first ones lead to a
--- line of the database, the others go on from there, and there all of this holds
+-- at each place of a list of commands that is played: the first ones lead to a line of the
+-- database, in each state of which all that is up has all that it needs up; the others go on from
+-- there, and there all of this holds
 abbrev pub IsPromisedAllAlong : Database → Line → List Command → List (Result Reported Refusal) →
     Line → Type 0
 IsPromisedAllAlong d line commands answers new =
     (k : ℕ) → (here : Line) × IsLineOf d here × Plays d line (take k commands) (take k answers) here
     × Plays d here (drop k commands) (drop k answers) new × IsPromised d here
 
--- the headline: for every database and every line of it, commands that are played one after the
--- other, each with whatever events, are promised all of this at each place where the line stands
+-- the headline: for every database and every line of it, commands are played, each with whatever
+-- events: after each number of them, none included, all of this is promised of what comes next;
+-- it is of the model alone, and the contract of `Session::play` (`rc_session`) says it of the code
 abbrev pub Headline : Type 0
 Headline = (d : Database) (line new : Line) (commands : List Command)
     (answers : List (Result Reported Refusal)) →

@@ -1,7 +1,7 @@
 -- States, edits of bundles, the entries between states, and the moves of a line.
 use Rattle.std.specs.Prelude.{◌≡◌, ◌≢◌, ◌↔◌, ℕ, Bool, List, map, Contains, Option, ◌≤◌, suc, false, length, All, Some, None, ◌<◌, ◌^◌, [], ◌∷◌, ◌++◌, slice_get, ltb, if◌then◌else◌, ◌⊎◌}
-use Rattle.rc_model.specs.Names.{IsInByteOrder, Holds, Has, Lists}
-use Rattle.rc_model.specs.Database.{Bundles, value_of, names_of, IsChangedAt, Selected, IsKnown, IsFirst, IsUnknownAt, IsTable}
+use Rattle.rc_model.specs.Names.{IsInByteOrder, Holds, Has, IsAscending}
+use Rattle.rc_model.specs.Database.{Bundles, value_of, Selected, IsKnown, IsFirst, IsUnknownAt, IsTable, IsBundle}
 use Rattle.rc_model.specs.declared.BundleFault.{BundleFault}
 use Rattle.rc_model.specs.declared.BundleFault.TheVariants.{IsAtomic, Exists, Missing, Unknown, Memory, Full}
 
@@ -11,7 +11,7 @@ pub record State : Type 0 where
   pub live : List Bool
   pub table : Bundles
 
--- a name whose set alters, with the set before and the set after; none where the name is no bundle
+-- a name whose set changes, with the set before and the set after; none where it is no bundle's
 pub record Alteration : Type 0 where
   pub name : List ℕ
   pub before : Option (List Bool)
@@ -27,8 +27,8 @@ pub record IsAlteration (old new : Bundles) (a : Alteration) : Type 0 where
   pub after : value_of new a.name ≡ a.after
   pub differs : a.before ≢ a.after
 
--- the edit from one table to another: each alteration
--- once, in byte order of the names, and nothing else
+-- the difference of two tables, called an edit as is the command that makes
+-- one: each alteration once, in byte order of the names, and nothing else
 pub record IsEdit (old new : Bundles) (edit : List Alteration) : Type 0 where
   pub order : IsInByteOrder (names_altered edit)
   pub same : (a : Alteration) → Contains edit a ↔ IsAlteration old new a
@@ -41,9 +41,12 @@ alteration_back a = record { name = a.name; before = a.after; after = a.before }
 abbrev pub edit_back : List Alteration → List Alteration
 edit_back edit = map alteration_back edit
 
--- the name of a bundle
-abbrev pub IsBundle : Bundles → List ℕ → Type 0
-IsBundle table name = Contains (names_of table) name
+-- the new table gives the name this value, where none means
+-- that it is no bundle, and each other name the one that it had
+pub record IsChangedAt (old : Bundles) (name : List ℕ) (value : Option (List Bool))
+    (new : Bundles) : Type 0 where
+  pub here : value_of new name ≡ value
+  pub others : (other : List ℕ) → other ≢ name → value_of new other ≡ value_of old other
 
 -- a name is defined: from now on it has the services that the
 -- contents stood for in the old table, and no other name alters
@@ -65,8 +68,8 @@ pub record MayBeDefined (names : List (List ℕ)) (table : Bundles) (name : List
   pub no_service : Contains names name → ⊥
   pub fresh : force ≡ false → IsBundle table name → ⊥
 
--- nothing keeps a bundle from being defined: its name may
--- be, its contents are names, and there is room for it
+-- nothing keeps a bundle from being defined: its name may be, its
+-- contents are names of something, and there is room for it
 pub record CanAdd (names : List (List ℕ)) (table : Bundles) (name : List ℕ)
     (contents : List (List ℕ)) (force : Bool) : Type 0 where
   pub name_may : MayBeDefined names table name force
@@ -80,8 +83,8 @@ pub record CanDelete (names : List (List ℕ)) (table : Bundles) (words : List (
   pub no_service : All (λ word. Contains names word → ⊥) words
   pub there : force ≡ false → All (IsBundle table) words
 
--- when a definition is refused, the first fault in this order; the name has place
--- 0 and the contents follow, and memory can run short only where all else is right
+-- when a definition is refused, the first fault in this order; the name has place 0 and
+-- the contents follow; `Memory`, of calls alone, comes only where all else is right
 abbrev pub IsAddFault : List (List ℕ) → Bundles → List ℕ → List (List ℕ) → Bool → BundleFault →
     Type 0
 IsAddFault names table name contents force (IsAtomic place) = (place ≡ 0) × Contains names name
@@ -96,8 +99,8 @@ IsAddFault names table name contents force Full =
 IsAddFault names table name contents force Memory = CanAdd names table name contents force
 IsAddFault names table name contents force (Missing place) = ⊥
 
--- when a removal is refused: the first word that is a service's, else the first
--- that is no bundle's; memory can run short only where all words are right
+-- when a removal is refused: the first word that is a service's, else, where nothing is forced,
+-- the first that is no bundle's; `Memory`, of calls alone, comes only where all words are right
 abbrev pub IsDeleteFault : List (List ℕ) → Bundles → List (List ℕ) → Bool → BundleFault → Type 0
 IsDeleteFault names table words force (IsAtomic place) = IsFirst (Contains names) words place
 IsDeleteFault names table words force (Missing place) =
@@ -119,6 +122,11 @@ pub record Entry : Type 0 where
 abbrev pub IsGained : List Bool → List Bool → ℕ → Type 0
 IsGained from to s = Has to s × (Has from s → ⊥)
 
+-- the ids of which this holds, each once, ascending
+pub record Lists (P : ℕ → Type 0) (ids : List ℕ) : Type 0 where
+  pub ascending : IsAscending ids
+  pub same : (s : ℕ) → Contains ids s ↔ P s
+
 -- the entry from one state to another names exactly what differs
 pub record IsEntry (from to : State) (entry : Entry) : Type 0 where
   pub raised : Lists (IsGained from.live to.live) entry.raised
@@ -130,8 +138,8 @@ abbrev pub entry_back : Entry → Entry
 entry_back entry =
     record { raised = entry.lowered; lowered = entry.raised; edit = edit_back entry.edit }
 
--- the states before the current one, it, and those after, oldest
--- first; the bound of a line is how many states it may have
+-- a zipper: the states before the current one, it, and those after, oldest
+-- first; its bound, other than that of a set, is how many states it may have
 pub record Line : Type 0 where
   pub before : List State
   pub current : State
@@ -146,6 +154,23 @@ states line = line.before ++ line.current ∷ line.after
 abbrev pub cursor : Line → ℕ
 cursor line = length line.before
 
+-- all but the last
+abbrev pub but_last : List State → List State
+but_last [] = []
+but_last (a ∷ []) = []
+but_last (a ∷ b ∷ rest) = a ∷ but_last (b ∷ rest)
+
+-- the line without its oldest state or, where that is the current one or beside
+-- it, without its newest; the first argument is `line.before`, to match on
+abbrev pub shorter : List State → Line → Line
+shorter [] line = record line { after = but_last line.after }
+shorter (a ∷ []) line = record line { after = but_last line.after }
+shorter (a ∷ b ∷ rest) line = record line { before = b ∷ rest }
+
+-- a line with more states than it may have is left with one less, and any other as it is
+abbrev pub within_bound : Line → Line
+within_bound line = if ltb line.bound (length (states line)) then shorter line.before line else line
+
 -- each state differs from the next one
 abbrev pub DifferInTurn : List State → Type 0
 DifferInTurn [] = Unit {0}
@@ -153,19 +178,19 @@ DifferInTurn (a ∷ []) = Unit {0}
 DifferInTurn (a ∷ b ∷ rest) = (a ≢ b) × DifferInTurn (b ∷ rest)
 
 -- states that a line may have: neighbours differ, all live sets
--- have this bound, and all tables are tables of bundles as said above
+-- have this length, and each table is one of bundles (`IsTable`)
 pub record AreStates (bound : ℕ) (all : List State) : Type 0 where
   pub differ : DifferInTurn all
   pub bounds : All (λ state. length state.live ≡ bound) all
   pub tables : All (λ state. IsTable state.table) all
 
--- how many states a line may have: at least three, so that the one which goes where
--- there would be one more (`within_bound`) never stands beside the current one
+-- how many states a line may have, a number of 32 bits: at least three, so that the
+-- one which `within_bound` drops is neither the current one nor beside it
 abbrev pub IsBound : ℕ → Type 0
 IsBound bound = (3 ≤ bound) × (bound < 2 ^ 32)
 
--- a line: its states are those that a line may have, all live sets as
--- long as that of the current one, and no more of them than there may be
+-- a line: its states are as `AreStates` says, all live sets as long as the
+-- current one; its bound is as `IsBound` says; and it has no more states than that
 pub record IsLine (line : Line) : Type 0 where
   pub held : AreStates (length line.current.live) (states line)
   pub bound : IsBound line.bound
@@ -177,37 +202,6 @@ pub record IsNext (line next : Line) : Type 0 where
   pub left : next.before ≡ line.before ++ line.current ∷ []
   pub reached : line.after ≡ next.current ∷ next.after
   pub bound : next.bound ≡ line.bound
-
--- the entry from a state of the line to the one after it
-abbrev pub IsEntryAt : Line → ℕ → Entry → Type 0
-IsEntryAt line place entry =
-    (a : State) × (b : State) × (slice_get (states line) place ≡ Some a)
-    × (slice_get (states line) (suc place) ≡ Some b) × IsEntry a b entry
-
--- the entry that leads to the current state
-abbrev pub IsEntryBefore : Line → Entry → Type 0
-IsEntryBefore line entry = (place : ℕ) × (cursor line ≡ suc place) × IsEntryAt line place entry
-
--- the entry that leads on from the current state
-abbrev pub IsEntryAfter : Line → Entry → Type 0
-IsEntryAfter line entry = IsEntryAt line (cursor line) entry
-
--- all but the last
-abbrev pub but_last : List State → List State
-but_last [] = []
-but_last (a ∷ []) = []
-but_last (a ∷ b ∷ rest) = a ∷ but_last (b ∷ rest)
-
--- the line, whose states before the current one are handed in too, without the first of
--- them or, where that stands beside the current one, or there is none, without its last
-abbrev pub shorter : List State → Line → Line
-shorter [] line = record line { after = but_last line.after }
-shorter (a ∷ []) line = record line { after = but_last line.after }
-shorter (a ∷ b ∷ rest) line = record line { before = b ∷ rest }
-
--- a line with more states than it may have is left with one less, and any other as it is
-abbrev pub within_bound : Line → Line
-within_bound line = if ltb line.bound (length (states line)) then shorter line.before line else line
 
 -- the line without what came after the current state, with one state more, and the cursor on it
 abbrev pub put_last : Line → State → Line
@@ -241,7 +235,8 @@ MovesByChange line live new = MovesTo line (with_live line live) new
 abbrev pub MovesByEdit : Line → Bundles → Line → Type 0
 MovesByEdit line table new = MovesTo line (with_table line table) new
 
--- a line with one more state between its current one and the next, and the cursor on it
+-- where the second line is the next of the first (`IsNext`): the line with
+-- this state between their two current ones, and the cursor on it
 abbrev pub put_between : Line → State → Line → Line
 put_between line end next =
     record { before = next.before; current = end; after = line.after; bound = line.bound }
@@ -264,3 +259,17 @@ MovesByRedo line live new = (on : Line) × IsNext line on × (((live ≡ on.curr
     ⊎ ((live ≢ on.current.live) × (live ≡ line.current.live) × (new ≡ line))
     ⊎ ((live ≢ on.current.live) × (live ≢ line.current.live)
     × (new ≡ within_bound (put_between line (with_live line live) on))))
+
+-- the entry from the state at this place of the line to the one after it
+abbrev pub IsEntryAt : Line → ℕ → Entry → Type 0
+IsEntryAt line place entry =
+    (a : State) × (b : State) × (slice_get (states line) place ≡ Some a)
+    × (slice_get (states line) (suc place) ≡ Some b) × IsEntry a b entry
+
+-- the entry that leads to the current state
+abbrev pub IsEntryBefore : Line → Entry → Type 0
+IsEntryBefore line entry = (place : ℕ) × (cursor line ≡ suc place) × IsEntryAt line place entry
+
+-- the entry that leads on from the current state
+abbrev pub IsEntryAfter : Line → Entry → Type 0
+IsEntryAfter line entry = IsEntryAt line (cursor line) entry

@@ -1,5 +1,5 @@
 -- Names of services and bundles, their byte order, and sets of services.
-use Rattle.std.specs.Prelude.{◌≢◌, ◌<◌, ◌≤◌, ℕ, List, length, All, IsTrue, slice_index, codes, nat_eq, ◌≡◌, AllPairs, Bool, true, false, slice_index_or, ◌↔◌, Contains}
+use Rattle.std.specs.Prelude.{◌≢◌, ◌<◌, ◌≤◌, ℕ, List, length, All, IsTrue, slice_index, codes, nat_eq, ◌≡◌, AllPairs, Bool, true, false, slice_index_or, ◌↔◌}
 use Rattle.std.specs.Str.{IsUtf8}
 use Rattle.std.specs.List.{starts_with}
 use Rattle.std.specs.Cmp.Lexicographic.{slice_cmp}
@@ -11,17 +11,17 @@ use Rattle.rc_model.specs.declared.TheConstants.{MAX_NAMES}
 abbrev pub IsNameByte : ℕ → Type 0
 IsNameByte byte = (32 < byte) × (byte ≢ 47) × (byte ≢ 127)
 
--- text of allowed bytes that begins with neither `-` nor `#`
+-- text of allowed bytes that begins with neither `-` (45) nor `#` (35)
 pub record HasNameBytes (text : List ℕ) : Type 0 where
   pub each : All IsNameByte text
   pub no_option : slice_index text 0 ≢ 45
   pub no_comment : slice_index text 0 ≢ 35
 
--- text that begins with `s6rc-`, as names for other uses do
+-- text that begins with `s6rc-`, a prefix that is reserved, as in s6-rc
 abbrev pub IsReserved : List ℕ → Type 0
 IsReserved text = IsTrue (starts_with nat_eq text (codes "s6rc-"))
 
--- 1 to 255 bytes of text, each of them allowed, the first neither `-` nor `#`, and not reserved
+-- 1 to 255 bytes of UTF-8, each of them allowed, the first neither `-` nor `#`, and not reserved
 pub record IsName (text : List ℕ) : Type 0 where
   pub some : 0 < length text
   pub short : length text ≤ 255
@@ -37,14 +37,14 @@ IsBefore a b = slice_cmp nat_cmp a b ≡ Less
 abbrev pub IsInByteOrder : List (List ℕ) → Type 0
 IsInByteOrder texts = AllPairs IsBefore texts
 
--- what a table of names has: names in byte order, at most 4,096 of them
+-- what the names of the services of a database are: in byte order, at most 4,096 of them
 pub record AreNames (texts : List (List ℕ)) : Type 0 where
   pub order : IsInByteOrder texts
   pub each : All IsName texts
   pub few : length texts ≤ MAX_NAMES
 
--- the set, a list with a truth value for each service, has this service, which is a number,
--- also called its id: its place among the names; the bound of a set is the length of the list
+-- a set is a list of truth values, one for each service, and its bound is the length of that list;
+-- it has a service, which is a number (its id, its place among the names), where true stands there
 abbrev pub Has : List Bool → ℕ → Type 0
 Has set s = slice_index_or set s false ≡ true
 
@@ -55,8 +55,3 @@ Holds set P = (s : ℕ) → Has set s ↔ P s
 -- each id is below all later ones, so each stands once
 abbrev pub IsAscending : List ℕ → Type 0
 IsAscending ids = AllPairs (λ a b. a < b) ids
-
--- the ids of which this holds, each once, ascending
-pub record Lists (P : ℕ → Type 0) (ids : List ℕ) : Type 0 where
-  pub ascending : IsAscending ids
-  pub same : (s : ℕ) → Contains ids s ↔ P s

@@ -27,22 +27,22 @@ IsWanted names table up ask s = Selected names table ask.words s ⊎ ((ask.all �
 abbrev pub IsEssentialUp : Database → (ℕ → Type 0) → ℕ → Type 0
 IsEssentialUp d up s = IsEssential d s × up s
 
--- what these essential services hold up: themselves, with all that they need
+-- what essential services that are up (`IsEssentialUp`) hold up: themselves, and all that they need
 abbrev pub IsHeldUp : List (List ℕ) → (ℕ → Type 0) → ℕ → Type 0
 IsHeldUp needs essential = UpFrom needs essential
 
--- what is to be up in the end, from what is up, the
--- essential services among that, and what is wanted
+-- what is to be up in the end, from who needs whom, what is up, the essential services
+-- among that, which way, whether what is not wanted goes, and what is wanted
 abbrev pub Target : List (List ℕ) → (ℕ → Type 0) → (ℕ → Type 0) → Mode → Bool → (ℕ → Type 0) → ℕ →
     Type 0
--- what is up, and the wanted with all that they need
+-- upwards: what is up, and the wanted with all that they need
 Target needs up essential Up false wanted s = up s ⊎ UpFrom needs wanted s
--- the wanted with all that they need, and what essential services hold up
+-- upwards with pruning: the wanted with all that they need, and what essential services hold up
 Target needs up essential Up true wanted s = UpFrom needs wanted s ⊎ IsHeldUp needs essential s
--- what is up; but of the wanted, and of what reaches them, only what is held up
+-- downwards: what is up; but of the wanted, and of what reaches them, only what is held up
 Target needs up essential Down prune wanted s =
     up s × (DownFrom needs wanted s → IsHeldUp needs essential s)
--- what is up, and is neither wanted nor reaches what is wanted
+-- downwards for all: what is up, and is neither wanted nor reaches what is wanted
 Target needs up essential DownAll prune wanted s = up s × (DownFrom needs wanted s → ⊥)
 
 -- what is told as kept: the essential services that stay up although they were to go
@@ -52,16 +52,12 @@ Kept needs essential Up true wanted s = essential s × (UpFrom needs wanted s �
 Kept needs essential Down prune wanted s = essential s × DownFrom needs wanted s
 Kept needs essential DownAll prune wanted s = ⊥
 
--- a plan as its four sets: what is up at first, what goes down, what comes up, what is kept
+-- a plan as its four sets: what is up before it, what goes down, what comes up, what is kept
 pub record PlanSets : Type 0 where
   pub opening : List Bool
   pub lower : List Bool
   pub raise : List Bool
   pub kept : List Bool
-
--- no service
-abbrev pub Nothing : ℕ → Type 0
-Nothing s = ⊥
 
 -- the plan goes from what is up to a target, by their two
 -- differences, and lists the services that it spares as kept
@@ -92,8 +88,8 @@ pub record CanPlan (names : List (List ℕ)) (table : Bundles) (ask : Ask) : Typ
   pub prunes : PrunesWrongly ask → ⊥
   pub known : All (IsKnown names table) ask.words
 
--- when a plan is refused, the first fault in this order;
--- memory can run short only where all else is right
+-- when a plan is refused, the first fault in this order; `Memory`, which calls give
+-- and no command of the headline, comes only where all else is right
 abbrev pub IsPlanFault : List (List ℕ) → Bundles → Ask → PlanFault → Type 0
 IsPlanFault names table ask PruneNeedsUp = PrunesWrongly ask
 IsPlanFault names table ask (Unknown place) =

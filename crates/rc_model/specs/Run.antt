@@ -21,7 +21,7 @@ pub record Course : Type 0 where
   pub raise : List Bool
   pub deadline : Option ℕ
 
--- the course that a plan gives
+-- the course that a plan gives: it starts from what is up before the plan, its `opening`
 abbrev pub course_of : List (List ℕ) → PlanSets → Option ℕ → Course
 course_of needs plan deadline =
     record {
@@ -32,14 +32,6 @@ course_of needs plan deadline =
       deadline = deadline;
     }
 
--- a service that the course is to move
-abbrev pub IsPlanned : Course → ℕ → Type 0
-IsPlanned c s = Has c.lower s ⊎ Has c.raise s
-
--- what is up at the end where all goes well
-abbrev pub TargetOf : Course → ℕ → Type 0
-TargetOf c s = (Has c.up s × (Has c.lower s → ⊥)) ⊎ Has c.raise s
-
 -- whether a transition went well
 abbrev pub is_success : Outcome → Bool
 is_success outcome.Ok = true
@@ -47,14 +39,15 @@ is_success (outcome.Failed status) = false
 is_success outcome.TimedOut = false
 is_success outcome.NotStarted = false
 
--- a service that is taken leaves where it stood
+-- a service that is taken leaves where it stood; in a run none is taken that is on its way
 abbrev pub after_take : Standing → Standing
 after_take Down = Rising
 after_take Up = Sinking
 after_take Rising = Rising
 after_take Sinking = Sinking
 
--- with success a service on its way arrives, otherwise it is back where it stood
+-- with success a service on its way arrives, otherwise it is back where
+-- it stood; in a run only what is on its way ends
 abbrev pub after_end : Bool → Standing → Standing
 after_end true Rising = Up
 after_end false Rising = Down
@@ -85,7 +78,7 @@ IsWorker w = (1 ≤ w) × (w ≤ 64)
 abbrev pub WasTaken : List Event → ℕ → Type 0
 WasTaken events s = (w : ℕ) × Contains events (Take w s)
 
--- the worker took the service and has not ended it
+-- the worker took the service and has not ended it; a run takes each once (`fresh`, below)
 abbrev pub IsHeldBy : List Event → ℕ → ℕ → Type 0
 IsHeldBy events w s =
     Contains events (Take w s) × ((o : Outcome) → Contains events (Done w s o) → ⊥)
@@ -120,15 +113,11 @@ pub record CanRise (c : Course) (events : List Event) (s : ℕ) : Type 0 where
   pub fresh : WasTaken events s → ⊥
   pub needs_up : (t : ℕ) → Needs c.needs s t → standing_of c events t ≡ Up
 
--- a service that is to move was never taken
-abbrev pub IsLeft : Course → List Event → ℕ → Type 0
-IsLeft c events s = IsPlanned c s × (WasTaken events s → ⊥)
-
 -- a service may be taken
 abbrev pub CanMove : Course → List Event → ℕ → Type 0
 CanMove c events s = CanSink c events s ⊎ CanRise c events s
 
--- an event may come after a list of events
+-- an event is legal after a list of events: it is enabled there
 abbrev pub IsLegal : Course → List Event → Event → Type 0
 IsLegal c events (Take w s) =
     IsWorker w × (IsStopped events → ⊥) × IsFree events w × CanMove c events s
@@ -136,27 +125,41 @@ IsLegal c events (Done w s o) = IsWorker w × IsHeldBy events w s
 IsLegal c events (Stop w m) =
     IsWorker w × (IsStopped events → ⊥) × ((d : ℕ) × (c.deadline ≡ Some d) × (d ≤ m))
 
--- each event is legal after those before it
+-- nothing may be taken, by any worker
+abbrev pub NoneTakes : Course → List Event → Type 0
+NoneTakes c events = (w s : ℕ) → IsLegal c events (Take w s) → ⊥
+
+-- a run, or trace: each event is legal after those before it
 abbrev pub IsRun : Course → List Event → Type 0
 IsRun c events =
     (k : ℕ) (event : Event) → slice_get events k ≡ Some event → IsLegal c (take k events) event
+
+-- a complete run: its events are legal, nothing is held after
+-- them, and it was stopped or has nothing left to take
+pub record IsSettled (c : Course) (events : List Event) : Type 0 where
+  pub run : IsRun c events
+  pub none_held : NoneHeld events
+  pub ended : IsStopped events ⊎ NoneTakes c events
+
+-- the service is live: up, or on its way down and so not yet down; in a settled run that is: up
+abbrev pub IsLive : Course → List Event → ℕ → Type 0
+IsLive c events s = (standing_of c events s ≡ Up) ⊎ (standing_of c events s ≡ Sinking)
 
 -- a service that is not down has all that it needs up
 abbrev pub IsStrictlyClosed : Course → List Event → Type 0
 IsStrictlyClosed c events =
     (s t : ℕ) → Needs c.needs s t → standing_of c events s ≢ Down → standing_of c events t ≡ Up
 
--- the service is live: it is up, or on its way down
-abbrev pub IsLive : Course → List Event → ℕ → Type 0
-IsLive c events s = (standing_of c events s ≡ Up) ⊎ (standing_of c events s ≡ Sinking)
+-- a service that the course is to move
+abbrev pub IsPlanned : Course → ℕ → Type 0
+IsPlanned c s = Has c.lower s ⊎ Has c.raise s
 
--- nothing may be taken, by any worker
-abbrev pub NoneTakes : Course → List Event → Type 0
-NoneTakes c events = (w s : ℕ) → IsLegal c events (Take w s) → ⊥
+-- a service that is to move was never taken; after a complete run it is
+-- reported as blocked or, where that was stopped, as untried
+abbrev pub IsLeft : Course → List Event → ℕ → Type 0
+IsLeft c events s = IsPlanned c s × (WasTaken events s → ⊥)
 
--- a run of legal events after which nothing is held,
--- and which was stopped or has nothing left to take
-pub record IsSettled (c : Course) (events : List Event) : Type 0 where
-  pub run : IsRun c events
-  pub none_held : NoneHeld events
-  pub ended : IsStopped events ⊎ NoneTakes c events
+-- what is up at the end where all goes well: of the course of a plan, the target that it goes to
+-- (`IsPlanTo`): of a change its `Target`, of an undo or redo what was live in the state it goes to
+abbrev pub TargetOf : Course → ℕ → Type 0
+TargetOf c s = (Has c.up s × (Has c.lower s → ⊥)) ⊎ Has c.raise s

@@ -1,11 +1,11 @@
 -- Commands, what each does to the line, what is reported of it, and when it is refused.
 use Rattle.std.specs.Prelude.{ℕ, Bool, List, [], ◌≡◌, ◌+◌, ◌-◌, ◌^◌, ◌==◌, if◌then◌else◌, min, length, Option, None, Some, ◌↔◌, true, false, ◌⊎◌, All, take, slice_get, ◌∷◌, Result, Ok, Err}
 use Rattle.rc_model.specs.declared.Event.{Event}
-use Rattle.rc_model.specs.Plan.{Ask, PlanSets, IsPlanTo, Nothing, IsPlanOf, CanPlan, IsPlanFault}
-use Rattle.rc_model.specs.Names.{Has, Holds, Lists}
+use Rattle.rc_model.specs.Plan.{Ask, PlanSets, IsPlanTo, IsPlanOf, CanPlan, IsPlanFault}
+use Rattle.rc_model.specs.Names.{Has, Holds}
 use Rattle.rc_model.specs.Database.{Database, Bundles, IsTable, HaveBound, AreApart}
 use Rattle.rc_model.specs.Run.{Course, IsLive, IsSettled, HasFailed, IsStopped, IsLeft, course_of, IsLegal, IsRun}
-use Rattle.rc_model.specs.Line.{Line, IsNext, MovesByChange, MovesByUndo, MovesByRedo, IsGained, Defines, Removes, CanAdd, CanDelete, State, IsLine, states, MovesByEdit, IsAddFault, IsDeleteFault}
+use Rattle.rc_model.specs.Line.{Line, IsNext, MovesByChange, MovesByUndo, MovesByRedo, IsGained, Defines, Removes, CanAdd, CanDelete, State, IsLine, states, MovesByEdit, IsAddFault, IsDeleteFault, Lists}
 use Rattle.rc_model.specs.Graph.{IsClosed}
 use Rattle.rc_model.specs.declared.Refusal.{Refusal}
 use Rattle.rc_model.specs.declared.Refusal.TheVariants.{BadEvent, NotSettled, PruneNeedsUp, Unknown, IsAtomic, Exists, Missing, Full, NothingToUndo, NothingToRedo}
@@ -29,31 +29,18 @@ events_of (Redo limit events) = events
 events_of (Add name contents force) = []
 events_of (Delete words force) = []
 
--- a command that a run carries out: a change, an undo or a redo
-abbrev pub HasRun : Command → Type 0
-HasRun (Add name contents force) = ⊥
-HasRun (Delete words force) = ⊥
-HasRun other = Unit {0}
-
--- an undo
-abbrev pub IsUndo : Command → Type 0
-IsUndo (Undo limit events) = Unit {0}
-IsUndo other = ⊥
-
--- a redo
-abbrev pub IsRedo : Command → Type 0
-IsRedo (Redo limit events) = Unit {0}
-IsRedo other = ⊥
-
--- the moment from which a run that begins at `start` may be stopped: none without a
--- limit, and no later than the last moment that there is; in these modules `start` is 0, since
--- commands bring their events and no clock: each stop that is legal from a later start is legal
--- then, and so are earlier ones, so nothing is said here of how long was waited
+-- the moment from which a run may be stopped: its start and the limit, none without a limit, and
+-- at most the last moment that there is; a command that brings its events starts at 0, so that
+-- each stop is legal that the clock of a call may allow: how long was waited is not said
 abbrev pub deadline_of : ℕ → ℕ → Option ℕ
 deadline_of start limit = if limit == 0 then None else Some (min (start + limit) (2 ^ 64 - 1))
 
--- the way from some live services to others: the plan between them, which
--- spares no essential service, and a deadline only where they differ
+-- no service: an undo or a redo spares none
+abbrev pub Nothing : ℕ → Type 0
+Nothing s = ⊥
+
+-- the way of an undo or redo from some live services to others: the plan between them, which
+-- spares none as essential; where nothing is to move it has no deadline, other than a change
 pub record IsWay (from to : List Bool) (start limit : ℕ) (plan : PlanSets)
     (deadline : Option ℕ) : Type 0 where
   pub leads : IsPlanTo from (Has to) Nothing plan
@@ -102,9 +89,8 @@ pub record Reported : Type 0 where
   pub stopped : Bool
   pub trace : List Event
 
--- what is reported of a run after which these services are live: what
--- was live before it, the two differences, what failed, what was never taken (blocked or,
--- where the run was stopped, untried), what was kept, whether it was stopped, and its events
+-- what is reported of a run after which these services are live: each part is what `Reported`
+-- calls it, of the course, the plan and the events
 pub record IsReportOf (c : Course) (plan : PlanSets) (events : List Event) (live : List Bool)
     (report : Reported) : Type 0 where
   pub opening : report.opening ≡ c.up
@@ -116,34 +102,6 @@ pub record IsReportOf (c : Course) (plan : PlanSets) (events : List Event) (live
   pub kept : Lists (Has plan.kept) report.kept
   pub stopped : (report.stopped ≡ true) ↔ IsStopped events
   pub trace : report.trace ≡ events
-
--- what is reported of an edit: nothing but what is live
-abbrev pub edit_report : List Bool → Reported
-edit_report live =
-    record {
-      opening = live;
-      lowered = [];
-      raised = [];
-      failed = [];
-      blocked = [];
-      untried = [];
-      kept = [];
-      stopped = false;
-      trace = [];
-    }
-
--- a state of a database: a live set and bundles of its services,
--- the live set closed, and no bundle with the name of a service
-pub record IsStateOf (d : Database) (s : State) : Type 0 where
-  pub bound : length s.live ≡ length d.names
-  pub closed : IsClosed d.needs (Has s.live)
-  pub sets : HaveBound (length d.names) s.table
-  pub apart : AreApart d.names s.table
-
--- a line of states of a database
-pub record IsLineOf (d : Database) (line : Line) : Type 0 where
-  pub is_line : IsLine line
-  pub each : All (IsStateOf d) (states line)
 
 -- a change, undo or redo is carried out: the events that it brings are a settled run of its
 -- task, from what is live; the line moves once, by what is live after them; and this is reported
@@ -165,7 +123,23 @@ EditsTable d old (Delete words force) new =
     CanDelete d.names old words force × Removes old words new
 EditsTable d old other new = ⊥
 
--- an edit is made: the line moves once, by the new bundles, and what is live is reported
+-- what is reported of an edit: nothing but what is live
+abbrev pub edit_report : List Bool → Reported
+edit_report live =
+    record {
+      opening = live;
+      lowered = [];
+      raised = [];
+      failed = [];
+      blocked = [];
+      untried = [];
+      kept = [];
+      stopped = false;
+      trace = [];
+    }
+
+-- an edit is made: its new bundles are a table, the line moves once, by these, and what is live
+-- is reported
 pub record DoesByEdit (d : Database) (line : Line) (command : Command) (report : Reported)
     (new : Line) : Type 0 where
   pub table : Bundles
@@ -174,7 +148,7 @@ pub record DoesByEdit (d : Database) (line : Line) (command : Command) (report :
   pub moved : MovesByEdit line table new
   pub is_report : report ≡ edit_report line.current.live
 
--- a command is done where the line stands
+-- a command is done where the line stands: the transition relation
 abbrev pub Does : Database → Line → Command → Reported → Line → Type 0
 Does d line command report new =
     DoesByRun d line command report new ⊎ DoesByEdit d line command report new
@@ -229,16 +203,29 @@ abbrev pub Refuses : Database → Line → Command → Refusal → Type 0
 Refuses d line command refusal =
     IsOwnFault d line command refusal ⊎ IsRunFault d line command refusal
 
--- the answer to a command, and the line from then on:
--- it is done, or it is refused and the line stays
+-- the answer to a command, and the line from then on: it is done, or it is
+-- refused and the line stays; `NotEdit`, `Strange` and `Memory`, of calls alone, are none here
 abbrev pub Answers : Database → Line → Command → Result Reported Refusal → Line → Type 0
 Answers d line command (Ok report) new = Does d line command report new
 Answers d line command (Err refusal) new = Refuses d line command refusal × (new ≡ line)
 
--- the answers to commands, one after the other, and the line from then on
+-- an execution: the answers to commands, one after the other, and the line from then on
 abbrev pub Plays : Database → Line → List Command → List (Result Reported Refusal) → Line → Type 0
 Plays d line [] [] new = new ≡ line
 Plays d line (command ∷ commands) (answer ∷ answers) new =
     (next : Line) × Answers d line command answer next × Plays d next commands answers new
 Plays d line [] (answer ∷ answers) new = ⊥
 Plays d line (command ∷ commands) [] new = ⊥
+
+-- a state of a database: a live set and bundles of its services, all that a live service needs
+-- live, and no bundle with the name of a service; that its table is one is part of `IsLine`
+pub record IsStateOf (d : Database) (s : State) : Type 0 where
+  pub bound : length s.live ≡ length d.names
+  pub closed : IsClosed d.needs (Has s.live)
+  pub sets : HaveBound (length d.names) s.table
+  pub apart : AreApart d.names s.table
+
+-- a line of states of a database: the invariant of a session
+pub record IsLineOf (d : Database) (line : Line) : Type 0 where
+  pub is_line : IsLine line
+  pub each : All (IsStateOf d) (states line)

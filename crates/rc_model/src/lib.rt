@@ -7,7 +7,7 @@
 use std::alloc::AllocError;
 use thiserror::Error;
 
-/// The most names that a table holds.
+/// The most services that a database has; of bundles it has no more than that either.
 pub const MAX_NAMES: u16 = 4096;
 
 /// What a name stands for.
@@ -126,31 +126,6 @@ pub enum Standing {
     Sinking,
 }
 
-/// Why an undo, a redo or an edit was not begun on a line of states. Nothing has changed.
-#[derive(Clone, Copy, PartialEq, Eq, Debug, Error)]
-pub enum LineFault {
-    /// The current state is the first.
-    #[error("there is nothing to undo")]
-    NothingToUndo = 1,
-    /// The current state is the last.
-    #[error("there is nothing to redo")]
-    NothingToRedo = 2,
-    /// A growth was refused.
-    #[error("out of memory")]
-    Memory = 3,
-}
-
-impl From<AllocError> for LineFault {
-    ghost use Rattle.std.specs.Prelude.{◌≡◌};
-    ghost use Rattle.rc_model.specs.declared.LineFault.TheVariants.{Memory};
-
-    ghost from_gives = { λ _ fault. fault ≡ Memory };
-
-    fn from(_: AllocError) -> LineFault {
-        LineFault::Memory
-    }
-}
-
 /// Why a command is refused. Nothing has changed then.
 #[derive(Clone, Copy, PartialEq, Eq, Debug, Error)]
 pub enum Refusal {
@@ -179,8 +154,8 @@ pub enum Refusal {
     NothingToUndo,
     #[error("there is nothing to redo")]
     NothingToRedo,
-    /// Services moved between the two states. As the two below it is in no answer of the eight
-    /// modules: calls that take back edits alone give it.
+    /// Services moved between the two states. Only a call that takes back an edit, and no run, gives
+    /// this. No answer of the eight modules is this, `Strange` or `Memory`.
     #[error("services moved between the two states")]
     NotEdit,
     /// The session is poisoned.
@@ -213,6 +188,32 @@ impl From<PlanFault> for Refusal {
             PlanFault::Unknown(place) => Refusal::Unknown(place),
             PlanFault::Memory => Refusal::Memory,
         }
+    }
+}
+
+/// Why an undo, a redo or an edit was not begun on a line of states. Nothing has changed. It is in
+/// none of the eight modules: calls below a session give it.
+#[derive(Clone, Copy, PartialEq, Eq, Debug, Error)]
+pub enum LineFault {
+    /// The current state is the first.
+    #[error("there is nothing to undo")]
+    NothingToUndo = 1,
+    /// The current state is the last.
+    #[error("there is nothing to redo")]
+    NothingToRedo = 2,
+    /// A growth was refused.
+    #[error("out of memory")]
+    Memory = 3,
+}
+
+impl From<AllocError> for LineFault {
+    ghost use Rattle.std.specs.Prelude.{◌≡◌};
+    ghost use Rattle.rc_model.specs.declared.LineFault.TheVariants.{Memory};
+
+    ghost from_gives = { λ _ fault. fault ≡ Memory };
+
+    fn from(_: AllocError) -> LineFault {
+        LineFault::Memory
     }
 }
 

@@ -2,7 +2,8 @@
 use Rattle.std.proofs.Common.{◌≡◌, ℕ, ◌<◌, inl, inr, List, Bool, [], ◌∷◌, ◌++◌, None, Option, Some, length, All, slice_index_or, sym, subst, arith}
 use Rattle.std.proofs.lemmas.List.Elements.{All-contains_itself}
 use Rattle.std.proofs.lemmas.Option.{slice_get_within}
-use Rattle.rc_model.specs.Names.{Has, Lists}
+use Rattle.rc_model.specs.Line.{Lists}
+use Rattle.rc_model.specs.Names.{Has}
 use Rattle.rc_model.proofs.SetMembers.{has_within}
 use Rattle.rc_model.specs.Graph.{EachNeedsNext, Needs}
 use Rattle.rc_graph.specs.declared.Way.{Way}
@@ -12,14 +13,9 @@ use Rattle.rc_graph.proofs.RowLemmas.{needer_known}
 use Rattle.rc_model.specs.Database.{value_of, Database, IsDatabase, Selected}
 use Rattle.rc_db.proofs.Words.{bound_of_value}
 use Rattle.rc_queries.specs.DbAnswer.{IsFound}
-use Rattle.rc_base.specs.Base.{Spells}
-use Rattle.rc_queries.specs.DbFaults.{IfRead, IsDbRefused, IsOfQuery, IsQuestionFault, IsUnanswered}
-use Rattle.rc_queries.specs.declared.db_fault.DbFault.{DbFault}
-use Rattle.rc_queries.specs.declared.db_fault.DbFault.TheVariants.{OfText, OfQuery, OfLive, Memory}
-use Rattle.rc_asked.specs.DbAsked.{DbAsk}
-use Rattle.rc_asked.specs.Query.{Question}
-use Rattle.rc_asked.specs.declared.db_words.NamesQuery.{NamesQuery}
-use Rattle.rc_asked.specs.declared.db_words.NamesQuery.TheVariants.{Atomics, Dependencies, AllDependencies}
+use Rattle.rc_queries.specs.DbFaults.{IfRead}
+use Rattle.rc_command.specs.declared.query_words.NamesQuery.{NamesQuery}
+use Rattle.rc_command.specs.declared.query_words.NamesQuery.TheVariants.{Atomics, Dependencies, AllDependencies}
 
 -- all of a list is below a bound, where that is so of all that it lists
 pub listed_within : (P : ℕ → Type 0) (ids list : List ℕ) (names more : List (List ℕ)) → Lists P ids → list ≡ ids → more ≡ names → ((s : ℕ) → P s → s < length names) → All (λ s. s < length more) list
@@ -78,17 +74,3 @@ pub if_read_then : (base remaining : Option (List ℕ)) (P Q : List ℕ → Type
 if_read_then (Some bytes) remaining P Q then h = then [] h
 if_read_then None None P Q then h = tt
 if_read_then None (Some input) P Q then h = then input h
-
--- a refusal of the question is one of the answer
-pub question_unanswered : (d : Database) (question : Question) (shown : Option (List ℕ)) (fault : DbFault) → IsOfQuery (IsQuestionFault d question) fault → IsUnanswered d question shown fault
-question_unanswered d question shown (OfText fault) never = never
-question_unanswered d question shown (OfQuery fault) is = is
-question_unanswered d question shown (OfLive fault) never = absurd never
-question_unanswered d question shown Memory is = is
-
--- a refusal of the answer is one of what is asked
-pub unanswered_refused : (fault : DbFault) (ask : DbAsk) (base shown : Option (List ℕ)) (input : List ℕ) (d : Database) (rest : List ℕ) → Spells base input d rest → IsUnanswered d ask.question shown fault → IsDbRefused fault ask base shown input
-unanswered_refused (OfText fault) ask base shown input d rest spelled never = absurd never
-unanswered_refused (OfQuery fault) ask base shown input d rest spelled is = (d, rest, spelled, is)
-unanswered_refused (OfLive fault) ask base shown input d rest spelled is = (d, rest, spelled, is)
-unanswered_refused Memory ask base shown input d rest spelled is = tt

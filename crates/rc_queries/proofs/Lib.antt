@@ -1,6 +1,6 @@
-pub mod RunLemmas
-pub mod NamedLemmas
-pub mod PlanLemmas
-pub mod DbLemmas
-pub mod OpenedLemmas
+mod RunLemmas
+mod NamedLemmas
+mod PlanLemmas
+mod DbLemmas
+mod OpenedLemmas
 mod Telling

@@ -1,28 +1,35 @@
--- What is printed for a question.
-use Rattle.std.specs.Prelude.{◌≡◌, ℕ, Bool, true, false, List, [], All, Option, None, Some, codes, slice_get}
+-- What is printed for a question, and when it is refused.
+use Rattle.std.specs.Prelude.{◌≡◌, ◌≢◌, ℕ, Bool, true, false, List, [], All, Option, None, Some, codes, slice_get}
 use Rattle.std.specs.Fmt.{decimal}
 use Rattle.clap.specs.Words.{Text}
 use Rattle.rc_model.specs.declared.Kind.{Kind}
 use Rattle.rc_model.specs.declared.Kind.TheVariants.{Oneshot, Longrun, Bundle}
-use Rattle.rc_model.specs.Names.{Has, Lists}
+use Rattle.rc_model.specs.Names.{Has}
 use Rattle.rc_graph.specs.declared.Way.{Way}
 use Rattle.rc_model.specs.Database.{value_of, Database, IsKnown, Selected, Service}
 use Rattle.rc_db.specs.Pipeline.{InPipelineOf}
 use Rattle.rc_names.specs.Names.{ListsNames}
 use Rattle.rc_db.specs.Queries.{IsKindOf, IsNextTo, IsServiceNamed, IsShown, IsWithAll}
 use Rattle.rc_db.specs.Service.{limit_of, script_of}
+use Rattle.rc_db.specs.QueryFaults.{AnyName, Asked, IsNamesFault, IsQueryFault, OfBundle, OfLongrun, OfOneshot, OfService}
+use Rattle.rc_db.specs.declared.fault.QueryFault.{QueryFault}
+use Rattle.rc_db.specs.declared.fault.QueryFault.TheVariants as wrong
 use Rattle.rc_db.specs.declared.which.Which.{Which}
-use Rattle.rc_model.specs.Line.{Line}
+use Rattle.rc_model.specs.Line.{Line, Lists}
+use Rattle.rc_livetext.specs.LiveFaults.{IsLiveFault}
+use Rattle.rc_livetext.specs.declared.fault.LiveFault.TheVariants as live
 use Rattle.rc_livetext.specs.Spelling as texts
 use Rattle.rc_render.specs.DotText.{dot_text}
 use Rattle.rc_render.specs.Lines.{line, name_lines, names_at}
 use Rattle.rc_base.specs.Base.{Spells}
 use Rattle.rc_asked.specs.DbAsked.{AsksDb, DbAsk}
 use Rattle.rc_asked.specs.Query.{Check, Dot, ListOf, OfName, OfNames, Question}
-use Rattle.rc_asked.specs.declared.db_words.NameQuery.{NameQuery}
-use Rattle.rc_asked.specs.declared.db_words.NameQuery.TheVariants as of_name
-use Rattle.rc_asked.specs.declared.db_words.NamesQuery.{NamesQuery}
-use Rattle.rc_asked.specs.declared.db_words.NamesQuery.TheVariants as of_names
+use Rattle.rc_command.specs.declared.query_words.NameQuery.{NameQuery}
+use Rattle.rc_command.specs.declared.query_words.NameQuery.TheVariants as of_name
+use Rattle.rc_command.specs.declared.query_words.NamesQuery.{NamesQuery}
+use Rattle.rc_command.specs.declared.query_words.NamesQuery.TheVariants as of_names
+use Rattle.rc_queries.specs.declared.db_fault.DbFault.{DbFault}
+use Rattle.rc_queries.specs.declared.db_fault.DbFault.TheVariants.{OfText, OfQuery, OfLive, Memory}
 
 -- the names of the services of which this holds, one a line, in byte order
 abbrev pub IsListed : Database → (ℕ → Type 0) → List ℕ → Type 0
@@ -72,15 +79,27 @@ IsNameAnswer d way of_name.Contents = IsContentsText d
 IsNameAnswer d way of_name.Pipeline = IsPipelineText d
 IsNameAnswer d way of_name.Script = IsScriptText d way
 
+-- what a query asks of its one name
+abbrev pub asked_by : NameQuery → Asked
+asked_by of_name.Kind = AnyName
+asked_by of_name.Limit = OfService
+asked_by of_name.Flags = OfService
+asked_by of_name.Contents = OfBundle
+asked_by of_name.Pipeline = OfLongrun
+asked_by of_name.Script = OfOneshot
+
 -- the services that a query finds for those that names stand for
 abbrev pub IsFound : Database → Way → NamesQuery → (ℕ → Type 0) → ℕ → Type 0
 IsFound d way of_names.Atomics In = In
 IsFound d way of_names.Dependencies In = IsNextTo d.needs way In
 IsFound d way of_names.AllDependencies In = IsWithAll d.needs way In
 
--- the answer of a query of any number of names
-abbrev pub IsNamesAnswer : Database → Way → NamesQuery → List Text → List ℕ → Type 0
-IsNamesAnswer d way query names text = All (IsKnown d.names d.table) names × IsListed d (IsFound d way query (Selected d.names d.table names)) text
+-- the answer of a query of any number of names: each is one, and the services that it finds are
+-- listed
+pub record IsNamesAnswer (d : Database) (way : Way) (query : NamesQuery) (names : List Text)
+    (text : List ℕ) : Type 0 where
+  pub known : All (IsKnown d.names d.table) names
+  pub found : IsListed d (IsFound d way query (Selected d.names d.table names)) text
 
 -- what is live where the text of a session stands, and nothing without one
 abbrev pub IsLiveBy : Database → Option (List ℕ) → List Bool → Type 0
@@ -107,6 +126,33 @@ IsAnswerOf d ask shown (OfNames query names) text = IsNamesAnswer d ask.way quer
 -- the answer of what is asked
 abbrev pub IsAnswerTo : Database → DbAsk → Option (List ℕ) → List ℕ → Type 0
 IsAnswerTo d ask shown text = IsAnswerOf d ask shown ask.question text
+
+-- a fault that is one of a query, or out of memory
+abbrev pub IsOfQuery : (QueryFault → Type 0) → DbFault → Type 0
+IsOfQuery Is (OfText fault) = ⊥
+IsOfQuery Is (OfQuery fault) = (fault ≢ wrong.Memory) × Is fault
+IsOfQuery Is (OfLive fault) = ⊥
+IsOfQuery Is Memory = Unit {0}
+
+-- a fault of the text of the session that is to be shown: it is none of the database; or out of
+-- memory
+abbrev pub IsShownFault : Database → Option (List ℕ) → DbFault → Type 0
+IsShownFault d shown (OfText fault) = ⊥
+IsShownFault d shown (OfQuery fault) = ⊥
+IsShownFault d None (OfLive fault) = ⊥
+IsShownFault d (Some bytes) (OfLive fault) = (fault ≢ live.Memory) × IsLiveFault d bytes fault
+IsShownFault d shown Memory = Unit {0}
+
+-- when a question has no answer in a database: a picture where the session that it is to show is
+-- refused, a query of names where they are, and each where memory runs out
+abbrev pub IsUnanswered : Database → Option (List ℕ) → Question → DbFault → Type 0
+IsUnanswered d shown Check fault = fault ≡ Memory
+IsUnanswered d shown Dot fault = IsShownFault d shown fault
+IsUnanswered d shown (ListOf which) fault = fault ≡ Memory
+IsUnanswered d shown (OfName query name) fault =
+    IsOfQuery (IsQueryFault d (asked_by query) name) fault
+IsUnanswered d shown (OfNames query names) fault =
+    IsOfQuery (IsNamesFault d.names d.table names) fault
 
 -- what is written for what is asked, in the database that is spelled, where this is the text of the session to show
 pub record IsAnswerFor (ask : DbAsk) (base shown : Option (List ℕ)) (input output : List ℕ) : Type 0 where

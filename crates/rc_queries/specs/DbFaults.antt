@@ -2,7 +2,6 @@
 use Rattle.std.specs.Prelude.{◌≡◌, ◌≢◌, ◌⊎◌, ℕ, List, [], Option, None, Some, IfSome, codes, slice_get, unwrap_or}
 use Rattle.clap.specs.Words.{Text}
 use Rattle.rc_model.specs.Database.{Database}
-use Rattle.rc_db.specs.QueryFaults.{AnyName, Asked, IsNamesFault, IsQueryFault, OfBundle, OfLongrun, OfOneshot, OfService}
 use Rattle.rc_db.specs.declared.fault.QueryFault.{QueryFault}
 use Rattle.rc_db.specs.declared.fault.QueryFault.TheVariants as wrong
 use Rattle.rc_dbtext.specs.declared.fault.TextFault.{TextFault}
@@ -11,58 +10,27 @@ use Rattle.rc_base.specs.Base.{IsTextFault, Spells}
 use Rattle.rc_base.specs.LiveFaultWord.{live_word}
 use Rattle.rc_base.specs.TextFaultWord.{text_word}
 use Rattle.rc_base.specs.UnknownWord.{unknown_word}
-use Rattle.rc_livetext.specs.LiveFaults.{IsLiveFault}
 use Rattle.rc_livetext.specs.declared.fault.LiveFault.{LiveFault}
 use Rattle.rc_livetext.specs.declared.fault.LiveFault.TheVariants as live
 use Rattle.rc_asked.specs.DbAsked.{AsksDb, DbAsk}
 use Rattle.rc_streams.specs.Input.{AppendsFront, fault_line}
-use Rattle.rc_asked.specs.Query.{Check, Dot, ListOf, OfName, OfNames, Question, names_in}
+use Rattle.rc_asked.specs.Query.{Question, names_in}
+use Rattle.rc_queries.specs.DbAnswer.{IsUnanswered}
 use Rattle.rc_queries.specs.declared.db_fault.DbFault.{DbFault}
 use Rattle.rc_queries.specs.declared.db_fault.DbFault.TheVariants.{OfText, OfQuery, OfLive, Memory}
-use Rattle.rc_asked.specs.declared.db_words.NameQuery.{NameQuery}
-use Rattle.rc_asked.specs.declared.db_words.NameQuery.TheVariants as of_name
 
--- what a query asks of its one name
-abbrev pub asked_by : NameQuery → Asked
-asked_by of_name.Kind = AnyName
-asked_by of_name.Limit = OfService
-asked_by of_name.Flags = OfService
-asked_by of_name.Contents = OfBundle
-asked_by of_name.Pipeline = OfLongrun
-asked_by of_name.Script = OfOneshot
-
--- when a question is refused, out of memory aside
-abbrev pub IsQuestionFault : Database → Question → QueryFault → Type 0
-IsQuestionFault d Check fault = ⊥
-IsQuestionFault d Dot fault = ⊥
-IsQuestionFault d (ListOf which) fault = ⊥
-IsQuestionFault d (OfName query name) fault = IsQueryFault d (asked_by query) name fault
-IsQuestionFault d (OfNames query names) fault = IsNamesFault d.names d.table names fault
-
--- a fault that is one of a query, or out of memory
-abbrev pub IsOfQuery : (QueryFault → Type 0) → DbFault → Type 0
-IsOfQuery Is (OfText fault) = ⊥
-IsOfQuery Is (OfQuery fault) = (fault ≢ wrong.Memory) × Is fault
-IsOfQuery Is (OfLive fault) = ⊥
-IsOfQuery Is Memory = Unit {0}
-
--- when the text of a session is refused, out of memory aside: it is none of the database
-abbrev pub IsShownFault : Database → Option (List ℕ) → LiveFault → Type 0
-IsShownFault d None fault = ⊥
-IsShownFault d (Some bytes) fault = (fault ≢ live.Memory) × IsLiveFault d bytes fault
-
--- when there is no answer in a database: the question is refused, or the session that a picture is to show
-abbrev pub IsUnanswered : Database → Question → Option (List ℕ) → DbFault → Type 0
-IsUnanswered d question shown (OfText fault) = ⊥
-IsUnanswered d question shown (OfQuery fault) = (fault ≢ wrong.Memory) × IsQuestionFault d question fault
-IsUnanswered d question shown (OfLive fault) = (question ≡ Dot) × IsShownFault d shown fault
-IsUnanswered d question shown Memory = Unit {0}
+-- a fault that is one of the database text, or out of memory
+abbrev pub IsOfText : (TextFault → Type 0) → DbFault → Type 0
+IsOfText Is (OfText fault) = (fault ≢ text.Memory) × Is fault
+IsOfText Is (OfQuery fault) = ⊥
+IsOfText Is (OfLive fault) = ⊥
+IsOfText Is Memory = Unit {0}
 
 -- when each refusal comes: those of the text, and then those of the answer
 abbrev pub IsDbRefused : DbFault → DbAsk → (base shown : Option (List ℕ)) → List ℕ → Type 0
-IsDbRefused (OfText fault) ask base shown input = (fault ≢ text.Memory) × IsTextFault base input fault
-IsDbRefused Memory ask base shown input = Unit {0}
-IsDbRefused fault ask base shown input = (d : Database) × (rest : List ℕ) × Spells base input d rest × IsUnanswered d ask.question shown fault
+IsDbRefused fault ask base shown input = IsOfText (IsTextFault base input) fault
+    ⊎ ((d : Database) × (rest : List ℕ) × Spells base input d rest
+    × IsUnanswered d shown ask.question fault)
 
 -- a fault of a question in words: of an unknown name the name, too
 abbrev pub query_word : QueryFault → Question → List ℕ
@@ -73,6 +41,10 @@ query_word wrong.NotBundle question = codes "NotBundle"
 query_word wrong.NotLongrun question = codes "NotLongrun"
 query_word wrong.NotOneshot question = codes "NotOneshot"
 query_word wrong.Memory question = codes "Memory"
+
+-- the word tells a fault of a question, whichever is asked
+abbrev pub IsQueryWord : List ℕ → Type 0
+IsQueryWord word = (fault : QueryFault) × ((question : Question) → word ≡ query_word fault question)
 
 -- how a refusal is told
 abbrev pub db_fault_text : DbFault → Question → List ℕ

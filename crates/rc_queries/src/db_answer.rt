@@ -1,18 +1,18 @@
 //! The answers of questions about a database, as they are printed.
 ghost use Rattle.std.specs.Prelude.{◌≡◌, None, Some, [], map, string_bytes, All, IfErr, IfOk, OnOk};
-ghost use Rattle.rc_model.specs.Names.{Lists};
 ghost use Rattle.rc_render.specs.DotText.{dot_text};
 ghost use Rattle.rc_render.specs.Lines.{line};
 ghost use Rattle.rc_base.specs.Base.{bytes_of};
+ghost use Rattle.rc_model.specs.Line.{Lists};
 ghost use Rattle.rc_model.specs.Database.{IsKnown, Selected};
 ghost use Rattle.rc_db.specs.QueryFaults.{AnyName, IsNamesFault, IsQueryFault, OfBundle, OfLongrun, OfOneshot, OfService};
-ghost use Rattle.rc_queries.specs.DbAnswer.{IsAnswerTo, IsContentsText, IsFlagsText, IsFound, IsKindText, IsLimitText, IsListText, IsNameAnswer, IsNamesAnswer, IsPicture, IsPipelineText, IsScriptText, kind_word};
-ghost use Rattle.rc_queries.specs.DbFaults.{IsOfQuery, IsUnanswered, asked_by};
+ghost use Rattle.rc_queries.specs.DbAnswer.{IsAnswerTo, IsContentsText, IsFlagsText, IsFound, IsKindText, IsLimitText, IsListText, IsNameAnswer, IsNamesAnswer, IsOfQuery, IsPicture, IsPipelineText, IsScriptText, IsShownFault, IsUnanswered, asked_by, kind_word};
 ghost use Rattle.rc_asked.specs.DbAsked.{db_ask_of};
-ghost use Rattle.rc_asked.specs.Query.{Dot, question_of};
+ghost use Rattle.rc_asked.specs.Query.{question_of};
 
 use crate::db_fault::DbFault;
-use rc_asked::{DbRequest, NameQuery, NamesQuery, Query};
+use rc_asked::{DbRequest, Query};
+use rc_command::{NameQuery, NamesQuery};
 use rc_db::{Db, QueryFault, Which};
 use rc_graph::Way;
 use rc_livetext::read_live;
@@ -30,8 +30,8 @@ pub(crate) fn answer_to(
 ) -> Result<Vec<u8>, DbFault>
     ensures text { IfOk result (λ text. IsAnswerTo db.now (db_ask_of request.now)
         (bytes_of shown.entry) text.items) }
-    ensures fault { IfErr result (IsUnanswered db.now (question_of request.now.query)
-        (bytes_of shown.entry)) }
+    ensures fault { IfErr result (IsUnanswered db.now (bytes_of shown.entry)
+        (question_of request.now.query)) }
 {
     let way = request.way;
     match &request.query {
@@ -46,7 +46,7 @@ pub(crate) fn answer_to(
 // The picture, in which what is up in a session is filled, and without one nothing.
 fn picture(alloc: Global, db: &Db, shown: Option<&[u8]>) -> Result<Vec<u8>, DbFault>
     ensures text { IfOk result (λ text. IsPicture db.now (bytes_of shown.entry) text.items) }
-    ensures fault { IfErr result (IsUnanswered db.now Dot (bytes_of shown.entry)) }
+    ensures fault { IfErr result (IsShownFault db.now (bytes_of shown.entry)) }
 {
     match shown {
         Some(bytes) => filled_picture(alloc, db, bytes),
@@ -66,7 +66,7 @@ fn plain_picture(alloc: Global, db: &Db) -> Result<Vec<u8>, DbFault>
 // The picture, in which what is up by the text of a session is filled.
 fn filled_picture(alloc: Global, db: &Db, bytes: &[u8]) -> Result<Vec<u8>, DbFault>
     ensures text { IfOk result (λ text. IsPicture db.now (Some bytes.now) text.items) }
-    ensures fault { IfErr result (IsUnanswered db.now Dot (Some bytes.now)) }
+    ensures fault { IfErr result (IsShownFault db.now (Some bytes.now)) }
 {
     let (line, _states) = match read_live(alloc, bytes, db) {
         Ok(read) => read,

@@ -1,6 +1,6 @@
 //! Why `db` refuses, and how it tells that.
-ghost use Rattle.std.specs.Prelude.{◌≡◌, ◌≢◌, ◌⊎◌, slice_get, option_map, IfOk};
-ghost use Rattle.rc_queries.specs.DbFaults.{IsLiveTold, IsQueryTold, IsTextTold, db_fault_text, query_word};
+ghost use Rattle.std.specs.Prelude.{◌≡◌, ◌≢◌, ◌⊎◌, slice_get, option_map, IfOk, IfSome};
+ghost use Rattle.rc_queries.specs.DbFaults.{IsLiveTold, IsQueryTold, IsQueryWord, IsTextTold, db_fault_text, query_word};
 ghost use Rattle.rc_streams.specs.Input.{AppendsFront, failure_text, fault_line};
 ghost use Rattle.rc_asked.specs.Query.{names_in, question_of};
 ghost use Rattle.rc_queries.specs.declared.db_fault.DbFault.TheVariants.{Memory};
@@ -117,6 +117,19 @@ fn query_word(alloc: Global, fault: QueryFault, query: &Query<'_>) -> Result<Vec
         QueryFault::NotLongrun => Vec::from_slice(alloc, b"NotLongrun"),
         QueryFault::NotOneshot => Vec::from_slice(alloc, b"NotOneshot"),
         QueryFault::Memory => Vec::from_slice(alloc, b"Memory"),
+    }
+}
+
+/// What helps behind the word of a fault of a query: which sort of name is asked about.
+pub fn query_hint(word: &str) -> Option<&'static str>
+    ensures { IfSome result (λ hint. IsQueryWord word.now) }
+{
+    match word {
+        "NotAtomic" => Some("the name is a bundle's, and a service is asked about"),
+        "NotBundle" => Some("the name is a service's, and a bundle is asked about"),
+        "NotLongrun" => Some("the name is a oneshot's, and a longrun is asked about"),
+        "NotOneshot" => Some("the name is a longrun's, and a oneshot is asked about"),
+        _ => None,
     }
 }
 

@@ -10,5 +10,6 @@ mod played;
 mod replay;
 
 pub use crate::db::{db_as_asked, db_run};
+pub use crate::db_fault::query_hint;
 pub use crate::plan::{plan_as_asked, plan_run};
 pub use crate::replay::{replay_as_asked, replay_run};

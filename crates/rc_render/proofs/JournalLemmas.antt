@@ -3,9 +3,9 @@ use Rattle.std.proofs.lemmas.List.{append-nil, take_all, take_more}
 use Rattle.std.proofs.lemmas.List.Elements.{Contains-get_or, Contains-push, Contains-push_cases, Contains-append_left}
 use Rattle.std.specs.List.{join_with_byte}
 use Rattle.std.proofs.lemmas.Option.{slice_get_within}
-use Rattle.rc_model.specs.Names.{Has, Holds, Lists}
+use Rattle.rc_model.specs.Names.{Has, Holds}
 use Rattle.rc_model.proofs.SetMembers.{has_within}
-use Rattle.rc_model.specs.Line.{State, IsGained, IsEntry}
+use Rattle.rc_model.specs.Line.{State, IsGained, IsEntry, Lists}
 use Rattle.rc_render.specs.JournalText.{AreEntryLines, IsEntryLine, sign, signs}
 use Rattle.rc_render.proofs.NameLemmas.{is_none, with_comma, join_more}
 

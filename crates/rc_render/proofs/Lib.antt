@@ -1,4 +1,4 @@
 pub mod LineLemmas
-pub mod NameLemmas
-pub mod JournalLemmas
-pub mod DotLemmas
+mod NameLemmas
+mod JournalLemmas
+mod DotLemmas

@@ -1,10 +1,10 @@
+use Rattle.rc_model.specs.Line.{Lists}
 use Rattle.std.proofs.Common.{◌≡◌, ◌∙◌, ℕ, ◌+◌, ◌<◌, List, [], ◌∷◌, ◌++◌, Some, length, take, slice_get, slice_index_or, get_or, All, ap, sym}
 use Rattle.std.proofs.lemmas.Grind.{flat_map-append}
 use Rattle.std.proofs.lemmas.List.{append-nil, map-append, take_more}
 use Rattle.std.proofs.lemmas.List.Elements.{Contains-get_or}
 use Rattle.std.proofs.lemmas.Option.{slice_get_within, slice_get-get_or}
 use Rattle.std.specs.List.{flat_map}
-use Rattle.rc_model.specs.Names.{Lists}
 use Rattle.rc_render.specs.Lines.{names_at}
 
 -- what stands at a place

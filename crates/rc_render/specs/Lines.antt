@@ -1,6 +1,6 @@
+use Rattle.rc_model.specs.Line.{Lists}
 use Rattle.std.specs.Prelude.{◌≡◌, ℕ, List, [], ◌∷◌, ◌++◌, map, slice_index_or}
 use Rattle.std.specs.List.{flat_map}
-use Rattle.rc_model.specs.Names.{Lists}
 
 -- a text with its newline
 abbrev pub line : List ℕ → List ℕ

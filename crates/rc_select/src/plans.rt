@@ -1,7 +1,8 @@
 ghost use Rattle.std.specs.Prelude.{◌≡◌, ℕ, false, length, IfOk};
+ghost use Rattle.rc_model.specs.Session.{Nothing};
 ghost use Rattle.rc_model.specs.Names.{Has};
 ghost use Rattle.rc_model.specs.Graph.{IsClosed};
-ghost use Rattle.rc_model.specs.Plan.{IsPlanTo, Nothing, Target};
+ghost use Rattle.rc_model.specs.Plan.{IsPlanTo, Target};
 ghost use Rattle.rc_select.specs.PlanSets.{IsPlan};
 
 use crate::request::Mode;

@@ -1,5 +1,6 @@
 -- Where all that was planned is done, what is live is the target.
 use Rattle.std.proofs.Common.{◌≡◌, ◌∙◌, ◌<◌, ◌≢◌, inl, inr, ℕ, Bool, List, [], ◌∷◌, Contains, refl, sym, subst, arith}
+use Rattle.rc_model.specs.Headline.{HasRun}
 use Rattle.rc_model.specs.Names.{Has, Holds}
 use Rattle.rc_model.proofs.SetMembers.{has_or_lacks}
 use Rattle.rc_graph.specs.declared.Way.{Way}
@@ -14,7 +15,7 @@ use Rattle.rc_core.proofs.Ends.{came_up, never_sinking, stood_down, stood_up, up
 use Rattle.rc_model.proofs.RunLemmas.{taken_was_planned}
 use Rattle.rc_core.proofs.Stories.{IsAtRest, at_rest}
 use Rattle.rc_model.specs.Line.{Line}
-use Rattle.rc_model.specs.Session.{Command, Change, Undo, Redo, Add, Delete, HasRun, events_of, Does, IsLineOf, DoesByRun, IsReportOf, Reported}
+use Rattle.rc_model.specs.Session.{Command, Change, Undo, Redo, Add, Delete, events_of, Does, IsLineOf, DoesByRun, IsReportOf, Reported}
 use Rattle.rc_session.specs.Commands.{with_events}
 use Rattle.rc_session.proofs.Courses.{task_is_course}
 use Rattle.rc_session.proofs.Promising.{moved_live}

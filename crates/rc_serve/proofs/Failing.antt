@@ -25,6 +25,7 @@ use Rattle.rc_model.proofs.Telling.{lists_none}
 use Rattle.rc_board.specs.Made.{IsSaid, AreMade, way_from}
 use Rattle.rc_render.specs.ReportText.{report_text}
 use Rattle.rc_script.specs.Says.{Saying, SaysNothing, SaysWrong, SaysStep, SaysDry, SaysLive, SaysBundles, SaysJournal}
+use Rattle.rc_streams.specs.Exchange.{Exchange}
 use Rattle.rc_serve.specs.declared.fault.ServeFault.{ServeFault}
 use Rattle.rc_serve.specs.declared.keeper.KeepFault.{KeepFault}
 use Rattle.rc_serve.specs.Meeting.{IsDoneBy, Meets}
@@ -174,9 +175,9 @@ module _ (fails : ℕ → Way → Bool) (workers : ℕ) (Answers : ℕ → Way �
       let more = serves_failing d lines next others new db (said_keeps d here db of saying first next said) more_on rest in
       ((first, next, others, (saying, says, said_failing d here db of saying first next here_on said), more.0, whole), more.1)
 
-  all_failing : (input left written gained : Option (List ℕ)) (old new : Holding) → IsDatabase old.database → IsLineOf old.database old.line → IsTimeless Gives input
-      → ServesAll (IsDoneBy workers Answers Gives) input left written gained old new → ServesAll (IsDoneFailing fails) input left written gained old new
-  all_failing input left written gained old new db of timeless served = record {
+  all_failing : (io : Exchange) (old new : Holding) → IsDatabase old.database → IsLineOf old.database old.line → IsTimeless Gives io.input
+      → ServesAll (IsDoneBy workers Answers Gives) io old new → ServesAll (IsDoneFailing fails) io old new
+  all_failing io old new db of timeless served = record {
     bytes = served.bytes;
     lines = served.lines;
     text = served.text;
@@ -184,14 +185,14 @@ module _ (fails : ℕ → Way → Bool) (workers : ℕ) (Answers : ℕ → Way �
     end = served.end;
     within = served.within;
     spelled = served.spelled;
-    met = (serves_failing old.database served.lines old.line served.text new.line db of (elim timeless [ inl only ↦ inl only | inr none ↦ inr (none left served.bytes [] served.lines served.consumed served.spelled) ]) served.met).0;
+    met = (serves_failing old.database served.lines old.line served.text new.line db of (elim timeless [ inl only ↦ inl only | inr none ↦ inr (none io.left served.bytes [] served.lines served.consumed served.spelled) ]) served.met).0;
     told = served.told;
   }
 
-  front_failing : (fault : ServeFault) (input left written gained : Option (List ℕ)) (old new : Holding) → IsDatabase old.database → IsLineOf old.database old.line → IsTimeless Gives input
-      → ServesFront (IsDoneBy workers Answers Gives) fault input left written gained old new → ServesFront (IsDoneFailing fails) fault input left written gained old new
-  front_failing fault input left written gained old new db of timeless served =
-      let some : ((m : ℕ) → Gives m → m ≡ 0) ⊎ All IsUnlimited (served.lines ++ served.more) = elim timeless [ inl only ↦ inl only | inr none ↦ inr (none left served.bytes served.rest (served.lines ++ served.more) served.consumed served.spelled) ] in
+  front_failing : (fault : ServeFault) (io : Exchange) (old new : Holding) → IsDatabase old.database → IsLineOf old.database old.line → IsTimeless Gives io.input
+      → ServesFront (IsDoneBy workers Answers Gives) fault io old new → ServesFront (IsDoneFailing fails) fault io old new
+  front_failing fault io old new db of timeless served =
+      let some : ((m : ℕ) → Gives m → m ≡ 0) ⊎ All IsUnlimited (served.lines ++ served.more) = elim timeless [ inl only ↦ inl only | inr none ↦ inr (none io.left served.bytes served.rest (served.lines ++ served.more) served.consumed served.spelled) ] in
       let first = serves_failing old.database served.lines old.line served.text served.here db of (elim some [ inl only ↦ inl only | inr all ↦ inr (all_front served.lines served.more all) ]) served.met in
       record {
         bytes = served.bytes;
@@ -220,14 +221,14 @@ module _ (fails : ℕ → Way → Bool) (workers : ℕ) (Answers : ℕ → Way �
       all_back (y ∷ xs) ys all = all_back xs ys (λ j z within. all (suc j) z (omega (arith, within)))
 
   -- whatever came of serving
-  pub text_failing : {A : Type 0} (result : Result A ServeFault) (input left written gained : Option (List ℕ)) (old new : Holding) → IsDatabase old.database → IsLineOf old.database old.line → IsTimeless Gives input
-      → OnOk result (ServesAll (IsDoneBy workers Answers Gives) input left written gained old new) → OnOk result (ServesFailing fails input left written gained old new)
-  text_failing (Ok done) input left written gained old new db of timeless served = all_failing input left written gained old new db of timeless served
-  text_failing (Err fault) input left written gained old new db of timeless served = tt
+  pub text_failing : {A : Type 0} (result : Result A ServeFault) (io : Exchange) (old new : Holding) → IsDatabase old.database → IsLineOf old.database old.line → IsTimeless Gives io.input
+      → OnOk result (ServesAll (IsDoneBy workers Answers Gives) io old new) → OnOk result (ServesFailing fails io old new)
+  text_failing (Ok done) io old new db of timeless served = all_failing io old new db of timeless served
+  text_failing (Err fault) io old new db of timeless served = tt
 
-  pub front_text_failing : {A : Type 0} (result : Result A ServeFault) (May : KeepFault → Type 0) (was is : Keeping) (input left written gained : Option (List ℕ)) (old new : Holding) → IsDatabase old.database → IsLineOf old.database old.line → IsTimeless Gives input
-      → IfErr result (λ fault. ServesFrontKept (IsDoneBy workers Answers Gives) fault May was is input left written gained old new)
-      → IfErr result (λ fault. ServesFrontFailingKept fault May was is fails input left written gained old new)
+  pub front_text_failing : {A : Type 0} (result : Result A ServeFault) (May : KeepFault → Type 0) (was is : Keeping) (io : Exchange) (old new : Holding) → IsDatabase old.database → IsLineOf old.database old.line → IsTimeless Gives io.input
+      → IfErr result (λ fault. ServesFrontKept (IsDoneBy workers Answers Gives) fault May was is io old new)
+      → IfErr result (λ fault. ServesFrontFailingKept fault May was is fails io old new)
   unfolding front_failing
-  front_text_failing (Ok done) May was is input left written gained old new db of timeless served = tt
-  front_text_failing (Err fault) May was is input left written gained old new db of timeless served = (front_failing fault input left written gained old new db of timeless served.0, served.1)
+  front_text_failing (Ok done) May was is io old new db of timeless served = tt
+  front_text_failing (Err fault) May was is io old new db of timeless served = (front_failing fault io old new db of timeless served.0, served.1)

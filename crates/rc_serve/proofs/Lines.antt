@@ -10,6 +10,7 @@ use Rattle.rc_model.specs.Line.{Line}
 use Rattle.rc_session.specs.Holding.{Holding}
 use Rattle.rc_render.specs.Lines.{line}
 use Rattle.rc_render.proofs.LineLemmas.{one_more}
+use Rattle.rc_streams.specs.Exchange.{Exchange}
 use Rattle.rc_streams.specs.Input.{AppendsFront, ConsumesAtMost}
 use Rattle.rc_streams.specs.Taking.{Held, BeginsTooLong, HandsLine, HandsOut, IsLine, LacksLine, Takes, fresh}
 use Rattle.rc_streams.specs.declared.input.Failure.{Failure}
@@ -22,6 +23,15 @@ use Rattle.rc_serve.specs.Meeting.{Doing}
 use Rattle.rc_serve.specs.Serving.{AreLines, BytesWantWork, IsServing, MayMeetBytes, MeetsBytes, NextWantsWork, Serves, ServesAll, ServesFront, ServesNext, Stays}
 use Rattle.rc_serve.specs.Keeping.{AltersNone, Keeping, EndsLine, IsKeptAt, IsKeptOn, IsKeptOrFails, IsKeptUp, IsOfKeeping, ServesFrontKept, StopsAt}
 use Rattle.rc_serve.proofs.Keeping.{kept_more, kept_none}
+
+-- the exchange of these
+abbrev pub over : (input left written gained : Option (List ℕ)) → Exchange
+over input left written gained = record {
+  input = input;
+  left = left;
+  written = written;
+  gained = gained;
+}
 
 -- one more line is met
 pub serves_more : (Done : Doing) (d : Database) (here : Line) (lines : List (List ℕ)) (text : List ℕ) (mid : Line) (bytes first : List ℕ) (new : Line) → Serves Done d here lines text mid → MeetsBytes Done d mid bytes first new
@@ -52,8 +62,8 @@ hands_on old here new before held after front more first next = record {
 }
 
 -- one more line with its newline
-pub serving_on : (Done : Doing) (input here left : Option (List ℕ)) (held after : Held) (written mid gained : Option (List ℕ)) (old now new : Holding) → IsServing Done input here held written mid old now
-    → ServesNext Done true here left held after mid gained now new → Stays now new → new.spoiled ≡ now.spoiled → after.taken ≤ 16777217 → IsServing Done input left after written gained old new
+pub serving_on : (Done : Doing) (input here left : Option (List ℕ)) (held after : Held) (written mid gained : Option (List ℕ)) (old now new : Holding) → IsServing Done (over input here written mid) held old now
+    → ServesNext Done true (over here left mid gained) held after now new → Stays now new → new.spoiled ≡ now.spoiled → after.taken ≤ 16777217 → IsServing Done (over input left written gained) after old new
 serving_on Done input here left held after written mid gained old now new so next stays whole within =
     let (bytes, text, handed, met, told) = next in
     record {
@@ -69,8 +79,8 @@ serving_on Done input here left held after written mid gained old now new so nex
     }
 
 -- the input is at its end
-pub serves_all : (Done : Doing) (input here left : Option (List ℕ)) (held after : Held) (written mid gained : Option (List ℕ)) (old now new : Holding) → IsServing Done input here held written mid old now
-    → ServesNext Done false here left held after mid gained now new → ServesAll Done input left written gained old new
+pub serves_all : (Done : Doing) (input here left : Option (List ℕ)) (held after : Held) (written mid gained : Option (List ℕ)) (old now new : Holding) → IsServing Done (over input here written mid) held old now
+    → ServesNext Done false (over here left mid gained) held after now new → ServesAll Done (over input left written gained) old new
 serves_all Done input here left held after written mid gained old now new so (inl next) =
     let (bytes, text, handed, met, told) = next in
     let (one, hands, some, ended) = handed in
@@ -128,9 +138,9 @@ front_kept : (fault : ServeFault) (May : KeepFault → Type 0) (first was is : K
 front_kept fault May first was is old now new n same (inl keeps) kept = inl (kept_more first was is old.database old.line now.line new.line kept (subst (λ (d : Database). IsKeptUp was is d now.line new.line) same keeps))
 front_kept fault May first was is old now new n same (inr (so, none, on)) kept = inr (so, none, kept_more first was is old.database old.line now.line now.line kept (inr (on, refl)))
 
-front_line : (Done : Doing) (fault : ServeFault) (May : KeepFault → Type 0) (first was is : Keeping) (input here left : Option (List ℕ)) (held after : Held) (written mid gained : Option (List ℕ)) (old now new : Holding) (ends : Bool) (bytes text : List ℕ) → IsOfLine fault → IsServing Done input here held written mid old now
+front_line : (Done : Doing) (fault : ServeFault) (May : KeepFault → Type 0) (first was is : Keeping) (input here left : Option (List ℕ)) (held after : Held) (written mid gained : Option (List ℕ)) (old now new : Holding) (ends : Bool) (bytes text : List ℕ) → IsOfLine fault → IsServing Done (over input here written mid) held old now
     → HandsLine ends here left held after bytes → MeetsBytes Done now.database now.line bytes text new.line → (told : AppendsFront mid gained text) → IsKeptUp was is now.database now.line new.line ⊎ (IsOfKeeping May fault × (told.0 ≡ 0) × IsKeptOn was is)
-    → IsKeptUp first was old.database old.line now.line → ServesFrontKept Done fault May first is input left written gained old new
+    → IsKeptUp first was old.database old.line now.line → ServesFrontKept Done fault May first is (over input left written gained) old new
 front_line Done fault May first was is input here left held after written mid gained old now new true bytes text of so handed met told keeps kept =
     let all = hands_on input here left fresh held after (flat_map line so.lines) (line bytes) so.hands handed.1 in (
       record {
@@ -185,8 +195,8 @@ wants_as : (d e : Database) (here there : Line) (bytes : List ℕ) → d ≡ e �
 wants_as d e here there bytes same still wants = subst (λ (b : Database). NextWantsWork b there bytes) same (subst (λ (l : Line). NextWantsWork d l bytes) (sym still) wants)
 
 -- a fault came
-pub serves_front : (Done : Doing) (fault : ServeFault) (May : KeepFault → Type 0) (first was is : Keeping) (input here left : Option (List ℕ)) (held after : Held) (written mid gained : Option (List ℕ)) (old now new : Holding) → IsServing Done input here held written mid old now
-    → IsKeptUp first was old.database old.line now.line → StopsAt Done fault May was is here left held after mid gained now new → ServesFrontKept Done fault May first is input left written gained old new
+pub serves_front : (Done : Doing) (fault : ServeFault) (May : KeepFault → Type 0) (first was is : Keeping) (input here left : Option (List ℕ)) (held after : Held) (written mid gained : Option (List ℕ)) (old now new : Holding) → IsServing Done (over input here written mid) held old now
+    → IsKeptUp first was old.database old.line now.line → StopsAt Done fault May was is (over here left mid gained) held after now new → ServesFrontKept Done fault May first is (over input left written gained) old new
 serves_front Done fault May first was is input here left held after written mid gained old now new so before (inl stop) =
     let (takes, same, kept, stands, keeps) = stop in
     let told = subst (λ (c : Option (List ℕ)). Appends written c so.text) (sym kept) so.told in (
@@ -243,7 +253,7 @@ unwritten_kept fault May was is d here new (inr failed) = inr (failed.0, refl, f
 
 -- a line was handed out, and no answer came of it
 ends_short : (Done : Doing) (fault : ServeFault) (May : KeepFault → Type 0) (was is : Keeping) (ends : Bool) (input left : Option (List ℕ)) (held after : Held) (written : Option (List ℕ)) (old new : Holding) (bytes : List ℕ) → HandsLine ends input left held after bytes → Takes input left held.taken after.taken
-    → MayMeetBytes Done old.database old.line bytes new.line → IsKeptOrFails fault May was is old.database old.line new.line → EndsSession (BytesWantWork old.database old.line bytes) old new fault → StopsAt Done fault May was is input left held after written written old new
+    → MayMeetBytes Done old.database old.line bytes new.line → IsKeptOrFails fault May was is old.database old.line new.line → EndsSession (BytesWantWork old.database old.line bytes) old new fault → StopsAt Done fault May was is (over input left written written) held after old new
 ends_short Done Read May was is ends input left held after written old new bytes handed takes may keeps end = absurd end
 ends_short Done Write May was is ends input left held after written old new bytes handed takes may keeps end = absurd end
 ends_short Done TooLong May was is ends input left held after written old new bytes handed takes may keeps end = absurd end
@@ -259,27 +269,27 @@ ends_short Done Workers May was is ends input left held after written old new by
 ends_short Done Io May was is ends input left held after written old new bytes handed takes may keeps end = absurd end
 
 io_short : (Done : Doing) (May : KeepFault → Type 0) (was is : Keeping) (ends : Bool) (input left : Option (List ℕ)) (held after : Held) (written : Option (List ℕ)) (old new : Holding) (bytes : List ℕ) → HandsLine ends input left held after bytes → Takes input left held.taken after.taken
-    → MayMeetBytes Done old.database old.line bytes new.line → IsKeptOrFails Io May was is old.database old.line new.line → StopsAt Done Io May was is input left held after written written old new
+    → MayMeetBytes Done old.database old.line bytes new.line → IsKeptOrFails Io May was is old.database old.line new.line → StopsAt Done Io May was is (over input left written written) held after old new
 io_short Done May was is ends input left held after written old new bytes handed takes (inl same) keeps = inl (takes, same, refl, tt, still_kept Io May was is old.database old.line new.line same keeps)
 io_short Done May was is ends input left held after written old new bytes handed takes (inr met) keeps = inr (tt, ends, bytes, met.0, handed, met.1, 0, Appends-nil written, unwritten_kept Io May was is old.database old.line new.line keeps)
 
 pub stops_short : (Done : Doing) (fault : ServeFault) (May : KeepFault → Type 0) (was is : Keeping) (keeper : Type 0) (ends : Bool) (input left : Option (List ℕ)) (held after : Held) (written : Option (List ℕ)) (old new : Holding) (bytes : List ℕ) → HandsLine ends input left held after bytes → Takes input left held.taken after.taken
-    → MayMeetBytes Done old.database old.line bytes new.line → IsKeptOrFails fault May was is old.database old.line new.line → EndsLine keeper (BytesWantWork old.database old.line bytes) old new fault → StopsAt Done fault May was is input left held after written written old new
+    → MayMeetBytes Done old.database old.line bytes new.line → IsKeptOrFails fault May was is old.database old.line new.line → EndsLine keeper (BytesWantWork old.database old.line bytes) old new fault → StopsAt Done fault May was is (over input left written written) held after old new
 stops_short Done fault May was is keeper ends input left held after written old new bytes handed takes may keeps (inl io) =
-    subst (λ (f : ServeFault). StopsAt Done f May was is input left held after written written old new) (sym io.0) (io_short Done May was is ends input left held after written old new bytes handed takes may (subst (λ (f : ServeFault). IsKeptOrFails f May was is old.database old.line new.line) io.0 keeps))
+    subst (λ (f : ServeFault). StopsAt Done f May was is (over input left written written) held after old new) (sym io.0) (io_short Done May was is ends input left held after written old new bytes handed takes may (subst (λ (f : ServeFault). IsKeptOrFails f May was is old.database old.line new.line) io.0 keeps))
 stops_short Done fault May was is keeper ends input left held after written old new bytes handed takes may keeps (inr end) = ends_short Done fault May was is ends input left held after written old new bytes handed takes may keeps end
 
 -- the answer could not be written
 pub write_fault : {A : Type 0} (failure : Failure) → ◌≡◌ {A = Result A Failure} (Err failure) (Err failures.Write) → IsOfLine (of_failure failure)
 write_fault {A} failure is = subst (λ (r : Result A Failure). IfErr r (λ f. IsOfLine (of_failure f))) (sym is) tt
 
-pub stops_writing : (Done : Doing) (failure : Failure) (May : KeepFault → Type 0) (was is : Keeping) (ends : Bool) (input left : Option (List ℕ)) (held after : Held) (written gained : Option (List ℕ)) (old new : Holding) (bytes text : List ℕ) → IsOfLine (of_failure failure) → HandsLine ends input left held after bytes
-    → MeetsBytes Done old.database old.line bytes text new.line → AppendsFront written gained text → IsKeptUp was is old.database old.line new.line → StopsAt Done (of_failure failure) May was is input left held after written gained old new
-stops_writing Done failure May was is ends input left held after written gained old new bytes text of handed met told kept = inr (of, ends, bytes, text, handed, met, told.0, told.1, inl kept)
+pub stops_writing : (Done : Doing) (failure : Failure) (May : KeepFault → Type 0) (was is : Keeping) (ends : Bool) (io : Exchange) (held after : Held) (old new : Holding) (bytes text : List ℕ) → IsOfLine (of_failure failure) → HandsLine ends io.input io.left held after bytes
+    → MeetsBytes Done old.database old.line bytes text new.line → AppendsFront io.written io.gained text → IsKeptUp was is old.database old.line new.line → StopsAt Done (of_failure failure) May was is io held after old new
+stops_writing Done failure May was is ends io held after old new bytes text of handed met told kept = inr (of, ends, bytes, text, handed, met, told.0, told.1, inl kept)
 
 -- there was no line to hand out
 pub stops_unread : (Done : Doing) (failed : Type 0) (failure : Failure) (May : KeepFault → Type 0) (k : Keeping) (input left : Option (List ℕ)) (held after : Held) (written : Option (List ℕ)) (old : Holding) → LacksLine failed input left held after failure
-    → StopsAt Done (of_failure failure) May k k input left held after written written old old
+    → StopsAt Done (of_failure failure) May k k (over input left written written) held after old old
 stops_unread Done failed failures.Read May k input left held after written old lacks = inl (lacks.takes, refl, refl, (lacks.fault.1, lacks.fault.2), kept_none k old.database old.line)
 stops_unread Done failed failures.Write May k input left held after written old lacks = absurd lacks.fault
 stops_unread Done failed failures.TooLong May k input left held after written old lacks = inl (lacks.takes, refl, refl, lacks.fault, kept_none k old.database old.line)
@@ -324,7 +334,7 @@ inner_fault reader writer keeper work fault old new (inr end) =
     ends_inner reader writer keeper work fault old new end
 
 -- nothing was read yet
-pub serving_none : (Done : Doing) (input written : Option (List ℕ)) (old : Holding) → old.begun ≡ false → IsServing Done input input fresh written written old old
+pub serving_none : (Done : Doing) (input written : Option (List ℕ)) (old : Holding) → old.begun ≡ false → IsServing Done (over input input written written) fresh old old
 serving_none Done input written old closed = record {
   lines = [];
   text = [];
@@ -350,23 +360,23 @@ takes_line true here left held after bytes (one, hands) = record { bytes = hands
 takes_line false here left held after bytes (one, hands, some, ended) = record { bytes = hands.bytes; consumed = hands.consumed; counted = hands.counted }
 
 -- what was taken where a line was met, or none was left
-pub takes_next : (Done : Doing) (more : Bool) (here left : Option (List ℕ)) (held after : Held) (mid gained : Option (List ℕ)) (now new : Holding) → ServesNext Done more here left held after mid gained now new → Takes here left held.taken after.taken
-takes_next Done true here left held after mid gained now new next = takes_line true here left held after next.0 next.2
-takes_next Done false here left held after mid gained now new (inl next) = takes_line false here left held after next.0 next.2
-takes_next Done false here left held after mid gained now new (inr next) =
+pub takes_next : (Done : Doing) (more : Bool) (io : Exchange) (held after : Held) (now new : Holding) → ServesNext Done more io held after now new → Takes io.input io.left held.taken after.taken
+takes_next Done true io held after now new next = takes_line true io.input io.left held after next.0 next.2
+takes_next Done false io held after now new (inl next) = takes_line false io.input io.left held after next.0 next.2
+takes_next Done false io held after now new (inr next) =
     let (handed, same, kept) = next in
     let (hands, ended) = handed in
     record { bytes = hands.bytes; consumed = hands.consumed; counted = hands.counted }
 
 -- what was taken where a fault came
-pub takes_stop : (Done : Doing) (fault : ServeFault) (May : KeepFault → Type 0) (was is : Keeping) (here left : Option (List ℕ)) (held after : Held) (mid gained : Option (List ℕ)) (now new : Holding) → StopsAt Done fault May was is here left held after mid gained now new → Takes here left held.taken after.taken
-takes_stop Done fault May was is here left held after mid gained now new (inl stop) = stop.0
-takes_stop Done fault May was is here left held after mid gained now new (inr stop) =
+pub takes_stop : (Done : Doing) (fault : ServeFault) (May : KeepFault → Type 0) (was is : Keeping) (io : Exchange) (held after : Held) (now new : Holding) → StopsAt Done fault May was is io held after now new → Takes io.input io.left held.taken after.taken
+takes_stop Done fault May was is io held after now new (inl stop) = stop.0
+takes_stop Done fault May was is io held after now new (inr stop) =
     let (of, ends, bytes, text, handed, met, n, told, keeps) = stop in
-    takes_line ends here left held after bytes handed
+    takes_line ends io.input io.left held after bytes handed
 
 -- what was taken in all
-pub takes_all : (Done : Doing) (input here left : Option (List ℕ)) (held after : Held) (written mid : Option (List ℕ)) (old now : Holding) → IsServing Done input here held written mid old now → Takes here left held.taken after.taken → after.taken ≤ 16777217 → ConsumesAtMost input left 16777217
+pub takes_all : (Done : Doing) (input here left : Option (List ℕ)) (held after : Held) (written mid : Option (List ℕ)) (old now : Holding) → IsServing Done (over input here written mid) held old now → Takes here left held.taken after.taken → after.taken ≤ 16777217 → ConsumesAtMost input left 16777217
 takes_all Done input here left held after written mid old now so takes within = (
   so.hands.bytes ++ takes.bytes,
   omega (arith, so.hands.counted, takes.counted, within, length-append so.hands.bytes takes.bytes),
@@ -374,11 +384,11 @@ takes_all Done input here left held after written mid old now so takes within = 
 )
 
 -- whether more follows, as it was tested
-pub where_more : (Done : Doing) (more test : Bool) (here left : Option (List ℕ)) (held after : Held) (mid gained : Option (List ℕ)) (now new : Holding) → more ≡ test → ServesNext Done more here left held after mid gained now new → ServesNext Done test here left held after mid gained now new
-where_more Done more test here left held after mid gained now new is next = subst (λ (b : Bool). ServesNext Done b here left held after mid gained now new) is next
+pub where_more : (Done : Doing) (more test : Bool) (io : Exchange) (held after : Held) (now new : Holding) → more ≡ test → ServesNext Done more io held after now new → ServesNext Done test io held after now new
+where_more Done more test io held after now new is next = subst (λ (b : Bool). ServesNext Done b io held after now new) is next
 
 -- nothing was read and nothing written
-pub serves_none : (Done : Doing) (input written : Option (List ℕ)) (old : Holding) → ServesFront Done Workers input input written written old old
+pub serves_none : (Done : Doing) (input written : Option (List ℕ)) (old : Holding) → ServesFront Done Workers (over input input written written) old old
 serves_none Done input written old = record {
   bytes = [];
   rest = [];
@@ -397,25 +407,25 @@ serves_none Done input written old = record {
 }
 
 -- and nothing was kept
-pub none_kept : (Done : Doing) (May : KeepFault → Type 0) (k : Keeping) (input written : Option (List ℕ)) (old : Holding) → ServesFrontKept Done Workers May k k input input written written old old
+pub none_kept : (Done : Doing) (May : KeepFault → Type 0) (k : Keeping) (input written : Option (List ℕ)) (old : Holding) → ServesFrontKept Done Workers May k k (over input input written written) old old
 none_kept Done May k input written old = (serves_none Done input written old, inl (kept_none k old.database old.line))
 
 -- where no lines at the beginning of an input alter the line of states, none that were served did
 module _ (Done : Doing) (input : Option (List ℕ)) (old : Holding)
     (none : AltersNone Done input old.database old.line) where
   pub unaltered_so : (here : Option (List ℕ)) (held : Held) (written mid : Option (List ℕ)) (now : Holding)
-      → IsServing Done input here held written mid old now → now.line ≡ old.line
+      → IsServing Done (over input here written mid) held old now → now.line ≡ old.line
   unaltered_so here held written mid now so =
       none here so.hands.bytes held.pending so.lines so.text now.line so.hands.consumed
       (so.each, inl so.hands.split) so.met
 
   pub unaltered_all : (left written gained : Option (List ℕ)) (new : Holding)
-      → ServesAll Done input left written gained old new → new.line ≡ old.line
+      → ServesAll Done (over input left written gained) old new → new.line ≡ old.line
   unaltered_all left written gained new served =
       none left served.bytes [] served.lines served.text new.line served.consumed served.spelled served.met
 
   pub unaltered_front : (fault : ServeFault) (left written gained : Option (List ℕ)) (new : Holding)
-      → ServesFront Done fault input left written gained old new → new.line ≡ old.line
+      → ServesFront Done fault (over input left written gained) old new → new.line ≡ old.line
   unaltered_front fault left written gained new served =
       none left served.bytes served.rest (served.lines ++ served.more) (served.text ++ served.answer) new.line
       served.consumed served.spelled

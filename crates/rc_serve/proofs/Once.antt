@@ -2,11 +2,11 @@
 use Rattle.std.proofs.Common.{◌≡◌, ◌≢◌, ◌∙◌, ◌↔◌, ◌⊎◌, inl, inr, ℕ, zero, suc, Bool, List, [], ◌∷◌, ◌++◌, Option, Ok, Err, All, Contains, codes, drop, length, slice_index_or, refl, ap, sym, subst, arith, append_assoc}
 use Rattle.std.specs.List.{flat_map}
 use Rattle.std.specs.Fmt.{decimal}
-use Rattle.rc_model.specs.Names.{Has, Lists}
+use Rattle.rc_model.specs.Names.{Has}
 use Rattle.rc_graph.specs.declared.Way.{Way}
 use Rattle.rc_model.proofs.ByteOrder.{same_names}
 use Rattle.rc_model.specs.Database.{Bundles, value_of, Database}
-use Rattle.rc_model.specs.Line.{Alteration, IsAlteration, IsEdit, names_altered, State, IsGained, Line, states}
+use Rattle.rc_model.specs.Line.{Alteration, IsAlteration, IsEdit, names_altered, State, IsGained, Line, states, Lists}
 use Rattle.rc_model.specs.Plan.{Ask, PlanSets}
 use Rattle.rc_model.specs.Run.{course_of}
 use Rattle.rc_core.specs.End.{EndOf}

@@ -10,6 +10,7 @@ use Rattle.rc_session.specs.Commands.{with_events}
 use Rattle.rc_session.specs.Holding.{Holding}
 use Rattle.rc_session.proofs.Promising.{all_along}
 use Rattle.rc_script.specs.Says.{Saying, SaysNothing, SaysWrong, SaysStep, SaysDry, SaysLive, SaysBundles, SaysJournal, Says}
+use Rattle.rc_streams.specs.Exchange.{Exchange}
 use Rattle.rc_serve.specs.declared.fault.ServeFault.{ServeFault}
 use Rattle.rc_serve.specs.declared.keeper.KeepFault.{KeepFault}
 use Rattle.rc_serve.specs.declared.fault.ServeFault.TheVariants.{Workers}
@@ -17,7 +18,7 @@ use Rattle.rc_serve.specs.Meeting.{Doing, IsDoneBy, Meets}
 use Rattle.rc_serve.specs.Playing.{ArePlayed, AreSaid, IsDone, PlaysInput, SaysFirst}
 use Rattle.rc_serve.specs.Serving.{Serves, ServesAll, ServesFront}
 use Rattle.rc_serve.specs.Keeping.{Keeping, ServesFrontKept}
-use Rattle.rc_serve.proofs.Lines.{serves_both, serves_none}
+use Rattle.rc_serve.proofs.Lines.{over, serves_both, serves_none}
 
 -- a command stands with its own events
 own_events : (command : Command) → command ≡ with_events command (events_of command)
@@ -89,9 +90,9 @@ module _ (Done : Doing) (as_done : (d : Database) (here : Line) (command : Comma
       }
 
   -- and so is what was served where a fault came
-  pub plays_front : (fault : ServeFault) (input left written gained : Option (List ℕ)) (old new : Holding) → IsDatabase old.database → IsLineOf old.database old.line
-      → ServesFront Done fault input left written gained old new → PlaysInput input left old new
-  plays_front fault input left written gained old new is_db of served = (
+  pub plays_front : (fault : ServeFault) (io : Exchange) (old new : Holding) → IsDatabase old.database → IsLineOf old.database old.line
+      → ServesFront Done fault io old new → PlaysInput io.input io.left old new
+  plays_front fault io old new is_db of served = (
     served.bytes,
     served.rest,
     served.lines ++ served.more,
@@ -106,12 +107,12 @@ module _ (workers : ℕ) (Answers : ℕ → Way → Outcome → Type 0) (Gives :
   forget : (d : Database) (here : Line) (command : Command) (text : List ℕ) (new : Line) → IsDoneBy workers Answers Gives d here command text new → IsDone d here command text new
   forget d here command text new (events, told, made, does, is) = (events, told, does, is)
 
-  pub plays_input : {A : Type 0} (result : Result A ServeFault) (May : KeepFault → Type 0) (was is : Keeping) (input left written gained : Option (List ℕ)) (old new : Holding) → IsDatabase old.database → IsLineOf old.database old.line
-      → OnOk result (ServesAll (IsDoneBy workers Answers Gives) input left written gained old new)
-      → IfErr result (λ fault. ServesFrontKept (IsDoneBy workers Answers Gives) fault May was is input left written gained old new) → PlaysInput input left old new
-  plays_input (Ok done) May was is input left written gained old new is_db of served front =
+  pub plays_input : {A : Type 0} (result : Result A ServeFault) (May : KeepFault → Type 0) (was is : Keeping) (io : Exchange) (old new : Holding) → IsDatabase old.database → IsLineOf old.database old.line
+      → OnOk result (ServesAll (IsDoneBy workers Answers Gives) io old new)
+      → IfErr result (λ fault. ServesFrontKept (IsDoneBy workers Answers Gives) fault May was is io old new) → PlaysInput io.input io.left old new
+  plays_input (Ok done) May was is io old new is_db of served front =
       (served.bytes, [], served.lines, served.consumed, served.spelled, played (IsDoneBy workers Answers Gives) forget old.database old.line new.line served.lines served.text is_db of served.met)
-  plays_input (Err fault) May was is input left written gained old new is_db of served front = plays_front (IsDoneBy workers Answers Gives) forget fault input left written gained old new is_db of front.0
+  plays_input (Err fault) May was is io old new is_db of served front = plays_front (IsDoneBy workers Answers Gives) forget fault io old new is_db of front.0
 
   pub plays_unread : (input written : Option (List ℕ)) (old : Holding) → IsDatabase old.database → IsLineOf old.database old.line → PlaysInput input input old old
-  plays_unread input written old is_db of = plays_front (IsDoneBy workers Answers Gives) forget Workers input input written written old old is_db of (serves_none (IsDoneBy workers Answers Gives) input written old)
+  plays_unread input written old is_db of = plays_front (IsDoneBy workers Answers Gives) forget Workers (over input input written written) old old is_db of (serves_none (IsDoneBy workers Answers Gives) input written old)

@@ -7,8 +7,8 @@ use Rattle.rc_model.specs.Database.{Database, IsDatabase}
 use Rattle.rc_model.specs.Line.{Line, IsEntryAt, IsNext, cursor, states, Entry, State}
 use Rattle.rc_line.proofs.Fronts.{get_after}
 use Rattle.rc_model.proofs.Lines.{next_cursor}
-use Rattle.rc_model.specs.Plan.{IsPlanTo, Nothing, PlanSets}
-use Rattle.rc_model.specs.Session.{Command, Redo, Undo, IsLineOf, IsStateOf, IsOwnFault, IsTask, IsWay}
+use Rattle.rc_model.specs.Plan.{IsPlanTo, PlanSets}
+use Rattle.rc_model.specs.Session.{Command, Redo, Undo, IsLineOf, IsStateOf, IsOwnFault, IsTask, IsWay, Nothing}
 use Rattle.rc_model.specs.declared.Refusal.{Refusal}
 use Rattle.rc_render.specs.AnswerText.{words_of}
 use Rattle.rc_render.specs.Names.{ok_line}

@@ -1,6 +1,7 @@
 -- How a line ends: all that was planned is done, or it is refused, or something is in its way.
 use Rattle.std.specs.Prelude.{◌≡◌, ◌⊎◌, ◌++◌, ℕ, true, List, [], Option, None, take}
 use Rattle.std.specs.Io.KnownBytes.{Appends}
+use Rattle.rc_model.specs.Headline.{HasRun}
 use Rattle.rc_model.specs.Names.{Holds}
 use Rattle.rc_streams.specs.Input.{AppendsFront}
 use Rattle.rc_graph.specs.declared.Way.{Way}
@@ -10,7 +11,7 @@ use Rattle.rc_model.specs.Run.{TargetOf, course_of}
 use Rattle.rc_model.specs.declared.Event.{Event}
 use Rattle.rc_model.specs.declared.Outcome.{Outcome}
 use Rattle.rc_model.specs.Line.{Line}
-use Rattle.rc_model.specs.Session.{Command, Change, HasRun, Does, Reported, IsTask}
+use Rattle.rc_model.specs.Session.{Command, Change, Does, Reported, IsTask}
 use Rattle.rc_session.specs.Commands.{with_events}
 use Rattle.rc_session.specs.Holding.{Holding}
 use Rattle.rc_board.specs.Made.{AreMade}

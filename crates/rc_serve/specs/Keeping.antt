@@ -1,6 +1,7 @@
 -- What a keeper keeps, and what is kept as a session goes on.
 use Rattle.std.specs.Prelude.{◌≡◌, ◌⊎◌, ◌↔◌, ◌++◌, ℕ, Bool, true, List, Option, Result, MatchResult, take}
 use Rattle.std.specs.Io.KnownBytes.{Appends, Consumes}
+use Rattle.rc_streams.specs.Exchange.{Exchange}
 use Rattle.rc_streams.specs.Taking.{Held, HandsLine, Takes}
 use Rattle.rc_model.specs.Database.{Database}
 use Rattle.rc_model.specs.Line.{Line}
@@ -64,32 +65,32 @@ IsKeptAt fault May was is d first here line written = IsKeptUp was is d first li
 
 -- the beginning of the input that was served, and what is kept of it
 abbrev pub ServesFrontKept : Doing → ServeFault → (May : KeepFault → Type 0) → (was is : Keeping)
-    → (input left written gained : Option (List ℕ)) → Holding → Holding → Type 0
-ServesFrontKept Done fault May was is input left written gained old new =
-    (served : ServesFront Done fault input left written gained old new)
+    → Exchange → Holding → Holding → Type 0
+ServesFrontKept Done fault May was is io old new =
+    (served : ServesFront Done fault io old new)
     × IsKeptAt fault May was is old.database old.line served.here new.line served.told.0
 
 -- the same where these transitions fail
 abbrev pub ServesFrontFailingKept : ServeFault → (May : KeepFault → Type 0) → (was is : Keeping)
-    → (ℕ → Way → Bool) → (input left written gained : Option (List ℕ)) → Holding → Holding → Type 0
+    → (ℕ → Way → Bool) → Exchange → Holding → Holding → Type 0
 ServesFrontFailingKept fault May was is fails = ServesFrontKept (IsDoneFailing fails) fault May was is
 
 -- a fault came: with no further line met, nothing written, and what stands kept as it was; or with
 -- one more met, and a prefix of its answer written, of which there is something only where what it
 -- leaves is kept
 abbrev pub StopsAt : Doing → ServeFault → (May : KeepFault → Type 0) → (was is : Keeping)
-    → (input left : Option (List ℕ)) → Held → Held → (written gained : Option (List ℕ))
-    → Holding → Holding → Type 0
-StopsAt Done fault May was is input left before after written gained old new =
-    ((takes : Takes input left before.taken after.taken) × (new.line ≡ old.line) × (gained ≡ written)
+    → Exchange → Held → Held → Holding → Holding → Type 0
+StopsAt Done fault May was is io before after old new =
+    ((takes : Takes io.input io.left before.taken after.taken) × (new.line ≡ old.line)
+    × (io.gained ≡ io.written)
     × StandsAt fault (old.spoiled ≡ true)
     (NextWantsWork old.database old.line (before.pending ++ takes.bytes))
     after.taken (before.pending ++ takes.bytes)
     × IsKeptUp was is old.database old.line new.line)
     ⊎ (IsOfLine fault × (ends : Bool) × (bytes : List ℕ) × (text : List ℕ)
-    × HandsLine ends input left before after bytes
+    × HandsLine ends io.input io.left before after bytes
     × MeetsBytes Done old.database old.line bytes text new.line
-    × (n : ℕ) × Appends written gained (take n text)
+    × (n : ℕ) × Appends io.written io.gained (take n text)
     × (IsKeptUp was is old.database old.line new.line
     ⊎ (IsOfKeeping May fault × (n ≡ 0) × IsKeptOn was is)))
 

@@ -1,7 +1,7 @@
 -- What an input comes to where certain transitions fail: its bytes are determined, and no workers and no events occur in it.
 use Rattle.std.specs.Prelude.{◌≡◌, ◌⊎◌, ◌↔◌, ℕ, Bool, true, false, List, [], length, All, Option}
 use Rattle.std.specs.Io.KnownBytes.{Consumes}
-use Rattle.rc_model.specs.Names.{Has, Holds, Lists}
+use Rattle.rc_model.specs.Names.{Has, Holds}
 use Rattle.rc_graph.specs.declared.Way.{Way}
 use Rattle.rc_model.specs.Database.{Database}
 use Rattle.rc_model.specs.Plan.{PlanSets}
@@ -9,11 +9,12 @@ use Rattle.rc_model.specs.declared.Outcome.{Outcome}
 use Rattle.rc_model.specs.Run.{course_of, is_success}
 use Rattle.rc_core.specs.End.{EndOf}
 use Rattle.rc_core.specs.Failing.{WouldFail, IsTriedInVain, IsBlocked}
-use Rattle.rc_model.specs.Line.{IsGained, Line}
+use Rattle.rc_model.specs.Line.{IsGained, Line, Lists}
 use Rattle.rc_model.specs.Session.{Command, Change, Undo, Redo, Add, Delete, Reported, IsTask, MovesBy}
 use Rattle.rc_session.specs.Holding.{Holding}
 use Rattle.rc_render.specs.ReportText.{report_text}
 use Rattle.rc_script.specs.Says.{Saying, SaysStep, Says}
+use Rattle.rc_streams.specs.Exchange.{Exchange}
 use Rattle.rc_serve.specs.declared.fault.ServeFault.{ServeFault}
 use Rattle.rc_serve.specs.Meeting.{Doing, IsEdited}
 use Rattle.rc_serve.specs.Serving.{AreLines, Serves, ServesAll, ServesFront}
@@ -66,13 +67,12 @@ SessionText fails d here bytes text new = (lines : List (List ℕ)) × AreLines 
     × Serves (IsDoneFailing fails) d here lines text new
 
 -- the whole input was read, and what was written is the text of the session
-abbrev pub ServesFailing : (ℕ → Way → Bool) → (input left written gained : Option (List ℕ))
-    → Holding → Holding → Type 0
+abbrev pub ServesFailing : (ℕ → Way → Bool) → Exchange → Holding → Holding → Type 0
 ServesFailing fails = ServesAll (IsDoneFailing fails)
 
 -- a prefix of the input was read, and what was written is a prefix of its text; and then a fault came
-abbrev pub ServesFrontFailing : ServeFault → (ℕ → Way → Bool)
-    → (input left written gained : Option (List ℕ)) → Holding → Holding → Type 0
+abbrev pub ServesFrontFailing : ServeFault → (ℕ → Way → Bool) → Exchange
+    → Holding → Holding → Type 0
 ServesFrontFailing fault fails = ServesFront (IsDoneFailing fails) fault
 
 -- a gate that may answer so lets exactly these transitions fail

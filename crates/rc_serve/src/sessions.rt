@@ -1,5 +1,6 @@
 //! A session over a reader and a writer.
 ghost use Rattle.std.specs.Prelude.{◌≡◌, ◌⊎◌, ◌≤◌, ◌↔◌, ℕ, Bool, true, false, Err, IfOk, OnOk, IfErr, MatchResult};
+ghost use Rattle.rc_streams.specs.Exchange.{exchanged};
 ghost use Rattle.rc_streams.specs.Input.{ConsumesAtMost};
 ghost use Rattle.rc_streams.specs.Noting.{HasFailed, IsFlushed, inner_of};
 ghost use Rattle.rc_graph.specs.declared.Way.{Way};
@@ -53,8 +54,8 @@ pub fn serve<T: Threads + Wait + Sync, R: Read, W: Write, K: Keeper, G: Gate>(
 
     // The whole input was read, and what was written is the answers to all its lines.
     ensures done { OnOk result (ServesAll (IsDoneBy workers (G.answers gate.now) (G.gives gate.now))
-        (R.remaining (inner_of reader.old)) (R.remaining (inner_of reader.new))
-        (W.contents (inner_of writer.old)) (W.contents (inner_of writer.new)) session.old session.new) }
+        (exchanged R.remaining W.contents reader.old reader.new writer.old writer.new)
+        session.old session.new) }
 
     // The line of states that stands is kept, or none was altered.
     ensures kept { OnOk result (IsKeptUp (K.keeps keeper.old) (K.keeps keeper.new)
@@ -75,8 +76,8 @@ pub fn serve<T: Threads + Wait + Sync, R: Read, W: Write, K: Keeper, G: Gate>(
     ensures begun { IfErr result (λ fault. ServesFrontKept
         (IsDoneBy workers (G.answers gate.now) (G.gives gate.now)) fault
         K.fails (K.keeps keeper.old) (K.keeps keeper.new)
-        (R.remaining (inner_of reader.old)) (R.remaining (inner_of reader.new))
-        (W.contents (inner_of writer.old)) (W.contents (inner_of writer.new)) session.old session.new) }
+        (exchanged R.remaining W.contents reader.old reader.new writer.old writer.new)
+        session.old session.new) }
 
     // Where the gate lets exactly certain transitions fail, and no limit is reached, what was written is the text of the
     // session for these, or a prefix of it: its bytes hang neither on the number of workers nor on who was quicker.
@@ -84,16 +85,14 @@ pub fn serve<T: Threads + Wait + Sync, R: Read, W: Write, K: Keeper, G: Gate>(
         FailsExactly (G.answers gate.now) fails →
         IsTimeless (G.gives gate.now) (R.remaining (inner_of reader.old)) →
         OnOk result (ServesFailing fails
-        (R.remaining (inner_of reader.old)) (R.remaining (inner_of reader.new))
-        (W.contents (inner_of writer.old)) (W.contents (inner_of writer.new))
+        (exchanged R.remaining W.contents reader.old reader.new writer.old writer.new)
         session.old session.new) }
     ensures front { (fails : ℕ → Way → Bool) →
         FailsExactly (G.answers gate.now) fails →
         IsTimeless (G.gives gate.now) (R.remaining (inner_of reader.old)) →
         IfErr result (λ fault. ServesFrontFailingKept fault
         K.fails (K.keeps keeper.old) (K.keeps keeper.new) fails
-        (R.remaining (inner_of reader.old)) (R.remaining (inner_of reader.new))
-        (W.contents (inner_of writer.old)) (W.contents (inner_of writer.new))
+        (exchanged R.remaining W.contents reader.old reader.new writer.old writer.new)
         session.old session.new) }
 
     // Whatever the result, the commands among the lines that were met are played, and the headline holds all along.
@@ -155,8 +154,8 @@ fn serve_lines<T: Threads + Wait + Sync, R: Read, W: Write, K: Keeper, G: Gate>(
     requires writer { HasFailed writer.old → ⊥ }
     requires crew { IsCrew workers }
     ensures done { OnOk result (ServesAll (IsDoneBy workers (G.answers gate.now) (G.gives gate.now))
-        (R.remaining (inner_of reader.old)) (R.remaining (inner_of reader.new))
-        (W.contents (inner_of writer.old)) (W.contents (inner_of writer.new)) session.old session.new) }
+        (exchanged R.remaining W.contents reader.old reader.new writer.old writer.new)
+        session.old session.new) }
     ensures kept { OnOk result (IsKeptUp (K.keeps keeper.old) (K.keeps keeper.new)
         session.old.database session.old.line session.new.line) }
     ensures unaltered { AltersNone (IsDoneBy workers (G.answers gate.now) (G.gives gate.now))
@@ -165,8 +164,8 @@ fn serve_lines<T: Threads + Wait + Sync, R: Read, W: Write, K: Keeper, G: Gate>(
     ensures begun { IfErr result (λ fault. ServesFrontKept
         (IsDoneBy workers (G.answers gate.now) (G.gives gate.now)) fault
         K.fails (K.keeps keeper.old) (K.keeps keeper.new)
-        (R.remaining (inner_of reader.old)) (R.remaining (inner_of reader.new))
-        (W.contents (inner_of writer.old)) (W.contents (inner_of writer.new)) session.old session.new) }
+        (exchanged R.remaining W.contents reader.old reader.new writer.old writer.new)
+        session.old session.new) }
     ensures flushed { MatchResult result (λ _. IsFlushed writer.old → IsFlushed writer.new) (λ fault. IsOfAnswer fault ⊎ (IsFlushed writer.old → IsFlushed writer.new)) }
     ensures sound { OnOk result ((HasFailed reader.new → ⊥) × (HasFailed writer.new → ⊥)) }
     ensures told { HasFailed reader.new → result ≡ Err ServeFault.Read }
@@ -200,16 +199,16 @@ fn next_answer<T: Threads + Wait + Sync, R: Read, W: Write, K: Keeper, G: Gate>(
     requires writer { HasFailed writer.old → ⊥ }
     requires crew { IsCrew workers }
     ensures next { IfOk result (λ more. ServesNext (IsDoneBy workers (G.answers gate.now) (G.gives gate.now)) more
-        (R.remaining (inner_of reader.old)) (R.remaining (inner_of reader.new)) lines.old lines.new
-        (W.contents (inner_of writer.old)) (W.contents (inner_of writer.new)) session.old session.new) }
+        (exchanged R.remaining W.contents reader.old reader.new writer.old writer.new)
+        lines.old lines.new session.old session.new) }
     ensures kept { OnOk result (IsKeptUp (K.keeps keeper.old) (K.keeps keeper.new)
         session.old.database session.old.line session.new.line) }
     ensures unaltered { session.new.line ≡ session.old.line → keeper.new ≡ keeper.old }
     ensures stopped { IfErr result (λ fault. StopsAt
         (IsDoneBy workers (G.answers gate.now) (G.gives gate.now)) fault
         K.fails (K.keeps keeper.old) (K.keeps keeper.new)
-        (R.remaining (inner_of reader.old)) (R.remaining (inner_of reader.new)) lines.old lines.new
-        (W.contents (inner_of writer.old)) (W.contents (inner_of writer.new)) session.old session.new) }
+        (exchanged R.remaining W.contents reader.old reader.new writer.old writer.new)
+        lines.old lines.new session.old session.new) }
     ensures flushed { MatchResult result (λ _. IsFlushed writer.old → IsFlushed writer.new) (λ fault. IsOfAnswer fault ⊎ (IsFlushed writer.old → IsFlushed writer.new)) }
     ensures stays { Stays session.old session.new }
     ensures reader { OnOk result (HasFailed reader.new → ⊥) }

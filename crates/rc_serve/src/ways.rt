@@ -3,8 +3,8 @@ ghost use Rattle.std.specs.Prelude.{◌≡◌, ◌<◌, ◌++◌, [], ℕ, List,
 ghost use Rattle.std.specs.Io.KnownBytes.{Appends};
 ghost use Rattle.rc_model.specs.Names.{Has};
 ghost use Rattle.rc_model.specs.Line.{states, State};
-ghost use Rattle.rc_model.specs.Plan.{IsPlanTo, Nothing};
-ghost use Rattle.rc_model.specs.Session.{Redo, Undo};
+ghost use Rattle.rc_model.specs.Plan.{IsPlanTo};
+ghost use Rattle.rc_model.specs.Session.{Redo, Undo, Nothing};
 ghost use Rattle.rc_render.specs.Names.{ok_line};
 ghost use Rattle.rc_render.specs.PlanText.{IsPlanText};
 ghost use Rattle.rc_serve.specs.declared.ending.Ending.TheVariants.{Done};

@@ -3,11 +3,11 @@ use Rattle.std.proofs.Common.{◌≡◌, ◌≢◌, ◌⊎◌, ℕ, suc, inl, in
 use Rattle.std.proofs.lemmas.Bool.{cases_lt}
 use Rattle.rc_model.specs.Names.{IsName}
 use Rattle.rc_model.proofs.ByteOrder.{same_or_other}
-use Rattle.rc_model.specs.Database.{Bundles, names_of, IsTable, Database, IsDatabase, IsKnown}
+use Rattle.rc_model.specs.Database.{Bundles, names_of, IsTable, Database, IsDatabase, IsKnown, IsBundle}
 use Rattle.rc_model.specs.declared.Mode.{Mode}
 use Rattle.rc_model.specs.declared.Mode.TheVariants.{Up, Down, DownAll}
 use Rattle.rc_model.specs.Plan.{Ask, CanPlan}
-use Rattle.rc_model.specs.Line.{IsBundle, MayBeDefined, CanAdd, CanDelete, State, Line, within_bound, MovesTo, put_last, with_live, with_table}
+use Rattle.rc_model.specs.Line.{MayBeDefined, CanAdd, CanDelete, State, Line, within_bound, MovesTo, put_last, with_live, with_table}
 use Rattle.rc_model.specs.declared.Event.{Event}
 use Rattle.rc_model.specs.Run.{course_of}
 use Rattle.rc_model.proofs.Walking.{current_table}

@@ -1,13 +1,13 @@
 -- Each task can be carried out with nothing failing: some events are a run of it, and they come to its target.
 use Rattle.std.proofs.Common.{◌≡◌, ◌∙◌, ℕ, Bool, true, false, List, [], length, refl, rules, sym}
-use Rattle.rc_model.specs.Names.{Has, Lists}
+use Rattle.rc_model.specs.Names.{Has}
 use Rattle.rc_model.proofs.SetMembers.{has_or_lacks, has_within}
 use Rattle.rc_model.specs.Plan.{PlanSets}
 use Rattle.rc_model.specs.declared.Event.{Event}
 use Rattle.rc_model.specs.Run.{Course, TargetOf, HasFailed, IsStopped, IsLeft}
 use Rattle.rc_model.specs.Beside.{IsCourse}
 use Rattle.rc_core.proofs.Places.{planned_within}
-use Rattle.rc_model.specs.Line.{IsGained}
+use Rattle.rc_model.specs.Line.{IsGained, Lists}
 use Rattle.rc_model.specs.Session.{Reported, IsReportOf, EndsWith}
 use Rattle.rc_session.proofs.Deciding.{Decided, both, not, set_of, holds_of, ids_of, ids_of_set}
 use Rattle.rc_session.proofs.WellRuns.{well_run, left_decided, ends_there, target_decided, target_within}

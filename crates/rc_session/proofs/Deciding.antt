@@ -1,7 +1,8 @@
 -- What can be decided: a fact holds or does not.
 use Rattle.std.proofs.Common.{◌≡◌, ◌≢◌, ◌∙◌, ◌↔◌, ◌⊎◌, ℕ, zero, suc, ◌+◌, ◌<◌, inl, inr, Bool, true, false, List, [], ◌∷◌, ◌++◌, length, slice_index_or, Contains, refl, arith, ap, subst}
 use Rattle.std.proofs.lemmas.Bool.{cases_eq, cases_lt}
-use Rattle.rc_model.specs.Names.{Has, Holds, Lists}
+use Rattle.rc_model.specs.Line.{Lists}
+use Rattle.rc_model.specs.Names.{Has, Holds}
 use Rattle.rc_model.proofs.SetMembers.{has_or_lacks, has_within}
 use Rattle.rc_set.specs.Listed.{ListsBelow}
 use Rattle.rc_set.proofs.Listing.{one_listed, one_passed, lists_as}

@@ -4,7 +4,7 @@ use Rattle.std.proofs.lemmas.Bool.{cases_Bool}
 use Rattle.std.proofs.lemmas.List.Kept.{AllPairs-cons}
 use Rattle.std.proofs.lemmas.Slice.Eq.{bytes_eq-Decides}
 use Rattle.std.specs.Str.{bytes_eq}
-use Rattle.rc_model.specs.Names.{Has, Lists, IsBefore, IsInByteOrder}
+use Rattle.rc_model.specs.Names.{Has, IsBefore, IsInByteOrder}
 use Rattle.rc_model.proofs.ByteOrder.{same_or_other, order_tail, head_before}
 use Rattle.rc_model.proofs.Exact.{value_or_not}
 use Rattle.rc_model.proofs.Members.{contains_first, contains_later, contains_cases, none_contained}
@@ -12,7 +12,7 @@ use Rattle.rc_model.proofs.SetMembers.{has_or_lacks, has_within}
 use Rattle.rc_model.specs.Database.{Bundles, names_of, value_of, IsTable}
 use Rattle.rc_db.proofs.Values.{value_of-absent}
 use Rattle.rc_db.proofs.Words.{value_of-named}
-use Rattle.rc_model.specs.Line.{Alteration, IsAlteration, IsEdit, names_altered, State, Entry, IsEntry, IsGained}
+use Rattle.rc_model.specs.Line.{Alteration, IsAlteration, IsEdit, names_altered, State, Entry, IsEntry, IsGained, Lists}
 use Rattle.rc_session.proofs.Deciding.{both, not, member_decided, ids_of}
 use Rattle.rc_session.proofs.TablesExist.{all_from, put_in}
 

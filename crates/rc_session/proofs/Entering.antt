@@ -1,7 +1,6 @@
 use Rattle.std.proofs.Common.{◌≡◌, ◌∙◌, ◌≤◌, refl, [], ◌∷◌, inl, inr, ap, sym, subst}
-use Rattle.rc_model.specs.Names.{Lists}
 use Rattle.rc_model.specs.Database.{Database}
-use Rattle.rc_model.specs.Line.{IsEdit, State, Entry, IsEntry, IsGained, Line, IsNext, MovesTo, put_last, with_live, with_table}
+use Rattle.rc_model.specs.Line.{IsEdit, State, Entry, IsEntry, IsGained, Line, IsNext, MovesTo, put_last, with_live, with_table, Lists}
 use Rattle.rc_model.proofs.Fitting.{fitted_back, fitted_current, fitted_last}
 use Rattle.rc_model.specs.Session.{IsLineOf}
 use Rattle.rc_line.proofs.Rewriting.{no_edit}

@@ -5,8 +5,8 @@ use Rattle.rc_model.proofs.Walking.{current_table}
 use Rattle.rc_model.proofs.Lines.{cons_head, cons_tail}
 use Rattle.rc_model.proofs.Fitting.{Loses, Oldest, Last, fitted_cases, fitted_back, fitted_on, fitted_current}
 use Rattle.rc_line.proofs.Closings.{last_same}
-use Rattle.rc_model.specs.Session.{Command, Change, Undo, Redo, Add, Delete, IsUndo, IsRedo, Reported, Does, IsLineOf}
-use Rattle.rc_model.specs.Headline.{LeavesAhead, RedosLeaveWhatRemains, IsFull, AreLeftBefore, AreLeftAfter, UndosGoOn, RedosGoOn}
+use Rattle.rc_model.specs.Session.{Command, Change, Undo, Redo, Add, Delete, Reported, Does, IsLineOf}
+use Rattle.rc_model.specs.Headline.{LeavesAhead, RedosLeaveWhatRemains, IsFull, AreLeftBefore, AreLeftAfter, UndosGoOn, RedosGoOn, IsUndo, IsRedo}
 use Rattle.rc_session.proofs.Keeping.{answer_keeps}
 use Rattle.rc_session.proofs.Neighbours.{one_back, one_on, push_front}
 use Rattle.rc_session.proofs.Entries.{entry_there, entry_ahead}
@@ -68,76 +68,80 @@ size_back back line end h = omega (arith, length-append line.before (end ∷ bac
 size_on : (line on : Line) (end : State) → IsNext line on → length (states (put_between line end on)) ≡ suc (length (states line))
 size_on line on end h = omega (arith, length-append on.before (end ∷ line.after), length-append line.before (line.current ∷ line.after), ap length h.left, length-append line.before (line.current ∷ []))
 
+-- where a state was put between that is not the current one, the line is another
+moves : (line full there : Line) → full.current ≢ line.current → there ≡ within_bound full → there ≢ line
+moves line full there differs made stays = differs (sym (fitted_current full) ∙ ap (λ (l : Line). l.current) (sym made ∙ stays))
+
 -- the state before the current one, and those before it, where that one stands after a state that was put between
-back_there : (back line there new : Line) (end : State) → IsLine line → IsNext back line → there ≡ within_bound (put_between back end line) → IsNext new there → (new.current ≡ back.current) × AreLeftBefore line back.before new.before
-back_there back line there new end is h made next =
+back_there : (back line there new : Line) (end : State) → IsLine line → end ≢ line.current → IsNext back line → there ≡ within_bound (put_between back end line) → IsNext new there → (new.current ≡ back.current) × AreLeftBefore line there back.before new.before
+back_there back line there new end is differs h made next =
     let full : Line = put_between back end line in
     let three : 3 ≤ full.bound = omega (arith, is.bound.0, h.bound) in
     elim (fitted_cases full three) [
       | inl all ↦
           let same : new.before ++ new.current ∷ [] ≡ back.before ++ back.current ∷ [] = sym next.left ∙ ap (λ l. l.before) (made ∙ all) ∙ h.left in
           (last_same new.before back.before new.current back.current same, inl (push_front new.before back.before new.current back.current same))
-      | inr (many, loses) ↦ back_lost back line there new end is h (made) next many loses
+      | inr (many, loses) ↦ back_lost back line there new end is differs h made next many loses
     ]
   where
-    back_lost : (back line there new : Line) (end : State) → IsLine line → IsNext back line → there ≡ within_bound (put_between back end line) → IsNext new there
+    back_lost : (back line there new : Line) (end : State) → IsLine line → end ≢ line.current → IsNext back line → there ≡ within_bound (put_between back end line) → IsNext new there
         → back.bound < length (states (put_between back end line)) → Loses (put_between back end line) (within_bound (put_between back end line))
-        → (new.current ≡ back.current) × AreLeftBefore line back.before new.before
-    back_lost back line there new end is h made next many (Oldest gone second rest front left) =
+        → (new.current ≡ back.current) × AreLeftBefore line there back.before new.before
+    back_lost back line there new end is differs h made next many (Oldest gone second rest front left) =
         let same : (gone ∷ new.before) ++ new.current ∷ [] ≡ back.before ++ back.current ∷ [] =
         ap (λ (l : List State). gone ∷ l) (sym next.left ∙ ap (λ l. l.before) (made ∙ left)) ∙ sym front ∙ h.left in (
           last_same (gone ∷ new.before) back.before new.current back.current same,
-          inr (full_of line (put_between back end line) is (size_back back line end h) (sym h.bound) many, (gone, sym (push_front (gone ∷ new.before) back.before new.current back.current same))),
+          inr (moves line (put_between back end line) there differs made, full_of line (put_between back end line) is (size_back back line end h) (sym h.bound) many, (gone, sym (push_front (gone ∷ new.before) back.before new.current back.current same))),
         )
-    back_lost back line there new end is h made next many (Last gone on rest after left few) =
+    back_lost back line there new end is differs h made next many (Last gone on rest after left few) =
         let same : new.before ++ new.current ∷ [] ≡ back.before ++ back.current ∷ [] = sym next.left ∙ ap (λ l. l.before) (made ∙ left) ∙ h.left in
         (last_same new.before back.before new.current back.current same, inl (push_front new.before back.before new.current back.current same))
 
 -- after where an undo that did not come to the state before has put the line stands that state
-back_again : (back line there new : Line) (live : List Bool) → IsLine line → IsNext back line → MovesByUndo line live there → there ≢ back → IsNext new there → (new.current ≡ back.current) × AreLeftBefore line back.before new.before
+back_again : (back line there new : Line) (live : List Bool) → IsLine line → IsNext back line → MovesByUndo line live there → there ≢ back → IsNext new there → (new.current ≡ back.current) × AreLeftBefore line there back.before new.before
 back_again back line there new live is h u other next = elim u.2 [
   | inl reached ↦ absurd (other (reached.1 ∙ one_back u.0 back line u.1 h))
   | inr rest ↦ elim rest [
     | inl here ↦ let same : new ≡ back = one_back new back line (subst (IsNext new) here.2 next) h in (ap (λ l. l.current) same, inl (ap (λ l. l.before) same))
-    | inr between ↦ back_there back line there new (with_live line live) is h (between.2 ∙ ap (λ l. within_bound (put_between l (with_live line live) line)) (one_back u.0 back line u.1 h)) next
+    | inr between ↦ back_there back line there new (with_live line live) is (λ same. between.1 (ap (λ (s : State). s.live) same)) h (between.2 ∙ ap (λ l. within_bound (put_between l (with_live line live) line)) (one_back u.0 back line u.1 h)) next
   ]
 ]
 
 -- the state after the current one, and those after it, where that one stands ahead of a state that was put between
-on_there : (on line there new : Line) (end : State) → IsLine line → IsNext line on → there ≡ within_bound (put_between line end on) → IsNext there new → (new.current ≡ on.current) × AreLeftAfter line on.after new.after
-on_there on line there new end is h made next = elim (fitted_cases (put_between line end on) is.bound.0) [
+on_there : (on line there new : Line) (end : State) → IsLine line → end ≢ line.current → IsNext line on → there ≡ within_bound (put_between line end on) → IsNext there new → (new.current ≡ on.current) × AreLeftAfter line there on.after new.after
+on_there on line there new end is differs h made next = elim (fitted_cases (put_between line end on) is.bound.0) [
   | inl all ↦ on_kept on line there new end h (ap (λ l. l.after) (made ∙ all)) next
-  | inr (many, loses) ↦ on_lost on line there new end is h made next many loses
+  | inr (many, loses) ↦ on_lost on line there new end is differs h made next many loses
 ]
   where
-    on_kept : (on line there new : Line) (end : State) → IsNext line on → there.after ≡ line.after → IsNext there new → (new.current ≡ on.current) × AreLeftAfter line on.after new.after
+    on_kept : (on line there new : Line) (end : State) → IsNext line on → there.after ≡ line.after → IsNext there new → (new.current ≡ on.current) × AreLeftAfter line there on.after new.after
     on_kept on line there new end h after next =
         let same : new.current ∷ new.after ≡ on.current ∷ on.after = sym next.reached ∙ after ∙ h.reached in
         (cons_head new.current on.current new.after on.after same, inl (cons_tail new.current on.current new.after on.after same))
 
-    on_lost : (on line there new : Line) (end : State) → IsLine line → IsNext line on → there ≡ within_bound (put_between line end on) → IsNext there new
+    on_lost : (on line there new : Line) (end : State) → IsLine line → end ≢ line.current → IsNext line on → there ≡ within_bound (put_between line end on) → IsNext there new
         → line.bound < length (states (put_between line end on)) → Loses (put_between line end on) (within_bound (put_between line end on))
-        → (new.current ≡ on.current) × AreLeftAfter line on.after new.after
-    on_lost on line there new end is h made next many (Oldest gone second rest front left) = on_kept on line there new end h (ap (λ l. l.after) (made ∙ left)) next
-    on_lost on line there new end is h made next many (Last gone first rest after left few) =
+        → (new.current ≡ on.current) × AreLeftAfter line there on.after new.after
+    on_lost on line there new end is differs h made next many (Oldest gone second rest front left) = on_kept on line there new end h (ap (λ l. l.after) (made ∙ left)) next
+    on_lost on line there new end is differs h made next many (Last gone first rest after left few) =
         let there_is : new.current ∷ new.after ≡ first ∷ rest = sym next.reached ∙ ap (λ l. l.after) (made ∙ left) in
         let same : new.current ∷ (new.after ++ gone ∷ []) ≡ on.current ∷ on.after = ap (λ (l : List State). l ++ gone ∷ []) there_is ∙ sym after ∙ h.reached in (
           cons_head new.current on.current (new.after ++ gone ∷ []) on.after same,
-          inr (full_of line (put_between line end on) is (size_on line on end h) refl many, (gone, sym (cons_tail new.current on.current (new.after ++ gone ∷ []) on.after same))),
+          inr (moves line (put_between line end on) there differs made, full_of line (put_between line end on) is (size_on line on end h) refl many, (gone, sym (cons_tail new.current on.current (new.after ++ gone ∷ []) on.after same))),
         )
 
 -- and ahead of where such a redo has put it stands the state after
-on_again : (on line there new : Line) (live : List Bool) → IsLine line → IsNext line on → MovesByRedo line live there → there ≢ on → IsNext there new → (new.current ≡ on.current) × AreLeftAfter line on.after new.after
+on_again : (on line there new : Line) (live : List Bool) → IsLine line → IsNext line on → MovesByRedo line live there → there ≢ on → IsNext there new → (new.current ≡ on.current) × AreLeftAfter line there on.after new.after
 on_again on line there new live is h r other next = elim r.2 [
   | inl reached ↦ absurd (other (reached.1 ∙ one_on line r.0 on r.1 h))
   | inr rest ↦ elim rest [
     | inl here ↦ let same : new ≡ on = one_on line new on (subst (λ l. IsNext l new) here.2 next) h in (ap (λ l. l.current) same, inl (ap (λ l. l.after) same))
-    | inr between ↦ on_there on line there new (with_live line live) is h (between.2 ∙ ap (λ l. within_bound (put_between line (with_live line live) l)) (one_on line r.0 on r.1 h)) next
+    | inr between ↦ on_there on line there new (with_live line live) is (λ same. between.1 (ap (λ (s : State). s.live) same)) h (between.2 ∙ ap (λ l. within_bound (put_between line (with_live line live) l)) (one_on line r.0 on r.1 h)) next
   ]
 ]
 
 module _ (d : Database) (is_db : IsDatabase d) (line : Line) (of : IsLineOf d line) where
-  after_undo : (back there new : Line) (first : Command) (told : Reported) → IsUndo first → IsNext back line → Does d line first told there → there ≢ back → IsNext new there → (new.current ≡ back.current) × AreLeftBefore line back.before new.before
+  after_undo : (back there new : Line) (first : Command) (told : Reported) → IsUndo first → IsNext back line → Does d line first told there → there ≢ back → IsNext new there → (new.current ≡ back.current) × AreLeftBefore line there back.before new.before
   after_undo back there new (Undo limit events) told undo h does other next = elim does [
     | inl run ↦ back_again back line there new run.live of.is_line h run.moved other next
     | inr edit ↦ absurd edit.altered
@@ -147,7 +151,7 @@ module _ (d : Database) (is_db : IsDatabase d) (line : Line) (of : IsLineOf d li
   after_undo back there new (Add name contents force) told undo h does other next = absurd undo
   after_undo back there new (Delete words force) told undo h does other next = absurd undo
 
-  after_redo : (on there new : Line) (first : Command) (told : Reported) → IsRedo first → IsNext line on → Does d line first told there → there ≢ on → IsNext there new → (new.current ≡ on.current) × AreLeftAfter line on.after new.after
+  after_redo : (on there new : Line) (first : Command) (told : Reported) → IsRedo first → IsNext line on → Does d line first told there → there ≢ on → IsNext there new → (new.current ≡ on.current) × AreLeftAfter line there on.after new.after
   after_redo on there new (Redo limit events) told redo h does other next = elim does [
     | inl run ↦ on_again on line there new run.live of.is_line h run.moved other next
     | inr edit ↦ absurd edit.altered

@@ -1,23 +1,34 @@
-use Rattle.std.proofs.Common.{◌≡◌, ◌∙◌, ◌≤◌, Bool, List, [], ◌∷◌, ◌++◌, ◌⊎◌, length, length-append, inl, inr, ap, sym, subst, arith}
+use Rattle.std.proofs.Common.{◌≡◌, ◌∙◌, ◌≤◌, Bool, List, [], ◌∷◌, ◌++◌, ◌⊎◌, length, length-append, inl, inr, refl, ap, sym, subst, arith}
 use Rattle.rc_model.specs.Database.{Database}
-use Rattle.rc_model.specs.Line.{State, Line, states, cursor, within_bound, MovesTo, MovesByUndo, MovesByRedo, put_between, put_last, with_live, with_table}
-use Rattle.rc_model.proofs.Lines.{push_append, next_states}
-use Rattle.rc_model.proofs.Fitting.{fitted_cases, fitted_bound, fitted_current, one_goes}
+use Rattle.rc_model.specs.Line.{State, Line, IsNext, cursor, within_bound, MovesTo, MovesByUndo, MovesByRedo, put_between, put_last, with_live, with_table}
+use Rattle.rc_line.proofs.Closings.{same_line}
+use Rattle.rc_model.proofs.Fitting.{Loses, Oldest, Last, fitted_cases, fitted_bound, fitted_current}
 use Rattle.rc_model.specs.Session.{Command, Change, Undo, Redo, Add, Delete, Reported, DoesByRun, DoesByEdit, IsLineOf}
-use Rattle.rc_model.specs.Headline.{Keeps, KeepsHistory, HistoryIsKept}
+use Rattle.rc_model.specs.Headline.{LosesOne, Keeps, KeepsHistory, HistoryIsKept}
 
--- a line that is fitted keeps the states that it had, where one stands before the current one
-fits : (held : List State) (full new : Line) → 3 ≤ full.bound → 1 ≤ cursor full → states full ≡ held → new ≡ within_bound full → Keeps held new
-fits held full new three some is same = subst (Keeps held) (sym same) (elim (fitted_cases full three) [
-  | inl all ↦ inl (ap states all ∙ is)
-  | inr (many, loses) ↦ inr (
-    omega (arith, many, ap length is, fitted_bound full),
-    elim (one_goes full (within_bound full) loses) [
-      | inl (gone, front, place, far) ↦ (gone, inl (sym is ∙ front, omega (arith, place, far)))
-      | inr (gone, back, place, near) ↦ (gone, inr (sym is ∙ back, omega (arith, place, near, some)))
-    ],
-  )
-])
+-- a line that loses a state is the one that it was but for that, where one stands before the current one
+loses : (full new : Line) → 1 ≤ cursor full → Loses full new → LosesOne full new
+loses full new some (Oldest gone second rest front made) = (
+  gone,
+  inl (
+    ap (λ (b : List State). record full { before = b }) front ∙ sym (ap (λ (l : Line). record l { before = gone ∷ l.before }) made),
+    omega (arith, ap cursor made),
+  ),
+)
+loses full new some (Last gone on rest back made few) = (
+  gone,
+  inr (
+    ap (λ (a : List State). record full { after = a }) back ∙ sym (ap (λ (l : Line). record l { after = l.after ++ gone ∷ [] }) made),
+    omega (arith, ap cursor made, some, few),
+  ),
+)
+
+-- and so does one that is fitted to its bound
+fits : (all full new : Line) → 3 ≤ full.bound → 1 ≤ cursor full → full ≡ all → new ≡ within_bound full → Keeps all new
+fits all full new three some is same = subst (λ (l : Line). Keeps l new) is (subst (Keeps full) (sym same) (elim (fitted_cases full three) [
+  | inl whole ↦ inl whole
+  | inr (many, lost) ↦ inr (omega (arith, many, fitted_bound full), loses full (within_bound full) some lost)
+]))
 
 -- the bound stays
 added_bound : (line new : Line) (end : State) → MovesTo line end new → new.bound ≡ line.bound
@@ -44,46 +55,48 @@ redone_bound line new live r = elim r.2 [
   ]
 ]
 
+-- what a line becomes, where this is it with the new state
+abbrev Leads : Line → Line → Line → Type 0
+Leads line all new = (new ≡ line) ⊎ IsNext new line ⊎ IsNext line new ⊎ Keeps all new
+
 -- a change or edit stays, or adds its end after the current state
-added : (line new : Line) (end : State) → 3 ≤ line.bound → MovesTo line end new → (states new ≡ states line) ⊎ Keeps (line.before ++ line.current ∷ new.current ∷ []) new
+added : (line new : Line) (end : State) → 3 ≤ line.bound → MovesTo line end new → Leads line (put_last line new.current) new
 added line new end three ends = elim ends [
-  | inl stays ↦ inl (ap states stays.1)
+  | inl stays ↦ inl stays.1
   | inr adds ↦
       let full : Line = put_last line end in
       let current : new.current ≡ end = ap (λ l. l.current) adds.1 ∙ fitted_current full in
-      inr (fits (line.before ++ line.current ∷ new.current ∷ []) full new three (omega (arith, length-append line.before (line.current ∷ [])))
-      (push_append line.before line.current (end ∷ []) ∙ ap (λ (s : State). line.before ++ line.current ∷ s ∷ []) (sym current)) adds.1)
+      inr (inr (inr (fits (put_last line new.current) full new three (omega (arith, length-append line.before (line.current ∷ [])))
+      (ap (put_last line) (sym current)) adds.1)))
 ]
 
 -- an undo goes back, stays, or puts its end in front of the current state
-undone : (line new : Line) (live : List Bool) → 3 ≤ line.bound → MovesByUndo line live new → (states new ≡ states line) ⊎ Keeps (line.before ++ new.current ∷ line.current ∷ line.after) new
+undone : (line new : Line) (live : List Bool) → 3 ≤ line.bound → MovesByUndo line live new → Leads line (record line { current = new.current; after = line.current ∷ line.after }) new
 undone line new live three u = elim u.2 [
-  | inl there ↦ inl (ap states there.1 ∙ sym (next_states u.0 line u.1))
+  | inl there ↦ inr (inl (subst (λ (l : Line). IsNext l line) (sym there.1) u.1))
   | inr other ↦ elim other [
-    | inl here ↦ inl (ap states here.2)
+    | inl here ↦ inl here.2
     | inr between ↦
         let full : Line = put_between u.0 (with_live line live) line in
+        let all : Line = record line { current = new.current; after = line.current ∷ line.after } in
         let current : new.current ≡ with_live line live = ap (λ l. l.current) between.2 ∙ fitted_current full in
-        inr (fits (line.before ++ new.current ∷ line.current ∷ line.after) full new (omega (arith, three, u.1.bound)) (omega (arith, ap length u.1.left, length-append u.0.before (u.0.current ∷ [])))
-        (ap (λ (after : List State). line.before ++ with_live line live ∷ after) u.1.reached ∙ ap (λ (s : State). line.before ++ s ∷ line.current ∷ line.after) (sym current)) between.2)
+        inr (inr (inr (fits all full new (omega (arith, three, u.1.bound)) (omega (arith, ap length u.1.left, length-append u.0.before (u.0.current ∷ [])))
+        (same_line full all refl (sym current) u.1.reached (sym u.1.bound)) between.2)))
   ]
 ]
 
 -- a redo goes on, stays, or puts its end after the current state
-redone : (line new : Line) (live : List Bool) → 3 ≤ line.bound → MovesByRedo line live new → (states new ≡ states line) ⊎ Keeps (line.before ++ line.current ∷ new.current ∷ line.after) new
+redone : (line new : Line) (live : List Bool) → 3 ≤ line.bound → MovesByRedo line live new → Leads line (record line { before = line.before ++ line.current ∷ []; current = new.current }) new
 redone line new live three r = elim r.2 [
-  | inl there ↦ inl (ap states there.1 ∙ next_states line r.0 r.1)
+  | inl there ↦ inr (inr (inl (subst (IsNext line) (sym there.1) r.1)))
   | inr other ↦ elim other [
-    | inl here ↦ inl (ap states here.2)
+    | inl here ↦ inl here.2
     | inr between ↦
         let full : Line = put_between line (with_live line live) r.0 in
+        let all : Line = record line { before = line.before ++ line.current ∷ []; current = new.current } in
         let current : new.current ≡ with_live line live = ap (λ l. l.current) between.2 ∙ fitted_current full in
-        inr (fits (line.before ++ line.current ∷ new.current ∷ line.after) full new three (omega (arith, ap length r.1.left, length-append line.before (line.current ∷ [])))
-        (
-        ap (λ (before : List State). before ++ with_live line live ∷ line.after) r.1.left
-        ∙ push_append line.before line.current (with_live line live ∷ line.after)
-        ∙ ap (λ (s : State). line.before ++ line.current ∷ s ∷ line.after) (sym current)
-        ) between.2)
+        inr (inr (inr (fits all full new three (omega (arith, ap length r.1.left, length-append line.before (line.current ∷ [])))
+        (same_line full all r.1.left (sym current) refl refl) between.2)))
   ]
 ]
 

@@ -6,8 +6,8 @@ use Rattle.rc_model.specs.Database.{Database, IsDatabase}
 use Rattle.rc_model.specs.Line.{Line, with_live, put_between}
 use Rattle.rc_model.proofs.Fitting.{fitted_current}
 use Rattle.rc_model.specs.declared.Refusal.{Refusal}
-use Rattle.rc_model.specs.Session.{Command, Change, Undo, Redo, Add, Delete, HasRun, events_of, Reported, EndsWith, MovesBy, DoesByRun, DoesByEdit, IsLineOf, Plays}
-use Rattle.rc_model.specs.Headline.{RanInOrder, RunsAreOrderly, IsPromised, IsPromisedAllAlong}
+use Rattle.rc_model.specs.Session.{Command, Change, Undo, Redo, Add, Delete, events_of, Reported, EndsWith, MovesBy, DoesByRun, DoesByEdit, IsLineOf, Plays}
+use Rattle.rc_model.specs.Headline.{RanInOrder, RunsAreOrderly, IsPromised, IsPromisedAllAlong, HasRun}
 use Rattle.rc_session.proofs.Keeping.{task_opening, opening_closed, plays_keep}
 use Rattle.rc_session.proofs.Entering.{ends_in, change_entered, edit_entered}
 use Rattle.rc_session.proofs.Courses.{task_is_course}

@@ -14,9 +14,9 @@ use Rattle.std.specs.Str.{bytes_eq}
 use Rattle.rc_model.specs.Names.{IsName, IsBefore, IsInByteOrder}
 use Rattle.rc_model.proofs.ByteOrder.{same_or_other, same_text, order_head, order_tail}
 use Rattle.rc_model.proofs.Members.{contains_first, contains_later, contains_cases, none_contained}
-use Rattle.rc_model.specs.Database.{Bundles, names_of, value_of, IsTable, IsChangedAt}
+use Rattle.rc_model.specs.Database.{Bundles, names_of, value_of, IsTable}
 use Rattle.rc_db.proofs.Values.{changed_at, take_out, table_without}
-use Rattle.rc_model.specs.Line.{Removes}
+use Rattle.rc_model.specs.Line.{Removes, IsChangedAt}
 use Rattle.rc_bundle.proofs.Changes.{removes_more}
 use Rattle.rc_model.proofs.Texts.{before_from_after, before_trans}
 use Rattle.rc_session.proofs.Deciding.{member_decided}

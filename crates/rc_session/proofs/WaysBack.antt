@@ -2,11 +2,11 @@
 use Rattle.std.proofs.Common.{◌≡◌, ◌∙◌, ◌<◌, ℕ, inl, inr, Bool, List, [], ◌∷◌, ◌++◌, length, Option, None, refl, sym, subst}
 use Rattle.rc_model.specs.Names.{Has, Holds}
 use Rattle.rc_model.proofs.SetMembers.{has_or_lacks, has_within}
-use Rattle.rc_model.specs.Plan.{PlanSets, IsPlanTo, Nothing}
+use Rattle.rc_model.specs.Plan.{PlanSets, IsPlanTo}
 use Rattle.rc_model.specs.Run.{course_of}
 use Rattle.rc_model.specs.Database.{Database, IsDatabase}
 use Rattle.rc_model.specs.Line.{Line, IsNext}
-use Rattle.rc_model.specs.Session.{IsWay, deadline_of, IsLineOf}
+use Rattle.rc_model.specs.Session.{IsWay, deadline_of, IsLineOf, Nothing}
 use Rattle.rc_session.specs.Existence.{WaysBack, WaysOn}
 use Rattle.rc_session.proofs.Arriving.{arrives}
 use Rattle.rc_session.proofs.CarriedOut.{goes_through}

@@ -17,6 +17,7 @@ use Rattle.rc_sessions.specs.declared.failing.GateFault.{GateFault}
 use Rattle.rc_sessions.specs.declared.failing.GateFault.TheVariants as gate
 use Rattle.rc_serve.specs.declared.fault.ServeFault.{ServeFault}
 use Rattle.rc_serve.specs.declared.fault.ServeFault.TheVariants.{Read, Write, TooLong, Memory, NoThread, Strange, Workers, Io}
+use Rattle.rc_streams.specs.Exchange.{Exchange}
 use Rattle.rc_streams.specs.Input.{AppendsFront, fault_line}
 use Rattle.rc_serve.specs.Faults.{IsServeFault}
 use Rattle.rc_serve.specs.Keeping.{IsKeptAt, IsKeptUp, IsOfKeeping, Keeping, ServesFrontKept}
@@ -62,20 +63,29 @@ unbegun Strange base remaining is = absurd is
 unbegun Workers base remaining is = absurd is
 unbegun Io base remaining is = tt
 
+-- nothing was read and nothing written
+abbrev untouched : (input written : Option (List ℕ)) → Exchange
+untouched input written = record {
+  input = input;
+  left = input;
+  written = written;
+  gained = written;
+}
+
 -- the first name that is no service's ends the session on a database
 pub gate_ends : (fault : GateFault) (told : SessionFault) (filing : Filing) (d : Database) (workers : ℕ) (names : List (List ℕ)) (listed : List Listed) (input written : Option (List ℕ)) (reader writer keeper : Type 0)
     → IsLeft filing → IsGateFailing fault told → names ≡ d.names → IsGateFault names listed fault
-    → EndsOn told filing d workers (ByTable listed) input input written written reader writer keeper
+    → EndsOn told filing d workers (ByTable listed) (untouched input written) reader writer keeper
 gate_ends (gate.Unknown word) told filing d workers names listed input written reader writer keeper left is same wrong =
     let first : IsFirstUnknown d.names listed word.now = subst (λ (ns : List (List ℕ)). IsFirstUnknown ns listed word.now) same wrong in
-    subst (λ (f : SessionFault). EndsOn f filing d workers (ByTable listed) input input written written reader writer keeper) (sym is) (first, refl, refl, left)
+    subst (λ (f : SessionFault). EndsOn f filing d workers (ByTable listed) (untouched input written) reader writer keeper) (sym is) (first, refl, refl, left)
 gate_ends gate.Memory told filing d workers names listed input written reader writer keeper left is same wrong =
-    subst (λ (f : SessionFault). EndsOn f filing d workers (ByTable listed) input input written written reader writer keeper) (sym is) (tt, inl (tt, refl, inl left))
+    subst (λ (f : SessionFault). EndsOn f filing d workers (ByTable listed) (untouched input written) reader writer keeper) (sym is) (tt, inl (tt, refl, inl left))
 
 -- why a session does not begin ends it
 pub begin_ends : (fault : SessionFault) (ask : SessionAsk) (file : LiveFile) (held : Option (List ℕ)) (Done : Doing) (d : Database) (input written : Option (List ℕ)) (reader writer failed : Type 0)
     → IsBeginFault ask file d fault
-    → EndsGated fault (filing_of ask file held held) Done d input input written written reader writer (CannotKeep ask file failed)
+    → EndsGated fault (filing_of ask file held held) Done d (untouched input written) reader writer (CannotKeep ask file failed)
 begin_ends (OfText fault) ask file held Done d input written reader writer failed is = absurd is
 begin_ends (Unknown word) ask file held Done d input written reader writer failed is = absurd is
 begin_ends (OfLive fault) ask file held Done d input written reader writer failed is = (is, refl, refl, refl)
@@ -94,80 +104,80 @@ begin_ends (Failed fault) ask file held Done d input written reader writer faile
     unbegun_fault Io a at r w bad u io = let both = io refl in (both.0, inl both.1)
 
 -- a session that is not served on a database is not begun, whatever the base
-pub not_begun : (fault : ServeFault) (base remaining : Option (List ℕ)) (d : Database) (filing : Filing) (written gained : Option (List ℕ))
-    → IsOfFile fault × (gained ≡ written) × IsLeftOrFirst d filing → IsNotBegun fault base filing remaining written gained
-not_begun fault base remaining d filing written gained is = (unbegun fault base remaining is.0, is.1, inr (d, is.2))
+pub not_begun : (fault : ServeFault) (base : Option (List ℕ)) (d : Database) (filing : Filing) (io : Exchange)
+    → IsOfFile fault × (io.gained ≡ io.written) × IsLeftOrFirst d filing → IsNotBegun fault base filing io
+not_begun fault base d filing io is = (unbegun fault base io.input is.0, is.1, inr (d, is.2))
 
 -- a session on the database of a base is one of the base and the input
-pub ends_on_base : (fault : SessionFault) (bytes : List ℕ) (d : Database) (ask : SessionAsk) (file : LiveFile) (was is : Option (List ℕ)) (remaining after written gained : Option (List ℕ)) (reader writer keeper : Type 0)
-    → Spells (Some bytes) [] d [] → EndsOn fault (filing_of ask file was is) d ask.workers ask.making remaining after written gained reader writer keeper
-    → EndsBy fault (Some bytes) ask file was is remaining after written gained reader writer keeper
-ends_on_base (OfText fault) bytes d ask file was is remaining after written gained reader writer keeper spelled end = absurd end
-ends_on_base (Unknown word) bytes d ask file was is remaining after written gained reader writer keeper spelled end =
+pub ends_on_base : (fault : SessionFault) (bytes : List ℕ) (d : Database) (ask : SessionAsk) (file : LiveFile) (was is : Option (List ℕ)) (io : Exchange) (reader writer keeper : Type 0)
+    → Spells (Some bytes) [] d [] → EndsOn fault (filing_of ask file was is) d ask.workers ask.making io reader writer keeper
+    → EndsBy fault (Some bytes) ask file was is io reader writer keeper
+ends_on_base (OfText fault) bytes d ask file was is io reader writer keeper spelled end = absurd end
+ends_on_base (Unknown word) bytes d ask file was is io reader writer keeper spelled end =
     (([], (refl, end.1), (d, [], spelled, end.0)), end.2, end.3)
-ends_on_base (OfLive fault) bytes d ask file was is remaining after written gained reader writer keeper spelled end =
+ends_on_base (OfLive fault) bytes d ask file was is io reader writer keeper spelled end =
     (([], (refl, end.1), (d, [], spelled, end.0.0, end.0.1)), end.2, end.3)
-ends_on_base (Failed fault) bytes d ask file was is remaining after written gained reader writer keeper spelled end = (
+ends_on_base (Failed fault) bytes d ask file was is io reader writer keeper spelled end = (
   end.0,
   elim end.1 [
-    | inl un ↦ inl (not_begun fault (Some bytes) remaining d (filing_of ask file was is) written gained un)
-    | inr run ↦ inr (record { database = d; input = remaining; left = after; opened = (spelled, refl, refl); run = run })
+    | inl un ↦ inl (not_begun fault (Some bytes) d (filing_of ask file was is) io un)
+    | inr run ↦ inr (record { database = d; input = io.input; left = io.left; opened = (spelled, refl, refl); run = run })
   ],
 )
 
 -- a session on the database at the beginning of the input, over what is after it, is one of the input
-pub runs_on_input : (Served : Serving) (all rest : List ℕ) (d : Database) (ask : SessionAsk) (file : LiveFile) (was is : Option (List ℕ)) (remaining after left written gained : Option (List ℕ))
-    → Reads None remaining after all → Spells None all d rest → RunsFor Served (filing_of ask file was is) d ask.workers ask.making (Some rest) left written gained
-    → Runs Served None ask file was is remaining after written gained
-runs_on_input Served all rest d ask file was is remaining after left written gained reads spelled run =
+pub runs_on_input : (Served : Serving) (all rest : List ℕ) (d : Database) (ask : SessionAsk) (file : LiveFile) (was is : Option (List ℕ)) (io : Exchange) (left : Option (List ℕ))
+    → Reads None io.input io.left all → Spells None all d rest → RunsFor Served (filing_of ask file was is) d ask.workers ask.making (record { input = Some rest; left = left; written = io.written; gained = io.gained })
+    → Runs Served None ask file was is io
+runs_on_input Served all rest d ask file was is io left reads spelled run =
     record { database = d; input = Some rest; left = left; opened = (all, rest, reads, spelled, refl); run = run }
 
-pub ends_on_input : (fault : SessionFault) (all rest : List ℕ) (d : Database) (ask : SessionAsk) (file : LiveFile) (was is : Option (List ℕ)) (remaining after left written gained : Option (List ℕ)) (reader writer keeper : Type 0)
-    → Reads None remaining after all → Spells None all d rest
-    → EndsOn fault (filing_of ask file was is) d ask.workers ask.making (Some rest) left written gained reader writer keeper
-    → EndsBy fault None ask file was is remaining after written gained (Unit {0}) writer keeper
-ends_on_input (OfText fault) all rest d ask file was is remaining after left written gained reader writer keeper reads spelled end = absurd end
-ends_on_input (Unknown word) all rest d ask file was is remaining after left written gained reader writer keeper reads spelled end =
+pub ends_on_input : (fault : SessionFault) (all rest : List ℕ) (d : Database) (ask : SessionAsk) (file : LiveFile) (was is : Option (List ℕ)) (io : Exchange) (left : Option (List ℕ)) (reader writer keeper : Type 0)
+    → Reads None io.input io.left all → Spells None all d rest
+    → EndsOn fault (filing_of ask file was is) d ask.workers ask.making (record { input = Some rest; left = left; written = io.written; gained = io.gained }) reader writer keeper
+    → EndsBy fault None ask file was is io (Unit {0}) writer keeper
+ends_on_input (OfText fault) all rest d ask file was is io left reader writer keeper reads spelled end = absurd end
+ends_on_input (Unknown word) all rest d ask file was is io left reader writer keeper reads spelled end =
     ((all, reads, (d, rest, spelled, end.0)), end.2, end.3)
-ends_on_input (OfLive fault) all rest d ask file was is remaining after left written gained reader writer keeper reads spelled end =
+ends_on_input (OfLive fault) all rest d ask file was is io left reader writer keeper reads spelled end =
     ((all, reads, (d, rest, spelled, end.0.0, end.0.1)), end.2, end.3)
-ends_on_input (Failed fault) all rest d ask file was is remaining after left written gained reader writer keeper reads spelled end = (
+ends_on_input (Failed fault) all rest d ask file was is io left reader writer keeper reads spelled end = (
   fault_wider fault reader writer keeper (Unit {0}) writer keeper (λ _. tt) (λ w. w) (λ k. k) end.0,
   elim end.1 [
-    | inl un ↦ inl (not_begun fault None remaining d (filing_of ask file was is) written gained un)
-    | inr run ↦ inr (runs_on_input (ServesUpTo fault) all rest d ask file was is remaining after left written gained reads spelled run)
+    | inl un ↦ inl (not_begun fault None d (filing_of ask file was is) io un)
+    | inr run ↦ inr (runs_on_input (ServesUpTo fault) all rest d ask file was is io left reads spelled run)
   ],
 )
 
 -- what holds where a refusal is told
-pub refusal_holds : (fault : SessionFault) (base : Option (List ℕ)) (ask : SessionAsk) (file : LiveFile) (was is : Option (List ℕ)) (remaining after written gained : Option (List ℕ)) (reader writer keeper : Type 0)
-    → IsRefusal fault → EndsBy fault base ask file was is remaining after written gained reader writer keeper
-    → IsRefusedBy fault base ask (filing_of ask file was is) remaining after × (gained ≡ written) × (is ≡ was)
-refusal_holds (OfText fault) base ask file was is remaining after written gained reader writer keeper told end = end
-refusal_holds (Unknown word) base ask file was is remaining after written gained reader writer keeper told end = end
-refusal_holds (OfLive fault) base ask file was is remaining after written gained reader writer keeper told end = end
-refusal_holds (Failed fault) base ask file was is remaining after written gained reader writer keeper told end = absurd told
+pub refusal_holds : (fault : SessionFault) (base : Option (List ℕ)) (ask : SessionAsk) (file : LiveFile) (was is : Option (List ℕ)) (io : Exchange) (reader writer keeper : Type 0)
+    → IsRefusal fault → EndsBy fault base ask file was is io reader writer keeper
+    → IsRefusedBy fault base ask (filing_of ask file was is) io.input io.left × (io.gained ≡ io.written) × (is ≡ was)
+refusal_holds (OfText fault) base ask file was is io reader writer keeper told end = end
+refusal_holds (Unknown word) base ask file was is io reader writer keeper told end = end
+refusal_holds (OfLive fault) base ask file was is io reader writer keeper told end = end
+refusal_holds (Failed fault) base ask file was is io reader writer keeper told end = absurd told
 
 -- a refusal that could not be told is told as out of memory
-refused_memory : (told : ServeFault) (base : Option (List ℕ)) (ask : SessionAsk) (file : LiveFile) (was is : Option (List ℕ)) (remaining after written gained : Option (List ℕ)) (reader writer keeper : Type 0)
-    → told ≡ Memory → gained ≡ written → is ≡ was
-    → IsServeFault reader writer keeper told × (IsNotBegun told base (filing_of ask file was is) remaining written gained ⊎ Runs (ServesUpTo told) base ask file was is remaining after written gained)
-refused_memory told base ask file was is remaining after written gained reader writer keeper same none left =
-    subst (λ (f : ServeFault). IsServeFault reader writer keeper f × (IsNotBegun f base (filing_of ask file was is) remaining written gained ⊎ Runs (ServesUpTo f) base ask file was is remaining after written gained)) (sym same)
+refused_memory : (told : ServeFault) (base : Option (List ℕ)) (ask : SessionAsk) (file : LiveFile) (was is : Option (List ℕ)) (io : Exchange) (reader writer keeper : Type 0)
+    → told ≡ Memory → io.gained ≡ io.written → is ≡ was
+    → IsServeFault reader writer keeper told × (IsNotBegun told base (filing_of ask file was is) io ⊎ Runs (ServesUpTo told) base ask file was is io)
+refused_memory told base ask file was is io reader writer keeper same none left =
+    subst (λ (f : ServeFault). IsServeFault reader writer keeper f × (IsNotBegun f base (filing_of ask file was is) io ⊎ Runs (ServesUpTo f) base ask file was is io)) (sym same)
     (tt, inl (tt, none, inl left))
 
 -- what holds where a failure is told
-pub failure_holds : (fault : SessionFault) (told : ServeFault) (base : Option (List ℕ)) (ask : SessionAsk) (file : LiveFile) (was is : Option (List ℕ)) (remaining after written gained : Option (List ℕ)) (reader writer keeper : Type 0)
-    → IsToldAs fault told → EndsBy fault base ask file was is remaining after written gained reader writer keeper
-    → IsServeFault reader writer keeper told × (IsNotBegun told base (filing_of ask file was is) remaining written gained ⊎ Runs (ServesUpTo told) base ask file was is remaining after written gained)
-failure_holds (Failed fault) told base ask file was is remaining after written gained reader writer keeper same end =
-    subst (λ (f : ServeFault). IsServeFault reader writer keeper f × (IsNotBegun f base (filing_of ask file was is) remaining written gained ⊎ Runs (ServesUpTo f) base ask file was is remaining after written gained)) (sym same) end
-failure_holds (OfText fault) told base ask file was is remaining after written gained reader writer keeper same end =
-    refused_memory told base ask file was is remaining after written gained reader writer keeper same end.1 end.2
-failure_holds (Unknown word) told base ask file was is remaining after written gained reader writer keeper same end =
-    refused_memory told base ask file was is remaining after written gained reader writer keeper same end.1 end.2
-failure_holds (OfLive fault) told base ask file was is remaining after written gained reader writer keeper same end =
-    refused_memory told base ask file was is remaining after written gained reader writer keeper same end.1 end.2
+pub failure_holds : (fault : SessionFault) (told : ServeFault) (base : Option (List ℕ)) (ask : SessionAsk) (file : LiveFile) (was is : Option (List ℕ)) (io : Exchange) (reader writer keeper : Type 0)
+    → IsToldAs fault told → EndsBy fault base ask file was is io reader writer keeper
+    → IsServeFault reader writer keeper told × (IsNotBegun told base (filing_of ask file was is) io ⊎ Runs (ServesUpTo told) base ask file was is io)
+failure_holds (Failed fault) told base ask file was is io reader writer keeper same end =
+    subst (λ (f : ServeFault). IsServeFault reader writer keeper f × (IsNotBegun f base (filing_of ask file was is) io ⊎ Runs (ServesUpTo f) base ask file was is io)) (sym same) end
+failure_holds (OfText fault) told base ask file was is io reader writer keeper same end =
+    refused_memory told base ask file was is io reader writer keeper same end.1 end.2
+failure_holds (Unknown word) told base ask file was is io reader writer keeper same end =
+    refused_memory told base ask file was is io reader writer keeper same end.1 end.2
+failure_holds (OfLive fault) told base ask file was is io reader writer keeper same end =
+    refused_memory told base ask file was is io reader writer keeper same end.1 end.2
 
 -- at a gate of a table exactly the transitions of the table fail
 exact_of : (flag : Bool) → (is_success (if flag then outcome.Failed 1 else outcome.Ok) ≡ true) ↔ (flag ≡ false)
@@ -186,11 +196,11 @@ pub alone_all : {A : Type 0} (result : Result A ServeFault) (P Q : Type 0) → O
 alone_all (Ok done) P Q p q = (p, q, tt)
 alone_all (Err fault) P Q p q = tt
 
-pub alone_front : {A : Type 0} (result : Result A ServeFault) (Done : Doing) (May : KeepFault → Type 0) (was is : Keeping) (input left written gained : Option (List ℕ)) (old new : Holding)
-    → IfErr result (λ fault. ServesFrontKept Done fault May was is input left written gained old new) → PlaysInput input left old new
-    → IfErr result (λ fault. ServesUpTo fault (λ d line. Unit {0}) Done input left written gained old new)
-alone_front (Ok done) Done May was is input left written gained old new p q = tt
-alone_front (Err fault) Done May was is input left written gained old new p q = (p.0, q, inl tt)
+pub alone_front : {A : Type 0} (result : Result A ServeFault) (Done : Doing) (May : KeepFault → Type 0) (was is : Keeping) (io : Exchange) (old new : Holding)
+    → IfErr result (λ fault. ServesFrontKept Done fault May was is io old new) → PlaysInput io.input io.left old new
+    → IfErr result (λ fault. ServesUpTo fault (λ d line. Unit {0}) Done io old new)
+alone_front (Ok done) Done May was is io old new p q = tt
+alone_front (Err fault) Done May was is io old new p q = (p.0, q, inl tt)
 
 -- what is kept up where the first line was kept is kept
 kept_now : (was is : Keeping) (d : Database) (first line : Line) → was d first → IsKeptUp was is d first line → is d line
@@ -219,48 +229,48 @@ kept_at : (fault : ServeFault) (May : KeepFault → Type 0) (was is : Keeping) (
 kept_at fault May was is d first here line written begun (inl up) = inl (kept_now was is d first line begun up)
 kept_at fault May was is d first here line written begun (inr fails) = inr (of_file fault May fails.0, fails.1, kept_now was is d first here begun fails.2)
 
-pub kept_front : {A : Type 0} (result : Result A ServeFault) (Same : Type 0) (Done : Doing) (May : KeepFault → Type 0) (was is : Keeping) (input left written gained : Option (List ℕ)) (old new : Holding) → was old.database old.line
-    → IfErr result (λ fault. ServesFrontKept Done fault May was is input left written gained old new) → PlaysInput input left old new
-    → IfErr result (λ fault. StopsUpTo fault Same is Done input left written gained old new)
-kept_front (Ok done) Same Done May was is input left written gained old new begun p q = tt
-kept_front (Err fault) Same Done May was is input left written gained old new begun p q =
+pub kept_front : {A : Type 0} (result : Result A ServeFault) (Same : Type 0) (Done : Doing) (May : KeepFault → Type 0) (was is : Keeping) (io : Exchange) (old new : Holding) → was old.database old.line
+    → IfErr result (λ fault. ServesFrontKept Done fault May was is io old new) → PlaysInput io.input io.left old new
+    → IfErr result (λ fault. StopsUpTo fault Same is Done io old new)
+kept_front (Ok done) Same Done May was is io old new begun p q = tt
+kept_front (Err fault) Same Done May was is io old new begun p q =
     inr (p.0, q, kept_at fault May was is old.database old.line p.0.here new.line p.0.told.0 begun p.1)
 
 -- what is kept is so by another word
-pub all_as : {A : Type 0} (result : Result A ServeFault) (Done : Doing) (kept other : Keeping) (input left written gained : Option (List ℕ)) (old new : Holding)
+pub all_as : {A : Type 0} (result : Result A ServeFault) (Done : Doing) (kept other : Keeping) (io : Exchange) (old new : Holding)
     → ((d : Database) (line : Line) → kept d line → other d line)
-    → OnOk result (Serves kept Done input left written gained old new) → OnOk result (Serves other Done input left written gained old new)
-all_as (Ok done) Done kept other input left written gained old new wider served = (served.0, served.1, wider old.database new.line served.2)
-all_as (Err fault) Done kept other input left written gained old new wider served = tt
+    → OnOk result (Serves kept Done io old new) → OnOk result (Serves other Done io old new)
+all_as (Ok done) Done kept other io old new wider served = (served.0, served.1, wider old.database new.line served.2)
+all_as (Err fault) Done kept other io old new wider served = tt
 
 at_as : (fault : ServeFault) (kept other : Keeping) (d : Database) (here line : Line) (written : ℕ)
     → ((d : Database) (line : Line) → kept d line → other d line) → KeepsAt kept fault d here line written → KeepsAt other fault d here line written
 at_as fault kept other d here line written wider (inl now) = inl (wider d line now)
 at_as fault kept other d here line written wider (inr fails) = inr (fails.0, fails.1, wider d here fails.2)
 
-up_to_as : (fault : ServeFault) (Done : Doing) (kept other : Keeping) (input left written gained : Option (List ℕ)) (old new : Holding)
+up_to_as : (fault : ServeFault) (Done : Doing) (kept other : Keeping) (io : Exchange) (old new : Holding)
     → ((d : Database) (line : Line) → kept d line → other d line)
-    → ServesUpTo fault kept Done input left written gained old new → ServesUpTo fault other Done input left written gained old new
-up_to_as fault Done kept other input left written gained old new wider served =
+    → ServesUpTo fault kept Done io old new → ServesUpTo fault other Done io old new
+up_to_as fault Done kept other io old new wider served =
     (served.0, served.1, at_as fault kept other old.database served.0.here new.line served.0.told.0 wider served.2)
 
-pub front_as : {A : Type 0} (result : Result A ServeFault) (Same : Type 0) (Done : Doing) (kept other : Keeping) (input left written gained : Option (List ℕ)) (old new : Holding)
+pub front_as : {A : Type 0} (result : Result A ServeFault) (Same : Type 0) (Done : Doing) (kept other : Keeping) (io : Exchange) (old new : Holding)
     → ((d : Database) (line : Line) → kept d line → other d line)
-    → IfErr result (λ fault. ServesUpTo fault kept Done input left written gained old new)
-    → IfErr result (λ fault. StopsUpTo fault Same other Done input left written gained old new)
-front_as (Ok done) Same Done kept other input left written gained old new wider served = tt
-front_as (Err fault) Same Done kept other input left written gained old new wider served =
-    inr (up_to_as fault Done kept other input left written gained old new wider served)
+    → IfErr result (λ fault. ServesUpTo fault kept Done io old new)
+    → IfErr result (λ fault. StopsUpTo fault Same other Done io old new)
+front_as (Ok done) Same Done kept other io old new wider served = tt
+front_as (Err fault) Same Done kept other io old new wider served =
+    inr (up_to_as fault Done kept other io old new wider served)
 
-pub stops_as : {A : Type 0} (result : Result A ServeFault) (Same : Type 0) (Done : Doing) (kept other : Keeping) (input left written gained : Option (List ℕ)) (old new : Holding)
+pub stops_as : {A : Type 0} (result : Result A ServeFault) (Same : Type 0) (Done : Doing) (kept other : Keeping) (io : Exchange) (old new : Holding)
     → ((d : Database) (line : Line) → kept d line → other d line)
-    → IfErr result (λ fault. StopsUpTo fault Same kept Done input left written gained old new)
-    → IfErr result (λ fault. StopsUpTo fault Same other Done input left written gained old new)
-stops_as (Ok done) Same Done kept other input left written gained old new wider served = tt
-stops_as (Err fault) Same Done kept other input left written gained old new wider (inl un) =
+    → IfErr result (λ fault. StopsUpTo fault Same kept Done io old new)
+    → IfErr result (λ fault. StopsUpTo fault Same other Done io old new)
+stops_as (Ok done) Same Done kept other io old new wider served = tt
+stops_as (Err fault) Same Done kept other io old new wider (inl un) =
     inl (un.0, un.1, elim un.2 [ inl same ↦ inl same | inr first ↦ inr (wider old.database old.line first) ])
-stops_as (Err fault) Same Done kept other input left written gained old new wider (inr served) =
-    inr (up_to_as fault Done kept other input left written gained old new wider served)
+stops_as (Err fault) Same Done kept other io old new wider (inr served) =
+    inr (up_to_as fault Done kept other io old new wider served)
 
 -- a store that holds a text is that of a file that is named, and one that was left alone that of none
 pub holds_named : (path : Option Path) (was is : Option (List ℕ)) → path ≢ None → (d : Database) (line : Line) → HoldsText is d line → HoldsBy path was is d line
@@ -276,21 +286,21 @@ pub named_some : {A B : Type 0} (f : A → B) (o : Option A) (x : A) → o ≡ S
 named_some f o x is none = let bad : Some (f x) ≡ None = sym (ap (option_map f) is) ∙ none in cc
 
 -- the session that was served stands where it begins
-pub gated_all : (filing : Filing) (Done : Doing) (d : Database) (input left written gained : Option (List ℕ)) (old new : Holding)
+pub gated_all : (filing : Filing) (Done : Doing) (d : Database) (io : Exchange) (old new : Holding)
     → ((start : Line) × BeginsWith d filing start × (old ≡ session_on d start))
-    → Serves (Holds filing) Done input left written gained old new → RunsGated Serves filing Done d input left written gained
-gated_all filing Done d input left written gained old new begins served = record {
+    → Serves (Holds filing) Done io old new → RunsGated Serves filing Done d io
+gated_all filing Done d io old new begins served = record {
   start = begins.0;
   new = new;
   begins = begins.1;
-  served = subst (λ (h : Holding). Serves (Holds filing) Done input left written gained h new) begins.2 served;
+  served = subst (λ (h : Holding). Serves (Holds filing) Done io h new) begins.2 served;
 }
 
-pub gated_front : (fault : ServeFault) (filing : Filing) (Done : Doing) (d : Database) (input left written gained : Option (List ℕ)) (old new : Holding) (reader writer keeper : Type 0)
+pub gated_front : (fault : ServeFault) (filing : Filing) (Done : Doing) (d : Database) (io : Exchange) (old new : Holding) (reader writer keeper : Type 0)
     → ((start : Line) × BeginsWith d filing start × (old ≡ session_on d start))
-    → IsServeFault reader writer keeper fault → StopsUpTo fault (IsLeft filing) (Holds filing) Done input left written gained old new
-    → EndsGated (Failed fault) filing Done d input left written gained reader writer keeper
-gated_front fault filing Done d input left written gained old new reader writer keeper begins wrong (inl un) = (
+    → IsServeFault reader writer keeper fault → StopsUpTo fault (IsLeft filing) (Holds filing) Done io old new
+    → EndsGated (Failed fault) filing Done d io reader writer keeper
+gated_front fault filing Done d io old new reader writer keeper begins wrong (inl un) = (
   wrong,
   inl (
     un.0,
@@ -301,13 +311,13 @@ gated_front fault filing Done d input left written gained old new reader writer 
     ],
   ),
 )
-gated_front fault filing Done d input left written gained old new reader writer keeper begins wrong (inr served) = (
+gated_front fault filing Done d io old new reader writer keeper begins wrong (inr served) = (
   wrong,
   inr (record {
     start = begins.0;
     new = new;
     begins = begins.1;
-    served = subst (λ (h : Holding). ServesUpTo fault (Holds filing) Done input left written gained h new) begins.2 served;
+    served = subst (λ (h : Holding). ServesUpTo fault (Holds filing) Done io h new) begins.2 served;
   }),
 )
 
@@ -325,36 +335,36 @@ found_at d names listed inner outer same is found =
 pub clock_at : (inner outer : Table) (input : Option (List ℕ)) → outer ≡ inner → inner.moments ≡ [] → IsTimeless (IsMomentOf outer.moments) input
 clock_at inner outer input is none = clock_timeless outer.moments input (ap (λ (t : Table). t.moments) is ∙ none)
 
-pub runs_found : (Served : Serving) (filing : Filing) (d : Database) (listed : List Listed) (table : List (ℕ × Way)) (input left written gained : Option (List ℕ)) → AreFound d.names listed table
-    → RunsGated Served filing (IsDoneFailing (fails_in table)) d input left written gained → RunsOn Served filing d listed input left written gained
-runs_found Served filing d listed table input left written gained found run = record { table = table; found = found; run = run }
+pub runs_found : (Served : Serving) (filing : Filing) (d : Database) (listed : List Listed) (table : List (ℕ × Way)) (io : Exchange) → AreFound d.names listed table
+    → RunsGated Served filing (IsDoneFailing (fails_in table)) d io → RunsOn Served filing d listed io
+runs_found Served filing d listed table io found run = record { table = table; found = found; run = run }
 
-pub ends_found : (fault : SessionFault) (filing : Filing) (d : Database) (workers : ℕ) (listed : List Listed) (table : List (ℕ × Way)) (input left written gained : Option (List ℕ)) (reader writer keeper : Type 0) → AreFound d.names listed table
-    → EndsGated fault filing (IsDoneFailing (fails_in table)) d input left written gained reader writer keeper
-    → EndsOn fault filing d workers (ByTable listed) input left written gained reader writer keeper
-ends_found (OfText fault) filing d workers listed table input left written gained reader writer keeper found end = absurd end
-ends_found (Unknown word) filing d workers listed table input left written gained reader writer keeper found end = absurd end
-ends_found (OfLive fault) filing d workers listed table input left written gained reader writer keeper found end =
+pub ends_found : (fault : SessionFault) (filing : Filing) (d : Database) (workers : ℕ) (listed : List Listed) (table : List (ℕ × Way)) (io : Exchange) (reader writer keeper : Type 0) → AreFound d.names listed table
+    → EndsGated fault filing (IsDoneFailing (fails_in table)) d io reader writer keeper
+    → EndsOn fault filing d workers (ByTable listed) io reader writer keeper
+ends_found (OfText fault) filing d workers listed table io reader writer keeper found end = absurd end
+ends_found (Unknown word) filing d workers listed table io reader writer keeper found end = absurd end
+ends_found (OfLive fault) filing d workers listed table io reader writer keeper found end =
     (((table, found), end.0), end.1, end.2, end.3)
-ends_found (Failed fault) filing d workers listed table input left written gained reader writer keeper found end =
-    (end.0, elim end.1 [ inl un ↦ inl un | inr run ↦ inr (runs_found (ServesUpTo fault) filing d listed table input left written gained found run) ])
+ends_found (Failed fault) filing d workers listed table io reader writer keeper found end =
+    (end.0, elim end.1 [ inl un ↦ inl un | inr run ↦ inr (runs_found (ServesUpTo fault) filing d listed table io found run) ])
 
 -- the gate is the one of the programs
-pub runs_scripts : (Served : Serving) (filing : Filing) (d : Database) (workers : ℕ) (runner controller : List Text) (limit : ℕ) (gate : Scripts) (input left written gained : Option (List ℕ)) → gate ≡ scripts_of d runner controller limit
-    → RunsGated Served filing (IsDoneBy workers (MayAnswer gate) (λ m. Unit {0})) d input left written gained
-    → RunsFor Served filing d workers (ByPrograms runner controller limit) input left written gained
-runs_scripts Served filing d workers runner controller limit gate input left written gained is run =
-    subst (λ (g : Scripts). RunsGated Served filing (IsDoneBy workers (MayAnswer g) (λ m. Unit {0})) d input left written gained) is run
+pub runs_scripts : (Served : Serving) (filing : Filing) (d : Database) (workers : ℕ) (runner controller : List Text) (limit : ℕ) (gate : Scripts) (io : Exchange) → gate ≡ scripts_of d runner controller limit
+    → RunsGated Served filing (IsDoneBy workers (MayAnswer gate) (λ m. Unit {0})) d io
+    → RunsFor Served filing d workers (ByPrograms runner controller limit) io
+runs_scripts Served filing d workers runner controller limit gate io is run =
+    subst (λ (g : Scripts). RunsGated Served filing (IsDoneBy workers (MayAnswer g) (λ m. Unit {0})) d io) is run
 
-pub ends_scripts : (fault : SessionFault) (filing : Filing) (d : Database) (workers : ℕ) (runner controller : List Text) (limit : ℕ) (gate : Scripts) (input left written gained : Option (List ℕ)) (reader writer keeper : Type 0) → gate ≡ scripts_of d runner controller limit
-    → EndsGated fault filing (IsDoneBy workers (MayAnswer gate) (λ m. Unit {0})) d input left written gained reader writer keeper
-    → EndsOn fault filing d workers (ByPrograms runner controller limit) input left written gained reader writer keeper
-ends_scripts (OfText fault) filing d workers runner controller limit gate input left written gained reader writer keeper is end = absurd end
-ends_scripts (Unknown word) filing d workers runner controller limit gate input left written gained reader writer keeper is end = absurd end
-ends_scripts (OfLive fault) filing d workers runner controller limit gate input left written gained reader writer keeper is end =
+pub ends_scripts : (fault : SessionFault) (filing : Filing) (d : Database) (workers : ℕ) (runner controller : List Text) (limit : ℕ) (gate : Scripts) (io : Exchange) (reader writer keeper : Type 0) → gate ≡ scripts_of d runner controller limit
+    → EndsGated fault filing (IsDoneBy workers (MayAnswer gate) (λ m. Unit {0})) d io reader writer keeper
+    → EndsOn fault filing d workers (ByPrograms runner controller limit) io reader writer keeper
+ends_scripts (OfText fault) filing d workers runner controller limit gate io reader writer keeper is end = absurd end
+ends_scripts (Unknown word) filing d workers runner controller limit gate io reader writer keeper is end = absurd end
+ends_scripts (OfLive fault) filing d workers runner controller limit gate io reader writer keeper is end =
     ((([], tt), end.0), end.1, end.2, end.3)
-ends_scripts (Failed fault) filing d workers runner controller limit gate input left written gained reader writer keeper is end =
-    (end.0, elim end.1 [ inl un ↦ inl un | inr run ↦ inr (runs_scripts (ServesUpTo fault) filing d workers runner controller limit gate input left written gained is run) ])
+ends_scripts (Failed fault) filing d workers runner controller limit gate io reader writer keeper is end =
+    (end.0, elim end.1 [ inl un ↦ inl un | inr run ↦ inr (runs_scripts (ServesUpTo fault) filing d workers runner controller limit gate io is run) ])
 
 -- a failed read is told as that
 pub told_read : {A : Type 0} (result : Result A SessionFault) (fault : SessionFault) (status : ℕ) (Refused : Type 0) (old new : Option (List ℕ)) → result ≡ Err (Failed Read) → result ≡ Err fault → (status ≡ 1) ⊎ (status ≡ 111) → (status ≡ 1 → IsRefusal fault × Refused)

@@ -2,6 +2,7 @@
 use Rattle.std.specs.Prelude.{◌≡◌, ℕ, List, [], Option, None, Some}
 use Rattle.clap.specs.Words.{Text}
 use Rattle.rc_model.specs.Database.{Database}
+use Rattle.rc_streams.specs.Exchange.{Exchange}
 use Rattle.rc_base.specs.Base.{Spells}
 use Rattle.rc_base.specs.Opening.{Reads}
 use Rattle.rc_asked.specs.SessionAsked.{AsksSession, SessionAsk}
@@ -16,17 +17,17 @@ Opens None remaining after d input left = (all : List ℕ) × (rest : List ℕ) 
 
 -- there is a database, and a session on it was served
 pub record Runs (Served : Serving) (base : Option (List ℕ)) (ask : SessionAsk) (file : LiveFile)
-    (was is : Option (List ℕ)) (remaining after written gained : Option (List ℕ)) : Type 0 where
+    (was is : Option (List ℕ)) (io : Exchange) : Type 0 where
   pub database : Database
   pub input : Option (List ℕ)
   pub left : Option (List ℕ)
-  pub opened : Opens base remaining after database input left
+  pub opened : Opens base io.input io.left database input left
   pub run : RunsFor Served (filing_of ask file was is) database ask.workers ask.making
-      input left written gained
+      (record { input = input; left = left; written = io.written; gained = io.gained })
 
 -- the words ask for a session, and it was served
-abbrev pub RunsAsked : Serving → List Text → Option (List ℕ) → LiveFile → (was is : Option (List ℕ)) →
-    (remaining after written gained : Option (List ℕ)) → Type 0
-RunsAsked Served words base file was is remaining after written gained =
+abbrev pub RunsAsked : Serving → List Text → Option (List ℕ) → LiveFile → (was is : Option (List ℕ))
+    → Exchange → Type 0
+RunsAsked Served words base file was is io =
     (ask : SessionAsk) × AsksSession words ask
-    × Runs Served base ask file was is remaining after written gained
+    × Runs Served base ask file was is io

@@ -1,6 +1,5 @@
 -- When `session` refuses or fails, and how it tells that.
 use Rattle.std.specs.Prelude.{◌≡◌, ◌≢◌, ◌⊎◌, ℕ, List, Option, codes, ◌<◌, None, IfSome, length}
-use Rattle.std.specs.Fmt.{decimal}
 use Rattle.rc_graph.specs.declared.Way.{Way}
 use Rattle.rc_livetext.specs.LiveFaults.{IsLiveFault}
 use Rattle.rc_livetext.specs.declared.fault.LiveFault.{LiveFault}
@@ -19,6 +18,7 @@ use Rattle.rc_serve.specs.declared.fault.ServeFault.{ServeFault}
 use Rattle.rc_serve.specs.declared.fault.ServeFault.TheVariants.{Read, Write, TooLong, Memory, NoThread, Strange, Workers, Io}
 use Rattle.rc_streams.specs.declared.input.Failure.{Failure}
 use Rattle.rc_streams.specs.declared.input.Failure.TheVariants as failures
+use Rattle.rc_streams.specs.Exchange.{Exchange}
 use Rattle.rc_streams.specs.Input.{AppendsFront, fault_line}
 use Rattle.rc_base.specs.Base.{IsTextFault, Spells}
 use Rattle.rc_base.specs.Opening.{Reads}
@@ -26,7 +26,7 @@ use Rattle.rc_base.specs.LiveFaultWord.{live_word}
 use Rattle.rc_base.specs.TextFaultWord.{text_word}
 use Rattle.rc_base.specs.UnknownWord.{unknown_word}
 use Rattle.rc_sessions.specs.Serving.{IsOfFile, RunsFor, RunsGated, ServesUpTo}
-use Rattle.rc_sessions.specs.Session.{Runs, RunsAsked}
+use Rattle.rc_sessions.specs.Session.{Runs}
 use Rattle.rc_serve.specs.Meeting.{Doing}
 use Rattle.rc_asked.specs.Listed.{Listed}
 use Rattle.rc_asked.specs.Programs.{MakingAsk, listed_in}
@@ -94,31 +94,32 @@ IsBeginFault ask file d (Failed fault) = IsOfFile fault
 IsBeginFault ask file d other = ⊥
 
 -- how a session on a database ends before its input, whose commands are done so: refused for its file, with nothing read and nothing written; or by a fault of serving with a prefix of its input served, or before it is begun with nothing written
-abbrev pub EndsGated : SessionFault → Filing → Doing → Database →
-    (input left written gained : Option (List ℕ)) → (reader writer keeper : Type 0) → Type 0
-EndsGated (OfText fault) filing Done d input left written gained reader writer keeper = ⊥
-EndsGated (Unknown word) filing Done d input left written gained reader writer keeper = ⊥
-EndsGated (OfLive fault) filing Done d input left written gained reader writer keeper =
-    IsFileRefused d filing.text fault × (left ≡ input) × (gained ≡ written) × IsLeft filing
-EndsGated (Failed fault) filing Done d input left written gained reader writer keeper =
+abbrev pub EndsGated : SessionFault → Filing → Doing → Database → Exchange
+    → (reader writer keeper : Type 0) → Type 0
+EndsGated (OfText fault) filing Done d io reader writer keeper = ⊥
+EndsGated (Unknown word) filing Done d io reader writer keeper = ⊥
+EndsGated (OfLive fault) filing Done d io reader writer keeper =
+    IsFileRefused d filing.text fault × (io.left ≡ io.input) × (io.gained ≡ io.written)
+    × IsLeft filing
+EndsGated (Failed fault) filing Done d io reader writer keeper =
     IsServeFault reader writer keeper fault
-    × ((IsOfFile fault × (gained ≡ written) × IsLeftOrFirst d filing)
-    ⊎ RunsGated (ServesUpTo fault) filing Done d input left written gained)
+    × ((IsOfFile fault × (io.gained ≡ io.written) × IsLeftOrFirst d filing)
+    ⊎ RunsGated (ServesUpTo fault) filing Done d io)
 
 -- the same where transitions are made so: refused also for the first name that is to fail and is no service's, and for its file only after that
-abbrev pub EndsOn : SessionFault → Filing → Database → (workers : ℕ) → MakingAsk →
-    (input left written gained : Option (List ℕ)) → (reader writer keeper : Type 0) → Type 0
-EndsOn (OfText fault) filing d workers making input left written gained reader writer keeper = ⊥
-EndsOn (Unknown word) filing d workers making input left written gained reader writer keeper =
+abbrev pub EndsOn : SessionFault → Filing → Database → (workers : ℕ) → MakingAsk → Exchange
+    → (reader writer keeper : Type 0) → Type 0
+EndsOn (OfText fault) filing d workers making io reader writer keeper = ⊥
+EndsOn (Unknown word) filing d workers making io reader writer keeper =
     IsFirstUnknown d.names (listed_in making) word.now
-    × (left ≡ input) × (gained ≡ written) × IsLeft filing
-EndsOn (OfLive fault) filing d workers making input left written gained reader writer keeper =
+    × (io.left ≡ io.input) × (io.gained ≡ io.written) × IsLeft filing
+EndsOn (OfLive fault) filing d workers making io reader writer keeper =
     (AreAllFound d (listed_in making) × IsFileRefused d filing.text fault)
-    × (left ≡ input) × (gained ≡ written) × IsLeft filing
-EndsOn (Failed fault) filing d workers making input left written gained reader writer keeper =
+    × (io.left ≡ io.input) × (io.gained ≡ io.written) × IsLeft filing
+EndsOn (Failed fault) filing d workers making io reader writer keeper =
     IsServeFault reader writer keeper fault
-    × ((IsOfFile fault × (gained ≡ written) × IsLeftOrFirst d filing)
-    ⊎ RunsFor (ServesUpTo fault) filing d workers making input left written gained)
+    × ((IsOfFile fault × (io.gained ≡ io.written) × IsLeftOrFirst d filing)
+    ⊎ RunsFor (ServesUpTo fault) filing d workers making io)
 
 -- a refusal holds
 abbrev pub IsRefusedBy : SessionFault → Option (List ℕ) → SessionAsk → Filing →
@@ -127,22 +128,20 @@ IsRefusedBy fault base ask filing remaining after = (input : List ℕ)
     × Reads base remaining after input × IsSessionRefused fault ask filing base input
 
 -- a session was not begun: nothing was written, and its store was left alone or holds the text of the line with which a session on some database begins
-abbrev pub IsNotBegun : ServeFault → Option (List ℕ) → Filing →
-    (remaining written gained : Option (List ℕ)) → Type 0
-IsNotBegun fault base filing remaining written gained = IsUnserved fault base remaining
-    × (gained ≡ written) × (IsLeft filing ⊎ ((d : Database) × IsLeftOrFirst d filing))
+abbrev pub IsNotBegun : ServeFault → Option (List ℕ) → Filing → Exchange → Type 0
+IsNotBegun fault base filing io = IsUnserved fault base io.input
+    × (io.gained ≡ io.written) × (IsLeft filing ⊎ ((d : Database) × IsLeftOrFirst d filing))
 
 -- the same of a session whose database is looked for first
 abbrev pub EndsBy : SessionFault → Option (List ℕ) → SessionAsk → LiveFile →
-    (was is : Option (List ℕ)) → (remaining after written gained : Option (List ℕ)) →
-    (reader writer keeper : Type 0) → Type 0
-EndsBy (Failed fault) base ask file was is remaining after written gained reader writer keeper =
+    (was is : Option (List ℕ)) → Exchange → (reader writer keeper : Type 0) → Type 0
+EndsBy (Failed fault) base ask file was is io reader writer keeper =
     IsServeFault reader writer keeper fault
-    × (IsNotBegun fault base (filing_of ask file was is) remaining written gained
-    ⊎ Runs (ServesUpTo fault) base ask file was is remaining after written gained)
-EndsBy fault base ask file was is remaining after written gained reader writer keeper =
-    IsRefusedBy fault base ask (filing_of ask file was is) remaining after
-    × (gained ≡ written) × (is ≡ was)
+    × (IsNotBegun fault base (filing_of ask file was is) io
+    ⊎ Runs (ServesUpTo fault) base ask file was is io)
+EndsBy fault base ask file was is io reader writer keeper =
+    IsRefusedBy fault base ask (filing_of ask file was is) io.input io.left
+    × (io.gained ≡ io.written) × (is ≡ was)
 
 -- a fault of the database text, as one of the session
 abbrev pub IsTextFailing : TextFault → SessionFault → Type 0
@@ -192,14 +191,13 @@ TellsSessionRefusal ask base file was is remaining after old new = (fault : Sess
     × AppendsFront old new (fault_line (session_fault_text fault))
 
 -- a fault of serving comes, and a writer gains a prefix of the line that tells it; the session was not begun, or what serving comes to before that fault
-abbrev pub TellsSessionFault : SessionAsk → Option (List ℕ) → LiveFile → (was is : Option (List ℕ)) →
-    (remaining after written gained : Option (List ℕ)) → (reader writer failed : Type 0) →
-    (old new : Option (List ℕ)) → Type 0
-TellsSessionFault ask base file was is remaining after written gained reader writer failed old new =
+abbrev pub TellsSessionFault : SessionAsk → Option (List ℕ) → LiveFile → (was is : Option (List ℕ))
+    → Exchange → (reader writer failed : Type 0) → (old new : Option (List ℕ)) → Type 0
+TellsSessionFault ask base file was is io reader writer failed old new =
     (fault : ServeFault) × IsServeFault reader writer (CannotKeep ask file failed) fault
     × AppendsFront old new (fault_line (serve_word fault))
-    × (IsNotBegun fault base (filing_of ask file was is) remaining written gained
-    ⊎ Runs (ServesUpTo fault) base ask file was is remaining after written gained)
+    × (IsNotBegun fault base (filing_of ask file was is) io
+    ⊎ Runs (ServesUpTo fault) base ask file was is io)
 
 -- a refusal of what the words ask holds, and a writer gains a prefix of the line that tells it
 abbrev pub TellsRefusal : List Text → Option (List ℕ) → LiveFile → (was is : Option (List ℕ)) →
@@ -208,11 +206,9 @@ TellsRefusal words base file was is remaining after old new = (ask : SessionAsk)
     × AsksSession words ask × TellsSessionRefusal ask base file was is remaining after old new
 
 -- the words can't be read as out of memory; or a fault of what they ask is told
-abbrev pub TellsServeFault : List Text → Option (List ℕ) → LiveFile → (was is : Option (List ℕ)) →
-    (remaining after written gained : Option (List ℕ)) → (reader writer failed : Type 0) →
-    (old new : Option (List ℕ)) → Type 0
-TellsServeFault words base file was is remaining after written gained reader writer failed old new =
-    (AppendsFront old new (fault_line (serve_word Memory)) × (gained ≡ written) × (is ≡ was))
+abbrev pub TellsServeFault : List Text → Option (List ℕ) → LiveFile → (was is : Option (List ℕ))
+    → Exchange → (reader writer failed : Type 0) → (old new : Option (List ℕ)) → Type 0
+TellsServeFault words base file was is io reader writer failed old new =
+    (AppendsFront old new (fault_line (serve_word Memory)) × (io.gained ≡ io.written) × (is ≡ was))
     ⊎ ((ask : SessionAsk) × AsksSession words ask
-    × TellsSessionFault ask base file was is remaining after written gained reader writer failed
-    old new)
+    × TellsSessionFault ask base file was is io reader writer failed old new)

@@ -4,6 +4,7 @@ ghost use Rattle.std.specs.Prelude.{◌≡◌, ◌≢◌, ◌≤◌, ◌⊎◌, 
 ghost use Rattle.std.specs.Prelude.{IfErr, IfOk, OnOk};
 ghost use Rattle.rc_graph.specs.declared.Way.{Way};
 ghost use Rattle.rc_board.specs.Crew.{IsCrew};
+ghost use Rattle.rc_streams.specs.Exchange.{exchanged};
 ghost use Rattle.rc_streams.specs.Noting.{HasFailed, inner_of};
 ghost use Rattle.rc_streams.specs.Input.{ConsumesAtMost};
 ghost use Rattle.rc_runner.specs.Shell.{scripts_of};
@@ -59,14 +60,12 @@ pub(crate) fn run_on<'a, T: Threads + Wait + Sync, R: Read, W: Write, S: Store>(
         (filing_of (session_ask_of request.now) live.entry
         (S.holds (store_of keeper.old)) (S.holds (store_of keeper.new)))
         db request.now.workers (making_ask_of request.now.making)
-        (R.remaining (inner_of reader.old)) (R.remaining (inner_of reader.new))
-        (W.contents (inner_of writer.old)) (W.contents (inner_of writer.new))) }
+        (exchanged R.remaining W.contents reader.old reader.new writer.old writer.new)) }
     ensures ended { IfErr result (λ fault. EndsOn fault
         (filing_of (session_ask_of request.now) live.entry
         (S.holds (store_of keeper.old)) (S.holds (store_of keeper.new)))
         db request.now.workers (making_ask_of request.now.making)
-        (R.remaining (inner_of reader.old)) (R.remaining (inner_of reader.new))
-        (W.contents (inner_of writer.old)) (W.contents (inner_of writer.new))
+        (exchanged R.remaining W.contents reader.old reader.new writer.old writer.new)
         (HasFailed reader.new) (HasFailed writer.new)
         (CannotKeep (session_ask_of request.now) live.entry (S.failed (store_of keeper.new)))) }
     ensures told { HasFailed reader.new → result ≡ Err (Failed Unread) }
@@ -108,14 +107,12 @@ fn run_by_table<'a, T: Threads + Wait + Sync, R: Read, W: Write, S: Store>(
         (filing_of (session_ask_of request.now) live.entry
         (S.holds (store_of keeper.old)) (S.holds (store_of keeper.new)))
         db request.now.workers (ByTable (map listed_of failing.now))
-        (R.remaining (inner_of reader.old)) (R.remaining (inner_of reader.new))
-        (W.contents (inner_of writer.old)) (W.contents (inner_of writer.new))) }
+        (exchanged R.remaining W.contents reader.old reader.new writer.old writer.new)) }
     ensures ended { IfErr result (λ fault. EndsOn fault
         (filing_of (session_ask_of request.now) live.entry
         (S.holds (store_of keeper.old)) (S.holds (store_of keeper.new)))
         db request.now.workers (ByTable (map listed_of failing.now))
-        (R.remaining (inner_of reader.old)) (R.remaining (inner_of reader.new))
-        (W.contents (inner_of writer.old)) (W.contents (inner_of writer.new))
+        (exchanged R.remaining W.contents reader.old reader.new writer.old writer.new)
         (HasFailed reader.new) (HasFailed writer.new)
         (CannotKeep (session_ask_of request.now) live.entry (S.failed (store_of keeper.new)))) }
     ensures told { HasFailed reader.new → result ≡ Err (Failed Unread) }
@@ -177,15 +174,13 @@ fn run_by_programs<'a, T: Threads + Wait + Sync, R: Read, W: Write, S: Store>(
         (S.holds (store_of keeper.old)) (S.holds (store_of keeper.new)))
         db request.now.workers (ByPrograms (map string_bytes programs.now.runner.items)
         (map string_bytes programs.now.controller.items) programs.now.limit)
-        (R.remaining (inner_of reader.old)) (R.remaining (inner_of reader.new))
-        (W.contents (inner_of writer.old)) (W.contents (inner_of writer.new))) }
+        (exchanged R.remaining W.contents reader.old reader.new writer.old writer.new)) }
     ensures ended { IfErr result (λ fault. EndsOn fault
         (filing_of (session_ask_of request.now) live.entry
         (S.holds (store_of keeper.old)) (S.holds (store_of keeper.new)))
         db request.now.workers (ByPrograms (map string_bytes programs.now.runner.items)
         (map string_bytes programs.now.controller.items) programs.now.limit)
-        (R.remaining (inner_of reader.old)) (R.remaining (inner_of reader.new))
-        (W.contents (inner_of writer.old)) (W.contents (inner_of writer.new))
+        (exchanged R.remaining W.contents reader.old reader.new writer.old writer.new)
         (HasFailed reader.new) (HasFailed writer.new)
         (CannotKeep (session_ask_of request.now) live.entry (S.failed (store_of keeper.new)))) }
     ensures told { HasFailed reader.new → result ≡ Err (Failed Unread) }
@@ -256,30 +251,26 @@ fn run_gated<'a, T: Threads + Wait + Sync, R: Read, W: Write, G: Gate, S: Store>
         OnOk result (RunsGated Serves
         (filing_of (session_ask_of request.now) live.entry
         (S.holds (store_of keeper.old)) (S.holds (store_of keeper.new))) (IsDoneFailing fails) db
-        (R.remaining (inner_of reader.old)) (R.remaining (inner_of reader.new))
-        (W.contents (inner_of writer.old)) (W.contents (inner_of writer.new))) }
+        (exchanged R.remaining W.contents reader.old reader.new writer.old writer.new)) }
     ensures ended { (fails : ℕ → Way → Bool) →
         FailsExactly (G.answers gate.now) fails →
         IsTimeless (G.gives gate.now) (R.remaining (inner_of reader.old)) →
         IfErr result (λ fault. EndsGated fault
         (filing_of (session_ask_of request.now) live.entry
         (S.holds (store_of keeper.old)) (S.holds (store_of keeper.new))) (IsDoneFailing fails) db
-        (R.remaining (inner_of reader.old)) (R.remaining (inner_of reader.new))
-        (W.contents (inner_of writer.old)) (W.contents (inner_of writer.new))
+        (exchanged R.remaining W.contents reader.old reader.new writer.old writer.new)
         (HasFailed reader.new) (HasFailed writer.new)
         (CannotKeep (session_ask_of request.now) live.entry (S.failed (store_of keeper.new)))) }
     ensures done_by { OnOk result (RunsGated Serves
         (filing_of (session_ask_of request.now) live.entry
         (S.holds (store_of keeper.old)) (S.holds (store_of keeper.new)))
         (IsDoneBy request.now.workers (G.answers gate.now) (G.gives gate.now)) db
-        (R.remaining (inner_of reader.old)) (R.remaining (inner_of reader.new))
-        (W.contents (inner_of writer.old)) (W.contents (inner_of writer.new))) }
+        (exchanged R.remaining W.contents reader.old reader.new writer.old writer.new)) }
     ensures ended_by { IfErr result (λ fault. EndsGated fault
         (filing_of (session_ask_of request.now) live.entry
         (S.holds (store_of keeper.old)) (S.holds (store_of keeper.new)))
         (IsDoneBy request.now.workers (G.answers gate.now) (G.gives gate.now)) db
-        (R.remaining (inner_of reader.old)) (R.remaining (inner_of reader.new))
-        (W.contents (inner_of writer.old)) (W.contents (inner_of writer.new))
+        (exchanged R.remaining W.contents reader.old reader.new writer.old writer.new)
         (HasFailed reader.new) (HasFailed writer.new)
         (CannotKeep (session_ask_of request.now) live.entry (S.failed (store_of keeper.new)))) }
     ensures told { HasFailed reader.new → result ≡ Err (Failed Unread) }
@@ -327,27 +318,23 @@ fn serve_kept<T: Threads + Wait + Sync, R: Read, W: Write, G: Gate, S: Store>(
         FailsExactly (G.answers gate.now) fails →
         IsTimeless (G.gives gate.now) (R.remaining (inner_of reader.old)) →
         OnOk result (Serves (HoldsBy ((session_ask_of request.now).live) (S.holds (store_of keeper.old)) (S.holds (store_of keeper.new))) (IsDoneFailing fails)
-        (R.remaining (inner_of reader.old)) (R.remaining (inner_of reader.new))
-        (W.contents (inner_of writer.old)) (W.contents (inner_of writer.new))
+        (exchanged R.remaining W.contents reader.old reader.new writer.old writer.new)
         session.old session.new) }
     ensures begun { (fails : ℕ → Way → Bool) →
         FailsExactly (G.answers gate.now) fails →
         IsTimeless (G.gives gate.now) (R.remaining (inner_of reader.old)) →
         IfErr result (λ fault. StopsUpTo fault (S.holds (store_of keeper.new) ≡ S.holds (store_of keeper.old))
         (HoldsBy ((session_ask_of request.now).live) (S.holds (store_of keeper.old)) (S.holds (store_of keeper.new))) (IsDoneFailing fails)
-        (R.remaining (inner_of reader.old)) (R.remaining (inner_of reader.new))
-        (W.contents (inner_of writer.old)) (W.contents (inner_of writer.new))
+        (exchanged R.remaining W.contents reader.old reader.new writer.old writer.new)
         session.old session.new) }
     ensures done_by { OnOk result (Serves (HoldsBy ((session_ask_of request.now).live) (S.holds (store_of keeper.old)) (S.holds (store_of keeper.new)))
         (IsDoneBy request.now.workers (G.answers gate.now) (G.gives gate.now))
-        (R.remaining (inner_of reader.old)) (R.remaining (inner_of reader.new))
-        (W.contents (inner_of writer.old)) (W.contents (inner_of writer.new))
+        (exchanged R.remaining W.contents reader.old reader.new writer.old writer.new)
         session.old session.new) }
     ensures begun_by { IfErr result (λ fault. StopsUpTo fault (S.holds (store_of keeper.new) ≡ S.holds (store_of keeper.old))
         (HoldsBy ((session_ask_of request.now).live) (S.holds (store_of keeper.old)) (S.holds (store_of keeper.new)))
         (IsDoneBy request.now.workers (G.answers gate.now) (G.gives gate.now))
-        (R.remaining (inner_of reader.old)) (R.remaining (inner_of reader.new))
-        (W.contents (inner_of writer.old)) (W.contents (inner_of writer.new))
+        (exchanged R.remaining W.contents reader.old reader.new writer.old writer.new)
         session.old session.new) }
     ensures fault { IfErr result (IsServeFault (HasFailed reader.new) (HasFailed writer.new)
         (((session_ask_of request.now).live ≢ None) × S.failed (store_of keeper.new))) }
@@ -389,27 +376,23 @@ fn serve_alone<T: Threads + Wait + Sync, R: Read, W: Write, G: Gate>(
         FailsExactly (G.answers gate.now) fails →
         IsTimeless (G.gives gate.now) (R.remaining (inner_of reader.old)) →
         OnOk result (Serves (λ d line. Unit {0}) (IsDoneFailing fails)
-        (R.remaining (inner_of reader.old)) (R.remaining (inner_of reader.new))
-        (W.contents (inner_of writer.old)) (W.contents (inner_of writer.new))
+        (exchanged R.remaining W.contents reader.old reader.new writer.old writer.new)
         session.old session.new) }
     ensures begun { (fails : ℕ → Way → Bool) →
         FailsExactly (G.answers gate.now) fails →
         IsTimeless (G.gives gate.now) (R.remaining (inner_of reader.old)) →
         IfErr result (λ fault. ServesUpTo fault
         (λ d line. Unit {0}) (IsDoneFailing fails)
-        (R.remaining (inner_of reader.old)) (R.remaining (inner_of reader.new))
-        (W.contents (inner_of writer.old)) (W.contents (inner_of writer.new))
+        (exchanged R.remaining W.contents reader.old reader.new writer.old writer.new)
         session.old session.new) }
     ensures done_by { OnOk result (Serves (λ d line. Unit {0})
         (IsDoneBy workers (G.answers gate.now) (G.gives gate.now))
-        (R.remaining (inner_of reader.old)) (R.remaining (inner_of reader.new))
-        (W.contents (inner_of writer.old)) (W.contents (inner_of writer.new))
+        (exchanged R.remaining W.contents reader.old reader.new writer.old writer.new)
         session.old session.new) }
     ensures begun_by { IfErr result (λ fault. ServesUpTo fault
         (λ d line. Unit {0})
         (IsDoneBy workers (G.answers gate.now) (G.gives gate.now))
-        (R.remaining (inner_of reader.old)) (R.remaining (inner_of reader.new))
-        (W.contents (inner_of writer.old)) (W.contents (inner_of writer.new))
+        (exchanged R.remaining W.contents reader.old reader.new writer.old writer.new)
         session.old session.new) }
     ensures fault { IfErr result (IsServeFault (HasFailed reader.new) (HasFailed writer.new) ⊥) }
     ensures told { HasFailed reader.new → result ≡ Err ServeFault.Read }
@@ -449,27 +432,23 @@ fn serve_on_file<T: Threads + Wait + Sync, R: Read, W: Write, G: Gate, S: Store>
         FailsExactly (G.answers gate.now) fails →
         IsTimeless (G.gives gate.now) (R.remaining (inner_of reader.old)) →
         OnOk result (Serves (HoldsText (S.holds (store_of keeper.new))) (IsDoneFailing fails)
-        (R.remaining (inner_of reader.old)) (R.remaining (inner_of reader.new))
-        (W.contents (inner_of writer.old)) (W.contents (inner_of writer.new))
+        (exchanged R.remaining W.contents reader.old reader.new writer.old writer.new)
         session.old session.new) }
     ensures begun { (fails : ℕ → Way → Bool) →
         FailsExactly (G.answers gate.now) fails →
         IsTimeless (G.gives gate.now) (R.remaining (inner_of reader.old)) →
         IfErr result (λ fault. StopsUpTo fault (S.holds (store_of keeper.new) ≡ S.holds (store_of keeper.old))
         (HoldsText (S.holds (store_of keeper.new))) (IsDoneFailing fails)
-        (R.remaining (inner_of reader.old)) (R.remaining (inner_of reader.new))
-        (W.contents (inner_of writer.old)) (W.contents (inner_of writer.new))
+        (exchanged R.remaining W.contents reader.old reader.new writer.old writer.new)
         session.old session.new) }
     ensures done_by { OnOk result (Serves (HoldsText (S.holds (store_of keeper.new)))
         (IsDoneBy workers (G.answers gate.now) (G.gives gate.now))
-        (R.remaining (inner_of reader.old)) (R.remaining (inner_of reader.new))
-        (W.contents (inner_of writer.old)) (W.contents (inner_of writer.new))
+        (exchanged R.remaining W.contents reader.old reader.new writer.old writer.new)
         session.old session.new) }
     ensures begun_by { IfErr result (λ fault. StopsUpTo fault (S.holds (store_of keeper.new) ≡ S.holds (store_of keeper.old))
         (HoldsText (S.holds (store_of keeper.new)))
         (IsDoneBy workers (G.answers gate.now) (G.gives gate.now))
-        (R.remaining (inner_of reader.old)) (R.remaining (inner_of reader.new))
-        (W.contents (inner_of writer.old)) (W.contents (inner_of writer.new))
+        (exchanged R.remaining W.contents reader.old reader.new writer.old writer.new)
         session.old session.new) }
     ensures fault { IfErr result (IsServeFault (HasFailed reader.new) (HasFailed writer.new)
         (S.failed (store_of keeper.new))) }

@@ -1,6 +1,7 @@
 //! The command `session`: lines in, what each says done, and its answer out.
 ghost use Rattle.std.specs.Prelude.{◌≡◌, ◌≤◌, ◌⊎◌, ◌+◌, [], None, Some, Err, map, string_bytes, IfErr, OnOk};
 ghost use Rattle.rc_board.specs.Crew.{IsCrew};
+ghost use Rattle.rc_streams.specs.Exchange.{exchanged};
 ghost use Rattle.rc_streams.specs.Noting.{HasFailed, inner_of};
 ghost use Rattle.rc_streams.specs.Input.{AppendsFront, ConsumesAtMost, fault_line};
 ghost use Rattle.rc_base.specs.Base.{bytes_of};
@@ -59,8 +60,7 @@ pub fn session_run<T: Threads + Wait + Sync, R: Read, W: Write, F: Write, S: Sto
     // line on which the session stands in the end. Nothing was told.
     ensures done { result ≡ 0 → RunsAsked Serves (map string_bytes words.now) (bytes_of base.entry) live.entry
         (S.holds (store_of keeper.old)) (S.holds (store_of keeper.new))
-        (R.remaining (inner_of reader.old)) (R.remaining (inner_of reader.new))
-        (W.contents (inner_of writer.old)) (W.contents (inner_of writer.new)) }
+        (exchanged R.remaining W.contents reader.old reader.new writer.old writer.new) }
     ensures untold { result ≡ 0 → F.contents faults.new ≡ F.contents faults.old }
 
     // A refusal holds, and a prefix of its line was told, or all of it. With a base nothing was read
@@ -85,8 +85,7 @@ pub fn session_run<T: Threads + Wait + Sync, R: Read, W: Write, F: Write, S: Sto
     ensures failed { result ≡ 111 → TellsServeFault (map string_bytes words.now)
         (bytes_of base.entry) live.entry
         (S.holds (store_of keeper.old)) (S.holds (store_of keeper.new))
-        (R.remaining (inner_of reader.old)) (R.remaining (inner_of reader.new))
-        (W.contents (inner_of writer.old)) (W.contents (inner_of writer.new))
+        (exchanged R.remaining W.contents reader.old reader.new writer.old writer.new)
         (HasFailed reader.new ⊎ (bytes_of base.entry ≡ None)) (HasFailed writer.new)
         (S.failed (store_of keeper.new))
         (F.contents faults.old) (F.contents faults.new) }
@@ -133,8 +132,7 @@ pub fn session_as_asked<T: Threads + Wait + Sync, R: Read, W: Write, F: Write, S
     // played, and what the store holds is of where it stands. Nothing was told.
     ensures done { result ≡ 0 → Runs Serves (bytes_of base.entry) (session_ask_of request.now) live.entry
         (S.holds (store_of keeper.old)) (S.holds (store_of keeper.new))
-        (R.remaining (inner_of reader.old)) (R.remaining (inner_of reader.new))
-        (W.contents (inner_of writer.old)) (W.contents (inner_of writer.new)) }
+        (exchanged R.remaining W.contents reader.old reader.new writer.old writer.new) }
     ensures untold { result ≡ 0 → F.contents faults.new ≡ F.contents faults.old }
 
     // A refusal holds, and a prefix of its line was told, or all of it. With a base nothing was read
@@ -155,8 +153,7 @@ pub fn session_as_asked<T: Threads + Wait + Sync, R: Read, W: Write, F: Write, S
     ensures failed { result ≡ 111 → TellsSessionFault (session_ask_of request.now)
         (bytes_of base.entry) live.entry
         (S.holds (store_of keeper.old)) (S.holds (store_of keeper.new))
-        (R.remaining (inner_of reader.old)) (R.remaining (inner_of reader.new))
-        (W.contents (inner_of writer.old)) (W.contents (inner_of writer.new))
+        (exchanged R.remaining W.contents reader.old reader.new writer.old writer.new)
         (HasFailed reader.new ⊎ (bytes_of base.entry ≡ None)) (HasFailed writer.new)
         (S.failed (store_of keeper.new))
         (F.contents faults.old) (F.contents faults.new) }
@@ -194,13 +191,11 @@ fn run_asked<'a, T: Threads + Wait + Sync, R: Read, W: Write, S: Store>(
     requires writer { HasFailed writer.old → ⊥ }
     ensures done { OnOk result (Runs Serves (bytes_of base.entry) (session_ask_of request.now) live.entry
         (S.holds (store_of keeper.old)) (S.holds (store_of keeper.new))
-        (R.remaining (inner_of reader.old)) (R.remaining (inner_of reader.new))
-        (W.contents (inner_of writer.old)) (W.contents (inner_of writer.new))) }
+        (exchanged R.remaining W.contents reader.old reader.new writer.old writer.new)) }
     ensures ended { IfErr result (λ fault. EndsBy fault (bytes_of base.entry)
         (session_ask_of request.now) live.entry
         (S.holds (store_of keeper.old)) (S.holds (store_of keeper.new))
-        (R.remaining (inner_of reader.old)) (R.remaining (inner_of reader.new))
-        (W.contents (inner_of writer.old)) (W.contents (inner_of writer.new))
+        (exchanged R.remaining W.contents reader.old reader.new writer.old writer.new)
         (HasFailed reader.new ⊎ (bytes_of base.entry ≡ None)) (HasFailed writer.new)
         (CannotKeep (session_ask_of request.now) live.entry (S.failed (store_of keeper.new)))) }
     ensures told { HasFailed reader.new → result ≡ Err (Failed Unread) }
@@ -233,13 +228,11 @@ fn run_on_base<'a, T: Threads + Wait + Sync, R: Read, W: Write, S: Store>(
     requires writer { HasFailed writer.old → ⊥ }
     ensures done { OnOk result (Runs Serves (Some base.now) (session_ask_of request.now) live.entry
         (S.holds (store_of keeper.old)) (S.holds (store_of keeper.new))
-        (R.remaining (inner_of reader.old)) (R.remaining (inner_of reader.new))
-        (W.contents (inner_of writer.old)) (W.contents (inner_of writer.new))) }
+        (exchanged R.remaining W.contents reader.old reader.new writer.old writer.new)) }
     ensures ended { IfErr result (λ fault. EndsBy fault (Some base.now)
         (session_ask_of request.now) live.entry
         (S.holds (store_of keeper.old)) (S.holds (store_of keeper.new))
-        (R.remaining (inner_of reader.old)) (R.remaining (inner_of reader.new))
-        (W.contents (inner_of writer.old)) (W.contents (inner_of writer.new))
+        (exchanged R.remaining W.contents reader.old reader.new writer.old writer.new)
         (HasFailed reader.new) (HasFailed writer.new)
         (CannotKeep (session_ask_of request.now) live.entry (S.failed (store_of keeper.new)))) }
     ensures told { HasFailed reader.new → result ≡ Err (Failed Unread) }
@@ -267,14 +260,12 @@ fn run_on_input<'a, T: Threads + Wait + Sync, R: Read, W: Write, S: Store>(
     requires writer { HasFailed writer.old → ⊥ }
     ensures done { OnOk result (Runs Serves None (session_ask_of request.now) live.entry
         (S.holds (store_of keeper.old)) (S.holds (store_of keeper.new))
-        (R.remaining (inner_of reader.old)) (R.remaining (inner_of reader.new))
-        (W.contents (inner_of writer.old)) (W.contents (inner_of writer.new))) }
+        (exchanged R.remaining W.contents reader.old reader.new writer.old writer.new)) }
     ensures ended { IfErr result (λ fault. EndsBy fault None (session_ask_of request.now)
         live.entry
         (S.holds (store_of keeper.old)) (S.holds (store_of keeper.new))
-        (R.remaining (inner_of reader.old)) (R.remaining (inner_of reader.new))
-        (W.contents (inner_of writer.old)) (W.contents (inner_of writer.new)) (Unit {0})
-        (HasFailed writer.new)
+        (exchanged R.remaining W.contents reader.old reader.new writer.old writer.new)
+        (Unit {0}) (HasFailed writer.new)
         (CannotKeep (session_ask_of request.now) live.entry (S.failed (store_of keeper.new)))) }
     ensures told { HasFailed reader.new → result ≡ Err (Failed Unread) }
     ensures taken { ConsumesAtMost (R.remaining (inner_of reader.old))

@@ -1,6 +1,6 @@
-pub mod Bits
-pub mod Counts
-pub mod Flags
-pub mod Writes
+mod Bits
+mod Counts
+mod Flags
+mod Writes
 pub mod Listing
-pub mod WordIds
+mod WordIds

@@ -1,8 +1,8 @@
+use Rattle.rc_model.specs.Line.{Lists}
 use Rattle.std.proofs.Common.{◌≡◌, ℕ, ◌+◌, ◌<◌, ◌≤◌, ◌↔◌, List, [], ◌∷◌, ◌++◌, Contains, inl, inr, arith, subst, slice_index_or}
 use Rattle.std.proofs.lemmas.List.Elements.{Contains-push, Contains-push_cases, Contains-append_left, All-push}
 use Rattle.std.proofs.lemmas.Bool.{cases_lt}
 use Rattle.std.proofs.lemmas.List.Quantifiers.{all_pairs_push}
-use Rattle.rc_model.specs.Names.{Lists}
 use Rattle.rc_set.specs.Listed.{ListsBelow}
 
 -- one more id, of which the fact holds

@@ -7,7 +7,8 @@
 #![tactic(auto)]
 
 ghost use Rattle.std.specs.Prelude.{◌≡◌, ◌≢◌, ℕ, ◌+◌, ◌*◌, ◌<◌, ◌≤◌, ◌⊎◌, ◌↔◌, length, count_by, IsTrue, IfOk, OnOk};
-ghost use Rattle.rc_model.specs.Names.{Has, Holds, Lists};
+ghost use Rattle.rc_model.specs.Line.{Lists};
+ghost use Rattle.rc_model.specs.Names.{Has, Holds};
 ghost use Rattle.rc_set.specs.Words.{has_bit, HasBit, flags_of};
 ghost use Rattle.rc_set.specs.Listed.{ListsBelow};
 

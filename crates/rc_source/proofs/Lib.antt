@@ -1,16 +1,16 @@
-pub mod Digits
-pub mod EntryFiles
-pub mod EntryMeaning
-pub mod EntryTests
-pub mod Exits
-pub mod FileFlaws
-pub mod Filtering
-pub mod Folders
-pub mod Lines
-pub mod Meant
+mod Digits
+mod EntryFiles
+mod EntryMeaning
+mod EntryTests
+mod Exits
+mod FileFlaws
+mod Filtering
+mod Folders
+mod Lines
+mod Meant
 pub mod Members
-pub mod OneMeaning
-pub mod OneRefusal
-pub mod Reading
-pub mod Sources
-pub mod Stopping
+mod OneMeaning
+mod OneRefusal
+mod Reading
+mod Sources
+mod Stopping

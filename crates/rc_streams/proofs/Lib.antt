@@ -1,2 +1,2 @@
-pub mod InputLemmas
-pub mod Handing
+mod InputLemmas
+mod Handing

@@ -1,3 +1,4 @@
+pub mod Exchange
 pub mod Input
 pub mod Noting
 pub mod Taking

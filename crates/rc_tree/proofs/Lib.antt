@@ -1,3 +1,3 @@
-pub mod Known
+mod Known
 pub mod Members
-pub mod TextSets
+mod TextSets

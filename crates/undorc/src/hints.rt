@@ -1,13 +1,12 @@
 //! The lines after a fault, for people: where it is, and what helps. They change no status, and
 //! where nothing is found, or memory is short, there are none.
 use rc_asked::{CompileRequest, DbRequest, Query};
-use rc_graph::Way;
 use rc_hints::{
     Sources, Told, behind_end, compile_hint, database_hint, lacking_hint, live_hint,
     looks_like_entry, near_hint, unread_files, word_of,
 };
 use rc_names::NoMem;
-use rc_queries::db_as_asked;
+use rc_queries::{db_as_asked, query_hint};
 use rc_streams::Noted;
 use std::alloc::AllocError;
 use std::io::{self, ErrorKind, Stderr};
@@ -67,14 +66,9 @@ impl<'a> Seen<'a> {
 
 /// The status of `db check` on a database.
 fn checked(rt: &HostRuntime, base: Option<&[u8]>, input: &[u8]) -> u8 {
-    let request = DbRequest {
-        query: Query::Check,
-        way: Way::Raise,
-        live: None,
-    };
     db_as_asked(
         rt.alloc(),
-        &request,
+        &DbRequest::of(Query::Check),
         base,
         None,
         &mut Noted::new(input),
@@ -171,14 +165,10 @@ fn plain_hint(word: &str, rest: &str, is_file: bool) -> Option<&'static str> {
         "Bad" if rest == "0" && !is_file => {
             Some("no database stands at the front of standard input; -b FILE names one")
         }
-        "NotAtomic" => Some("the name is a bundle's, and a service is asked about"),
-        "NotBundle" => Some("the name is a service's, and a bundle is asked about"),
-        "NotLongrun" => Some("the name is a oneshot's, and a longrun is asked about"),
-        "NotOneshot" => Some("the name is a longrun's, and a oneshot is asked about"),
         "PruneNeedsUp" => Some("-p goes with neither -d nor -D"),
         "Read" => Some("standard input can't be read"),
         "Write" => Some("standard output can't be written"),
-        _ => None,
+        _ => query_hint(word),
     }
 }
 

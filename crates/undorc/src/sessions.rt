@@ -252,6 +252,12 @@ pub fn live_at(rt: &HostRuntime, file: Option<&str>) -> io::Result<Option<Vec<u8
     let Some(path) = file else {
         return Ok(None);
     };
+    // A pipe would be waited for, and a device may have no end.
+    if let Ok(found) = fs::metadata(rt, path) {
+        if !found.is_file() && !found.is_dir() {
+            return Err(io::Error::from(ErrorKind::InvalidInput));
+        }
+    }
     match fs::read(rt, path) {
         Ok(bytes) => Ok(Some(bytes)),
         Err(error) => {

@@ -1,7 +1,7 @@
 use Rattle.std.proofs.Common.{ℕ, Option, codes}
 use Rattle.clap.specs.Words.{Text}
 use Rattle.rc_asked.specs.SessionAsked.{IsBoundIn, IsCrewIn}
-use Rattle.rc_asked.proofs.SessionWordsLemmas.{found_as, found_back, text_found}
+use Rattle.rc_asked.proofs.SessionWordsLemmas.{found_as, found_back}
 use Rattle.rc_asked.proofs.session_words.session_in.Goals as goal
 
 -- a text that is given says this number of workers, or this bound
@@ -25,7 +25,7 @@ returns-in-Ok-clause-asked c = record {
   making = c.in-Ok.ensures.asked;
   tells = c.is_on-tells.ensures;
   bound = found_as (says_bound c.in-Some-bound_of.bound) c.args.matches.now (codes "bound") _ c.get_str-2.ensures c.in-Some-bound_of.ensures.some;
-  live = text_found c.args.matches.now (codes "live") _ c.get_str-in-Ok.ensures;
+  live = c.text_in.ensures;
   waits = c.is_on.ensures;
 }
 

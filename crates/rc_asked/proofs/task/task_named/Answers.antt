@@ -1,9 +1,6 @@
 use Rattle.std.proofs.lemmas.Result.{IfErr-weaker}
-use Rattle.rc_asked.proofs.TaskLemmas.{file_found, others_none}
+use Rattle.rc_asked.proofs.TaskLemmas.{others_none}
 use Rattle.rc_asked.proofs.task.task_named.Goals as goal
-
-pub returns-in-replay-clause-asked : goal.returns-in-replay-clause-asked
-returns-in-replay-clause-asked c = (c.in-replay.is, file_found c.args.matches.now _ c.get_str.ensures)
 
 pub returns-in_default-clause-wrong : goal.returns-in_default-clause-wrong
 returns-in_default-clause-wrong c =

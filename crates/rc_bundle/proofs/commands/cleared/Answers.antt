@@ -1,6 +1,5 @@
 use Rattle.std.proofs.Common.{List, ℕ, None, string_bytes, subst, sym, arith}
-use Rattle.rc_model.specs.Database.{IsChangedAt}
-use Rattle.rc_model.specs.Line.{Removes}
+use Rattle.rc_model.specs.Line.{Removes, IsChangedAt}
 use Rattle.rc_bundle.proofs.Changes.{removes_more, removed_below}
 use Rattle.rc_bundle.proofs.GoneOver.{take_word, take_words}
 use Rattle.rc_bundle.proofs.commands.cleared.Goals as goal

@@ -1,5 +1,5 @@
+use Rattle.rc_model.specs.Database.{IsBundle}
 use Rattle.std.proofs.Common.{◌∙◌, rules, string_bytes, subst, sym, arith, true≢false}
-use Rattle.rc_model.specs.Line.{IsBundle}
 use Rattle.rc_db.proofs.Words.{mapped_at}
 use Rattle.rc_bundle.proofs.GoneOver.{all_next, all_end}
 use Rattle.rc_bundle.proofs.words.first_missing.Goals as goal

@@ -1,5 +1,5 @@
+use Rattle.rc_model.specs.Database.{IsBundle}
 use Rattle.std.proofs.Common.{take, map, All, string_bytes}
-use Rattle.rc_model.specs.Line.{IsBundle}
 use Rattle.rc_bundle.proofs.words.first_missing.Given as goal
 
 -- each word before this place is a bundle's

@@ -1,5 +1,5 @@
 use Rattle.std.proofs.Common.{inl, inr, refl}
-use Rattle.rc_streams.specs.Noting.{inner_of}
+use Rattle.rc_streams.specs.Exchange.{exchanged}
 use Rattle.rc_base.specs.Base.{bytes_of}
 use Rattle.rc_asked.specs.OnceAsked.{once_ask_of}
 use Rattle.rc_sessions.specs.Storing.{store_of}
@@ -18,11 +18,11 @@ returns-in-Ok-clause-refused g c told = inl (rw (c.status_of.ensures.refused tol
 pub returns-in-Err-clause-refused : goal.returns-in-Err-clause-refused
 returns-in-Err-clause-refused g c told =
     let line = c.tell_session_fault.ensures.refused told in
-    let holds = refusal_once c.in-Err.fault (bytes_of c.args.base) (once_ask_of c.args.request.now) c.args.live (g.S.Store.holds (store_of c.args.keeper.now)) (g.S.Store.holds (store_of c.run_asked.new.keeper)) (g.R.Read.remaining (inner_of c.args.reader.now)) (g.R.Read.remaining (inner_of c.run_asked.new.reader)) (g.W.Write.contents (inner_of c.args.writer.now)) (g.W.Write.contents (inner_of c.run_asked.new.writer)) _ _ _ line.0 c.in-Err.ensures.ended in
+    let holds = refusal_once c.in-Err.fault (bytes_of c.args.base) (once_ask_of c.args.request.now) c.args.live (g.S.Store.holds (store_of c.args.keeper.now)) (g.S.Store.holds (store_of c.run_asked.new.keeper)) (exchanged g.R.Read.remaining g.W.Write.contents c.args.reader.now c.run_asked.new.reader c.args.writer.now c.run_asked.new.writer) _ _ _ line.0 c.in-Err.ensures.ended in
     inr ((c.in-Err.fault, holds.0, line.1), holds.1, holds.2)
 
 pub returns-in-Err-clause-failed : goal.returns-in-Err-clause-failed
 returns-in-Err-clause-failed g c told =
     let line = c.tell_session_fault.ensures.failed told in
-    let holds = failure_once c.in-Err.fault line.0 (bytes_of c.args.base) (once_ask_of c.args.request.now) c.args.live (g.S.Store.holds (store_of c.args.keeper.now)) (g.S.Store.holds (store_of c.run_asked.new.keeper)) (g.R.Read.remaining (inner_of c.args.reader.now)) (g.R.Read.remaining (inner_of c.run_asked.new.reader)) (g.W.Write.contents (inner_of c.args.writer.now)) (g.W.Write.contents (inner_of c.run_asked.new.writer)) _ _ _ line.1 c.in-Err.ensures.ended in
+    let holds = failure_once c.in-Err.fault line.0 (bytes_of c.args.base) (once_ask_of c.args.request.now) c.args.live (g.S.Store.holds (store_of c.args.keeper.now)) (g.S.Store.holds (store_of c.run_asked.new.keeper)) (exchanged g.R.Read.remaining g.W.Write.contents c.args.reader.now c.run_asked.new.reader c.args.writer.now c.run_asked.new.writer) _ _ _ line.1 c.in-Err.ensures.ended in
     (line.0, holds.0, line.2, holds.1)

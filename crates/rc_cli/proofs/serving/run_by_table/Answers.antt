@@ -1,4 +1,4 @@
-use Rattle.std.proofs.Common.{◌≡◌, List, map, refl, subst}
+use Rattle.std.proofs.Common.{◌≡◌, map, refl}
 use Rattle.std.proofs.lemmas.Result.{IfErr-weaker}
 use Rattle.rc_streams.specs.Noting.{inner_of}
 use Rattle.rc_asked.specs.OnceAsked.{once_ask_of}
@@ -6,7 +6,6 @@ use Rattle.rc_asked.specs.Programs.{ByTable}
 use Rattle.rc_asked.specs.Reading.{listed_of}
 use Rattle.rc_asked.specs.SessionAsked.{session_ask_of}
 use Rattle.rc_sessions.specs.Filing.{filing_of}
-use Rattle.rc_sessions.specs.Finding.{AreFound}
 use Rattle.rc_sessions.specs.Storing.{store_of}
 use Rattle.rc_runner.specs.Failing.{outcome_in}
 use Rattle.rc_runner.specs.Moments.{IsMomentOf}

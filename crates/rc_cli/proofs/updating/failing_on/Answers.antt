@@ -1,4 +1,4 @@
-use Rattle.std.proofs.Common.{◌≡◌, ◌∙◌, ◌≤◌, ◌+◌, ◌++◌, ◌∷◌, [], ℕ, List, get_or, length, map, take, ap, sym, arith}
+use Rattle.std.proofs.Common.{◌∙◌, ◌≤◌, ◌+◌, ◌++◌, [], ℕ, List, get_or, length, map, take, ap, sym, arith}
 use Rattle.std.proofs.lemmas.List.{take_all, length-map}
 use Rattle.rc_graph.specs.declared.Way.TheVariants.{Raise}
 use Rattle.rc_asked.specs.Listed.{Listed}

@@ -1,4 +1,4 @@
-use Rattle.std.proofs.Common.{◌≡◌, ◌∙◌, ap, sym, subst, length}
+use Rattle.std.proofs.Common.{◌∙◌, ap, sym, subst, length}
 use Rattle.rc_model.specs.Database.{HaveBound, Bundles, AreApart}
 use Rattle.rc_model.specs.Session.{IsStateOf}
 use Rattle.rc_cli.proofs.UpdateLemmas.{one_state}

@@ -11,7 +11,7 @@ use Rattle.rc_serve.specs.Ending.{IsDoneAs}
 use Rattle.rc_session.proofs.States.{current_state}
 use Rattle.rc_sessions.specs.Storing.{store_of}
 use Rattle.rc_cli.specs.Updating.{IsUpdate, Parts, session_with}
-use Rattle.rc_cli.proofs.UpdateLemmas.{step_eventless, update_ends, update_is, update_stops, with_bound}
+use Rattle.rc_cli.proofs.UpdateLemmas.{update_ends, update_is, update_stops, with_bound}
 use Rattle.rc_cli.proofs.updating.update_from.Goals as goal
 
 pub carry-requires-clause-bound : goal.carry-requires-clause-bound

@@ -1,8 +1,8 @@
-use Rattle.rc_streams.specs.Noting.{HasFailed, inner_of}
+use Rattle.rc_streams.specs.Noting.{inner_of}
 use Rattle.rc_asked.specs.UpdateAsked.{update_ask_of}
 use Rattle.rc_sessions.specs.Storing.{store_of}
 use Rattle.rc_serve.specs.Ending.{IsDoneAs}
-use Rattle.rc_cli.proofs.UpdateLemmas.{begin_update, gated_fault, runs_from, stops_from}
+use Rattle.rc_cli.proofs.UpdateLemmas.{gated_fault, stops_from}
 use Rattle.rc_cli.proofs.updating.update_gated.Goals as goal
 
 pub returns-in-Err-ended-clause-ended : goal.returns-in-Err-ended-clause-ended

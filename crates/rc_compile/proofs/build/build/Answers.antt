@@ -1,4 +1,4 @@
-use Rattle.std.proofs.Common.{List, Bool, map, refl, sym, subst}
+use Rattle.std.proofs.Common.{List, Bool, map, sym, subst}
 use Rattle.rc_source.specs.Said.{meaning_of}
 use Rattle.rc_holds.specs.Standing.{StandsFor}
 use Rattle.rc_holds.specs.Sets.{AreSetsOf}
@@ -16,12 +16,12 @@ pub bundle_sets-requires-clause-piped : goal.bundle_sets-requires-clause-piped
 bundle_sets-requires-clause-piped c =
     let ms = map meaning_of c.args.definitions.now in
     let before = c.requires.before in
-    are_piped ms (λ s has. no_type ms before (s, has)) (λ s has. no_mismatch ms before (s, has))
+    are_piped ms (no_type ms before) (no_mismatch ms before)
 
 pub bundle_sets-requires-clause-apart : goal.bundle_sets-requires-clause-apart
 bundle_sets-requires-clause-apart c =
     let ms = map meaning_of c.args.definitions.now in
-    are_apart ms c.requires.meanings (λ s has. no_taken ms c.requires.before (s, has))
+    are_apart ms c.requires.meanings (no_taken ms c.requires.before)
 
 pub graph_of-requires-clause-services : goal.graph_of-requires-clause-services
 graph_of-requires-clause-services c = c.requires.book.service
@@ -38,10 +38,10 @@ joined-db-requires-clause-sets c =
     let Of : List (List Bool) → Type 0 = AreSetsOf (StandsFor (map meaning_of c.args.definitions.now)) c.args.book.bundles c.args.book.services in subst Of (sym c.deref-2.ensures.value) c.in-Ok.ensures.sets
 
 pub joined-db-requires-clause-types : goal.joined-db-requires-clause-types
-joined-db-requires-clause-types c s has = no_type (map meaning_of c.args.definitions.now) c.requires.before (s, has)
+joined-db-requires-clause-types c s has = no_type (map meaning_of c.args.definitions.now) c.requires.before s has
 
 pub joined-db-requires-clause-taken : goal.joined-db-requires-clause-taken
-joined-db-requires-clause-taken c s has = no_taken (map meaning_of c.args.definitions.now) c.requires.before (s, has)
+joined-db-requires-clause-taken c s has = no_taken (map meaning_of c.args.definitions.now) c.requires.before s has
 
 pub returns-clause-free : goal.returns-clause-free
 returns-clause-free c = no_flaw (map meaning_of c.args.definitions.now) c.requires.before (λ (names, ring). c.in-Ok-graph_of.ensures.free names ring)

@@ -8,10 +8,9 @@ use Rattle.rc_source.specs.Said.{meaning_of}
 use Rattle.rc_source.proofs.Members.{Contains-nil}
 use Rattle.rc_holds.specs.Along.{IsLeast}
 use Rattle.rc_compile.specs.CompileFaults.{HasUnknown}
-use Rattle.rc_compile.specs.Book.{Shows}
-use Rattle.rc_compile.specs.declared.scan.EntryFlaw.TheVariants.{Unknown}
+use Rattle.rc_compile.specs.Book.{ShowsUnknown}
 use Rattle.rc_compile.proofs.Givens.{all_below, below_next}
-use Rattle.rc_compile.proofs.Shown.{flawed_same, same_least, unknown_same}
+use Rattle.rc_compile.proofs.Shown.{entries_unknown, same_least, unknown_same}
 use Rattle.rc_compile.proofs.scan.least_unknown.Goals as goal
 use Rattle.rc_compile.proofs.scan.least_unknown.Goals.{then-eq+in_ok-unknown+in_ok-name+in_default, else-eq}
 
@@ -42,7 +41,7 @@ loop-definition-preserved c below =
     let ms = map meaning_of c.args.definitions.now in
     let m = meaning_of c.definition-item.result in
     let i = c.loop-definition.definition-index in
-    let Flawed : Meaning → Type 0 = λ (x : Meaning). (x.name ≡ c.args.entry.now) × Shows c.args.book.now Unknown x in
+    let Flawed : Meaning → Type 0 = λ (x : Meaning). (x.name ≡ c.args.entry.now) × ShowsUnknown c.args.book.now x in
     let here = mapped_at meaning_of c.args.definitions.now i c.definition-item.result (omega arith) c.definition-item.is in
     ⊎_elim c.loop-definition.invariant
     (λ (named, shows). elim c.if-eq.branch [
@@ -61,8 +60,8 @@ loop-definition-preserved c below =
 pub unreachable-requires : goal.unreachable-requires
 unreachable-requires c =
     let ms = map meaning_of c.args.definitions.now in
-    let Flawed : Meaning → Type 0 = λ (x : Meaning). (x.name ≡ c.args.entry.now) × Shows c.args.book.now Unknown x in
-    let (m, there, both) = (flawed_same ms c.args.book.now c.requires.meanings c.requires.book Unknown c.args.entry.now).1 c.requires.flaw in
+    let Flawed : Meaning → Type 0 = λ (x : Meaning). (x.name ≡ c.args.entry.now) × ShowsUnknown c.args.book.now x in
+    let (m, there, both) = entries_unknown ms c.args.book.now c.requires.meanings c.requires.book c.args.entry.now c.requires.flaw in
     let (k, x, low, at, holds) = all_below Flawed ms m there both in
     let least : k < length ms = low in
     c.loop-definition.invariant (k, x, omega (arith, length-map c.args.definitions.now meaning_of), at, holds)

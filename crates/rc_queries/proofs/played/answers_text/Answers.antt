@@ -1,7 +1,7 @@
 use Rattle.std.proofs.Common.{rules, ◌∙◌}
 use Rattle.rc_session.specs.Commands.{command_of}
 use Rattle.rc_session.specs.Report.{answer_of}
-use Rattle.rc_queries.proofs.Telling.{told_more, told_all, told_each}
+use Rattle.rc_queries.proofs.Telling.{told_more, told_each}
 use Rattle.rc_queries.proofs.played.answers_text.Goals as goal
 
 pub loop-place-preserved : goal.loop-place-preserved

@@ -1,6 +1,7 @@
 use Rattle.std.proofs.Common.{inl, inr}
+use Rattle.rc_model.specs.Session.{Nothing}
 use Rattle.rc_model.specs.Names.{Has}
-use Rattle.rc_model.specs.Plan.{Nothing, Target}
+use Rattle.rc_model.specs.Plan.{Target}
 use Rattle.rc_model.specs.declared.Mode.TheVariants.{Up}
 use Rattle.std.proofs.Common.{false}
 use Rattle.rc_select.proofs.TargetLemmas.{target_closed, same_closed}

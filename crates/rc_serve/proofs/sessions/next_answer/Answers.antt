@@ -1,4 +1,5 @@
 use Rattle.std.proofs.lemmas.Result.{err_from_is_err_and}
+use Rattle.rc_streams.specs.Exchange.{exchanged}
 use Rattle.rc_streams.specs.Noting.{HasFailed, inner_of}
 use Rattle.rc_serve.specs.Keeping.{StopsAt}
 use Rattle.rc_serve.specs.Faults.{IsServeFault, Spoils, of_failure}
@@ -8,14 +9,14 @@ use Rattle.rc_serve.proofs.sessions.next_answer.Goals as goal
 
 pub returns-in_err-line-clause-stopped : goal.returns-in_err-line-clause-stopped
 returns-in_err-line-clause-stopped g c =
-    let stops : StopsAt (IsDoneBy c.args.workers (g.G.Gate.answers c.args.gate.now) (g.G.Gate.gives c.args.gate.now)) (of_failure c.in_err-line.field-0.0) g.K.Keeper.fails (g.K.Keeper.keeps c.args.keeper.now) (g.K.Keeper.keeps c.args.keeper.now) (g.R.Read.remaining (inner_of c.args.reader.now)) (g.R.Read.remaining (inner_of c.next.new.reader)) c.args.lines.now c.next.new.self (g.W.Write.contents (inner_of c.args.writer.now)) (g.W.Write.contents (inner_of c.args.writer.now)) c.args.session.now c.args.session.now =
+    let stops : StopsAt (IsDoneBy c.args.workers (g.G.Gate.answers c.args.gate.now) (g.G.Gate.gives c.args.gate.now)) (of_failure c.in_err-line.field-0.0) g.K.Keeper.fails (g.K.Keeper.keeps c.args.keeper.now) (g.K.Keeper.keeps c.args.keeper.now) (exchanged g.R.Read.remaining g.W.Write.contents c.args.reader.now c.next.new.reader c.args.writer.now c.args.writer.now) c.args.lines.now c.next.new.self c.args.session.now c.args.session.now =
     stops_unread (IsDoneBy c.args.workers (g.G.Gate.answers c.args.gate.now) (g.G.Gate.gives c.args.gate.now)) _ c.in_err-line.field-0.0 g.K.Keeper.fails (g.K.Keeper.keeps c.args.keeper.now) (g.R.Read.remaining (inner_of c.args.reader.now)) (g.R.Read.remaining (inner_of c.next.new.reader)) c.args.lines.now c.next.new.self (g.W.Write.contents (inner_of c.args.writer.now)) c.args.session.now c.in_err-line.ensures.fault in
     let is = err_from_is_err_and c.from_residual.result c.from_residual.ensures.1 in
     rw (is.1, is.2) stops
 
 pub returns-in_err-answer-clause-stopped : goal.returns-in_err-answer-clause-stopped
 returns-in_err-answer-clause-stopped g c =
-    let stops : StopsAt (IsDoneBy c.args.workers (g.G.Gate.answers c.args.gate.now) (g.G.Gate.gives c.args.gate.now)) c.in_err-answer.field-0.0 g.K.Keeper.fails (g.K.Keeper.keeps c.args.keeper.now) (g.K.Keeper.keeps c.line_answer.new.keeper) (g.R.Read.remaining (inner_of c.args.reader.now)) (g.R.Read.remaining (inner_of c.next.new.reader)) c.args.lines.now c.next.new.self (g.W.Write.contents (inner_of c.args.writer.now)) (g.W.Write.contents (inner_of c.args.writer.now)) c.args.session.now c.line_answer.new.session =
+    let stops : StopsAt (IsDoneBy c.args.workers (g.G.Gate.answers c.args.gate.now) (g.G.Gate.gives c.args.gate.now)) c.in_err-answer.field-0.0 g.K.Keeper.fails (g.K.Keeper.keeps c.args.keeper.now) (g.K.Keeper.keeps c.line_answer.new.keeper) (exchanged g.R.Read.remaining g.W.Write.contents c.args.reader.now c.next.new.reader c.args.writer.now c.args.writer.now) c.args.lines.now c.next.new.self c.args.session.now c.line_answer.new.session =
     stops_short (IsDoneBy c.args.workers (g.G.Gate.answers c.args.gate.now) (g.G.Gate.gives c.args.gate.now)) c.in_err-answer.field-0.0 g.K.Keeper.fails (g.K.Keeper.keeps c.args.keeper.now) (g.K.Keeper.keeps c.line_answer.new.keeper) (g.K.Keeper.failed c.line_answer.new.keeper) c.in-Some.ends (g.R.Read.remaining (inner_of c.args.reader.now)) (g.R.Read.remaining (inner_of c.next.new.reader)) c.args.lines.now c.next.new.self (g.W.Write.contents (inner_of c.args.writer.now)) c.args.session.now c.line_answer.new.session c.in-Some.line.items
     (rw c.in-Some.is at c.in_ok-line.ensures.line) c.in_ok-line.ensures.taken (rw c.deref.ensures.value at c.in_err-answer.ensures.may) c.in_err-answer.ensures.kept (rw c.deref.ensures.value at c.in_err-answer.ensures.fault) in
     let is = err_from_is_err_and c.from_residual-in_err-answer.result c.from_residual-in_err-answer.ensures.1 in
@@ -35,8 +36,8 @@ returns-in_err-answer-clause-fault g c =
 
 pub returns-in_err-write_answer-clause-stopped : goal.returns-in_err-write_answer-clause-stopped
 returns-in_err-write_answer-clause-stopped g c =
-    let stops : StopsAt (IsDoneBy c.args.workers (g.G.Gate.answers c.args.gate.now) (g.G.Gate.gives c.args.gate.now)) (of_failure c.in_err-write_answer.field-0.0) g.K.Keeper.fails (g.K.Keeper.keeps c.args.keeper.now) (g.K.Keeper.keeps c.line_answer.new.keeper) (g.R.Read.remaining (inner_of c.args.reader.now)) (g.R.Read.remaining (inner_of c.next.new.reader)) c.args.lines.now c.next.new.self (g.W.Write.contents (inner_of c.args.writer.now)) (g.W.Write.contents (inner_of c.write_answer.new.writer)) c.args.session.now c.line_answer.new.session =
-    stops_writing (IsDoneBy c.args.workers (g.G.Gate.answers c.args.gate.now) (g.G.Gate.gives c.args.gate.now)) c.in_err-write_answer.field-0.0 g.K.Keeper.fails (g.K.Keeper.keeps c.args.keeper.now) (g.K.Keeper.keeps c.line_answer.new.keeper) c.in-Some.ends (g.R.Read.remaining (inner_of c.args.reader.now)) (g.R.Read.remaining (inner_of c.next.new.reader)) c.args.lines.now c.next.new.self (g.W.Write.contents (inner_of c.args.writer.now)) (g.W.Write.contents (inner_of c.write_answer.new.writer)) c.args.session.now c.line_answer.new.session c.in-Some.line.items _ (write_fault c.in_err-write_answer.field-0.0 c.in_err-write_answer.ensures.fault.0)
+    let stops : StopsAt (IsDoneBy c.args.workers (g.G.Gate.answers c.args.gate.now) (g.G.Gate.gives c.args.gate.now)) (of_failure c.in_err-write_answer.field-0.0) g.K.Keeper.fails (g.K.Keeper.keeps c.args.keeper.now) (g.K.Keeper.keeps c.line_answer.new.keeper) (exchanged g.R.Read.remaining g.W.Write.contents c.args.reader.now c.next.new.reader c.args.writer.now c.write_answer.new.writer) c.args.lines.now c.next.new.self c.args.session.now c.line_answer.new.session =
+    stops_writing (IsDoneBy c.args.workers (g.G.Gate.answers c.args.gate.now) (g.G.Gate.gives c.args.gate.now)) c.in_err-write_answer.field-0.0 g.K.Keeper.fails (g.K.Keeper.keeps c.args.keeper.now) (g.K.Keeper.keeps c.line_answer.new.keeper) c.in-Some.ends (exchanged g.R.Read.remaining g.W.Write.contents c.args.reader.now c.next.new.reader c.args.writer.now c.write_answer.new.writer) c.args.lines.now c.next.new.self c.args.session.now c.line_answer.new.session c.in-Some.line.items _ (write_fault c.in_err-write_answer.field-0.0 c.in_err-write_answer.ensures.fault.0)
     (rw c.in-Some.is at c.in_ok-line.ensures.line) (rw c.deref.ensures.value at c.in_ok-answer.ensures.met) (rw c.deref-2.ensures.value at c.in_err-write_answer.ensures.front) c.in_ok-answer.ensures.kept in
     let is = err_from_is_err_and c.from_residual-in_err-write_answer.result c.from_residual-in_err-write_answer.ensures.1 in
     rw (is.1, is.2) stops

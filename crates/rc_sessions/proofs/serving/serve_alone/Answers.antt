@@ -1,4 +1,4 @@
-use Rattle.rc_streams.specs.Noting.{inner_of}
+use Rattle.rc_streams.specs.Exchange.{exchanged}
 use Rattle.rc_serve.specs.Meeting.{IsDoneBy}
 use Rattle.rc_serve.specs.SessionText.{IsDoneFailing}
 use Rattle.rc_sessions.proofs.SessionLemmas.{alone_all, alone_front}
@@ -12,8 +12,7 @@ pub returns-clause-begun : goal.returns-clause-begun
 returns-clause-begun g c fails exact timeless =
     alone_front c.serve.result (IsDoneFailing fails)
     (λ fault. ⊥) (λ d line. Unit {0}) (λ d line. Unit {0})
-    (g.R.Read.remaining (inner_of c.args.reader.now)) (g.R.Read.remaining (inner_of c.serve.new.reader))
-    (g.W.Write.contents (inner_of c.args.writer.now)) (g.W.Write.contents (inner_of c.serve.new.writer))
+    (exchanged g.R.Read.remaining g.W.Write.contents c.args.reader.now c.serve.new.reader c.args.writer.now c.serve.new.writer)
     c.args.session.now c.serve.new.session (c.serve.ensures.front fails exact timeless) c.serve.ensures.play
 
 pub returns-clause-done_by : goal.returns-clause-done_by
@@ -23,6 +22,5 @@ pub returns-clause-begun_by : goal.returns-clause-begun_by
 returns-clause-begun_by g c =
     alone_front c.serve.result (IsDoneBy c.args.workers (g.G.Gate.answers c.args.gate.now) (g.G.Gate.gives c.args.gate.now))
     (λ fault. ⊥) (λ d line. Unit {0}) (λ d line. Unit {0})
-    (g.R.Read.remaining (inner_of c.args.reader.now)) (g.R.Read.remaining (inner_of c.serve.new.reader))
-    (g.W.Write.contents (inner_of c.args.writer.now)) (g.W.Write.contents (inner_of c.serve.new.writer))
+    (exchanged g.R.Read.remaining g.W.Write.contents c.args.reader.now c.serve.new.reader c.args.writer.now c.serve.new.writer)
     c.args.session.now c.serve.new.session c.serve.ensures.begun c.serve.ensures.play

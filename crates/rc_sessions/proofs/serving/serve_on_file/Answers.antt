@@ -1,6 +1,5 @@
 use Rattle.std.proofs.Common.{◌≡◌}
-use Rattle.rc_streams.specs.Noting.{inner_of}
-use Rattle.rc_serve.specs.Keeping.{Keeping}
+use Rattle.rc_streams.specs.Exchange.{exchanged}
 use Rattle.rc_serve.specs.Meeting.{IsDoneBy}
 use Rattle.rc_serve.specs.SessionText.{IsDoneFailing}
 use Rattle.rc_sessions.specs.Storing.{HoldsText, store_of}
@@ -19,8 +18,7 @@ returns-in-Ok-clause-begun g c fails exact timeless =
     kept_front c.serve.result (g.S.Store.holds (store_of c.serve.new.keeper) ≡ g.S.Store.holds (store_of c.args.keeper.now))
     (IsDoneFailing fails) (λ fault. Unit {0})
     (HoldsText (g.S.Store.holds (store_of c.keep.new.self))) (HoldsText (g.S.Store.holds (store_of c.serve.new.keeper)))
-    (g.R.Read.remaining (inner_of c.args.reader.now)) (g.R.Read.remaining (inner_of c.serve.new.reader))
-    (g.W.Write.contents (inner_of c.args.writer.now)) (g.W.Write.contents (inner_of c.serve.new.writer))
+    (exchanged g.R.Read.remaining g.W.Write.contents c.args.reader.now c.serve.new.reader c.args.writer.now c.serve.new.writer)
     c.args.session.now c.serve.new.session c.in-Ok.ensures.kept
     (c.serve.ensures.front fails exact timeless) c.serve.ensures.play
 
@@ -29,6 +27,5 @@ returns-in-Ok-clause-begun_by g c =
     kept_front c.serve.result (g.S.Store.holds (store_of c.serve.new.keeper) ≡ g.S.Store.holds (store_of c.args.keeper.now))
     (IsDoneBy c.args.workers (g.G.Gate.answers c.args.gate.now) (g.G.Gate.gives c.args.gate.now)) (λ fault. Unit {0})
     (HoldsText (g.S.Store.holds (store_of c.keep.new.self))) (HoldsText (g.S.Store.holds (store_of c.serve.new.keeper)))
-    (g.R.Read.remaining (inner_of c.args.reader.now)) (g.R.Read.remaining (inner_of c.serve.new.reader))
-    (g.W.Write.contents (inner_of c.args.writer.now)) (g.W.Write.contents (inner_of c.serve.new.writer))
+    (exchanged g.R.Read.remaining g.W.Write.contents c.args.reader.now c.serve.new.reader c.args.writer.now c.serve.new.writer)
     c.args.session.now c.serve.new.session c.in-Ok.ensures.kept c.serve.ensures.begun c.serve.ensures.play

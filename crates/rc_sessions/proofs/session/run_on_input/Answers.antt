@@ -1,5 +1,6 @@
 use Rattle.std.proofs.Common.{◌≤◌, ℕ, List, Bor, None, Some, arith, length, subst, sym}
 use Rattle.std.proofs.lemmas.Result.{IfErr-weaker}
+use Rattle.rc_streams.specs.Exchange.{exchanged}
 use Rattle.rc_streams.specs.Noting.{HasFailed, inner_of}
 use Rattle.rc_base.specs.Base.{Spells}
 use Rattle.rc_asked.specs.SessionAsked.{session_ask_of}
@@ -21,8 +22,8 @@ returns-clause-done g c =
     on_ok c.run_on.result _ _
     (λ run. runs_on_input Serves all rest c.in_ok-db.db (session_ask_of c.args.request.now) c.args.live
     (g.S.Store.holds (store_of c.args.keeper.now)) (g.S.Store.holds (store_of c.run_on.new.keeper))
-    (g.R.Read.remaining (inner_of c.args.reader.now)) (g.R.Read.remaining (inner_of c.read_all.new.reader)) (Some (inner_of c.run_on.new.reader).now)
-    (g.W.Write.contents (inner_of c.args.writer.now)) (g.W.Write.contents (inner_of c.run_on.new.writer))
+    (exchanged g.R.Read.remaining g.W.Write.contents c.args.reader.now c.read_all.new.reader c.args.writer.now c.run_on.new.writer)
+    (Some (inner_of c.run_on.new.reader).now)
     (c.in-Ok.ensures.whole, within, c.in-Ok.ensures.end) spelled run)
     c.run_on.ensures.done
 
@@ -39,7 +40,7 @@ returns-clause-ended g c =
     IfErr-weaker c.run_on.result _ _
     (λ fault end. ends_on_input fault all rest c.in_ok-db.db (session_ask_of c.args.request.now) c.args.live
     (g.S.Store.holds (store_of c.args.keeper.now)) (g.S.Store.holds (store_of c.run_on.new.keeper))
-    (g.R.Read.remaining (inner_of c.args.reader.now)) (g.R.Read.remaining (inner_of c.read_all.new.reader)) (Some (inner_of c.run_on.new.reader).now)
-    (g.W.Write.contents (inner_of c.args.writer.now)) (g.W.Write.contents (inner_of c.run_on.new.writer)) (HasFailed c.run_on.new.reader) (HasFailed c.run_on.new.writer) _
+    (exchanged g.R.Read.remaining g.W.Write.contents c.args.reader.now c.read_all.new.reader c.args.writer.now c.run_on.new.writer)
+    (Some (inner_of c.run_on.new.reader).now) (HasFailed c.run_on.new.reader) (HasFailed c.run_on.new.writer) _
     (c.in-Ok.ensures.whole, within, c.in-Ok.ensures.end) spelled end)
     c.run_on.ensures.ended

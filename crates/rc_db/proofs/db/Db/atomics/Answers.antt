@@ -1,7 +1,8 @@
 use Rattle.std.proofs.Common.{◌≡◌, ℕ, All, map, sym, subst}
 use Rattle.std.proofs.lemmas.Result.{IfOk-weaker, IfErr-weaker}
 use Rattle.std.specs.String.{string_bytes}
-use Rattle.rc_model.specs.Names.{Has, Lists}
+use Rattle.rc_model.specs.Line.{Lists}
+use Rattle.rc_model.specs.Names.{Has}
 use Rattle.rc_set.proofs.Listing.{lists_as}
 use Rattle.rc_model.specs.Database.{IsKnown, Selected}
 use Rattle.rc_db.specs.declared.fault.QueryFault.{QueryFault}

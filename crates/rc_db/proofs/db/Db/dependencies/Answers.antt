@@ -1,7 +1,8 @@
 use Rattle.std.proofs.Common.{◌≡◌, ℕ, List, All, map, sym, subst}
 use Rattle.std.proofs.lemmas.Result.{IfOk-at_ok, IfOk-weaker, IfErr-weaker}
 use Rattle.std.specs.String.{string_bytes}
-use Rattle.rc_model.specs.Names.{Has, Holds, Lists}
+use Rattle.rc_model.specs.Line.{Lists}
+use Rattle.rc_model.specs.Names.{Has, Holds}
 use Rattle.rc_set.proofs.Listing.{lists_as}
 use Rattle.rc_model.specs.Database.{IsKnown, Selected}
 use Rattle.rc_db.specs.declared.fault.QueryFault.{QueryFault}

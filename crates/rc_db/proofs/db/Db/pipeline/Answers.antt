@@ -1,6 +1,7 @@
 use Rattle.std.proofs.Common.{◌≡◌, ℕ, Some, slice_get, sym, subst}
 use Rattle.std.proofs.lemmas.Result.{IfOk-weaker, IfErr-weaker}
-use Rattle.rc_model.specs.Names.{Has, Lists}
+use Rattle.rc_model.specs.Line.{Lists}
+use Rattle.rc_model.specs.Names.{Has}
 use Rattle.rc_set.proofs.Listing.{lists_as}
 use Rattle.rc_db.specs.declared.fault.QueryFault.{QueryFault}
 use Rattle.rc_db.specs.declared.fault.QueryFault.TheVariants.{Memory}
