@@ -47,13 +47,17 @@ second() {
 }
 
 count rt ci
-count tests/edits.py
-# Side by side; what the second says comes when both have ended. Supervisors are given the machine for
-# themselves, since how soon they answer is what is looked at.
+# The edits keep the processors busy, and the runs from outside mostly wait, so they go side by side; what
+# the runs say comes when the edits have been tried. Supervisors are given the machine for themselves, since
+# how soon they answer is what is looked at.
+first > "$room/first" 2>&1 &
+first=$!
 second > "$room/second" 2>&1 &
-lane=$!
-first
-wait "$lane"
+second=$!
+count tests/edits.py
+wait "$first"
+cat "$room/first"
+wait "$second"
 cat "$room/second"
 count sh tests/supervised.sh crates/undorc/out/undorc
 

@@ -16,7 +16,13 @@ mode_of up down down_all =
 -- what the matches of `plan` ask
 abbrev pub ask_in : List Row → Option Ask
 ask_in rows = option_map
-    (λ mode. record { mode = mode; prune = is_on (codes "prune") rows; all = is_on (codes "all") rows; words = words_in rows; limit = 0 })
+    (λ mode. record {
+      mode = mode;
+      prune = is_on (codes "prune") rows;
+      all = is_on (codes "all") rows;
+      words = words_in rows;
+      limit = 0;
+    })
     (mode_of (is_on (codes "up") rows) (is_on (codes "down") rows) (is_on (codes "down-all") rows))
 
 -- what the words ask of `plan`, or nothing where they are a wrong command line

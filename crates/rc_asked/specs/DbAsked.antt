@@ -42,7 +42,8 @@ ask_by rows question = record {
   live = first_of (codes "live") rows;
 }
 
--- the matches of `db` are those of the words of a question, of its way, and of the file of a session, which only a picture shows
+-- the matches of `db` are those of the words of a question, of its way, and of the file of a
+-- session, which only a picture shows
 abbrev pub AsksIn : List Row → DbAsk → Type 0
 AsksIn rows ask = (query_words rows ≡ words_of_query ask.question)
     × (ask ≡ ask_by rows ask.question) × ShowsByPicture ask

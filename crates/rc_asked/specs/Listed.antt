@@ -28,6 +28,7 @@ AreSpelled (word ∷ words) (one ∷ more) = IsSpelled word one × AreSpelled wo
 abbrev pub words_in : List ℕ → List (List ℕ)
 words_in text = slice_split (λ byte. byte == 44) text
 
--- the text of a list of transitions: `none` where there are none, else their words with commas between them
+-- the text of a list of transitions: `none` where there are none, else their
+-- words with commas between them
 abbrev pub SpellsList : List ℕ → List Listed → Type 0
 SpellsList text all = ((text ≡ codes "none") × (all ≡ [])) ⊎ AreSpelled (words_in text) all

@@ -24,7 +24,8 @@ runner_in given = spaced (unwrap_or given (codes "/bin/sh -c"))
 abbrev pub controller_in : Option Text → List Text
 controller_in given = spaced (unwrap_or given [])
 
--- where a list of transitions is given they are those that fail, whatever the programs; else there are programs
+-- where a list of transitions is given they are those that fail, whatever the
+-- programs; else there are programs
 abbrev pub MakesBy : (list runner controller limit : Option Text) → MakingAsk → Type 0
 MakesBy (Some text) runner controller limit (ByTable failing) = SpellsList text failing
 MakesBy (Some text) runner controller limit (ByPrograms first second usual) = ⊥

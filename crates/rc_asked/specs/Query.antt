@@ -9,7 +9,8 @@ use Rattle.rc_command.specs.QueryWords.{name_word, names_word}
 use Rattle.rc_command.specs.declared.query_words.NameQuery.{NameQuery}
 use Rattle.rc_command.specs.declared.query_words.NamesQuery.{NamesQuery}
 
--- what is asked of a database: whether it is one, its picture, a list of names, or something of one name or of any number of them
+-- what is asked of a database: whether it is one, its picture, a list of names, or something of
+-- one name or of any number of them
 pub data Question : Type 0 where
   Check : Question
   Dot : Question

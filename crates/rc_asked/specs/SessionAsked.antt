@@ -20,14 +20,16 @@ pub record SessionAsk : Type 0 where
 
 -- the text of a number of workers, from 1 to 64: digits, before which a plus may stand
 abbrev pub SpellsCrew : Text → ℕ → Type 0
-SpellsCrew text workers = IsNumeral 10 (without_leading_plus text) × (workers ≡ digits_value 10 (without_leading_plus text)) × (1 ≤ workers) × (workers ≤ 64)
+SpellsCrew text workers = IsNumeral 10 (without_leading_plus text)
+    × (workers ≡ digits_value 10 (without_leading_plus text)) × (1 ≤ workers) × (workers ≤ 64)
 
 -- the number of workers that is given, and 4 where none is
 abbrev pub IsCrewIn : Option Text → ℕ → Type 0
 IsCrewIn None workers = workers ≡ 4
 IsCrewIn (Some text) workers = SpellsCrew text workers
 
--- the text of a bound on how many states there are, at least 3: digits, before which a plus may stand
+-- the text of a bound on how many states there are, at least 3:
+-- digits, before which a plus may stand
 abbrev pub SpellsBound : Text → ℕ → Type 0
 SpellsBound text bound = IsNumeral 10 (without_leading_plus text)
     × (bound ≡ digits_value 10 (without_leading_plus text)) × (3 ≤ bound) × (bound < 2 ^ 32)
@@ -49,7 +51,8 @@ pub record AsksSessionIn (rows : List Row) (ask : SessionAsk) : Type 0 where
 
 -- the words ask this of `session`
 abbrev pub AsksSession : List Text → SessionAsk → Type 0
-AsksSession words ask = (rows : List Row) × (rows_for (codes "session") words ≡ Some rows) × AsksSessionIn rows ask
+AsksSession words ask =
+    (rows : List Row) × (rows_for (codes "session") words ≡ Some rows) × AsksSessionIn rows ask
 
 -- the words ask some session
 abbrev pub AsksSomeSession : List Text → Type 0

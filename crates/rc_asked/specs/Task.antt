@@ -56,11 +56,13 @@ AsksNamed name rows ask = (name ≡ command_of ask) × AsksTaskIn rows ask
 
 -- what was entered asks this
 abbrev pub AsksEntered : Option (Text × List Row) → TaskAsk → Type 0
-AsksEntered entered ask = (rows : List Row) × (entered ≡ Some (command_of ask, rows)) × AsksTaskIn rows ask
+AsksEntered entered ask =
+    (rows : List Row) × (entered ≡ Some (command_of ask, rows)) × AsksTaskIn rows ask
 
 -- the words ask this
 abbrev pub AsksTask : List Text → TaskAsk → Type 0
-AsksTask words ask = (rows : List Row) × (rows_for (command_of ask) words ≡ Some rows) × AsksTaskIn rows ask
+AsksTask words ask =
+    (rows : List Row) × (rows_for (command_of ask) words ≡ Some rows) × AsksTaskIn rows ask
 
 -- the words ask nothing of any command: they are a wrong command line
 abbrev pub AsksNoTask : List Text → Type 0
@@ -72,9 +74,11 @@ task_ask_of (task.Compile request) = OfCompile (compile_ask_of request)
 task_ask_of (task.Db request file) = OfDb (db_ask_of request) (option_map (λ f. f.now) file)
 task_ask_of (task.Plan request file) = OfPlan (ask_of request) (option_map (λ f. f.now) file)
 task_ask_of (task.Replay file) = OfReplay (option_map (λ f. f.now) file)
-task_ask_of (task.Session request file) = OfSession (session_ask_of request) (option_map (λ f. f.now) file)
+task_ask_of (task.Session request file) =
+    OfSession (session_ask_of request) (option_map (λ f. f.now) file)
 task_ask_of (task.Once request file) = OfOnce (once_ask_of request) (option_map (λ f. f.now) file)
-task_ask_of (task.Update request file) = OfUpdate (update_ask_of request) (option_map (λ f. f.now) file)
+task_ask_of (task.Update request file) =
+    OfUpdate (update_ask_of request) (option_map (λ f. f.now) file)
 task_ask_of task.Version = OfVersion
 
 -- a session has a bound on how many states there are, of at least 3

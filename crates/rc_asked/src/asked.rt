@@ -52,8 +52,10 @@ impl From<AllocError> for WordsFault {
 
 /// What the words ask of `plan`. The first word is the program's own name.
 pub fn plan_asked(alloc: Global, words: &[String]) -> Result<Request, WordsFault>
-    ensures asked { IfOk result (λ request. plan_asked (map string_bytes words.now) ≡ Some (ask_of request)) }
-    ensures wrong { IfErr result (λ fault. fault ≢ Memory → plan_asked (map string_bytes words.now) ≡ None) }
+    ensures asked { IfOk result (λ request.
+        plan_asked (map string_bytes words.now) ≡ Some (ask_of request)) }
+    ensures wrong { IfErr result (λ fault.
+        fault ≢ Memory → plan_asked (map string_bytes words.now) ≡ None) }
 {
     match matches_in(alloc, words) {
         Ok(matches) => match command_in(&matches, "plan") {
@@ -73,8 +75,10 @@ pub fn plan_asked(alloc: Global, words: &[String]) -> Result<Request, WordsFault
 
 /// What the matches of `plan` ask.
 pub(crate) fn plan_in(alloc: Global, matches: &ArgMatches<'_>) -> Result<Request, WordsFault>
-    ensures asked { IfOk result (λ request. ask_in (rows_of (found_of matches.now)) ≡ Some (ask_of request)) }
-    ensures wrong { IfErr result (λ fault. fault ≢ Memory → ask_in (rows_of (found_of matches.now)) ≡ None) }
+    ensures asked { IfOk result (λ request.
+        ask_in (rows_of (found_of matches.now)) ≡ Some (ask_of request)) }
+    ensures wrong { IfErr result (λ fault.
+        fault ≢ Memory → ask_in (rows_of (found_of matches.now)) ≡ None) }
 {
     let up = is_on(matches, "up");
     let down = is_on(matches, "down");
@@ -107,7 +111,8 @@ fn mode_of(up: bool, down: bool, down_all: bool) -> Option<Mode>
 pub fn tell_words<F: Write>(faults: &mut F, fault: &WordsFault) -> u8
     ensures statuses { (result ≡ 100) ⊎ (result ≡ 111) }
     ensures wrong { result ≡ 100 → fault.now ≢ Memory }
-    ensures failed { result ≡ 111 → AppendsFront (F.contents faults.old) (F.contents faults.new) (fault_line (failure_text Failure.Memory)) }
+    ensures failed { result ≡ 111 → AppendsFront (F.contents faults.old) (F.contents faults.new)
+        (fault_line (failure_text Failure.Memory)) }
 {
     match fault {
         WordsFault::Found(error) => {

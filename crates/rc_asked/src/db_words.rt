@@ -58,8 +58,10 @@ pub enum Query<'a> {
 
 /// What the words ask of `db`. The first word is the program's own name.
 pub fn db_asked<'a>(alloc: Global, words: &'a [String]) -> Result<DbRequest<'a>, WordsFault>
-    ensures asked { IfOk result (λ request. AsksDb (map string_bytes words.entry.now) (db_ask_of request)) }
-    ensures wrong { IfErr result (λ fault. fault ≢ Memory → AsksNothing (map string_bytes words.entry.now)) }
+    ensures asked { IfOk result (λ request.
+        AsksDb (map string_bytes words.entry.now) (db_ask_of request)) }
+    ensures wrong { IfErr result (λ fault.
+        fault ≢ Memory → AsksNothing (map string_bytes words.entry.now)) }
 {
     match matches_in(alloc, words) {
         Ok(matches) => match command_in(&matches, "db") {
@@ -82,8 +84,10 @@ pub(crate) fn db_in<'a>(
     alloc: Global,
     matches: &ArgMatches<'a>,
 ) -> Result<DbRequest<'a>, WordsFault>
-    ensures asked { IfOk result (λ request. AsksIn (rows_of (found_of matches.now)) (db_ask_of request)) }
-    ensures wrong { IfErr result (λ fault. fault ≢ Memory → (ask : DbAsk) → AsksIn (rows_of (found_of matches.now)) ask → ⊥) }
+    ensures asked { IfOk result (λ request.
+        AsksIn (rows_of (found_of matches.now)) (db_ask_of request)) }
+    ensures wrong { IfErr result (λ fault.
+        fault ≢ Memory → (ask : DbAsk) → AsksIn (rows_of (found_of matches.now)) ask → ⊥) }
 {
     let Some(word) = matches.get_str("query") else {
         return Err(WordsFault::Query);
@@ -138,9 +142,11 @@ fn query_in<'a>(
     matches: &ArgMatches<'a>,
 ) -> Result<Option<Query<'a>>, NoMem>
     ensures some { IfOk result (λ found. IfSome found (λ query.
-        word.now ∷ words_in (rows_of (found_of matches.now)) ≡ words_of_query (question_of query))) }
+        word.now ∷ words_in (rows_of (found_of matches.now))
+        ≡ words_of_query (question_of query))) }
     ensures none { IfOk result (λ found. IfNone found
-        ((question : Question) → word.now ∷ words_in (rows_of (found_of matches.now)) ≡ words_of_query question → ⊥)) }
+        ((question : Question) → word.now ∷ words_in (rows_of (found_of matches.now))
+        ≡ words_of_query question → ⊥)) }
 {
     match matches.get_strs("words") {
         Some(words) => query_of(alloc, word, words),
@@ -153,7 +159,8 @@ fn query_of<'a>(alloc: Global, word: &str, words: &[&'a str]) -> Result<Option<Q
     ensures some { IfOk result (λ found. IfSome found (λ query.
         word.now ∷ map (λ w. w.now) words.now ≡ words_of_query (question_of query))) }
     ensures none { IfOk result (λ found. IfNone found
-        ((question : Question) → word.now ∷ map (λ w. w.now) words.now ≡ words_of_query question → ⊥)) }
+        ((question : Question) → word.now ∷ map (λ w. w.now) words.now ≡ words_of_query question →
+        ⊥)) }
 {
     match names_query(word) {
         Some(query) => Ok(Some(Query::OfNames(query, strings_of(alloc, words)?))),
@@ -164,8 +171,10 @@ fn query_of<'a>(alloc: Global, word: &str, words: &[&'a str]) -> Result<Option<Q
 // The same, where the query is not of any number of names.
 fn small_query<'a>(word: &str, words: &[&'a str]) -> Option<Query<'a>>
     requires { (query : OfMany) → word.now ≡ names_word query → ⊥ }
-    ensures some { IfSome result (λ query. word.now ∷ map (λ w. w.now) words.now ≡ words_of_query (question_of query)) }
-    ensures none { IfNone result ((question : Question) → word.now ∷ map (λ w. w.now) words.now ≡ words_of_query question → ⊥) }
+    ensures some { IfSome result (λ query.
+        word.now ∷ map (λ w. w.now) words.now ≡ words_of_query (question_of query)) }
+    ensures none { IfNone result ((question : Question) →
+        word.now ∷ map (λ w. w.now) words.now ≡ words_of_query question → ⊥) }
 {
     match words {
         [] => {
@@ -185,8 +194,10 @@ fn small_query<'a>(word: &str, words: &[&'a str]) -> Option<Query<'a>>
 // The question of a query's word and of the one word after it.
 fn query_of_one<'a>(word: &str, name: &'a str) -> Option<Query<'a>>
     requires { (query : OfMany) → word.now ≡ names_word query → ⊥ }
-    ensures some { IfSome result (λ query. word.now ∷ name.now ∷ [] ≡ words_of_query (question_of query)) }
-    ensures none { IfNone result ((question : Question) → word.now ∷ name.now ∷ [] ≡ words_of_query question → ⊥) }
+    ensures some { IfSome result (λ query.
+        word.now ∷ name.now ∷ [] ≡ words_of_query (question_of query)) }
+    ensures none { IfNone result ((question : Question) →
+        word.now ∷ name.now ∷ [] ≡ words_of_query question → ⊥) }
 {
     if word == "list" {
         return list_of(name);
@@ -199,7 +210,8 @@ fn query_of_one<'a>(word: &str, name: &'a str) -> Option<Query<'a>>
 
 // The list of a word.
 fn list_of<'a>(word: &str) -> Option<Query<'a>>
-    ensures some { IfSome result (λ query. codes "list" ∷ word.now ∷ [] ≡ words_of_query (question_of query)) }
+    ensures some { IfSome result (λ query.
+        codes "list" ∷ word.now ∷ [] ≡ words_of_query (question_of query)) }
     ensures none { IfNone result ((which : Sort) → word.now ≡ list_word which → ⊥) }
 {
     match which_of(word) {

@@ -11,7 +11,8 @@ use std::alloc::Global;
 /// Whether the words are those of `replay`. The first word is the program's own name.
 pub fn replay_asked(alloc: Global, words: &[String]) -> Result<(), WordsFault>
     ensures asked { OnOk result (AsksReplay (map string_bytes words.now)) }
-    ensures wrong { IfErr result (λ fault. fault ≢ Memory → rows_for (codes "replay") (map string_bytes words.now) ≡ None) }
+    ensures wrong { IfErr result (λ fault.
+        fault ≢ Memory → rows_for (codes "replay") (map string_bytes words.now) ≡ None) }
 {
     match matches_in(alloc, words) {
         Ok(matches) => match command_in(&matches, "replay") {

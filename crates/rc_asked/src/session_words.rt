@@ -44,8 +44,10 @@ pub fn session_asked<'a>(
     alloc: Global,
     words: &'a [String],
 ) -> Result<SessionRequest<'a>, WordsFault>
-    ensures asked { IfOk result (λ request. AsksSession (map string_bytes words.entry.now) (session_ask_of request)) }
-    ensures wrong { IfErr result (λ fault. fault ≢ Memory → AsksNoSession (map string_bytes words.entry.now)) }
+    ensures asked { IfOk result (λ request.
+        AsksSession (map string_bytes words.entry.now) (session_ask_of request)) }
+    ensures wrong { IfErr result (λ fault.
+        fault ≢ Memory → AsksNoSession (map string_bytes words.entry.now)) }
 {
     match matches_in(alloc, words) {
         Ok(matches) => match command_in(&matches, "session") {
@@ -68,8 +70,11 @@ pub(crate) fn session_in<'a>(
     alloc: Global,
     matches: &ArgMatches<'a>,
 ) -> Result<SessionRequest<'a>, WordsFault>
-    ensures asked { IfOk result (λ request. AsksSessionIn (rows_of (found_of matches.now)) (session_ask_of request)) }
-    ensures wrong { IfErr result (λ fault. fault ≢ Memory → (ask : SessionAsk) → AsksSessionIn (rows_of (found_of matches.now)) ask → ⊥) }
+    ensures asked { IfOk result (λ request.
+        AsksSessionIn (rows_of (found_of matches.now)) (session_ask_of request)) }
+    ensures wrong { IfErr result (λ fault.
+        fault ≢ Memory → (ask : SessionAsk) → AsksSessionIn (rows_of (found_of matches.now)) ask →
+        ⊥) }
 {
     let Some(workers) = workers_of(matches.get_str("workers")) else {
         return Err(WordsFault::Workers);
@@ -93,8 +98,10 @@ pub(crate) fn session_in<'a>(
 
 // The number of workers that is given, if it is one.
 fn workers_of(given: Option<&str>) -> Option<u8>
-    ensures some { IfSome result (λ workers. IsCrewIn (option_map (λ text. text.now) given.entry) workers) }
-    ensures none { IfNone result ((workers : ℕ) → IsCrewIn (option_map (λ text. text.now) given.entry) workers → ⊥) }
+    ensures some { IfSome result (λ workers.
+        IsCrewIn (option_map (λ text. text.now) given.entry) workers) }
+    ensures none { IfNone result ((workers : ℕ) →
+        IsCrewIn (option_map (λ text. text.now) given.entry) workers → ⊥) }
 {
     match given {
         Some(text) => crew_of(text),

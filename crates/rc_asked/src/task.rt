@@ -42,11 +42,13 @@ pub enum Task<'a> {
 
 /// What the words ask. The first word is the program's own name.
 pub fn task_of<'a>(alloc: Global, words: &'a [String]) -> Result<Task<'a>, WordsFault>
-    ensures asked { IfOk result (λ task. AsksTask (map string_bytes words.entry.now) (task_ask_of task)) }
+    ensures asked { IfOk result (λ task.
+        AsksTask (map string_bytes words.entry.now) (task_ask_of task)) }
     ensures workers { IfOk result HasWorkers }
     ensures bound { IfOk result HasBound }
     ensures eventless { IfOk result IsEventless }
-    ensures wrong { IfErr result (λ fault. fault ≢ Memory → AsksNoTask (map string_bytes words.entry.now)) }
+    ensures wrong { IfErr result (λ fault.
+        fault ≢ Memory → AsksNoTask (map string_bytes words.entry.now)) }
 {
     match matches_in(alloc, words) {
         Ok(matches) => {
@@ -60,8 +62,10 @@ pub fn task_of<'a>(alloc: Global, words: &'a [String]) -> Result<Task<'a>, Words
 
 // What the matches ask.
 fn task_in<'a>(alloc: Global, matches: &ArgMatches<'a>) -> Result<Task<'a>, WordsFault>
-    ensures asked { IfOk result (λ task. AsksEntered (subcommand_rows_of matches.now) (task_ask_of task)) }
-    ensures wrong { IfErr result (λ fault. fault ≢ Memory → (ask : TaskAsk) → AsksEntered (subcommand_rows_of matches.now) ask → ⊥) }
+    ensures asked { IfOk result (λ task.
+        AsksEntered (subcommand_rows_of matches.now) (task_ask_of task)) }
+    ensures wrong { IfErr result (λ fault.
+        fault ≢ Memory → (ask : TaskAsk) → AsksEntered (subcommand_rows_of matches.now) ask → ⊥) }
 {
     match entered(matches) {
         Some((name, inner)) => task_named(alloc, name, inner),
@@ -75,8 +79,11 @@ fn task_named<'a>(
     name: &str,
     matches: &ArgMatches<'a>,
 ) -> Result<Task<'a>, WordsFault>
-    ensures asked { IfOk result (λ task. AsksNamed name.now (rows_of (found_of matches.now)) (task_ask_of task)) }
-    ensures wrong { IfErr result (λ fault. fault ≢ Memory → (ask : TaskAsk) → AsksNamed name.now (rows_of (found_of matches.now)) ask → ⊥) }
+    ensures asked { IfOk result (λ task.
+        AsksNamed name.now (rows_of (found_of matches.now)) (task_ask_of task)) }
+    ensures wrong { IfErr result (λ fault.
+        fault ≢ Memory → (ask : TaskAsk) → AsksNamed name.now (rows_of (found_of matches.now)) ask →
+        ⊥) }
 {
     match name {
         "compile" => compile_task(alloc, matches),
@@ -92,7 +99,8 @@ fn task_named<'a>(
 
 // What the matches of `compile` ask.
 fn compile_task<'a>(alloc: Global, matches: &ArgMatches<'a>) -> Result<Task<'a>, WordsFault>
-    ensures asked { IfOk result (λ task. AsksNamed (codes "compile") (rows_of (found_of matches.now)) (task_ask_of task)) }
+    ensures asked { IfOk result (λ task.
+        AsksNamed (codes "compile") (rows_of (found_of matches.now)) (task_ask_of task)) }
     ensures wrong { IfErr result (λ fault. fault ≡ Memory) }
 {
     Ok(Task::Compile(compile_in(alloc, matches)?))
@@ -100,8 +108,11 @@ fn compile_task<'a>(alloc: Global, matches: &ArgMatches<'a>) -> Result<Task<'a>,
 
 // What the matches of `db` ask.
 fn db_task<'a>(alloc: Global, matches: &ArgMatches<'a>) -> Result<Task<'a>, WordsFault>
-    ensures asked { IfOk result (λ task. AsksNamed (codes "db") (rows_of (found_of matches.now)) (task_ask_of task)) }
-    ensures wrong { IfErr result (λ fault. fault ≢ Memory → (ask : TaskAsk) → AsksNamed (codes "db") (rows_of (found_of matches.now)) ask → ⊥) }
+    ensures asked { IfOk result (λ task.
+        AsksNamed (codes "db") (rows_of (found_of matches.now)) (task_ask_of task)) }
+    ensures wrong { IfErr result (λ fault.
+        fault ≢ Memory → (ask : TaskAsk) →
+        AsksNamed (codes "db") (rows_of (found_of matches.now)) ask → ⊥) }
 {
     match db_in(alloc, matches) {
         Ok(request) => Ok(Task::Db(request, text_in(matches, "base"))),
@@ -111,8 +122,11 @@ fn db_task<'a>(alloc: Global, matches: &ArgMatches<'a>) -> Result<Task<'a>, Word
 
 // What the matches of `plan` ask.
 fn plan_task<'a>(alloc: Global, matches: &ArgMatches<'a>) -> Result<Task<'a>, WordsFault>
-    ensures asked { IfOk result (λ task. AsksNamed (codes "plan") (rows_of (found_of matches.now)) (task_ask_of task)) }
-    ensures wrong { IfErr result (λ fault. fault ≢ Memory → (ask : TaskAsk) → AsksNamed (codes "plan") (rows_of (found_of matches.now)) ask → ⊥) }
+    ensures asked { IfOk result (λ task.
+        AsksNamed (codes "plan") (rows_of (found_of matches.now)) (task_ask_of task)) }
+    ensures wrong { IfErr result (λ fault.
+        fault ≢ Memory → (ask : TaskAsk) →
+        AsksNamed (codes "plan") (rows_of (found_of matches.now)) ask → ⊥) }
 {
     match plan_in(alloc, matches) {
         Ok(request) => Ok(Task::Plan(request, text_in(matches, "base"))),
@@ -122,8 +136,11 @@ fn plan_task<'a>(alloc: Global, matches: &ArgMatches<'a>) -> Result<Task<'a>, Wo
 
 // What the matches of `session` ask.
 fn session_task<'a>(alloc: Global, matches: &ArgMatches<'a>) -> Result<Task<'a>, WordsFault>
-    ensures asked { IfOk result (λ task. AsksNamed (codes "session") (rows_of (found_of matches.now)) (task_ask_of task)) }
-    ensures wrong { IfErr result (λ fault. fault ≢ Memory → (ask : TaskAsk) → AsksNamed (codes "session") (rows_of (found_of matches.now)) ask → ⊥) }
+    ensures asked { IfOk result (λ task.
+        AsksNamed (codes "session") (rows_of (found_of matches.now)) (task_ask_of task)) }
+    ensures wrong { IfErr result (λ fault.
+        fault ≢ Memory → (ask : TaskAsk) →
+        AsksNamed (codes "session") (rows_of (found_of matches.now)) ask → ⊥) }
 {
     match session_in(alloc, matches) {
         Ok(request) => Ok(Task::Session(request, text_in(matches, "base"))),
@@ -133,8 +150,11 @@ fn session_task<'a>(alloc: Global, matches: &ArgMatches<'a>) -> Result<Task<'a>,
 
 // What the matches of `update` ask.
 fn update_task<'a>(alloc: Global, matches: &ArgMatches<'a>) -> Result<Task<'a>, WordsFault>
-    ensures asked { IfOk result (λ task. AsksNamed (codes "update") (rows_of (found_of matches.now)) (task_ask_of task)) }
-    ensures wrong { IfErr result (λ fault. fault ≢ Memory → (ask : TaskAsk) → AsksNamed (codes "update") (rows_of (found_of matches.now)) ask → ⊥) }
+    ensures asked { IfOk result (λ task.
+        AsksNamed (codes "update") (rows_of (found_of matches.now)) (task_ask_of task)) }
+    ensures wrong { IfErr result (λ fault.
+        fault ≢ Memory → (ask : TaskAsk) →
+        AsksNamed (codes "update") (rows_of (found_of matches.now)) ask → ⊥) }
 {
     match update_in(alloc, matches) {
         Ok(request) => Ok(Task::Update(request, text_in(matches, "base"))),
@@ -148,8 +168,11 @@ fn once_task<'a>(
     name: &str,
     matches: &ArgMatches<'a>,
 ) -> Result<Task<'a>, WordsFault>
-    ensures asked { IfOk result (λ task. AsksNamed name.now (rows_of (found_of matches.now)) (task_ask_of task)) }
-    ensures wrong { IfErr result (λ fault. fault ≢ Memory → (ask : OnceAsk) (file : Option Text) → AsksNamed name.now (rows_of (found_of matches.now)) (OfOnce ask file) → ⊥) }
+    ensures asked { IfOk result (λ task.
+        AsksNamed name.now (rows_of (found_of matches.now)) (task_ask_of task)) }
+    ensures wrong { IfErr result (λ fault.
+        fault ≢ Memory → (ask : OnceAsk) (file : Option Text) →
+        AsksNamed name.now (rows_of (found_of matches.now)) (OfOnce ask file) → ⊥) }
 {
     match once_in(alloc, name, matches) {
         Ok(request) => Ok(Task::Once(request, text_in(matches, "base"))),

@@ -1,5 +1,5 @@
-//! The list of transitions that are to fail, as words: `none`, or `up:NAME` and `down:NAME` with commas
-//! between them.
+//! The list of transitions that are to fail, as words: `none`, or `up:NAME` and
+//! `down:NAME` with commas between them.
 
 ghost use Rattle.std.specs.Prelude.{◌≡◌, ◌≢◌, ◌++◌, ◌∷◌, ◌↔◌, ℕ, List, [], map, codes, IsTrue, IfOk, OnOk, IfSome, IfNone};
 ghost use Rattle.rc_asked.specs.Listed.{Listed, AreSpelled, IsSpelled, SpellsList, words_in};
@@ -37,7 +37,8 @@ impl From<AllocError> for ListFault {
 /// The transitions of a list: `none`, or `up:NAME` and `down:NAME` with commas between them.
 pub fn transitions_of<'a>(alloc: Global, list: &'a [u8]) -> Result<Vec<Transition<'a>>, ListFault>
     ensures list { IfOk result (λ all. SpellsList list.entry.now (map listed_of all.items)) }
-    ensures wrong { result ≡ Err ListFault.Form → (all : List Listed) → SpellsList list.entry.now all → ⊥ }
+    ensures wrong { result ≡ Err ListFault.Form → (all : List Listed) →
+        SpellsList list.entry.now all → ⊥ }
 {
     if is_none(list) {
         return Ok(Vec::new(alloc));
@@ -48,8 +49,10 @@ pub fn transitions_of<'a>(alloc: Global, list: &'a [u8]) -> Result<Vec<Transitio
 
 /// The transitions of words, one of each.
 fn listed<'a>(alloc: Global, words: &[&'a [u8]]) -> Result<Vec<Transition<'a>>, ListFault>
-    ensures list { IfOk result (λ all. AreSpelled (map (λ word. word.now) words.now) (map listed_of all.items)) }
-    ensures wrong { result ≡ Err ListFault.Form → (all : List Listed) → AreSpelled (map (λ word. word.now) words.now) all → ⊥ }
+    ensures list { IfOk result (λ all. AreSpelled (map (λ word. word.now) words.now)
+        (map listed_of all.items)) }
+    ensures wrong { result ≡ Err ListFault.Form → (all : List Listed) →
+        AreSpelled (map (λ word. word.now) words.now) all → ⊥ }
 {
     let mut all = Vec::new(alloc);
     for word in words {
@@ -104,8 +107,10 @@ fn transition_of<'a>(word: &'a [u8]) -> Option<Transition<'a>>
 
 /// What stands after the prefix of a word, if that is its prefix and something does.
 fn behind<'a>(word: &'a [u8], front: &[u8]) -> Option<&'a [u8]>
-    ensures some { IfSome result (λ rest. (word.entry.now ≡ front.now ++ rest.now) × (rest.now ≢ [])) }
-    ensures none { IfNone result ((rest : List ℕ) → word.entry.now ≡ front.now ++ rest → rest ≡ []) }
+    ensures some { IfSome result (λ rest.
+        (word.entry.now ≡ front.now ++ rest.now) × (rest.now ≢ [])) }
+    ensures none { IfNone result ((rest : List ℕ) → word.entry.now ≡ front.now ++ rest →
+        rest ≡ []) }
 {
     match word.strip_prefix(front) {
         Some(rest) => { if rest.is_empty() { None } else { Some(rest) } }

@@ -11,7 +11,8 @@ use Rattle.rc_dbtext.specs.declared.fault.TextFault.{TextFault}
 abbrev pub bytes_of : Option (Bor (List ℕ)) → Option (List ℕ)
 bytes_of base = option_map (λ (b : Bor (List ℕ)). b.now) base
 
--- a base is the text of a database, and then the input is all after it; without one the text stands at the beginning of the input
+-- a base is the text of a database, and then the input is all after it; without one the text
+-- stands at the beginning of the input
 abbrev pub Spells : Option (List ℕ) → List ℕ → Database → List ℕ → Type 0
 Spells (Some base) input d rest = IsDatabase d × IsWritable d × (base ≡ spelling d) × (rest ≡ input)
 Spells None input d rest = IsDatabase d × IsWritable d × (input ≡ spelling d ++ rest)

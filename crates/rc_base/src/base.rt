@@ -12,7 +12,8 @@ pub fn database_of<'a>(
     base: Option<&[u8]>,
     input: &'a [u8],
 ) -> Result<(Db, &'a [u8]), TextFault>
-    ensures spelled { IfOk result (λ read. Spells (bytes_of base.entry) input.entry.now read.0 read.1.now) }
+    ensures spelled { IfOk result (λ read.
+        Spells (bytes_of base.entry) input.entry.now read.0 read.1.now) }
     ensures fault { IfErr result (IsTextFault (bytes_of base.entry) input.entry.now) }
 {
     match base {

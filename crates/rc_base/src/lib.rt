@@ -1,5 +1,5 @@
-//! The database that a command is given: of a text of its own or at the beginning of the input, and how faults
-//! of its text and of a session's are told.
+//! The database that a command is given: of a text of its own or at the beginning of the input, and
+//! how faults of its text and of a session's are told.
 #![tactic(auto)]
 
 mod base;

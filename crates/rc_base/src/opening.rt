@@ -1,4 +1,5 @@
-//! A database and an input: a base comes first, and without one the database stands at the beginning.
+//! A database and an input: a base comes first, and without one the
+//! database stands at the beginning.
 ghost use Rattle.std.specs.Prelude.{◌≡◌, ◌⊎◌, ◌+◌, Err, None, Some, IfErr, IfOk};
 ghost use Rattle.rc_base.specs.Base.{bytes_of};
 ghost use Rattle.rc_base.specs.Opening.{IsBaseFault, IsInputFault, IsOpenFault, IsWrongBase, Opens, ReadsAll};

@@ -11,12 +11,14 @@ use Rattle.rc_board.specs.Pads.{Written, with_note}
 abbrev pub IsAnswered : (ℕ → Way → Outcome → Type 0) → Made → Type 0
 IsAnswered Answers made = Answers made.service made.way made.outcome
 
--- what a worker has written down after it told how a transition ended: that, or nothing where the board refuses it
+-- what a worker has written down after it told how a transition ended: that, or
+-- nothing where the board refuses it
 abbrev pub NotesEnd : Written → ℕ → Made → Written → Type 0
 NotesEnd old w made new =
     (new ≡ with_note old (Done w made.service made.outcome) (Some made.way)) ⊎ (new ≡ old)
 
--- what a worker has written down after it asked for a job, late or not: its take, where it was given one, or its stop at the moment that was late
+-- what a worker has written down after it asked for a job, late or not: its take, where it was
+-- given one, or its stop at the moment that was late
 abbrev pub NotesAsked : Written → ℕ → Option ℕ → Asked → Written → Type 0
 NotesAsked old w late (Job job) new = new ≡ with_note old (Take w job.service) (Some job.way)
 NotesAsked old w late Again new = new ≡ old

@@ -12,7 +12,8 @@ IsNext notes at event =
 -- after these places stands on each pad what its worker made of these events
 abbrev pub AreLeft : List Written → List ℕ → List Event → Type 0
 AreLeft pads read events = (k : ℕ) (d : Written) → k < length pads
-    → own (k + 1) events ≡ events_on (drop (slice_index_or read k 0) (slice_index_or pads k d).notes)
+    → own (k + 1) events ≡ events_on (drop (slice_index_or read k 0)
+    (slice_index_or pads k d).notes)
 
 -- one event is read, whatever comes after it, or it does not stand there
 abbrev pub ReadsOn : List Written → List ℕ → Event → Bool → List ℕ → Type 0

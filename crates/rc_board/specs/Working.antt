@@ -14,8 +14,12 @@ use Rattle.rc_board.specs.declared.fault.Fault.TheVariants.{Workers, NoThread, S
 use Rattle.rc_board.specs.Crew.{IsCrew}
 use Rattle.rc_board.specs.Made.{AreMade}
 
--- a command was carried out by workers with a gate: it was begun at a moment that the gate may give; the events that are told are a settled run of its task from then on, none where nothing is to move, and the workers made them with the gate; and the session did the command with these events
-pub record IsCarriedOut (workers : ℕ) (Answers : ℕ → Way → Outcome → Type 0) (Gives : ℕ → Type 0) (old : Holding) (command : Command) (told : Reported) (new : Holding) : Type 0 where
+-- a command was carried out by workers with a gate: it was begun at a moment that the
+-- gate may give; the events that are told are a settled run of its task from then on,
+-- none where nothing is to move, and the workers made them with the gate; and the session
+-- did the command with these events
+pub record IsCarriedOut (workers : ℕ) (Answers : ℕ → Way → Outcome → Type 0) (Gives : ℕ → Type 0)
+    (old : Holding) (command : Command) (told : Reported) (new : Holding) : Type 0 where
   pub crew : IsCrew workers
   pub whole : old.spoiled ≡ false
   pub start : ℕ
@@ -24,14 +28,16 @@ pub record IsCarriedOut (workers : ℕ) (Answers : ℕ → Way → Outcome → T
   pub deadline : Option ℕ
   pub task : IsTask old.database old.line command start plan deadline
   pub settled : IsSettled (course_of old.database.needs plan deadline) told.trace
-  pub idle : ((s : ℕ) → IsPlanned (course_of old.database.needs plan deadline) s → ⊥) → told.trace ≡ []
+  pub idle : ((s : ℕ) → IsPlanned (course_of old.database.needs plan deadline) s → ⊥) →
+      told.trace ≡ []
   pub made : AreMade workers Answers Gives old.line.current.live told.trace
   pub runs : DoesByRun old.database old.line (with_events command told.trace) told new.line
   pub session : new ≡ with_line old new.line
 
 -- nothing hinders a session to begin a command
 abbrev pub CanBegin : Holding → Command → Type 0
-CanBegin h command = (h.spoiled ≡ false) × ((refusal : Refusal) → IsOwnFault h.database h.line command refusal → ⊥)
+CanBegin h command =
+    (h.spoiled ≡ false) × ((refusal : Refusal) → IsOwnFault h.database h.line command refusal → ⊥)
 
 -- a command has work for its workers: a run carries it out, and that is to move some service
 pub record HasWork (d : Database) (line : Line) (command : Command) : Type 0 where
@@ -42,13 +48,17 @@ pub record HasWork (d : Database) (line : Line) (command : Command) : Type 0 whe
   pub service : ℕ
   pub moves : IsPlanned (course_of d.needs plan deadline) service
 
--- why a command is not carried out: the number of workers first, then what hinders the session to begin it; other faults come only where nothing does, and where there is work to do
+-- why a command is not carried out: the number of workers first, then what hinders the session to
+-- begin it; other faults come only where nothing does, and where there is work to do
 abbrev pub IsFault : ℕ → Holding → Command → Fault → Type 0
 IsFault workers h command Workers = IsCrew workers → ⊥
-IsFault workers h command (Refused refusal) = IsCrew workers × IsHindrance (IsOwnFault h.database h.line command) h refusal
-IsFault workers h command other = IsCrew workers × CanBegin h command × HasWork h.database h.line command
+IsFault workers h command (Refused refusal) =
+    IsCrew workers × IsHindrance (IsOwnFault h.database h.line command) h refusal
+IsFault workers h command other =
+    IsCrew workers × CanBegin h command × HasWork h.database h.line command
 
 -- what a fault leaves: a strange one poisons the session, any other leaves it as it was
 abbrev pub LeavesSession : Holding → Fault → Holding → Type 0
-LeavesSession old Strange new = new ≡ record { database = old.database; line = old.line; begun = false; spoiled = true }
+LeavesSession old Strange new =
+    new ≡ record { database = old.database; line = old.line; begun = false; spoiled = true }
 LeavesSession old other new = new ≡ old

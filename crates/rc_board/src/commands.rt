@@ -21,8 +21,9 @@ use std::alloc::Global;
 use std::sync::Wait;
 use std::thread::Threads;
 
-/// Makes a change by this many workers, from 1 to 64. What the gate answers is how the transitions ended; each event is
-/// shown to the watch. Where nothing is to move nothing happens, whatever the limit: no event, and no stop.
+/// Makes a change by this many workers, from 1 to 64. What the gate answers is how the
+/// transitions ended; each event is shown to the watch. Where nothing is to move nothing happens,
+/// whatever the limit: no event, and no stop.
 pub fn change<R: Threads + Wait + Sync, G: Gate, W: Watch>(
     rt: &R,
     alloc: Global,
@@ -33,7 +34,9 @@ pub fn change<R: Threads + Wait + Sync, G: Gate, W: Watch>(
     watch: &W,
 ) -> Result<Report, Fault>
     requires { session.old.begun ≡ false }
-    ensures done { IfOk result (λ report. IsCarriedOut workers (G.answers gate.now) (G.gives gate.now) session.old (Change (ask_of request.now) []) (told_of report) session.new) }
+    ensures done { IfOk result (λ report.
+        IsCarriedOut workers (G.answers gate.now) (G.gives gate.now) session.old
+        (Change (ask_of request.now) []) (told_of report) session.new) }
     ensures fault { IfErr result (IsFault workers session.old (Change (ask_of request.now) [])) }
     ensures left { IfErr result (λ fault. LeavesSession session.old fault session.new) }
     ensures closed { session.new.begun ≡ false }
@@ -48,7 +51,8 @@ pub fn change<R: Threads + Wait + Sync, G: Gate, W: Watch>(
     }
 }
 
-/// Goes back towards the state before, as `change` changes, with a limit in milliseconds, 0 for none.
+/// Goes back towards the state before, as `change` changes, with a
+/// limit in milliseconds, 0 for none.
 pub fn undo<R: Threads + Wait + Sync, G: Gate, W: Watch>(
     rt: &R,
     alloc: Global,
@@ -59,7 +63,9 @@ pub fn undo<R: Threads + Wait + Sync, G: Gate, W: Watch>(
     watch: &W,
 ) -> Result<Report, Fault>
     requires { session.old.begun ≡ false }
-    ensures done { IfOk result (λ report. IsCarriedOut workers (G.answers gate.now) (G.gives gate.now) session.old (Undo limit []) (told_of report) session.new) }
+    ensures done { IfOk result (λ report.
+        IsCarriedOut workers (G.answers gate.now) (G.gives gate.now) session.old (Undo limit [])
+        (told_of report) session.new) }
     ensures fault { IfErr result (IsFault workers session.old (Undo limit [])) }
     ensures left { IfErr result (λ fault. LeavesSession session.old fault session.new) }
     ensures closed { session.new.begun ≡ false }
@@ -85,7 +91,9 @@ pub fn redo<R: Threads + Wait + Sync, G: Gate, W: Watch>(
     watch: &W,
 ) -> Result<Report, Fault>
     requires { session.old.begun ≡ false }
-    ensures done { IfOk result (λ report. IsCarriedOut workers (G.answers gate.now) (G.gives gate.now) session.old (Redo limit []) (told_of report) session.new) }
+    ensures done { IfOk result (λ report.
+        IsCarriedOut workers (G.answers gate.now) (G.gives gate.now) session.old (Redo limit [])
+        (told_of report) session.new) }
     ensures fault { IfErr result (IsFault workers session.old (Redo limit [])) }
     ensures left { IfErr result (λ fault. LeavesSession session.old fault session.new) }
     ensures closed { session.new.begun ≡ false }

@@ -119,9 +119,9 @@ pub(crate) fn run_crew<G: Gate, W: Watch, R: Threads + Wait + Sync>(
     )
 }
 
-/// Starts the workers with the numbers from this one down to 2, opens the start once all are there,
-/// works as worker 1, joins the others, and adds their pads, that of worker 1 first. False: one could
-/// not be started.
+/// Starts the workers with the numbers from this one down to 2, opens the start once all are
+/// there, works as worker 1, joins the others, and adds their pads, that of worker 1 first.
+/// False: one could not be started.
 fn start_rest<'s, E, G: Gate, W: Watch, R: Threads + Wait + Sync>(
     scope: &'s Scope<'s, E>,
     rt: &'s R,

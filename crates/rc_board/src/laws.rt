@@ -1,5 +1,6 @@
-//! What is done under the lock: each hold of the board is one of these calls, the opening of the
-//! start, or a wait. And how the board that the workers leave is compared with what they wrote down.
+//! What is done under the lock: each hold of the board is one of these calls, the
+//! opening of the start, or a wait. And how the board that the workers leave is
+//! compared with what they wrote down.
 
 ghost use Rattle.std.specs.Prelude.{◌≡◌, ◌<◌, ◌≤◌, ◌↔◌, Option, None, length, IsTrue, IfOk, IfSome, IfNone, OnOk, OnErr, MatchBool};
 ghost use Rattle.rc_graph.specs.declared.Way.{Way};

@@ -10,8 +10,9 @@ use rc_db::{Db, MAX_BUNDLES, NoMem, Table, first_unknown, has_bundle, has_name};
 use rc_names::{Name, Names};
 use std::alloc::{AllocError, Global};
 
-/// Defines a bundle: its name stands for the services of its contents from then on. A name that is a bundle's
-/// already gets new contents only where that is forced; a bundle may then name itself, and means what it was.
+/// Defines a bundle: its name stands for the services of its contents from then on. A name that
+/// is a bundle's already gets new contents only where that is forced; a bundle may then name
+/// itself, and means what it was.
 pub fn add(
     alloc: Global,
     table: &mut Table,
@@ -21,11 +22,14 @@ pub fn add(
     force: bool,
 ) -> Result<Edit, BundleFault>
     requires bundles { HaveBound (length db.now.names) table.old }
-    ensures table { OnOk result (Defines db.now.names table.old name.now (map string_bytes contents.now) table.new) }
+    ensures table { OnOk result (Defines db.now.names table.old name.now
+        (map string_bytes contents.now) table.new) }
     ensures edit { IfOk result (IsEdit table.old table.new) }
-    ensures can { OnOk result (CanAdd db.now.names table.old name.now (map string_bytes contents.now) force) }
+    ensures can { OnOk result (CanAdd db.now.names table.old name.now
+        (map string_bytes contents.now) force) }
     ensures bundles { HaveBound (length db.now.names) table.new }
-    ensures fault { IfErr result (IsAddFault db.now.names table.old name.now (map string_bytes contents.now) force) }
+    ensures fault { IfErr result (IsAddFault db.now.names table.old name.now
+        (map string_bytes contents.now) force) }
     ensures same { OnErr result (table.new ≡ table.old) }
 {
     check_add(table, db, name, contents, force)?;
@@ -34,7 +38,8 @@ pub fn add(
     Ok(edit)
 }
 
-/// Removes bundles. Names of no bundle are passed over only where that is forced; a name given twice counts once.
+/// Removes bundles. Names of no bundle are passed over only where that is forced;
+/// a name given twice counts once.
 pub fn delete(
     alloc: Global,
     table: &mut Table,
@@ -45,9 +50,11 @@ pub fn delete(
     requires bundles { HaveBound (length db.now.names) table.old }
     ensures table { OnOk result (Removes table.old (map string_bytes names.now) table.new) }
     ensures edit { IfOk result (IsEdit table.old table.new) }
-    ensures can { OnOk result (CanDelete db.now.names table.old (map string_bytes names.now) force) }
+    ensures can { OnOk result (CanDelete db.now.names table.old
+        (map string_bytes names.now) force) }
     ensures bundles { HaveBound (length db.now.names) table.new }
-    ensures fault { IfErr result (IsDeleteFault db.now.names table.old (map string_bytes names.now) force) }
+    ensures fault { IfErr result (IsDeleteFault db.now.names table.old
+        (map string_bytes names.now) force) }
     ensures same { OnErr result (table.new ≡ table.old) }
 {
     check_delete(table, db, names, force)?;
@@ -66,9 +73,12 @@ pub fn added(
     force: bool,
 ) -> Result<Edit, BundleFault>
     requires bundles { HaveBound (length db.now.names) table.now }
-    ensures edit { IfOk result (LeadsWhere (Defines db.now.names table.now name.now (map string_bytes contents.now)) table.now) }
-    ensures can { OnOk result (CanAdd db.now.names table.now name.now (map string_bytes contents.now) force) }
-    ensures fault { IfErr result (IsAddFault db.now.names table.now name.now (map string_bytes contents.now) force) }
+    ensures edit { IfOk result (LeadsWhere
+        (Defines db.now.names table.now name.now (map string_bytes contents.now)) table.now) }
+    ensures can { OnOk result (CanAdd db.now.names table.now name.now
+        (map string_bytes contents.now) force) }
+    ensures fault { IfErr result (IsAddFault db.now.names table.now name.now
+        (map string_bytes contents.now) force) }
 {
     check_add(table, db, name, contents, force)?;
     let (new, edit) = defined(alloc, table, db, name, contents)?;
@@ -84,9 +94,12 @@ pub fn removed(
     names: &[String],
     force: bool,
 ) -> Result<Edit, BundleFault>
-    ensures edit { IfOk result (LeadsWhere (Removes table.now (map string_bytes names.now)) table.now) }
-    ensures can { OnOk result (CanDelete db.now.names table.now (map string_bytes names.now) force) }
-    ensures fault { IfErr result (IsDeleteFault db.now.names table.now (map string_bytes names.now) force) }
+    ensures edit { IfOk result (LeadsWhere
+        (Removes table.now (map string_bytes names.now)) table.now) }
+    ensures can { OnOk result (CanDelete db.now.names table.now
+        (map string_bytes names.now) force) }
+    ensures fault { IfErr result (IsDeleteFault db.now.names table.now
+        (map string_bytes names.now) force) }
 {
     check_delete(table, db, names, force)?;
     let (new, edit) = cleared(alloc, table, names)?;
@@ -102,8 +115,10 @@ fn check_add(
     contents: &[String],
     force: bool,
 ) -> Result<(), BundleFault>
-    ensures can { OnOk result (CanAdd db.now.names table.now name.now (map string_bytes contents.now) force) }
-    ensures fault { IfErr result (IsAddFault db.now.names table.now name.now (map string_bytes contents.now) force) }
+    ensures can { OnOk result (CanAdd db.now.names table.now name.now
+        (map string_bytes contents.now) force) }
+    ensures fault { IfErr result (IsAddFault db.now.names table.now name.now
+        (map string_bytes contents.now) force) }
 {
     check_among(db.names(), table, name, contents, force)
 }
@@ -116,8 +131,10 @@ fn check_among(
     contents: &[String],
     force: bool,
 ) -> Result<(), BundleFault>
-    ensures can { OnOk result (CanAdd names.now table.now name.now (map string_bytes contents.now) force) }
-    ensures fault { IfErr result (IsAddFault names.now table.now name.now (map string_bytes contents.now) force) }
+    ensures can { OnOk result (CanAdd names.now table.now name.now
+        (map string_bytes contents.now) force) }
+    ensures fault { IfErr result (IsAddFault names.now table.now name.now
+        (map string_bytes contents.now) force) }
 {
     if has_name(names, name.text()) {
         return Err(BundleFault::IsAtomic(0));
@@ -137,8 +154,10 @@ fn check_among(
 
 /// Tests a removal, which takes no memory.
 fn check_delete(table: &Table, db: &Db, names: &[String], force: bool) -> Result<(), BundleFault>
-    ensures can { OnOk result (CanDelete db.now.names table.now (map string_bytes names.now) force) }
-    ensures fault { IfErr result (IsDeleteFault db.now.names table.now (map string_bytes names.now) force) }
+    ensures can { OnOk result (CanDelete db.now.names table.now
+        (map string_bytes names.now) force) }
+    ensures fault { IfErr result (IsDeleteFault db.now.names table.now
+        (map string_bytes names.now) force) }
 {
     if let Some(place) = first_service(db, names) {
         return Err(BundleFault::IsAtomic(place));
@@ -163,7 +182,8 @@ fn defined(
     requires known { All (IsKnown db.now.names table.now) (map string_bytes contents.now) }
     requires place { 4096 ≤ length table.now → IsBundle table.now name.now }
     requires bundles { HaveBound (length db.now.names) table.now }
-    ensures table { IfOk result (λ done. Defines db.now.names table.now name.now (map string_bytes contents.now) done.0) }
+    ensures table { IfOk result (λ done.
+        Defines db.now.names table.now name.now (map string_bytes contents.now) done.0) }
     ensures edit { IfOk result (λ done. IsEdit table.now done.0 done.1) }
     ensures is_table { IfOk result (λ done. IsTable done.0) }
     ensures bundles { IfOk result (λ done. HaveBound (length db.now.names) done.0) }
@@ -195,7 +215,8 @@ fn cleared(alloc: Global, table: &Table, names: &[String]) -> Result<(Table, Edi
     ensures table { IfOk result (λ done. Removes table.now (map string_bytes names.now) done.0) }
     ensures edit { IfOk result (λ done. IsEdit table.now done.0 done.1) }
     ensures is_table { IfOk result (λ done. IsTable done.0) }
-    ensures bounds { IfOk result (λ done. (bound : ℕ) → HaveBound bound table.now → HaveBound bound done.0) }
+    ensures bounds { IfOk result (λ done.
+        (bound : ℕ) → HaveBound bound table.now → HaveBound bound done.0) }
 {
     let mut new = table.copy(alloc)?;
     for name in names {

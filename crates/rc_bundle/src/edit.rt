@@ -36,8 +36,8 @@ impl Change {
     }
 }
 
-/// What a change alters in a table of bundles: each name whose set alters, with the set before and the set after,
-/// in byte order. It is empty where nothing alters.
+/// What a change alters in a table of bundles: each name whose set alters, with the set before and
+/// the set after, in byte order. It is empty where nothing alters.
 #[derive(Debug, Drop)]
 pub struct Edit {
     changes: Vec<Change>,
@@ -64,10 +64,16 @@ impl Edit {
         self.changes.len()
     }
 
-    /// The altered name at a place in byte order, with its set before and its set after. None: there it is no bundle.
+    /// The altered name at a place in byte order, with its set before and its set
+    /// after. None: there it is no bundle.
     pub fn at(&self, place: usize) -> (&Name, Option<&Set>, Option<&Set>)
         requires { place < length self.now }
-        ensures { slice_get self.now place ≡ Some (record { name = result.0.now; before = option_copied result.1; after = option_copied result.2 }) }
+        ensures { slice_get self.now place
+            ≡ Some (record {
+              name = result.0.now;
+              before = option_copied result.1;
+              after = option_copied result.2;
+            }) }
     {
         let change = &self.changes[place];
         (&change.name, change.before.as_ref(), change.after.as_ref())
@@ -133,7 +139,8 @@ fn next_name<'a>(
     j: u16,
 ) -> (&'a Name, Option<&'a Set>, Option<&'a Set>)
     requires { (i < length from.now) ⊎ (j < length to.now) }
-    ensures { IsNextName from.now i to.now j result.0.now (option_copied result.1) (option_copied result.2) }
+    ensures { IsNextName from.now i to.now j result.0.now (option_copied result.1)
+        (option_copied result.2) }
 {
     if i >= from.len() {
         let (name, after) = to.at(j);
@@ -170,7 +177,8 @@ fn note(
     before: Option<&Set>,
     after: Option<&Set>,
 ) -> Result<(), NoMem>
-    ensures { OnOk result (IsNoted changes.old.items changes.new.items name.now (option_copied before.entry) (option_copied after.entry)) }
+    ensures { OnOk result (IsNoted changes.old.items changes.new.items name.now
+        (option_copied before.entry) (option_copied after.entry)) }
 {
     if are_same(before, after) {
         return Ok(());

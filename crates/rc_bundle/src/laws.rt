@@ -6,5 +6,6 @@ ghost use Rattle.rc_model.specs.Line.{Alteration, IsEdit, edit_back};
 
 /// The edit from one table to another, turned round, is the edit back.
 pub fn edits_turn_round()
-    ensures { (old new : Bundles) (edit : List Alteration) → IsEdit old new edit → IsEdit new old (edit_back edit) }
+    ensures { (old new : Bundles) (edit : List Alteration) → IsEdit old new edit →
+        IsEdit new old (edit_back edit) }
 {}

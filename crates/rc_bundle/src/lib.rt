@@ -1,4 +1,5 @@
-//! Edits of bundles: what a change of the table alters, name by name, and the commands that define and remove bundles.
+//! Edits of bundles: what a change of the table alters, name by name, and the commands
+//! that define and remove bundles.
 #![tactic(auto)]
 
 mod commands;

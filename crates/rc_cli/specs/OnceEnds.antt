@@ -31,8 +31,8 @@ WantsWorkOnce d here (Said saying) = WantsWork d here saying
 WantsWorkOnce d here other = ⊥
 
 -- a fault came where one line was served: with nothing written, and kept is where the line of
--- states stood; or the line was met, a prefix of its answer was written, and kept is what it leaves,
--- or else, with nothing written, where the line of states stood
+-- states stood; or the line was met, a prefix of its answer was written, and kept is what it
+-- leaves, or else, with nothing written, where the line of states stood
 abbrev pub StopsLine : ServeFault → Keeping → EndsIn → Database → (here : Line) → OnceSaying
     → (written gained : Option (List ℕ)) → Type 0
 StopsLine fault kept As d here what written gained =

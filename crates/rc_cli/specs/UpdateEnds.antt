@@ -120,7 +120,8 @@ IsUnknownInBoth old new making word =
 
 -- the same where transitions are made so: refused also for a name that is to fail, and for its
 -- file only after that
-abbrev pub EndsUpdateOn : SessionFault → UpdateAsk → MakingAsk → LiveFile → (was is : Option (List ℕ))
+abbrev pub EndsUpdateOn : SessionFault → UpdateAsk → MakingAsk → LiveFile →
+    (was is : Option (List ℕ))
     → (old new : Database) → (written gained : Option (List ℕ)) → (writer keeper : Type 0) → Type 0
 EndsUpdateOn (OfText fault) ask making file was is old new written gained writer keeper = ⊥
 EndsUpdateOn (Unknown word) ask making file was is old new written gained writer keeper =

@@ -141,7 +141,8 @@ fn run_by_programs<'a, T: Threads + Wait + Sync, W: Write, S: Store>(
     ensures done { IfOk result (λ ending. RunsOnce
         (filing_of (session_ask_of request.now.session) live.entry
         (S.holds (store_of keeper.old)) (S.holds (store_of keeper.new)))
-        (DoesBy db request.now.session.workers (ByPrograms (map string_bytes programs.now.runner.items)
+        (DoesBy db request.now.session.workers
+        (ByPrograms (map string_bytes programs.now.runner.items)
         (map string_bytes programs.now.controller.items) programs.now.limit)) ending db
         (once_ask_of request.now).what
         (W.contents (inner_of writer.old)) (W.contents (inner_of writer.new))) }

@@ -62,11 +62,14 @@ pub(crate) fn update_on<'a, T: Threads + Wait + Sync, W: Write, S: Store>(
     requires crew { IsCrew request.now.session.workers }
     requires bound { 3 ≤ request.now.session.bound }
     requires writer { HasFailed writer.old → ⊥ }
-    ensures found { OnOk result (AreFoundInBoth old new (making_ask_of request.now.session.making)) }
+    ensures found { OnOk result (AreFoundInBoth old new
+        (making_ask_of request.now.session.making)) }
     ensures done { IfOk result (λ ending. RunsUpdate ending (update_ask_of request.now) live.entry
         (S.holds (store_of keeper.old)) (S.holds (store_of keeper.new))
-        (DoesBy old request.now.session.workers (making_on Lower (making_ask_of request.now.session.making)))
-        (DoesBy new request.now.session.workers (making_on Raise (making_ask_of request.now.session.making)))
+        (DoesBy old request.now.session.workers
+        (making_on Lower (making_ask_of request.now.session.making)))
+        (DoesBy new request.now.session.workers
+        (making_on Raise (making_ask_of request.now.session.making)))
         old new (W.contents (inner_of writer.old)) (W.contents (inner_of writer.new))) }
     ensures ended { IfErr result (λ fault. EndsUpdateOn fault (update_ask_of request.now)
         (making_ask_of request.now.session.making) live.entry
@@ -105,8 +108,10 @@ fn update_by_table<'a, T: Threads + Wait + Sync, W: Write, S: Store>(
     ensures found { OnOk result (AreFoundInBoth old new (ByTable (map listed_of failing.now))) }
     ensures done { IfOk result (λ ending. RunsUpdate ending (update_ask_of request.now) live.entry
         (S.holds (store_of keeper.old)) (S.holds (store_of keeper.new))
-        (DoesBy old request.now.session.workers (making_on Lower (ByTable (map listed_of failing.now))))
-        (DoesBy new request.now.session.workers (making_on Raise (ByTable (map listed_of failing.now))))
+        (DoesBy old request.now.session.workers
+        (making_on Lower (ByTable (map listed_of failing.now))))
+        (DoesBy new request.now.session.workers
+        (making_on Raise (ByTable (map listed_of failing.now))))
         old new (W.contents (inner_of writer.old)) (W.contents (inner_of writer.new))) }
     ensures ended { IfErr result (λ fault. EndsUpdateOn fault (update_ask_of request.now)
         (ByTable (map listed_of failing.now)) live.entry
@@ -197,7 +202,8 @@ fn push_on<'a>(
     way: Way,
 ) -> Result<(), AllocError>
     ensures { OnOk result (map listed_of those.new.items
-        ≡ map listed_of those.old.items ++ listed_by way (listed_of one.entry).way (listed_of one.entry) []) }
+        ≡ map listed_of those.old.items
+        ++ listed_by way (listed_of one.entry).way (listed_of one.entry) []) }
 {
     if one.way == way {
         those.push(one)?;
@@ -221,13 +227,16 @@ fn update_by_programs<'a, T: Threads + Wait + Sync, W: Write, S: Store>(
     requires crew { IsCrew request.now.session.workers }
     requires bound { 3 ≤ request.now.session.bound }
     requires writer { HasFailed writer.old → ⊥ }
-    ensures found { OnOk result (AreFoundInBoth old new (ByPrograms (map string_bytes programs.now.runner.items)
+    ensures found { OnOk result (AreFoundInBoth old new
+        (ByPrograms (map string_bytes programs.now.runner.items)
         (map string_bytes programs.now.controller.items) programs.now.limit)) }
     ensures done { IfOk result (λ ending. RunsUpdate ending (update_ask_of request.now) live.entry
         (S.holds (store_of keeper.old)) (S.holds (store_of keeper.new))
-        (DoesBy old request.now.session.workers (making_on Lower (ByPrograms (map string_bytes programs.now.runner.items)
+        (DoesBy old request.now.session.workers
+        (making_on Lower (ByPrograms (map string_bytes programs.now.runner.items)
         (map string_bytes programs.now.controller.items) programs.now.limit)))
-        (DoesBy new request.now.session.workers (making_on Raise (ByPrograms (map string_bytes programs.now.runner.items)
+        (DoesBy new request.now.session.workers
+        (making_on Raise (ByPrograms (map string_bytes programs.now.runner.items)
         (map string_bytes programs.now.controller.items) programs.now.limit)))
         old new (W.contents (inner_of writer.old)) (W.contents (inner_of writer.new))) }
     ensures ended { IfErr result (λ fault. EndsUpdateOn fault (update_ask_of request.now)
@@ -362,13 +371,15 @@ fn update_from<T: Threads + Wait + Sync, W: Write, G: Gate, H: Gate, S: Store>(
     requires closed { from.old.begun ≡ false }
     requires whole { from.old.spoiled ≡ false }
     requires writer { HasFailed writer.old → ⊥ }
-    ensures done { IfOk result (λ ending. EndsUpdate ending (session_ask_of request.now.session).live
+    ensures done { IfOk result (λ ending.
+        EndsUpdate ending (session_ask_of request.now.session).live
         (S.holds (store_of keeper.old)) (S.holds (store_of keeper.new))
         (IsDoneAs request.now.session.workers (G.answers gate.now) (G.gives gate.now))
         (IsDoneAs request.now.session.workers (H.answers other.now) (H.gives other.now))
         request.now.dry (W.contents (inner_of writer.old)) (W.contents (inner_of writer.new))
         from.old new) }
-    ensures stopped { IfErr result (λ fault. StopsUpdate fault (session_ask_of request.now.session).live
+    ensures stopped { IfErr result (λ fault.
+        StopsUpdate fault (session_ask_of request.now.session).live
         (S.holds (store_of keeper.old)) (S.holds (store_of keeper.new))
         (IsDoneAs request.now.session.workers (G.answers gate.now) (G.gives gate.now))
         (IsDoneAs request.now.session.workers (H.answers other.now) (H.gives other.now))

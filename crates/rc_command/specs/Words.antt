@@ -15,9 +15,11 @@ abbrev pub rows_named : Text → Option (Text × List Row) → Option (List Row)
 rows_named name None = None
 rows_named name (Some entered) = if bytes_eq entered.0 name then Some entered.1 else None
 
--- the matches of a command, where `clap` finds no fault in the words and they name it; the first word is the program's own name
+-- the matches of a command, where `clap` finds no fault in the words and they name it; the first
+-- word is the program's own name
 unfoldable pub rows_for : Text → List Text → Option (List Row)
-rows_for name words = if has_fault (fault_of program words) then None else rows_named name (subcommand_of program words)
+rows_for name words = if has_fault (fault_of program words) then None
+    else rows_named name (subcommand_of program words)
 
 -- whether a flag was given
 abbrev pub is_on : Text → List Row → Bool

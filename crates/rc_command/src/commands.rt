@@ -70,7 +70,8 @@ fn with_command<'a>(
     command: Result<Command<'a>, AllocError>,
     sub: Result<Command<'a>, AllocError>,
 ) -> Result<Command<'a>, AllocError>
-    ensures { (app : App) → (below : App) → Reads command.entry app → Reads sub.entry below → Reads result (with_command app below) }
+    ensures { (app : App) → (below : App) → Reads command.entry app → Reads sub.entry below →
+        Reads result (with_command app below) }
 {
     let command = command?;
     command.subcommand(sub?)
@@ -83,7 +84,8 @@ fn with_arg<'a>(
     arg: Arg<'a>,
 ) -> Result<Command<'a>, AllocError>
     requires { IsOwn arg }
-    ensures { (app : App) → Reads command.entry app → Reads result (with_arg app (rule_in arg.entry)) }
+    ensures { (app : App) → Reads command.entry app →
+        Reads result (with_arg app (rule_in arg.entry)) }
 {
     command?.arg(arg)
 }

@@ -15,7 +15,8 @@ use Rattle.rc_compile.specs.CompileFaults.{Mentions, HasFlaw, HasSomeUnknown}
 
 -- two entries give this name to a bundle
 abbrev pub IsShared : List Meaning → List ℕ → Type 0
-IsShared ms name = (i j : ℕ) × (a b : Meaning) × (i < j) × (slice_get ms i ≡ Some a) × (slice_get ms j ≡ Some b) × Gives Bundles a name × Gives Bundles b name
+IsShared ms name = (i j : ℕ) × (a b : Meaning) × (i < j) × (slice_get ms i ≡ Some a)
+    × (slice_get ms j ≡ Some b) × Gives Bundles a name × Gives Bundles b name
 
 -- the name at the place is one that the entry gives to a bundle
 abbrev pub GivesAt : List (List ℕ) → Meaning → ℕ → Type 0
@@ -31,15 +32,18 @@ HasNamed names set name = (s : ℕ) × (slice_get names s ≡ Some name) × Has 
 
 -- the names stand at places of which the first list has the second
 abbrev pub HasPair : List (List ℕ) → List (List ℕ) → List ℕ → List ℕ → Type 0
-HasPair names lists a b = (s t : ℕ) × (slice_get names s ≡ Some a) × (slice_get names t ≡ Some b) × Needs lists s t
+HasPair names lists a b =
+    (s t : ℕ) × (slice_get names s ≡ Some a) × (slice_get names t ≡ Some b) × Needs lists s t
 
 -- it names a neighbour in a pipe, and one of the two is not among the longruns
 abbrev pub JoinsOther : List (List ℕ) → List Bool → Meaning → Type 0
-JoinsOther names longruns m = (t : List ℕ) × ((m.producer_for ≡ Some t) ⊎ Contains m.consumer_for t) × ((m.kind ≡ Longrun) × HasNamed names longruns t → ⊥)
+JoinsOther names longruns m = (t : List ℕ) × ((m.producer_for ≡ Some t) ⊎ Contains m.consumer_for t)
+    × ((m.kind ≡ Longrun) × HasNamed names longruns t → ⊥)
 
 -- at the place is one of these names, which is in a pair with the other
 abbrev pub ArePairedAt : List (List ℕ) → List (List ℕ) → List (List ℕ) → List ℕ → ℕ → Type 0
-ArePairedAt names lists from to s = (name : List ℕ) × Contains from name × (slice_get names s ≡ Some name) × HasPair names lists name to
+ArePairedAt names lists from to s = (name : List ℕ) × Contains from name
+    × (slice_get names s ≡ Some name) × HasPair names lists name to
 
 -- at the place is a name that the entry reads from and that writes to it
 abbrev pub IsMatchedAt : List (List ℕ) → List (List ℕ) → Meaning → ℕ → Type 0
@@ -47,11 +51,14 @@ IsMatchedAt names feeds m s = ArePairedAt names feeds m.consumer_for m.name s
 
 -- it writes to one that does not read from it, or reads from one that does not write to it
 abbrev pub IsUnmatched : List (List ℕ) → List (List ℕ) → List Bool → Meaning → Type 0
-IsUnmatched names feeds matched m = (t : List ℕ) × (((m.producer_for ≡ Some t) × (HasNamed names matched m.name → ⊥)) ⊎ (Contains m.consumer_for t × (HasPair names feeds t m.name → ⊥)))
+IsUnmatched names feeds matched m = (t : List ℕ)
+    × (((m.producer_for ≡ Some t) × (HasNamed names matched m.name → ⊥))
+    ⊎ (Contains m.consumer_for t × (HasPair names feeds t m.name → ⊥)))
 
 -- its pipeline has the name of a service, or one that is shared
 abbrev pub IsTaken : List (List ℕ) → List (List ℕ) → List Bool → Meaning → Type 0
-IsTaken services bundles shared m = (name : List ℕ) × NamesPipeline m name × (Contains services name ⊎ HasNamed bundles shared name)
+IsTaken services bundles shared m =
+    (name : List ℕ) × NamesPipeline m name × (Contains services name ⊎ HasNamed bundles shared name)
 
 -- the tables are those of the meanings
 pub record IsBook (ms : List Meaning) (book : Book) : Type 0 where
@@ -60,15 +67,19 @@ pub record IsBook (ms : List Meaning) (book : Book) : Type 0 where
   pub marked : length book.shared ≡ length book.bundles
   pub twice : (name : List ℕ) → HasNamed book.bundles book.shared name ↔ IsShared ms name
   pub bound : length book.longruns ≡ length book.services
-  pub longrun : Holds book.longruns (λ s. (m : Meaning) × Contains ms m × IsLongrunAt book.services m s)
+  pub longrun : Holds book.longruns (λ s.
+      (m : Meaning) × Contains ms m × IsLongrunAt book.services m s)
   pub fed : length book.feeds.items ≡ length book.services
   pub joined : length book.matched ≡ length book.services
-  pub writes : (a b : List ℕ) → HasPair book.services (rows book.feeds.items) a b ↔ (Contains book.services a × Contains book.services b × WritesTo ms a b)
-  pub matched : Holds book.matched (λ s. (m : Meaning) × Contains ms m × IsMatchedAt book.services (rows book.feeds.items) m s)
+  pub writes : (a b : List ℕ) → HasPair book.services (rows book.feeds.items) a b
+      ↔ (Contains book.services a × Contains book.services b × WritesTo ms a b)
+  pub matched : Holds book.matched (λ s.
+      (m : Meaning) × Contains ms m × IsMatchedAt book.services (rows book.feeds.items) m s)
 
 -- by the tables, the entry has a name that stands for nothing
 abbrev pub ShowsUnknown : Book → Meaning → Type 0
-ShowsUnknown book m = (name : List ℕ) × Mentions m name × (Contains book.services name ⊎ Contains book.bundles name → ⊥)
+ShowsUnknown book m = (name : List ℕ) × Mentions m name
+    × (Contains book.services name ⊎ Contains book.bundles name → ⊥)
 
 -- the entry has what is sought
 abbrev pub HasSought : List Meaning → Sought → List ℕ → Type 0

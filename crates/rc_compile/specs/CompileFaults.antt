@@ -11,7 +11,8 @@ use Rattle.rc_holds.specs.Standing.{IsBundle, IsKnown, HasContent, NeedsNamed}
 
 -- more than 4,096 names of which this holds
 abbrev pub AreTooMany : (List ℕ → Type 0) → Type 0
-AreTooMany P = (names : List (List ℕ)) × AllPairs (λ a b. a ≢ b) names × All P names × (4096 < length names)
+AreTooMany P =
+    (names : List (List ℕ)) × AllPairs (λ a b. a ≢ b) names × All P names × (4096 < length names)
 
 -- the services on both sides of a pipe, as the one that has the file and the one that it names
 abbrev pub NamesNeighbour : List Meaning → List ℕ → List ℕ → Type 0
@@ -23,16 +24,19 @@ HasWrongType ms s = (t : List ℕ) × NamesNeighbour ms s t × (IsLongrun ms s �
 
 -- the entry names a neighbour in a pipe that does not name it from the other side
 abbrev pub HasNoMatch : List Meaning → List ℕ → Type 0
-HasNoMatch ms s = (t : List ℕ) × ((WritesTo ms s t × (ReadsFrom ms t s → ⊥)) ⊎ (ReadsFrom ms s t × (WritesTo ms t s → ⊥)))
+HasNoMatch ms s = (t : List ℕ) × ((WritesTo ms s t × (ReadsFrom ms t s → ⊥))
+    ⊎ (ReadsFrom ms s t × (WritesTo ms t s → ⊥)))
 
 -- the pipeline that the service names has the name of a service, of a bundle or of another pipeline
 abbrev pub HasTakenName : List Meaning → List ℕ → Type 0
 HasTakenName ms s = (name : List ℕ) × IsDefined ms (λ m. NamesPipeline m name) s
-    × (IsDefined ms (λ m. Unit {0}) name ⊎ ((other : List ℕ) × (other ≢ s) × IsDefined ms (λ m. NamesPipeline m name) other))
+    × (IsDefined ms (λ m. Unit {0}) name
+    ⊎ ((other : List ℕ) × (other ≢ s) × IsDefined ms (λ m. NamesPipeline m name) other))
 
 -- a definition has this name in one of its lists, or as the one that it writes to
 abbrev pub Mentions : Meaning → List ℕ → Type 0
-Mentions m name = Contains m.dependencies name ⊎ Contains m.contents name ⊎ Contains m.consumer_for name ⊎ (m.producer_for ≡ Some name)
+Mentions m name = Contains m.dependencies name ⊎ Contains m.contents name
+    ⊎ Contains m.consumer_for name ⊎ (m.producer_for ≡ Some name)
 
 -- the entry has a name that stands for nothing
 abbrev pub HasUnknown : List Meaning → List ℕ → List ℕ → Type 0
@@ -99,13 +103,17 @@ AreFreeBefore ms flaw = NoneBefore (HaveFlaw ms) flaw flaws
 abbrev pub IsFirstIn : List Meaning → EntryFlaw → List ℕ → Type 0
 IsFirstIn ms flaw s = AreFreeBefore ms (OfEntry flaw) × IsLeast (HasEntryFlaw ms flaw) s
 
--- when compiling is refused: by the first flaw in the order, told of the least entry, and of its least name
+-- when compiling is refused: by the first flaw in the order, told of the
+-- least entry, and of its least name
 unfoldable pub IsCompileFault : List Meaning → CompileFault → Type 0
 IsCompileFault ms fault.TooMany = AreFreeBefore ms TooMany × HaveFlaw ms TooMany
-IsCompileFault ms (fault.UnknownIn s name) = AreFreeBefore ms Unknown × IsLeast (HasSomeUnknown ms) s × IsLeast (HasUnknown ms s) name
-IsCompileFault ms (fault.BundleCycle names) = AreFreeBefore ms BundleCycle × IsShownCycle (HasContent ms) names.items
+IsCompileFault ms (fault.UnknownIn s name) =
+    AreFreeBefore ms Unknown × IsLeast (HasSomeUnknown ms) s × IsLeast (HasUnknown ms s) name
+IsCompileFault ms (fault.BundleCycle names) =
+    AreFreeBefore ms BundleCycle × IsShownCycle (HasContent ms) names.items
 IsCompileFault ms (fault.PipelineType s) = IsFirstIn ms PipelineType s
 IsCompileFault ms (fault.PipelineMismatch s) = IsFirstIn ms PipelineMismatch s
 IsCompileFault ms (fault.PipelineName s) = IsFirstIn ms PipelineName s
-IsCompileFault ms (fault.Cycle names) = AreFreeBefore ms Cycle × IsShownCycle (NeedsNamed ms) names.items
+IsCompileFault ms (fault.Cycle names) =
+    AreFreeBefore ms Cycle × IsShownCycle (NeedsNamed ms) names.items
 IsCompileFault ms fault.Memory = Unit {0}

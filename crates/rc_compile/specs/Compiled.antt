@@ -14,12 +14,17 @@ pub record IsAsDefined (names : List (List ℕ)) (m : Meaning) (service : Servic
   pub limit_down : service.limit_down ≡ m.limit_down
   pub text_up : service.text_up ≡ m.up
   pub text_down : service.text_down ≡ m.down
-  pub producer_for : option_map (slice_get names) service.producer_for ≡ option_map (λ name. Some name) m.producer_for
+  pub producer_for : option_map (slice_get names) service.producer_for
+      ≡ option_map (λ name. Some name) m.producer_for
 
--- the database of definitions: its services are those defined, as they are defined; one needs another where its definition does; and each bundle holds what its name stands for
+-- the database of definitions: its services are those defined, as they are defined; one needs
+-- another where its definition does; and each bundle holds what its name stands for
 pub record IsDatabaseOf (ms : List Meaning) (d : Database) : Type 0 where
   pub names : ListsNames (IsService ms) d.names
-  pub services : (m : Meaning) (s : ℕ) → Contains ms m → slice_get d.names s ≡ Some m.name → (service : Service) × (slice_get d.services s ≡ Some service) × IsAsDefined d.names m service
-  pub needs : (a b : List ℕ) (s t : ℕ) → slice_get d.names s ≡ Some a → slice_get d.names t ≡ Some b → Needs d.needs s t ↔ NeedsNamed ms a b
+  pub services : (m : Meaning) (s : ℕ) → Contains ms m → slice_get d.names s ≡ Some m.name →
+      (service : Service) × (slice_get d.services s ≡ Some service) × IsAsDefined d.names m service
+  pub needs : (a b : List ℕ) (s t : ℕ) → slice_get d.names s ≡ Some a →
+      slice_get d.names t ≡ Some b → Needs d.needs s t ↔ NeedsNamed ms a b
   pub bundles : ListsNames (IsBundle ms) (names_of d.table)
-  pub sets : (name a : List ℕ) (set : List Bool) (s : ℕ) → value_of d.table name ≡ Some set → slice_get d.names s ≡ Some a → Has set s ↔ StandsFor ms name a
+  pub sets : (name a : List ℕ) (set : List Bool) (s : ℕ) → value_of d.table name ≡ Some set →
+      slice_get d.names s ≡ Some a → Has set s ↔ StandsFor ms name a

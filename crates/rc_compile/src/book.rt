@@ -62,8 +62,10 @@ fn filled(
     services: Names,
     bundles: Names,
 ) -> Result<Book, NoMem>
-    requires services { (name : List ℕ) → Contains services name ↔ IsService (map meaning_of definitions.now) name }
-    requires bundles { (name : List ℕ) → Contains bundles name ↔ IsBundle (map meaning_of definitions.now) name }
+    requires services { (name : List ℕ) →
+        Contains services name ↔ IsService (map meaning_of definitions.now) name }
+    requires bundles { (name : List ℕ) →
+        Contains bundles name ↔ IsBundle (map meaning_of definitions.now) name }
     ensures { IfOk result (IsBook (map meaning_of definitions.now)) }
 {
     match listed(alloc, definitions, &services, &bundles) {
@@ -92,8 +94,10 @@ fn listed(
     services: &Names,
     bundles: &Names,
 ) -> Result<Lists, NoMem>
-    requires services { (name : List ℕ) → Contains services.now name ↔ IsService (map meaning_of definitions.now) name }
-    requires bundles { (name : List ℕ) → Contains bundles.now name ↔ IsBundle (map meaning_of definitions.now) name }
+    requires services { (name : List ℕ) →
+        Contains services.now name ↔ IsService (map meaning_of definitions.now) name }
+    requires bundles { (name : List ℕ) →
+        Contains bundles.now name ↔ IsBundle (map meaning_of definitions.now) name }
     ensures { IfOk result (λ lists. IsBook (map meaning_of definitions.now) (record {
       services = services.now;
       bundles = bundles.now;

@@ -29,7 +29,8 @@ pub(crate) fn build(
 ) -> Result<Db, CompileFault>
     requires meanings { AreMeanings (map meaning_of definitions.now) }
     requires book { IsBook (map meaning_of definitions.now) book }
-    requires contents { Mirrors (HasContent (map meaning_of definitions.now)) book.bundles book.bundles contents.now }
+    requires contents { Mirrors (HasContent
+        (map meaning_of definitions.now)) book.bundles book.bundles contents.now }
     requires before { AreFreeBefore (map meaning_of definitions.now) Cycle }
     ensures db { IfOk result (IsDatabaseOf (map meaning_of definitions.now)) }
     ensures writable { IfOk result (λ db. IsWritable db) }

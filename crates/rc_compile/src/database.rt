@@ -24,8 +24,8 @@ use rc_set::{NoMem, Set};
 use rc_source::Definition;
 use std::alloc::{AllocError, Global};
 
-// The database of definitions whose pipes are right: the graph says what each service needs, and the
-// sets what the names of bundles stand for.
+// The database of definitions whose pipes are right: the graph says what each service needs, and
+// the sets what the names of bundles stand for.
 pub(crate) fn joined(
     alloc: Global,
     definitions: &[Definition],
@@ -35,10 +35,12 @@ pub(crate) fn joined(
 ) -> Result<Db, NoMem>
     requires meanings { AreMeanings (map meaning_of definitions.now) }
     requires book { IsBook (map meaning_of definitions.now) book }
-    requires graph { Mirrors (NeedsNamed (map meaning_of definitions.now)) book.services book.services graph }
+    requires graph { Mirrors (NeedsNamed
+        (map meaning_of definitions.now)) book.services book.services graph }
     requires few { length sets.now ≡ length book.bundles }
     requires bounds { AllWithin (length book.services) sets.now }
-    requires sets { AreSetsOf (StandsFor (map meaning_of definitions.now)) book.bundles book.services sets.now }
+    requires sets { AreSetsOf (StandsFor
+        (map meaning_of definitions.now)) book.bundles book.services sets.now }
     requires types { (s : List ℕ) → HasWrongType (map meaning_of definitions.now) s → ⊥ }
     requires taken { (s : List ℕ) → HasTakenName (map meaning_of definitions.now) s → ⊥ }
     ensures db { IfOk result (IsDatabaseOf (map meaning_of definitions.now)) }
@@ -71,9 +73,11 @@ fn described(
     names: &Names,
 ) -> Result<Vec<Service>, NoMem>
     requires meanings { AreMeanings (map meaning_of definitions.now) }
-    requires names { (name : List ℕ) → Contains names.now name ↔ IsService (map meaning_of definitions.now) name }
+    requires names { (name : List ℕ) → Contains names.now name
+        ↔ IsService (map meaning_of definitions.now) name }
     requires types { (s : List ℕ) → HasWrongType (map meaning_of definitions.now) s → ⊥ }
-    ensures { IfOk result (λ services. AreAsDefined (map meaning_of definitions.now) names.now services.items) }
+    ensures { IfOk result (λ services. AreAsDefined
+        (map meaning_of definitions.now) names.now services.items) }
 {
     let places = places_of(alloc, definitions, names)?;
     services_of(alloc, definitions, names, &places)

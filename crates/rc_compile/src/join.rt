@@ -27,12 +27,15 @@ pub(crate) fn join(
     table: Table,
 ) -> Db
     requires meanings { AreMeanings (map meaning_of definitions.now) }
-    requires names { (name : List ℕ) → Contains names name ↔ IsService (map meaning_of definitions.now) name }
+    requires names { (name : List ℕ) → Contains names name
+        ↔ IsService (map meaning_of definitions.now) name }
     requires services { AreAsDefined (map meaning_of definitions.now) names services.items }
     requires graph { Mirrors (NeedsNamed (map meaning_of definitions.now)) names names graph }
-    requires table { (name : List ℕ) → Contains (names_of table) name ↔ IsBundle (map meaning_of definitions.now) name }
+    requires table { (name : List ℕ) → Contains (names_of table) name
+        ↔ IsBundle (map meaning_of definitions.now) name }
     requires bounds { HaveBound (length names) table }
-    requires sets { (name a : List ℕ) (set : List Bool) (s : ℕ) → value_of table name ≡ Some set → slice_get names s ≡ Some a → Has set s ↔ StandsFor (map meaning_of definitions.now) name a }
+    requires sets { (name a : List ℕ) (set : List Bool) (s : ℕ) → value_of table name ≡ Some set →
+        slice_get names s ≡ Some a → Has set s ↔ StandsFor (map meaning_of definitions.now) name a }
     requires types { (s : List ℕ) → HasWrongType (map meaning_of definitions.now) s → ⊥ }
     requires taken { (s : List ℕ) → HasTakenName (map meaning_of definitions.now) s → ⊥ }
     ensures db { IsDatabaseOf (map meaning_of definitions.now) result }

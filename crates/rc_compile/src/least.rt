@@ -22,7 +22,8 @@ pub(crate) fn least(alloc: Global, names: &[Name]) -> Result<Option<Name>, NoMem
 fn least_place(names: &[Name]) -> usize
     requires { 0 < length names.now }
     ensures within { result < length names.now }
-    ensures least { (name : List ℕ) → slice_get names.now result ≡ Some name → IsLeast (Contains names.now) name }
+    ensures least { (name : List ℕ) → slice_get names.now result ≡ Some name →
+        IsLeast (Contains names.now) name }
 {
     let mut least = 0;
     for place in 1..names.len() {

@@ -1,4 +1,5 @@
-// Which service needs which: by its dependencies, by the bundles among them, and by what it writes to.
+// Which service needs which: by its dependencies, by the bundles among
+// them, and by what it writes to.
 ghost use Rattle.std.specs.Prelude.{◌≡◌, ◌<◌, ◌≤◌, ◌↔◌, ◌⊎◌, ℕ, List, [], length, slice_index_or, OnOk, IfOk, IfErr, All, Contains, map};
 ghost use Rattle.rc_model.specs.Names.{Has};
 ghost use Rattle.rc_model.specs.Graph.{Needs};
@@ -33,7 +34,8 @@ fn need_sets(
     requires bounds { All (λ set. length set ≡ length draft.old) sets.now }
     ensures bound { length draft.new ≡ length draft.old }
     ensures pairs { OnOk result ((s t : ℕ) → Needs draft.new s t ↔
-        (Needs draft.old s t ⊎ ((s ≡ service) × ((b : ℕ) × Contains list.now b × Has (slice_index_or sets.now b []) t)))) }
+        (Needs draft.old s t ⊎ ((s ≡ service)
+        × ((b : ℕ) × Contains list.now b × Has (slice_index_or sets.now b []) t)))) }
 {
     for b in list {
         let members = sets[*b as usize].ids(alloc)?;
@@ -54,7 +56,8 @@ pub(crate) fn need_bundles(
     requires bounds { All (λ set. length set ≡ length draft.old) sets.now }
     ensures bound { length draft.new ≡ length draft.old }
     ensures pairs { OnOk result ((s t : ℕ) → Needs draft.new s t ↔
-        (Needs draft.old s t ⊎ ((b : ℕ) × Needs (rows lists.now) s b × Has (slice_index_or sets.now b []) t))) }
+        (Needs draft.old s t ⊎ ((b : ℕ) × Needs (rows lists.now) s b
+        × Has (slice_index_or sets.now b []) t))) }
 {
     for s in 0..draft.len() {
         need_sets(alloc, draft, s, lists[s as usize].as_slice(), sets)?;
@@ -75,8 +78,12 @@ fn need_in_bundles(
     requires few { length sets.now ≡ length bundles.now }
     requires bounds { AllWithin (length services.now) sets.now }
     ensures bound { length draft.new ≡ length draft.old }
-    ensures pairs { OnOk result ((lists : List (List ℕ)) × Mirrors (HasListed Listed.Dependencies (map meaning_of definitions.now)) services.now bundles.now lists
-        × ((s t : ℕ) → Needs draft.new s t ↔ (Needs draft.old s t ⊎ ((b : ℕ) × Needs lists s b × Has (slice_index_or sets.now b []) t)))) }
+    ensures pairs { OnOk result ((lists : List (List ℕ))
+        × Mirrors (HasListed Listed.Dependencies
+        (map meaning_of definitions.now)) services.now bundles.now lists
+        × ((s t : ℕ) → Needs draft.new s t
+        ↔ (Needs draft.old s t ⊎ ((b : ℕ) × Needs lists s b
+        × Has (slice_index_or sets.now b []) t)))) }
 {
     let lists = rows_of(alloc, definitions, Listed::Dependencies, services, bundles)?;
     need_bundles(alloc, draft, &lists, sets)
@@ -91,12 +98,16 @@ fn needs_of(
     sets: &[Set],
 ) -> Result<Draft, NoMem>
     requires meanings { AreMeanings (map meaning_of definitions.now) }
-    requires services { (name : List ℕ) → Contains services.now name ↔ IsService (map meaning_of definitions.now) name }
-    requires bundles { (name : List ℕ) → Contains bundles.now name ↔ IsBundle (map meaning_of definitions.now) name }
+    requires services { (name : List ℕ) →
+        Contains services.now name ↔ IsService (map meaning_of definitions.now) name }
+    requires bundles { (name : List ℕ) →
+        Contains bundles.now name ↔ IsBundle (map meaning_of definitions.now) name }
     requires few { length sets.now ≡ length bundles.now }
     requires bounds { AllWithin (length services.now) sets.now }
-    requires sets { AreSetsOf (StandsFor (map meaning_of definitions.now)) bundles.now services.now sets.now }
-    ensures { IfOk result (λ draft. Mirrors (NeedsNamed (map meaning_of definitions.now)) services.now services.now draft) }
+    requires sets { AreSetsOf (StandsFor
+        (map meaning_of definitions.now)) bundles.now services.now sets.now }
+    ensures { IfOk result (λ draft. Mirrors
+        (NeedsNamed (map meaning_of definitions.now)) services.now services.now draft) }
 {
     let mut draft = Draft::new(alloc, services.len())?;
     need_listed(
@@ -120,13 +131,18 @@ pub(crate) fn graph_of(
     sets: &[Set],
 ) -> Result<Graph, CycleFault>
     requires meanings { AreMeanings (map meaning_of definitions.now) }
-    requires services { (name : List ℕ) → Contains services.now name ↔ IsService (map meaning_of definitions.now) name }
-    requires bundles { (name : List ℕ) → Contains bundles.now name ↔ IsBundle (map meaning_of definitions.now) name }
+    requires services { (name : List ℕ) →
+        Contains services.now name ↔ IsService (map meaning_of definitions.now) name }
+    requires bundles { (name : List ℕ) →
+        Contains bundles.now name ↔ IsBundle (map meaning_of definitions.now) name }
     requires few { length sets.now ≡ length bundles.now }
     requires bounds { AllWithin (length services.now) sets.now }
-    requires sets { AreSetsOf (StandsFor (map meaning_of definitions.now)) bundles.now services.now sets.now }
-    ensures graph { IfOk result (λ graph. Mirrors (NeedsNamed (map meaning_of definitions.now)) services.now services.now graph) }
-    ensures free { OnOk result ((names : List (List ℕ)) → IsShownCycle (NeedsNamed (map meaning_of definitions.now)) names → ⊥) }
+    requires sets { AreSetsOf (StandsFor
+        (map meaning_of definitions.now)) bundles.now services.now sets.now }
+    ensures graph { IfOk result (λ graph.
+        Mirrors (NeedsNamed (map meaning_of definitions.now)) services.now services.now graph) }
+    ensures free { OnOk result ((names : List (List ℕ)) →
+        IsShownCycle (NeedsNamed (map meaning_of definitions.now)) names → ⊥) }
     ensures fault { IfErr result (IsCycleFault (NeedsNamed (map meaning_of definitions.now))) }
 {
     let _count = services.len();

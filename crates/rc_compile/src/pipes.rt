@@ -22,7 +22,9 @@ pub(crate) fn longruns_of(
     services: &Names,
 ) -> Result<Set, NoMem>
     ensures bound { IfOk result (λ set. length set ≡ length services.now) }
-    ensures members { IfOk result (λ set. Holds set (λ s. (m : Meaning) × Contains (map meaning_of definitions.now) m × IsLongrunAt services.now m s)) }
+    ensures members { IfOk result (λ set.
+        Holds set (λ s. (m : Meaning) × Contains (map meaning_of definitions.now) m
+        × IsLongrunAt services.now m s)) }
 {
     let mut longruns = Set::empty(alloc, services.len())?;
     for definition in definitions {
@@ -35,7 +37,8 @@ pub(crate) fn longruns_of(
 fn insert_longrun(set: &mut Set, services: &Names, definition: &Definition)
     requires { length set.old ≡ length services.now }
     ensures bound { length set.new ≡ length set.old }
-    ensures members { Holds set.new (λ s. Has set.old s ⊎ IsLongrunAt services.now (meaning_of definition.now) s) }
+    ensures members { Holds set.new (λ s.
+        Has set.old s ⊎ IsLongrunAt services.now (meaning_of definition.now) s) }
 {
     if is_kind(definition.kind, Kind::Longrun) {
         insert_named(set, services, definition.name.text());
@@ -128,7 +131,8 @@ fn has_pair(names: &Names, lists: &[Vec<u16>], from: &Name, to: &Name) -> bool
 // Whether some name is not in a pair with another.
 fn some_unpaired(names: &Names, lists: &[Vec<u16>], from: &[Name], to: &Name) -> bool
     requires { length lists.now ≡ length names.now }
-    ensures { IsTrue result ↔ ((name : List ℕ) × Contains from.now name × (HasPair names.now (rows lists.now) name to.now → ⊥)) }
+    ensures { IsTrue result ↔ ((name : List ℕ) × Contains from.now name
+        × (HasPair names.now (rows lists.now) name to.now → ⊥)) }
 {
     for name in from {
         if !has_pair(names, lists, name, to) {
@@ -147,7 +151,8 @@ pub(crate) fn is_unmatched(
 ) -> bool
     requires feeds { length feeds.now ≡ length names.now }
     requires matched { length matched.now ≡ length names.now }
-    ensures { IsTrue result ↔ IsUnmatched names.now (rows feeds.now) matched.now (meaning_of definition.now) }
+    ensures { IsTrue result ↔ IsUnmatched names.now (rows feeds.now) matched.now
+        (meaning_of definition.now) }
 {
     if some_unpaired(names, feeds, &definition.consumer_for, &definition.name) {
         return true;
@@ -164,7 +169,9 @@ pub(crate) fn matched_of(
 ) -> Result<Set, NoMem>
     requires { length feeds.now ≡ length services.now }
     ensures bound { IfOk result (λ set. length set ≡ length services.now) }
-    ensures members { IfOk result (λ set. Holds set (λ s. (m : Meaning) × Contains (map meaning_of definitions.now) m × IsMatchedAt services.now (rows feeds.now) m s)) }
+    ensures members { IfOk result (λ set.
+        Holds set (λ s. (m : Meaning) × Contains (map meaning_of definitions.now) m
+        × IsMatchedAt services.now (rows feeds.now) m s)) }
 {
     let mut matched = Set::empty(alloc, services.len())?;
     for definition in definitions {
@@ -178,7 +185,8 @@ fn insert_matched(set: &mut Set, names: &Names, feeds: &[Vec<u16>], definition: 
     requires bound { length set.old ≡ length names.now }
     requires feeds { length feeds.now ≡ length names.now }
     ensures bound { length set.new ≡ length set.old }
-    ensures members { Holds set.new (λ s. Has set.old s ⊎ IsMatchedAt names.now (rows feeds.now) (meaning_of definition.now) s) }
+    ensures members { Holds set.new (λ s.
+        Has set.old s ⊎ IsMatchedAt names.now (rows feeds.now) (meaning_of definition.now) s) }
 {
     insert_paired(
         set,
@@ -194,7 +202,8 @@ fn insert_paired(set: &mut Set, names: &Names, lists: &[Vec<u16>], from: &[Name]
     requires bound { length set.old ≡ length names.now }
     requires lists { length lists.now ≡ length names.now }
     ensures bound { length set.new ≡ length set.old }
-    ensures members { Holds set.new (λ s. Has set.old s ⊎ ArePairedAt names.now (rows lists.now) from.now to.now s) }
+    ensures members { Holds set.new (λ s.
+        Has set.old s ⊎ ArePairedAt names.now (rows lists.now) from.now to.now s) }
 {
     for name in from {
         insert_if_paired(set, names, lists, name, to);
@@ -206,7 +215,9 @@ fn insert_if_paired(set: &mut Set, names: &Names, lists: &[Vec<u16>], from: &Nam
     requires bound { length set.old ≡ length names.now }
     requires lists { length lists.now ≡ length names.now }
     ensures bound { length set.new ≡ length set.old }
-    ensures members { Holds set.new (λ s. Has set.old s ⊎ ((slice_get names.now s ≡ Some from.now) × HasPair names.now (rows lists.now) from.now to.now)) }
+    ensures members { Holds set.new (λ s.
+        Has set.old s ⊎ ((slice_get names.now s ≡ Some from.now)
+        × HasPair names.now (rows lists.now) from.now to.now)) }
 {
     if has_pair(names, lists, from, to) {
         insert_named(set, names, from.text());
@@ -221,7 +232,8 @@ pub(crate) fn has_taken_name(
     definition: &Definition,
 ) -> bool
     requires { length shared.now ≡ length bundles.now }
-    ensures { IsTrue result ↔ IsTaken services.now bundles.now shared.now (meaning_of definition.now) }
+    ensures { IsTrue result ↔ IsTaken services.now bundles.now shared.now
+        (meaning_of definition.now) }
 {
     match pipeline_name(definition) {
         Some(name) => is_taken(services, bundles, shared, name.text()),
@@ -232,7 +244,8 @@ pub(crate) fn has_taken_name(
 // Whether a name is that of a service or is shared.
 fn is_taken(services: &Names, bundles: &Names, shared: &Set, text: &str) -> bool
     requires { length shared.now ≡ length bundles.now }
-    ensures { IsTrue result ↔ (Contains services.now text.now ⊎ HasNamed bundles.now shared.now text.now) }
+    ensures { IsTrue result ↔ (Contains services.now text.now
+        ⊎ HasNamed bundles.now shared.now text.now) }
 {
     has_name(services, text) || has_named(bundles, shared, text)
 }
@@ -243,9 +256,12 @@ pub(crate) fn shared_of(
     definitions: &[Definition],
     bundles: &Names,
 ) -> Result<Set, NoMem>
-    requires { (name : List ℕ) → IsBundle (map meaning_of definitions.now) name → Contains bundles.now name }
+    requires { (name : List ℕ) → IsBundle (map meaning_of definitions.now) name →
+        Contains bundles.now name }
     ensures bound { IfOk result (λ set. length set ≡ length bundles.now) }
-    ensures members { IfOk result (λ set. (name : List ℕ) → HasNamed bundles.now set name ↔ IsShared (map meaning_of definitions.now) name) }
+    ensures members { IfOk result (λ set.
+        (name : List ℕ) → HasNamed bundles.now set name
+        ↔ IsShared (map meaning_of definitions.now) name) }
 {
     let mut seen = Set::empty(alloc, bundles.len())?;
     let mut shared = Set::empty(alloc, bundles.len())?;
@@ -255,14 +271,17 @@ pub(crate) fn shared_of(
     Ok(shared)
 }
 
-// Puts the bundle in whose name a definition gives: among those seen, and if it is there among those shared.
+// Puts the bundle in whose name a definition gives: among those seen, and if
+// it is there among those shared.
 fn mark(bundles: &Names, seen: &mut Set, shared: &mut Set, definition: &Definition)
     requires seen { length seen.old ≡ length bundles.now }
     requires shared { length shared.old ≡ length bundles.now }
     ensures bound_seen { length seen.new ≡ length seen.old }
     ensures bound_shared { length shared.new ≡ length shared.old }
-    ensures seen { Holds seen.new (λ s. Has seen.old s ⊎ GivesAt bundles.now (meaning_of definition.now) s) }
-    ensures shared { Holds shared.new (λ s. Has shared.old s ⊎ (Has seen.old s × GivesAt bundles.now (meaning_of definition.now) s)) }
+    ensures seen { Holds seen.new (λ s.
+        Has seen.old s ⊎ GivesAt bundles.now (meaning_of definition.now) s) }
+    ensures shared { Holds shared.new (λ s.
+        Has shared.old s ⊎ (Has seen.old s × GivesAt bundles.now (meaning_of definition.now) s)) }
 {
     let _count = bundles.len();
     if let Some(name) = given(definition, Which::Bundles) {

@@ -20,8 +20,10 @@ pub(crate) fn services_of(
     places: &[usize],
 ) -> Result<Vec<Service>, NoMem>
     requires places { ArePlacesOf (map meaning_of definitions.now) names.now places.now }
-    requires known { All (λ m. IfSome m.producer_for (Contains names.now)) (map meaning_of definitions.now) }
-    ensures { IfOk result (λ services. AreAsDefined (map meaning_of definitions.now) names.now services.items) }
+    requires known { All (λ m. IfSome m.producer_for (Contains names.now))
+        (map meaning_of definitions.now) }
+    ensures { IfOk result (λ services. AreAsDefined
+        (map meaning_of definitions.now) names.now services.items) }
 {
     let mut services = Vec::new(alloc);
     for place in places {
@@ -38,8 +40,11 @@ fn service_at(
     place: usize,
 ) -> Result<Service, NoMem>
     requires place { place < length definitions.now }
-    requires known { All (λ m. IfSome m.producer_for (Contains names.now)) (map meaning_of definitions.now) }
-    ensures { IfOk result (λ service. (m : Meaning) × (slice_get (map meaning_of definitions.now) place ≡ Some m) × IsAsDefined names.now m service) }
+    requires known { All (λ m. IfSome m.producer_for (Contains names.now))
+        (map meaning_of definitions.now) }
+    ensures { IfOk result (λ service. (m : Meaning)
+        × (slice_get (map meaning_of definitions.now) place ≡ Some m)
+        × IsAsDefined names.now m service) }
 {
     service_of(alloc, names, &definitions[place])
 }
@@ -66,7 +71,8 @@ fn service_of(alloc: Global, names: &Names, definition: &Definition) -> Result<S
 // The place of the service that a definition writes to.
 fn producer_of(names: &Names, definition: &Definition) -> Option<u16>
     requires { IfSome (meaning_of definition.now).producer_for (Contains names.now) }
-    ensures { option_map (slice_get names.now) result ≡ option_map (λ name. Some name) (meaning_of definition.now).producer_for }
+    ensures { option_map (slice_get names.now) result
+        ≡ option_map (λ name. Some name) (meaning_of definition.now).producer_for }
 {
     match &definition.producer_for {
         Some(name) => names.find(name.text()),
@@ -76,7 +82,8 @@ fn producer_of(names: &Names, definition: &Definition) -> Option<u16>
 
 // Another text of the same bytes, if there is one.
 fn copy_text(alloc: Global, text: &Option<String>) -> Result<Option<String>, NoMem>
-    ensures { IfOk result (λ copy. option_map string_bytes copy ≡ option_map string_bytes text.now) }
+    ensures { IfOk result (λ copy. option_map string_bytes copy
+        ≡ option_map string_bytes text.now) }
 {
     match text {
         Some(text) => Ok(Some(String::from_str(alloc, text.as_str())?)),
@@ -91,8 +98,10 @@ pub(crate) fn places_of(
     names: &Names,
 ) -> Result<Vec<usize>, NoMem>
     requires meanings { AreMeanings (map meaning_of definitions.now) }
-    requires known { (name : List ℕ) → Contains names.now name → (m : Meaning) × Contains (map meaning_of definitions.now) m × (m.name ≡ name) }
-    ensures { IfOk result (λ places. ArePlacesOf (map meaning_of definitions.now) names.now places.items) }
+    requires known { (name : List ℕ) → Contains names.now name →
+        (m : Meaning) × Contains (map meaning_of definitions.now) m × (m.name ≡ name) }
+    ensures { IfOk result (λ places. ArePlacesOf
+        (map meaning_of definitions.now) names.now places.items) }
 {
     let mut places = vec![in alloc; 0; names.len() as usize]?;
     for place in 0..definitions.len() {

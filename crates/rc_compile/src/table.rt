@@ -13,8 +13,11 @@ use std::alloc::Global;
 pub(crate) fn table_of(alloc: Global, names: &Names, sets: &[Set]) -> Result<Table, NoMem>
     requires { length sets.now ≡ length names.now }
     ensures names { IfOk result (λ table. names_of table ≡ names.now) }
-    ensures sets { IfOk result (λ table. (b : ℕ) (name : List ℕ) → slice_get names.now b ≡ Some name → value_of table name ≡ Some (slice_index_or sets.now b [])) }
-    ensures bounds { IfOk result (λ table. (bound : ℕ) → AllWithin bound sets.now → HaveBound bound table) }
+    ensures sets { IfOk result (λ table.
+        (b : ℕ) (name : List ℕ) → slice_get names.now b ≡ Some name →
+        value_of table name ≡ Some (slice_index_or sets.now b [])) }
+    ensures bounds { IfOk result (λ table.
+        (bound : ℕ) → AllWithin bound sets.now → HaveBound bound table) }
 {
     let mut table = Table::new(alloc);
     for place in 0..names.len() {

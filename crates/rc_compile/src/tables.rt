@@ -25,10 +25,13 @@ pub(crate) fn names_of(
     definitions: &[Definition],
     which: Which,
 ) -> Result<Option<Names>, NoMem>
-    ensures same { IfOk result (λ found. IfSome found (λ names. (name : List ℕ) → Contains names name
+    ensures same { IfOk result (λ found.
+        IfSome found (λ names. (name : List ℕ) → Contains names name
         ↔ IsNameOf which (map meaning_of definitions.now) name)) }
-    ensures few { IfOk result (λ found. IfSome found (λ names. AreTooMany (IsNameOf which (map meaning_of definitions.now)) → ⊥)) }
-    ensures many { IfOk result (λ found. IfNone found (AreTooMany (IsNameOf which (map meaning_of definitions.now)))) }
+    ensures few { IfOk result (λ found.
+        IfSome found (λ names. AreTooMany (IsNameOf which (map meaning_of definitions.now)) → ⊥)) }
+    ensures many { IfOk result (λ found.
+        IfNone found (AreTooMany (IsNameOf which (map meaning_of definitions.now)))) }
 {
     let mut names = Names::new(alloc);
     for definition in definitions {
@@ -50,7 +53,8 @@ fn add_given(
 ) -> Result<bool, NoMem>
     ensures adds { IfOk result (λ fits. IsTrue fits → (name : List ℕ) → Contains names.new name
         ↔ (Contains names.old name ⊎ Gives which (meaning_of definition.now) name)) }
-    ensures full { IfOk result (λ fits. fits ≡ false → IsFull names.old (Gives which (meaning_of definition.now))) }
+    ensures full { IfOk result (λ fits.
+        fits ≡ false → IsFull names.old (Gives which (meaning_of definition.now))) }
     ensures names { AreNames names.old }
 {
     let _count = names.len();
@@ -63,7 +67,8 @@ fn add_given(
 // The name that a definition gives.
 pub(crate) fn given(definition: &Definition, which: Which) -> Option<&Name>
     ensures some { IfSome result (λ name. Gives which (meaning_of definition.now) name.now) }
-    ensures none { IfNone result ((name : List ℕ) → Gives which (meaning_of definition.now) name → ⊥) }
+    ensures none { IfNone result ((name : List ℕ) → Gives which (meaning_of definition.now) name →
+        ⊥) }
 {
     let is_bundle = definition.kind == Kind::Bundle;
     match which {
@@ -77,7 +82,8 @@ pub(crate) fn given(definition: &Definition, which: Which) -> Option<&Name>
 // Puts a name in, unless it is there, and tells whether there was room for it.
 fn add_name(alloc: Global, names: &mut Names, name: &Name) -> Result<bool, NoMem>
     ensures adds { IfOk result (λ fits. IsTrue fits → Adds names.old name.now names.new) }
-    ensures full { IfOk result (λ fits. fits ≡ false → IsFull names.old (λ other. other ≡ name.now)) }
+    ensures full { IfOk result (λ fits.
+        fits ≡ false → IsFull names.old (λ other. other ≡ name.now)) }
 {
     let count = names.len();
     if names.find(name.text()).is_some() {

@@ -17,7 +17,8 @@ pub(crate) fn unknown_in(
     definition: &Definition,
 ) -> Result<Vec<Name>, NoMem>
     ensures { IfOk result (λ unknown. (name : List ℕ) → Contains unknown.items name
-        ↔ (Mentions (meaning_of definition.now) name × (Contains services.now name ⊎ Contains bundles.now name → ⊥))) }
+        ↔ (Mentions (meaning_of definition.now) name
+        × (Contains services.now name ⊎ Contains bundles.now name → ⊥))) }
 {
     let mut unknown = Vec::new(alloc);
     add_unknown(
@@ -48,7 +49,9 @@ fn add_producer(
     definition: &Definition,
 ) -> Result<(), NoMem>
     ensures { OnOk result ((name : List ℕ) → Contains unknown.new.items name
-        ↔ (Contains unknown.old.items name ⊎ (((meaning_of definition.now).producer_for ≡ Some name) × (Contains services.now name ⊎ Contains bundles.now name → ⊥)))) }
+        ↔ (Contains unknown.old.items name
+        ⊎ (((meaning_of definition.now).producer_for ≡ Some name)
+        × (Contains services.now name ⊎ Contains bundles.now name → ⊥)))) }
 {
     match &definition.producer_for {
         Some(name) => add_if_unknown(alloc, unknown, services, bundles, name),
@@ -65,7 +68,9 @@ fn add_unknown(
     names: &[Name],
 ) -> Result<(), NoMem>
     ensures { OnOk result ((name : List ℕ) → Contains unknown.new.items name
-        ↔ (Contains unknown.old.items name ⊎ (Contains names.now name × (Contains services.now name ⊎ Contains bundles.now name → ⊥)))) }
+        ↔ (Contains unknown.old.items name
+        ⊎ (Contains names.now name × (Contains services.now name ⊎ Contains bundles.now name →
+        ⊥)))) }
 {
     for name in names {
         add_if_unknown(alloc, unknown, services, bundles, name)?;
@@ -82,7 +87,8 @@ fn add_if_unknown(
     name: &Name,
 ) -> Result<(), NoMem>
     ensures { OnOk result ((other : List ℕ) → Contains unknown.new.items other
-        ↔ (Contains unknown.old.items other ⊎ ((other ≡ name.now) × (Contains services.now other ⊎ Contains bundles.now other → ⊥)))) }
+        ↔ (Contains unknown.old.items other
+        ⊎ ((other ≡ name.now) × (Contains services.now other ⊎ Contains bundles.now other → ⊥)))) }
 {
     if !is_known(services, bundles, name.text()) {
         unknown.push(name.copy(alloc)?)?;

@@ -17,12 +17,16 @@ use Rattle.rc_streams.specs.Input.{AppendsFront, failure_text, fault_line}
 
 -- the first test of the trees that does not pass, where they tell what they hold
 abbrev pub StopsReading : List (Option Source) → Flaw → List ℕ → Type 0
-StopsReading held flaw entry = (sources : List Source) → held ≡ map Some sources → StopsInTests (all_tests [] sources) flaw entry
+StopsReading held flaw entry = (sources : List Source) → held ≡ map Some sources →
+    StopsInTests (all_tests [] sources) flaw entry
 
--- when there is no text: by the first test of the trees that does not pass, then by the first flaw of what they say
+-- when there is no text: by the first test of the trees that does not pass, then by
+-- the first flaw of what they say
 abbrev pub IsTreesFault : List (Option Source) → TreesFault → Type 0
-IsTreesFault held (OfSource fault) = flaw_of fault ≢ flaw.Memory → StopsReading held (flaw_of fault) (name_carried fault)
-IsTreesFault held (Definitions fault) = (ms : List Meaning) × AreSaid held ms × IsCompileFault ms fault
+IsTreesFault held (OfSource fault) =
+    flaw_of fault ≢ flaw.Memory → StopsReading held (flaw_of fault) (name_carried fault)
+IsTreesFault held (Definitions fault) =
+    (ms : List Meaning) × AreSaid held ms × IsCompileFault ms fault
 IsTreesFault held Memory = Unit {0}
 
 -- when definitions give no text
@@ -70,7 +74,8 @@ compile_text wrong.TooMany = word_with_names (codes "TooMany") []
 compile_text (wrong.UnknownIn entry name) = word_with_names (codes "UnknownIn") (entry ∷ name ∷ [])
 compile_text (wrong.BundleCycle names) = word_with_names (codes "BundleCycle") names.items
 compile_text (wrong.PipelineType entry) = word_with_names (codes "PipelineType") (entry ∷ [])
-compile_text (wrong.PipelineMismatch entry) = word_with_names (codes "PipelineMismatch") (entry ∷ [])
+compile_text (wrong.PipelineMismatch entry) =
+    word_with_names (codes "PipelineMismatch") (entry ∷ [])
 compile_text (wrong.PipelineName entry) = word_with_names (codes "PipelineName") (entry ∷ [])
 compile_text (wrong.Cycle names) = word_with_names (codes "Cycle") names.items
 compile_text wrong.Memory = word_with_names (codes "Memory") []
@@ -89,12 +94,16 @@ IsDeviceFault Memory = ⊥
 
 -- a refusal holds, and a writer gains a prefix of the line that tells it
 abbrev pub TellsRefusal : List (Option Source) → Option (List ℕ) → Option (List ℕ) → Type 0
-TellsRefusal held old new = (fault : TreesFault) × IsTreesFault held fault × IsRefusal fault × AppendsFront old new (fault_line (trees_text fault))
+TellsRefusal held old new = (fault : TreesFault) × IsTreesFault held fault × IsRefusal fault
+    × AppendsFront old new (fault_line (trees_text fault))
 
 -- some device failed at this entry, and a writer gains a prefix of the line that tells it
-abbrev pub TellsDevice : List (Option Source) → List ℕ → List ℕ → Option (List ℕ) → Option (List ℕ) → Type 0
-TellsDevice held before after old new = (entry : List ℕ) × StopsReading held flaw.Io entry × SomeFailed before after × AppendsFront old new (fault_line (flaw_text flaw.Io entry))
+abbrev pub TellsDevice : List (Option Source) → List ℕ → List ℕ → Option (List ℕ) →
+    Option (List ℕ) → Type 0
+TellsDevice held before after old new = (entry : List ℕ) × StopsReading held flaw.Io entry
+    × SomeFailed before after × AppendsFront old new (fault_line (flaw_text flaw.Io entry))
 
 -- a writer gains a prefix of the line that a writer has failed, or that memory ran out
 abbrev pub TellsWant : (failed : Type 0) → (old new : Option (List ℕ)) → Type 0
-TellsWant failed old new = (failed × AppendsFront old new (fault_line (failure_text failure.Write))) ⊎ AppendsFront old new (fault_line (failure_text failure.Memory))
+TellsWant failed old new = (failed × AppendsFront old new (fault_line (failure_text failure.Write)))
+    ⊎ AppendsFront old new (fault_line (failure_text failure.Memory))

@@ -63,8 +63,8 @@ pub fn compile_run<T: Tree, W: Write, F: Write>(
     }
 }
 
-/// The text of the database of what the trees' files say, for a caller that has a place of its own for it;
-/// `tell_trees` tells why there is none.
+/// The text of the database of what the trees' files say, for a caller that has a place of its own
+/// for it; `tell_trees` tells why there is none.
 pub fn text_of<T: Tree>(alloc: Global, trees: &mut [T]) -> Result<Vec<u8>, TreesFault>
     ensures text { IfOk result (λ text. IsCompiled (map T.held trees.old) text.items) }
     ensures fault { IfErr result (IsTreesFault (map T.held trees.old)) }

@@ -34,9 +34,14 @@ impl From<AllocError> for TreesFault {
 /// Tells why there is no text, and answers the status.
 pub fn tell_trees<F: Write>(alloc: Global, faults: &mut F, fault: &TreesFault) -> u8
     ensures statuses { (result ≡ 1) ⊎ (result ≡ 111) }
-    ensures refused { result ≡ 1 → IsRefusal fault.now × AppendsFront (F.contents faults.old) (F.contents faults.new) (fault_line (trees_text fault.now)) }
-    ensures failed { result ≡ 111 → (IsDeviceFault fault.now × AppendsFront (F.contents faults.old) (F.contents faults.new) (fault_line (trees_text fault.now)))
-        ⊎ AppendsFront (F.contents faults.old) (F.contents faults.new) (fault_line (failure_text Failure.Memory)) }
+    ensures refused { result ≡ 1 → IsRefusal fault.now
+        × AppendsFront (F.contents faults.old) (F.contents faults.new)
+        (fault_line (trees_text fault.now)) }
+    ensures failed { result ≡ 111 → (IsDeviceFault fault.now
+        × AppendsFront (F.contents faults.old) (F.contents faults.new)
+        (fault_line (trees_text fault.now)))
+        ⊎ AppendsFront (F.contents faults.old) (F.contents faults.new)
+        (fault_line (failure_text Failure.Memory)) }
 {
     let status = status_of(fault);
     match trees_text(alloc, fault) {
@@ -52,7 +57,8 @@ pub fn tell_trees<F: Write>(alloc: Global, faults: &mut F, fault: &TreesFault) -
 fn status_of(fault: &TreesFault) -> u8
     ensures statuses { (result ≡ 1) ⊎ (result ≡ 111) }
     ensures refused { result ≡ 1 → IsRefusal fault.now }
-    ensures failed { result ≡ 111 → IsDeviceFault fault.now ⊎ (trees_text fault.now ≡ failure_text Failure.Memory) }
+    ensures failed { result ≡ 111 → IsDeviceFault fault.now
+        ⊎ (trees_text fault.now ≡ failure_text Failure.Memory) }
 {
     match fault {
         TreesFault::Source(fault) => match fault.flaw() {
@@ -132,7 +138,8 @@ fn told_one(alloc: Global, word: &[u8], name: &Name) -> Result<Vec<u8>, NoMem>
 
 /// A word with two names after it.
 fn told_two(alloc: Global, word: &[u8], first: &Name, second: &Name) -> Result<Vec<u8>, NoMem>
-    ensures { IfOk result (λ text. text.items ≡ word_with_names word.now (first.now ∷ second.now ∷ [])) }
+    ensures { IfOk result (λ text. text.items
+        ≡ word_with_names word.now (first.now ∷ second.now ∷ [])) }
 {
     let mut text = Vec::from_slice(alloc, word)?;
     add_word(&mut text, first.text())?;

@@ -106,8 +106,10 @@ pub record CanArrive (needs : List (List ℕ)) (lower raise : List Bool) (s : �
   pub known : s < length needs
   pub bound : length old.waits.items ≡ length needs
   pub missing : (t : ℕ) → IsNext needs lower raise s t → 0 < slice_index old.waits.items t
-  pub falls : (t : ℕ) → Has lower s → Needs needs s t → 0 < slice_index old.waits.items t → Has lower t
-  pub rises : (t : ℕ) → (Has lower s → ⊥) → Needs needs t s → 0 < slice_index old.waits.items t → Has raise t
+  pub falls : (t : ℕ) → Has lower s → Needs needs s t → 0 < slice_index old.waits.items t →
+      Has lower t
+  pub rises : (t : ℕ) → (Has lower s → ⊥) → Needs needs t s → 0 < slice_index old.waits.items t →
+      Has raise t
   pub queue : HasQueue old.waits.items old.queue
 
 -- an event can be written in

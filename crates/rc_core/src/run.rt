@@ -3,8 +3,8 @@ ghost use Rattle.rc_model.specs.Names.{Has};
 ghost use Rattle.rc_model.specs.Graph.{IsClosed};
 ghost use Rattle.rc_graph.specs.declared.Way.{Way};
 ghost use Rattle.rc_model.specs.declared.Event.{Event};
-ghost use Rattle.rc_model.specs.Run.{course_of, TargetOf, standing_of, IsWorker, IsFree, HasFailed, IsStopped, IsLegal, IsRun, IsStrictlyClosed, IsLive, IsSettled};
-ghost use Rattle.rc_model.specs.Beside.{planned_count, IsCourse};
+ghost use Rattle.rc_model.specs.Run.{course_of, standing_of, IsWorker, IsFree, HasFailed, IsStopped, IsLegal, IsRun, IsStrictlyClosed, IsLive, IsSettled};
+ghost use Rattle.rc_model.specs.Beside.{planned_count, IsCourse, TargetOf};
 ghost use Rattle.rc_core.specs.End.{EndOf};
 ghost use Rattle.rc_core.specs.Failing.{WouldFail, EndsAs};
 ghost use Rattle.rc_core.specs.Settled.{with_event};
@@ -32,10 +32,10 @@ pub struct NotLegal;
 
 /// A change on its way: what was to move, and the events so far.
 ///
-/// It borrows nothing. No call but `open` can be refused as out of memory.
-/// Time: `open` grows with the services and their pairs, `take_apart` with the services; `done` with
-/// those that the service needs or that need it; `step` of a take looks for the service among those
-/// that may be taken; the others take one step. So a whole run looks at each service and pair once.
+/// It borrows nothing. No call but `open` can be refused as out of memory. Time: `open` grows with
+/// the services and their pairs, `take_apart` with the services; `done` with those that the service
+/// needs or that need it; `step` of a take looks for the service among those that may be taken; the
+/// others take one step. So a whole run looks at each service and pair once.
 #[derive(Debug, Drop)]
 pub struct Run {
     pub(crate) graph: Graph,
@@ -60,22 +60,41 @@ impl Model for Run {
     ghost Value = { RunSoFar };
 
     ghost view = { λ r. record {
-      course = record { needs = r.graph; up = r.opening; lower = r.lower; raise = r.raise; deadline = r.deadline };
+      course = record {
+        needs = r.graph;
+        up = r.opening;
+        lower = r.lower;
+        raise = r.raise;
+        deadline = r.deadline;
+      };
       events = r.trace.items;
     } };
 
-    ghost invariant = { λ r. IsKept (record { needs = r.graph; up = r.opening; lower = r.lower; raise = r.raise; deadline = r.deadline })
+    ghost invariant = { λ r. IsKept (record {
+      needs = r.graph;
+      up = r.opening;
+      lower = r.lower;
+      raise = r.raise;
+      deadline = r.deadline;
+    })
         r.trace r.tables
         × IsRoomFor (length r.graph) r.failed_room × IsRoomFor (length r.graph) r.left_room
         × AreReady
-        (record { needs = r.graph; up = r.opening; lower = r.lower; raise = r.raise; deadline = r.deadline })
+        (record {
+          needs = r.graph;
+          up = r.opening;
+          lower = r.lower;
+          raise = r.raise;
+          deadline = r.deadline;
+        })
         r.trace.items r.ready.waits.items r.ready.queue.items
         × (length r.graph ≤ vec_capacity r.ready.queue) };
 }
 
 impl Run {
-    /// A run of a plan, in which nothing has happened yet. With a deadline it may be stopped from that moment on.
-    /// All the room that it will need is made here: two events for each service that is to move, and one to stop.
+    /// A run of a plan, in which nothing has happened yet. With a deadline it may be stopped from
+    /// that moment on. All the room that it will need is made here: two events for each service
+    /// that is to move, and one to stop.
     pub fn open(
         alloc: Global,
         graph: &Graph,
@@ -85,7 +104,8 @@ impl Run {
         requires bound { length plan.now.opening ≡ length graph.now }
         requires opening { IsClosed graph.now (Has plan.now.opening) }
         requires target { IsClosed graph.now (TargetOf (course_of graph.now plan.now deadline)) }
-        ensures { IfOk result (λ run. run ≡ record { course = course_of graph.now plan.now deadline; events = [] }) }
+        ensures { IfOk result (λ run. run
+            ≡ record { course = course_of graph.now plan.now deadline; events = [] }) }
     {
         let tables = Tables::new(alloc, plan.opening(), plan.lower(), plan.raise())?;
         let events = 2 * tables.left.len() as usize + 1;
@@ -126,7 +146,8 @@ impl Run {
         })
     }
 
-    /// Asks for a job on behalf of a worker, from 1 to 64, that holds nothing. Of several jobs it gives any.
+    /// Asks for a job on behalf of a worker, from 1 to 64, that holds
+    /// nothing. Of several jobs it gives any.
     pub fn take(&mut self, worker: u8) -> Result<Took, NotLegal>
         ensures answer { IfOk result (λ took. IsAnswered self.old worker took self.new) }
         ensures ok { OnOk result (IsWorker worker × IsFree self.old.events worker) }
@@ -148,9 +169,12 @@ impl Run {
 
     /// Tells how the transition of the service that a worker holds ended.
     pub fn done(&mut self, worker: u8, service: u16, outcome: Outcome) -> Result<(), NotLegal>
-        ensures ok { OnOk result (IsLegal self.old.course self.old.events (Event.Done worker service outcome)) }
-        ensures made { OnOk result (self.new ≡ with_event self.old (Event.Done worker service outcome)) }
-        ensures err { OnErr result (IsLegal self.old.course self.old.events (Event.Done worker service outcome) → ⊥) }
+        ensures ok { OnOk result (IsLegal self.old.course self.old.events
+            (Event.Done worker service outcome)) }
+        ensures made { OnOk result (self.new
+            ≡ with_event self.old (Event.Done worker service outcome)) }
+        ensures err { OnErr result (IsLegal self.old.course self.old.events
+            (Event.Done worker service outcome) → ⊥) }
         ensures same { OnErr result (self.new ≡ self.old) }
     {
         if !self.holds(worker, service) {
@@ -160,12 +184,15 @@ impl Run {
         Ok(())
     }
 
-    /// A worker, from 1 to 64, stops the run at a moment, in milliseconds, that has reached the deadline.
-    /// Nothing is taken from then on. A run that is settled may still be stopped, and then counts as stopped.
+    /// A worker, from 1 to 64, stops the run at a moment, in milliseconds, that has reached
+    /// the deadline. Nothing is taken from then on. A run that is settled may still be
+    /// stopped, and then counts as stopped.
     pub fn stop(&mut self, worker: u8, moment: u64) -> Result<(), NotLegal>
-        ensures ok { OnOk result (IsLegal self.old.course self.old.events (Event.Stop worker moment)) }
+        ensures ok { OnOk result (IsLegal self.old.course self.old.events
+            (Event.Stop worker moment)) }
         ensures made { OnOk result (self.new ≡ with_event self.old (Event.Stop worker moment)) }
-        ensures err { OnErr result (IsLegal self.old.course self.old.events (Event.Stop worker moment) → ⊥) }
+        ensures err { OnErr result (IsLegal self.old.course self.old.events
+            (Event.Stop worker moment) → ⊥) }
         ensures same { OnErr result (self.new ≡ self.old) }
     {
         self.step(Event::Stop(worker, moment))
@@ -226,15 +253,18 @@ impl Run {
         self.trace.as_slice()
     }
 
-    /// The end of a settled run, which tells what has become of each service. Without a stop what is live hangs on
-    /// what failed alone, and not on the order of events.
+    /// The end of a settled run, which tells what has become of each service. Without a stop what
+    /// is live hangs on what failed alone, and not on the order of events.
     pub fn finish(self) -> Ended
         requires { IsSettled self.course self.events }
         ensures run { result ≡ self }
         ensures end { (IsStopped self.events → ⊥) →
-            (s : ℕ) → IsLive self.course self.events s ↔ EndOf self.course (HasFailed self.events) s }
-        ensures end_as { (fails : ℕ → Way → Bool) → EndsAs self.course fails self.events → (IsStopped self.events → ⊥) →
-            (s : ℕ) → IsLive self.course self.events s ↔ EndOf self.course (WouldFail self.course fails) s }
+            (s : ℕ) → IsLive self.course self.events s
+            ↔ EndOf self.course (HasFailed self.events) s }
+        ensures end_as { (fails : ℕ → Way → Bool) → EndsAs self.course fails self.events →
+            (IsStopped self.events → ⊥) →
+            (s : ℕ) → IsLive self.course self.events s
+            ↔ EndOf self.course (WouldFail self.course fails) s }
     {
         // What the trace tells of the course is what the clauses on the end stand on.
         let _ = self.trace();

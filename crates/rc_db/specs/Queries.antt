@@ -10,7 +10,8 @@ use Rattle.rc_model.specs.Database.{names_of, Service, Database}
 
 -- what stands under a name in a database
 abbrev pub IsServiceNamed : Database → List ℕ → Service → Type 0
-IsServiceNamed d name service = (s : ℕ) × (slice_get d.names s ≡ Some name) × (slice_get d.services s ≡ Some service)
+IsServiceNamed d name service =
+    (s : ℕ) × (slice_get d.names s ≡ Some name) × (slice_get d.services s ≡ Some service)
 
 -- the kind of a name
 abbrev pub IsKindOf : Database → List ℕ → Kind → Type 0

@@ -29,7 +29,8 @@ AsksService OfService = Unit {0}
 AsksService OfLongrun = Unit {0}
 AsksService OfOneshot = Unit {0}
 
--- when a query of one name is refused, the first fault in this order: no name, a bundle, a service, a service of the other kind
+-- when a query of one name is refused, the first fault in this order: no name, a bundle, a
+-- service, a service of the other kind
 abbrev pub IsQueryFault : Database → Asked → List ℕ → QueryFault → Type 0
 IsQueryFault d asked name (Unknown place) = (place ≡ 0) × (IsKnown d.names d.table name → ⊥)
 IsQueryFault d asked name NotAtomic = AsksService asked × Contains (names_of d.table) name
@@ -38,7 +39,8 @@ IsQueryFault d asked name NotLongrun = (asked ≡ OfLongrun) × IsKindOf d name 
 IsQueryFault d asked name NotOneshot = (asked ≡ OfOneshot) × IsKindOf d name Longrun
 IsQueryFault d asked name Memory = IsSuch d asked name
 
--- when words are refused: the first that is no name is told, and out of memory only where each is one
+-- when words are refused: the first that is no name is told, and out
+-- of memory only where each is one
 abbrev pub IsNamesFault : List (List ℕ) → Bundles → List (List ℕ) → QueryFault → Type 0
 IsNamesFault names table words (Unknown place) = IsUnknownAt names table words place
 IsNamesFault names table words NotAtomic = ⊥

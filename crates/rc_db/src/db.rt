@@ -79,7 +79,8 @@ impl Db {
         &self.parts.services[id as usize]
     }
 
-    /// Whether a service stays up where a change downwards or a pruning one would lower it, also where it is named.
+    /// Whether a service stays up where a change downwards or a pruning one would
+    /// lower it, also where it is named.
     pub fn is_essential(&self, id: u16) -> bool
         requires { id < length self.now.names }
         ensures { IsTrue result ↔ IsEssential self.now id }
@@ -87,8 +88,8 @@ impl Db {
         self.service(id).essential
     }
 
-    /// The services that words stand for by a table of bundles, which need not be the database's own.
-    /// A word that is a service's and a bundle's name stands for both.
+    /// The services that words stand for by a table of bundles, which need not be the database's
+    /// own. A word that is a service's and a bundle's name stands for both.
     pub fn selected(
         &self,
         alloc: Global,

@@ -38,7 +38,8 @@ impl Db {
 fn all_names<'a>(alloc: Global, names: &'a Names, table: &'a Table) -> Result<Vec<&'a Name>, NoMem>
     requires names { IsInByteOrder names.now }
     requires apart { AreApart names.now table.now }
-    ensures { IfOk result (λ all. ListsNames (λ name. Contains names.now name ⊎ Contains (names_of table.now) name)
+    ensures { IfOk result (λ all. ListsNames (λ name.
+        Contains names.now name ⊎ Contains (names_of table.now) name)
         (map (λ name. name.now) all.items)) }
 {
     let mut all = Vec::new(alloc);

@@ -14,8 +14,9 @@ pub struct Parts {
     pub table: Table,
 }
 
-/// The parts do not fit together: lengths or bounds differ, a service's kind is a bundle, a producer
-/// writes for what is no longrun or isn't needed, or a bundle has the name of a service. They are gone.
+/// The parts do not fit together: lengths or bounds differ, a service's kind is a
+/// bundle, a producer writes for what is no longrun or isn't needed, or a bundle has the
+/// name of a service. They are gone.
 #[derive(Clone, Copy, PartialEq, Eq, Debug, Error)]
 #[error("the parts do not fit together")]
 pub struct Unfit;

@@ -49,7 +49,8 @@ fn add_if_in_pipeline(set: &mut Set, db: &Db, ends: &[u16], id: u16, s: u16)
     requires id { id < length db.now.names }
     requires service { s < length db.now.names }
     requires bound { length ends.now ≡ length db.now.names }
-    requires ends { (t : ℕ) → t < length db.now.names → IsLastConsumer db.now t (slice_index ends.now t) }
+    requires ends { (t : ℕ) → t < length db.now.names →
+        IsLastConsumer db.now t (slice_index ends.now t) }
     ensures bound { length set.new ≡ length set.old }
     ensures members { Holds set.new (λ t. Has set.old t ⊎ ((t ≡ s) × InPipelineOf db.now id s)) }
 {
@@ -63,7 +64,8 @@ fn is_in_pipeline(db: &Db, ends: &[u16], id: u16, s: u16) -> bool
     requires id { id < length db.now.names }
     requires service { s < length db.now.names }
     requires bound { length ends.now ≡ length db.now.names }
-    requires ends { (t : ℕ) → t < length db.now.names → IsLastConsumer db.now t (slice_index ends.now t) }
+    requires ends { (t : ℕ) → t < length db.now.names →
+        IsLastConsumer db.now t (slice_index ends.now t) }
     ensures { IsTrue result ↔ InPipelineOf db.now id s }
 {
     if ends[id as usize] != ends[s as usize] {

@@ -80,7 +80,8 @@ impl Db {
     /// The text that is run for a oneshot on its way, empty where there is none.
     pub fn script(&self, alloc: Global, name: &str, way: Way) -> Result<String, QueryFault>
         ensures text { IfOk result (λ text. (service : Facts) ×
-            IsServiceNamed self.now name.now service × (string_bytes text ≡ script_of service way)) }
+            IsServiceNamed self.now name.now service
+            × (string_bytes text ≡ script_of service way)) }
         ensures oneshot { OnOk result (IsSuch self.now OfOneshot name.now) }
         ensures fault { IfErr result (λ fault. IsQueryFault self.now OfOneshot name.now fault) }
     {

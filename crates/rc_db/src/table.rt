@@ -16,8 +16,8 @@ pub const MAX_BUNDLES: u16 = 4096;
 
 /// Bundles in byte order of their names.
 ///
-/// Time: `len` and `at` take one step, `get` looks a name up, `set` and `clear` move the bundles after
-/// the name, `same` and `copy` grow with the table.
+/// Time: `len` and `at` take one step, `get` looks a name up, `set` and `clear` move the bundles
+/// after the name, `same` and `copy` grow with the table.
 #[derive(Debug, Drop)]
 pub struct Table {
     alloc: Global,
@@ -34,7 +34,8 @@ impl Model for Table {
 
     ghost view = { λ t. values t.bundles };
 
-    ghost invariant = { λ t. (map string_bytes (keys t.bundles) ≡ names_of (values t.bundles)) × IsTable (values t.bundles) };
+    ghost invariant = { λ t. (map string_bytes (keys t.bundles) ≡ names_of (values t.bundles))
+        × IsTable (values t.bundles) };
 }
 
 impl Table {
@@ -152,7 +153,8 @@ impl Table {
 
 /// Whether two bundles have one name and one set.
 fn same_bundle(one: (&Name, &Set), other: (&Name, &Set)) -> bool
-    ensures { IsTrue result ↔ ((one.entry.0.now ≡ other.entry.0.now) × (one.entry.1.now ≡ other.entry.1.now)) }
+    ensures { IsTrue result ↔ ((one.entry.0.now ≡ other.entry.0.now)
+        × (one.entry.1.now ≡ other.entry.1.now)) }
 {
     one.0.text() == other.0.text() && one.1.bound() == other.1.bound() && one.1.same(other.1)
 }

@@ -18,15 +18,16 @@ AreSo Is n values = (length values ≡ n) × All Is values
 abbrev pub IsRead : {A : Type 0} → (A → Type 0) → (A → List Line) → List ℕ → A → List ℕ → Type 0
 IsRead Is lines bytes value rest = form.IsRead spell Is lines bytes value rest
 
--- the lines of some value stand at the beginning up to the one that is due, where the rest begins, and
--- no value has one line more there
+-- the lines of some value stand at the beginning up to the one that is due, where the rest begins,
+-- and no value has one line more there
 abbrev pub IsStuck : {A : Type 0} → (A → Type 0) → (A → List Line)
     → List ℕ → List ℕ → Line → Type 0
 IsStuck Is lines bytes rest due = form.IsStuck spell Is lines bytes rest due
 
 -- there is no line of a word and a number here, unless memory ran out
 abbrev pub IsNoNumber : List ℕ → List ℕ → FormFault → Type 0
-IsNoNumber word bytes (Bad left) = (left ≡ length bytes) × (HasNumber word (λ _. Unit {0}) bytes → ⊥)
+IsNoNumber word bytes (Bad left) =
+    (left ≡ length bytes) × (HasNumber word (λ _. Unit {0}) bytes → ⊥)
 IsNoNumber word bytes Version = ⊥
 IsNoNumber word bytes TooMany = ⊥
 IsNoNumber word bytes Memory = Unit {0}
@@ -43,14 +44,19 @@ HasOtherVersion other rest = ⊥
 
 -- a count is due, and stands here with more than 4,096
 abbrev pub HasTooMany : Line → List ℕ → Type 0
-HasTooMany (ServiceCount count) rest = HasNumber (codes "services") (λ number. 4096 < digits_value 10 number) rest
-HasTooMany (BundleCount count) rest = HasNumber (codes "bundles") (λ number. 4096 < digits_value 10 number) rest
+HasTooMany (ServiceCount count) rest =
+    HasNumber (codes "services") (λ number. 4096 < digits_value 10 number) rest
+HasTooMany (BundleCount count) rest =
+    HasNumber (codes "bundles") (λ number. 4096 < digits_value 10 number) rest
 HasTooMany other rest = ⊥
 
--- when reading is refused where it is stuck; a bad line is told by how many bytes are left there, and out of memory may come at any place
+-- when reading is refused where it is stuck; a bad line is told by how many bytes are left there,
+-- and out of memory may come at any place
 abbrev pub IsFaultWhere : (List ℕ → Line → Type 0) → FormFault → Type 0
-IsFaultWhere Stuck (Bad left) = (rest : List ℕ) × (due : Line) × Stuck rest due × (left ≡ length rest) × (HasOtherVersion due rest → ⊥) × (HasTooMany due rest → ⊥)
-IsFaultWhere Stuck Version = (rest : List ℕ) × (due : Line) × Stuck rest due × HasOtherVersion due rest
+IsFaultWhere Stuck (Bad left) = (rest : List ℕ) × (due : Line) × Stuck rest due
+    × (left ≡ length rest) × (HasOtherVersion due rest → ⊥) × (HasTooMany due rest → ⊥)
+IsFaultWhere Stuck Version =
+    (rest : List ℕ) × (due : Line) × Stuck rest due × HasOtherVersion due rest
 IsFaultWhere Stuck TooMany = (rest : List ℕ) × (due : Line) × Stuck rest due × HasTooMany due rest
 IsFaultWhere Stuck Memory = Unit {0}
 

@@ -16,7 +16,8 @@ pub record Head : Type 0 where
   pub limit_up : ℕ
   pub limit_down : ℕ
 
--- what follows the needs of a service: the longrun that a longrun feeds, or the texts of a oneshot, of which the second may be missing
+-- what follows the needs of a service: the longrun that a longrun feeds, or the texts of a oneshot,
+-- of which the second may be missing
 pub data Body : Type 0 where
   OfLongrun : (producer_for : Option (List ℕ)) → Body
   OfOneshot : (up : List ℕ) → (down : Option (List ℕ)) → Body
@@ -32,7 +33,8 @@ pub record DbText : Type 0 where
   pub services : List ServiceText
   pub bundles : List BundleText
 
--- a line by what it says; the text of a oneshot is of one line with the one that says how long it is
+-- a line by what it says; the text of a oneshot is of one line with
+-- the one that says how long it is
 pub data Line : Type 0 where
   First : Line
   ServiceCount : (count : ℕ) → Line
@@ -68,7 +70,8 @@ length_word None = codes "-"
 abbrev pub words : Line → List (List ℕ)
 words First = codes "undorc-db" ∷ codes "1" ∷ []
 words (ServiceCount count) = codes "services" ∷ decimal count ∷ []
-words (OfService s) = codes "service" ∷ s.name ∷ kind_word s.kind ∷ flag_word s.essential ∷ decimal s.limit_up ∷ decimal s.limit_down ∷ []
+words (OfService s) = codes "service" ∷ s.name ∷ kind_word s.kind ∷ flag_word s.essential
+    ∷ decimal s.limit_up ∷ decimal s.limit_down ∷ []
 words (OfNeeds names) = codes "needs" ∷ names
 words (OfProducer producer_for) = codes "producer" ∷ or_dash producer_for ∷ []
 words (OfUp text) = codes "up" ∷ decimal (length text) ∷ []
@@ -107,7 +110,8 @@ count_and_lines count lines values = count (length values) ∷ flat_map lines va
 
 -- the lines of a database text
 abbrev pub db_lines : DbText → List Line
-db_lines t = First ∷ (count_and_lines ServiceCount service_lines t.services ++ (count_and_lines BundleCount bundle_lines t.bundles ++ Last ∷ []))
+db_lines t = First ∷ (count_and_lines ServiceCount service_lines t.services
+    ++ (count_and_lines BundleCount bundle_lines t.bundles ++ Last ∷ []))
 
 -- the text of a database, all of it
 abbrev pub db_text : DbText → List ℕ

@@ -6,7 +6,8 @@ use Rattle.rc_dbform.specs.Text.{Line, words, line_of_words}
 
 -- there is no line here, unless memory ran out
 abbrev pub IsNoLine : List ℕ → FormFault → Type 0
-IsNoLine bytes (Bad left) = (left ≡ length bytes) × ((words : List (List ℕ)) (rest : List ℕ) → bytes ≡ line_of_words words ++ rest → ⊥)
+IsNoLine bytes (Bad left) = (left ≡ length bytes)
+    × ((words : List (List ℕ)) (rest : List ℕ) → bytes ≡ line_of_words words ++ rest → ⊥)
 IsNoLine bytes Version = ⊥
 IsNoLine bytes TooMany = ⊥
 IsNoLine bytes Memory = Unit {0}

@@ -69,8 +69,10 @@ pub fn read_form(alloc: Global, bytes: &[u8]) -> Result<(DbForm, &[u8]), FormFau
 
 // The services after their count, and what follows them.
 fn all_services(alloc: Global, bytes: &[u8]) -> Result<(Vec<ServiceForm>, &[u8]), FormFault>
-    ensures ok { IfOk result (λ read. IsRead (AreFew IsServiceText) (count_and_lines ServiceCount service_lines) bytes.now read.0.items read.1.now) }
-    ensures fault { IfErr result (IsRefused (AreFew IsServiceText) (count_and_lines ServiceCount service_lines) bytes.now) }
+    ensures ok { IfOk result (λ read. IsRead (AreFew IsServiceText)
+        (count_and_lines ServiceCount service_lines) bytes.now read.0.items read.1.now) }
+    ensures fault { IfErr result (IsRefused (AreFew IsServiceText)
+        (count_and_lines ServiceCount service_lines) bytes.now) }
 {
     let (count, rest) = count_line(alloc, bytes, b"services")?;
     let (services, rest) = services_of(alloc, rest, count)?;
@@ -79,8 +81,10 @@ fn all_services(alloc: Global, bytes: &[u8]) -> Result<(Vec<ServiceForm>, &[u8])
 
 // The bundles after their count, and what follows them.
 fn all_bundles(alloc: Global, bytes: &[u8]) -> Result<(Vec<BundleForm>, &[u8]), FormFault>
-    ensures ok { IfOk result (λ read. IsRead (AreFew IsBundleText) (count_and_lines BundleCount bundle_lines) bytes.now read.0.items read.1.now) }
-    ensures fault { IfErr result (IsRefused (AreFew IsBundleText) (count_and_lines BundleCount bundle_lines) bytes.now) }
+    ensures ok { IfOk result (λ read. IsRead (AreFew IsBundleText)
+        (count_and_lines BundleCount bundle_lines) bytes.now read.0.items read.1.now) }
+    ensures fault { IfErr result (IsRefused (AreFew IsBundleText)
+        (count_and_lines BundleCount bundle_lines) bytes.now) }
 {
     let (count, rest) = count_line(alloc, bytes, b"bundles")?;
     let (bundles, rest) = bundles_of(alloc, rest, count)?;
@@ -93,8 +97,10 @@ fn services_of(
     bytes: &[u8],
     count: u32,
 ) -> Result<(Vec<ServiceForm>, &[u8]), FormFault>
-    ensures ok { IfOk result (λ read. IsRead (AreSo IsServiceText count) (flat_map service_lines) bytes.now read.0.items read.1.now) }
-    ensures fault { IfErr result (IsRefused (AreSo IsServiceText count) (flat_map service_lines) bytes.now) }
+    ensures ok { IfOk result (λ read. IsRead (AreSo IsServiceText count)
+        (flat_map service_lines) bytes.now read.0.items read.1.now) }
+    ensures fault { IfErr result (IsRefused (AreSo IsServiceText count)
+        (flat_map service_lines) bytes.now) }
 {
     let mut services = Vec::new(alloc);
     let mut rest = bytes;
@@ -114,8 +120,10 @@ fn bundles_of(
     bytes: &[u8],
     count: u32,
 ) -> Result<(Vec<BundleForm>, &[u8]), FormFault>
-    ensures ok { IfOk result (λ read. IsRead (AreSo IsBundleText count) (flat_map bundle_lines) bytes.now read.0.items read.1.now) }
-    ensures fault { IfErr result (IsRefused (AreSo IsBundleText count) (flat_map bundle_lines) bytes.now) }
+    ensures ok { IfOk result (λ read. IsRead (AreSo IsBundleText count)
+        (flat_map bundle_lines) bytes.now read.0.items read.1.now) }
+    ensures fault { IfErr result (IsRefused (AreSo IsBundleText count)
+        (flat_map bundle_lines) bytes.now) }
 {
     let mut bundles = Vec::new(alloc);
     let mut rest = bytes;
@@ -131,7 +139,8 @@ fn bundles_of(
 
 // A service, and what follows it.
 fn service_of(alloc: Global, bytes: &[u8]) -> Result<(ServiceForm, &[u8]), FormFault>
-    ensures ok { IfOk result (λ read. IsRead IsServiceText service_lines bytes.now read.0 read.1.now) }
+    ensures ok { IfOk result (λ read.
+        IsRead IsServiceText service_lines bytes.now read.0 read.1.now) }
     ensures fault { IfErr result (IsRefused IsServiceText service_lines bytes.now) }
 {
     let (head, rest) = head_line(alloc, bytes)?;
@@ -143,7 +152,8 @@ fn service_of(alloc: Global, bytes: &[u8]) -> Result<(ServiceForm, &[u8]), FormF
 // What follows the needs of a service of this kind, and what follows that.
 fn body_of(alloc: Global, bytes: &[u8], kind: Kind) -> Result<(BodyForm, &[u8]), FormFault>
     requires { (kind ≡ kinds.Bundle) → ⊥ }
-    ensures ok { IfOk result (λ read. IsRead (IsBody kind) body_lines bytes.now (body_text read.0) read.1.now) }
+    ensures ok { IfOk result (λ read. IsRead (IsBody kind) body_lines bytes.now
+        (body_text read.0) read.1.now) }
     ensures fault { IfErr result (IsRefused (IsBody kind) body_lines bytes.now) }
 {
     match kind {
@@ -155,7 +165,8 @@ fn body_of(alloc: Global, bytes: &[u8], kind: Kind) -> Result<(BodyForm, &[u8]),
 
 // What follows the needs of a oneshot, and what follows that.
 fn oneshot_of(alloc: Global, bytes: &[u8]) -> Result<(BodyForm, &[u8]), FormFault>
-    ensures ok { IfOk result (λ read. IsRead (IsBody kinds.Oneshot) body_lines bytes.now (body_text read.0) read.1.now) }
+    ensures ok { IfOk result (λ read. IsRead (IsBody kinds.Oneshot) body_lines bytes.now
+        (body_text read.0) read.1.now) }
     ensures fault { IfErr result (IsRefused (IsBody kinds.Oneshot) body_lines bytes.now) }
 {
     let (up, rest) = up_line(alloc, bytes)?;
@@ -165,7 +176,8 @@ fn oneshot_of(alloc: Global, bytes: &[u8]) -> Result<(BodyForm, &[u8]), FormFaul
 
 // What follows the needs of a longrun, and what follows that.
 fn longrun_of(alloc: Global, bytes: &[u8]) -> Result<(BodyForm, &[u8]), FormFault>
-    ensures ok { IfOk result (λ read. IsRead (IsBody kinds.Longrun) body_lines bytes.now (body_text read.0) read.1.now) }
+    ensures ok { IfOk result (λ read. IsRead (IsBody kinds.Longrun) body_lines bytes.now
+        (body_text read.0) read.1.now) }
     ensures fault { IfErr result (IsRefused (IsBody kinds.Longrun) body_lines bytes.now) }
 {
     let (producer_for, rest) = producer_line(alloc, bytes)?;

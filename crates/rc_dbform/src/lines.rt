@@ -38,7 +38,13 @@ impl Model for Head {
 
     ghost Value = { text.Head };
 
-    ghost view = { λ h. record { name = h.name; kind = h.kind; essential = h.essential; limit_up = h.limit_up; limit_down = h.limit_down } };
+    ghost view = { λ h. record {
+      name = h.name;
+      kind = h.kind;
+      essential = h.essential;
+      limit_up = h.limit_up;
+      limit_down = h.limit_down;
+    } };
 }
 
 impl Head {
@@ -53,7 +59,8 @@ impl Head {
 /// What follows the first line.
 pub(crate) fn first_line(alloc: Global, bytes: &[u8]) -> Result<&[u8], FormFault>
     ensures ok { IfOk result (λ rest. bytes.now ≡ spell First ++ rest.now) }
-    ensures fault { IfErr result (λ fault. IsRefused (λ (u : Unit {0}). Unit {0}) (one (λ _. First)) bytes.now fault) }
+    ensures fault { IfErr result (λ fault.
+        IsRefused (λ (u : Unit {0}). Unit {0}) (one (λ _. First)) bytes.now fault) }
 {
     let (number, rest) = number_line(alloc, bytes, b"undorc-db")?;
     if is(number, b"1") {
@@ -96,7 +103,8 @@ pub(crate) fn head_line(alloc: Global, bytes: &[u8]) -> Result<(Head, &[u8]), Fo
 
 /// What a service needs, and what follows that line.
 pub(crate) fn needs_line(alloc: Global, bytes: &[u8]) -> Result<(Vec<Name>, &[u8]), FormFault>
-    ensures ok { IfOk result (λ read. IsRead (All IsName) (one OfNeeds) bytes.now read.0.items read.1.now) }
+    ensures ok { IfOk result (λ read. IsRead (All IsName)
+        (one OfNeeds) bytes.now read.0.items read.1.now) }
     ensures fault { IfErr result (IsRefused (All IsName) (one OfNeeds) bytes.now) }
 {
     let (words, rest) = words_of(alloc, bytes)?;
@@ -109,7 +117,8 @@ pub(crate) fn needs_line(alloc: Global, bytes: &[u8]) -> Result<(Vec<Name>, &[u8
 
 /// What a longrun feeds, and what follows that line.
 pub(crate) fn producer_line(alloc: Global, bytes: &[u8]) -> Result<(Option<Name>, &[u8]), FormFault>
-    ensures ok { IfOk result (λ read. IsRead (λ p. IfSome p IsName) (one OfProducer) bytes.now read.0 read.1.now) }
+    ensures ok { IfOk result (λ read. IsRead (λ p. IfSome p IsName)
+        (one OfProducer) bytes.now read.0 read.1.now) }
     ensures fault { IfErr result (IsRefused (λ p. IfSome p IsName) (one OfProducer) bytes.now) }
 {
     let (words, rest) = words_of(alloc, bytes)?;
@@ -122,7 +131,8 @@ pub(crate) fn producer_line(alloc: Global, bytes: &[u8]) -> Result<(Option<Name>
 
 /// A bundle, and what follows its line.
 pub(crate) fn bundle_line(alloc: Global, bytes: &[u8]) -> Result<(BundleForm, &[u8]), FormFault>
-    ensures ok { IfOk result (λ read. IsRead IsBundleText (one OfBundle) bytes.now read.0 read.1.now) }
+    ensures ok { IfOk result (λ read. IsRead IsBundleText
+        (one OfBundle) bytes.now read.0 read.1.now) }
     ensures fault { IfErr result (IsRefused IsBundleText (one OfBundle) bytes.now) }
 {
     let (words, rest) = words_of(alloc, bytes)?;
@@ -136,7 +146,8 @@ pub(crate) fn bundle_line(alloc: Global, bytes: &[u8]) -> Result<(BundleForm, &[
 /// What follows the last line.
 pub(crate) fn last_line(alloc: Global, bytes: &[u8]) -> Result<&[u8], FormFault>
     ensures ok { IfOk result (λ rest. bytes.now ≡ spell Last ++ rest.now) }
-    ensures fault { IfErr result (λ fault. IsRefused (λ (u : Unit {0}). Unit {0}) (one (λ _. Last)) bytes.now fault) }
+    ensures fault { IfErr result (λ fault.
+        IsRefused (λ (u : Unit {0}). Unit {0}) (one (λ _. Last)) bytes.now fault) }
 {
     let (words, rest) = words_of(alloc, bytes)?;
     let Some(others) = arguments(words.as_slice(), b"end") else {
@@ -151,7 +162,8 @@ pub(crate) fn last_line(alloc: Global, bytes: &[u8]) -> Result<&[u8], FormFault>
 
 /// The text of a oneshot for the way up, and what follows it.
 pub(crate) fn up_line(alloc: Global, bytes: &[u8]) -> Result<(String, &[u8]), FormFault>
-    ensures ok { IfOk result (λ read. IsRead IsScript (one OfUp) bytes.now (string_bytes read.0) read.1.now) }
+    ensures ok { IfOk result (λ read. IsRead IsScript (one OfUp) bytes.now
+        (string_bytes read.0) read.1.now) }
     ensures fault { IfErr result (IsRefused IsScript (one OfUp) bytes.now) }
 {
     let (words, rest) = words_of(alloc, bytes)?;
@@ -167,7 +179,8 @@ pub(crate) fn up_line(alloc: Global, bytes: &[u8]) -> Result<(String, &[u8]), Fo
 
 /// The text of a oneshot for the way down, if it has one, and what follows it.
 pub(crate) fn down_line(alloc: Global, bytes: &[u8]) -> Result<(Option<String>, &[u8]), FormFault>
-    ensures ok { IfOk result (λ read. IsRead (λ t. IfSome t IsScript) (one OfDown) bytes.now (option_map string_bytes read.0) read.1.now) }
+    ensures ok { IfOk result (λ read. IsRead (λ t. IfSome t IsScript) (one OfDown) bytes.now
+        (option_map string_bytes read.0) read.1.now) }
     ensures fault { IfErr result (IsRefused (λ t. IfSome t IsScript) (one OfDown) bytes.now) }
 {
     let (words, rest) = words_of(alloc, bytes)?;
@@ -194,7 +207,8 @@ fn text_after<'a>(
     ensures { IfOk result (λ read. MatchOption read
         ((text rest : List ℕ) → IsScript text → long.now ≡ decimal (length text) → bytes.now
         ≡ text_behind (OfUp text) ++ rest → ⊥)
-        (λ read. IsScript (string_bytes read.0) × (long.now ≡ decimal (length (string_bytes read.0)))
+        (λ read. IsScript (string_bytes read.0)
+        × (long.now ≡ decimal (length (string_bytes read.0)))
         × (bytes.now ≡ text_behind (OfUp (string_bytes read.0)) ++ read.1.now))) }
 {
     let Some(count) = number_of(long, MAX_TEXT) else {
@@ -236,8 +250,10 @@ fn bundle_of(alloc: Global, words: &[&[u8]]) -> Result<Option<BundleForm>, NoMem
 // The bundle of this name and these members.
 fn bundle_from(alloc: Global, name: &[u8], members: &[&[u8]]) -> Result<Option<BundleForm>, NoMem>
     ensures { IfOk result (λ bundle. MatchOption bundle
-        (IsOfNoWords IsBundleText OfBundle (codes "bundle" ∷ name.now ∷ map (λ word. word.now) members.now))
-        (IsOfWords IsBundleText OfBundle (codes "bundle" ∷ name.now ∷ map (λ word. word.now) members.now))) }
+        (IsOfNoWords IsBundleText OfBundle
+        (codes "bundle" ∷ name.now ∷ map (λ word. word.now) members.now))
+        (IsOfWords IsBundleText OfBundle
+        (codes "bundle" ∷ name.now ∷ map (λ word. word.now) members.now))) }
 {
     let Some(name) = name_of(alloc, name)? else {
         return Ok(None);
@@ -288,8 +304,10 @@ fn head_from(
     down: &[u8],
 ) -> Result<Option<Head>, NoMem>
     ensures { IfOk result (λ head. MatchOption head
-        (IsOfNoWords IsHead OfService (codes "service" ∷ name.now ∷ kind.now ∷ flag.now ∷ up.now ∷ down.now ∷ []))
-        (IsOfWords IsHead OfService (codes "service" ∷ name.now ∷ kind.now ∷ flag.now ∷ up.now ∷ down.now ∷ []))) }
+        (IsOfNoWords IsHead OfService (codes "service" ∷ name.now ∷ kind.now ∷ flag.now ∷ up.now
+        ∷ down.now ∷ []))
+        (IsOfWords IsHead OfService (codes "service" ∷ name.now ∷ kind.now ∷ flag.now ∷ up.now
+        ∷ down.now ∷ []))) }
 {
     let (Some(kind), Some(essential)) = (kind_of(kind), flag_of(flag)) else {
         return Ok(None);
@@ -312,7 +330,8 @@ fn head_from(
 
 // The kind that a word says.
 fn kind_of(word: &[u8]) -> Option<Kind>
-    ensures { MatchOption result ((kind : Kind) → ((kind ≡ kinds.Bundle) → ⊥) → word.now ≡ kind_word kind → ⊥)
+    ensures { MatchOption result ((kind : Kind) → ((kind ≡ kinds.Bundle) → ⊥) →
+        word.now ≡ kind_word kind → ⊥)
         (λ kind. ((kind ≡ kinds.Bundle) → ⊥) × (word.now ≡ kind_word kind)) }
 {
     if is(word, b"oneshot") {

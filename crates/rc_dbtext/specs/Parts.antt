@@ -23,11 +23,13 @@ IsApart names text = IsKnown names text → ⊥
 
 -- what services need and feed is there
 abbrev pub AreServicesComplete : List (List ℕ) → List ServiceText → Type 0
-AreServicesComplete names services = All (λ s. AreKnown names s.needs) services × All (λ s. FeedsWell services s.needs s.body) services
+AreServicesComplete names services = All (λ s. AreKnown names s.needs) services
+    × All (λ s. FeedsWell services s.needs s.body) services
 
 -- what bundles have is there, and none has the name of a service
 abbrev pub AreBundlesComplete : List (List ℕ) → List BundleText → Type 0
-AreBundlesComplete names bundles = All (λ b. AreKnown names b.members) bundles × All (λ b. IsApart names b.name) bundles
+AreBundlesComplete names bundles =
+    All (λ b. AreKnown names b.members) bundles × All (λ b. IsApart names b.name) bundles
 
 -- the longrun that is fed is one of the names
 abbrev pub FeedsKnown : List (List ℕ) → Body → Type 0
@@ -42,5 +44,6 @@ AreNeedsOf names services lists = map (map (name_at names)) lists ≡ map (λ s.
 pub record IsServiceOf (names : List (List ℕ)) (text : ServiceText) (s : Service) : Type 0 where
   pub head : head_of text.head.name s ≡ text.head
   pub body : body_of names s.kind s ≡ text.body
-  pub fed : (id : ℕ) → s.producer_for ≡ Some id → (name : List ℕ) × (text.body ≡ OfLongrun (Some name)) × (slice_get names id ≡ Some name)
+  pub fed : (id : ℕ) → s.producer_for ≡ Some id →
+      (name : List ℕ) × (text.body ≡ OfLongrun (Some name)) × (slice_get names id ≡ Some name)
   pub writable : IsWritableService s

@@ -41,7 +41,8 @@ fn add_bundle(
     requires sorted { IsInByteOrder form.now.members }
     requires known { All (Contains names.now) form.now.members }
     ensures { OnOk result ((set : List Bool) × (table.new ≡ table.old ++ (form.now.name, set) ∷ [])
-        × (length set ≡ length names.now) × (map (name_at names.now) (members set) ≡ form.now.members)) }
+        × (length set ≡ length names.now)
+        × (map (name_at names.now) (members set) ≡ form.now.members)) }
 {
     let set = set_of(alloc, form.members.as_slice(), names)?;
     // Both tables are in order, and a table is what it has under each name.

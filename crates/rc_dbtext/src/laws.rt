@@ -32,8 +32,10 @@ pub fn spelling_is_not_refused()
 
 /// What refuses bytes is one, out of memory aside: the tests exclude each other.
 pub fn faults_are_one()
-    ensures front { (bytes : List ℕ) (a b : TextFault) → IsFrontFault bytes a → IsFrontFault bytes b → a ≢ Memory → b ≢ Memory → a ≡ b }
-    ensures whole { (bytes : List ℕ) (a b : TextFault) → IsWholeFault bytes a → IsWholeFault bytes b → a ≢ Memory → b ≢ Memory → a ≡ b }
+    ensures front { (bytes : List ℕ) (a b : TextFault) → IsFrontFault bytes a →
+        IsFrontFault bytes b → a ≢ Memory → b ≢ Memory → a ≡ b }
+    ensures whole { (bytes : List ℕ) (a b : TextFault) → IsWholeFault bytes a →
+        IsWholeFault bytes b → a ≢ Memory → b ≢ Memory → a ≡ b }
 {
     text_is_unique();
     text_is_not_refused();

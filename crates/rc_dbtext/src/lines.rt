@@ -19,7 +19,8 @@ pub(crate) fn push_head(
     name: &Name,
     service: &Service,
 ) -> Result<(), NoMem>
-    ensures { OnOk result (out.new.items ≡ out.old.items ++ spell (OfService (head_of name.now service.now))) }
+    ensures { OnOk result (out.new.items ≡ out.old.items
+        ++ spell (OfService (head_of name.now service.now))) }
 {
     let up = service.limit_up.to_string(alloc)?;
     let down = service.limit_down.to_string(alloc)?;
@@ -35,7 +36,8 @@ fn push_head_with(
     up: &[u8],
     down: &[u8],
 ) -> Result<(), NoMem>
-    ensures { OnOk result (out.new.items ≡ out.old.items ++ (line_of_words (codes "service" ∷ name.now
+    ensures { OnOk result (out.new.items ≡ out.old.items
+        ++ (line_of_words (codes "service" ∷ name.now
         ∷ text.kind_word service.now.kind ∷ text.flag_word service.now.essential
         ∷ up.now ∷ down.now ∷ []) ++ [])) }
 {
@@ -53,7 +55,8 @@ fn push_head_with(
 #[tactic(auto, using(crate::proofs::LineLemmas::needs_line))]
 pub(crate) fn push_needs(out: &mut Vec<u8>, names: &Names, needs: &[u16]) -> Result<(), NoMem>
     requires { All (λ id. id < length names.now) needs.now }
-    ensures { OnOk result (out.new.items ≡ out.old.items ++ spell (OfNeeds (map (name_at names.now) needs.now))) }
+    ensures { OnOk result (out.new.items ≡ out.old.items
+        ++ spell (OfNeeds (map (name_at names.now) needs.now))) }
 {
     out.extend_from_slice(b"needs")?;
     push_ids(out, names, needs)?;
@@ -205,7 +208,8 @@ pub fn push_line(out: &mut Vec<u8>, first: &[u8], second: &[u8]) -> Result<(), N
 // The names of services, a space before each.
 fn push_ids(out: &mut Vec<u8>, names: &Names, ids: &[u16]) -> Result<(), NoMem>
     requires { All (λ id. id < length names.now) ids.now }
-    ensures { OnOk result (out.new.items ≡ out.old.items ++ words_after_spaces (map (name_at names.now) ids.now)) }
+    ensures { OnOk result (out.new.items ≡ out.old.items
+        ++ words_after_spaces (map (name_at names.now) ids.now)) }
 {
     for id in ids {
         push_word(out, word_at(names, *id))?;

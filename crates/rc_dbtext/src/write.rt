@@ -63,7 +63,8 @@ fn push_bundles(alloc: Global, out: &mut Vec<u8>, db: &Db) -> Result<(), NoMem>
 // A bundle.
 fn push_bundle_at(alloc: Global, out: &mut Vec<u8>, db: &Db, place: u16) -> Result<(), NoMem>
     requires { place < length db.now.table }
-    ensures { OnOk result ((text : BundleText) → slice_get (text_of db.now).bundles place ≡ Some text
+    ensures { OnOk result ((text : BundleText) →
+        slice_get (text_of db.now).bundles place ≡ Some text
         → out.new.items ≡ out.old.items ++ spells (bundle_lines text)) }
 {
     let names = db.names();

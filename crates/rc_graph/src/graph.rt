@@ -10,11 +10,12 @@ use std::alloc::Global;
 use std::marker::Model;
 use std::sync::Arc;
 
-/// Which service needs which, without cycles. Services are numbers from 0 on. A value is a handle:
-/// those that `share` makes of one another are one graph in memory, which goes with the last of them.
+/// Which service needs which, without cycles. Services are numbers from 0 on. A value
+/// is a handle: those that `share` makes of one another are one graph in memory,
+/// which goes with the last of them.
 ///
-/// Time: `share`, `needs`, `needed_by`, `order` and `len` take one step. `closed`, `up_of` and `down_of`
-/// grow with the services and their pairs.
+/// Time: `share`, `needs`, `needed_by`, `order` and `len` take one step. `closed`, `up_of` and
+/// `down_of` grow with the services and their pairs.
 #[derive(Debug, Drop)]
 pub struct Graph {
     pub(crate) lists: Arc<Lists, Global>,
@@ -41,7 +42,8 @@ impl Model for Graph {
 
     ghost view = { λ g. rows (arc_value g.lists).needs.items };
 
-    ghost invariant = { λ g. let lists = arc_value g.lists in IsGraph (rows lists.needs.items) (rows lists.needed_by.items) lists.order.items };
+    ghost invariant = { λ g. let lists = arc_value g.lists in
+        IsGraph (rows lists.needs.items) (rows lists.needed_by.items) lists.order.items };
 }
 
 impl Graph {

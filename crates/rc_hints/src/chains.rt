@@ -29,7 +29,8 @@ pub(crate) fn add_unknown(search: &mut Search<'_>, names: &str) {
     drop(names);
 }
 
-/// Adds where an entry gives a name, in a file, by its line, or in a folder, and says whether it does.
+/// Adds where an entry gives a name, in a file, by its line, or in a
+/// folder, and says whether it does.
 fn add_place(search: &mut Search<'_>, entry: &Entry<'_, '_>, name: &str) -> bool {
     if entry.kind == Some(Kind::Bundle) {
         return add_line(search, entry, "contents", name)

@@ -162,7 +162,8 @@ fn add_sorted<'a>(text: &'a str, lines: &mut Vec<&'a str>) -> Result<(), NoMem> 
     lines.sort()
 }
 
-/// The first service of a database that is listed, and its first need that is not. The list ascends.
+/// The first service of a database that is listed, and its first need
+/// that is not. The list ascends.
 fn lacking_of<'a>(database: &'a [u8], listed: &[&'a str]) -> Option<(&'a str, &'a str)> {
     let mut rest = database;
     for _ in 0..database.len() {

@@ -23,7 +23,8 @@ impl<'a> Sources<'a> {
     }
 }
 
-/// A directory in a source directory. That is given as it was named, and without a slash at its end.
+/// A directory in a source directory. That is given as it was named,
+/// and without a slash at its end.
 #[derive(Clone, Copy)]
 pub(crate) struct Entry<'a, 'n> {
     pub named: &'a str,

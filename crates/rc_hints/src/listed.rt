@@ -5,7 +5,8 @@ pub(crate) fn text_of(bytes: &[u8]) -> &str {
     std::str::from_utf8(bytes).unwrap_or("")
 }
 
-/// The name that a line gives, without the spaces and tabs at its ends; nothing where it gives none.
+/// The name that a line gives, without the spaces and tabs at its
+/// ends; nothing where it gives none.
 pub(crate) fn name_on(line: &str) -> &str {
     let name = line.trim_matches([' ', '\t']);
     if name.starts_with('#') { "" } else { name }

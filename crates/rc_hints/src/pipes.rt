@@ -57,8 +57,8 @@ fn unfit_in<'a, 'l>(
     None
 }
 
-/// Whether a neighbour is a longrun, where it is asked for its type, or else names an entry in a file
-/// of its own.
+/// Whether a neighbour is a longrun, where it is asked for its type, or else names
+/// an entry in a file of its own.
 fn fits(search: &mut Search<'_>, entry: &Entry<'_, '_>, other: &Entry<'_, '_>, back: &str) -> bool {
     if back == "type" {
         return other.kind == Some(Kind::Longrun);

@@ -8,7 +8,8 @@ AllWithin bound sets = All (λ set. length set ≡ bound) sets
 
 -- the set of the id or that of one of the list has this
 abbrev pub HasJoined : List (List Bool) → ℕ → List ℕ → ℕ → Type 0
-HasJoined sets id list x = Has (slice_index_or sets id []) x ⊎ ((t : ℕ) × Contains list t × Has (slice_index_or sets t []) x)
+HasJoined sets id list x = Has (slice_index_or sets id []) x
+    ⊎ ((t : ℕ) × Contains list t × Has (slice_index_or sets t []) x)
 
 -- the set of the id or that of one that it reaches has this
 abbrev pub HasAlong : List (List ℕ) → List (List Bool) → ℕ → ℕ → Type 0

@@ -19,9 +19,12 @@ HasListed which ms a b = IsDefined ms (λ m. Contains (listed_of which m) b) a
 
 -- ids at whose places stand names that are in the relation
 abbrev pub AreAt : (List ℕ → List ℕ → Type 0) → List (List ℕ) → List (List ℕ) → ℕ → ℕ → Type 0
-AreAt R from to s t = (a b : List ℕ) × (slice_get from s ≡ Some a) × (slice_get to t ≡ Some b) × R a b
+AreAt R from to s t =
+    (a b : List ℕ) × (slice_get from s ≡ Some a) × (slice_get to t ≡ Some b) × R a b
 
--- ids that are in a list where the names at their places are in a relation: one list for each of the first names, of places among the second
-pub record Mirrors (R : List ℕ → List ℕ → Type 0) (from to : List (List ℕ)) (lists : List (List ℕ)) : Type 0 where
+-- ids that are in a list where the names at their places are in a relation: one list for each of
+-- the first names, of places among the second
+pub record Mirrors (R : List ℕ → List ℕ → Type 0) (from to : List (List ℕ))
+    (lists : List (List ℕ)) : Type 0 where
   pub few : length lists ≡ length from
   pub same : (s t : ℕ) → Needs lists s t ↔ AreAt R from to s t

@@ -29,9 +29,11 @@ IsLastConsumer ms s last = LeadsTo (WritesTo ms) s last × ((c : List ℕ) → W
 
 -- the longruns that have the same last consumer
 abbrev pub InPipelineOf : List Meaning → List ℕ → List ℕ → Type 0
-InPipelineOf ms s t = IsLongrun ms t × ((last : List ℕ) × IsLastConsumer ms s last × IsLastConsumer ms t last)
+InPipelineOf ms s t =
+    IsLongrun ms t × ((last : List ℕ) × IsLastConsumer ms s last × IsLastConsumer ms t last)
 
--- the service names the bundle of its pipeline: a longrun that reads from some service and writes to none
+-- the service names the bundle of its pipeline: a longrun that reads from
+-- some service and writes to none
 pub record NamesPipeline (m : Meaning) (name : List ℕ) : Type 0 where
   pub longrun : m.kind ≡ Longrun
   pub reads : m.consumer_for ≢ []

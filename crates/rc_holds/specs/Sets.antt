@@ -14,14 +14,19 @@ pub record ArePiped (ms : List Meaning) : Type 0 where
 abbrev pub AreApart : List Meaning → Type 0
 AreApart ms = (name : List ℕ) → IsService ms name → IsBundle ms name → ⊥
 
--- at the place of each name of a bundle a set of the places of the services to which the relation takes it
-abbrev pub AreSetsOf : (List ℕ → List ℕ → Type 0) → List (List ℕ) → List (List ℕ) → List (List Bool) → Type 0
-AreSetsOf R bundles services sets = (b s : ℕ) (name a : List ℕ) → slice_get bundles b ≡ Some name → slice_get services s ≡ Some a → Has (slice_index_or sets b []) s ↔ R name a
+-- at the place of each name of a bundle a set of the places of the services
+-- to which the relation takes it
+abbrev pub AreSetsOf : (List ℕ → List ℕ → Type 0) → List (List ℕ) → List (List ℕ) →
+    List (List Bool) → Type 0
+AreSetsOf R bundles services sets = (b s : ℕ) (name a : List ℕ) → slice_get bundles b ≡ Some name →
+    slice_get services s ≡ Some a → Has (slice_index_or sets b []) s ↔ R name a
 
 -- the definition names this pipeline, and a walk back from it comes to the service
 abbrev pub IsPipedBy : Meaning → List (List ℕ) → List (List ℕ) → List ℕ → ℕ → Type 0
-IsPipedBy m services readers name s = NamesPipeline m name × UpFrom readers (λ i. slice_get services i ≡ Some m.name) s
+IsPipedBy m services readers name s =
+    NamesPipeline m name × UpFrom readers (λ i. slice_get services i ≡ Some m.name) s
 
 -- some definition does
 abbrev pub HasPiped : List Meaning → List (List ℕ) → List (List ℕ) → List ℕ → ℕ → Type 0
-HasPiped ms services readers name s = (m : Meaning) × Contains ms m × IsPipedBy m services readers name s
+HasPiped ms services readers name s =
+    (m : Meaning) × Contains ms m × IsPipedBy m services readers name s

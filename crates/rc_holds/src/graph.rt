@@ -29,17 +29,20 @@ pub enum CycleFault {
     Memory,
 }
 
-/// Which bundle holds which by its contents. A bundle is its place among the names of bundles, those
-/// of pipelines with them.
+/// Which bundle holds which by its contents. A bundle is its place among the names of
+/// bundles, those of pipelines with them.
 pub fn bundle_graph(
     alloc: Global,
     definitions: &[Definition],
     bundles: &Names,
 ) -> Result<Graph, CycleFault>
     requires meanings { AreMeanings (map meaning_of definitions.now) }
-    requires bundles { (name : List ℕ) → Contains bundles.now name ↔ IsBundle (map meaning_of definitions.now) name }
-    ensures pairs { IfOk result (λ graph. Mirrors (HasContent (map meaning_of definitions.now)) bundles.now bundles.now graph) }
-    ensures free { OnOk result ((names : List (List ℕ)) → IsShownCycle (HasContent (map meaning_of definitions.now)) names → ⊥) }
+    requires bundles { (name : List ℕ) →
+        Contains bundles.now name ↔ IsBundle (map meaning_of definitions.now) name }
+    ensures pairs { IfOk result (λ graph.
+        Mirrors (HasContent (map meaning_of definitions.now)) bundles.now bundles.now graph) }
+    ensures free { OnOk result ((names : List (List ℕ)) →
+        IsShownCycle (HasContent (map meaning_of definitions.now)) names → ⊥) }
     ensures fault { IfErr result (IsCycleFault (HasContent (map meaning_of definitions.now))) }
 {
     let _count = bundles.len();
@@ -56,7 +59,8 @@ pub fn bundle_graph(
 
 // The pairs of bundles of which one has the other in its contents.
 fn content_draft(alloc: Global, definitions: &[Definition], bundles: &Names) -> Result<Draft, NoMem>
-    ensures { IfOk result (λ draft. Mirrors (HasContent (map meaning_of definitions.now)) bundles.now bundles.now draft) }
+    ensures { IfOk result (λ draft. Mirrors
+        (HasContent (map meaning_of definitions.now)) bundles.now bundles.now draft) }
 {
     let mut draft = Draft::new(alloc, bundles.len())?;
     need_listed(alloc, &mut draft, definitions, Listed::Contents, bundles)?;
@@ -84,7 +88,9 @@ pub fn need_listed(
 ) -> Result<(), NoMem>
     requires { length draft.old ≡ length names.now }
     ensures bound { length draft.new ≡ length draft.old }
-    ensures pairs { OnOk result ((s t : ℕ) → Needs draft.new s t ↔ (Needs draft.old s t ⊎ AreAt (HasListed which (map meaning_of definitions.now)) names.now names.now s t)) }
+    ensures pairs { OnOk result ((s t : ℕ) →
+        Needs draft.new s t ↔ (Needs draft.old s t
+        ⊎ AreAt (HasListed which (map meaning_of definitions.now)) names.now names.now s t)) }
 {
     let lists = rows_of(alloc, definitions, which, names, names)?;
     need_lists(draft, &lists)
@@ -95,7 +101,8 @@ fn need_lists(draft: &mut Draft, lists: &[Vec<u16>]) -> Result<(), NoMem>
     requires bound { length lists.now ≡ length draft.old }
     requires known { AreServices (rows lists.now) }
     ensures bound { length draft.new ≡ length draft.old }
-    ensures pairs { OnOk result ((s t : ℕ) → Needs draft.new s t ↔ (Needs draft.old s t ⊎ Needs (rows lists.now) s t)) }
+    ensures pairs { OnOk result ((s t : ℕ) →
+        Needs draft.new s t ↔ (Needs draft.old s t ⊎ Needs (rows lists.now) s t)) }
 {
     for s in 0..draft.len() {
         need_all(draft, s, lists[s as usize].as_slice())?;
@@ -108,7 +115,8 @@ pub fn need_all(draft: &mut Draft, id: u16, list: &[u16]) -> Result<(), NoMem>
     requires id { id < length draft.old }
     requires known { All (λ t. t < length draft.old) list.now }
     ensures bound { length draft.new ≡ length draft.old }
-    ensures pairs { OnOk result ((s t : ℕ) → Needs draft.new s t ↔ (Needs draft.old s t ⊎ ((s ≡ id) × Contains list.now t))) }
+    ensures pairs { OnOk result ((s t : ℕ) →
+        Needs draft.new s t ↔ (Needs draft.old s t ⊎ ((s ≡ id) × Contains list.now t))) }
 {
     for t in list {
         draft.need(id, *t)?;

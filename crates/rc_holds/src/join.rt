@@ -20,7 +20,8 @@ pub(crate) fn join_along(
     requires bounds { AllWithin bound sets.old }
     ensures few { length sets.new ≡ length sets.old }
     ensures bounds { OnOk result (AllWithin bound sets.new) }
-    ensures sets { OnOk result ((s : ℕ) → s < length sets.old → Holds (slice_index_or sets.new s []) (HasAlong graph.now sets.old s)) }
+    ensures sets { OnOk result ((s : ℕ) → s < length sets.old →
+        Holds (slice_index_or sets.new s []) (HasAlong graph.now sets.old s)) }
 {
     let order = graph.order();
     for s in order {

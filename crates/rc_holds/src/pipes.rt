@@ -18,7 +18,8 @@ use std::alloc::Global;
 /// writes to none.
 pub fn pipeline_name(definition: &Definition) -> Option<&Name>
     ensures some { IfSome result (λ name. NamesPipeline (meaning_of definition.now) name.now) }
-    ensures none { IfNone result ((name : List ℕ) → NamesPipeline (meaning_of definition.now) name → ⊥) }
+    ensures none { IfNone result ((name : List ℕ) → NamesPipeline (meaning_of definition.now) name →
+        ⊥) }
 {
     if definition.kind != Kind::Longrun
         || definition.consumer_for.is_empty()
@@ -29,7 +30,8 @@ pub fn pipeline_name(definition: &Definition) -> Option<&Name>
     definition.pipeline_name.as_ref()
 }
 
-// Puts what each pipeline holds into the set of its bundle. The lists say which service reads from which.
+// Puts what each pipeline holds into the set of its bundle. The lists say
+// which service reads from which.
 pub(crate) fn add_pipelines(
     alloc: Global,
     sets: &mut [Set],
@@ -44,8 +46,10 @@ pub(crate) fn add_pipelines(
     requires known { AreServices (rows readers.now) }
     ensures few { length sets.new ≡ length sets.old }
     ensures bounds { AllWithin (length services.now) sets.new }
-    ensures sets { OnOk result ((b s : ℕ) → Has (slice_index_or sets.new b []) s ↔ (Has (slice_index_or sets.old b []) s
-        ⊎ ((name : List ℕ) × (slice_get bundles.now b ≡ Some name) × HasPiped (map meaning_of definitions.now) services.now (rows readers.now) name s))) }
+    ensures sets { OnOk result ((b s : ℕ) →
+        Has (slice_index_or sets.new b []) s ↔ (Has (slice_index_or sets.old b []) s
+        ⊎ ((name : List ℕ) × (slice_get bundles.now b ≡ Some name)
+        × HasPiped (map meaning_of definitions.now) services.now (rows readers.now) name s))) }
 {
     for definition in definitions {
         add_pipeline(alloc, sets, definition, services, bundles, readers)?;
@@ -68,8 +72,10 @@ fn add_pipeline(
     requires known { AreServices (rows readers.now) }
     ensures few { length sets.new ≡ length sets.old }
     ensures bounds { AllWithin (length services.now) sets.new }
-    ensures sets { OnOk result ((b s : ℕ) → Has (slice_index_or sets.new b []) s ↔ (Has (slice_index_or sets.old b []) s
-        ⊎ ((name : List ℕ) × (slice_get bundles.now b ≡ Some name) × IsPipedBy (meaning_of definition.now) services.now (rows readers.now) name s))) }
+    ensures sets { OnOk result ((b s : ℕ) →
+        Has (slice_index_or sets.new b []) s ↔ (Has (slice_index_or sets.old b []) s
+        ⊎ ((name : List ℕ) × (slice_get bundles.now b ≡ Some name)
+        × IsPipedBy (meaning_of definition.now) services.now (rows readers.now) name s))) }
 {
     let _count = services.len();
     let Some(name) = pipeline_name(definition) else {
@@ -89,7 +95,8 @@ fn add_set(sets: &mut [Set], bundles: &Names, name: &Name, set: &Set)
     requires bounds { AllWithin (length set.now) sets.old }
     ensures few { length sets.new ≡ length sets.old }
     ensures bounds { AllWithin (length set.now) sets.new }
-    ensures sets { (b s : ℕ) → Has (slice_index_or sets.new b []) s ↔ (Has (slice_index_or sets.old b []) s
+    ensures sets { (b s : ℕ) → Has (slice_index_or sets.new b []) s
+        ↔ (Has (slice_index_or sets.old b []) s
         ⊎ ((slice_get bundles.now b ≡ Some name.now) × Has set.now s)) }
 {
     let _count = bundles.len();

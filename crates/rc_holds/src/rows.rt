@@ -34,7 +34,8 @@ pub fn rows_of(
     from: &Names,
     to: &Names,
 ) -> Result<Vec<Vec<u16>>, NoMem>
-    ensures { IfOk result (λ lists. Mirrors (HasListed which (map meaning_of definitions.now)) from.now to.now (rows lists.items)) }
+    ensures { IfOk result (λ lists. Mirrors
+        (HasListed which (map meaning_of definitions.now)) from.now to.now (rows lists.items)) }
 {
     let mut lists = empty_rows(alloc, from.len())?;
     for definition in definitions {
@@ -66,7 +67,9 @@ fn add_row(
     requires order { IsInByteOrder from.now }
     ensures few { length lists.new ≡ length lists.old }
     ensures rows { OnOk result ((s t : ℕ) → Needs (rows lists.new) s t ↔ (Needs (rows lists.old) s t
-        ⊎ ((slice_get from.now s ≡ Some definition.now.name) × ((b : List ℕ) × (slice_get to.now t ≡ Some b) × Contains (listed_of which (meaning_of definition.now)) b)))) }
+        ⊎ ((slice_get from.now s ≡ Some definition.now.name)
+        × ((b : List ℕ) × (slice_get to.now t ≡ Some b)
+        × Contains (listed_of which (meaning_of definition.now)) b)))) }
 {
     if let Some(id) = from.find(definition.name.text()) {
         add_listed(&mut lists[id as usize], definition, which, to)?;
@@ -82,7 +85,8 @@ fn add_listed(
     to: &Names,
 ) -> Result<(), NoMem>
     ensures { OnOk result ((t : ℕ) → Contains ids.new.items t ↔ (Contains ids.old.items t
-        ⊎ ((b : List ℕ) × (slice_get to.now t ≡ Some b) × Contains (listed_of which (meaning_of definition.now)) b))) }
+        ⊎ ((b : List ℕ) × (slice_get to.now t ≡ Some b)
+        × Contains (listed_of which (meaning_of definition.now)) b))) }
 {
     match which {
         Listed::Dependencies => add_all(ids, &definition.dependencies, to),
@@ -116,7 +120,8 @@ fn add_all(ids: &mut Vec<u16>, names: &[Name], to: &Names) -> Result<(), NoMem>
 
 // Puts in the place of a name, if it is in the table.
 fn add_place(ids: &mut Vec<u16>, name: &Name, to: &Names) -> Result<(), NoMem>
-    ensures { OnOk result ((t : ℕ) → Contains ids.new.items t ↔ (Contains ids.old.items t ⊎ (slice_get to.now t ≡ Some name.now))) }
+    ensures { OnOk result ((t : ℕ) → Contains ids.new.items t
+        ↔ (Contains ids.old.items t ⊎ (slice_get to.now t ≡ Some name.now))) }
 {
     let _count = to.len();
     if let Some(id) = to.find(name.text()) {

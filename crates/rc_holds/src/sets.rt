@@ -20,11 +20,11 @@ use rc_set::{NoMem, Set};
 use rc_source::Definition;
 use std::alloc::Global;
 
-/// For each bundle, those of pipelines with them, the services that its name stands for. A bundle or
-/// a service is its place among the names of its kind.
+/// For each bundle, those of pipelines with them, the services that its name stands for. A bundle
+/// or a service is its place among the names of its kind.
 ///
-/// Time: grows with what the definitions list, and with the bundles and the bundles in them times the
-/// services.
+/// Time: grows with what the definitions list, and with the bundles and the
+/// bundles in them times the services.
 pub fn bundle_sets(
     alloc: Global,
     definitions: &[Definition],
@@ -33,14 +33,19 @@ pub fn bundle_sets(
     graph: &Graph,
 ) -> Result<Vec<Set>, NoMem>
     requires meanings { AreMeanings (map meaning_of definitions.now) }
-    requires services { (name : List ℕ) → Contains services.now name ↔ IsService (map meaning_of definitions.now) name }
-    requires bundles { (name : List ℕ) → Contains bundles.now name ↔ IsBundle (map meaning_of definitions.now) name }
-    requires graph { Mirrors (HasContent (map meaning_of definitions.now)) bundles.now bundles.now graph.now }
+    requires services { (name : List ℕ) →
+        Contains services.now name ↔ IsService (map meaning_of definitions.now) name }
+    requires bundles { (name : List ℕ) →
+        Contains bundles.now name ↔ IsBundle (map meaning_of definitions.now) name }
+    requires graph { Mirrors (HasContent
+        (map meaning_of definitions.now)) bundles.now bundles.now graph.now }
     requires piped { ArePiped (map meaning_of definitions.now) }
     requires apart { AreApart (map meaning_of definitions.now) }
     ensures few { IfOk result (λ sets. length sets.items ≡ length bundles.now) }
     ensures bounds { IfOk result (λ sets. AllWithin (length services.now) sets.items) }
-    ensures sets { IfOk result (λ sets. AreSetsOf (StandsFor (map meaning_of definitions.now)) bundles.now services.now sets.items) }
+    ensures sets { IfOk result (λ sets.
+        AreSetsOf
+        (StandsFor (map meaning_of definitions.now)) bundles.now services.now sets.items) }
 {
     let bound = services.len();
     let mut sets = held_sets(alloc, definitions, services, bundles)?;
@@ -56,11 +61,14 @@ fn held_sets(
     bundles: &Names,
 ) -> Result<Vec<Set>, NoMem>
     requires meanings { AreMeanings (map meaning_of definitions.now) }
-    requires services { (name : List ℕ) → Contains services.now name ↔ IsService (map meaning_of definitions.now) name }
+    requires services { (name : List ℕ) →
+        Contains services.now name ↔ IsService (map meaning_of definitions.now) name }
     requires piped { ArePiped (map meaning_of definitions.now) }
     ensures few { IfOk result (λ sets. length sets.items ≡ length bundles.now) }
     ensures bounds { IfOk result (λ sets. AllWithin (length services.now) sets.items) }
-    ensures sets { IfOk result (λ sets. AreSetsOf (HoldsName (map meaning_of definitions.now)) bundles.now services.now sets.items) }
+    ensures sets { IfOk result (λ sets.
+        AreSetsOf
+        (HoldsName (map meaning_of definitions.now)) bundles.now services.now sets.items) }
 {
     let _count = services.len();
     let mut sets = content_sets(alloc, definitions, services, bundles)?;
@@ -78,7 +86,9 @@ fn content_sets(
 ) -> Result<Vec<Set>, NoMem>
     ensures few { IfOk result (λ sets. length sets.items ≡ length bundles.now) }
     ensures bounds { IfOk result (λ sets. AllWithin (length services.now) sets.items) }
-    ensures sets { IfOk result (λ sets. AreSetsOf (HasContent (map meaning_of definitions.now)) bundles.now services.now sets.items) }
+    ensures sets { IfOk result (λ sets.
+        AreSetsOf
+        (HasContent (map meaning_of definitions.now)) bundles.now services.now sets.items) }
 {
     let bound = services.len();
     let contents = rows_of(alloc, definitions, Listed::Contents, bundles, services)?;
@@ -91,7 +101,9 @@ fn sets_of(alloc: Global, lists: &[Vec<u16>], bound: u16) -> Result<Vec<Set>, No
     requires known { (s t : ℕ) → Needs (rows lists.now) s t → t < bound }
     ensures few { IfOk result (λ sets. length sets.items ≡ length lists.now) }
     ensures bounds { IfOk result (λ sets. AllWithin bound sets.items) }
-    ensures sets { IfOk result (λ sets. (s : ℕ) → s < length lists.now → Holds (slice_index_or sets.items s []) (Needs (rows lists.now) s)) }
+    ensures sets { IfOk result (λ sets.
+        (s : ℕ) → s < length lists.now →
+        Holds (slice_index_or sets.items s []) (Needs (rows lists.now) s)) }
 {
     let mut sets = Vec::new(alloc);
     for s in 0..lists.len() {

@@ -8,7 +8,8 @@ use std::alloc::{AllocError, Global};
 /// The names at some places of a table, in their order.
 pub fn names_at(alloc: Global, names: &Names, ids: &[u16]) -> Result<Vec<Name>, NoMem>
     requires { All (λ s. s < length names.now) ids.now }
-    ensures { IfOk result (λ shown. shown.items ≡ map (λ s. slice_index_or names.now s []) ids.now) }
+    ensures { IfOk result (λ shown. shown.items
+        ≡ map (λ s. slice_index_or names.now s []) ids.now) }
 {
     let mut shown = Vec::with_capacity(alloc, ids.len())?;
     for id in ids {

@@ -49,7 +49,8 @@ fn begin(alloc: Global, bound: u16, start: u16) -> Result<Walk, NoMem>
 // Meets all of a list.
 fn meet_all(walk: &mut Walk, list: &[u16]) -> Result<(), NoMem>
     requires { All (λ t. t < length walk.old.seen) list.now }
-    ensures { OnOk result (Meets walk.old.seen walk.old.todo.items list.now walk.new.seen walk.new.todo.items) }
+    ensures { OnOk result
+        (Meets walk.old.seen walk.old.todo.items list.now walk.new.seen walk.new.todo.items) }
 {
     for t in list {
         meet(walk, *t)?;
@@ -62,8 +63,12 @@ fn meet(walk: &mut Walk, id: u16) -> Result<(), NoMem>
     requires { id < length walk.old.seen }
     ensures bound { length walk.new.seen ≡ length walk.old.seen }
     ensures members { Holds walk.new.seen (λ s. Has walk.old.seen s ⊎ (s ≡ id)) }
-    ensures todo { OnOk result ((s : ℕ) → Contains walk.new.todo.items s ↔ (Contains walk.old.todo.items s ⊎ ((s ≡ id) × (Has walk.old.seen id → ⊥)))) }
-    ensures cost { OnOk result (count_by not walk.new.seen + length walk.new.todo.items ≤ count_by not walk.old.seen + length walk.old.todo.items) }
+    ensures todo { OnOk result ((s : ℕ) →
+        Contains walk.new.todo.items s ↔
+        (Contains walk.old.todo.items s ⊎ ((s ≡ id) × (Has walk.old.seen id → ⊥)))) }
+    ensures cost { OnOk result
+        (count_by not walk.new.seen + length walk.new.todo.items ≤ count_by not
+        walk.old.seen + length walk.old.todo.items) }
 {
     if walk.seen.insert(id) {
         walk.todo.push(id)?;

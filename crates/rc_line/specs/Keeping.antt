@@ -9,7 +9,8 @@ use Rattle.rc_line.specs.declared.room.Room.{Room}
 use Rattle.rc_model.specs.Database.{Bundles, IsTable, value_of}
 use Rattle.rc_model.specs.Line.{Alteration, State, Entry, IsGained, IsEntry, Line, IsBound, states, Lists}
 
--- How a line is kept, for its view alone: the current state, and two stacks of entries. No public contract speaks of it.
+-- How a line is kept, for its view alone: the current state, and two stacks of entries.
+-- No public contract speaks of it.
 
 -- which of its two values an alteration leads to
 abbrev pub towards : Bool → Alteration → Option (List Bool)
@@ -31,7 +32,8 @@ written value [] rows = rows
 written value (a ∷ edit) rows = written value edit (put rows a.name (value a))
 
 -- the table after one value of each alteration was put in
-abbrev pub table_rewritten_by : (Alteration → Option (List Bool)) → List Alteration → Bundles → Bundles
+abbrev pub table_rewritten_by : (Alteration → Option (List Bool)) → List Alteration → Bundles →
+    Bundles
 table_rewritten_by value edit table = entries (written value edit (from_entries table))
 
 -- a set with the flags at these ids written over
@@ -41,11 +43,17 @@ with_marks flag (s ∷ ids) set = with_marks flag ids (slice_set set s flag)
 
 -- the state that an entry leads to
 unfoldable pub forth : Entry → State → State
-forth e s = record { live = with_marks true e.raised (with_marks false e.lowered s.live); table = table_rewritten_by (towards true) e.edit s.table }
+forth e s = record {
+  live = with_marks true e.raised (with_marks false e.lowered s.live);
+  table = table_rewritten_by (towards true) e.edit s.table;
+}
 
 -- the state that an entry comes from
 unfoldable pub back : Entry → State → State
-back e s = record { live = with_marks true e.lowered (with_marks false e.raised s.live); table = table_rewritten_by (towards false) e.edit s.table }
+back e s = record {
+  live = with_marks true e.lowered (with_marks false e.raised s.live);
+  table = table_rewritten_by (towards false) e.edit s.table;
+}
 
 -- two states that differ, of one bound and with tables that are such, and their entry
 pub record IsStep (from to : State) (e : Entry) : Type 0 where
@@ -60,7 +68,8 @@ abbrev pub walk : (Entry → State → State) → List Entry → State → List 
 walk step [] s = []
 walk step (e ∷ es) s = step e s ∷ walk step es (step e s)
 
--- each entry is the difference of the two states that it stands between, the nearest first, those that lead to a state
+-- each entry is the difference of the two states that it stands between, the nearest
+-- first, those that lead to a state
 abbrev pub Behind : List Entry → State → Type 0
 Behind [] s = Unit {0}
 Behind (e ∷ es) s = IsStep (back e s) s e × Behind es (back e s)
@@ -70,7 +79,8 @@ abbrev pub Ahead : List Entry → State → Type 0
 Ahead [] s = Unit {0}
 Ahead (e ∷ es) s = IsStep s (forth e s) e × Ahead es (forth e s)
 
--- the line of a state between the entries that lead to it and those that lead on, the nearest last in both stacks
+-- the line of a state between the entries that lead to it and those that lead on,
+-- the nearest last in both stacks
 abbrev pub line_of : ℕ → List Entry → List Entry → State → Line
 line_of most done undone s = record {
   before = reverse (walk back (reverse done) s);
@@ -98,7 +108,8 @@ pub record IsKept (most : ℕ) (done undone : List Entry) (s : State) (is_open :
   pub done_room : is_open ≡ true → HasSpare done_most (length done)
   pub undone_room : is_open ≡ true → HasSpare undone_most (length undone)
 
--- of stacks with one entry too many the farthest that leads here goes or, if it is alone, that ahead
+-- of stacks with one entry too many the farthest that leads here goes
+-- or, if it is alone, that ahead
 abbrev pub IsFit : ℕ → List Entry → List Entry → List Entry → List Entry → Type 0
 IsFit most done undone new_done new_undone =
     ((length done + length undone < most) × (new_done ≡ done) × (new_undone ≡ undone))
@@ -133,35 +144,46 @@ far_room Redo bound = bound
 
 -- an entry with the states that it stands between, at a place of the line
 abbrev pub IsStepAt : Line → ℕ → Entry → Type 0
-IsStepAt line place entry = (a : State) × (b : State) × (slice_get (states line) place ≡ Some a) × (slice_get (states line) (suc place) ≡ Some b) × IsStep a b entry
+IsStepAt line place entry = (a : State) × (b : State) × (slice_get (states line) place ≡ Some a)
+    × (slice_get (states line) (suc place) ≡ Some b) × IsStep a b entry
 
 -- at this place an edit leads the name to this value
 abbrev pub IsLedAt : Bool → List Alteration → ℕ → List ℕ → Option (List Bool) → Type 0
-IsLedAt ahead edit place name value = (a : Alteration) × (slice_get edit place ≡ Some a) × (a.name ≡ name) × (towards ahead a ≡ value)
+IsLedAt ahead edit place name value =
+    (a : Alteration) × (slice_get edit place ≡ Some a) × (a.name ≡ name) × (towards ahead a ≡ value)
 
--- an edit leads from the values of one table to another table, which has the one value of each alteration, and the same value for every other name
+-- an edit leads from the values of one table to another table, which has the one value of each
+-- alteration, and the same value for every other name
 pub record LeadsTo (ahead : Bool) (edit : List Alteration) (from to : Bundles) : Type 0 where
   pub is_table : IsTable to
   pub named : (a : Alteration) → Contains edit a → value_of to a.name ≡ towards ahead a
-  pub others : (name : List ℕ) → ((a : Alteration) → Contains edit a → a.name ≢ name) → value_of from name ≡ value_of to name
+  pub others : (name : List ℕ) → ((a : Alteration) → Contains edit a → a.name ≢ name) →
+      value_of from name ≡ value_of to name
 
--- on the way there, names are taken from this place on: the first table has no name that the other lacks but those
-pub record TakesFrom (ahead : Bool) (edit : List Alteration) (place : ℕ) (from to : Bundles) : Type 0 where
+-- on the way there, names are taken from this place on: the first table has no name
+-- that the other lacks but those
+pub record TakesFrom (ahead : Bool) (edit : List Alteration) (place : ℕ)
+    (from to : Bundles) : Type 0 where
   pub leads : LeadsTo ahead edit from to
-  pub within : (name : List ℕ) → ((a : Alteration) → Contains (drop place edit) a → a.name ≢ name) → value_of to name ≡ None → value_of from name ≡ None
+  pub within : (name : List ℕ) → ((a : Alteration) → Contains (drop place edit) a → a.name ≢ name) →
+      value_of to name ≡ None → value_of from name ≡ None
 
--- then sets are put from this place on: the first table has no name that the other lacks, and the other's sets but for the names from there on
-pub record PutsFrom (ahead : Bool) (edit : List Alteration) (place : ℕ) (from to : Bundles) : Type 0 where
+-- then sets are put from this place on: the first table has no name that the other lacks, and the
+-- other's sets but for the names from there on
+pub record PutsFrom (ahead : Bool) (edit : List Alteration) (place : ℕ)
+    (from to : Bundles) : Type 0 where
   pub leads : LeadsTo ahead edit from to
   pub within : (name : List ℕ) → value_of to name ≡ None → value_of from name ≡ None
-  pub done : (name : List ℕ) → ((a : Alteration) → Contains (drop place edit) a → a.name ≢ name) → value_of from name ≡ value_of to name
+  pub done : (name : List ℕ) → ((a : Alteration) → Contains (drop place edit) a → a.name ≢ name) →
+      value_of from name ≡ value_of to name
 
 -- a state by its two parts
 abbrev pub state : List Bool → Bundles → State
 state live table = record { live = live; table = table }
 
 -- from one state to another these ids come up and those go down, and the edit leads there
-pub record Turns (ahead : Bool) (up down : List ℕ) (edit : List Alteration) (from to : State) : Type 0 where
+pub record Turns (ahead : Bool) (up down : List ℕ) (edit : List Alteration)
+    (from to : State) : Type 0 where
   pub bound : length to.live ≡ length from.live
   pub rises : Lists (IsGained from.live to.live) up
   pub falls : Lists (IsGained to.live from.live) down

@@ -7,7 +7,8 @@ ghost use Rattle.rc_model.specs.Line.{State, Entry, IsEntry, entry_back, Line, I
 
 /// The inverse of an entry is the entry back.
 pub fn entries_turn_round()
-    ensures { (from to : State) (entry : Entry) → IsEntry from to entry → IsEntry to from (entry_back entry) }
+    ensures { (from to : State) (entry : Entry) → IsEntry from to entry →
+        IsEntry to from (entry_back entry) }
 {}
 
 /// The current state is the one at the cursor.
@@ -77,9 +78,13 @@ pub fn redo_goes_on_or_stays_or_splits()
 
 /// Each move leads from a line to a line.
 pub fn moves_keep_lines()
-    ensures change { (line new : Line) (end : State) → IsLine line → length end.live ≡ length line.current.live → IsTable end.table → MovesTo line end new → IsLine new }
-    ensures undo { (line new : Line) (live : List Bool) → IsLine line → length live ≡ length line.current.live → MovesByUndo line live new → IsLine new }
-    ensures redo { (line new : Line) (live : List Bool) → IsLine line → length live ≡ length line.current.live → MovesByRedo line live new → IsLine new }
+    ensures change { (line new : Line) (end : State) → IsLine line →
+        length end.live ≡ length line.current.live → IsTable end.table → MovesTo line end new →
+        IsLine new }
+    ensures undo { (line new : Line) (live : List Bool) → IsLine line →
+        length live ≡ length line.current.live → MovesByUndo line live new → IsLine new }
+    ensures redo { (line new : Line) (live : List Bool) → IsLine line →
+        length live ≡ length line.current.live → MovesByRedo line live new → IsLine new }
 {}
 
 /// A line is its states, the place of its cursor, and its bound.
@@ -88,8 +93,10 @@ pub fn line_is_states_and_cursor()
         a ≡ b }
 {}
 
-/// An entry leads from a state to one state: what is redone, and by its inverse what is undone, is exact.
+/// An entry leads from a state to one state: what is redone, and by its
+/// inverse what is undone, is exact.
 pub fn entries_lead_to_one_state()
-    ensures { (from one other : State) (entry : Entry) → IsEntry from one entry → IsEntry from other entry → IsTable one.table → IsTable other.table →
+    ensures { (from one other : State) (entry : Entry) → IsEntry from one entry →
+        IsEntry from other entry → IsTable one.table → IsTable other.table →
         length one.live ≡ length other.live → one ≡ other }
 {}

@@ -27,9 +27,9 @@ pub const USUAL_BOUND: u32 = 1024;
 
 /// A line of states with a cursor on the current one, and a bound on how many there may be.
 ///
-/// Time: an opening and a closing grow with the entry beside the cursor, with the services and, where bundles alter,
-/// with the table; none grows with the number of states. `state` walks from the cursor, and `copy` and `from_states`
-/// go through all states.
+/// Time: an opening and a closing grow with the entry beside the cursor, with the services and,
+/// where bundles alter, with the table; none grows with the number of states. `state` walks from
+/// the cursor, and `copy` and `from_states` go through all states.
 pub struct Line {
     live: Set,
     table: Table,
@@ -173,7 +173,8 @@ impl Line {
     pub fn state(&self, alloc: Global, place: usize) -> Result<(Set, Table), NoMem>
         requires closed { self.now.is_open ≡ false }
         requires place { place < length (states self.now.line) }
-        ensures { IfOk result (λ s. slice_get (states self.now.line) place ≡ Some (record { live = s.0; table = s.1 })) }
+        ensures { IfOk result (λ s. slice_get (states self.now.line) place
+            ≡ Some (record { live = s.0; table = s.1 })) }
     {
         let live = self.live().copy(alloc)?;
         let table = self.table().copy(alloc)?;
@@ -190,7 +191,8 @@ impl Line {
         requires bound { length plan.now.opening ≡ length self.old.line.current.live }
         ensures opened { IfOk result (IsOpened self.new) }
         ensures aim { IfOk result (λ opening. opening.aim ≡ Aim.Change) }
-        ensures live { IfOk result (λ opening. IsPlanTo plan.now.opening (Has opening.live) (Has plan.now.kept) plan.now) }
+        ensures live { IfOk result (λ opening.
+            IsPlanTo plan.now.opening (Has opening.live) (Has plan.now.kept) plan.now) }
         ensures line { self.new.line ≡ self.old.line }
         ensures memory { OnErr result (result ≡ Err LineFault.Memory) }
         ensures err { OnErr result (self.new ≡ self.old) }
@@ -202,13 +204,15 @@ impl Line {
         Ok(opening)
     }
 
-    /// Opens an edit that was made from the current table. All the room that its end needs is made here.
+    /// Opens an edit that was made from the current table. All the room
+    /// that its end needs is made here.
     pub fn open_edit(&mut self, alloc: Global, edit: &Edit) -> Result<Open, LineFault>
         requires closed { self.old.is_open ≡ false }
         requires made { (table : Bundles) × IsEditFrom self.old.line edit.now table }
         ensures opened { IfOk result (IsOpened self.new) }
         ensures aim { IfOk result (λ opening. opening.aim ≡ Aim.Edit) }
-        ensures edit { IfOk result (λ opening. IsEditFrom self.old.line edit.now (target_of opening self.old.line.current).table) }
+        ensures edit { IfOk result (λ opening.
+            IsEditFrom self.old.line edit.now (target_of opening self.old.line.current).table) }
         ensures line { self.new.line ≡ self.old.line }
         ensures memory { OnErr result (result ≡ Err LineFault.Memory) }
         ensures err { OnErr result (self.new ≡ self.old) }
@@ -226,7 +230,8 @@ impl Line {
         ensures aim { IfOk result (λ opening. opening.aim ≡ Aim.Undo) }
         ensures line { self.new.line ≡ self.old.line }
         ensures nothing { (result ≡ Err LineFault.NothingToUndo) ↔ (self.old.line.before ≡ []) }
-        ensures faults { OnErr result ((result ≡ Err LineFault.NothingToUndo) ⊎ (result ≡ Err LineFault.Memory)) }
+        ensures faults { OnErr result ((result ≡ Err LineFault.NothingToUndo)
+            ⊎ (result ≡ Err LineFault.Memory)) }
         ensures err { OnErr result (self.new ≡ self.old) }
     {
         let Some(entry) = nearest(&self.done) else {
@@ -244,7 +249,8 @@ impl Line {
         ensures aim { IfOk result (λ opening. opening.aim ≡ Aim.Redo) }
         ensures line { self.new.line ≡ self.old.line }
         ensures nothing { (result ≡ Err LineFault.NothingToRedo) ↔ (self.old.line.after ≡ []) }
-        ensures faults { OnErr result ((result ≡ Err LineFault.NothingToRedo) ⊎ (result ≡ Err LineFault.Memory)) }
+        ensures faults { OnErr result ((result ≡ Err LineFault.NothingToRedo)
+            ⊎ (result ≡ Err LineFault.Memory)) }
         ensures err { OnErr result (self.new ≡ self.old) }
     {
         let Some(entry) = nearest(&self.undone) else {
@@ -282,8 +288,10 @@ impl Line {
     pub fn close_edit(&mut self, opening: Open, edit: Edit)
         requires opened { IsOpened self.old opening }
         requires aim { opening.aim ≡ Aim.Edit }
-        requires edit { IsEdit self.old.line.current.table (target_of opening self.old.line.current).table edit }
-        ensures moved { MovesByEdit self.old.line (target_of opening self.old.line.current).table self.new.line }
+        requires edit { IsEdit self.old.line.current.table
+            (target_of opening self.old.line.current).table edit }
+        ensures moved { MovesByEdit self.old.line
+            (target_of opening self.old.line.current).table self.new.line }
         ensures closed { self.new.is_open ≡ false }
     {
         let Open {
@@ -329,7 +337,8 @@ impl Line {
         table: Option<Table>,
     ) -> Result<Open, NoMem>
         requires { self.old.is_open ≡ false }
-        ensures opening { IfOk result (λ opening. opening ≡ record { aim = aim; live = live; table = table }) }
+        ensures opening { IfOk result (λ opening.
+            opening ≡ record { aim = aim; live = live; table = table }) }
         ensures open { OnOk result (self.new.is_open ≡ true) }
         ensures line { self.new.line ≡ self.old.line }
         ensures err { OnErr result (self.new ≡ self.old) }
@@ -372,7 +381,8 @@ impl Line {
         live: &Set,
     )
         requires open { self.old.is_open ≡ true }
-        requires aim { AimsAt Aim.Undo self.old.line (state target (table_or table self.old.line.current.table)) }
+        requires aim { AimsAt Aim.Undo self.old.line
+            (state target (table_or table self.old.line.current.table)) }
         requires bound { length live.now ≡ length self.old.line.current.live }
         requires near { AreRooms (length target) near }
         requires far { AreRooms (length target) far }
@@ -419,7 +429,8 @@ impl Line {
         live: &Set,
     )
         requires open { self.old.is_open ≡ true }
-        requires aim { AimsAt Aim.Redo self.old.line (state target (table_or table self.old.line.current.table)) }
+        requires aim { AimsAt Aim.Redo self.old.line
+            (state target (table_or table self.old.line.current.table)) }
         requires bound { length live.now ≡ length self.old.line.current.live }
         requires near { AreRooms (length target) near }
         requires far { AreRooms (length target) far }

@@ -75,7 +75,8 @@ pub(crate) fn make_room(
     ensures done { done.new.items ≡ done.old.items }
     ensures undone { undone.new.items ≡ undone.old.items }
     ensures done_room { OnOk result (HasSpare (deque_capacity done.new) (deque_len done.new)) }
-    ensures undone_room { OnOk result (HasSpare (deque_capacity undone.new) (deque_len undone.new)) }
+    ensures undone_room { OnOk result (HasSpare (deque_capacity undone.new)
+        (deque_len undone.new)) }
 {
     done.reserve(1)?;
     undone.reserve(1)?;

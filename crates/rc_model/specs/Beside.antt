@@ -4,7 +4,7 @@ use Rattle.rc_model.specs.Names.{Has}
 use Rattle.rc_model.specs.Graph.{AreNeeds, IsAcyclic, IsClosed}
 use Rattle.rc_model.specs.Database.{Database}
 use Rattle.rc_model.specs.declared.Event.{Event}
-use Rattle.rc_model.specs.Run.{Course, TargetOf, IsHeldBy}
+use Rattle.rc_model.specs.Run.{Course, IsHeldBy}
 use Rattle.rc_model.specs.Line.{State, Line, IsNext}
 use Rattle.rc_model.specs.declared.PlanFault.{PlanFault}
 use Rattle.rc_model.specs.declared.BundleFault.{BundleFault}
@@ -17,8 +17,13 @@ use Rattle.rc_model.specs.declared.LineFault.TheVariants as line_fault
 use Rattle.rc_model.specs.Session.{Command, Change, Undo, Redo, Add, Delete, Reported, IsOwnFault}
 use Rattle.rc_model.specs.Headline.{RanInOrder, IsEntered, EntersEdit, KeepsHistory, WentWell, Leaves, LeavesAhead, HasRun}
 
--- no service of the graph needs itself along a path, and the sets are of its services; what is to
--- go down is up, what is to come up is not; what is up at first is closed, and so is the target
+-- what is up in the end where all goes well: what is up and not to go down, and what is to come up
+abbrev pub TargetOf : Course → ℕ → Type 0
+TargetOf c s = (Has c.up s × (Has c.lower s → ⊥)) ⊎ Has c.raise s
+
+-- what a run may begin with: needs as `AreNeeds` says, in which no service reaches itself, and sets
+-- of its services; what is to go down is up, what is to come up is not; what is up at first is
+-- closed, and so is the target
 pub record IsCourse (c : Course) : Type 0 where
   pub lists : AreNeeds c.needs
   pub acyclic : IsAcyclic c.needs
@@ -42,8 +47,8 @@ SomeHeld events = (w : ℕ) × (s : ℕ) × IsHeldBy events w s
 abbrev pub IsEditOnly : State → State → Type 0
 IsEditOnly from to = from.live ≡ to.live
 
--- where only edits may be undone or redone, it cannot be begun:
--- there is nothing to undo or redo, or it would move services
+-- a call that undoes or redoes an edit alone cannot be begun: there
+-- is nothing to undo or redo, or services would move
 abbrev pub IsEditFault : Database → Line → Command → Refusal → Type 0
 IsEditFault d line (Undo limit events) NotEdit =
     (back : Line) × IsNext back line × (IsEditOnly line.current back.current → ⊥)
@@ -57,7 +62,7 @@ of_plan plan_fault.PruneNeedsUp = PruneNeedsUp
 of_plan (plan_fault.Unknown place) = Unknown place
 of_plan plan_fault.Memory = Memory
 
--- how it is reported why a move is not opened
+-- how it is reported why a change, an edit, an undo or a redo is not begun on a line
 abbrev pub of_line : LineFault → Refusal
 of_line line_fault.NothingToUndo = NothingToUndo
 of_line line_fault.NothingToRedo = NothingToRedo
@@ -77,7 +82,8 @@ abbrev pub EndsAsPromised : Line → Command → Reported → Line → Type 0
 -- a change is entered as what it is reported to have altered
 EndsAsPromised line (Change ask events) report new =
     IsEntered line new (record { raised = report.raised; lowered = report.lowered; edit = [] })
--- an undo comes to the state before, as each does that goes well, or leaves what remains
+-- an undo comes to the state before, as each does that goes well, or leaves exactly the inverse
+-- of what remains
 EndsAsPromised line (Undo limit events) report new = (back : Line) → IsNext back line →
     (WentWell (Ok report) → new ≡ back) × ((new ≡ back) ⊎ Leaves back line new)
 -- a redo the same forwards

@@ -7,8 +7,9 @@ use Rattle.rc_model.specs.declared.Kind.TheVariants.{Longrun, Bundle}
 use Rattle.rc_model.specs.Graph.{Needs, IsAcyclic, AreNeeds}
 
 -- what a database says of one service, beside its name and what it needs: its kind, `Oneshot`
--- or `Longrun` (enums stand in `src/lib.rt`), whether it is essential, limits in milliseconds,
--- 0 for none, the texts of its scripts, if any, and the service that reads what it writes, if any
+-- or `Longrun` (enums stand in `src/lib.rt`), whether it is essential (some changes leave such a
+-- service up), limits in milliseconds, 0 for none, the texts of its scripts, if any, and the
+-- service that reads what it writes, if any
 pub record Service : Type 0 where
   pub kind : Kind
   pub essential : Bool
@@ -49,8 +50,8 @@ pub record IsTable (table : Bundles) : Type 0 where
 abbrev pub HaveBound : ℕ → Bundles → Type 0
 HaveBound bound table = All (λ bundle. length bundle.1 ≡ bound) table
 
--- the services' names, what is said of each (`Service`), and what each needs, lists
--- of one length; and the bundles; a service is its place among the names
+-- the services' names, what is said of each (`Service`), what each needs, and the bundles; a
+-- service is its place among the names; `FitTogether` says that the lists are of one length
 pub record Database : Type 0 where
   pub names : List (List ℕ)
   pub services : List Service

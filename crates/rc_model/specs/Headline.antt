@@ -1,11 +1,11 @@
 -- What holds all along of commands that are played.
 use Rattle.std.specs.Prelude.{◌≡◌, ◌≢◌, ◌≤◌, ◌<◌, ◌+◌, ◌-◌, ◌⊎◌, ℕ, false, List, [], ◌∷◌, ◌++◌, length, take, drop, All, Option, Some, slice_get, Result, Ok, Err}
-use Rattle.rc_model.specs.Names.{Holds}
+use Rattle.rc_model.specs.Names.{Has, Holds}
 use Rattle.rc_model.specs.Database.{Database, IsDatabase}
-use Rattle.rc_model.specs.Plan.{PlanSets, Ask}
+use Rattle.rc_model.specs.Plan.{PlanSets, Ask, TargetOfAsk}
 use Rattle.rc_model.specs.Line.{Alteration, IsEdit, State, Entry, IsEntry, entry_back, Line, IsNext, IsEntryBefore, IsEntryAfter, states, cursor, put_last}
 use Rattle.rc_model.specs.declared.Event.{Event}
-use Rattle.rc_model.specs.Run.{course_of, TargetOf, IsStrictlyClosed}
+use Rattle.rc_model.specs.Run.{course_of, IsStrictlyClosed}
 use Rattle.rc_model.specs.declared.Refusal.{Refusal}
 use Rattle.rc_model.specs.Session.{Command, Change, Undo, Redo, events_of, Reported, IsTask, EndsWith, DoesByEdit, Does, IsLineOf, Answers, Plays, Add, Delete}
 
@@ -15,10 +15,21 @@ HasRun (Add name contents force) = ⊥
 HasRun (Delete words force) = ⊥
 HasRun other = Unit {0}
 
+-- what is to be live after a run that goes well, and an edit has none: of a change the target of
+-- what it asks, of an undo or redo what is live in the state that it goes to
+abbrev pub TargetOfCommand : Database → Line → Command → ℕ → Type 0
+TargetOfCommand d line (Change ask events) s =
+    TargetOfAsk d line.current.table line.current.live ask s
+TargetOfCommand d line (Undo limit events) s =
+    (back : Line) × IsNext back line × Has back.current.live s
+TargetOfCommand d line (Redo limit events) s =
+    (on : Line) × IsNext line on × Has on.current.live s
+TargetOfCommand d line other s = ⊥
+
 -- a command ran in dependency order: the events that it was given are a settled run of its
 -- task, which is how `DoesByRun` begins; and it is promised that after each of them each service
 -- that is not down has all that it needs up, that the new state has what is live in the end, and
--- that where all went well this is the target of its plan
+-- that where all went well this is the target of the command
 pub record RanInOrder (d : Database) (line : Line) (command : Command) (report : Reported)
     (new : Line) : Type 0 where
   pub plan : PlanSets
@@ -28,7 +39,7 @@ pub record RanInOrder (d : Database) (line : Line) (command : Command) (report :
   pub ends : EndsWith (course_of d.needs plan deadline) report.trace new.current.live
   pub strict : (k : ℕ) → IsStrictlyClosed (course_of d.needs plan deadline) (take k report.trace)
   pub arrives : report.failed ≡ [] → report.stopped ≡ false →
-      Holds new.current.live (TargetOf (course_of d.needs plan deadline))
+      Holds new.current.live (TargetOfCommand d line command)
 
 -- each change, undo and redo that is done runs in dependency order
 abbrev pub RunsAreOrderly : Database → Line → Type 0
@@ -60,8 +71,9 @@ abbrev pub EditsAreEntered : Database → Line → Type 0
 EditsAreEntered d line = (command : Command) (report : Reported) (new : Line) →
     DoesByEdit d line command report new → EntersEdit line new
 
--- the second line is the first but for one state, as `shorter` drops it: the oldest is gone or,
--- where the current one is the second, the last; it is never the first, as it was put after another
+-- the second line is the first without one state, the one that `shorter` drops: the oldest or,
+-- where that stands beside the current one, the last; the current one is not the oldest itself,
+-- since each state that a command adds stands after another
 abbrev pub LosesOne : Line → Line → Type 0
 LosesOne more line = (gone : State)
     × (((more ≡ record line { before = gone ∷ line.before }) × (1 ≤ cursor line))
@@ -71,7 +83,7 @@ LosesOne more line = (gone : State)
 abbrev pub Keeps : Line → Line → Type 0
 Keeps more line = (line ≡ more) ⊎ ((line.bound < length (states more)) × LosesOne more line)
 
--- a line with one state more and the cursor on it, where the command may add one
+-- the line with this state more, at the place where the command adds one, and the cursor on it
 abbrev pub with_one_more : Line → Command → State → Line
 -- an undo puts it in front of the current one
 with_one_more line (Undo limit events) state =
@@ -82,20 +94,6 @@ with_one_more line (Redo limit events) state =
 -- a change or an edit puts it after, in the place of what came after
 with_one_more line other state = put_last line state
 
--- what a command leaves of the history of a line
-pub record KeepsHistory (line : Line) (command : Command) (new : Line) : Type 0 where
-  -- the line may have as many states as before
-  pub bound : new.bound ≡ line.bound
-  -- it stays, or its cursor goes one back or on, or it gets the new state, with the cursor on it;
-  -- only the bound drops any, but a change or an edit first drops what could be redone
-  pub history : (new ≡ line) ⊎ IsNext new line ⊎ IsNext line new
-      ⊎ Keeps (with_one_more line command new.current) new
-
--- whatever is done, failed or not, keeps history
-abbrev pub HistoryIsKept : Database → Line → Type 0
-HistoryIsKept d line = (command : Command) (report : Reported) (new : Line) →
-    Does d line command report new → KeepsHistory line command new
-
 -- an undo
 abbrev pub IsUndo : Command → Type 0
 IsUndo (Undo limit events) = Unit {0}
@@ -105,6 +103,21 @@ IsUndo other = ⊥
 abbrev pub IsRedo : Command → Type 0
 IsRedo (Redo limit events) = Unit {0}
 IsRedo other = ⊥
+
+-- what a command leaves of the history of a line
+pub record KeepsHistory (line : Line) (command : Command) (new : Line) : Type 0 where
+  -- the line may have as many states as before
+  pub bound : new.bound ≡ line.bound
+  -- it stays, or an undo puts its cursor one back, or a redo one on, or it gets the new state, with
+  -- the cursor on it; only the bound drops any, but a change or an edit first drops what could be
+  -- redone
+  pub history : (new ≡ line) ⊎ (IsUndo command × IsNext new line)
+      ⊎ (IsRedo command × IsNext line new) ⊎ Keeps (with_one_more line command new.current) new
+
+-- whatever is done, failed or not, keeps history
+abbrev pub HistoryIsKept : Database → Line → Type 0
+HistoryIsKept d line = (command : Command) (report : Reported) (new : Line) →
+    Does d line command report new → KeepsHistory line command new
 
 -- a command was not refused, nothing failed in it, so nothing was blocked, and it was not stopped
 abbrev pub WentWell : Result Reported Refusal → Type 0
@@ -172,15 +185,15 @@ RedosLeaveWhatRemains d line =
 abbrev pub IsFull : Line → Type 0
 IsFull line = length (states line) ≡ line.bound
 
--- of the states before some state these remain, after a command that led from the one line to the
--- other: all or, where the line was full and is another now (a state was put between), all but
--- the oldest
+-- `rest` is what is left of the states `all` before some state, after a command that led from
+-- `line` to `there`: all or, where `line` was full and `there` is another (a state was put
+-- between), all but the oldest
 abbrev pub AreLeftBefore : Line → Line → List State → List State → Type 0
 AreLeftBefore line there all rest = (rest ≡ all)
     ⊎ ((there ≢ line) × IsFull line × ((oldest : State) × (all ≡ oldest ∷ rest)))
 
--- of the states after some state these remain, after a command that led from the one line to the
--- other: all or, where the line was full and is another now, all but the last
+-- `rest` is what is left of the states `all` after some state, after a command that led from
+-- `line` to `there`: all or, where `line` was full and `there` is another, all but the last
 abbrev pub AreLeftAfter : Line → Line → List State → List State → Type 0
 AreLeftAfter line there all rest = (rest ≡ all)
     ⊎ ((there ≢ line) × IsFull line × ((last : State) × (all ≡ rest ++ last ∷ [])))

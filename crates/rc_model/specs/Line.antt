@@ -68,8 +68,8 @@ pub record MayBeDefined (names : List (List ℕ)) (table : Bundles) (name : List
   pub no_service : Contains names name → ⊥
   pub fresh : force ≡ false → IsBundle table name → ⊥
 
--- nothing keeps a bundle from being defined: its name may be, its
--- contents are names of something, and there is room for it
+-- nothing keeps a bundle from being defined: its name may be, its contents
+-- are names of something, and the table is not full or has that name
 pub record CanAdd (names : List (List ℕ)) (table : Bundles) (name : List ℕ)
     (contents : List (List ℕ)) (force : Bool) : Type 0 where
   pub name_may : MayBeDefined names table name force
@@ -138,15 +138,15 @@ abbrev pub entry_back : Entry → Entry
 entry_back entry =
     record { raised = entry.lowered; lowered = entry.raised; edit = edit_back entry.edit }
 
--- a zipper: the states before the current one, it, and those after, oldest
--- first; its bound, other than that of a set, is how many states it may have
+-- a zipper: the states before the current one, it, and those after, in the order of
+-- the line; its bound, unlike that of a set, is how many states it may have
 pub record Line : Type 0 where
   pub before : List State
   pub current : State
   pub after : List State
   pub bound : ℕ
 
--- all states of a line, from the oldest to the newest
+-- all states of a line, in order; the oldest is the first, whenever the others were put in
 abbrev pub states : Line → List State
 states line = line.before ++ line.current ∷ line.after
 
@@ -161,7 +161,7 @@ but_last (a ∷ []) = []
 but_last (a ∷ b ∷ rest) = a ∷ but_last (b ∷ rest)
 
 -- the line without its oldest state or, where that is the current one or beside
--- it, without its newest; the first argument is `line.before`, to match on
+-- it, without its last; the first argument is `line.before`, to match on
 abbrev pub shorter : List State → Line → Line
 shorter [] line = record line { after = but_last line.after }
 shorter (a ∷ []) line = record line { after = but_last line.after }
@@ -213,7 +213,7 @@ put_last line end =
       bound = line.bound;
     }
 
--- a change or edit that ends in a state: in the current one the line stays;
+-- a change or an edit ends in this state: where it is the current one the line stays;
 -- else what came after is cut off, and the state is added, within the bound
 abbrev pub MovesTo : Line → State → Line → Type 0
 MovesTo line end new = ((end ≡ line.current) × (new ≡ line))
@@ -241,9 +241,9 @@ abbrev pub put_between : Line → State → Line → Line
 put_between line end next =
     record { before = next.before; current = end; after = line.after; bound = line.bound }
 
--- an undo after which these services are live: those of the state before, and the cursor goes
--- back, also where the current state has the same; else those of the current state, and the
--- line stays; else these, with the current bundles, are put between the two, within the bound
+-- an undo after which these services are live: if they are those of the state before, the cursor
+-- goes back, also where the current state has the same; else, if they are those of the current
+-- state, the line stays; else they, with the current bundles, are put between, within the bound
 abbrev pub MovesByUndo : Line → List Bool → Line → Type 0
 MovesByUndo line live new =
     (back : Line) × IsNext back line × (((live ≡ back.current.live) × (new ≡ back))
@@ -251,9 +251,9 @@ MovesByUndo line live new =
     ⊎ ((live ≢ back.current.live) × (live ≢ line.current.live)
     × (new ≡ within_bound (put_between back (with_live line live) line))))
 
--- a redo after which these services are live: those of the state after, and the cursor goes
--- on, also where the current state has the same; else those of the current state, and the
--- line stays; else these, with the current bundles, are put between the two, within the bound
+-- a redo after which these services are live: if they are those of the state after, the cursor
+-- goes on, also where the current state has the same; else, if they are those of the current
+-- state, the line stays; else they, with the current bundles, are put between, within the bound
 abbrev pub MovesByRedo : Line → List Bool → Line → Type 0
 MovesByRedo line live new = (on : Line) × IsNext line on × (((live ≡ on.current.live) × (new ≡ on))
     ⊎ ((live ≢ on.current.live) × (live ≡ line.current.live) × (new ≡ line))

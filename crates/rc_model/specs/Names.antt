@@ -37,7 +37,7 @@ IsBefore a b = slice_cmp nat_cmp a b ≡ Less
 abbrev pub IsInByteOrder : List (List ℕ) → Type 0
 IsInByteOrder texts = AllPairs IsBefore texts
 
--- what the names of the services of a database are: in byte order, at most 4,096 of them
+-- what the services of a database are called: names, in byte order, at most 4,096 (`MAX_NAMES`)
 pub record AreNames (texts : List (List ℕ)) : Type 0 where
   pub order : IsInByteOrder texts
   pub each : All IsName texts

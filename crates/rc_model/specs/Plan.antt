@@ -70,14 +70,23 @@ pub record IsPlanTo (up : List Bool) (target spared : ℕ → Type 0) (plan : Pl
   pub raise_bound : length plan.raise ≡ length up
   pub kept_bound : length plan.kept ≡ length up
 
--- the plan of what is asked, where these services are up and these are the
+-- the target of what is asked, where these services are up and these are the
 -- bundles, which may be others than those that the database began with
+abbrev pub TargetOfAsk : Database → Bundles → List Bool → Ask → ℕ → Type 0
+TargetOfAsk d table up ask =
+    Target d.needs (Has up) (IsEssentialUp d (Has up)) ask.mode ask.prune
+    (IsWanted d.names table (Has up) ask)
+
+-- what is told as kept of what is asked there
+abbrev pub KeptOfAsk : Database → Bundles → List Bool → Ask → ℕ → Type 0
+KeptOfAsk d table up ask =
+    Kept d.needs (IsEssentialUp d (Has up)) ask.mode ask.prune
+    (IsWanted d.names table (Has up) ask)
+
+-- the plan of what is asked there
 abbrev pub IsPlanOf : Database → Bundles → List Bool → Ask → PlanSets → Type 0
 IsPlanOf d table up ask plan =
-    let wanted = IsWanted d.names table (Has up) ask in
-    let essential = IsEssentialUp d (Has up) in
-    IsPlanTo up (Target d.needs (Has up) essential ask.mode ask.prune wanted)
-    (Kept d.needs essential ask.mode ask.prune wanted) plan
+    IsPlanTo up (TargetOfAsk d table up ask) (KeptOfAsk d table up ask) plan
 
 -- it is asked to let go what is not wanted, and not on the way up
 abbrev pub PrunesWrongly : Ask → Type 0

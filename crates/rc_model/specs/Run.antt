@@ -78,7 +78,7 @@ IsWorker w = (1 ≤ w) × (w ≤ 64)
 abbrev pub WasTaken : List Event → ℕ → Type 0
 WasTaken events s = (w : ℕ) × Contains events (Take w s)
 
--- the worker took the service and has not ended it; a run takes each once (`fresh`, below)
+-- the worker took the service and has not ended it; in a run each is taken once at most
 abbrev pub IsHeldBy : List Event → ℕ → ℕ → Type 0
 IsHeldBy events w s =
     Contains events (Take w s) × ((o : Outcome) → Contains events (Done w s o) → ⊥)
@@ -134,7 +134,7 @@ abbrev pub IsRun : Course → List Event → Type 0
 IsRun c events =
     (k : ℕ) (event : Event) → slice_get events k ≡ Some event → IsLegal c (take k events) event
 
--- a complete run: its events are legal, nothing is held after
+-- a settled, or complete, run: its events are legal, nothing is held after
 -- them, and it was stopped or has nothing left to take
 pub record IsSettled (c : Course) (events : List Event) : Type 0 where
   pub run : IsRun c events
@@ -154,12 +154,7 @@ IsStrictlyClosed c events =
 abbrev pub IsPlanned : Course → ℕ → Type 0
 IsPlanned c s = Has c.lower s ⊎ Has c.raise s
 
--- a service that is to move was never taken; after a complete run it is
--- reported as blocked or, where that was stopped, as untried
+-- a service that is to move was never taken; after a settled run it is
+-- reported as blocked or, where the run was stopped, as untried
 abbrev pub IsLeft : Course → List Event → ℕ → Type 0
 IsLeft c events s = IsPlanned c s × (WasTaken events s → ⊥)
-
--- what is up at the end where all goes well: of the course of a plan, the target that it goes to
--- (`IsPlanTo`): of a change its `Target`, of an undo or redo what was live in the state it goes to
-abbrev pub TargetOf : Course → ℕ → Type 0
-TargetOf c s = (Has c.up s × (Has c.lower s → ⊥)) ⊎ Has c.raise s

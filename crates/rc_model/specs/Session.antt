@@ -29,9 +29,10 @@ events_of (Redo limit events) = events
 events_of (Add name contents force) = []
 events_of (Delete words force) = []
 
--- the moment from which a run may be stopped: its start and the limit, none without a limit, and
--- at most the last moment that there is; a command that brings its events starts at 0, so that
--- each stop is legal that the clock of a call may allow: how long was waited is not said
+-- the moment from which a run may be stopped: its start plus its limit, at most the last moment
+-- that there is; none without a limit. `DoesByRun` takes 0 as the start for the events that a
+-- command brings, as a stop that is legal with a later start is legal with 0 too: so how long was
+-- waited is not said
 abbrev pub deadline_of : ℕ → ℕ → Option ℕ
 deadline_of start limit = if limit == 0 then None else Some (min (start + limit) (2 ^ 64 - 1))
 
@@ -39,8 +40,8 @@ deadline_of start limit = if limit == 0 then None else Some (min (start + limit)
 abbrev pub Nothing : ℕ → Type 0
 Nothing s = ⊥
 
--- the way of an undo or redo from some live services to others: the plan between them, which
--- spares none as essential; where nothing is to move it has no deadline, other than a change
+-- the way of an undo or redo from some live services to others: the plan between them, which spares
+-- none as essential; unlike a change, it has no deadline where nothing is to move
 pub record IsWay (from to : List Bool) (start limit : ℕ) (plan : PlanSets)
     (deadline : Option ℕ) : Type 0 where
   pub leads : IsPlanTo from (Has to) Nothing plan
@@ -75,9 +76,9 @@ MovesBy line (Redo limit events) live new = MovesByRedo line live new
 MovesBy line (Add name contents force) live new = ⊥
 MovesBy line (Delete words force) live new = ⊥
 
--- what is reported of a command: what was live before it, which services went down, came
--- up, failed, were never taken in a run that was not stopped (blocked) or in one that was
--- (untried), were kept, whether it was stopped, and its events
+-- what is reported of a command: what was live before it; which services went down, came up,
+-- failed; which were to move and were never taken, in a run that was not stopped (blocked) or in
+-- one that was (untried); which were kept; whether the run was stopped; and its events
 pub record Reported : Type 0 where
   pub opening : List Bool
   pub lowered : List ℕ
@@ -138,8 +139,8 @@ edit_report live =
       trace = [];
     }
 
--- an edit is made: its new bundles are a table, the line moves once, by these, and what is live
--- is reported
+-- an edit is made: its new bundles are a table, the line moves once, by these, and what is live is
+-- reported; so an `Add` of what is no name (`IsName`) is not done, nor is it refused for that
 pub record DoesByEdit (d : Database) (line : Line) (command : Command) (report : Reported)
     (new : Line) : Type 0 where
   pub table : Bundles
@@ -217,8 +218,8 @@ Plays d line (command ∷ commands) (answer ∷ answers) new =
 Plays d line [] (answer ∷ answers) new = ⊥
 Plays d line (command ∷ commands) [] new = ⊥
 
--- a state of a database: a live set and bundles of its services, all that a live service needs
--- live, and no bundle with the name of a service; that its table is one is part of `IsLine`
+-- a state of a database: a live set and bundles of its services; all that a live service needs is
+-- live; no bundle has the name of a service; that the bundles are a table is said by `AreStates`
 pub record IsStateOf (d : Database) (s : State) : Type 0 where
   pub bound : length s.live ≡ length d.names
   pub closed : IsClosed d.needs (Has s.live)

@@ -1,7 +1,7 @@
 //! What the headline says, and all that it rests on: the enums below, to be read first, then eight
 //! modules of definitions in `specs/`, in this order: Names, Graph, Database, Plan, Run, Line,
 //! Session, Headline. A ninth, Beside, holds words of other contracts, on which the headline does
-//! not rest.
+//! not rest. How formulas are read is said in `docs/PROOF.md`, "How to read a promise".
 #![tactic(auto)]
 
 use std::alloc::AllocError;
@@ -26,7 +26,8 @@ pub enum Kind {
 pub enum Mode {
     /// The wanted come up, with all that they need.
     Up,
-    /// The wanted go down, with all that need them; essential services stay, with all that they need.
+    /// The wanted go down, with all that need them; what is marked as essential and is up stays,
+    /// with all that it needs.
     Down,
     /// The wanted go down, with all that need them, whatever is essential.
     DownAll,
@@ -35,13 +36,13 @@ pub enum Mode {
 /// Why there is no plan. The first fault in this order is the one that is reported.
 #[derive(Clone, Copy, PartialEq, Eq, Debug, Error)]
 pub enum PlanFault {
-    /// Only a change upwards prunes.
+    /// Only a change upwards prunes, that is, lets go what is not wanted.
     #[error("prune goes with up alone")]
     PruneNeedsUp,
     /// The word at this place, counted from 0, is the name of nothing.
     #[error("unknown name")]
     Unknown(usize),
-    /// There was no room.
+    /// Memory ran out.
     #[error("out of memory")]
     Memory,
 }
@@ -57,7 +58,8 @@ impl From<AllocError> for PlanFault {
     }
 }
 
-/// Why bundles are not defined or removed. Nothing has changed.
+/// Why bundles are not defined or removed. Nothing has changed. Which fault comes first is said in
+/// `specs/Line`.
 #[derive(Clone, Copy, PartialEq, Eq, Debug, Error)]
 pub enum BundleFault {
     /// The word at this place is the name of a service. In a definition place 0 is the name.
@@ -72,7 +74,7 @@ pub enum BundleFault {
     /// The word at this place is the name of nothing. The contents of a definition count from 1.
     #[error("unknown name")]
     Unknown(usize),
-    /// There was no room.
+    /// Memory ran out.
     #[error("out of memory")]
     Memory,
     /// The name is new, and the table has as many bundles as it may have.
@@ -154,11 +156,12 @@ pub enum Refusal {
     NothingToUndo,
     #[error("there is nothing to redo")]
     NothingToRedo,
-    /// Services moved between the two states. Only a call that takes back an edit, and no run, gives
-    /// this. No answer of the eight modules is this, `Strange` or `Memory`.
+    /// Services move between the current state and the one beside it. Only the calls that undo or
+    /// redo an edit, and no run, give this. No answer of the eight modules is this, `Strange` or
+    /// `Memory`.
     #[error("services moved between the two states")]
     NotEdit,
-    /// The session is poisoned.
+    /// The session is poisoned: a run of it was lost, so nobody can tell what is live.
     #[error("the session is poisoned")]
     Strange,
     #[error("out of memory")]
@@ -191,8 +194,8 @@ impl From<PlanFault> for Refusal {
     }
 }
 
-/// Why an undo, a redo or an edit was not begun on a line of states. Nothing has changed. It is in
-/// none of the eight modules: calls below a session give it.
+/// Why a change, an edit, an undo or a redo was not begun on a line of states. Nothing has changed.
+/// It is in none of the eight modules: calls below a session give it.
 #[derive(Clone, Copy, PartialEq, Eq, Debug, Error)]
 pub enum LineFault {
     /// The current state is the first.
@@ -201,7 +204,7 @@ pub enum LineFault {
     /// The current state is the last.
     #[error("there is nothing to redo")]
     NothingToRedo = 2,
-    /// A growth was refused.
+    /// Memory ran out.
     #[error("out of memory")]
     Memory = 3,
 }

@@ -26,7 +26,8 @@ impl Model for Names {
 
     ghost view = { λ names. values names.table };
 
-    ghost invariant = { λ names. (map string_bytes (keys names.table) ≡ values names.table) × AreNames (values names.table) };
+    ghost invariant = { λ names. (map string_bytes (keys names.table) ≡ values names.table)
+        × AreNames (values names.table) };
 }
 
 impl Names {

@@ -52,23 +52,28 @@ IsKindText d name text = (kind : Kind) × IsKindOf d name kind × (text ≡ line
 
 -- the limit of a service on its way
 abbrev pub IsLimitText : Database → Way → Text → List ℕ → Type 0
-IsLimitText d way name text = (service : Service) × IsServiceNamed d name service × (text ≡ line (decimal (limit_of service way)))
+IsLimitText d way name text = (service : Service) × IsServiceNamed d name service
+    × (text ≡ line (decimal (limit_of service way)))
 
 -- the flags of a service
 abbrev pub IsFlagsText : Database → Text → List ℕ → Type 0
-IsFlagsText d name text = (service : Service) × IsServiceNamed d name service × (text ≡ flag_lines service.essential)
+IsFlagsText d name text =
+    (service : Service) × IsServiceNamed d name service × (text ≡ flag_lines service.essential)
 
 -- the services of a bundle
 abbrev pub IsContentsText : Database → Text → List ℕ → Type 0
-IsContentsText d name text = (set : List Bool) × (value_of d.table name ≡ Some set) × IsListed d (Has set) text
+IsContentsText d name text =
+    (set : List Bool) × (value_of d.table name ≡ Some set) × IsListed d (Has set) text
 
 -- the longruns of a longrun's pipeline
 abbrev pub IsPipelineText : Database → Text → List ℕ → Type 0
-IsPipelineText d name text = IsKindOf d name Longrun × ((s : ℕ) × (slice_get d.names s ≡ Some name) × IsListed d (InPipelineOf d s) text)
+IsPipelineText d name text = IsKindOf d name Longrun
+    × ((s : ℕ) × (slice_get d.names s ≡ Some name) × IsListed d (InPipelineOf d s) text)
 
 -- the bytes that are run for a oneshot on its way, as they stand
 abbrev pub IsScriptText : Database → Way → Text → List ℕ → Type 0
-IsScriptText d way name text = IsKindOf d name Oneshot × ((service : Service) × IsServiceNamed d name service × (text ≡ script_of service way))
+IsScriptText d way name text = IsKindOf d name Oneshot
+    × ((service : Service) × IsServiceNamed d name service × (text ≡ script_of service way))
 
 -- the answer of a query of one name
 abbrev pub IsNameAnswer : Database → Way → NameQuery → Text → List ℕ → Type 0
@@ -104,7 +109,8 @@ pub record IsNamesAnswer (d : Database) (way : Way) (query : NamesQuery) (names 
 -- what is live where the text of a session stands, and nothing without one
 abbrev pub IsLiveBy : Database → Option (List ℕ) → List Bool → Type 0
 IsLiveBy d None live = live ≡ []
-IsLiveBy d (Some bytes) live = (line : Line) × texts.Spells d bytes line × (live ≡ line.current.live)
+IsLiveBy d (Some bytes) live =
+    (line : Line) × texts.Spells d bytes line × (live ≡ line.current.live)
 
 -- the picture, with what is live filled
 abbrev pub IsPicture : Database → Option (List ℕ) → List ℕ → Type 0
@@ -154,8 +160,10 @@ IsUnanswered d shown (OfName query name) fault =
 IsUnanswered d shown (OfNames query names) fault =
     IsOfQuery (IsNamesFault d.names d.table names) fault
 
--- what is written for what is asked, in the database that is spelled, where this is the text of the session to show
-pub record IsAnswerFor (ask : DbAsk) (base shown : Option (List ℕ)) (input output : List ℕ) : Type 0 where
+-- what is written for what is asked, in the database that is spelled, where this is
+-- the text of the session to show
+pub record IsAnswerFor (ask : DbAsk) (base shown : Option (List ℕ))
+    (input output : List ℕ) : Type 0 where
   pub database : Database
   pub rest : List ℕ
   pub spelled : Spells base input database rest
@@ -163,4 +171,5 @@ pub record IsAnswerFor (ask : DbAsk) (base shown : Option (List ℕ)) (input out
 
 -- the same, of the words that ask
 abbrev pub IsDbAnswer : List Text → (base shown : Option (List ℕ)) → List ℕ → List ℕ → Type 0
-IsDbAnswer words base shown input output = (ask : DbAsk) × AsksDb words ask × IsAnswerFor ask base shown input output
+IsDbAnswer words base shown input output =
+    (ask : DbAsk) × AsksDb words ask × IsAnswerFor ask base shown input output

@@ -54,26 +54,35 @@ db_fault_text (OfLive fault) question = live_word fault
 db_fault_text Memory question = codes "Memory"
 
 -- a refusal of what is asked holds, and a writer gains a prefix of the line that tells it
-abbrev pub TellsAnswerFault : DbAsk → (base shown : Option (List ℕ)) → List ℕ → Option (List ℕ) → Option (List ℕ) → Type 0
-TellsAnswerFault ask base shown input old new = (fault : DbFault) × IsDbRefused fault ask base shown input × (fault ≢ Memory) × AppendsFront old new (fault_line (db_fault_text fault ask.question))
+abbrev pub TellsAnswerFault : DbAsk → (base shown : Option (List ℕ)) → List ℕ → Option (List ℕ) →
+    Option (List ℕ) → Type 0
+TellsAnswerFault ask base shown input old new = (fault : DbFault)
+    × IsDbRefused fault ask base shown input × (fault ≢ Memory)
+    × AppendsFront old new (fault_line (db_fault_text fault ask.question))
 
 -- the same, of the words that ask
-abbrev pub TellsDbFault : List Text → (base shown : Option (List ℕ)) → List ℕ → Option (List ℕ) → Option (List ℕ) → Type 0
-TellsDbFault words base shown input old new = (ask : DbAsk) × AsksDb words ask × TellsAnswerFault ask base shown input old new
+abbrev pub TellsDbFault : List Text → (base shown : Option (List ℕ)) → List ℕ → Option (List ℕ) →
+    Option (List ℕ) → Type 0
+TellsDbFault words base shown input old new =
+    (ask : DbAsk) × AsksDb words ask × TellsAnswerFault ask base shown input old new
 
 -- a fault of the text as a refusal
 abbrev pub IsTextTold : TextFault → DbFault → Type 0
-IsTextTold fault refusal = ((fault ≡ text.Memory) × (refusal ≡ Memory)) ⊎ ((fault ≢ text.Memory) × (refusal ≡ OfText fault))
+IsTextTold fault refusal = ((fault ≡ text.Memory) × (refusal ≡ Memory))
+    ⊎ ((fault ≢ text.Memory) × (refusal ≡ OfText fault))
 
 -- a fault of a query as a refusal
 abbrev pub IsQueryTold : QueryFault → DbFault → Type 0
-IsQueryTold fault refusal = ((fault ≡ wrong.Memory) × (refusal ≡ Memory)) ⊎ ((fault ≢ wrong.Memory) × (refusal ≡ OfQuery fault))
+IsQueryTold fault refusal = ((fault ≡ wrong.Memory) × (refusal ≡ Memory))
+    ⊎ ((fault ≢ wrong.Memory) × (refusal ≡ OfQuery fault))
 
 -- a fault of the text of a session as a refusal
 abbrev pub IsLiveTold : LiveFault → DbFault → Type 0
-IsLiveTold fault refusal = ((fault ≡ live.Memory) × (refusal ≡ Memory)) ⊎ ((fault ≢ live.Memory) × (refusal ≡ OfLive fault))
+IsLiveTold fault refusal = ((fault ≡ live.Memory) × (refusal ≡ Memory))
+    ⊎ ((fault ≢ live.Memory) × (refusal ≡ OfLive fault))
 
--- what is so of the input that is read: none of it where there is a base, and else all of what a reader has
+-- what is so of the input that is read: none of it where there is a base,
+-- and else all of what a reader has
 abbrev pub IfRead : Option (List ℕ) → Option (List ℕ) → (List ℕ → Type 0) → Type 0
 IfRead (Some base) remaining P = P []
 IfRead None remaining P = IfSome remaining P

@@ -13,7 +13,8 @@ AreNamed names words = All (Contains names) words
 
 -- the first word that is no name
 abbrev pub IsFirstUnknown : List (List ℕ) → List (List ℕ) → List ℕ → Type 0
-IsFirstUnknown names words word = (before : List (List ℕ)) × (after : List (List ℕ)) × (words ≡ before ++ word ∷ after) × AreNamed names before × (Contains names word → ⊥)
+IsFirstUnknown names words word = (before : List (List ℕ)) × (after : List (List ℕ))
+    × (words ≡ before ++ word ∷ after) × AreNamed names before × (Contains names word → ⊥)
 
 -- the lines of a list of words: empty ones do not count, and the last may lack its newline
 abbrev pub word_lines : List ℕ → List (List ℕ)

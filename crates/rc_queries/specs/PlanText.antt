@@ -33,7 +33,8 @@ pub record IsTextFor (d : Database) (ups : List (List ℕ)) (ask : Ask) (text : 
   pub planned : IsPlanIn d up ask plan
   pub lines : IsPlanText d.names plan text
 
--- what is written for what is asked: the plan in the database that is spelled, where the lines after it name what is up
+-- what is written for what is asked: the plan in the database that is spelled, where the
+-- lines after it name what is up
 pub record IsPlanFor (ask : Ask) (base : Option (List ℕ)) (input output : List ℕ) : Type 0 where
   pub database : Database
   pub rest : List ℕ
@@ -42,4 +43,5 @@ pub record IsPlanFor (ask : Ask) (base : Option (List ℕ)) (input output : List
 
 -- the same, of the words that ask
 abbrev pub IsAnswer : List (List ℕ) → Option (List ℕ) → List ℕ → List ℕ → Type 0
-IsAnswer words base input output = (ask : Ask) × (plan_asked words ≡ Some ask) × IsPlanFor ask base input output
+IsAnswer words base input output =
+    (ask : Ask) × (plan_asked words ≡ Some ask) × IsPlanFor ask base input output

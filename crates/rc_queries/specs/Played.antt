@@ -14,12 +14,15 @@ abbrev pub fresh : Database → Holding
 fresh d = record { database = d; line = first_line d 1024; begun = false; spoiled = false }
 
 -- the answers to commands, then what is live after them, then the journal
-pub record IsTold (d : Database) (commands : List Command) (answers : List (Result Reported Refusal)) (left : Holding) (text : List ℕ) : Type 0 where
+pub record IsTold (d : Database) (commands : List Command)
+    (answers : List (Result Reported Refusal)) (left : Holding) (text : List ℕ) : Type 0 where
   pub journal : List ℕ
   pub lines : IsJournalText d.names left.line journal
-  pub all : text ≡ answers_text d.names commands answers ++ live_text d.names left.line.current.live ++ journal
+  pub all : text ≡ answers_text d.names commands answers ++ live_text d.names left.line.current.live
+      ++ journal
 
--- what commands come to on a database: they are carried out one after the other, from nothing, each with its own events
+-- what commands come to on a database: they are carried out one after the other, from
+-- nothing, each with its own events
 pub record IsPlayed (d : Database) (commands : List Command) (text : List ℕ) : Type 0 where
   pub answers : List (Result Reported Refusal)
   pub left : Holding
@@ -28,4 +31,5 @@ pub record IsPlayed (d : Database) (commands : List Command) (text : List ℕ) :
 
 -- what a script comes to on a database
 abbrev pub IsReplay : Database → (script text : List ℕ) → Type 0
-IsReplay d script text = (commands : List Command) × IsScript d.names script commands × IsPlayed d commands text
+IsReplay d script text =
+    (commands : List Command) × IsScript d.names script commands × IsPlayed d commands text

@@ -16,12 +16,15 @@ use Rattle.rc_queries.specs.declared.replay.ReplayFault.TheVariants.{OfText, Bad
 
 -- what is printed: what the script after the database comes to
 abbrev pub IsReplayFor : Option (List ℕ) → (input output : List ℕ) → Type 0
-IsReplayFor base input output = (d : Database) × (rest : List ℕ) × Spells base input d rest × IsReplay d rest output
+IsReplayFor base input output =
+    (d : Database) × (rest : List ℕ) × Spells base input d rest × IsReplay d rest output
 
--- when each refusal comes: those of the database text, and then the first line of the script that may not stand where it does
+-- when each refusal comes: those of the database text, and then the first line of the script
+-- that may not stand where it does
 abbrev pub IsReplayRefused : ReplayFault → Option (List ℕ) → List ℕ → Type 0
 IsReplayRefused (OfText fault) base input = (fault ≢ text.Memory) × IsTextFault base input fault
-IsReplayRefused (BadLine number) base input = (d : Database) × (rest : List ℕ) × Spells base input d rest × IsBadLine d.names rest number
+IsReplayRefused (BadLine number) base input =
+    (d : Database) × (rest : List ℕ) × Spells base input d rest × IsBadLine d.names rest number
 IsReplayRefused Memory base input = Unit {0}
 
 -- a fault of the database text, as a refusal
@@ -42,4 +45,5 @@ replay_fault_text Memory = codes "Memory"
 
 -- a refusal holds, and a writer gains a prefix of the line that tells it
 abbrev pub TellsReplayFault : Option (List ℕ) → List ℕ → Option (List ℕ) → Option (List ℕ) → Type 0
-TellsReplayFault base input old new = (fault : ReplayFault) × IsReplayRefused fault base input × (fault ≢ Memory) × AppendsFront old new (fault_line (replay_fault_text fault))
+TellsReplayFault base input old new = (fault : ReplayFault) × IsReplayRefused fault base input
+    × (fault ≢ Memory) × AppendsFront old new (fault_line (replay_fault_text fault))

@@ -19,9 +19,10 @@ use std::io::{Read, Write};
 
 /// Runs `undorc db` on its words, and answers the status.
 ///
-/// The database is `base`, where there is one, and then nothing is read; else it stands at the
-/// beginning of the input, and the rest of that is ignored. A picture shows the session whose text is
-/// `shown`, if there is one. The answer is written to `writer`, and why there is none to `faults`.
+/// The database is `base`, where there is one, and then nothing is read; else it stands at
+/// the beginning of the input, and the rest of that is ignored. A picture shows the
+/// session whose text is `shown`, if there is one. The answer is written to `writer`, and
+/// why there is none to `faults`.
 pub fn db_run<R: Read, W: Write, F: Write>(
     alloc: Global,
     words: &[String],
@@ -52,8 +53,8 @@ pub fn db_run<R: Read, W: Write, F: Write>(
     ensures unread { result ≡ 100 → R.remaining (inner_of reader.new)
         ≡ R.remaining (inner_of reader.old) }
 
-    // A failure is told by the line of its cause, and what was written is nothing or a prefix of the
-    // answer.
+    // A failure is told by the line of its cause, and what was written is
+    // nothing or a prefix of the answer.
     ensures failed { result ≡ 111 → TellsFailure (R.remaining (inner_of reader.old))
         (HasFailed reader.new) (HasFailed writer.new)
         (F.contents faults.old) (F.contents faults.new) }
@@ -111,8 +112,8 @@ pub fn db_as_asked<R: Read, W: Write, F: Write>(
         (db_ask_of request.now) (bytes_of base.entry) (bytes_of shown.entry) input
         (F.contents faults.old) (F.contents faults.new)) }
 
-    // A failure is told by the line of its cause, and what was written is nothing or a prefix of the
-    // answer.
+    // A failure is told by the line of its cause, and what was written is
+    // nothing or a prefix of the answer.
     ensures failed { result ≡ 111 → TellsFailure (R.remaining (inner_of reader.old))
         (HasFailed reader.new) (HasFailed writer.new)
         (F.contents faults.old) (F.contents faults.new) }

@@ -177,8 +177,10 @@ fn names_text(
     names: &[String],
     way: Way,
 ) -> Result<Vec<u8>, DbFault>
-    ensures text { IfOk result (λ text. IsNamesAnswer db.now way query (map string_bytes names.now) text.items) }
-    ensures fault { IfErr result (IsOfQuery (IsNamesFault db.now.names db.now.table (map string_bytes names.now))) }
+    ensures text { IfOk result (λ text.
+        IsNamesAnswer db.now way query (map string_bytes names.now) text.items) }
+    ensures fault { IfErr result (IsOfQuery
+        (IsNamesFault db.now.names db.now.table (map string_bytes names.now))) }
 {
     let ids = ids_found(alloc, db, query, names, way)?;
     Ok(id_lines(alloc, db.names(), &ids)?)
@@ -194,8 +196,10 @@ fn ids_found(
 ) -> Result<Vec<u16>, QueryFault>
     ensures ids { IfOk result (λ ids. Lists (IsFound db.now way query
         (Selected db.now.names db.now.table (map string_bytes names.now))) ids.items) }
-    ensures known { OnOk result (All (IsKnown db.now.names db.now.table) (map string_bytes names.now)) }
-    ensures fault { IfErr result (IsNamesFault db.now.names db.now.table (map string_bytes names.now)) }
+    ensures known { OnOk result (All (IsKnown db.now.names db.now.table)
+        (map string_bytes names.now)) }
+    ensures fault { IfErr result (IsNamesFault db.now.names db.now.table
+        (map string_bytes names.now)) }
 {
     match query {
         NamesQuery::Atomics => db.atomics(alloc, names),

@@ -77,8 +77,10 @@ pub(crate) fn tell_db_fault<F: Write>(
 ) -> u8
     ensures statuses { (result ≡ 1) ⊎ (result ≡ 111) }
     ensures refused { result ≡ 1 → (fault ≢ Memory)
-        × AppendsFront (F.contents faults.old) (F.contents faults.new) (fault_line (db_fault_text fault (question_of query.now))) }
-    ensures failed { result ≡ 111 → AppendsFront (F.contents faults.old) (F.contents faults.new) (fault_line (failure_text Failure.Memory)) }
+        × AppendsFront (F.contents faults.old) (F.contents faults.new)
+        (fault_line (db_fault_text fault (question_of query.now))) }
+    ensures failed { result ≡ 111 → AppendsFront (F.contents faults.old) (F.contents faults.new)
+        (fault_line (failure_text Failure.Memory)) }
 {
     if let DbFault::Memory = fault {
         return fail(faults, Failure::Memory);
@@ -135,7 +137,8 @@ pub fn query_hint(word: &str) -> Option<&'static str>
 
 // The name at a place of those that a query is of.
 fn name_at<'q>(query: &'q Query<'_>, place: usize) -> Option<&'q str>
-    ensures { option_map (λ name. name.now) result ≡ slice_get (names_in (question_of query.entry.now)) place }
+    ensures { option_map (λ name. name.now) result
+        ≡ slice_get (names_in (question_of query.entry.now)) place }
 {
     match query {
         Query::OfName(_, name) if place == 0 => Some(name),

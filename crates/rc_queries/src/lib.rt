@@ -1,4 +1,5 @@
-//! The commands that read a database and what is after it whole, and answer: `plan`, `db`, `replay`.
+//! The commands that read a database and what is after it whole, and
+//! answer: `plan`, `db`, `replay`.
 #![tactic(auto)]
 
 mod db;

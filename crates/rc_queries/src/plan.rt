@@ -91,8 +91,8 @@ impl<'a> From<NamedFault<'a>> for PlanFault<'a> {
 /// Runs `undorc plan` on its words, and answers the status.
 ///
 /// The database is `base`, where there is one, which is looked at before anything is read, and else
-/// the beginning of the input. After it the input has the names that are up, one a line. The plan is
-/// written to `writer`, and why there is none to `faults`.
+/// the beginning of the input. After it the input has the names that are up, one a line. The plan
+/// is written to `writer`, and why there is none to `faults`.
 pub fn plan_run<R: Read, W: Write, F: Write>(
     alloc: Global,
     words: &[String],
@@ -120,8 +120,8 @@ pub fn plan_run<R: Read, W: Write, F: Write>(
     ensures unread { result ≡ 100 → R.remaining (inner_of reader.new)
         ≡ R.remaining (inner_of reader.old) }
 
-    // A failure is told by the line of its cause, and what was written is nothing or a prefix of the
-    // plan.
+    // A failure is told by the line of its cause, and what was written is
+    // nothing or a prefix of the plan.
     ensures failed { result ≡ 111 → TellsFailure (R.remaining (inner_of reader.old))
         (HasFailed reader.new) (HasFailed writer.new)
         (F.contents faults.old) (F.contents faults.new) }
@@ -183,8 +183,8 @@ pub fn plan_as_asked<R: Read, W: Write, F: Write>(
         (ask_of request.now) (bytes_of base.entry) input (F.contents faults.old)
         (F.contents faults.new)) }
 
-    // A failure is told by the line of its cause, and what was written is nothing or a prefix of the
-    // plan.
+    // A failure is told by the line of its cause, and what was written is
+    // nothing or a prefix of the plan.
     ensures failed { result ≡ 111 → TellsFailure (R.remaining (inner_of reader.old))
         (HasFailed reader.new) (HasFailed writer.new)
         (F.contents faults.old) (F.contents faults.new) }

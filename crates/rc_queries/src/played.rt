@@ -13,7 +13,8 @@ use rc_script::{NoMem, ScriptFault, read_script};
 use rc_session::{Refusal, Report, Session, Step};
 use std::alloc::Global;
 
-/// The answers to the commands of a script, carried out on a database from nothing, then what is live, then the journal.
+/// The answers to the commands of a script, carried out on a database from nothing, then
+/// what is live, then the journal.
 pub(crate) fn replay_text(alloc: Global, db: Db, script: &[u8]) -> Result<Vec<u8>, ScriptFault>
     ensures text { IfOk result (λ text. IsReplay db script.now text.items) }
     ensures fault { IfErr result (IsScriptFault db.names script.now) }
@@ -23,7 +24,8 @@ pub(crate) fn replay_text(alloc: Global, db: Db, script: &[u8]) -> Result<Vec<u8
     Ok(text)
 }
 
-/// The answers to commands that are carried out on a database from nothing, then what is live, then the journal.
+/// The answers to commands that are carried out on a database from nothing, then
+/// what is live, then the journal.
 fn played_text(alloc: Global, db: Db, steps: &[Step]) -> Result<Vec<u8>, NoMem>
     ensures { IfOk result (λ text. IsPlayed db (map command_of steps.now) text.items) }
 {
@@ -40,7 +42,8 @@ fn told_text(
     answers: &[Result<Report, Refusal>],
 ) -> Result<Vec<u8>, NoMem>
     requires { session.now.begun ≡ false }
-    ensures { IfOk result (λ text. IsTold session.now.database (map command_of steps.now) (map answer_of answers.now) session.now text.items) }
+    ensures { IfOk result (λ text. IsTold session.now.database (map command_of steps.now)
+        (map answer_of answers.now) session.now text.items) }
 {
     let names = session.db().names();
     let mut text = answers_text(alloc, names, steps, answers)?;
@@ -58,7 +61,8 @@ fn answers_text(
     steps: &[Step],
     answers: &[Result<Report, Refusal>],
 ) -> Result<Vec<u8>, NoMem>
-    ensures { IfOk result (λ text. text.items ≡ answers_text names.now (map command_of steps.now) (map answer_of answers.now)) }
+    ensures { IfOk result (λ text. text.items
+        ≡ answers_text names.now (map command_of steps.now) (map answer_of answers.now)) }
 {
     let mut text = Vec::new(alloc);
     for (place, step) in steps.iter().enumerate() {

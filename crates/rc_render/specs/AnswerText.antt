@@ -21,4 +21,5 @@ answer_text names command (Err refusal) = refusal_text (words_of command) refusa
 abbrev pub answers_text : List (List ℕ) → List Command → List (Result Reported Refusal) → List ℕ
 answers_text names [] answers = []
 answers_text names (command ∷ commands) [] = []
-answers_text names (command ∷ commands) (answer ∷ answers) = answer_text names command answer ++ answers_text names commands answers
+answers_text names (command ∷ commands) (answer ∷ answers) =
+    answer_text names command answer ++ answers_text names commands answers

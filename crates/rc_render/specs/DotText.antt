@@ -9,7 +9,9 @@ use Rattle.rc_render.specs.Names.{names_in}
 
 -- a byte between quotes: `"` and `\` after a `\`, `&` as the entity that graphviz shows as it
 abbrev pub quoted_byte : ℕ → List ℕ
-quoted_byte byte = if nat_eq byte 34 then 92 ∷ 34 ∷ [] else (if nat_eq byte 92 then 92 ∷ 92 ∷ [] else (if nat_eq byte 38 then codes "&amp;" else byte ∷ []))
+quoted_byte byte = if nat_eq byte 34 then 92 ∷ 34 ∷ []
+    else (if nat_eq byte 92 then 92 ∷ 92 ∷ []
+    else (if nat_eq byte 38 then codes "&amp;" else byte ∷ []))
 
 -- a name between quotes
 abbrev pub in_quotes : List ℕ → List ℕ
@@ -58,12 +60,15 @@ service_line name (Some service) live = node_line name (look service.kind servic
 
 -- a service: its node, and an edge to each that it needs
 abbrev pub service_lines : Database → List Bool → ℕ → List ℕ
-service_lines d live s = service_line (slice_index_or d.names s []) (slice_get d.services s) (slice_index_or live s false)
-    ++ edge_lines need_end (slice_index_or d.names s []) (names_at d.names (slice_index_or d.needs s []))
+service_lines d live s = service_line (slice_index_or d.names s []) (slice_get d.services s)
+    (slice_index_or live s false)
+    ++ edge_lines need_end (slice_index_or d.names s [])
+    (names_at d.names (slice_index_or d.needs s []))
 
 -- a bundle: its node, and an edge to each of its members
 abbrev pub bundle_lines : List (List ℕ) → List ℕ × List Bool → List ℕ
-bundle_lines names bundle = node_line bundle.0 (look Bundle false false) ++ edge_lines member_end bundle.0 (names_in names bundle.1)
+bundle_lines names bundle = node_line bundle.0 (look Bundle false false)
+    ++ edge_lines member_end bundle.0 (names_in names bundle.1)
 
 -- the picture of a database in which these services are live
 abbrev pub dot_text : Database → List Bool → List ℕ

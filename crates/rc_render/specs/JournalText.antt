@@ -20,34 +20,41 @@ signs (name ∷ names) [] to = []
 signs (name ∷ names) (a ∷ from) [] = []
 signs (name ∷ names) (a ∷ from) (b ∷ to) = sign name a b ++ signs names from to
 
--- the value of a bundle: its members in brackets with a comma between them, or none where the name is no bundle
+-- the value of a bundle: its members in brackets with a comma between them, or
+-- none where the name is no bundle
 abbrev pub value_text : List (List ℕ) → Option (List Bool) → List ℕ
 value_text names None = codes "none"
 value_text names (Some set) = codes "[" ++ join_with_byte 44 (names_in names set) ++ codes "]"
 
 -- a bundle that altered, with both values
 abbrev pub alteration_text : List (List ℕ) → Alteration → List ℕ
-alteration_text names a = codes " " ++ a.name ++ codes ":" ++ value_text names a.before ++ codes ">" ++ value_text names a.after
+alteration_text names a = codes " " ++ a.name ++ codes ":" ++ value_text names a.before ++ codes ">"
+    ++ value_text names a.after
 
--- the line of the entry from one state to another: its place, the services that moved, the bundles that altered
+-- the line of the entry from one state to another: its place, the services that
+-- moved, the bundles that altered
 abbrev pub IsEntryLine : List (List ℕ) → ℕ → State → State → List ℕ → Type 0
 IsEntryLine names place from to text = (edit : List Alteration) × IsEdit from.table to.table edit
-    × (text ≡ line (decimal place ++ signs names from.live to.live ++ flat_map (alteration_text names) edit))
+    × (text ≡ line (decimal place ++ signs names from.live to.live
+    ++ flat_map (alteration_text names) edit))
 
 -- the lines of the entries between states, the first with this place
 abbrev pub AreEntryLines : List (List ℕ) → ℕ → List State → List ℕ → Type 0
 AreEntryLines names place [] text = text ≡ []
 AreEntryLines names place (a ∷ []) text = text ≡ []
-AreEntryLines names place (a ∷ b ∷ rest) text = (first : List ℕ) × (others : List ℕ) × IsEntryLine names place a b first
+AreEntryLines names place (a ∷ b ∷ rest) text =
+    (first : List ℕ) × (others : List ℕ) × IsEntryLine names place a b first
     × AreEntryLines names (suc place) (b ∷ rest) others × (text ≡ first ++ others)
 
 -- where the cursor of a line stands, and how many states the line has
 abbrev pub place_line : Line → List ℕ
-place_line l = line (codes "at " ++ decimal (cursor l) ++ codes " of " ++ decimal (length (states l)))
+place_line l =
+    line (codes "at " ++ decimal (cursor l) ++ codes " of " ++ decimal (length (states l)))
 
 -- the journal of a line: where it stands, and its entries
 abbrev pub IsJournalText : List (List ℕ) → Line → List ℕ → Type 0
-IsJournalText names l text = (entries : List ℕ) × AreEntryLines names 0 (states l) entries × (text ≡ place_line l ++ entries)
+IsJournalText names l text =
+    (entries : List ℕ) × AreEntryLines names 0 (states l) entries × (text ≡ place_line l ++ entries)
 
 -- the entry from one state to another, both with sets of this bound
 pub record IsEntryBelow (bound : ℕ) (from to : State) (entry : Entry) : Type 0 where

@@ -21,4 +21,5 @@ names_at names ids = map (λ id. slice_index_or names id []) ids
 
 -- the line of the services of which this holds, in byte order
 abbrev pub IsLineOf : List ℕ → List (List ℕ) → (ℕ → Type 0) → List ℕ → Type 0
-IsLineOf word names P text = (ids : List ℕ) × Lists P ids × (text ≡ names_line word (names_at names ids))
+IsLineOf word names P text =
+    (ids : List ℕ) × Lists P ids × (text ≡ names_line word (names_at names ids))

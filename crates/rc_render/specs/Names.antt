@@ -10,7 +10,8 @@ names_in (name ∷ names) [] = []
 names_in (name ∷ names) (true ∷ set) = name ∷ names_in names set
 names_in (name ∷ names) (false ∷ set) = names_in names set
 
--- a word and the names of a set after it, one space before each; the word alone where the set is empty
+-- a word and the names of a set after it, one space before each; the
+-- word alone where the set is empty
 abbrev pub set_line : List ℕ → List (List ℕ) → List Bool → List ℕ
 set_line word names set = line (word ++ flat_map (λ name. 32 ∷ name) (names_in names set))
 

@@ -4,7 +4,8 @@ use Rattle.rc_model.specs.declared.Refusal.{Refusal}
 use Rattle.rc_model.specs.declared.Refusal.TheVariants.{BadEvent, NotSettled, PruneNeedsUp, Unknown, IsAtomic, Exists, Missing, Full, NothingToUndo, NothingToRedo, NotEdit, Strange, Memory}
 use Rattle.rc_render.specs.Lines.{line}
 
--- the place of the word that a refusal speaks of, if it speaks of one; a bundle that is there already is the first word
+-- the place of the word that a refusal speaks of, if it speaks of one; a bundle that is
+-- there already is the first word
 abbrev pub place_of : Refusal → ℕ
 place_of (Unknown place) = place
 place_of (IsAtomic place) = place
@@ -29,4 +30,5 @@ refusal_words word Memory = codes "Memory"
 
 -- the answer to a command that is refused, by its words
 abbrev pub refusal_text : List (List ℕ) → Refusal → List ℕ
-refusal_text words refusal = line (codes "refused " ++ refusal_words (slice_index_or words (place_of refusal) []) refusal)
+refusal_text words refusal =
+    line (codes "refused " ++ refusal_words (slice_index_or words (place_of refusal) []) refusal)

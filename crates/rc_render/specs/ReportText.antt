@@ -3,7 +3,8 @@ use Rattle.rc_model.specs.Session.{Reported}
 use Rattle.rc_render.specs.Lines.{names_line, names_at}
 use Rattle.rc_render.specs.Names.{ok_line}
 
--- the answer to a command that is done: a line for each list of services that is not empty, and the last line
+-- the answer to a command that is done: a line for each list of services that
+-- is not empty, and the last line
 abbrev pub report_text : List (List ℕ) → Reported → List ℕ
 report_text names told = names_line (codes "lowered") (names_at names told.lowered)
     ++ names_line (codes "raised") (names_at names told.raised)

@@ -17,7 +17,8 @@ pub fn answer_text(
     step: &Step,
     answer: &Result<Report, Refusal>,
 ) -> Result<Vec<u8>, NoMem>
-    ensures { IfOk result (λ text. text.items ≡ answer_text names.now (command_of step.now) (answer_of answer.now)) }
+    ensures { IfOk result (λ text. text.items
+        ≡ answer_text names.now (command_of step.now) (answer_of answer.now)) }
 {
     match answer {
         Ok(report) => report_text(alloc, names, report),

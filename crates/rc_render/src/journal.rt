@@ -18,7 +18,8 @@ use std::alloc::Global;
 
 /// The journal of a line.
 ///
-/// Time: it grows with the entries, and for each with its own length and the number of services. No state is made.
+/// Time: it grows with the entries, and for each with its own length and the number
+/// of services. No state is made.
 pub fn journal_text(alloc: Global, db: &Db, line: &Line) -> Result<Vec<u8>, NoMem>
     requires closed { line.now.is_open ≡ false }
     requires line { IsLineOf db.now line.now.line }
@@ -44,7 +45,8 @@ fn place_line(alloc: Global, line: &Line) -> Result<Vec<u8>, NoMem>
 /// The line of the entry at a place.
 fn entry_line(alloc: Global, names: &Names, place: usize, entry: &Entry) -> Result<Vec<u8>, NoMem>
     requires { (from : State) × (to : State) × IsEntryBelow (length names.now) from to entry.now }
-    ensures { (from to : State) → IsEntryBelow (length names.now) from to entry.now → IfOk result (λ text. IsEntryLine names.now place from to text.items) }
+    ensures { (from to : State) → IsEntryBelow (length names.now) from to entry.now →
+        IfOk result (λ text. IsEntryLine names.now place from to text.items) }
 {
     let up = set_of(alloc, names.len(), entry.raised())?;
     let down = set_of(alloc, names.len(), entry.lowered())?;
@@ -80,7 +82,8 @@ fn set_of(alloc: Global, bound: u16, ids: &[u16]) -> Result<Set, NoMem>
 fn add_signs(text: &mut Vec<u8>, names: &Names, up: &Set, down: &Set) -> Result<(), NoMem>
     requires up { length up.now ≡ length names.now }
     requires down { length down.now ≡ length names.now }
-    ensures { (from to : List Bool) → AreMoves from to up.now down.now → OnOk result (text.new.items ≡ text.old.items ++ signs names.now from to) }
+    ensures { (from to : List Bool) → AreMoves from to up.now down.now →
+        OnOk result (text.new.items ≡ text.old.items ++ signs names.now from to) }
 {
     for id in 0..names.len() {
         add_sign(text, names.name_of(id), up.contains(id), down.contains(id))?;
@@ -90,7 +93,8 @@ fn add_signs(text: &mut Vec<u8>, names: &Names, up: &Set, down: &Set) -> Result<
 
 /// Appends a service to a text, if it came up or went down.
 fn add_sign(text: &mut Vec<u8>, name: &Name, is_up: bool, is_down: bool) -> Result<(), NoMem>
-    ensures { (a b : Bool) → (is_up ≡ true ↔ ((b ≡ true) × (a ≡ true → ⊥))) → (is_down ≡ true ↔ ((a ≡ true) × (b ≡ true → ⊥)))
+    ensures { (a b : Bool) → (is_up ≡ true ↔ ((b ≡ true) × (a ≡ true → ⊥))) →
+        (is_down ≡ true ↔ ((a ≡ true) × (b ≡ true → ⊥)))
         → OnOk result (text.new.items ≡ text.old.items ++ sign name.now a b) }
 {
     if is_up {
@@ -105,7 +109,8 @@ fn add_sign(text: &mut Vec<u8>, name: &Name, is_up: bool, is_down: bool) -> Resu
 
 /// Appends the bundles that altered to a text.
 fn add_edit(text: &mut Vec<u8>, names: &Names, edit: &Edit) -> Result<(), NoMem>
-    ensures { OnOk result (text.new.items ≡ text.old.items ++ flat_map (alteration_text names.now) edit.now) }
+    ensures { OnOk result (text.new.items ≡ text.old.items
+        ++ flat_map (alteration_text names.now) edit.now) }
 {
     for place in 0..edit.len() {
         let (name, before, after) = edit.at(place);
@@ -122,7 +127,12 @@ fn add_alteration(
     before: Option<&Set>,
     after: Option<&Set>,
 ) -> Result<(), NoMem>
-    ensures { OnOk result (text.new.items ≡ text.old.items ++ alteration_text names.now (record { name = name.now; before = option_copied before.entry; after = option_copied after.entry })) }
+    ensures { OnOk result (text.new.items ≡ text.old.items
+        ++ alteration_text names.now (record {
+          name = name.now;
+          before = option_copied before.entry;
+          after = option_copied after.entry;
+        })) }
 {
     text.push(b' ')?;
     text.extend_from_slice(name.text().as_bytes())?;
@@ -134,7 +144,8 @@ fn add_alteration(
 
 /// Appends the value of a bundle to a text.
 fn add_value(text: &mut Vec<u8>, names: &Names, set: Option<&Set>) -> Result<(), NoMem>
-    ensures { OnOk result (text.new.items ≡ text.old.items ++ value_text names.now (option_copied set.entry)) }
+    ensures { OnOk result (text.new.items ≡ text.old.items
+        ++ value_text names.now (option_copied set.entry)) }
 {
     match set {
         None => text.extend_from_slice(b"none"),
@@ -149,7 +160,8 @@ fn add_value(text: &mut Vec<u8>, names: &Names, set: Option<&Set>) -> Result<(),
 
 /// Appends the names of a set to a text, with a comma between them.
 fn add_members(text: &mut Vec<u8>, names: &Names, set: &Set) -> Result<(), NoMem>
-    ensures { OnOk result (text.new.items ≡ text.old.items ++ join_with_byte 44 (names_in names.now set.now)) }
+    ensures { OnOk result (text.new.items ≡ text.old.items
+        ++ join_with_byte 44 (names_in names.now set.now)) }
 {
     let mut is_first = true;
     for id in 0..names.len().min(set.bound()) {
@@ -163,7 +175,8 @@ fn add_members(text: &mut Vec<u8>, names: &Names, set: &Set) -> Result<(), NoMem
 
 /// Appends a name to a text, and a comma before it where it is not the first.
 fn add_member(text: &mut Vec<u8>, name: &Name, is_first: bool) -> Result<(), NoMem>
-    ensures { OnOk result (text.new.items ≡ text.old.items ++ (if is_first then name.now else 44 ∷ name.now)) }
+    ensures { OnOk result (text.new.items ≡ text.old.items
+        ++ (if is_first then name.now else 44 ∷ name.now)) }
 {
     if !is_first {
         text.push(b',')?;

@@ -19,7 +19,8 @@ pub fn refusal_text(alloc: Global, words: &[String], refusal: Refusal) -> Result
 
 /// The answer to a step that is refused.
 pub fn step_refusal_text(alloc: Global, step: &Step, refusal: Refusal) -> Result<Vec<u8>, NoMem>
-    ensures { IfOk result (λ text. text.items ≡ refusal_text (words_of (command_of step.now)) refusal) }
+    ensures { IfOk result (λ text. text.items
+        ≡ refusal_text (words_of (command_of step.now)) refusal) }
 {
     match step {
         Step::Change(request, _) => refusal_text(alloc, &request.names, refusal),
@@ -36,7 +37,8 @@ pub fn add_refusal_text(
     contents: &[String],
     refusal: Refusal,
 ) -> Result<Vec<u8>, NoMem>
-    ensures { IfOk result (λ text. text.items ≡ refusal_text (name.now ∷ map string_bytes contents.now) refusal) }
+    ensures { IfOk result (λ text. text.items
+        ≡ refusal_text (name.now ∷ map string_bytes contents.now) refusal) }
 {
     let word = match place_of(refusal) {
         0 => name.text().as_bytes(),
@@ -47,7 +49,8 @@ pub fn add_refusal_text(
 
 /// The line of a refusal, with the word that it speaks of.
 fn refused(alloc: Global, word: &[u8], refusal: Refusal) -> Result<Vec<u8>, NoMem>
-    ensures { IfOk result (λ text. text.items ≡ line (codes "refused " ++ refusal_words word.now refusal)) }
+    ensures { IfOk result (λ text. text.items
+        ≡ line (codes "refused " ++ refusal_words word.now refusal)) }
 {
     let told = words(alloc, word, refusal)?;
     let mut text = Vec::from_slice(alloc, b"refused ")?;

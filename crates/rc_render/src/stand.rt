@@ -31,7 +31,8 @@ pub fn bundles_text(alloc: Global, names: &Names, table: &Table) -> Result<Vec<u
 
 /// Appends the line of a bundle to a text.
 fn add_bundle(text: &mut Vec<u8>, names: &Names, name: &Name, set: &Set) -> Result<(), NoMem>
-    ensures { OnOk result (text.new.items ≡ text.old.items ++ bundle_line names.now (name.now, set.now)) }
+    ensures { OnOk result (text.new.items ≡ text.old.items
+        ++ bundle_line names.now (name.now, set.now)) }
 {
     text.extend_from_slice(b"bundle ")?;
     add_set_line(text, name.text().as_bytes(), names, set)

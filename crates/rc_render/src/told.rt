@@ -21,7 +21,8 @@ pub(crate) fn add_line(
     names: &Names,
     ids: &[u16],
 ) -> Result<(), NoMem>
-    ensures { OnOk result (text.new.items ≡ text.old.items ++ names_line word.now (names_at names.now ids.now)) }
+    ensures { OnOk result (text.new.items ≡ text.old.items
+        ++ names_line word.now (names_at names.now ids.now)) }
 {
     if ids.is_empty() {
         return Ok(());

@@ -10,7 +10,8 @@ is_plain word = is_digits word && (nat_lt (length word) 2 || not (slice_index wo
 
 -- the number of so many bits that a word gives
 abbrev pub number_in : (bits : ℕ) → List ℕ → Option ℕ
-number_in bits word = if is_plain word && nat_lt (digits_value 10 word) (2 ^ bits) then Some (digits_value 10 word) else None
+number_in bits word = if is_plain word && nat_lt (digits_value 10 word) (2 ^ bits)
+    then Some (digits_value 10 word) else None
 
 -- the status that a word gives, which is not 0
 abbrev pub status_in : List ℕ → Option ℕ

@@ -22,7 +22,8 @@ choice_of letter =
 -- what letters choose, where each chooses something
 abbrev pub choices_of : List ℕ → Option (List Choice)
 choices_of [] = Some []
-choices_of (letter ∷ letters) = option_and_then (λ choice. option_map (λ others. choice ∷ others) (choices_of letters)) (choice_of letter)
+choices_of (letter ∷ letters) = option_and_then (λ choice.
+    option_map (λ others. choice ∷ others) (choices_of letters)) (choice_of letter)
 
 -- what a word of one letter or more after a dash chooses
 abbrev pub word_choices : List ℕ → Option (List Choice)
@@ -35,16 +36,20 @@ pub record Front : Type 0 where
 
 -- more choices in front
 abbrev pub onto : List Choice → Option Front → Option Front
-onto choices front = option_map (λ f. record { choices = choices ++ f.choices; words = f.words }) front
+onto choices front =
+    option_map (λ f. record { choices = choices ++ f.choices; words = f.words }) front
 
--- the choices in front of words, where they are well formed; after `-t` the number of a limit is due
+-- the choices in front of words, where they are well formed; after
+-- `-t` the number of a limit is due
 abbrev pub front_of : (number_due : Bool) → List (List ℕ) → Option Front
 front_of true [] = None
-front_of true (word ∷ words) = option_and_then (λ limit. onto (Limit limit ∷ []) (front_of false words)) (limit_of word)
+front_of true (word ∷ words) =
+    option_and_then (λ limit. onto (Limit limit ∷ []) (front_of false words)) (limit_of word)
 front_of false [] = Some (record { choices = []; words = [] })
 front_of false (word ∷ words) =
     if slice_index word 0 == 45 then
-    (if bytes_eq word (codes "-t") then front_of true words else option_and_then (λ choices. onto choices (front_of false words)) (word_choices word))
+    (if bytes_eq word (codes "-t") then front_of true words
+    else option_and_then (λ choices. onto choices (front_of false words)) (word_choices word))
     else Some (record { choices = []; words = word ∷ words })
 
 -- whether words begin with an option
@@ -54,7 +59,8 @@ has_option (word ∷ words) = slice_index word 0 == 45
 
 -- nothing chosen
 abbrev pub none_chosen : Chosen
-none_chosen = record { up = false; down = false; down_all = false; prune = false; all = false; limit = 0 }
+none_chosen =
+    record { up = false; down = false; down_all = false; prune = false; all = false; limit = 0 }
 
 -- one choice more: a letter again changes nothing, and a limit stands in place of the one before
 abbrev pub with_choice : Chosen → Choice → Chosen
@@ -79,7 +85,13 @@ mode_of up down down_all =
 -- what a change with these choices asks of these words
 abbrev pub asked_by : Chosen → List (List ℕ) → Option Ask
 asked_by chosen words = option_map
-    (λ mode. record { mode = mode; prune = chosen.prune; all = chosen.all; words = words; limit = chosen.limit })
+    (λ mode. record {
+      mode = mode;
+      prune = chosen.prune;
+      all = chosen.all;
+      words = words;
+      limit = chosen.limit;
+    })
     (mode_of chosen.up chosen.down chosen.down_all)
 
 abbrev pub ask_chosen : List Choice → List (List ℕ) → Option Ask
@@ -91,8 +103,10 @@ only_limit [] = Some 0
 only_limit (Limit limit ∷ []) = Some limit
 only_limit other = None
 
--- the new choices are the old ones with those of the option at the beginning, which takes so many words; the number of a limit may be due
-pub record IsOption (number_due : Bool) (old new : List Choice) (words : List (List ℕ)) (count : ℕ) : Type 0 where
+-- the new choices are the old ones with those of the option at the beginning, which takes so many
+-- words; the number of a limit may be due
+pub record IsOption (number_due : Bool) (old new : List Choice) (words : List (List ℕ))
+    (count : ℕ) : Type 0 where
   pub added : List Choice
   pub choices : new ≡ old ++ added
   pub front : front_of number_due words ≡ onto added (front_of false (drop count words))

@@ -15,7 +15,8 @@ use Rattle.rc_script.specs.declared.options.Choice.{Choice}
 use Rattle.rc_script.specs.Words.{words_in, is_silent}
 use Rattle.rc_script.specs.Options.{Front, front_of, ask_chosen, only_limit}
 
--- what a session line says: nothing, nothing that has a form, a command without events, that the plan of a change is wanted, or what is wanted to be shown
+-- what a session line says: nothing, nothing that has a form, a command without events, that the
+-- plan of a change is wanted, or what is wanted to be shown
 pub data Saying : Type 0 where
   SaysNothing : Saying
   SaysWrong : Saying
@@ -84,12 +85,17 @@ abbrev pub limit_alone : List Choice → List (List ℕ) → Option ℕ
 limit_alone choices [] = only_limit choices
 limit_alone choices (word ∷ words) = None
 
--- what a verb says with choices in front of it and words after; an undo and a redo may have one limit in front, and nothing else
+-- what a verb says with choices in front of it and words after; an undo and a redo may have one
+-- limit in front, and nothing else
 abbrev pub said : Verb → List Choice → List (List ℕ) → Saying
-said verb.Change choices words = option_map_or (λ ask. SaysStep (Change ask [])) (ask_chosen choices words) SaysWrong
-said verb.Dry choices words = option_map_or (λ ask. SaysDry ask) (ask_chosen choices words) SaysWrong
-said verb.Undo choices words = option_map_or (λ limit. SaysStep (Undo limit [])) (limit_alone choices words) SaysWrong
-said verb.Redo choices words = option_map_or (λ limit. SaysStep (Redo limit [])) (limit_alone choices words) SaysWrong
+said verb.Change choices words =
+    option_map_or (λ ask. SaysStep (Change ask [])) (ask_chosen choices words) SaysWrong
+said verb.Dry choices words =
+    option_map_or (λ ask. SaysDry ask) (ask_chosen choices words) SaysWrong
+said verb.Undo choices words =
+    option_map_or (λ limit. SaysStep (Undo limit [])) (limit_alone choices words) SaysWrong
+said verb.Redo choices words =
+    option_map_or (λ limit. SaysStep (Redo limit [])) (limit_alone choices words) SaysWrong
 said verb.Add choices words = plain (addition_of (is_forced words) (unforced words)) choices
 said verb.Delete choices words = plain (deletion_of (is_forced words) (unforced words)) choices
 said verb.Live choices words = plain (alone SaysLive words) choices
@@ -103,7 +109,8 @@ behind choices (word ∷ words) = option_map_or (λ v. said v choices words) (ve
 
 -- what words say
 abbrev pub sentence : List (List ℕ) → Saying
-sentence words = option_map_or (λ front. behind front.choices front.words) (front_of false words) SaysWrong
+sentence words =
+    option_map_or (λ front. behind front.choices front.words) (front_of false words) SaysWrong
 
 -- a name that is said to be defined is a name
 abbrev pub HasName : Saying → Type 0
@@ -115,7 +122,8 @@ pub record IsRight (line : List ℕ) : Type 0 where
   pub text : All IsUtf8 (words_in line)
   pub name : HasName (sentence (words_in line))
 
--- what a line says: an empty line and a comment nothing, whatever their bytes; another one what its words say; and one without a form, or that is not right, is wrong
+-- what a line says: an empty line and a comment nothing, whatever their bytes; another one what its
+-- words say; and one without a form, or that is not right, is wrong
 abbrev pub Says : List ℕ → Saying → Type 0
 Says line saying = ((is_silent (words_in line) ≡ true) × (saying ≡ SaysNothing))
     ⊎ ((is_silent (words_in line) ≡ false) × IsRight line × (saying ≡ sentence (words_in line)))
@@ -123,4 +131,5 @@ Says line saying = ((is_silent (words_in line) ≡ true) × (saying ≡ SaysNoth
 
 -- what is said, but that a name that is none is wrong
 abbrev pub IsSaid : Saying → Saying → Type 0
-IsSaid wanted saying = (HasName wanted × (saying ≡ wanted)) ⊎ ((HasName wanted → ⊥) × (saying ≡ SaysWrong))
+IsSaid wanted saying =
+    (HasName wanted × (saying ≡ wanted)) ⊎ ((HasName wanted → ⊥) × (saying ≡ SaysWrong))

@@ -25,7 +25,9 @@ event_item (Some event) = Happens event
 abbrev pub IsItemSaying : List (List ℕ) → List ℕ → Saying → Item → Type 0
 IsItemSaying names line SaysNothing item = item ≡ Skipped
 IsItemSaying names line (SaysStep command) item = item ≡ Starts command
-IsItemSaying names line SaysWrong item = (All IsUtf8 (words_in line) × (item ≡ event_item (event_in names (words_in line)))) ⊎ ((All IsUtf8 (words_in line) → ⊥) × (item ≡ OtherForm))
+IsItemSaying names line SaysWrong item =
+    (All IsUtf8 (words_in line) × (item ≡ event_item (event_in names (words_in line))))
+    ⊎ ((All IsUtf8 (words_in line) → ⊥) × (item ≡ OtherForm))
 IsItemSaying names line other item = item ≡ OtherForm
 
 -- what a line of a script is
@@ -44,7 +46,8 @@ taking (Delete words force) event = None
 abbrev pub with_event : List Command → Event → Option (List Command)
 with_event [] event = None
 with_event (command ∷ []) event = option_map (λ c. c ∷ []) (taking command event)
-with_event (command ∷ next ∷ commands) event = option_map (λ cs. command ∷ cs) (with_event (next ∷ commands) event)
+with_event (command ∷ next ∷ commands) event =
+    option_map (λ cs. command ∷ cs) (with_event (next ∷ commands) event)
 
 -- the commands so far and one line more, where it may stand there
 abbrev pub with_item : List Command → Item → Option (List Command)
@@ -55,7 +58,8 @@ with_item commands OtherForm = None
 
 -- a line makes the old commands the new ones
 abbrev pub AddsLine : List (List ℕ) → List ℕ → (old new : List Command) → Type 0
-AddsLine names line old new = (item : Item) × IsItem names line item × (with_item old item ≡ Some new)
+AddsLine names line old new =
+    (item : Item) × IsItem names line item × (with_item old item ≡ Some new)
 
 -- a line may not stand after the commands
 abbrev pub CannotAdd : List (List ℕ) → List ℕ → List Command → Type 0
@@ -64,7 +68,8 @@ CannotAdd names line old = (item : Item) × IsItem names line item × (with_item
 -- these lines after the old commands make them the new ones
 abbrev pub Reads : List (List ℕ) → List (List ℕ) → (old new : List Command) → Type 0
 Reads names [] old new = new ≡ old
-Reads names (line ∷ lines) old new = (next : List Command) × AddsLine names line old next × Reads names lines next new
+Reads names (line ∷ lines) old new =
+    (next : List Command) × AddsLine names line old next × Reads names lines next new
 
 -- the lines of a text; the last may lack its newline
 abbrev pub lines_in : List ℕ → List (List ℕ)

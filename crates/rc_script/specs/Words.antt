@@ -23,4 +23,5 @@ is_digits word = nat_lt 0 (length word) && all_ascii_digits word
 
 -- the limit that a word gives: at most 10 digits, leading zeros among them, and a number of 32 bits
 abbrev pub limit_of : List ℕ → Option ℕ
-limit_of word = if is_digits word && nat_lt (length word) 11 && nat_lt (digits_value 10 word) (2 ^ 32) then Some (digits_value 10 word) else None
+limit_of word = if is_digits word && nat_lt (length word) 11
+    && nat_lt (digits_value 10 word) (2 ^ 32) then Some (digits_value 10 word) else None

@@ -18,7 +18,8 @@ pub(crate) fn event_in(names: &Names, words: &[&str]) -> Option<Event>
 
 /// The event that a verb gives with the words after it.
 fn event_by(names: &Names, verb: &str, worker: &str, object: &str, words: &[&str]) -> Option<Event>
-    ensures { result ≡ event_by names.now verb.now worker.now object.now (map (λ word. word.now) words.now) }
+    ensures { result ≡ event_by names.now verb.now worker.now object.now
+        (map (λ word. word.now) words.now) }
 {
     if verb == "take" {
         take_in(names, worker, object, words)

@@ -1,4 +1,5 @@
-//! What the definitions of session lines say by themselves: each a clause of a function that does nothing.
+//! What the definitions of session lines say by themselves: each a clause
+//! of a function that does nothing.
 ghost use Rattle.std.specs.Prelude.{◌≡◌, ℕ, List, []};
 ghost use Rattle.rc_model.specs.Session.{Command, events_of};
 ghost use Rattle.rc_script.specs.Says.{Saying, SaysStep, Says};
@@ -10,5 +11,6 @@ pub fn lines_say_one_thing()
 
 /// A command that a line gives has no events.
 pub fn lines_give_no_events()
-    ensures { (line : List ℕ) (command : Command) → Says line (SaysStep command) → events_of command ≡ [] }
+    ensures { (line : List ℕ) (command : Command) → Says line (SaysStep command) →
+        events_of command ≡ [] }
 {}

@@ -1,5 +1,5 @@
-//! Session lines: the bytes of a line, and what it says; and scripts, as `undorc replay` reads them:
-//! commands with the events of their runs.
+//! Session lines: the bytes of a line, and what it says; and scripts, as `undorc replay` reads
+//! them: commands with the events of their runs.
 //!
 //! Time and memory grow with the line, and with the script.
 #![tactic(auto)]

@@ -45,7 +45,8 @@ pub fn read_line(alloc: Global, line: &[u8]) -> Result<SessionLine, NoMem>
 
 /// What words say.
 fn sentence(alloc: Global, words: &[&str]) -> Result<SessionLine, NoMem>
-    ensures { IfOk result (λ line. IsSaid (sentence (map (λ word. word.now) words.now)) (saying_of line)) }
+    ensures { IfOk result (λ line. IsSaid (sentence (map (λ word. word.now) words.now))
+        (saying_of line)) }
 {
     match front_of(alloc, words)? {
         Some((choices, rest)) => behind(alloc, &choices, rest),
@@ -55,7 +56,8 @@ fn sentence(alloc: Global, words: &[&str]) -> Result<SessionLine, NoMem>
 
 /// What words say after choices.
 fn behind(alloc: Global, choices: &[Choice], words: &[&str]) -> Result<SessionLine, NoMem>
-    ensures { IfOk result (λ line. IsSaid (behind choices.now (map (λ word. word.now) words.now)) (saying_of line)) }
+    ensures { IfOk result (λ line. IsSaid (behind choices.now (map (λ word. word.now) words.now))
+        (saying_of line)) }
 {
     let Some((word, others)) = words.split_first() else {
         return Ok(SessionLine::Wrong);
@@ -68,7 +70,8 @@ fn behind(alloc: Global, choices: &[Choice], words: &[&str]) -> Result<SessionLi
 
 /// What a verb says with choices in front and words after.
 fn said(alloc: Global, verb: Verb, choices: &[Choice], words: &[&str]) -> Result<SessionLine, NoMem>
-    ensures { IfOk result (λ line. IsSaid (said verb choices.now (map (λ word. word.now) words.now)) (saying_of line)) }
+    ensures { IfOk result (λ line. IsSaid (said verb choices.now (map (λ word. word.now) words.now))
+        (saying_of line)) }
 {
     match verb {
         Verb::Change => change(alloc, choices, words),
@@ -85,7 +88,8 @@ fn said(alloc: Global, verb: Verb, choices: &[Choice], words: &[&str]) -> Result
 
 /// A change of these names.
 fn change(alloc: Global, choices: &[Choice], words: &[&str]) -> Result<SessionLine, NoMem>
-    ensures { IfOk result (λ line. IsSaid (said Verb.Change choices.now (map (λ word. word.now) words.now)) (saying_of line)) }
+    ensures { IfOk result (λ line. IsSaid
+        (said Verb.Change choices.now (map (λ word. word.now) words.now)) (saying_of line)) }
 {
     match request_of(alloc, choices, words)? {
         Some(request) => Ok(SessionLine::Step(Step::Change(request, Vec::new(alloc)))),
@@ -95,7 +99,8 @@ fn change(alloc: Global, choices: &[Choice], words: &[&str]) -> Result<SessionLi
 
 /// The plan of a change of these names.
 fn dry(alloc: Global, choices: &[Choice], words: &[&str]) -> Result<SessionLine, NoMem>
-    ensures { IfOk result (λ line. IsSaid (said Verb.Dry choices.now (map (λ word. word.now) words.now)) (saying_of line)) }
+    ensures { IfOk result (λ line. IsSaid
+        (said Verb.Dry choices.now (map (λ word. word.now) words.now)) (saying_of line)) }
 {
     match request_of(alloc, choices, words)? {
         Some(request) => Ok(SessionLine::Dry(request)),
@@ -105,7 +110,8 @@ fn dry(alloc: Global, choices: &[Choice], words: &[&str]) -> Result<SessionLine,
 
 /// An undo, where nothing but a limit stands beside it.
 fn undo(alloc: Global, choices: &[Choice], words: &[&str]) -> SessionLine
-    ensures { IsSaid (said Verb.Undo choices.now (map (λ word. word.now) words.now)) (saying_of result) }
+    ensures { IsSaid (said Verb.Undo choices.now (map (λ word. word.now) words.now))
+        (saying_of result) }
 {
     match limit_alone(choices, words) {
         Some(limit) => SessionLine::Step(Step::Undo(limit, Vec::new(alloc))),
@@ -115,7 +121,8 @@ fn undo(alloc: Global, choices: &[Choice], words: &[&str]) -> SessionLine
 
 /// A redo, where nothing but a limit stands beside it.
 fn redo(alloc: Global, choices: &[Choice], words: &[&str]) -> SessionLine
-    ensures { IsSaid (said Verb.Redo choices.now (map (λ word. word.now) words.now)) (saying_of result) }
+    ensures { IsSaid (said Verb.Redo choices.now (map (λ word. word.now) words.now))
+        (saying_of result) }
 {
     match limit_alone(choices, words) {
         Some(limit) => SessionLine::Step(Step::Redo(limit, Vec::new(alloc))),
@@ -136,7 +143,8 @@ fn limit_alone(choices: &[Choice], words: &[&str]) -> Option<u32>
 
 /// A bundle with a name and contents, forced where `-f` stands in front of them.
 fn add(alloc: Global, choices: &[Choice], words: &[&str]) -> Result<SessionLine, NoMem>
-    ensures { IfOk result (λ line. IsSaid (said Verb.Add choices.now (map (λ word. word.now) words.now)) (saying_of line)) }
+    ensures { IfOk result (λ line. IsSaid
+        (said Verb.Add choices.now (map (λ word. word.now) words.now)) (saying_of line)) }
 {
     if !choices.is_empty() {
         return Ok(SessionLine::Wrong);
@@ -150,7 +158,8 @@ fn add(alloc: Global, choices: &[Choice], words: &[&str]) -> Result<SessionLine,
 
 /// A bundle with this name, where it is one, and these contents.
 fn bundle(alloc: Global, name: &str, contents: &[&str], force: bool) -> Result<SessionLine, NoMem>
-    ensures { IfOk result (λ line. IsSaid (addition_of force (name.now ∷ map (λ word. word.now) contents.now)) (saying_of line)) }
+    ensures { IfOk result (λ line. IsSaid
+        (addition_of force (name.now ∷ map (λ word. word.now) contents.now)) (saying_of line)) }
 {
     let name = match Name::read(alloc, name) {
         Ok(name) => name,
@@ -163,7 +172,8 @@ fn bundle(alloc: Global, name: &str, contents: &[&str], force: bool) -> Result<S
 
 /// Bundles that are to go, forced where `-f` stands in front of them.
 fn delete(alloc: Global, choices: &[Choice], words: &[&str]) -> Result<SessionLine, NoMem>
-    ensures { IfOk result (λ line. IsSaid (said Verb.Delete choices.now (map (λ word. word.now) words.now)) (saying_of line)) }
+    ensures { IfOk result (λ line. IsSaid
+        (said Verb.Delete choices.now (map (λ word. word.now) words.now)) (saying_of line)) }
 {
     let names = unforced(words);
     if !choices.is_empty() || names.is_empty() {
@@ -185,7 +195,8 @@ fn is_forced(words: &[&str]) -> bool
 
 /// Words without the `-f` in front of them.
 fn unforced<'a, 'b>(words: &'b [&'a str]) -> &'b [&'a str]
-    ensures { map (λ word. word.now) result.now ≡ unforced (map (λ word. word.now) words.entry.now) }
+    ensures { map (λ word. word.now) result.now
+        ≡ unforced (map (λ word. word.now) words.entry.now) }
 {
     if is_forced(words) { &words[1..] } else { words }
 }
@@ -193,7 +204,8 @@ fn unforced<'a, 'b>(words: &'b [&'a str]) -> &'b [&'a str]
 /// What a word that stands alone says.
 fn alone(line: SessionLine, choices: &[Choice], words: &[&str]) -> SessionLine
     requires { HasName (saying_of line) }
-    ensures { IsSaid (plain (alone (saying_of line) (map (λ word. word.now) words.now)) choices.now) (saying_of result) }
+    ensures { IsSaid (plain (alone (saying_of line) (map (λ word. word.now) words.now)) choices.now)
+        (saying_of result) }
 {
     if choices.is_empty() && words.is_empty() {
         line

@@ -97,7 +97,8 @@ fn has_option(words: &[&str]) -> bool
     }
 }
 
-/// Adds what the option at the beginning chooses, where it is well formed, and answers how many words it takes.
+/// Adds what the option at the beginning chooses, where it is well formed, and
+/// answers how many words it takes.
 fn add_option(
     alloc: Global,
     choices: &mut Vec<Choice>,
@@ -144,7 +145,8 @@ fn add_limit(choices: &mut Vec<Choice>, words: &[&str]) -> Result<bool, NoMem>
 /// What the letters of a word after its dash choose, where each chooses something.
 fn letters_of(alloc: Global, word: &str) -> Result<Option<Vec<Choice>>, NoMem>
     requires { 0 < length word.now }
-    ensures { IfOk result (λ choices. option_map (λ choices. choices.items) choices ≡ word_choices word.now) }
+    ensures { IfOk result (λ choices. option_map (λ choices. choices.items) choices
+        ≡ word_choices word.now) }
 {
     let letters = &word.as_bytes()[1..];
     if letters.is_empty() {
@@ -155,7 +157,8 @@ fn letters_of(alloc: Global, word: &str) -> Result<Option<Vec<Choice>>, NoMem>
 
 /// What letters choose, where each chooses something.
 fn choices_of(alloc: Global, letters: &[u8]) -> Result<Option<Vec<Choice>>, NoMem>
-    ensures { IfOk result (λ choices. option_map (λ choices. choices.items) choices ≡ choices_of letters.now) }
+    ensures { IfOk result (λ choices. option_map (λ choices. choices.items) choices
+        ≡ choices_of letters.now) }
 {
     let mut choices = Vec::new(alloc);
     for letter in letters {
@@ -187,7 +190,8 @@ pub(crate) fn request_of(
     choices: &[Choice],
     words: &[&str],
 ) -> Result<Option<Request>, NoMem>
-    ensures { IfOk result (λ request. option_map ask_of request ≡ ask_chosen choices.now (map (λ word. word.now) words.now)) }
+    ensures { IfOk result (λ request. option_map ask_of request
+        ≡ ask_chosen choices.now (map (λ word. word.now) words.now)) }
 {
     let chosen = chosen_by(choices);
     match mode_of(chosen.up, chosen.down, chosen.down_all) {
@@ -238,7 +242,8 @@ pub(crate) fn only_limit(choices: &[Choice]) -> Option<u32>
 
 /// The words, each kept.
 pub(crate) fn strings_of(alloc: Global, words: &[&str]) -> Result<Vec<String>, NoMem>
-    ensures { IfOk result (λ strings. map string_bytes strings.items ≡ map (λ word. word.now) words.now) }
+    ensures { IfOk result (λ strings. map string_bytes strings.items
+        ≡ map (λ word. word.now) words.now) }
 {
     let mut strings = Vec::new(alloc);
     for word in words {

@@ -34,7 +34,8 @@ impl From<AllocError> for ScriptFault {
 
 /// The commands of a script, each with its events, over the services of these names.
 pub fn read_script(alloc: Global, names: &Names, text: &[u8]) -> Result<Vec<Step>, ScriptFault>
-    ensures steps { IfOk result (λ steps. IsScript names.now text.now (map command_of steps.items)) }
+    ensures steps { IfOk result (λ steps.
+        IsScript names.now text.now (map command_of steps.items)) }
     ensures fault { IfErr result (IsScriptFault names.now text.now) }
 {
     let lines = lines_of(alloc, text)?;
@@ -58,7 +59,8 @@ fn lines_of(alloc: Global, text: &[u8]) -> Result<Vec<&[u8]>, NoMem>
 /// Adds what a line gives, where it may stand after these commands.
 fn add_line(alloc: Global, names: &Names, steps: &mut Vec<Step>, line: &[u8]) -> Result<bool, NoMem>
     ensures { IfOk result (λ added. MatchBool added
-        (AddsLine names.now line.now (map command_of steps.old.items) (map command_of steps.new.items))
+        (AddsLine names.now line.now (map command_of steps.old.items)
+        (map command_of steps.new.items))
         (CannotAdd names.now line.now (map command_of steps.old.items))) }
 {
     match read_line(alloc, line)? {

@@ -4,4 +4,10 @@ use Rattle.rc_model.specs.Plan.{Ask}
 
 -- what a request asks
 abbrev pub ask_of : Request → Ask
-ask_of r = record { mode = r.mode; prune = r.prune; all = r.all; words = map string_bytes r.names.items; limit = r.limit }
+ask_of r = record {
+  mode = r.mode;
+  prune = r.prune;
+  all = r.all;
+  words = map string_bytes r.names.items;
+  limit = r.limit;
+}

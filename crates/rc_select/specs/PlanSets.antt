@@ -2,7 +2,8 @@ use Rattle.std.specs.Prelude.{◌≡◌, ℕ, length}
 use Rattle.rc_model.specs.Names.{Has}
 use Rattle.rc_model.specs.Plan.{PlanSets}
 
--- sets of one bound; what goes down was up, what comes up was not, and what is kept was up and does not go down
+-- sets of one bound; what goes down was up, what comes up was not, and what is
+-- kept was up and does not go down
 pub record IsPlan (plan : PlanSets) : Type 0 where
   pub lower_bound : length plan.lower ≡ length plan.opening
   pub raise_bound : length plan.raise ≡ length plan.opening

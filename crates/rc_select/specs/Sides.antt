@@ -4,7 +4,8 @@ use Rattle.rc_model.specs.declared.Mode.{Mode}
 use Rattle.rc_model.specs.Plan.{Target, Kept}
 
 -- the sets are the target and what is kept
-pub record AreSides (needs : List (List ℕ)) (up essential : List Bool) (mode : Mode) (prune : Bool) (wanted target kept : List Bool) : Type 0 where
+pub record AreSides (needs : List (List ℕ)) (up essential : List Bool) (mode : Mode) (prune : Bool)
+    (wanted target kept : List Bool) : Type 0 where
   pub leads : Holds target (Target needs (Has up) (Has essential) mode prune (Has wanted))
   pub keeps : Holds kept (Kept needs (Has essential) mode prune (Has wanted))
   pub target_bound : length target ≡ length needs

@@ -8,6 +8,8 @@ ghost use Rattle.rc_model.specs.Plan.{Ask, IsEssentialUp, IsWanted, Target};
 
 /// The target of a closed set is closed, whatever is asked.
 pub fn target_is_closed()
-    ensures { (d : Database) (table : Bundles) (up : List Bool) (ask : Ask) → IsClosed d.needs (Has up) →
-        IsClosed d.needs (Target d.needs (Has up) (IsEssentialUp d (Has up)) ask.mode ask.prune (IsWanted d.names table (Has up) ask)) }
+    ensures { (d : Database) (table : Bundles) (up : List Bool) (ask : Ask) →
+        IsClosed d.needs (Has up) →
+        IsClosed d.needs (Target d.needs (Has up) (IsEssentialUp d (Has up)) ask.mode ask.prune
+        (IsWanted d.names table (Has up) ask)) }
 {}

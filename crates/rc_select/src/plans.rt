@@ -26,14 +26,24 @@ impl Model for Plan {
 
     ghost Value = { PlanSets };
 
-    ghost view = { λ p. record { opening = p.opening; lower = p.lower; raise = p.raise; kept = p.kept } };
+    ghost view = { λ p. record {
+      opening = p.opening;
+      lower = p.lower;
+      raise = p.raise;
+      kept = p.kept;
+    } };
 
-    ghost invariant = { λ p. IsPlan (record { opening = p.opening; lower = p.lower; raise = p.raise; kept = p.kept }) };
+    ghost invariant = { λ p. IsPlan (record {
+      opening = p.opening;
+      lower = p.lower;
+      raise = p.raise;
+      kept = p.kept;
+    }) };
 }
 
 impl Plan {
-    /// What is up before the change. What goes down was up, what comes up was not, what is kept was up and does not
-    /// go down, and all four sets have one bound.
+    /// What is up before the change. What goes down was up, what comes up was not, what is kept was
+    /// up and does not go down, and all four sets have one bound.
     pub fn opening(&self) -> &Set
         ensures set { result.now ≡ self.now.opening }
         ensures plan { IsPlan self.now }
@@ -55,8 +65,8 @@ impl Plan {
         &self.raise
     }
 
-    /// The essential services that stay up although the change would have taken them down. What they need stays
-    /// too, and is not listed.
+    /// The essential services that stay up although the change would have taken them down. What
+    /// they need stays too, and is not listed.
     pub fn kept(&self) -> &Set
         ensures { result.now ≡ self.now.kept }
     {
@@ -81,7 +91,8 @@ pub fn plan_up(alloc: Global, graph: &Graph, up: &Set, wanted: &Set) -> Result<P
     requires up_bound { length up.now ≡ length graph.now }
     requires wanted_bound { length wanted.now ≡ length graph.now }
     requires up_closed { IsClosed graph.now (Has up.now) }
-    ensures { IfOk result (IsPlanTo up.now (Target graph.now (Has up.now) Nothing Mode.Up false (Has wanted.now)) Nothing) }
+    ensures { IfOk result (IsPlanTo up.now
+        (Target graph.now (Has up.now) Nothing Mode.Up false (Has wanted.now)) Nothing) }
 {
     let mut target = graph.up_of(alloc, wanted)?;
     target.join(up);

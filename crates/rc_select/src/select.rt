@@ -15,7 +15,8 @@ use rc_graph::Graph;
 use rc_set::{NoMem, Set};
 use std::alloc::Global;
 
-/// The plan of a request, from what is up. The bundles are those of the table, which may differ from the database's.
+/// The plan of a request, from what is up. The bundles are those of the table, which
+/// may differ from the database's.
 pub fn plan(
     alloc: Global,
     db: &Db,
@@ -58,9 +59,12 @@ fn wanted(
     requires bound { length up.now ≡ length db.now.names }
     requires bundles { HaveBound (length db.now.names) table.now }
     ensures bound { IfOk result (λ set. length set ≡ length db.now.names) }
-    ensures members { IfOk result (λ set. Holds set (IsWanted db.now.names table.now (Has up.now) (ask_of request.now))) }
-    ensures known { OnOk result (All (IsKnown db.now.names table.now) (map string_bytes request.now.names.items)) }
-    ensures fault { IfErr result (IsWantedFault db.now.names table.now (map string_bytes request.now.names.items)) }
+    ensures members { IfOk result (λ set.
+        Holds set (IsWanted db.now.names table.now (Has up.now) (ask_of request.now))) }
+    ensures known { OnOk result (All (IsKnown db.now.names table.now)
+        (map string_bytes request.now.names.items)) }
+    ensures fault { IfErr result (IsWantedFault db.now.names table.now
+        (map string_bytes request.now.names.items)) }
 {
     let mut wanted = match db.selected(alloc, table, &request.names) {
         Ok(set) => set,
@@ -74,7 +78,8 @@ fn wanted(
 
 /// What a refusal of the words says of the plan.
 fn fault_of(fault: QueryFault) -> PlanFault
-    ensures { (names : List (List ℕ)) (table : Bundles) (words : List (List ℕ)) → IsNamesFault names table words fault → IsWantedFault names table words result }
+    ensures { (names : List (List ℕ)) (table : Bundles) (words : List (List ℕ)) →
+        IsNamesFault names table words fault → IsWantedFault names table words result }
 {
     match fault {
         QueryFault::Unknown(place) => PlanFault::Unknown(place),
@@ -112,7 +117,8 @@ fn planned(
     requires essential_bound { length essential.now ≡ length graph.now }
     requires wanted_bound { length wanted.now ≡ length graph.now }
     requires essential_up { (s : ℕ) → Has essential.now s → Has up.now s }
-    ensures { IfOk result (IsPlanTo up.now (Target graph.now (Has up.now) (Has essential.now) mode prune (Has wanted.now))
+    ensures { IfOk result (IsPlanTo up.now
+        (Target graph.now (Has up.now) (Has essential.now) mode prune (Has wanted.now))
         (Kept graph.now (Has essential.now) mode prune (Has wanted.now))) }
 {
     let Sides { target, kept } = sides_of(alloc, graph, up, essential, mode, prune, wanted)?;

@@ -7,7 +7,8 @@ use rc_graph::Graph;
 use rc_set::{NoMem, Set};
 use std::alloc::Global;
 
-/// What a change leads to: what is to be up in the end, and the essential services that stay although they were to go.
+/// What a change leads to: what is to be up in the end, and the essential services that
+/// stay although they were to go.
 #[derive(Debug, Drop)]
 pub(crate) struct Sides {
     pub(crate) target: Set,
@@ -27,7 +28,8 @@ pub(crate) fn sides_of(
     requires up_bound { length up.now ≡ length graph.now }
     requires essential_bound { length essential.now ≡ length graph.now }
     requires wanted_bound { length wanted.now ≡ length graph.now }
-    ensures { IfOk result (λ sides. AreSides graph.now up.now essential.now mode prune wanted.now sides.target sides.kept) }
+    ensures { IfOk result (λ sides.
+        AreSides graph.now up.now essential.now mode prune wanted.now sides.target sides.kept) }
 {
     match (mode, prune) {
         (Mode::Up, false) => raised(alloc, graph, up, essential, wanted),
@@ -47,7 +49,8 @@ fn raised(
 ) -> Result<Sides, NoMem>
     requires up_bound { length up.now ≡ length graph.now }
     requires wanted_bound { length wanted.now ≡ length graph.now }
-    ensures { IfOk result (λ sides. AreSides graph.now up.now essential.now Mode.Up false wanted.now sides.target sides.kept) }
+    ensures { IfOk result (λ sides.
+        AreSides graph.now up.now essential.now Mode.Up false wanted.now sides.target sides.kept) }
 {
     let mut target = graph.up_of(alloc, wanted)?;
     target.join(up);
@@ -65,7 +68,8 @@ fn pruned(
 ) -> Result<Sides, NoMem>
     requires essential_bound { length essential.now ≡ length graph.now }
     requires wanted_bound { length wanted.now ≡ length graph.now }
-    ensures { IfOk result (λ sides. AreSides graph.now up.now essential.now Mode.Up true wanted.now sides.target sides.kept) }
+    ensures { IfOk result (λ sides.
+        AreSides graph.now up.now essential.now Mode.Up true wanted.now sides.target sides.kept) }
 {
     let mut target = graph.up_of(alloc, wanted)?;
     let mut kept = essential.copy(alloc)?;
@@ -86,7 +90,8 @@ fn lowered(
     requires up_bound { length up.now ≡ length graph.now }
     requires essential_bound { length essential.now ≡ length graph.now }
     requires wanted_bound { length wanted.now ≡ length graph.now }
-    ensures { IfOk result (λ sides. AreSides graph.now up.now essential.now Mode.Down prune wanted.now sides.target sides.kept) }
+    ensures { IfOk result (λ sides.
+        AreSides graph.now up.now essential.now Mode.Down prune wanted.now sides.target sides.kept) }
 {
     let mut gone = graph.down_of(alloc, wanted)?;
     let kept = both(alloc, essential, &gone)?;
@@ -108,7 +113,9 @@ fn lowered_all(
 ) -> Result<Sides, NoMem>
     requires up_bound { length up.now ≡ length graph.now }
     requires wanted_bound { length wanted.now ≡ length graph.now }
-    ensures { IfOk result (λ sides. AreSides graph.now up.now essential.now Mode.DownAll prune wanted.now sides.target sides.kept) }
+    ensures { IfOk result (λ sides.
+        AreSides graph.now up.now essential.now Mode.DownAll prune wanted.now sides.target
+        sides.kept) }
 {
     let mut target = up.copy(alloc)?;
     target.without(&graph.down_of(alloc, wanted)?);

@@ -1,6 +1,6 @@
 -- Where all that was planned is done, what is live is the target.
 use Rattle.std.proofs.Common.{◌≡◌, ◌∙◌, ◌<◌, ◌≢◌, inl, inr, ℕ, Bool, List, [], ◌∷◌, Contains, refl, sym, subst, arith}
-use Rattle.rc_model.specs.Headline.{HasRun}
+use Rattle.rc_model.specs.Headline.{TargetOfCommand, HasRun}
 use Rattle.rc_model.specs.Names.{Has, Holds}
 use Rattle.rc_model.proofs.SetMembers.{has_or_lacks}
 use Rattle.rc_graph.specs.declared.Way.{Way}
@@ -9,8 +9,8 @@ use Rattle.rc_model.specs.Plan.{PlanSets}
 use Rattle.rc_model.specs.declared.Event.{Event}
 use Rattle.rc_model.specs.declared.Outcome.{Outcome}
 use Rattle.rc_model.specs.declared.Standing.TheVariants.{Down, Up}
-use Rattle.rc_model.specs.Run.{Course, IsPlanned, TargetOf, course_of, HasFailed, IsStopped, WasTaken, IsLeft, IsLive, IsSettled, standing_of}
-use Rattle.rc_model.specs.Beside.{IsCourse}
+use Rattle.rc_model.specs.Run.{Course, IsPlanned, course_of, HasFailed, IsStopped, WasTaken, IsLeft, IsLive, IsSettled, standing_of}
+use Rattle.rc_model.specs.Beside.{IsCourse, TargetOf}
 use Rattle.rc_core.proofs.Ends.{came_up, never_sinking, stood_down, stood_up, up_is_not_down, went_down}
 use Rattle.rc_model.proofs.RunLemmas.{taken_was_planned}
 use Rattle.rc_core.proofs.Stories.{IsAtRest, at_rest}
@@ -18,11 +18,12 @@ use Rattle.rc_model.specs.Line.{Line}
 use Rattle.rc_model.specs.Session.{Command, Change, Undo, Redo, Add, Delete, events_of, Does, IsLineOf, DoesByRun, IsReportOf, Reported}
 use Rattle.rc_session.specs.Commands.{with_events}
 use Rattle.rc_session.proofs.Courses.{task_is_course}
+use Rattle.rc_session.proofs.Arriving.{aims_as_asked}
 use Rattle.rc_session.proofs.Promising.{moved_live}
 use Rattle.rc_script.specs.Says.{Saying, SaysNothing, SaysWrong, SaysStep, SaysDry, SaysLive, SaysBundles, SaysJournal}
 use Rattle.rc_serve.specs.declared.ending.Ending.{Ending}
 use Rattle.rc_serve.specs.declared.ending.Ending.TheVariants.{Done, Refused, Hindered}
-use Rattle.rc_serve.specs.Ending.{Arrives, ArrivesSaying, Ends, IsDoneAs, ending_by, ending_of}
+use Rattle.rc_serve.specs.Ending.{ArrivesSaying, Ends, IsDoneAs, ending_by, ending_of}
 
 -- there is none of all of these
 abbrev AreNone : (failed blocked untried : List ℕ) → Type 0
@@ -96,8 +97,8 @@ module _ (c : Course) (events : List Event) (course : IsCourse c) (settled : IsS
     ])),
   )
 
-run_arrives : (d : Database) (here : Line) (command : Command) (told : Reported) (new : Line) → IsDatabase d → IsLineOf d here → (run : DoesByRun d here command told new)
-    → ending_of told ≡ Done → Holds new.current.live (TargetOf (course_of d.needs run.plan run.deadline))
+run_arrives : (d : Database) (here : Line) (command : Command) (told : Reported) (new : Line) → IsDatabase d → IsLineOf d here → DoesByRun d here command told new
+    → ending_of told ≡ Done → Holds new.current.live (TargetOfCommand d here command)
 run_arrives d here command told new is_db of run all =
     let c = course_of d.needs run.plan run.deadline in
     let none : AreNone told.failed told.blocked told.untried = done_is_none told.failed told.blocked told.untried all in
@@ -105,15 +106,18 @@ run_arrives d here command told new is_db of run all =
     let left : (s : ℕ) → IsLeft c (events_of command) s → ⊥ = λ s is.
     (let runs : IsStopped (events_of command) → ⊥ = λ stopped. none_in told.untried s none.2 ((run.is_report.untried.same s).1 (is, stopped)) in
     none_in told.blocked s none.1 ((run.is_report.blocked.same s).1 (is, runs))) in
-    subst (λ (live : List Bool). Holds live (TargetOf c)) (sym live_is)
-    (all_in_target c (events_of command) (task_is_course d here command 0 run.plan run.deadline is_db of run.task) run.ends.settled
-    (λ s failed. none_in told.failed s none.0 ((run.is_report.failed.same s).1 failed)) left run.live run.ends.members)
+    let ends : Holds run.live (TargetOf c) =
+    all_in_target c (events_of command) (task_is_course d here command 0 run.plan run.deadline is_db of run.task) run.ends.settled
+    (λ s failed. none_in told.failed s none.0 ((run.is_report.failed.same s).1 failed)) left run.live run.ends.members in
+    let aims = aims_as_asked d here command 0 run.plan run.deadline is_db of run.task in
+    subst (λ (live : List Bool). Holds live (TargetOfCommand d here command)) (sym live_is)
+    (λ s. (λ has. (aims s).0 ((ends s).0 has), λ there. (ends s).1 ((aims s).1 there)))
 
 done_arrives : (d : Database) (here : Line) (command : Command) (events : List Event) (told : Reported) (new : Line) → IsDatabase d → IsLineOf d here
-    → HasRun command → Does d here (with_events command events) told new → ending_of told ≡ Done → Arrives d here command new
-done_arrives d here (Change ask old) events told new is_db of has (inl run) all = (run.plan, run.deadline, run.task, run_arrives d here (Change ask events) told new is_db of run all)
-done_arrives d here (Undo limit old) events told new is_db of has (inl run) all = (run.plan, run.deadline, run.task, run_arrives d here (Undo limit events) told new is_db of run all)
-done_arrives d here (Redo limit old) events told new is_db of has (inl run) all = (run.plan, run.deadline, run.task, run_arrives d here (Redo limit events) told new is_db of run all)
+    → HasRun command → Does d here (with_events command events) told new → ending_of told ≡ Done → Holds new.current.live (TargetOfCommand d here command)
+done_arrives d here (Change ask old) events told new is_db of has (inl run) all = run_arrives d here (Change ask events) told new is_db of run all
+done_arrives d here (Undo limit old) events told new is_db of has (inl run) all = run_arrives d here (Undo limit events) told new is_db of run all
+done_arrives d here (Redo limit old) events told new is_db of has (inl run) all = run_arrives d here (Redo limit events) told new is_db of run all
 done_arrives d here (Change ask old) events told new is_db of has (inr edit) all = absurd edit.altered
 done_arrives d here (Undo limit old) events told new is_db of has (inr edit) all = absurd edit.altered
 done_arrives d here (Redo limit old) events told new is_db of has (inr edit) all = absurd edit.altered

@@ -1,13 +1,12 @@
 -- How a line ends: all that was planned is done, or it is refused, or something is in its way.
 use Rattle.std.specs.Prelude.{◌≡◌, ◌⊎◌, ◌++◌, ℕ, true, List, [], Option, None, take}
 use Rattle.std.specs.Io.KnownBytes.{Appends}
-use Rattle.rc_model.specs.Headline.{HasRun}
+use Rattle.rc_model.specs.Headline.{TargetOfCommand, HasRun}
 use Rattle.rc_model.specs.Names.{Holds}
 use Rattle.rc_streams.specs.Input.{AppendsFront}
 use Rattle.rc_graph.specs.declared.Way.{Way}
 use Rattle.rc_model.specs.Database.{Database}
 use Rattle.rc_model.specs.Plan.{Ask, PlanSets}
-use Rattle.rc_model.specs.Run.{TargetOf, course_of}
 use Rattle.rc_model.specs.declared.Event.{Event}
 use Rattle.rc_model.specs.declared.Outcome.{Outcome}
 use Rattle.rc_model.specs.Line.{Line}
@@ -28,7 +27,8 @@ use Rattle.rc_serve.specs.Faults.{IsOfLine, StandsAt}
 use Rattle.rc_serve.specs.Keeping.{Keeping, IsKeptOn, IsKeptUp, IsOfKeeping}
 use Rattle.rc_serve.specs.Meeting.{Doing, IsEdited, IsPlanned, IsRefused, Meets, WantsWork}
 
--- how a command ends by what failed, what was blocked and what was not tried: done where there is none of these
+-- how a command ends by what failed, what was blocked and what was not tried:
+-- done where there is none of these
 abbrev pub ending_by : (failed blocked untried : List ℕ) → Ending
 ending_by [] [] [] = Done
 ending_by failed blocked untried = Hindered
@@ -82,15 +82,10 @@ abbrev pub EndsWay : Ending → Database → Line → Command → List ℕ → T
 EndsWay ending d here command text = ((ending ≡ Done) × IsWayShown d here command text)
     ⊎ ((ending ≡ Refused) × IsRefused d here command text here)
 
--- what is live is what the plan of a command leads to
-abbrev pub Arrives : Database → Line → Command → Line → Type 0
-Arrives d here command new = (plan : PlanSets) × (deadline : Option ℕ)
-    × IsTask d here command 0 plan deadline
-    × Holds new.current.live (TargetOf (course_of d.needs plan deadline))
-
--- and so of what a line says, where that moves services
+-- where what is said moves services, what is live is then the target of the command
 abbrev pub ArrivesSaying : Database → Line → Saying → Line → Type 0
-ArrivesSaying d here (SaysStep command) new = HasRun command → Arrives d here command new
+ArrivesSaying d here (SaysStep command) new =
+    HasRun command → Holds new.current.live (TargetOfCommand d here command)
 ArrivesSaying d here other new = Unit {0}
 
 -- a fault came where one line is served: with the line of states as it was, nothing written, and

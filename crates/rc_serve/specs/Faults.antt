@@ -24,18 +24,22 @@ IsInner strange threads NoThread = threads
 IsInner strange threads Strange = strange
 IsInner strange threads other = ⊥
 
--- a line ends the session. But for out of memory it leaves the line of states as it was, and does so only where workers have work; as strange it ends also a session that was poisoned before
+-- a line ends the session. But for out of memory it leaves the line of states as it was, and does
+-- so only where workers have work; as strange it ends also a session that was poisoned before
 abbrev pub EndsSession : (work : Type 0) → (old new : Holding) → ServeFault → Type 0
-EndsSession work old new = IsInner (((old.spoiled ≡ true) ⊎ work) × (new.line ≡ old.line)) (work × (new.line ≡ old.line))
+EndsSession work old new =
+    IsInner (((old.spoiled ≡ true) ⊎ work) × (new.line ≡ old.line)) (work × (new.line ≡ old.line))
 
--- what a fault makes of a session: a strange one leaves it poisoned, and no other alters whether it is
+-- what a fault makes of a session: a strange one leaves it poisoned,
+-- and no other alters whether it is
 abbrev pub Spoils : ServeFault → (old new : Holding) → Type 0
 Spoils Strange old new = new.spoiled ≡ true
 Spoils other old new = new.spoiled ≡ old.spoiled
 
 -- a session is poisoned by a strange fault, and by nothing else
 abbrev pub IsSpoiledBy : {A : Type 0} → Result A ServeFault → (old new : Holding) → Type 0
-IsSpoiledBy result old new = MatchResult result (λ _. new.spoiled ≡ old.spoiled) (λ fault. Spoils fault old new)
+IsSpoiledBy result old new =
+    MatchResult result (λ _. new.spoiled ≡ old.spoiled) (λ fault. Spoils fault old new)
 
 -- what came of a command that workers carry out is strange
 abbrev pub IsStrange : {A : Type 0} → Result A Fault → Type 0
@@ -59,8 +63,11 @@ IsOfLine Memory = Unit {0}
 IsOfLine Io = Unit {0}
 IsOfLine other = ⊥
 
--- where a session stands as a fault comes while all is answered: so many bytes were read in all, and these follow the lines that were met. A read fails only where no line of them is whole and no bound is passed;
--- the input is too long only where no line of them is whole, or the next line is too long; and workers fail only where the next line has work for them, or the session was poisoned before
+-- where a session stands as a fault comes while all is answered: so many bytes were read in
+-- all, and these follow the lines that were met. A read fails only where no line of them is
+-- whole and no bound is passed; the input is too long only where no line of them is whole, or
+-- the next line is too long; and workers fail only where the next line has work for them, or
+-- the session was poisoned before
 abbrev pub StandsAt : ServeFault → (spoiled work : Type 0) → ℕ → List ℕ → Type 0
 StandsAt Read spoiled work taken rest = IsLine rest × (taken ≤ 16777216)
 StandsAt TooLong spoiled work taken rest = (IsLine rest × (16777216 < taken)) ⊎ BeginsTooLong rest

@@ -73,7 +73,8 @@ ServesFrontKept Done fault May was is io old new =
 -- the same where these transitions fail
 abbrev pub ServesFrontFailingKept : ServeFault → (May : KeepFault → Type 0) → (was is : Keeping)
     → (ℕ → Way → Bool) → Exchange → Holding → Holding → Type 0
-ServesFrontFailingKept fault May was is fails = ServesFrontKept (IsDoneFailing fails) fault May was is
+ServesFrontFailingKept fault May was is fails =
+    ServesFrontKept (IsDoneFailing fails) fault May was is
 
 -- a fault came: with no further line met, nothing written, and what stands kept as it was; or with
 -- one more met, and a prefix of its answer written, of which there is something only where what it
@@ -97,6 +98,7 @@ StopsAt Done fault May was is io before after old new =
 -- no lines at the beginning of an input alter the line of states
 abbrev pub AltersNone : Doing → (input : Option (List ℕ)) → Database → Line → Type 0
 AltersNone Done input d here =
-    (left : Option (List ℕ)) (bytes rest : List ℕ) (lines : List (List ℕ)) (text : List ℕ) (new : Line)
+    (left : Option (List ℕ)) (bytes rest : List ℕ) (lines : List (List ℕ)) (text : List ℕ)
+    (new : Line)
     → Consumes input left bytes → AreLines lines bytes rest → Serves Done d here lines text new
     → new ≡ here

@@ -31,8 +31,10 @@ AreSaid [] commands = commands ≡ []
 AreSaid (bytes ∷ lines) commands = (saying : Saying) × (more : List Command)
     × Says bytes saying × SaysFirst saying more commands × AreSaid lines more
 
--- the commands among lines are played from where the line of states stands, and what the headline promises holds all along
-pub record ArePlayed (d : Database) (here : Line) (lines : List (List ℕ)) (new : Line) : Type 0 where
+-- the commands among lines are played from where the line of states stands, and what the
+-- headline promises holds all along
+pub record ArePlayed (d : Database) (here : Line) (lines : List (List ℕ))
+    (new : Line) : Type 0 where
   pub commands : List Command
   pub answers : List (Result Reported Refusal)
   pub said : AreSaid lines commands

@@ -1,4 +1,5 @@
--- What an input comes to where certain transitions fail: its bytes are determined, and no workers and no events occur in it.
+-- What an input comes to where certain transitions fail: its bytes are determined, and no
+-- workers and no events occur in it.
 use Rattle.std.specs.Prelude.{◌≡◌, ◌⊎◌, ◌↔◌, ℕ, Bool, true, false, List, [], length, All, Option}
 use Rattle.std.specs.Io.KnownBytes.{Consumes}
 use Rattle.rc_model.specs.Names.{Has, Holds}
@@ -33,7 +34,8 @@ listing lowered raised failed blocked kept = record {
   trace = [];
 }
 
--- a command that a run carries out ends where the transitions that fail leave it: what is live, what failed and what was blocked are what the definitions name, and that is answered
+-- a command that a run carries out ends where the transitions that fail leave it: what is live,
+-- what failed and what was blocked are what the definitions name, and that is answered
 pub record EndsFailing (fails : ℕ → Way → Bool) (d : Database) (here : Line) (command : Command)
     (text : List ℕ) (new : Line) : Type 0 where
   pub plan : PlanSets
@@ -61,7 +63,8 @@ abbrev pub IsDoneFailing : (ℕ → Way → Bool) → Doing
 IsDoneFailing fails d here command text new =
     EndsFailing fails d here command text new ⊎ IsEdited d here command text new
 
--- the text of a session: the answers to the lines of its input where these transitions fail, and the line of states from then on
+-- the text of a session: the answers to the lines of its input where these transitions fail, and
+-- the line of states from then on
 abbrev pub SessionText : (ℕ → Way → Bool) → Database → Line → List ℕ → List ℕ → Line → Type 0
 SessionText fails d here bytes text new = (lines : List (List ℕ)) × AreLines lines bytes []
     × Serves (IsDoneFailing fails) d here lines text new
@@ -70,7 +73,8 @@ SessionText fails d here bytes text new = (lines : List (List ℕ)) × AreLines 
 abbrev pub ServesFailing : (ℕ → Way → Bool) → Exchange → Holding → Holding → Type 0
 ServesFailing fails = ServesAll (IsDoneFailing fails)
 
--- a prefix of the input was read, and what was written is a prefix of its text; and then a fault came
+-- a prefix of the input was read, and what was written is a prefix of
+-- its text; and then a fault came
 abbrev pub ServesFrontFailing : ServeFault → (ℕ → Way → Bool) → Exchange
     → Holding → Holding → Type 0
 ServesFrontFailing fault fails = ServesFront (IsDoneFailing fails) fault
@@ -97,7 +101,8 @@ HasNoLimit other = Unit {0}
 abbrev pub IsUnlimited : List ℕ → Type 0
 IsUnlimited bytes = (saying : Saying) → Says bytes saying → HasNoLimit saying
 
--- no limit is ever reached: the gate gives no moment but 0, or no line at the beginning of the input has one
+-- no limit is ever reached: the gate gives no moment but 0, or no line at the
+-- beginning of the input has one
 abbrev pub IsTimeless : (Gives : ℕ → Type 0) → (input : Option (List ℕ)) → Type 0
 IsTimeless Gives input = ((m : ℕ) → Gives m → m ≡ 0)
     ⊎ ((left : Option (List ℕ)) (bytes rest : List ℕ) (lines : List (List ℕ)) →

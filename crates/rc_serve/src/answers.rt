@@ -76,7 +76,8 @@ pub(crate) fn said_answer<T: Threads + Wait + Sync, K: Keeper, G: Gate>(
 ) -> Result<Answer, ServeFault>
     requires closed { session.old.begun ≡ false }
     requires crew { IsCrew workers }
-    requires eventless { (command : Command) → saying_of said.now ≡ SaysStep command → events_of command ≡ [] }
+    requires eventless { (command : Command) → saying_of said.now ≡ SaysStep command →
+        events_of command ≡ [] }
     ensures met { IfOk result (λ answer. Ends
         (IsDoneAs workers (G.answers gate.now) (G.gives gate.now)) answer.ending
         session.old.database session.old.line (saying_of said.now) answer.text.items
@@ -199,9 +200,12 @@ fn step_answer<T: Threads + Wait + Sync, G: Gate>(
         session.old.database session.old.line (with_events (command_of step.now) [])
         answer.text.items session.new.line) }
     ensures may { MayMeet (IsDoneBy workers (G.answers gate.now) (G.gives gate.now))
-        session.old.database session.old.line (with_events (command_of step.now) []) session.new.line }
+        session.old.database session.old.line
+        (with_events (command_of step.now) []) session.new.line }
     ensures stays { Stays session.old session.new }
-    ensures fault { IfErr result (EndsSession (HasWork session.old.database session.old.line (with_events (command_of step.now) [])) session.old session.new) }
+    ensures fault { IfErr result (EndsSession
+        (HasWork session.old.database session.old.line
+        (with_events (command_of step.now) [])) session.old session.new) }
     ensures whole { IsSpoiledBy result session.old session.new }
 {
     match step {

@@ -18,7 +18,8 @@ use rc_script::laws::lines_say_one_thing;
 /// Where certain transitions fail, an input has one text, and leads to one line of states: it hangs
 /// neither on the number of workers nor on who was quicker.
 pub fn session_texts_are_one()
-    ensures { (fails : ℕ → Way → Bool) (d : Database) (here a b : Line) (bytes text other : List ℕ) →
+    ensures { (fails : ℕ → Way → Bool) (d : Database) (here a b : Line)
+        (bytes text other : List ℕ) →
         SessionText fails d here bytes text a → SessionText fails d here bytes other b →
         (text ≡ other) × (a ≡ b) }
 {
@@ -37,6 +38,8 @@ pub fn served_lines_are_a_play()
 pub fn one_line_is_a_session<G: Gate>(gate: &G)
     ensures { (workers : ℕ) (ending : Ending) (d : Database) (here new : Line) (bytes : List ℕ)
         (saying : Saying) (text : List ℕ) → Says bytes saying →
-        Ends (IsDoneAs workers (G.answers gate.now) (G.gives gate.now)) ending d here saying text new →
-        Serves (IsDoneBy workers (G.answers gate.now) (G.gives gate.now)) d here (bytes ∷ []) text new }
+        Ends (IsDoneAs workers (G.answers gate.now)
+        (G.gives gate.now)) ending d here saying text new →
+        Serves (IsDoneBy workers (G.answers gate.now) (G.gives gate.now)) d here
+        (bytes ∷ []) text new }
 {}

@@ -39,7 +39,9 @@ pub(crate) fn change_answer<T: Threads + Wait + Sync, G: Gate>(
     ensures may { MayMeet (IsDoneBy workers (G.answers gate.now) (G.gives gate.now))
         session.old.database session.old.line (Change (ask_of request.now) []) session.new.line }
     ensures stays { Stays session.old session.new }
-    ensures fault { IfErr result (EndsSession (HasWork session.old.database session.old.line (Change (ask_of request.now) [])) session.old session.new) }
+    ensures fault { IfErr result (EndsSession
+        (HasWork session.old.database session.old.line
+        (Change (ask_of request.now) [])) session.old session.new) }
     ensures whole { IsSpoiledBy result session.old session.new }
 {
     let outcome = change(rt, alloc, session, request, gate, workers, &NoWatch);
@@ -64,7 +66,8 @@ pub(crate) fn undo_answer<T: Threads + Wait + Sync, G: Gate>(
     ensures may { MayMeet (IsDoneBy workers (G.answers gate.now) (G.gives gate.now))
         session.old.database session.old.line (Undo limit []) session.new.line }
     ensures stays { Stays session.old session.new }
-    ensures fault { IfErr result (EndsSession (HasWork session.old.database session.old.line (Undo limit [])) session.old session.new) }
+    ensures fault { IfErr result (EndsSession
+        (HasWork session.old.database session.old.line (Undo limit [])) session.old session.new) }
     ensures whole { IsSpoiledBy result session.old session.new }
 {
     let outcome = undo(rt, alloc, session, limit, gate, workers, &NoWatch);
@@ -89,7 +92,8 @@ pub(crate) fn redo_answer<T: Threads + Wait + Sync, G: Gate>(
     ensures may { MayMeet (IsDoneBy workers (G.answers gate.now) (G.gives gate.now))
         session.old.database session.old.line (Redo limit []) session.new.line }
     ensures stays { Stays session.old session.new }
-    ensures fault { IfErr result (EndsSession (HasWork session.old.database session.old.line (Redo limit [])) session.old session.new) }
+    ensures fault { IfErr result (EndsSession
+        (HasWork session.old.database session.old.line (Redo limit [])) session.old session.new) }
     ensures whole { IsSpoiledBy result session.old session.new }
 {
     let outcome = redo(rt, alloc, session, limit, gate, workers, &NoWatch);

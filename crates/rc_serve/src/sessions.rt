@@ -27,17 +27,18 @@ use std::thread::Threads;
 /// The most workers of a session.
 const MAX_WORKERS: u8 = 64;
 
-/// Runs a session: reads lines, does what each says, and answers it before the next one is waited for.
+/// Runs a session: reads lines, does what each says, and answers it
+/// before the next one is waited for.
 ///
 /// A line that alters the line of states is kept before it is answered: no answer is written of
 /// what is not kept.
 ///
-/// An answer is written whole and flushed. A refused command is answered too, and the session goes on. It ends with
-/// the input, or with a fault: then the lines before were done and answered whole. The line whose answer could not be made
-/// or written may be done as well, and nothing after it is.
+/// An answer is written whole and flushed. A refused command is answered too, and the session goes
+/// on. It ends with the input, or with a fault: then the lines before were done and answered whole.
+/// The line whose answer could not be made or written may be done as well, and nothing after it is.
 ///
-/// Time: it grows with the bytes of the lines and with what the commands do; a line costs no more the longer the journal is,
-/// but for `journal`, which shows it.
+/// Time: it grows with the bytes of the lines and with what the commands do; a line costs no more
+/// the longer the journal is, but for `journal`, which shows it.
 pub fn serve<T: Threads + Wait + Sync, R: Read, W: Write, K: Keeper, G: Gate>(
     rt: &T,
     alloc: Global,
@@ -66,8 +67,8 @@ pub fn serve<T: Threads + Wait + Sync, R: Read, W: Write, K: Keeper, G: Gate>(
         (R.remaining (inner_of reader.old)) session.old.database session.old.line
         → keeper.new ≡ keeper.old }
 
-    // Lines at the beginning of the input were met and answered whole, and then one more at most, of
-    // whose answer a prefix was written. There is one more only where it could not be kept, its
+    // Lines at the beginning of the input were met and answered whole, and then one more at most,
+    // of whose answer a prefix was written. There is one more only where it could not be kept, its
     // answer could not be written, or memory was wanting. A read fails only where no whole line is
     // left. TooLong comes only where none is left, and the input passes its bound, or where the
     // next line passes its own. Workers fail only where the next line is a command that moves a
@@ -79,8 +80,9 @@ pub fn serve<T: Threads + Wait + Sync, R: Read, W: Write, K: Keeper, G: Gate>(
         (exchanged R.remaining W.contents reader.old reader.new writer.old writer.new)
         session.old session.new) }
 
-    // Where the gate lets exactly certain transitions fail, and no limit is reached, what was written is the text of the
-    // session for these, or a prefix of it: its bytes hang neither on the number of workers nor on who was quicker.
+    // Where the gate lets exactly certain transitions fail, and no limit is reached, what was
+    // written is the text of the session for these, or a prefix of it: its bytes hang neither on
+    // the number of workers nor on who was quicker.
     ensures text { (fails : ℕ → Way → Bool) →
         FailsExactly (G.answers gate.now) fails →
         IsTimeless (G.gives gate.now) (R.remaining (inner_of reader.old)) →
@@ -95,15 +97,19 @@ pub fn serve<T: Threads + Wait + Sync, R: Read, W: Write, K: Keeper, G: Gate>(
         (exchanged R.remaining W.contents reader.old reader.new writer.old writer.new)
         session.old session.new) }
 
-    // Whatever the result, the commands among the lines that were met are played, and the headline holds all along.
+    // Whatever the result, the commands among the lines that were met are played,
+    // and the headline holds all along.
     ensures play { PlaysInput
         (R.remaining (inner_of reader.old)) (R.remaining (inner_of reader.new))
         session.old session.new }
 
     // Answers are flushed at the end, and before each read.
-    ensures flushed { MatchResult result (λ _. IsFlushed writer.old → IsFlushed writer.new) (λ fault. IsOfAnswer fault ⊎ (IsFlushed writer.old → IsFlushed writer.new)) }
+    ensures flushed { MatchResult result (λ _.
+        IsFlushed writer.old → IsFlushed writer.new) (λ fault.
+        IsOfAnswer fault ⊎ (IsFlushed writer.old → IsFlushed writer.new)) }
 
-    // With a wrong number of workers nothing is read and nothing written, and with a right one that is no fault.
+    // With a wrong number of workers nothing is read and nothing written, and
+    // with a right one that is no fault.
     ensures crew { OnOk result (IsCrew workers) }
     ensures workers { (result ≡ Err ServeFault.Workers) ↔ (IsCrew workers → ⊥) }
     ensures unread { result ≡ Err ServeFault.Workers → reader.new ≡ reader.old }
@@ -111,11 +117,13 @@ pub fn serve<T: Threads + Wait + Sync, R: Read, W: Write, K: Keeper, G: Gate>(
     ensures same { result ≡ Err ServeFault.Workers → session.new ≡ session.old }
     ensures unkept { result ≡ Err ServeFault.Workers → keeper.new ≡ keeper.old }
 
-    // Where a device has failed it ends by a fault, and by one of the reader or the writer only where that one has failed.
+    // Where a device has failed it ends by a fault, and by one of the reader or the writer
+    // only where that one has failed.
     ensures sound { OnOk result ((HasFailed reader.new → ⊥) × (HasFailed writer.new → ⊥)) }
     ensures read { result ≡ Err ServeFault.Read → HasFailed reader.new }
 
-    // Where the reader has failed that is what is told: no read is made before the lines that were read are answered.
+    // Where the reader has failed that is what is told: no read is made before the
+    // lines that were read are answered.
     ensures told { HasFailed reader.new → result ≡ Err ServeFault.Read }
     ensures written { result ≡ Err ServeFault.Write → HasFailed writer.new }
 
@@ -125,9 +133,11 @@ pub fn serve<T: Threads + Wait + Sync, R: Read, W: Write, K: Keeper, G: Gate>(
     // A session is poisoned by a strange fault, and by nothing else.
     ensures whole { IsSpoiledBy result session.old session.new }
 
-    // Whatever the result, the database stays, nothing is begun, and one byte past the bound is the last that is taken.
+    // Whatever the result, the database stays, nothing is begun, and one byte past the
+    // bound is the last that is taken.
     ensures stays { Stays session.old session.new }
-    ensures taken { ConsumesAtMost (R.remaining (inner_of reader.old)) (R.remaining (inner_of reader.new)) 16777217 }
+    ensures taken { ConsumesAtMost (R.remaining (inner_of reader.old))
+        (R.remaining (inner_of reader.new)) 16777217 }
 {
     // The session tells that its line is one of its database.
     let _ = session.db();
@@ -166,14 +176,17 @@ fn serve_lines<T: Threads + Wait + Sync, R: Read, W: Write, K: Keeper, G: Gate>(
         K.fails (K.keeps keeper.old) (K.keeps keeper.new)
         (exchanged R.remaining W.contents reader.old reader.new writer.old writer.new)
         session.old session.new) }
-    ensures flushed { MatchResult result (λ _. IsFlushed writer.old → IsFlushed writer.new) (λ fault. IsOfAnswer fault ⊎ (IsFlushed writer.old → IsFlushed writer.new)) }
+    ensures flushed { MatchResult result (λ _.
+        IsFlushed writer.old → IsFlushed writer.new) (λ fault.
+        IsOfAnswer fault ⊎ (IsFlushed writer.old → IsFlushed writer.new)) }
     ensures sound { OnOk result ((HasFailed reader.new → ⊥) × (HasFailed writer.new → ⊥)) }
     ensures told { HasFailed reader.new → result ≡ Err ServeFault.Read }
     ensures stays { Stays session.old session.new }
     ensures fault { IfErr result (IsServeFault
         (HasFailed reader.new) (HasFailed writer.new) (K.failed keeper.new)) }
     ensures whole { IsSpoiledBy result session.old session.new }
-    ensures taken { ConsumesAtMost (R.remaining (inner_of reader.old)) (R.remaining (inner_of reader.new)) 16777217 }
+    ensures taken { ConsumesAtMost (R.remaining (inner_of reader.old))
+        (R.remaining (inner_of reader.new)) 16777217 }
 {
     let mut lines = Lines::new(alloc);
     while next_answer(
@@ -198,7 +211,8 @@ fn next_answer<T: Threads + Wait + Sync, R: Read, W: Write, K: Keeper, G: Gate>(
     requires reader { HasFailed reader.old → ⊥ }
     requires writer { HasFailed writer.old → ⊥ }
     requires crew { IsCrew workers }
-    ensures next { IfOk result (λ more. ServesNext (IsDoneBy workers (G.answers gate.now) (G.gives gate.now)) more
+    ensures next { IfOk result (λ more.
+        ServesNext (IsDoneBy workers (G.answers gate.now) (G.gives gate.now)) more
         (exchanged R.remaining W.contents reader.old reader.new writer.old writer.new)
         lines.old lines.new session.old session.new) }
     ensures kept { OnOk result (IsKeptUp (K.keeps keeper.old) (K.keeps keeper.new)
@@ -209,7 +223,9 @@ fn next_answer<T: Threads + Wait + Sync, R: Read, W: Write, K: Keeper, G: Gate>(
         K.fails (K.keeps keeper.old) (K.keeps keeper.new)
         (exchanged R.remaining W.contents reader.old reader.new writer.old writer.new)
         lines.old lines.new session.old session.new) }
-    ensures flushed { MatchResult result (λ _. IsFlushed writer.old → IsFlushed writer.new) (λ fault. IsOfAnswer fault ⊎ (IsFlushed writer.old → IsFlushed writer.new)) }
+    ensures flushed { MatchResult result (λ _.
+        IsFlushed writer.old → IsFlushed writer.new) (λ fault.
+        IsOfAnswer fault ⊎ (IsFlushed writer.old → IsFlushed writer.new)) }
     ensures stays { Stays session.old session.new }
     ensures reader { OnOk result (HasFailed reader.new → ⊥) }
     ensures writer { OnOk result (HasFailed writer.new → ⊥) }

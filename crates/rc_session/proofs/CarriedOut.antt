@@ -4,8 +4,8 @@ use Rattle.rc_model.specs.Names.{Has}
 use Rattle.rc_model.proofs.SetMembers.{has_or_lacks, has_within}
 use Rattle.rc_model.specs.Plan.{PlanSets}
 use Rattle.rc_model.specs.declared.Event.{Event}
-use Rattle.rc_model.specs.Run.{Course, TargetOf, HasFailed, IsStopped, IsLeft}
-use Rattle.rc_model.specs.Beside.{IsCourse}
+use Rattle.rc_model.specs.Run.{Course, HasFailed, IsStopped, IsLeft}
+use Rattle.rc_model.specs.Beside.{IsCourse, TargetOf}
 use Rattle.rc_core.proofs.Places.{planned_within}
 use Rattle.rc_model.specs.Line.{IsGained, Lists}
 use Rattle.rc_model.specs.Session.{Reported, IsReportOf, EndsWith}

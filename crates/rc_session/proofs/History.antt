@@ -1,10 +1,11 @@
-use Rattle.std.proofs.Common.{◌≡◌, ◌∙◌, ◌≤◌, Bool, List, [], ◌∷◌, ◌++◌, ◌⊎◌, length, length-append, inl, inr, refl, ap, sym, subst, arith}
+use Rattle.std.proofs.Common.{◌≡◌, ◌∙◌, ◌≤◌, ℕ, Bool, List, [], ◌∷◌, ◌++◌, ◌⊎◌, length, length-append, inl, inr, refl, ap, sym, subst, arith}
+use Rattle.rc_model.specs.declared.Event.{Event}
 use Rattle.rc_model.specs.Database.{Database}
 use Rattle.rc_model.specs.Line.{State, Line, IsNext, cursor, within_bound, MovesTo, MovesByUndo, MovesByRedo, put_between, put_last, with_live, with_table}
 use Rattle.rc_line.proofs.Closings.{same_line}
 use Rattle.rc_model.proofs.Fitting.{Loses, Oldest, Last, fitted_cases, fitted_bound, fitted_current}
 use Rattle.rc_model.specs.Session.{Command, Change, Undo, Redo, Add, Delete, Reported, DoesByRun, DoesByEdit, IsLineOf}
-use Rattle.rc_model.specs.Headline.{LosesOne, Keeps, KeepsHistory, HistoryIsKept}
+use Rattle.rc_model.specs.Headline.{LosesOne, Keeps, IsUndo, IsRedo, KeepsHistory, HistoryIsKept}
 
 -- a line that loses a state is the one that it was but for that, where one stands before the current one
 loses : (full new : Line) → 1 ≤ cursor full → Loses full new → LosesOne full new
@@ -55,13 +56,13 @@ redone_bound line new live r = elim r.2 [
   ]
 ]
 
--- what a line becomes, where this is it with the new state
-abbrev Leads : Line → Line → Line → Type 0
-Leads line all new = (new ≡ line) ⊎ IsNext new line ⊎ IsNext line new ⊎ Keeps all new
+-- what a line becomes by a command, where this is it with the new state
+abbrev Leads : Line → Command → Line → Line → Type 0
+Leads line command all new = (new ≡ line) ⊎ (IsUndo command × IsNext new line) ⊎ (IsRedo command × IsNext line new) ⊎ Keeps all new
 
 -- a change or edit stays, or adds its end after the current state
-added : (line new : Line) (end : State) → 3 ≤ line.bound → MovesTo line end new → Leads line (put_last line new.current) new
-added line new end three ends = elim ends [
+added : (command : Command) (line new : Line) (end : State) → 3 ≤ line.bound → MovesTo line end new → Leads line command (put_last line new.current) new
+added command line new end three ends = elim ends [
   | inl stays ↦ inl stays.1
   | inr adds ↦
       let full : Line = put_last line end in
@@ -71,9 +72,10 @@ added line new end three ends = elim ends [
 ]
 
 -- an undo goes back, stays, or puts its end in front of the current state
-undone : (line new : Line) (live : List Bool) → 3 ≤ line.bound → MovesByUndo line live new → Leads line (record line { current = new.current; after = line.current ∷ line.after }) new
-undone line new live three u = elim u.2 [
-  | inl there ↦ inr (inl (subst (λ (l : Line). IsNext l line) (sym there.1) u.1))
+undone : (limit : ℕ) (events : List Event) (line new : Line) (live : List Bool) → 3 ≤ line.bound → MovesByUndo line live new →
+    Leads line (Undo limit events) (record line { current = new.current; after = line.current ∷ line.after }) new
+undone limit events line new live three u = elim u.2 [
+  | inl there ↦ inr (inl (tt, subst (λ (l : Line). IsNext l line) (sym there.1) u.1))
   | inr other ↦ elim other [
     | inl here ↦ inl here.2
     | inr between ↦
@@ -86,9 +88,10 @@ undone line new live three u = elim u.2 [
 ]
 
 -- a redo goes on, stays, or puts its end after the current state
-redone : (line new : Line) (live : List Bool) → 3 ≤ line.bound → MovesByRedo line live new → Leads line (record line { before = line.before ++ line.current ∷ []; current = new.current }) new
-redone line new live three r = elim r.2 [
-  | inl there ↦ inr (inr (inl (subst (IsNext line) (sym there.1) r.1)))
+redone : (limit : ℕ) (events : List Event) (line new : Line) (live : List Bool) → 3 ≤ line.bound → MovesByRedo line live new →
+    Leads line (Redo limit events) (record line { before = line.before ++ line.current ∷ []; current = new.current }) new
+redone limit events line new live three r = elim r.2 [
+  | inl there ↦ inr (inr (inl (tt, subst (IsNext line) (sym there.1) r.1)))
   | inr other ↦ elim other [
     | inl here ↦ inl here.2
     | inr between ↦
@@ -103,19 +106,19 @@ redone line new live three r = elim r.2 [
 module _ (d : Database) (line : Line) (of : IsLineOf d line) where
   run_keeps : (command : Command) (told : Reported) (new : Line) → DoesByRun d line command told new → KeepsHistory line command new
   run_keeps (Change ask events) told new run =
-      record { bound = added_bound line new (with_live line run.live) run.moved; history = added line new (with_live line run.live) of.is_line.bound.0 run.moved }
+      record { bound = added_bound line new (with_live line run.live) run.moved; history = added (Change ask events) line new (with_live line run.live) of.is_line.bound.0 run.moved }
   run_keeps (Undo limit events) told new run =
-      record { bound = undone_bound line new run.live run.moved; history = undone line new run.live of.is_line.bound.0 run.moved }
+      record { bound = undone_bound line new run.live run.moved; history = undone limit events line new run.live of.is_line.bound.0 run.moved }
   run_keeps (Redo limit events) told new run =
-      record { bound = redone_bound line new run.live run.moved; history = redone line new run.live of.is_line.bound.0 run.moved }
+      record { bound = redone_bound line new run.live run.moved; history = redone limit events line new run.live of.is_line.bound.0 run.moved }
   run_keeps (Add name contents force) told new run = absurd run.task
   run_keeps (Delete words force) told new run = absurd run.task
 
   edit_keeps : (command : Command) (told : Reported) (new : Line) → DoesByEdit d line command told new → KeepsHistory line command new
   edit_keeps (Add name contents force) told new edit =
-      record { bound = added_bound line new (with_table line edit.table) edit.moved; history = added line new (with_table line edit.table) of.is_line.bound.0 edit.moved }
+      record { bound = added_bound line new (with_table line edit.table) edit.moved; history = added (Add name contents force) line new (with_table line edit.table) of.is_line.bound.0 edit.moved }
   edit_keeps (Delete words force) told new edit =
-      record { bound = added_bound line new (with_table line edit.table) edit.moved; history = added line new (with_table line edit.table) of.is_line.bound.0 edit.moved }
+      record { bound = added_bound line new (with_table line edit.table) edit.moved; history = added (Delete words force) line new (with_table line edit.table) of.is_line.bound.0 edit.moved }
   edit_keeps (Change ask events) told new edit = absurd edit.altered
   edit_keeps (Undo limit events) told new edit = absurd edit.altered
   edit_keeps (Redo limit events) told new edit = absurd edit.altered

@@ -13,7 +13,7 @@ use Rattle.rc_model.specs.Database.{Bundles, names_of, value_of, HaveBound, Data
 use Rattle.rc_db.proofs.Words.{bound_of_value}
 use Rattle.rc_model.specs.declared.Mode.{Mode}
 use Rattle.rc_model.specs.declared.Mode.TheVariants.{Up, Down, DownAll}
-use Rattle.rc_model.specs.Plan.{Ask, IsWanted, IsEssentialUp, IsPlanOf, PlanSets, Target, Kept}
+use Rattle.rc_model.specs.Plan.{Ask, IsWanted, IsEssentialUp, TargetOfAsk, IsPlanOf, PlanSets, Target, Kept}
 use Rattle.rc_select.proofs.TargetLemmas.{down_before}
 use Rattle.rc_session.proofs.Deciding.{Decided, both, either, not, where_so, some_below, member_decided, flag_decided, set_of, holds_of}
 use Rattle.rc_session.proofs.WellRuns.{needs_decided}
@@ -214,6 +214,10 @@ module _ (d : Database) (is_db : IsDatabase d) (table : Bundles) (below : HaveBo
   target_decided Up true s low = either (UpFrom d.needs wanted s) (UpFrom d.needs essential s) (wanted_up s low) (held_up s low)
   target_decided Down prune s low = both (Has up s) (DownFrom d.needs wanted s → UpFrom d.needs essential s) (has_or_lacks up s) (where_so (DownFrom d.needs wanted s) (UpFrom d.needs essential s) (wanted_down s low) (held_up s low))
   target_decided DownAll prune s low = both (Has up s) (DownFrom d.needs wanted s → ⊥) (has_or_lacks up s) (not (DownFrom d.needs wanted s) (wanted_down s low))
+
+  -- of what is up it is decided whether it is to stay
+  pub staying_decided : (s : ℕ) → Has up s → Decided (TargetOfAsk d table up ask s)
+  staying_decided s has = target_decided ask.mode ask.prune s (up_is_within s has)
 
   target_is_within : (mode : Mode) (prune : Bool) (s : ℕ) → Target d.needs (Has up) essential mode prune wanted s → s < length d.needs
   target_is_within Up false s aimed = elim aimed [ inl has ↦ up_is_within s has | inr more ↦ wanted_up_within s more ]

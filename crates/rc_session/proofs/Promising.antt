@@ -1,17 +1,16 @@
 use Rattle.std.proofs.Common.{◌≡◌, ◌∙◌, Bool, List, take, Result, inl, inr, ap, sym, subst}
 use Rattle.rc_model.specs.Names.{Holds}
-use Rattle.rc_model.specs.Run.{course_of, TargetOf, IsStrictlyClosed}
+use Rattle.rc_model.specs.Run.{course_of, IsStrictlyClosed}
 use Rattle.rc_model.proofs.StrictLemmas.{prefix_strict}
 use Rattle.rc_model.specs.Database.{Database, IsDatabase}
 use Rattle.rc_model.specs.Line.{Line, with_live, put_between}
 use Rattle.rc_model.proofs.Fitting.{fitted_current}
 use Rattle.rc_model.specs.declared.Refusal.{Refusal}
 use Rattle.rc_model.specs.Session.{Command, Change, Undo, Redo, Add, Delete, events_of, Reported, EndsWith, MovesBy, DoesByRun, DoesByEdit, IsLineOf, Plays}
-use Rattle.rc_model.specs.Headline.{RanInOrder, RunsAreOrderly, IsPromised, IsPromisedAllAlong, HasRun}
+use Rattle.rc_model.specs.Headline.{TargetOfCommand, RanInOrder, RunsAreOrderly, IsPromised, IsPromisedAllAlong, HasRun}
 use Rattle.rc_session.proofs.Keeping.{task_opening, opening_closed, plays_keep}
 use Rattle.rc_session.proofs.Entering.{ends_in, change_entered, edit_entered}
-use Rattle.rc_session.proofs.Courses.{task_is_course}
-use Rattle.rc_session.proofs.Arriving.{ends_in_target}
+use Rattle.rc_session.proofs.Arriving.{ends_as_asked}
 use Rattle.rc_session.proofs.Splits.{undo_leaves}
 use Rattle.rc_session.proofs.Undos.{undos_restore, redos_restore}
 use Rattle.rc_session.proofs.History.{history_kept}
@@ -59,8 +58,8 @@ ran_in_order d line new command told is_db of run =
       ends = subst (λ live. EndsWith c told.trace live) (sym live_is) (subst (λ events. EndsWith c events run.live) (sym run.is_report.trace) run.ends);
       strict = λ k. subst (λ events. IsStrictlyClosed c (take k events)) (sym run.is_report.trace)
           (prefix_strict c (events_of command) k (opening_closed d line of run.plan opening) run.ends.settled.run);
-      arrives = λ failed stopped. subst (λ live. Holds live (TargetOf c)) (sym live_is)
-          (ends_in_target c run.plan (events_of command) run.live told (task_is_course d line command 0 run.plan run.deadline is_db of run.task) run.ends run.is_report failed stopped);
+      arrives = λ failed stopped. subst (λ live. Holds live (TargetOfCommand d line command)) (sym live_is)
+          (ends_as_asked d line command run.plan run.deadline (events_of command) run.live told is_db of run.task run.ends run.is_report failed stopped);
     }
 
 pub runs_orderly : (d : Database) (line : Line) → IsDatabase d → IsLineOf d line → RunsAreOrderly d line

@@ -10,8 +10,8 @@ use Rattle.rc_model.specs.declared.Standing.TheVariants.{Down, Rising, Up, Sinki
 use Rattle.rc_model.specs.declared.Outcome.TheVariants as outcome
 use Rattle.rc_model.specs.declared.Event.{Event}
 use Rattle.rc_model.specs.declared.Event.TheVariants.{Take, Done}
-use Rattle.rc_model.specs.Run.{Course, IsPlanned, TargetOf, standing_of, WasTaken, IsHeldBy, NoneHeld, HasFailed, IsStopped, CanSink, CanRise, CanMove, IsLeft, IsLegal, IsRun, IsLive, IsSettled}
-use Rattle.rc_model.specs.Beside.{IsCourse}
+use Rattle.rc_model.specs.Run.{Course, IsPlanned, standing_of, WasTaken, IsHeldBy, NoneHeld, HasFailed, IsStopped, CanSink, CanRise, CanMove, IsLeft, IsLegal, IsRun, IsLive, IsSettled}
+use Rattle.rc_model.specs.Beside.{IsCourse, TargetOf}
 use Rattle.rc_core.proofs.Ends.{ends_by_what_failed, end_is_target}
 use Rattle.rc_model.proofs.EventLemmas.{still_there, take_then_take, take_then_done, done_then_take, done_then_done, stop_then_take, stop_then_done}
 use Rattle.rc_model.proofs.RunMembers.{fewer_in}

@@ -9,7 +9,8 @@ use Rattle.rc_model.specs.declared.Refusal.{Refusal}
 use Rattle.rc_model.specs.declared.Refusal.TheVariants.{Strange, Memory}
 use Rattle.rc_model.specs.Session.{Command, Change, Undo, Redo, Add, Delete, Reported, IsTask, Does, IsOwnFault, IsRunFault, Plays}
 
--- what a session has: its database, its line, whether a run was begun that is not ended yet, and whether it is poisoned
+-- what a session has: its database, its line, whether a run was begun that is not ended
+-- yet, and whether it is poisoned
 pub record Holding : Type 0 where
   pub database : Database
   pub line : Line
@@ -39,7 +40,8 @@ IsAimOf (Redo limit events) aim = aim ≡ aims.Redo
 IsAimOf (Add name contents force) aim = ⊥
 IsAimOf (Delete words force) aim = ⊥
 
--- the run was begun for this command, from this moment on, by this session, which has not changed since
+-- the run was begun for this command, from this moment on, by this
+-- session, which has not changed since
 pub record IsBegun (h : Holding) (command : Command) (start : ℕ) (task : Task) : Type 0 where
   pub asked : IsTask h.database h.line command start task.plan task.deadline
   pub aims : IsAimOf command task.opening.aim
@@ -57,18 +59,24 @@ with_run h = record { database = h.database; line = h.line; begun = true; spoile
 abbrev pub with_line : Holding → Line → Holding
 with_line h line = record { database = h.database; line = line; begun = false; spoiled = h.spoiled }
 
--- why a session does not begin a command: a poisoned one refuses each as strange; else a fault of the command's own, and out of memory only where there is none
+-- why a session does not begin a command: a poisoned one refuses each as strange; else a fault of
+-- the command's own, and out of memory only where there is none
 abbrev pub IsHindrance : (Refusal → Type 0) → Holding → Refusal → Type 0
 IsHindrance Own h Strange = h.spoiled ≡ true
 IsHindrance Own h Memory = (h.spoiled ≡ false) × ((fault : Refusal) → Own fault → ⊥)
 IsHindrance Own h other = (h.spoiled ≡ false) × Own other
 
--- what a session answers to a command, and what it has from then on: the command is done, or it is refused and nothing has changed
+-- what a session answers to a command, and what it has from then on: the command is done, or it is
+-- refused and nothing has changed
 abbrev pub Obeys : Holding → Command → Result Reported Refusal → Holding → Type 0
-Obeys old command (Ok told) new = (old.spoiled ≡ false) × Does old.database old.line command told new.line × (new ≡ with_line old new.line)
-Obeys old command (Err refusal) new = (IsHindrance (IsOwnFault old.database old.line command) old refusal ⊎ ((old.spoiled ≡ false) × IsRunFault old.database old.line command refusal)) × (new ≡ old)
+Obeys old command (Ok told) new = (old.spoiled ≡ false)
+    × Does old.database old.line command told new.line × (new ≡ with_line old new.line)
+Obeys old command (Err refusal) new = (IsHindrance
+    (IsOwnFault old.database old.line command) old refusal
+    ⊎ ((old.spoiled ≡ false) × IsRunFault old.database old.line command refusal)) × (new ≡ old)
 
--- what a session answers to several commands, and what it has from then on; a poisoned one refuses all
+-- what a session answers to several commands, and what it has from then
+-- on; a poisoned one refuses all
 abbrev pub ObeysAll : Holding → List Command → List (Result Reported Refusal) → Holding → Type 0
 ObeysAll old commands answers new = (new ≡ with_line old new.line)
     × (((old.spoiled ≡ false) × Plays old.database old.line commands answers new.line)

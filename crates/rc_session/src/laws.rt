@@ -1,6 +1,6 @@
 //! Laws of the definitions, the headline first. The functions do nothing when they run.
 
-ghost use Rattle.std.specs.Prelude.{◌≡◌, ℕ, Bool, false, List, [], Option, Some, length, take, drop, slice_get, Result};
+ghost use Rattle.std.specs.Prelude.{◌≡◌, ◌↔◌, ℕ, Bool, false, List, [], Option, Some, length, take, drop, slice_get, Result};
 ghost use Rattle.rc_model.specs.Database.{Database, IsDatabase};
 ghost use Rattle.rc_model.specs.Plan.{PlanSets};
 ghost use Rattle.rc_model.specs.Names.{Holds};
@@ -8,14 +8,14 @@ ghost use Rattle.rc_graph.specs.declared.Way.{Way};
 ghost use Rattle.rc_model.specs.declared.Event.{Event};
 ghost use Rattle.rc_core.specs.End.{EndOf};
 ghost use Rattle.rc_model.specs.Run.{HasFailed, course_of, IsSettled};
-ghost use Rattle.rc_model.specs.Beside.{IsCourse, IsEditOnly};
+ghost use Rattle.rc_model.specs.Beside.{IsCourse, IsEditOnly, TargetOf};
 ghost use Rattle.rc_core.specs.Failing.{EndsAs};
 ghost use Rattle.rc_model.specs.Line.{Line, IsNext};
 ghost use Rattle.rc_model.specs.declared.Refusal.{Refusal};
 ghost use Rattle.rc_model.specs.Session.{Command, Undo, Redo, events_of, Reported, IsTask, deadline_of, DoesByRun, IsLineOf, Answers, Plays};
 ghost use Rattle.rc_session.specs.Alike.{IsEndOfFailing};
 ghost use Rattle.rc_session.specs.Existence.{WaysBack, WaysOn, EachIsAnswered};
-ghost use Rattle.rc_model.specs.Headline.{RunsAreOrderly, ChangesAreEntered, EditsAreEntered, UndosRestore, RedosRestore, UndosLeaveWhatRemains, RedosLeaveWhatRemains, HistoryIsKept, UndosGoOn, RedosGoOn, Headline};
+ghost use Rattle.rc_model.specs.Headline.{TargetOfCommand, RunsAreOrderly, ChangesAreEntered, EditsAreEntered, UndosRestore, RedosRestore, UndosLeaveWhatRemains, RedosLeaveWhatRemains, HistoryIsKept, UndosGoOn, RedosGoOn, Headline};
 
 /// The headline. For every database, every line of it and every list of commands, with whatever
 /// events: each change runs in dependency order and keeps what is live strictly closed; its entry
@@ -28,9 +28,11 @@ pub fn headline()
     ensures { Headline }
 {}
 
-/// What runs is a settled run of its command's task, strictly closed at each moment, and the new state has what is live in the end.
+/// What runs is a settled run of its command's task, strictly closed at each moment, and the new
+/// state has what is live in the end, which is the target of the command where all went well.
 pub fn told_runs_are_settled()
-    ensures { (d : Database) (line : Line) → IsDatabase d → IsLineOf d line → RunsAreOrderly d line }
+    ensures { (d : Database) (line : Line) → IsDatabase d → IsLineOf d line →
+        RunsAreOrderly d line }
 {}
 
 /// The entry of a change names exactly what it is told to have altered, and not what was planned.
@@ -43,7 +45,8 @@ pub fn edit_enters_what_it_altered()
     ensures { (d : Database) (line : Line) → IsLineOf d line → EditsAreEntered d line }
 {}
 
-/// Undos that all go well restore, one after the other, the states that the line keeps, and leave the line's states alone.
+/// Undos that all go well restore, one after the other, the states that the line keeps, and
+/// leave the line's states alone.
 pub fn undos_restore()
     ensures { (d : Database) (line : Line) → IsDatabase d → IsLineOf d line → UndosRestore d line }
 {}
@@ -53,7 +56,8 @@ pub fn redos_restore()
     ensures { (d : Database) (line : Line) → IsDatabase d → IsLineOf d line → RedosRestore d line }
 {}
 
-/// An undo that does not come to the state before leaves, before the cursor, exactly the inverse of what remains to be undone.
+/// An undo that does not come to the state before leaves, before the cursor, exactly the
+/// inverse of what remains to be undone.
 pub fn failed_undo_leaves_what_remains()
     ensures { (d : Database) (line : Line) → IsLineOf d line → UndosLeaveWhatRemains d line }
 {}
@@ -64,82 +68,118 @@ pub fn history_is_kept()
     ensures { (d : Database) (line : Line) → IsLineOf d line → HistoryIsKept d line }
 {}
 
-/// A redo that does not come to the state after leaves, after the cursor, exactly what remains to be redone.
+/// A redo that does not come to the state after leaves, after the cursor,
+/// exactly what remains to be redone.
 pub fn failed_redo_leaves_what_remains()
     ensures { (d : Database) (line : Line) → IsLineOf d line → RedosLeaveWhatRemains d line }
 {}
 
 /// Where an undo or a redo failed, the next one that goes well ends where it was to end.
 pub fn next_goes_on()
-    ensures undo { (d : Database) (line : Line) → IsDatabase d → IsLineOf d line → UndosGoOn d line }
-    ensures redo { (d : Database) (line : Line) → IsDatabase d → IsLineOf d line → RedosGoOn d line }
+    ensures undo { (d : Database) (line : Line) → IsDatabase d → IsLineOf d line →
+        UndosGoOn d line }
+    ensures redo { (d : Database) (line : Line) → IsDatabase d → IsLineOf d line →
+        RedosGoOn d line }
 {}
 
-/// Each command that names what it defines cannot be begun for a fault of its own, or can go well. So there is always an answer.
+/// Each command that names what it defines cannot be begun for a fault of its own, or can go
+/// well. So there is always an answer.
 pub fn each_command_is_answered()
-    ensures { (d : Database) (line : Line) → IsDatabase d → IsLineOf d line → EachIsAnswered d line }
+    ensures { (d : Database) (line : Line) → IsDatabase d → IsLineOf d line →
+        EachIsAnswered d line }
 {}
 
-/// Where there is a state before the current one its undo can go well, and then the line stands on it; and so with a redo.
+/// Where there is a state before the current one its undo can go well, and then the line
+/// stands on it; and so with a redo.
 pub fn ways_lead_back_and_on()
     ensures back { (d : Database) (line : Line) → IsDatabase d → IsLineOf d line → WaysBack d line }
     ensures on { (d : Database) (line : Line) → IsDatabase d → IsLineOf d line → WaysOn d line }
 {}
 
-/// A play is its steps: what is said of one command, from a line of the database, reaches each command of a list.
+/// A play is its steps: what is said of one command, from a line of the database,
+/// reaches each command of a list.
 pub fn plays_go_step_by_step()
-    ensures parts { (d : Database) (line new : Line) (commands : List Command) (answers : List (Result Reported Refusal)) (k : ℕ) →
+    ensures parts { (d : Database) (line new : Line) (commands : List Command)
+        (answers : List (Result Reported Refusal)) (k : ℕ) →
         Plays d line commands answers new →
-        (here : Line) × Plays d line (take k commands) (take k answers) here × Plays d here (drop k commands) (drop k answers) new }
-    ensures step { (d : Database) (line new : Line) (commands : List Command) (answers : List (Result Reported Refusal)) (k : ℕ) (command : Command) (answer : Result Reported Refusal) →
-        IsLineOf d line → Plays d line commands answers new → slice_get commands k ≡ Some command → slice_get answers k ≡ Some answer →
-        (here : Line) × (next : Line) × IsLineOf d here × Plays d line (take k commands) (take k answers) here × Answers d here command answer next }
+        (here : Line) × Plays d line (take k commands) (take k answers) here
+        × Plays d here (drop k commands) (drop k answers) new }
+    ensures step { (d : Database) (line new : Line) (commands : List Command)
+        (answers : List (Result Reported Refusal)) (k : ℕ) (command : Command)
+        (answer : Result Reported Refusal) →
+        IsLineOf d line → Plays d line commands answers new → slice_get commands k ≡ Some command →
+        slice_get answers k ≡ Some answer →
+        (here : Line) × (next : Line) × IsLineOf d here
+        × Plays d line (take k commands) (take k answers) here
+        × Answers d here command answer next }
 {}
 
 /// Each command, done or refused, leads from a line of the database to one, and so do several.
 pub fn commands_keep_lines()
-    ensures one { (d : Database) (line new : Line) (command : Command) (answer : Result Reported Refusal) →
+    ensures one { (d : Database) (line new : Line) (command : Command)
+        (answer : Result Reported Refusal) →
         IsLineOf d line → Answers d line command answer new → IsLineOf d new }
-    ensures several { (d : Database) (line new : Line) (commands : List Command) (answers : List (Result Reported Refusal)) →
+    ensures several { (d : Database) (line new : Line) (commands : List Command)
+        (answers : List (Result Reported Refusal)) →
         IsLineOf d line → Plays d line commands answers new → IsLineOf d new }
 {}
 
-/// What a command comes to is determined by where the line stands: one answer, and one line from then on. So what is
-/// done has no cause to be refused, and the lines of which the headline speaks are those on which the session stood.
+/// What a command comes to is determined by where the line stands: one answer, and one line from
+/// then on. So what is done has no cause to be refused, and the lines of which the headline speaks
+/// are those on which the session stood.
 pub fn answers_are_one()
-    ensures one { (d : Database) (line a b : Line) (command : Command) (x y : Result Reported Refusal) →
+    ensures one { (d : Database) (line a b : Line) (command : Command)
+        (x y : Result Reported Refusal) →
         Answers d line command x a → Answers d line command y b → (x ≡ y) × (a ≡ b) }
-    ensures several { (d : Database) (line a b : Line) (commands : List Command) (xs ys : List (Result Reported Refusal)) →
+    ensures several { (d : Database) (line a b : Line) (commands : List Command)
+        (xs ys : List (Result Reported Refusal)) →
         Plays d line commands xs a → Plays d line commands ys b → (xs ≡ ys) × (a ≡ b) }
 {}
 
-/// The run that a command asks for is a course, so it can be opened, and where nothing hinders it it ends in its target.
+/// The run that a command asks for is a course, so it can be opened, and where nothing hinders it
+/// it ends in its target, which is that of the command.
 pub fn tasks_are_courses()
-    ensures { (d : Database) (line : Line) (command : Command) (start : ℕ) (plan : PlanSets) (deadline : Option ℕ) →
-        IsDatabase d → IsLineOf d line → IsTask d line command start plan deadline → IsCourse (course_of d.needs plan deadline) }
+    ensures course { (d : Database) (line : Line) (command : Command) (start : ℕ) (plan : PlanSets)
+        (deadline : Option ℕ) →
+        IsDatabase d → IsLineOf d line → IsTask d line command start plan deadline →
+        IsCourse (course_of d.needs plan deadline) }
+    ensures target { (d : Database) (line : Line) (command : Command) (start : ℕ) (plan : PlanSets)
+        (deadline : Option ℕ) →
+        IsDatabase d → IsLineOf d line → IsTask d line command start plan deadline →
+        (s : ℕ) → TargetOf (course_of d.needs plan deadline) s ↔ TargetOfCommand d line command s }
 {}
 
 /// A settled run that begins later is one that begins at the moment 0.
 pub fn later_runs_are_runs()
     ensures { (needs : List (List ℕ)) (plan : PlanSets) (start limit : ℕ) (events : List Event) →
-        IsSettled (course_of needs plan (deadline_of start limit)) events → IsSettled (course_of needs plan (deadline_of 0 limit)) events }
+        IsSettled (course_of needs plan (deadline_of start limit)) events →
+        IsSettled (course_of needs plan (deadline_of 0 limit)) events }
 {}
 
 /// The undo or redo of an edit takes no events, whatever limit it is given.
 pub fn ways_of_edits_take_no_events()
-    ensures undo { (d : Database) (line back new : Line) (limit : ℕ) (events : List Event) (told : Reported) →
-        IsNext back line → IsEditOnly line.current back.current → DoesByRun d line (Undo limit events) told new → events ≡ [] }
-    ensures redo { (d : Database) (line on new : Line) (limit : ℕ) (events : List Event) (told : Reported) →
-        IsNext line on → IsEditOnly line.current on.current → DoesByRun d line (Redo limit events) told new → events ≡ [] }
+    ensures undo { (d : Database) (line back new : Line) (limit : ℕ) (events : List Event)
+        (told : Reported) →
+        IsNext back line → IsEditOnly line.current back.current →
+        DoesByRun d line (Undo limit events) told new → events ≡ [] }
+    ensures redo { (d : Database) (line on new : Line) (limit : ℕ) (events : List Event)
+        (told : Reported) →
+        IsNext line on → IsEditOnly line.current on.current →
+        DoesByRun d line (Redo limit events) told new → events ≡ [] }
 {}
 
-/// What is told of a run that was not stopped hangs on what failed, and on nothing else: not on who was quicker, nor on how many worked.
+/// What is told of a run that was not stopped hangs on what failed, and on nothing else: not on who
+/// was quicker, nor on how many worked.
 pub fn runs_end_alike()
-    ensures end { (d : Database) (line new : Line) (command : Command) (told : Reported) → IsDatabase d → IsLineOf d line →
+    ensures end { (d : Database) (line new : Line) (command : Command) (told : Reported) →
+        IsDatabase d → IsLineOf d line →
         (run : DoesByRun d line command told new) → told.stopped ≡ false →
-        Holds new.current.live (EndOf (course_of d.needs run.plan run.deadline) (HasFailed (events_of command))) }
-    ensures fails { (d : Database) (line new : Line) (command : Command) (told : Reported) → IsDatabase d → IsLineOf d line →
+        Holds new.current.live (EndOf (course_of d.needs run.plan run.deadline)
+        (HasFailed (events_of command))) }
+    ensures fails { (d : Database) (line new : Line) (command : Command) (told : Reported) →
+        IsDatabase d → IsLineOf d line →
         (run : DoesByRun d line command told new) → told.stopped ≡ false →
-        (fails : ℕ → Way → Bool) → EndsAs (course_of d.needs run.plan run.deadline) fails (events_of command) →
+        (fails : ℕ → Way → Bool) → EndsAs (course_of d.needs run.plan run.deadline) fails
+        (events_of command) →
         IsEndOfFailing (course_of d.needs run.plan run.deadline) fails new.current.live told }
 {}

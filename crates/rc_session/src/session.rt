@@ -29,7 +29,12 @@ impl Model for Session {
 
     ghost Value = { Holding };
 
-    ghost view = { λ s. record { database = s.db; line = s.journal.line; begun = s.journal.is_open; spoiled = s.spoiled } };
+    ghost view = { λ s. record {
+      database = s.db;
+      line = s.journal.line;
+      begun = s.journal.is_open;
+      spoiled = s.spoiled;
+    } };
 
     ghost invariant = { λ s. IsDatabase s.db × IsLineOf s.db s.journal.line };
 }
@@ -76,7 +81,12 @@ impl Session {
     pub fn resume(db: Db, journal: Line) -> Result<Session, NoMem>
         requires closed { journal.is_open ≡ false }
         requires states { All (IsStateOf db) (states journal.line) }
-        ensures { result ≡ Ok (record { database = db; line = journal.line; begun = false; spoiled = false }) }
+        ensures { result ≡ Ok (record {
+          database = db;
+          line = journal.line;
+          begun = false;
+          spoiled = false;
+        }) }
     {
         // A database tells by its graph that it is one, and a line by the number of its states.
         let _ = db.graph();

@@ -13,7 +13,9 @@ use Rattle.rc_asked.specs.SessionAsked.{SessionAsk}
 use Rattle.rc_sessions.specs.declared.keeping.LiveFile.{LiveFile}
 use Rattle.rc_sessions.specs.declared.keeping.LiveFile.TheVariants.{Missing, Text, Unread}
 
--- how many states a fresh session has at most; the file that is named, if one is, and the text that stood in it; and what the store of that file held before and holds in the end, where that is known
+-- how many states a fresh session has at most; the file that is named, if one is,
+-- and the text that stood in it; and what the store of that file held before and
+-- holds in the end, where that is known
 pub record Filing : Type 0 where
   pub bound : ℕ
   pub path : Option Path
@@ -32,7 +34,8 @@ abbrev pub text_named : Option Path → LiveFile → Option (List ℕ)
 text_named None file = None
 text_named (Some path) file = text_in file
 
--- what is asked of where a session begins, with what stood in the file, and with what its store held and holds
+-- what is asked of where a session begins, with what stood in the file, and
+-- with what its store held and holds
 abbrev pub filing_of : SessionAsk → LiveFile → (was is : Option (List ℕ)) → Filing
 filing_of ask file was is = record {
   bound = ask.bound;
@@ -42,7 +45,8 @@ filing_of ask file was is = record {
   is = is;
 }
 
--- the line of states that a session begins with: the database's own with this bound; or, where there is a text, a line of the database that the text is of
+-- the line of states that a session begins with: the database's own with this bound; or, where
+-- there is a text, a line of the database that the text is of
 abbrev pub BeginsBy : Database → (bound : ℕ) → Option (List ℕ) → Line → Type 0
 BeginsBy d bound None line = line ≡ first_line d bound
 BeginsBy d bound (Some bytes) line = IsLineOf d line × Spells d bytes line
@@ -50,7 +54,8 @@ BeginsBy d bound (Some bytes) line = IsLineOf d line × Spells d bytes line
 abbrev pub BeginsWith : Database → Filing → Line → Type 0
 BeginsWith d filing line = BeginsBy d filing.bound filing.text line
 
--- the store holds the text of this line, so far as it is known what it holds; where no file is named it is left alone
+-- the store holds the text of this line, so far as it is known what it holds; where no
+-- file is named it is left alone
 abbrev pub HoldsBy : Option Path → (was is : Option (List ℕ)) → Database → Line → Type 0
 HoldsBy None was is d line = is ≡ was
 HoldsBy (Some path) was is d line = IfSome is (λ bytes. bytes ≡ spelling d line)

@@ -9,12 +9,15 @@ abbrev pub AreFound : List (List ℕ) → List Listed → List (ℕ × Way) → 
 AreFound names [] [] = Unit {0}
 AreFound names [] (entry ∷ more) = ⊥
 AreFound names (one ∷ all) [] = ⊥
-AreFound names (one ∷ all) (entry ∷ more) = (slice_get names entry.0 ≡ Some one.name) × (entry.1 ≡ one.way) × AreFound names all more
+AreFound names (one ∷ all) (entry ∷ more) =
+    (slice_get names entry.0 ≡ Some one.name) × (entry.1 ≡ one.way) × AreFound names all more
 
 -- the first of the transitions whose name is no service's
 abbrev pub IsFirstUnknown : List (List ℕ) → List Listed → List ℕ → Type 0
-IsFirstUnknown names all word = (before : List Listed) × (one : Listed) × (after : List Listed) × (all ≡ before ++ one ∷ after)
-    × (one.name ≡ word) × All (λ known. Contains names known.name) before × (Contains names word → ⊥)
+IsFirstUnknown names all word =
+    (before : List Listed) × (one : Listed) × (after : List Listed) × (all ≡ before ++ one ∷ after)
+    × (one.name ≡ word) × All (λ known. Contains names known.name) before
+    × (Contains names word → ⊥)
 
 -- why there is no gate
 abbrev pub IsGateFault : List (List ℕ) → List Listed → GateFault → Type 0

@@ -24,23 +24,27 @@ use Rattle.rc_sessions.specs.Finding.{AreFound}
 abbrev pub session_on : Database → Line → Holding
 session_on d line = record { database = d; line = line; begun = false; spoiled = false }
 
--- what was served where commands are done so: what is kept, what a reader had and has left, what a writer held and holds, and the session before and after
+-- what was served where commands are done so: what is kept, what a reader had and has left, what a
+-- writer held and holds, and the session before and after
 abbrev pub Serving : Type 1
 Serving = Keeping → Doing → Exchange → Holding → Holding → Type 0
 
--- what was written is the answers to the whole input, its commands were played, and the line on which the session stands in the end is kept
+-- what was written is the answers to the whole input, its commands were played, and the line on
+-- which the session stands in the end is kept
 abbrev pub Serves : Serving
 Serves kept Done io old new =
     ServesAll Done io old new × PlaysInput io.input io.left old new
     × kept old.database new.line
 
--- a fault that may come of a file or of keeping a line: out of memory, or it can't be read or written
+-- a fault that may come of a file or of keeping a line: out of memory,
+-- or it can't be read or written
 abbrev pub IsOfFile : ServeFault → Type 0
 IsOfFile Memory = Unit {0}
 IsOfFile Io = Unit {0}
 IsOfFile other = ⊥
 
--- where a fault came, the line that stands is kept; or keeping it has failed, nothing was written of its answer, and kept is the line before, up to which all was answered
+-- where a fault came, the line that stands is kept; or keeping it has failed, nothing was written
+-- of its answer, and kept is the line before, up to which all was answered
 abbrev pub KeepsAt : Keeping → ServeFault → Database → (here line : Line) → (written : ℕ) → Type 0
 KeepsAt kept fault d here line written =
     kept d line ⊎ (IsOfFile fault × (written ≡ 0) × kept d here)
@@ -52,7 +56,8 @@ ServesUpTo fault kept Done io old new =
     × PlaysInput io.input io.left old new
     × KeepsAt kept fault old.database served.here new.line served.told.0
 
--- a session was served up to a fault; or it was not begun, with nothing written, and all is left as it was or its first line is kept
+-- a session was served up to a fault; or it was not begun, with nothing written, and all is left as
+-- it was or its first line is kept
 abbrev pub StopsUpTo : ServeFault → (same : Type 0) → Serving
 StopsUpTo fault same kept Done io old new =
     (IsOfFile fault × (io.gained ≡ io.written) × (same ⊎ kept old.database old.line))
@@ -66,7 +71,8 @@ pub record RunsGated (Served : Serving) (filing : Filing) (Done : Doing) (d : Da
   pub begins : BeginsWith d filing start
   pub served : Served (Holds filing) Done io (session_on d start) new
 
--- each name that is to fail is a service's, and a session was served from where it begins with these transitions failing, and no others
+-- each name that is to fail is a service's, and a session was served from where it begins with
+-- these transitions failing, and no others
 pub record RunsOn (Served : Serving) (filing : Filing) (d : Database) (failing : List Listed)
     (io : Exchange) : Type 0 where
   pub table : List (ℕ × Way)

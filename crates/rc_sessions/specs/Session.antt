@@ -10,10 +10,14 @@ use Rattle.rc_sessions.specs.Filing.{filing_of}
 use Rattle.rc_sessions.specs.Serving.{RunsFor, Serving}
 use Rattle.rc_sessions.specs.declared.keeping.LiveFile.{LiveFile}
 
--- the session's own input, and what is left of it: with a base that of the reader; without one what is after the database's text
-abbrev pub Opens : Option (List ℕ) → (remaining after : Option (List ℕ)) → Database → (input left : Option (List ℕ)) → Type 0
-Opens (Some base) remaining after d input left = Spells (Some base) [] d [] × (input ≡ remaining) × (left ≡ after)
-Opens None remaining after d input left = (all : List ℕ) × (rest : List ℕ) × Reads None remaining after all × Spells None all d rest × (input ≡ Some rest)
+-- the session's own input, and what is left of it: with a base that of the reader; without one
+-- what is after the database's text
+abbrev pub Opens : Option (List ℕ) → (remaining after : Option (List ℕ)) → Database →
+    (input left : Option (List ℕ)) → Type 0
+Opens (Some base) remaining after d input left =
+    Spells (Some base) [] d [] × (input ≡ remaining) × (left ≡ after)
+Opens None remaining after d input left = (all : List ℕ) × (rest : List ℕ)
+    × Reads None remaining after all × Spells None all d rest × (input ≡ Some rest)
 
 -- there is a database, and a session on it was served
 pub record Runs (Served : Serving) (base : Option (List ℕ)) (ask : SessionAsk) (file : LiveFile)

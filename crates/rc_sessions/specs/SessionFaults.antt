@@ -45,7 +45,8 @@ IsRefusal (Failed fault) = ⊥
 abbrev pub AreAllFound : Database → List Listed → Type 0
 AreAllFound d listed = (table : List (ℕ × Way)) × AreFound d.names listed table
 
--- when each refusal comes: those of the database text, then the first name that is to fail and is no service's, and then those of the text that stands in the file
+-- when each refusal comes: those of the database text, then the first name that is to fail and is
+-- no service's, and then those of the text that stands in the file
 abbrev pub IsSessionRefused : SessionFault → SessionAsk → Filing → Option (List ℕ) → List ℕ → Type 0
 IsSessionRefused (OfText fault) ask filing base input =
     (fault ≢ text.Memory) × IsTextFault base input fault
@@ -63,7 +64,8 @@ reading_fault failures.Memory = Memory
 reading_fault failures.Read = Read
 reading_fault failures.Write = Read
 
--- why a session was not served: out of memory, or that its file can't be read or written, or without a base that the whole input could not be read, which is too long only above its bound
+-- why a session was not served: out of memory, or that its file can't be read or written, or
+-- without a base that the whole input could not be read, which is too long only above its bound
 abbrev pub IsUnserved : ServeFault → Option (List ℕ) → Option (List ℕ) → Type 0
 IsUnserved Memory base remaining = Unit {0}
 IsUnserved Io base remaining = Unit {0}
@@ -93,7 +95,9 @@ IsBeginFault ask file d (Failed fault) = IsOfFile fault
     × ((fault ≡ Io) → (ask.live ≢ None) × IsUnread file)
 IsBeginFault ask file d other = ⊥
 
--- how a session on a database ends before its input, whose commands are done so: refused for its file, with nothing read and nothing written; or by a fault of serving with a prefix of its input served, or before it is begun with nothing written
+-- how a session on a database ends before its input, whose commands are done so: refused for its
+-- file, with nothing read and nothing written; or by a fault of serving with a prefix of its input
+-- served, or before it is begun with nothing written
 abbrev pub EndsGated : SessionFault → Filing → Doing → Database → Exchange
     → (reader writer keeper : Type 0) → Type 0
 EndsGated (OfText fault) filing Done d io reader writer keeper = ⊥
@@ -106,7 +110,8 @@ EndsGated (Failed fault) filing Done d io reader writer keeper =
     × ((IsOfFile fault × (io.gained ≡ io.written) × IsLeftOrFirst d filing)
     ⊎ RunsGated (ServesUpTo fault) filing Done d io)
 
--- the same where transitions are made so: refused also for the first name that is to fail and is no service's, and for its file only after that
+-- the same where transitions are made so: refused also for the first name that is to fail and is no
+-- service's, and for its file only after that
 abbrev pub EndsOn : SessionFault → Filing → Database → (workers : ℕ) → MakingAsk → Exchange
     → (reader writer keeper : Type 0) → Type 0
 EndsOn (OfText fault) filing d workers making io reader writer keeper = ⊥
@@ -127,7 +132,8 @@ abbrev pub IsRefusedBy : SessionFault → Option (List ℕ) → SessionAsk → F
 IsRefusedBy fault base ask filing remaining after = (input : List ℕ)
     × Reads base remaining after input × IsSessionRefused fault ask filing base input
 
--- a session was not begun: nothing was written, and its store was left alone or holds the text of the line with which a session on some database begins
+-- a session was not begun: nothing was written, and its store was left alone or holds the text of
+-- the line with which a session on some database begins
 abbrev pub IsNotBegun : ServeFault → Option (List ℕ) → Filing → Exchange → Type 0
 IsNotBegun fault base filing io = IsUnserved fault base io.input
     × (io.gained ≡ io.written) × (IsLeft filing ⊎ ((d : Database) × IsLeftOrFirst d filing))
@@ -176,7 +182,8 @@ session_fault_text (Unknown word) = unknown_word word.now
 session_fault_text (OfLive fault) = live_word fault
 session_fault_text (Failed fault) = serve_word fault
 
--- as which fault of serving a failure is told: as its own, or as out of memory where a refusal could not be told
+-- as which fault of serving a failure is told: as its own, or as out of memory
+-- where a refusal could not be told
 abbrev pub IsToldAs : SessionFault → ServeFault → Type 0
 IsToldAs (OfText fault) told = told ≡ Memory
 IsToldAs (Unknown word) told = told ≡ Memory
@@ -184,13 +191,15 @@ IsToldAs (OfLive fault) told = told ≡ Memory
 IsToldAs (Failed fault) told = told ≡ fault
 
 -- a refusal of what is asked holds, and a writer gains a prefix of the line that tells it
-abbrev pub TellsSessionRefusal : SessionAsk → Option (List ℕ) → LiveFile → (was is : Option (List ℕ)) →
+abbrev pub TellsSessionRefusal : SessionAsk → Option (List ℕ) → LiveFile →
+    (was is : Option (List ℕ)) →
     (remaining after old new : Option (List ℕ)) → Type 0
 TellsSessionRefusal ask base file was is remaining after old new = (fault : SessionFault)
     × IsRefusedBy fault base ask (filing_of ask file was is) remaining after
     × AppendsFront old new (fault_line (session_fault_text fault))
 
--- a fault of serving comes, and a writer gains a prefix of the line that tells it; the session was not begun, or what serving comes to before that fault
+-- a fault of serving comes, and a writer gains a prefix of the line that tells it; the session was
+-- not begun, or what serving comes to before that fault
 abbrev pub TellsSessionFault : SessionAsk → Option (List ℕ) → LiveFile → (was is : Option (List ℕ))
     → Exchange → (reader writer failed : Type 0) → (old new : Option (List ℕ)) → Type 0
 TellsSessionFault ask base file was is io reader writer failed old new =

@@ -64,7 +64,8 @@ impl<S: Store> Keeper for TextKeeper<S> {
         requires { session.now.begun ≡ false }
         ensures kept { OnOk result (HoldsText (S.holds (store_of self.new))
             session.now.database session.now.line) }
-        ensures known { IsSome (S.holds (store_of self.old)) → IsSome (S.holds (store_of self.new)) }
+        ensures known { IsSome (S.holds (store_of self.old)) →
+            IsSome (S.holds (store_of self.new)) }
         ensures left { OnErr result ((S.holds (store_of self.new) ≡ S.holds (store_of self.old))
             ⊎ HoldsText (S.holds (store_of self.new)) session.now.database session.now.line) }
         ensures io { IfErr result (λ fault. fault ≡ KeepFault.Io

@@ -1,5 +1,5 @@
-//! The command `session`: lines in, what each says done, and its answer out; and that it is kept in a
-//! file, from which the next one goes on.
+//! The command `session`: lines in, what each says done, and its answer out; and that it is kept in
+//! a file, from which the next one goes on.
 #![tactic(auto)]
 
 mod beginning;

@@ -317,22 +317,29 @@ fn serve_kept<T: Threads + Wait + Sync, R: Read, W: Write, G: Gate, S: Store>(
     ensures done { (fails : ℕ → Way → Bool) →
         FailsExactly (G.answers gate.now) fails →
         IsTimeless (G.gives gate.now) (R.remaining (inner_of reader.old)) →
-        OnOk result (Serves (HoldsBy ((session_ask_of request.now).live) (S.holds (store_of keeper.old)) (S.holds (store_of keeper.new))) (IsDoneFailing fails)
+        OnOk result (Serves (HoldsBy ((session_ask_of request.now).live)
+        (S.holds (store_of keeper.old)) (S.holds (store_of keeper.new))) (IsDoneFailing fails)
         (exchanged R.remaining W.contents reader.old reader.new writer.old writer.new)
         session.old session.new) }
     ensures begun { (fails : ℕ → Way → Bool) →
         FailsExactly (G.answers gate.now) fails →
         IsTimeless (G.gives gate.now) (R.remaining (inner_of reader.old)) →
-        IfErr result (λ fault. StopsUpTo fault (S.holds (store_of keeper.new) ≡ S.holds (store_of keeper.old))
-        (HoldsBy ((session_ask_of request.now).live) (S.holds (store_of keeper.old)) (S.holds (store_of keeper.new))) (IsDoneFailing fails)
+        IfErr result (λ fault. StopsUpTo fault
+        (S.holds (store_of keeper.new) ≡ S.holds (store_of keeper.old))
+        (HoldsBy ((session_ask_of request.now).live) (S.holds (store_of keeper.old))
+        (S.holds (store_of keeper.new))) (IsDoneFailing fails)
         (exchanged R.remaining W.contents reader.old reader.new writer.old writer.new)
         session.old session.new) }
-    ensures done_by { OnOk result (Serves (HoldsBy ((session_ask_of request.now).live) (S.holds (store_of keeper.old)) (S.holds (store_of keeper.new)))
+    ensures done_by { OnOk result (Serves
+        (HoldsBy ((session_ask_of request.now).live) (S.holds (store_of keeper.old))
+        (S.holds (store_of keeper.new)))
         (IsDoneBy request.now.workers (G.answers gate.now) (G.gives gate.now))
         (exchanged R.remaining W.contents reader.old reader.new writer.old writer.new)
         session.old session.new) }
-    ensures begun_by { IfErr result (λ fault. StopsUpTo fault (S.holds (store_of keeper.new) ≡ S.holds (store_of keeper.old))
-        (HoldsBy ((session_ask_of request.now).live) (S.holds (store_of keeper.old)) (S.holds (store_of keeper.new)))
+    ensures begun_by { IfErr result (λ fault.
+        StopsUpTo fault (S.holds (store_of keeper.new) ≡ S.holds (store_of keeper.old))
+        (HoldsBy ((session_ask_of request.now).live) (S.holds (store_of keeper.old))
+        (S.holds (store_of keeper.new)))
         (IsDoneBy request.now.workers (G.answers gate.now) (G.gives gate.now))
         (exchanged R.remaining W.contents reader.old reader.new writer.old writer.new)
         session.old session.new) }
@@ -437,7 +444,8 @@ fn serve_on_file<T: Threads + Wait + Sync, R: Read, W: Write, G: Gate, S: Store>
     ensures begun { (fails : ℕ → Way → Bool) →
         FailsExactly (G.answers gate.now) fails →
         IsTimeless (G.gives gate.now) (R.remaining (inner_of reader.old)) →
-        IfErr result (λ fault. StopsUpTo fault (S.holds (store_of keeper.new) ≡ S.holds (store_of keeper.old))
+        IfErr result (λ fault. StopsUpTo fault
+        (S.holds (store_of keeper.new) ≡ S.holds (store_of keeper.old))
         (HoldsText (S.holds (store_of keeper.new))) (IsDoneFailing fails)
         (exchanged R.remaining W.contents reader.old reader.new writer.old writer.new)
         session.old session.new) }
@@ -445,7 +453,8 @@ fn serve_on_file<T: Threads + Wait + Sync, R: Read, W: Write, G: Gate, S: Store>
         (IsDoneBy workers (G.answers gate.now) (G.gives gate.now))
         (exchanged R.remaining W.contents reader.old reader.new writer.old writer.new)
         session.old session.new) }
-    ensures begun_by { IfErr result (λ fault. StopsUpTo fault (S.holds (store_of keeper.new) ≡ S.holds (store_of keeper.old))
+    ensures begun_by { IfErr result (λ fault.
+        StopsUpTo fault (S.holds (store_of keeper.new) ≡ S.holds (store_of keeper.old))
         (HoldsText (S.holds (store_of keeper.new)))
         (IsDoneBy workers (G.answers gate.now) (G.gives gate.now))
         (exchanged R.remaining W.contents reader.old reader.new writer.old writer.new)

@@ -30,8 +30,8 @@ use std::thread::Threads;
 /// Runs `undorc session` on its words, and answers the status.
 ///
 /// The database is `base`, where there is one, and then each line of the input is answered before
-/// the next one is waited for. Without one the database stands at the beginning of the input, which is
-/// read whole first, and the lines after it. The answers are written to `writer`, and why the
+/// the next one is waited for. Without one the database stands at the beginning of the input, which
+/// is read whole first, and the lines after it. The answers are written to `writer`, and why the
 /// session ended before its input to `faults`. The two devices must not have failed before.
 ///
 /// `live` is what stood in the file of `-l`, where the words name one: the session goes on with its
@@ -58,14 +58,16 @@ pub fn session_run<T: Threads + Wait + Sync, R: Read, W: Write, F: Write, S: Sto
     // no limit and no events are left in it. The commands among its lines were played, so all that
     // the headline promises holds of them. Where a file is named, the store holds the text of the
     // line on which the session stands in the end. Nothing was told.
-    ensures done { result ≡ 0 → RunsAsked Serves (map string_bytes words.now) (bytes_of base.entry) live.entry
+    ensures done { result ≡ 0 → RunsAsked Serves (map string_bytes words.now)
+        (bytes_of base.entry) live.entry
         (S.holds (store_of keeper.old)) (S.holds (store_of keeper.new))
         (exchanged R.remaining W.contents reader.old reader.new writer.old writer.new) }
     ensures untold { result ≡ 0 → F.contents faults.new ≡ F.contents faults.old }
 
-    // A refusal holds, and a prefix of its line was told, or all of it. With a base nothing was read
-    // for it. The store was left alone.
-    ensures refused { result ≡ 1 → TellsRefusal (map string_bytes words.now) (bytes_of base.entry) live.entry
+    // A refusal holds, and a prefix of its line was told, or all of it. With a base nothing was
+    // read for it. The store was left alone.
+    ensures refused { result ≡ 1 → TellsRefusal (map string_bytes words.now)
+        (bytes_of base.entry) live.entry
         (S.holds (store_of keeper.old)) (S.holds (store_of keeper.new))
         (R.remaining (inner_of reader.old)) (R.remaining (inner_of reader.new))
         (F.contents faults.old) (F.contents faults.new) }
@@ -130,13 +132,14 @@ pub fn session_as_asked<T: Threads + Wait + Sync, R: Read, W: Write, F: Write, S
     // The names that are to fail are services', and what was written is the text of the session
     // from where it begins, for these failing transitions and the whole input. Its commands were
     // played, and what the store holds is of where it stands. Nothing was told.
-    ensures done { result ≡ 0 → Runs Serves (bytes_of base.entry) (session_ask_of request.now) live.entry
+    ensures done { result ≡ 0 → Runs Serves (bytes_of base.entry)
+        (session_ask_of request.now) live.entry
         (S.holds (store_of keeper.old)) (S.holds (store_of keeper.new))
         (exchanged R.remaining W.contents reader.old reader.new writer.old writer.new) }
     ensures untold { result ≡ 0 → F.contents faults.new ≡ F.contents faults.old }
 
-    // A refusal holds, and a prefix of its line was told, or all of it. With a base nothing was read
-    // for it. The store was left alone.
+    // A refusal holds, and a prefix of its line was told, or all of it. With a base nothing was
+    // read for it. The store was left alone.
     ensures refused { result ≡ 1 → TellsSessionRefusal (session_ask_of request.now)
         (bytes_of base.entry) live.entry
         (S.holds (store_of keeper.old)) (S.holds (store_of keeper.new))
@@ -189,7 +192,8 @@ fn run_asked<'a, T: Threads + Wait + Sync, R: Read, W: Write, S: Store>(
     requires bound { 3 ≤ request.now.bound }
     requires reader { HasFailed reader.old → ⊥ }
     requires writer { HasFailed writer.old → ⊥ }
-    ensures done { OnOk result (Runs Serves (bytes_of base.entry) (session_ask_of request.now) live.entry
+    ensures done { OnOk result (Runs Serves (bytes_of base.entry)
+        (session_ask_of request.now) live.entry
         (S.holds (store_of keeper.old)) (S.holds (store_of keeper.new))
         (exchanged R.remaining W.contents reader.old reader.new writer.old writer.new)) }
     ensures ended { IfErr result (λ fault. EndsBy fault (bytes_of base.entry)

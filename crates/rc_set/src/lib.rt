@@ -2,8 +2,8 @@
 //!
 //! A set has a bit for each id, in words of 64.
 //!
-//! Time: `insert`, `remove`, `contains` and `bound` take one step; all other calls grow with the bound,
-//! a word at a time, and `ids` with the ids too.
+//! Time: `insert`, `remove`, `contains` and `bound` take one step; all other calls grow with the
+//! bound, a word at a time, and `ids` with the ids too.
 #![tactic(auto)]
 
 ghost use Rattle.std.specs.Prelude.{◌≡◌, ◌≢◌, ℕ, ◌+◌, ◌*◌, ◌<◌, ◌≤◌, ◌⊎◌, ◌↔◌, length, count_by, IsTrue, IfOk, OnOk};

@@ -31,23 +31,28 @@ IsWrong holds text = ⊥
 
 -- bytes that are not looked into: too many, or no text
 abbrev pub IsNoText : List ℕ → Flaw → Type 0
-IsNoText bytes flaw = ((flaw ≡ TooLong) × IsTooLong bytes) ⊎ ((flaw ≡ NotText) × (IsTooLong bytes → ⊥) × (IsText bytes → ⊥))
+IsNoText bytes flaw = ((flaw ≡ TooLong) × IsTooLong bytes)
+    ⊎ ((flaw ≡ NotText) × (IsTooLong bytes → ⊥) × (IsText bytes → ⊥))
 
--- the first flaw of a file that is there and is read: it is too long, no text, or not what it is to hold
+-- the first flaw of a file that is there and is read: it is too long, no
+-- text, or not what it is to hold
 abbrev pub IsBadFile : Holds → List ℕ → Flaw → Type 0
-IsBadFile holds bytes flaw = IsNoText bytes flaw ⊎ ((flaw ≡ wrong_flaw holds) × (IsTooLong bytes → ⊥) × IsText bytes × IsWrong holds bytes)
+IsBadFile holds bytes flaw = IsNoText bytes flaw
+    ⊎ ((flaw ≡ wrong_flaw holds) × (IsTooLong bytes → ⊥) × IsText bytes × IsWrong holds bytes)
 
 -- the flaw of a file that is read, if it is there
 abbrev pub IsReadFlaw : Holds → Option (List ℕ) → Flaw → Type 0
 IsReadFlaw holds None flaw = missing_flaw holds ≡ Some flaw
 IsReadFlaw holds (Some bytes) flaw = IsBadFile holds bytes flaw
 
--- the flaw of a file of a service directory: one that counts by its presence has none but that it is missing, and in a folder of names each entry's name is to be a name
+-- the flaw of a file of a service directory: one that counts by its presence has none but that it
+-- is missing, and in a folder of names each entry's name is to be a name
 abbrev pub IsFileFlaw : Source → List ℕ → List ℕ × Holds → Flaw → Type 0
 IsFileFlaw source name (file, Anything) flaw = (file_at source name file ≡ None) × (flaw ≡ NoRun)
 IsFileFlaw source name (file, Flag) flaw = ⊥
 IsFileFlaw source name (folder, NameEach) flaw =
-    (flaw ≡ BadName) × ((each : List ℕ) × Contains (names_next source name folder) each × (is_hidden each ≡ false) × (IsName each → ⊥))
+    (flaw ≡ BadName) × ((each : List ℕ) × Contains (names_next source name folder) each
+    × (is_hidden each ≡ false) × (IsName each → ⊥))
 IsFileFlaw source name (file, holds) flaw = IsReadFlaw holds (file_at source name file) flaw
 
 -- no flaw fits the file
@@ -64,4 +69,5 @@ FilesPass source name files = All (FilePasses source name) files
 
 -- reading files in order stops by the flaw at the first that does not pass
 abbrev pub StopsInFiles : Source → List ℕ → List (List ℕ × Holds) → Flaw → Type 0
-StopsInFiles source name files flaw = StopsFirst (FilePasses source name) (λ file. StopsAtFile source name file flaw) files
+StopsInFiles source name files flaw =
+    StopsFirst (FilePasses source name) (λ file. StopsAtFile source name file flaw) files

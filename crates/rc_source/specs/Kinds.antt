@@ -10,7 +10,8 @@ use Rattle.rc_source.specs.Texts.{without_newline, kind_of_word}
 abbrev pub is_hidden : List ℕ → Bool
 is_hidden name = slice_index name 0 == 46
 
--- what a file is to hold: a word for a kind, the text of a oneshot, any text, anything at all, a limit, nothing, names, a name in each entry's name, one name
+-- what a file is to hold: a word for a kind, the text of a oneshot, any text, anything at all, a
+-- limit, nothing, names, a name in each entry's name, one name
 pub data Holds : Type 0 where
   KindWord : Holds
   UpText : Holds
@@ -32,7 +33,8 @@ dependency_files = (codes "dependencies", Names) ∷ (codes "dependencies.d", Na
 
 -- the files of pipelines, in the order of their tests
 abbrev pub pipe_files : List (List ℕ × Holds)
-pipe_files = (codes "producer-for", OneName) ∷ (codes "consumer-for", Names) ∷ (codes "pipeline-name", OneName) ∷ []
+pipe_files = (codes "producer-for", OneName) ∷ (codes "consumer-for", Names)
+    ∷ (codes "pipeline-name", OneName) ∷ []
 
 -- the files of services of both kinds, in the order of their tests
 abbrev pub files_of_atomic : List (List ℕ × Holds)
@@ -46,7 +48,8 @@ files_of_kind Bundle = (codes "contents", Names) ∷ (codes "contents.d", NameEa
 
 -- the kind that the file `type` of a directory gives
 abbrev pub kind_of : Source → List ℕ → Option Kind
-kind_of source name = option_and_then (λ text. kind_of_word (without_newline text)) (file_at source name (codes "type"))
+kind_of source name = option_and_then (λ text. kind_of_word (without_newline text))
+    (file_at source name (codes "type"))
 
 -- the files that count for what may have a kind
 abbrev pub files_for : Option Kind → List (List ℕ × Holds)

@@ -10,7 +10,8 @@ use Rattle.rc_source.specs.Texts.{IsScriptText, without_newline, names_in}
 use Rattle.rc_source.specs.Kinds.{is_hidden, kind_of, is_file_of}
 use Rattle.rc_source.specs.Tests.{entries_of}
 
--- what a service directory says of the service or bundle of its name; limits in milliseconds, 0 for none
+-- what a service directory says of the service or bundle of its name;
+-- limits in milliseconds, 0 for none
 pub record Meaning : Type 0 where
   pub name : List ℕ
   pub kind : Kind
@@ -42,26 +43,34 @@ given_in (Some text) = names_in text
 
 -- the bytes of a file that is there and counts for the kind
 abbrev pub bytes_that_count : Source → List ℕ → Kind → List ℕ → Option (List ℕ)
-bytes_that_count source name kind file = if is_file_of kind file then file_at source name file else None
+bytes_that_count source name kind file =
+    if is_file_of kind file then file_at source name file else None
 
 -- a line of the file gives the name, or an entry of the folder beside it has it
 abbrev pub IsGiven : Source → List ℕ → Kind → List ℕ → List ℕ → Type 0
-IsGiven source entry kind file name = Contains (given_in (bytes_that_count source entry kind file)) name
-    ⊎ (IsTrue (is_file_of kind (file ++ codes ".d")) × Contains (names_next source entry (file ++ codes ".d")) name × (is_hidden name ≡ false))
+IsGiven source entry kind file name =
+    Contains (given_in (bytes_that_count source entry kind file)) name
+    ⊎ (IsTrue (is_file_of kind (file ++ codes ".d"))
+    × Contains (names_next source entry (file ++ codes ".d")) name × (is_hidden name ≡ false))
 
 -- what the files of an entry say
 pub record Means (source : Source) (entry : List ℕ) (m : Meaning) : Type 0 where
   pub name : m.name ≡ entry
   pub kind : kind_of source entry ≡ Some m.kind
   pub limit_up : m.limit_up ≡ limit_in (bytes_that_count source entry m.kind (codes "timeout-up"))
-  pub limit_down : m.limit_down ≡ limit_in (bytes_that_count source entry m.kind (codes "timeout-down"))
-  pub essential : m.essential ≡ is_some (bytes_that_count source entry m.kind (codes "flag-essential"))
+  pub limit_down : m.limit_down ≡ limit_in
+      (bytes_that_count source entry m.kind (codes "timeout-down"))
+  pub essential : m.essential ≡ is_some
+      (bytes_that_count source entry m.kind (codes "flag-essential"))
   pub up : m.up ≡ bytes_that_count source entry m.kind (codes "up")
   pub down : m.down ≡ bytes_that_count source entry m.kind (codes "down")
-  pub producer_for : m.producer_for ≡ slice_get (given_in (bytes_that_count source entry m.kind (codes "producer-for"))) 0
-  pub pipeline_name : m.pipeline_name ≡ slice_get (given_in (bytes_that_count source entry m.kind (codes "pipeline-name"))) 0
+  pub producer_for : m.producer_for ≡ slice_get
+      (given_in (bytes_that_count source entry m.kind (codes "producer-for"))) 0
+  pub pipeline_name : m.pipeline_name ≡ slice_get
+      (given_in (bytes_that_count source entry m.kind (codes "pipeline-name"))) 0
   pub dependencies : ListsNames (IsGiven source entry m.kind (codes "dependencies")) m.dependencies
-  pub consumer_for : ListsNames (Contains (given_in (bytes_that_count source entry m.kind (codes "consumer-for")))) m.consumer_for
+  pub consumer_for : ListsNames (Contains
+      (given_in (bytes_that_count source entry m.kind (codes "consumer-for")))) m.consumer_for
   pub contents : ListsNames (IsGiven source entry m.kind (codes "contents")) m.contents
 
 -- the entries of sources in the order of reading, each with its source
@@ -86,7 +95,9 @@ pub record IsMeaning (m : Meaning) : Type 0 where
   pub oneshot : m.kind ≡ Oneshot → IsSome m.up
   pub others : m.kind ≢ Oneshot → (m.up ≡ None) × (m.down ≡ None)
   pub atomic : m.kind ≢ Bundle → m.contents ≡ []
-  pub bundle : m.kind ≡ Bundle → (m.producer_for ≡ None) × (m.pipeline_name ≡ None) × (m.dependencies ≡ []) × (m.consumer_for ≡ []) × (m.essential ≡ false) × (m.limit_up ≡ 0) × (m.limit_down ≡ 0)
+  pub bundle : m.kind ≡ Bundle → (m.producer_for ≡ None) × (m.pipeline_name ≡ None)
+      × (m.dependencies ≡ []) × (m.consumer_for ≡ []) × (m.essential ≡ false) × (m.limit_up ≡ 0)
+      × (m.limit_down ≡ 0)
 
 -- meanings of distinct names
 pub record AreMeanings (ms : List Meaning) : Type 0 where

@@ -37,7 +37,8 @@ pub record AreFound (ms : List Meaning) (names : List (List ℕ)) : Type 0 where
 
 -- a line of the file gives the name, or what stands in the folder has it and is not hidden
 abbrev pub IsNamedIn : Source → List ℕ → List ℕ → List ℕ → List ℕ → Type 0
-IsNamedIn source entry file folder name = Contains (given_in (file_at source entry file)) name ⊎ (Contains (names_next source entry folder) name × (is_hidden name ≡ false))
+IsNamedIn source entry file folder name = Contains (given_in (file_at source entry file)) name
+    ⊎ (Contains (names_next source entry folder) name × (is_hidden name ≡ false))
 
 -- what the files of limits say
 pub record SayLimits (source : Source) (entry : List ℕ) (limits : Limits) : Type 0 where
@@ -51,9 +52,12 @@ pub record AreLimits (limits : Limits) : Type 0 where
 
 -- what the files of pipelines say
 pub record SayPipes (source : Source) (entry : List ℕ) (pipes : Pipes) : Type 0 where
-  pub producer_for : pipes.producer_for ≡ slice_get (given_in (file_at source entry (codes "producer-for"))) 0
-  pub consumer_for : ListsNames (Contains (given_in (file_at source entry (codes "consumer-for")))) pipes.consumer_for.items
-  pub pipeline_name : pipes.pipeline_name ≡ slice_get (given_in (file_at source entry (codes "pipeline-name"))) 0
+  pub producer_for : pipes.producer_for
+      ≡ slice_get (given_in (file_at source entry (codes "producer-for"))) 0
+  pub consumer_for : ListsNames (Contains
+      (given_in (file_at source entry (codes "consumer-for")))) pipes.consumer_for.items
+  pub pipeline_name : pipes.pipeline_name
+      ≡ slice_get (given_in (file_at source entry (codes "pipeline-name"))) 0
 
 -- the names of pipelines are names
 pub record ArePipes (pipes : Pipes) : Type 0 where
@@ -65,7 +69,8 @@ pub record ArePipes (pipes : Pipes) : Type 0 where
 pub record SayService (source : Source) (entry : List ℕ) (service : Service) : Type 0 where
   pub limits : SayLimits source entry service.limits
   pub essential : service.essential ≡ is_some (file_at source entry (codes "flag-essential"))
-  pub dependencies : ListsNames (IsNamedIn source entry (codes "dependencies") (codes "dependencies.d")) service.dependencies.items
+  pub dependencies : ListsNames (IsNamedIn source entry (codes "dependencies")
+      (codes "dependencies.d")) service.dependencies.items
   pub pipes : SayPipes source entry service.pipes
 
 -- what some files of services of both kinds can say

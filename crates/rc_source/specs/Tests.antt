@@ -14,14 +14,16 @@ use Rattle.rc_source.specs.Files.{IsFileFlaw}
 abbrev pub entries_of : Source → List (List ℕ)
 entries_of source = filter (λ name. not (is_hidden name)) source.entries
 
--- what is tested: that a source is listed, that an entry has a name, that the name is new, and a file with what it is to hold
+-- what is tested: that a source is listed, that an entry has a name, that the name is new, and
+-- a file with what it is to hold
 pub data Check : Type 0 where
   Listed : Check
   Named : Check
   New : Check
   File : (file : List ℕ × Holds) → Check
 
--- a test of an entry, after the names that came before it; of a whole source where the name is empty
+-- a test of an entry, after the names that came before it; of a whole
+-- source where the name is empty
 pub record Test : Type 0 where
   pub before : List (List ℕ)
   pub source : Source
@@ -34,22 +36,30 @@ files_of_entry source name = (codes "type", KindWord) ∷ files_for (kind_of sou
 
 -- the tests of an entry in their order: its name, that it is new, and its files
 abbrev pub tests_of_entry : List (List ℕ) → Source → List ℕ → List Test
-tests_of_entry before source name = map (λ check. record { before = before; source = source; name = name; check = check })
+tests_of_entry before source name =
+    map (λ check. record { before = before; source = source; name = name; check = check })
     (Named ∷ New ∷ map File (files_of_entry source name))
 
 -- the tests of entries, one after the other
 abbrev pub tests_of_entries : List (List ℕ) → Source → List (List ℕ) → List Test
 tests_of_entries before source [] = []
-tests_of_entries before source (name ∷ rest) = tests_of_entry before source name ++ tests_of_entries (before ++ name ∷ []) source rest
+tests_of_entries before source (name ∷ rest) =
+    tests_of_entry before source name ++ tests_of_entries (before ++ name ∷ []) source rest
 
 -- the tests of a source: that it is listed, and then those of its entries
 abbrev pub tests_of_source : List (List ℕ) → Source → List Test
-tests_of_source before source = (record { before = before; source = source; name = []; check = Listed }) ∷ tests_of_entries before source (entries_of source)
+tests_of_source before source = (record {
+  before = before;
+  source = source;
+  name = [];
+  check = Listed;
+}) ∷ tests_of_entries before source (entries_of source)
 
 -- all tests of sources in their order
 abbrev pub all_tests : List (List ℕ) → List Source → List Test
 all_tests before [] = []
-all_tests before (source ∷ rest) = tests_of_source before source ++ all_tests (before ++ entries_of source) rest
+all_tests before (source ∷ rest) =
+    tests_of_source before source ++ all_tests (before ++ entries_of source) rest
 
 -- the flaw of a check
 abbrev pub IsCheckFlaw : Test → Check → Flaw → Type 0
@@ -60,7 +70,8 @@ IsCheckFlaw test (File file) flaw = IsFileFlaw test.source test.name file flaw
 
 -- the flaw of what is no name, or a name that came before
 abbrev pub IsNoNewName : List (List ℕ) → List ℕ → Flaw → Type 0
-IsNoNewName before name flaw = ((flaw ≡ BadName) × (IsName name → ⊥)) ⊎ ((flaw ≡ Twice) × IsName name × Contains before name)
+IsNoNewName before name flaw =
+    ((flaw ≡ BadName) × (IsName name → ⊥)) ⊎ ((flaw ≡ Twice) × IsName name × Contains before name)
 
 -- the device is asked, unlike for a name
 abbrev pub AsksDevice : Check → Type 0
@@ -110,8 +121,10 @@ AllPass tests = All Passes tests
 
 -- reading stops at the first test that does not pass, by the flaw, and tells the name of its entry
 abbrev pub StopsInTests : List Test → Flaw → List ℕ → Type 0
-StopsInTests tests flaw name = StopsFirst Passes (λ test. StopsAt test flaw × (name ≡ test.name)) tests
+StopsInTests tests flaw name =
+    StopsFirst Passes (λ test. StopsAt test flaw × (name ≡ test.name)) tests
 
 -- some device failed
 abbrev pub SomeFailed : List ℕ → List ℕ → Type 0
-SomeFailed before after = (tree m n : ℕ) × (slice_get before tree ≡ Some m) × (slice_get after tree ≡ Some n) × HasFailed m n
+SomeFailed before after = (tree m n : ℕ) × (slice_get before tree ≡ Some m)
+    × (slice_get after tree ≡ Some n) × HasFailed m n

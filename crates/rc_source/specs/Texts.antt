@@ -16,7 +16,8 @@ pub record IsScriptText (text : List ℕ) : Type 0 where
 
 -- a text without the newline at its end, if it has one
 abbrev pub without_newline : List ℕ → List ℕ
-without_newline text = if slice_index text (length text - 1) == 10 then take (length text - 1) text else text
+without_newline text =
+    if slice_index text (length text - 1) == 10 then take (length text - 1) text else text
 
 -- the kind that a word names
 abbrev pub kind_of_word : List ℕ → Option Kind
@@ -36,7 +37,8 @@ pub record IsLimit (digits : List ℕ) : Type 0 where
 -- a line without the spaces and tabs at its start
 abbrev pub without_blanks : List ℕ → List ℕ
 without_blanks [] = []
-without_blanks (byte ∷ rest) = if (byte == 32) || (byte == 9) then without_blanks rest else byte ∷ rest
+without_blanks (byte ∷ rest) =
+    if (byte == 32) || (byte == 9) then without_blanks rest else byte ∷ rest
 
 -- a line without the spaces and tabs at both its ends
 abbrev pub trimmed_line : List ℕ → List ℕ

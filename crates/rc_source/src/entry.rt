@@ -44,10 +44,14 @@ pub(crate) struct Service {
 
 // The limits of an entry.
 fn limits_at<T: Tree>(alloc: Global, tree: &mut T, entry: &str) -> Result<Limits, Flaw>
-    ensures says { IfOk result (λ limits. (source : Source) → T.held tree.old ≡ Some source → SayLimits source entry.now limits) }
+    ensures says { IfOk result (λ limits.
+        (source : Source) → T.held tree.old ≡ Some source → SayLimits source entry.now limits) }
     ensures limits { IfOk result AreLimits }
-    ensures passes { OnOk result ((source : Source) → T.held tree.old ≡ Some source → FilesPass source entry.now limit_files) }
-    ensures fault { IfErr result (λ flaw. flaw ≢ Flaw.Memory → (source : Source) → T.held tree.old ≡ Some source → StopsInFiles source entry.now limit_files flaw) }
+    ensures passes { OnOk result ((source : Source) → T.held tree.old ≡ Some source →
+        FilesPass source entry.now limit_files) }
+    ensures fault { IfErr result (λ flaw.
+        flaw ≢ Flaw.Memory → (source : Source) → T.held tree.old ≡ Some source →
+        StopsInFiles source entry.now limit_files flaw) }
     ensures asked { IsAsked result (T.held tree.old) (T.held tree.new)
         (T.failed tree.old) (T.failed tree.new) }
 {
@@ -64,10 +68,15 @@ fn joined_at<T: Tree>(
     file: &str,
     folder: &str,
 ) -> Result<Vec<Name>, Flaw>
-    ensures names { IfOk result (λ names. (source : Source) → T.held tree.old ≡ Some source → ListsNames (IsNamedIn source entry.now file.now folder.now) names.items) }
+    ensures names { IfOk result (λ names.
+        (source : Source) → T.held tree.old ≡ Some source →
+        ListsNames (IsNamedIn source entry.now file.now folder.now) names.items) }
     ensures each { IfOk result (λ names. All IsName names.items) }
-    ensures passes { OnOk result ((source : Source) → T.held tree.old ≡ Some source → FilesPass source entry.now ((file.now, Names) ∷ (folder.now, NameEach) ∷ [])) }
-    ensures fault { IfErr result (λ flaw. flaw ≢ Flaw.Memory → (source : Source) → T.held tree.old ≡ Some source → StopsInFiles source entry.now ((file.now, Names) ∷ (folder.now, NameEach) ∷ []) flaw) }
+    ensures passes { OnOk result ((source : Source) → T.held tree.old ≡ Some source →
+        FilesPass source entry.now ((file.now, Names) ∷ (folder.now, NameEach) ∷ [])) }
+    ensures fault { IfErr result (λ flaw.
+        flaw ≢ Flaw.Memory → (source : Source) → T.held tree.old ≡ Some source →
+        StopsInFiles source entry.now ((file.now, Names) ∷ (folder.now, NameEach) ∷ []) flaw) }
     ensures asked { IsAsked result (T.held tree.old) (T.held tree.new)
         (T.failed tree.old) (T.failed tree.new) }
 {
@@ -79,10 +88,16 @@ fn joined_at<T: Tree>(
 
 // The longruns whose writing an entry reads, each once, in byte order.
 fn consumer_for_at<T: Tree>(alloc: Global, tree: &mut T, entry: &str) -> Result<Vec<Name>, Flaw>
-    ensures names { IfOk result (λ names. (source : Source) → T.held tree.old ≡ Some source → ListsNames (Contains (given_in (file_at source entry.now (codes "consumer-for")))) names.items) }
+    ensures names { IfOk result (λ names.
+        (source : Source) → T.held tree.old ≡ Some source →
+        ListsNames (Contains (given_in (file_at source entry.now
+        (codes "consumer-for")))) names.items) }
     ensures each { IfOk result (λ names. All IsName names.items) }
-    ensures passes { OnOk result ((source : Source) → T.held tree.old ≡ Some source → FilePasses source entry.now (codes "consumer-for", Names)) }
-    ensures fault { IfErr result (λ flaw. flaw ≢ Flaw.Memory → (source : Source) → T.held tree.old ≡ Some source → StopsAtFile source entry.now (codes "consumer-for", Names) flaw) }
+    ensures passes { OnOk result ((source : Source) → T.held tree.old ≡ Some source →
+        FilePasses source entry.now (codes "consumer-for", Names)) }
+    ensures fault { IfErr result (λ flaw.
+        flaw ≢ Flaw.Memory → (source : Source) → T.held tree.old ≡ Some source →
+        StopsAtFile source entry.now (codes "consumer-for", Names) flaw) }
     ensures asked { IsAsked result (T.held tree.old) (T.held tree.new)
         (T.failed tree.old) (T.failed tree.new) }
 {
@@ -93,10 +108,14 @@ fn consumer_for_at<T: Tree>(alloc: Global, tree: &mut T, entry: &str) -> Result<
 
 // What an entry says of the pipeline that it is in.
 fn pipes_at<T: Tree>(alloc: Global, tree: &mut T, entry: &str) -> Result<Pipes, Flaw>
-    ensures says { IfOk result (λ pipes. (source : Source) → T.held tree.old ≡ Some source → SayPipes source entry.now pipes) }
+    ensures says { IfOk result (λ pipes.
+        (source : Source) → T.held tree.old ≡ Some source → SayPipes source entry.now pipes) }
     ensures pipes { IfOk result ArePipes }
-    ensures passes { OnOk result ((source : Source) → T.held tree.old ≡ Some source → FilesPass source entry.now pipe_files) }
-    ensures fault { IfErr result (λ flaw. flaw ≢ Flaw.Memory → (source : Source) → T.held tree.old ≡ Some source → StopsInFiles source entry.now pipe_files flaw) }
+    ensures passes { OnOk result ((source : Source) → T.held tree.old ≡ Some source →
+        FilesPass source entry.now pipe_files) }
+    ensures fault { IfErr result (λ flaw.
+        flaw ≢ Flaw.Memory → (source : Source) → T.held tree.old ≡ Some source →
+        StopsInFiles source entry.now pipe_files flaw) }
     ensures asked { IsAsked result (T.held tree.old) (T.held tree.new)
         (T.failed tree.old) (T.failed tree.new) }
 {
@@ -112,10 +131,14 @@ fn pipes_at<T: Tree>(alloc: Global, tree: &mut T, entry: &str) -> Result<Pipes, 
 
 // What an entry says that services of both kinds have.
 fn service_at<T: Tree>(alloc: Global, tree: &mut T, entry: &str) -> Result<Service, Flaw>
-    ensures says { IfOk result (λ service. (source : Source) → T.held tree.old ≡ Some source → SayService source entry.now service) }
+    ensures says { IfOk result (λ service.
+        (source : Source) → T.held tree.old ≡ Some source → SayService source entry.now service) }
     ensures service { IfOk result IsSaid }
-    ensures passes { OnOk result ((source : Source) → T.held tree.old ≡ Some source → FilesPass source entry.now files_of_atomic) }
-    ensures fault { IfErr result (λ flaw. flaw ≢ Flaw.Memory → (source : Source) → T.held tree.old ≡ Some source → StopsInFiles source entry.now files_of_atomic flaw) }
+    ensures passes { OnOk result ((source : Source) → T.held tree.old ≡ Some source →
+        FilesPass source entry.now files_of_atomic) }
+    ensures fault { IfErr result (λ flaw.
+        flaw ≢ Flaw.Memory → (source : Source) → T.held tree.old ≡ Some source →
+        StopsInFiles source entry.now files_of_atomic flaw) }
     ensures asked { IsAsked result (T.held tree.old) (T.held tree.new)
         (T.failed tree.old) (T.failed tree.new) }
 {
@@ -217,11 +240,15 @@ fn bundle_of(alloc: Global, name: Name, contents: Vec<Name>) -> Definition
 
 // The definition that the files of a oneshot give.
 fn oneshot_at<T: Tree>(alloc: Global, tree: &mut T, name: Name) -> Result<Definition, Flaw>
-    ensures says { IfOk result (λ d. (source : Source) → T.held tree.old ≡ Some source → kind_of source name ≡ Some Oneshot → Means source name (meaning_of d)) }
+    ensures says { IfOk result (λ d. (source : Source) → T.held tree.old ≡ Some source →
+        kind_of source name ≡ Some Oneshot → Means source name (meaning_of d)) }
     ensures meaning { IfOk result (λ d. IsMeaning (meaning_of d)) }
     ensures named { IfOk result (λ d. d.name ≡ name) }
-    ensures passes { OnOk result ((source : Source) → T.held tree.old ≡ Some source → FilesPass source name (files_of_kind Oneshot)) }
-    ensures fault { IfErr result (λ flaw. flaw ≢ Flaw.Memory → (source : Source) → T.held tree.old ≡ Some source → StopsInFiles source name (files_of_kind Oneshot) flaw) }
+    ensures passes { OnOk result ((source : Source) → T.held tree.old ≡ Some source →
+        FilesPass source name (files_of_kind Oneshot)) }
+    ensures fault { IfErr result (λ flaw.
+        flaw ≢ Flaw.Memory → (source : Source) → T.held tree.old ≡ Some source →
+        StopsInFiles source name (files_of_kind Oneshot) flaw) }
     ensures asked { IsAsked result (T.held tree.old) (T.held tree.new)
         (T.failed tree.old) (T.failed tree.new) }
 {
@@ -233,11 +260,15 @@ fn oneshot_at<T: Tree>(alloc: Global, tree: &mut T, name: Name) -> Result<Defini
 
 // The definition that the files of a longrun give.
 fn longrun_at<T: Tree>(alloc: Global, tree: &mut T, name: Name) -> Result<Definition, Flaw>
-    ensures says { IfOk result (λ d. (source : Source) → T.held tree.old ≡ Some source → kind_of source name ≡ Some Longrun → Means source name (meaning_of d)) }
+    ensures says { IfOk result (λ d. (source : Source) → T.held tree.old ≡ Some source →
+        kind_of source name ≡ Some Longrun → Means source name (meaning_of d)) }
     ensures meaning { IfOk result (λ d. IsMeaning (meaning_of d)) }
     ensures named { IfOk result (λ d. d.name ≡ name) }
-    ensures passes { OnOk result ((source : Source) → T.held tree.old ≡ Some source → FilesPass source name (files_of_kind Longrun)) }
-    ensures fault { IfErr result (λ flaw. flaw ≢ Flaw.Memory → (source : Source) → T.held tree.old ≡ Some source → StopsInFiles source name (files_of_kind Longrun) flaw) }
+    ensures passes { OnOk result ((source : Source) → T.held tree.old ≡ Some source →
+        FilesPass source name (files_of_kind Longrun)) }
+    ensures fault { IfErr result (λ flaw.
+        flaw ≢ Flaw.Memory → (source : Source) → T.held tree.old ≡ Some source →
+        StopsInFiles source name (files_of_kind Longrun) flaw) }
     ensures asked { IsAsked result (T.held tree.old) (T.held tree.new)
         (T.failed tree.old) (T.failed tree.new) }
 {
@@ -248,11 +279,15 @@ fn longrun_at<T: Tree>(alloc: Global, tree: &mut T, name: Name) -> Result<Defini
 
 // The definition that the files of a bundle give.
 fn bundle_at<T: Tree>(alloc: Global, tree: &mut T, name: Name) -> Result<Definition, Flaw>
-    ensures says { IfOk result (λ d. (source : Source) → T.held tree.old ≡ Some source → kind_of source name ≡ Some Bundle → Means source name (meaning_of d)) }
+    ensures says { IfOk result (λ d. (source : Source) → T.held tree.old ≡ Some source →
+        kind_of source name ≡ Some Bundle → Means source name (meaning_of d)) }
     ensures meaning { IfOk result (λ d. IsMeaning (meaning_of d)) }
     ensures named { IfOk result (λ d. d.name ≡ name) }
-    ensures passes { OnOk result ((source : Source) → T.held tree.old ≡ Some source → FilesPass source name (files_of_kind Bundle)) }
-    ensures fault { IfErr result (λ flaw. flaw ≢ Flaw.Memory → (source : Source) → T.held tree.old ≡ Some source → StopsInFiles source name (files_of_kind Bundle) flaw) }
+    ensures passes { OnOk result ((source : Source) → T.held tree.old ≡ Some source →
+        FilesPass source name (files_of_kind Bundle)) }
+    ensures fault { IfErr result (λ flaw.
+        flaw ≢ Flaw.Memory → (source : Source) → T.held tree.old ≡ Some source →
+        StopsInFiles source name (files_of_kind Bundle) flaw) }
     ensures asked { IsAsked result (T.held tree.old) (T.held tree.new)
         (T.failed tree.old) (T.failed tree.new) }
 {
@@ -266,11 +301,15 @@ pub(crate) fn definition_at<T: Tree>(
     tree: &mut T,
     name: Name,
 ) -> Result<Definition, Flaw>
-    ensures says { IfOk result (λ d. (source : Source) → T.held tree.old ≡ Some source → Means source name (meaning_of d)) }
+    ensures says { IfOk result (λ d. (source : Source) → T.held tree.old ≡ Some source →
+        Means source name (meaning_of d)) }
     ensures meaning { IfOk result (λ d. IsMeaning (meaning_of d)) }
     ensures named { IfOk result (λ d. d.name ≡ name) }
-    ensures passes { OnOk result ((source : Source) → T.held tree.old ≡ Some source → FilesPass source name (files_of_entry source name)) }
-    ensures fault { IfErr result (λ flaw. flaw ≢ Flaw.Memory → (source : Source) → T.held tree.old ≡ Some source → StopsInFiles source name (files_of_entry source name) flaw) }
+    ensures passes { OnOk result ((source : Source) → T.held tree.old ≡ Some source →
+        FilesPass source name (files_of_entry source name)) }
+    ensures fault { IfErr result (λ flaw.
+        flaw ≢ Flaw.Memory → (source : Source) → T.held tree.old ≡ Some source →
+        StopsInFiles source name (files_of_entry source name) flaw) }
     ensures asked { IsAsked result (T.held tree.old) (T.held tree.new)
         (T.failed tree.old) (T.failed tree.new) }
 {

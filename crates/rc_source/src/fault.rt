@@ -46,7 +46,8 @@ impl<T: Drop> From<AllocFailed<T>> for Flaw {
     }
 }
 
-/// Why trees give no definitions, and at which entry; the name is empty where a tree could not be listed.
+/// Why trees give no definitions, and at which entry; the name is empty
+/// where a tree could not be listed.
 #[derive(Debug, Drop, Error)]
 pub enum SourceFault {
     Io(String),

@@ -23,10 +23,14 @@ fn text_at<T: Tree>(
     entry: &str,
     file: &str,
 ) -> Result<Option<String>, Flaw>
-    ensures text { IfOk result (λ text. (source : Source) → T.held tree.old ≡ Some source → file_at source entry.now file.now ≡ option_map string_bytes text) }
+    ensures text { IfOk result (λ text.
+        (source : Source) → T.held tree.old ≡ Some source →
+        file_at source entry.now file.now ≡ option_map string_bytes text) }
     ensures script { IfOk result (λ text. IfSome text (λ text. IsScriptText (string_bytes text))) }
-    ensures fault { IfErr result (λ flaw. flaw ≢ Flaw.Memory → (source : Source) → T.held tree.old ≡ Some source
-        → (flaw ≡ Flaw.Io) ⊎ ((bytes : List ℕ) × (file_at source entry.now file.now ≡ Some bytes) × IsNoText bytes flaw)) }
+    ensures fault { IfErr result (λ flaw.
+        flaw ≢ Flaw.Memory → (source : Source) → T.held tree.old ≡ Some source
+        → (flaw ≡ Flaw.Io) ⊎ ((bytes : List ℕ) × (file_at source entry.now file.now ≡ Some bytes)
+        × IsNoText bytes flaw)) }
     ensures asked { IsAsked result (T.held tree.old) (T.held tree.new)
         (T.failed tree.old) (T.failed tree.new) }
 {
@@ -41,9 +45,13 @@ fn text_at<T: Tree>(
 
 // The kind that the file `type` gives.
 pub(crate) fn kind_at<T: Tree>(alloc: Global, tree: &mut T, entry: &str) -> Result<Kind, Flaw>
-    ensures kind { IfOk result (λ kind. (source : Source) → T.held tree.old ≡ Some source → kind_of source entry.now ≡ Some kind) }
-    ensures passes { OnOk result ((source : Source) → T.held tree.old ≡ Some source → FilePasses source entry.now (codes "type", KindWord)) }
-    ensures fault { IfErr result (λ flaw. flaw ≢ Flaw.Memory → (source : Source) → T.held tree.old ≡ Some source → StopsAtFile source entry.now (codes "type", KindWord) flaw) }
+    ensures kind { IfOk result (λ kind.
+        (source : Source) → T.held tree.old ≡ Some source → kind_of source entry.now ≡ Some kind) }
+    ensures passes { OnOk result ((source : Source) → T.held tree.old ≡ Some source →
+        FilePasses source entry.now (codes "type", KindWord)) }
+    ensures fault { IfErr result (λ flaw.
+        flaw ≢ Flaw.Memory → (source : Source) → T.held tree.old ≡ Some source →
+        StopsAtFile source entry.now (codes "type", KindWord) flaw) }
     ensures asked { IsAsked result (T.held tree.old) (T.held tree.new)
         (T.failed tree.old) (T.failed tree.new) }
 {
@@ -55,10 +63,15 @@ pub(crate) fn kind_at<T: Tree>(alloc: Global, tree: &mut T, entry: &str) -> Resu
 
 // The text of a oneshot's file `up`.
 pub(crate) fn up_at<T: Tree>(alloc: Global, tree: &mut T, entry: &str) -> Result<String, Flaw>
-    ensures text { IfOk result (λ text. (source : Source) → T.held tree.old ≡ Some source → file_at source entry.now (codes "up") ≡ Some (string_bytes text)) }
+    ensures text { IfOk result (λ text.
+        (source : Source) → T.held tree.old ≡ Some source →
+        file_at source entry.now (codes "up") ≡ Some (string_bytes text)) }
     ensures script { IfOk result (λ text. IsScriptText (string_bytes text)) }
-    ensures passes { OnOk result ((source : Source) → T.held tree.old ≡ Some source → FilePasses source entry.now (codes "up", UpText)) }
-    ensures fault { IfErr result (λ flaw. flaw ≢ Flaw.Memory → (source : Source) → T.held tree.old ≡ Some source → StopsAtFile source entry.now (codes "up", UpText) flaw) }
+    ensures passes { OnOk result ((source : Source) → T.held tree.old ≡ Some source →
+        FilePasses source entry.now (codes "up", UpText)) }
+    ensures fault { IfErr result (λ flaw.
+        flaw ≢ Flaw.Memory → (source : Source) → T.held tree.old ≡ Some source →
+        StopsAtFile source entry.now (codes "up", UpText) flaw) }
     ensures asked { IsAsked result (T.held tree.old) (T.held tree.new)
         (T.failed tree.old) (T.failed tree.new) }
 {
@@ -74,10 +87,15 @@ pub(crate) fn down_at<T: Tree>(
     tree: &mut T,
     entry: &str,
 ) -> Result<Option<String>, Flaw>
-    ensures text { IfOk result (λ text. (source : Source) → T.held tree.old ≡ Some source → file_at source entry.now (codes "down") ≡ option_map string_bytes text) }
+    ensures text { IfOk result (λ text.
+        (source : Source) → T.held tree.old ≡ Some source →
+        file_at source entry.now (codes "down") ≡ option_map string_bytes text) }
     ensures script { IfOk result (λ text. IfSome text (λ text. IsScriptText (string_bytes text))) }
-    ensures passes { OnOk result ((source : Source) → T.held tree.old ≡ Some source → FilePasses source entry.now (codes "down", DownText)) }
-    ensures fault { IfErr result (λ flaw. flaw ≢ Flaw.Memory → (source : Source) → T.held tree.old ≡ Some source → StopsAtFile source entry.now (codes "down", DownText) flaw) }
+    ensures passes { OnOk result ((source : Source) → T.held tree.old ≡ Some source →
+        FilePasses source entry.now (codes "down", DownText)) }
+    ensures fault { IfErr result (λ flaw.
+        flaw ≢ Flaw.Memory → (source : Source) → T.held tree.old ≡ Some source →
+        StopsAtFile source entry.now (codes "down", DownText) flaw) }
     ensures asked { IsAsked result (T.held tree.old) (T.held tree.new)
         (T.failed tree.old) (T.failed tree.new) }
 {
@@ -92,9 +110,14 @@ pub(crate) fn limit_at<T: Tree>(
     entry: &str,
     file: &str,
 ) -> Result<u32, Flaw>
-    ensures limit { IfOk result (λ limit. (source : Source) → T.held tree.old ≡ Some source → limit ≡ limit_in (file_at source entry.now file.now)) }
-    ensures passes { OnOk result ((source : Source) → T.held tree.old ≡ Some source → FilePasses source entry.now (file.now, Limit)) }
-    ensures fault { IfErr result (λ flaw. flaw ≢ Flaw.Memory → (source : Source) → T.held tree.old ≡ Some source → StopsAtFile source entry.now (file.now, Limit) flaw) }
+    ensures limit { IfOk result (λ limit.
+        (source : Source) → T.held tree.old ≡ Some source →
+        limit ≡ limit_in (file_at source entry.now file.now)) }
+    ensures passes { OnOk result ((source : Source) → T.held tree.old ≡ Some source →
+        FilePasses source entry.now (file.now, Limit)) }
+    ensures fault { IfErr result (λ flaw.
+        flaw ≢ Flaw.Memory → (source : Source) → T.held tree.old ≡ Some source →
+        StopsAtFile source entry.now (file.now, Limit) flaw) }
     ensures asked { IsAsked result (T.held tree.old) (T.held tree.new)
         (T.failed tree.old) (T.failed tree.new) }
 {
@@ -106,8 +129,11 @@ pub(crate) fn limit_at<T: Tree>(
 
 // Tests that a longrun's file `run` is there.
 pub(crate) fn test_run<T: Tree>(alloc: Global, tree: &mut T, entry: &str) -> Result<(), Flaw>
-    ensures passes { OnOk result ((source : Source) → T.held tree.old ≡ Some source → FilePasses source entry.now (codes "run", Anything)) }
-    ensures fault { IfErr result (λ flaw. flaw ≢ Flaw.Memory → (source : Source) → T.held tree.old ≡ Some source → StopsAtFile source entry.now (codes "run", Anything) flaw) }
+    ensures passes { OnOk result ((source : Source) → T.held tree.old ≡ Some source →
+        FilePasses source entry.now (codes "run", Anything)) }
+    ensures fault { IfErr result (λ flaw.
+        flaw ≢ Flaw.Memory → (source : Source) → T.held tree.old ≡ Some source →
+        StopsAtFile source entry.now (codes "run", Anything) flaw) }
     ensures asked { IsAsked result (T.held tree.old) (T.held tree.new)
         (T.failed tree.old) (T.failed tree.new) }
 {
@@ -121,8 +147,12 @@ pub(crate) fn test_run<T: Tree>(alloc: Global, tree: &mut T, entry: &str) -> Res
 
 // Whether the file `flag-essential` is there.
 pub(crate) fn flag_at<T: Tree>(alloc: Global, tree: &mut T, entry: &str) -> Result<bool, Flaw>
-    ensures flag { IfOk result (λ flag. (source : Source) → T.held tree.old ≡ Some source → flag ≡ is_some (file_at source entry.now (codes "flag-essential"))) }
-    ensures fault { IfErr result (λ flaw. flaw ≢ Flaw.Memory → (source : Source) → T.held tree.old ≡ Some source → StopsAtFile source entry.now (codes "flag-essential", Flag) flaw) }
+    ensures flag { IfOk result (λ flag.
+        (source : Source) → T.held tree.old ≡ Some source →
+        flag ≡ is_some (file_at source entry.now (codes "flag-essential"))) }
+    ensures fault { IfErr result (λ flaw.
+        flaw ≢ Flaw.Memory → (source : Source) → T.held tree.old ≡ Some source →
+        StopsAtFile source entry.now (codes "flag-essential", Flag) flaw) }
     ensures asked { IsAsked result (T.held tree.old) (T.held tree.new)
         (T.failed tree.old) (T.failed tree.new) }
 {
@@ -140,9 +170,14 @@ fn names_at<T: Tree>(
     entry: &str,
     file: &str,
 ) -> Result<Vec<Name>, Flaw>
-    ensures names { IfOk result (λ names. (source : Source) → T.held tree.old ≡ Some source → names.items ≡ given_in (file_at source entry.now file.now)) }
-    ensures passes { OnOk result ((source : Source) → T.held tree.old ≡ Some source → FilePasses source entry.now (file.now, Names)) }
-    ensures fault { IfErr result (λ flaw. flaw ≢ Flaw.Memory → (source : Source) → T.held tree.old ≡ Some source → StopsAtFile source entry.now (file.now, Names) flaw) }
+    ensures names { IfOk result (λ names.
+        (source : Source) → T.held tree.old ≡ Some source →
+        names.items ≡ given_in (file_at source entry.now file.now)) }
+    ensures passes { OnOk result ((source : Source) → T.held tree.old ≡ Some source →
+        FilePasses source entry.now (file.now, Names)) }
+    ensures fault { IfErr result (λ flaw.
+        flaw ≢ Flaw.Memory → (source : Source) → T.held tree.old ≡ Some source →
+        StopsAtFile source entry.now (file.now, Names) flaw) }
     ensures asked { IsAsked result (T.held tree.old) (T.held tree.new)
         (T.failed tree.old) (T.failed tree.new) }
 {
@@ -159,10 +194,15 @@ pub(crate) fn one_name_at<T: Tree>(
     entry: &str,
     file: &str,
 ) -> Result<Option<Name>, Flaw>
-    ensures name { IfOk result (λ name. (source : Source) → T.held tree.old ≡ Some source → name ≡ slice_get (given_in (file_at source entry.now file.now)) 0) }
+    ensures name { IfOk result (λ name.
+        (source : Source) → T.held tree.old ≡ Some source →
+        name ≡ slice_get (given_in (file_at source entry.now file.now)) 0) }
     ensures is_name { IfOk result (λ name. IfSome name IsName) }
-    ensures passes { OnOk result ((source : Source) → T.held tree.old ≡ Some source → FilePasses source entry.now (file.now, OneName)) }
-    ensures fault { IfErr result (λ flaw. flaw ≢ Flaw.Memory → (source : Source) → T.held tree.old ≡ Some source → StopsAtFile source entry.now (file.now, OneName) flaw) }
+    ensures passes { OnOk result ((source : Source) → T.held tree.old ≡ Some source →
+        FilePasses source entry.now (file.now, OneName)) }
+    ensures fault { IfErr result (λ flaw.
+        flaw ≢ Flaw.Memory → (source : Source) → T.held tree.old ≡ Some source →
+        StopsAtFile source entry.now (file.now, OneName) flaw) }
     ensures asked { IsAsked result (T.held tree.old) (T.held tree.new)
         (T.failed tree.old) (T.failed tree.new) }
 {
@@ -181,9 +221,14 @@ pub(crate) fn add_names_at<T: Tree>(
     set: &mut BTreeSet<String>,
 ) -> Result<(), Flaw>
     ensures names { OnOk result ((source : Source) → T.held tree.old ≡ Some source → (name : List ℕ)
-        → Contains (map string_bytes set.new.keys) name ↔ (Contains (map string_bytes set.old.keys) name ⊎ Contains (given_in (file_at source entry.now file.now)) name)) }
-    ensures passes { OnOk result ((source : Source) → T.held tree.old ≡ Some source → FilePasses source entry.now (file.now, Names)) }
-    ensures fault { IfErr result (λ flaw. flaw ≢ Flaw.Memory → (source : Source) → T.held tree.old ≡ Some source → StopsAtFile source entry.now (file.now, Names) flaw) }
+        → Contains (map string_bytes set.new.keys) name
+        ↔ (Contains (map string_bytes set.old.keys) name
+        ⊎ Contains (given_in (file_at source entry.now file.now)) name)) }
+    ensures passes { OnOk result ((source : Source) → T.held tree.old ≡ Some source →
+        FilePasses source entry.now (file.now, Names)) }
+    ensures fault { IfErr result (λ flaw.
+        flaw ≢ Flaw.Memory → (source : Source) → T.held tree.old ≡ Some source →
+        StopsAtFile source entry.now (file.now, Names) flaw) }
     ensures asked { IsAsked result (T.held tree.old) (T.held tree.new)
         (T.failed tree.old) (T.failed tree.new) }
 {

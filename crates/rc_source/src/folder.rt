@@ -23,7 +23,8 @@ fn is_hidden(name: &str) -> bool
 // The names that are not hidden, each once, in byte order.
 pub(crate) fn visible(alloc: Global, names: &[String]) -> Result<Vec<String>, NoMem>
     ensures order { IfOk result (λ seen. IsInByteOrder (map string_bytes seen.items)) }
-    ensures names { IfOk result (λ seen. (name : List ℕ) → Contains (map string_bytes seen.items) name
+    ensures names { IfOk result (λ seen.
+        (name : List ℕ) → Contains (map string_bytes seen.items) name
         ↔ (Contains (map string_bytes names.now) name × (is_hidden name ≡ false))) }
 {
     let mut seen = BTreeSet::new(alloc);
@@ -36,7 +37,8 @@ pub(crate) fn visible(alloc: Global, names: &[String]) -> Result<Vec<String>, No
 // Adds a name, unless it is hidden.
 fn add_visible(alloc: Global, seen: &mut BTreeSet<String>, name: &str) -> Result<(), NoMem>
     ensures { OnOk result ((text : List ℕ) → Contains (map string_bytes seen.new.keys) text
-        ↔ (Contains (map string_bytes seen.old.keys) text ⊎ ((text ≡ name.now) × (is_hidden name.now ≡ false)))) }
+        ↔ (Contains (map string_bytes seen.old.keys) text
+        ⊎ ((text ≡ name.now) × (is_hidden name.now ≡ false)))) }
 {
     if !is_hidden(name) {
         sets::add(alloc, seen, name)?;
@@ -64,7 +66,8 @@ fn visible_names(alloc: Global, names: &[String]) -> Result<Vec<Name>, Flaw>
         ↔ (Contains (map string_bytes names.now) name × (is_hidden name ≡ false))) }
     ensures each { IfOk result (λ seen. All IsName seen.items) }
     ensures fault { IfErr result (λ flaw. flaw ≢ Flaw.Memory → (flaw ≡ Flaw.BadName)
-        × ((each : List ℕ) × Contains (map string_bytes names.now) each × (is_hidden each ≡ false) × (IsName each → ⊥))) }
+        × ((each : List ℕ) × Contains (map string_bytes names.now) each × (is_hidden each ≡ false)
+        × (IsName each → ⊥))) }
 {
     let seen = visible(alloc, names)?;
     names_from(alloc, &seen)
@@ -77,10 +80,15 @@ fn folder_names_at<T: Tree>(
     entry: &str,
     folder: &str,
 ) -> Result<Vec<Name>, Flaw>
-    ensures names { IfOk result (λ names. (source : Source) → T.held tree.old ≡ Some source → (name : List ℕ)
-        → Contains names.items name ↔ (Contains (names_next source entry.now folder.now) name × (is_hidden name ≡ false))) }
-    ensures passes { OnOk result ((source : Source) → T.held tree.old ≡ Some source → FilePasses source entry.now (folder.now, NameEach)) }
-    ensures fault { IfErr result (λ flaw. flaw ≢ Flaw.Memory → (source : Source) → T.held tree.old ≡ Some source → StopsAtFile source entry.now (folder.now, NameEach) flaw) }
+    ensures names { IfOk result (λ names.
+        (source : Source) → T.held tree.old ≡ Some source → (name : List ℕ)
+        → Contains names.items name ↔ (Contains (names_next source entry.now folder.now) name
+        × (is_hidden name ≡ false))) }
+    ensures passes { OnOk result ((source : Source) → T.held tree.old ≡ Some source →
+        FilePasses source entry.now (folder.now, NameEach)) }
+    ensures fault { IfErr result (λ flaw.
+        flaw ≢ Flaw.Memory → (source : Source) → T.held tree.old ≡ Some source →
+        StopsAtFile source entry.now (folder.now, NameEach) flaw) }
     ensures asked { IsAsked result (T.held tree.old) (T.held tree.new)
         (T.failed tree.old) (T.failed tree.new) }
 {
@@ -101,10 +109,14 @@ pub(crate) fn add_folder_at<T: Tree>(
     set: &mut BTreeSet<String>,
 ) -> Result<(), Flaw>
     ensures names { OnOk result ((source : Source) → T.held tree.old ≡ Some source → (name : List ℕ)
-        → Contains (map string_bytes set.new.keys) name ↔ (Contains (map string_bytes set.old.keys) name
+        → Contains (map string_bytes set.new.keys) name
+        ↔ (Contains (map string_bytes set.old.keys) name
         ⊎ (Contains (names_next source entry.now folder.now) name × (is_hidden name ≡ false)))) }
-    ensures passes { OnOk result ((source : Source) → T.held tree.old ≡ Some source → FilePasses source entry.now (folder.now, NameEach)) }
-    ensures fault { IfErr result (λ flaw. flaw ≢ Flaw.Memory → (source : Source) → T.held tree.old ≡ Some source → StopsAtFile source entry.now (folder.now, NameEach) flaw) }
+    ensures passes { OnOk result ((source : Source) → T.held tree.old ≡ Some source →
+        FilePasses source entry.now (folder.now, NameEach)) }
+    ensures fault { IfErr result (λ flaw.
+        flaw ≢ Flaw.Memory → (source : Source) → T.held tree.old ≡ Some source →
+        StopsAtFile source entry.now (folder.now, NameEach) flaw) }
     ensures asked { IsAsked result (T.held tree.old) (T.held tree.new)
         (T.failed tree.old) (T.failed tree.new) }
 {

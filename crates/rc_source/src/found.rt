@@ -26,7 +26,8 @@ impl Model for Found {
 
     ghost view = { λ found. map meaning_of found.definitions.items };
 
-    ghost invariant = { λ found. AreFound (map meaning_of found.definitions.items) (map string_bytes found.names.keys) };
+    ghost invariant = { λ found. AreFound (map meaning_of found.definitions.items)
+        (map string_bytes found.names.keys) };
 }
 
 impl Found {

@@ -10,25 +10,33 @@ ghost use Rattle.rc_source.specs.Tests.{Test, AllPass, StopsInTests, entries_of}
 
 /// Where all tests pass, a device alone keeps trees from being read.
 pub fn sound_sources_are_refused_by_devices_alone()
-    ensures { (tests : List Test) (flaw : Flaw) (name : List ℕ) → AllPass tests → StopsInTests tests flaw name → flaw ≡ Io }
+    ensures { (tests : List Test) (flaw : Flaw) (name : List ℕ) → AllPass tests →
+        StopsInTests tests flaw name → flaw ≡ Io }
 {}
 
 /// What files are refused by is one flaw of one entry, whatever a device does.
 pub fn refusals_are_one()
-    ensures { (tests : List Test) (a b : Flaw) (x y : List ℕ) → StopsInTests tests a x → StopsInTests tests b y → a ≢ Io → b ≢ Io → (a ≡ b) × (x ≡ y) }
+    ensures { (tests : List Test) (a b : Flaw) (x y : List ℕ) → StopsInTests tests a x →
+        StopsInTests tests b y → a ≢ Io → b ≢ Io → (a ≡ b) × (x ≡ y) }
 {}
 
 /// An entry means one thing.
 pub fn meanings_are_one()
-    ensures { (source : Source) (entry : List ℕ) (a b : Meaning) → Means source entry a → Means source entry b → a ≡ b }
+    ensures { (source : Source) (entry : List ℕ) (a b : Meaning) → Means source entry a →
+        Means source entry b → a ≡ b }
 {}
 
 /// What some texts say.
 pub fn texts_say_so()
     ensures kind { kind_of_word (without_newline (codes "oneshot" ++ 10 ∷ [])) ≡ Some Oneshot }
     ensures kind_once { kind_of_word (without_newline (codes "oneshot" ++ 10 ∷ 10 ∷ [])) ≡ None }
-    ensures names { names_in (codes " a  " ++ 10 ∷ 10 ∷ codes "# b" ++ 10 ∷ codes "  #c" ++ 10 ∷ 9 ∷ codes "d e") ≡ codes "a" ∷ codes "d e" ∷ [] }
+    ensures names { names_in (codes " a  " ++ 10 ∷ 10 ∷ codes "# b" ++ 10 ∷ codes "  #c" ++ 10 ∷ 9
+        ∷ codes "d e") ≡ codes "a" ∷ codes "d e" ∷ [] }
     ensures limit { limit_in (Some (codes "0010" ++ 10 ∷ [])) ≡ 10 }
-    ensures folder { (entries : List (List ℕ)) → names_next (record { entries = entries; files = (codes "a/dependencies.d/db", []) ∷ [] }) (codes "a") (codes "dependencies.d") ≡ codes "db" ∷ [] }
-    ensures entries { (files : List (List ℕ × List ℕ)) → entries_of (record { entries = codes ".git" ∷ codes "b" ∷ []; files = files }) ≡ codes "b" ∷ [] }
+    ensures folder { (entries : List (List ℕ)) →
+        names_next (record { entries = entries; files = (codes "a/dependencies.d/db", []) ∷ [] })
+        (codes "a") (codes "dependencies.d") ≡ codes "db" ∷ [] }
+    ensures entries { (files : List (List ℕ × List ℕ)) →
+        entries_of (record { entries = codes ".git" ∷ codes "b" ∷ []; files = files }) ≡ codes "b"
+        ∷ [] }
 {}

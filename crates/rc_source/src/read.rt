@@ -18,15 +18,22 @@ use rc_names::Name;
 use rc_tree::{Tree, TreeFault};
 use std::alloc::Global;
 
-/// The definitions of trees, in the order of the trees and in each in byte order of the names; or the first fault in the order of the tests.
+/// The definitions of trees, in the order of the trees and in each in byte order of the names; or
+/// the first fault in the order of the tests.
 pub fn read_all<T: Tree>(alloc: Global, trees: &mut [T]) -> Result<Vec<Definition>, SourceFault>
-    ensures definitions { IfOk result (λ definitions. AreMeanings (map meaning_of definitions.items)) }
-    ensures meanings { IfOk result (λ definitions. (sources : List Source) → map T.held trees.old ≡ map Some sources
+    ensures definitions { IfOk result (λ definitions.
+        AreMeanings (map meaning_of definitions.items)) }
+    ensures meanings { IfOk result (λ definitions.
+        (sources : List Source) → map T.held trees.old ≡ map Some sources
         → MeanAll (all_entries sources) (map meaning_of definitions.items)) }
-    ensures sound { OnOk result ((sources : List Source) → map T.held trees.old ≡ map Some sources → AllPass (all_tests [] sources)) }
-    ensures fault { IfErr result (λ fault. flaw_of fault ≢ Flaw.Memory → (sources : List Source) → map T.held trees.old ≡ map Some sources
+    ensures sound { OnOk result ((sources : List Source) → map T.held trees.old ≡ map Some sources →
+        AllPass (all_tests [] sources)) }
+    ensures fault { IfErr result (λ fault.
+        flaw_of fault ≢ Flaw.Memory → (sources : List Source) →
+        map T.held trees.old ≡ map Some sources
         → StopsInTests (all_tests [] sources) (flaw_of fault) (name_carried fault)) }
-    ensures io { IfErr result (λ fault. flaw_of fault ≡ Flaw.Io → SomeFailed (map T.failed trees.old) (map T.failed trees.new)) }
+    ensures io { IfErr result (λ fault.
+        flaw_of fault ≡ Flaw.Io → SomeFailed (map T.failed trees.old) (map T.failed trees.new)) }
     ensures same { map T.held trees.new ≡ map T.held trees.old }
     ensures quiet { OnOk result (map T.failed trees.new ≡ map T.failed trees.old) }
 {
@@ -40,11 +47,16 @@ pub fn read_all<T: Tree>(alloc: Global, trees: &mut [T]) -> Result<Vec<Definitio
 // Reads the entries of a tree, after the definitions of those before it.
 fn read_source<T: Tree>(alloc: Global, tree: &mut T, found: &mut Found) -> Result<(), SourceFault>
     ensures meanings { OnOk result ((source : Source) → T.held tree.old ≡ Some source
-        → (ms : List Meaning) × (found.new ≡ found.old ++ ms) × AllZip (Means source) (entries_of source) ms) }
-    ensures passes { OnOk result ((source : Source) → T.held tree.old ≡ Some source → AllPass (tests_of_source (meant found.old) source)) }
-    ensures fault { IfErr result (λ fault. flaw_of fault ≢ Flaw.Memory → (source : Source) → T.held tree.old ≡ Some source
-        → StopsInTests (tests_of_source (meant found.old) source) (flaw_of fault) (name_carried fault)) }
-    ensures io { IfErr result (λ fault. flaw_of fault ≡ Flaw.Io → HasFailed (T.failed tree.old) (T.failed tree.new)) }
+        → (ms : List Meaning) × (found.new ≡ found.old ++ ms)
+        × AllZip (Means source) (entries_of source) ms) }
+    ensures passes { OnOk result ((source : Source) → T.held tree.old ≡ Some source →
+        AllPass (tests_of_source (meant found.old) source)) }
+    ensures fault { IfErr result (λ fault.
+        flaw_of fault ≢ Flaw.Memory → (source : Source) → T.held tree.old ≡ Some source
+        → StopsInTests (tests_of_source (meant found.old) source) (flaw_of fault)
+        (name_carried fault)) }
+    ensures io { IfErr result (λ fault.
+        flaw_of fault ≡ Flaw.Io → HasFailed (T.failed tree.old) (T.failed tree.new)) }
     ensures same { T.held tree.new ≡ T.held tree.old }
     ensures count { T.failed tree.old ≤ T.failed tree.new }
     ensures quiet { OnOk result (T.failed tree.new ≡ T.failed tree.old) }
@@ -62,9 +74,13 @@ fn read_source<T: Tree>(alloc: Global, tree: &mut T, found: &mut Found) -> Resul
 
 // The names of the entries of a tree in the order of reading.
 fn entries_at<T: Tree>(alloc: Global, tree: &mut T) -> Result<Vec<String>, SourceFault>
-    ensures names { IfOk result (λ names. (source : Source) → T.held tree.old ≡ Some source → map string_bytes names.items ≡ entries_of source) }
-    ensures fault { IfErr result (λ fault. flaw_of fault ≢ Flaw.Memory → (flaw_of fault ≡ Flaw.Io) × (name_carried fault ≡ [])) }
-    ensures io { IfErr result (λ fault. flaw_of fault ≡ Flaw.Io → HasFailed (T.failed tree.old) (T.failed tree.new)) }
+    ensures names { IfOk result (λ names.
+        (source : Source) → T.held tree.old ≡ Some source →
+        map string_bytes names.items ≡ entries_of source) }
+    ensures fault { IfErr result (λ fault.
+        flaw_of fault ≢ Flaw.Memory → (flaw_of fault ≡ Flaw.Io) × (name_carried fault ≡ [])) }
+    ensures io { IfErr result (λ fault.
+        flaw_of fault ≡ Flaw.Io → HasFailed (T.failed tree.old) (T.failed tree.new)) }
     ensures same { T.held tree.new ≡ T.held tree.old }
     ensures count { T.failed tree.old ≤ T.failed tree.new }
     ensures quiet { OnOk result (T.failed tree.new ≡ T.failed tree.old) }
@@ -86,8 +102,10 @@ fn read_entry<T: Tree>(
 ) -> Result<(), Flaw>
     ensures meaning { OnOk result ((source : Source) → T.held tree.old ≡ Some source
         → (m : Meaning) × (found.new ≡ found.old ++ m ∷ []) × Means source entry.now m) }
-    ensures passes { OnOk result ((source : Source) → T.held tree.old ≡ Some source → AllPass (tests_of_entry (meant found.old) source entry.now)) }
-    ensures fault { IfErr result (λ flaw. flaw ≢ Flaw.Memory → (source : Source) → T.held tree.old ≡ Some source
+    ensures passes { OnOk result ((source : Source) → T.held tree.old ≡ Some source →
+        AllPass (tests_of_entry (meant found.old) source entry.now)) }
+    ensures fault { IfErr result (λ flaw.
+        flaw ≢ Flaw.Memory → (source : Source) → T.held tree.old ≡ Some source
         → StopsInTests (tests_of_entry (meant found.old) source entry.now) flaw entry.now) }
     ensures asked { IsAsked result (T.held tree.old) (T.held tree.new)
         (T.failed tree.old) (T.failed tree.new) }
@@ -102,7 +120,8 @@ fn read_entry<T: Tree>(
 fn new_name(alloc: Global, entry: &str, found: &Found) -> Result<Name, Flaw>
     ensures name { IfOk result (λ name. (name ≡ entry.now) × IsName entry.now) }
     ensures free { OnOk result (Contains (meant found.now) entry.now → ⊥) }
-    ensures fault { IfErr result (λ flaw. flaw ≢ Flaw.Memory → IsNoNewName (meant found.now) entry.now flaw) }
+    ensures fault { IfErr result (λ flaw.
+        flaw ≢ Flaw.Memory → IsNoNewName (meant found.now) entry.now flaw) }
 {
     let name = text::name_in(alloc, entry.as_bytes())?;
     if found.has(entry) {
@@ -114,7 +133,8 @@ fn new_name(alloc: Global, entry: &str, found: &Found) -> Result<Name, Flaw>
 
 // The fault of an entry that has a flaw.
 fn fault_of(alloc: Global, flaw: Flaw, entry: &str) -> SourceFault
-    ensures { flaw_of result ≢ Flaw.Memory → (flaw_of result ≡ flaw) × (name_carried result ≡ entry.now) }
+    ensures { flaw_of result ≢ Flaw.Memory →
+        (flaw_of result ≡ flaw) × (name_carried result ≡ entry.now) }
 {
     let Ok(name) = String::from_str(alloc, entry) else {
         return SourceFault::Memory;

@@ -57,7 +57,8 @@ fn unended_of(text: &[u8]) -> &[u8]
 // The kind that the text of a file `type` gives.
 pub(crate) fn kind_in(text: &str) -> Result<Kind, Flaw>
     ensures kind { IfOk result (λ kind. kind_of_word (without_newline text.now) ≡ Some kind) }
-    ensures fault { IfErr result (λ flaw. (flaw ≡ Flaw.BadType) × (kind_of_word (without_newline text.now) ≡ None)) }
+    ensures fault { IfErr result (λ flaw.
+        (flaw ≡ Flaw.BadType) × (kind_of_word (without_newline text.now) ≡ None)) }
 {
     match kind_named(unended_of(text.as_bytes())) {
         Some(kind) => Ok(kind),
@@ -82,8 +83,10 @@ fn kind_named(word: &[u8]) -> Option<Kind>
 
 // The limit that a text gives, in milliseconds.
 pub(crate) fn limit_in(text: &str) -> Result<u32, Flaw>
-    ensures limit { IfOk result (λ limit. IsLimit (without_newline text.now) × (limit ≡ digits_value 10 (without_newline text.now))) }
-    ensures fault { IfErr result (λ flaw. (flaw ≡ Flaw.BadTimeout) × (IsLimit (without_newline text.now) → ⊥)) }
+    ensures limit { IfOk result (λ limit.
+        IsLimit (without_newline text.now) × (limit ≡ digits_value 10 (without_newline text.now))) }
+    ensures fault { IfErr result (λ flaw.
+        (flaw ≡ Flaw.BadTimeout) × (IsLimit (without_newline text.now) → ⊥)) }
 {
     let digits = unended_of(text.as_bytes());
     if !are_few_digits(digits) {
@@ -97,7 +100,8 @@ pub(crate) fn limit_in(text: &str) -> Result<u32, Flaw>
 
 // Whether bytes are 1 to 10 digits.
 fn are_few_digits(digits: &[u8]) -> bool
-    ensures { IsTrue result ↔ (0 < length digits.now) × (length digits.now ≤ 10) × All (λ digit. (48 ≤ digit) × (digit ≤ 57)) digits.now }
+    ensures { IsTrue result ↔ (0 < length digits.now) × (length digits.now ≤ 10)
+        × All (λ digit. (48 ≤ digit) × (digit ≤ 57)) digits.now }
 {
     !digits.is_empty()
         && digits.len() <= MAX_DIGITS
@@ -176,7 +180,8 @@ fn is_counted(line: &[u8]) -> bool
 
 // The lines of a text.
 fn lines_of(alloc: Global, text: &[u8]) -> Result<Vec<&[u8]>, NoMem>
-    ensures { IfOk result (λ lines. map (λ line. line.now) lines.items ≡ slice_split (λ byte. byte == 10) text.now) }
+    ensures { IfOk result (λ lines. map (λ line. line.now) lines.items
+        ≡ slice_split (λ byte. byte == 10) text.now) }
 {
     text.split(|byte| *byte == b'\n').collect(alloc)
 }
@@ -185,7 +190,8 @@ fn lines_of(alloc: Global, text: &[u8]) -> Result<Vec<&[u8]>, NoMem>
 pub(crate) fn names_of(alloc: Global, text: &str) -> Result<Vec<Name>, Flaw>
     ensures names { IfOk result (λ names. names.items ≡ names_in text.now) }
     ensures each { OnOk result (All IsName (names_in text.now)) }
-    ensures fault { IfErr result (λ flaw. flaw ≢ Flaw.Memory → (flaw ≡ Flaw.BadName) × (All IsName (names_in text.now) → ⊥)) }
+    ensures fault { IfErr result (λ flaw.
+        flaw ≢ Flaw.Memory → (flaw ≡ Flaw.BadName) × (All IsName (names_in text.now) → ⊥)) }
 {
     let lines = lines_of(alloc, text.as_bytes())?;
     let mut names = Vec::new(alloc);
@@ -197,9 +203,12 @@ pub(crate) fn names_of(alloc: Global, text: &str) -> Result<Vec<Name>, Flaw>
 
 // Adds the name that a line gives, if it gives one.
 fn add_line(alloc: Global, names: &mut Vec<Name>, line: &[u8]) -> Result<(), Flaw>
-    ensures names { OnOk result (names.new.items ≡ names.old.items ++ filter counts (trimmed_line line.now ∷ [])) }
+    ensures names { OnOk result (names.new.items ≡ names.old.items
+        ++ filter counts (trimmed_line line.now ∷ [])) }
     ensures each { OnOk result (All IsName (filter counts (trimmed_line line.now ∷ []))) }
-    ensures fault { IfErr result (λ flaw. flaw ≢ Flaw.Memory → (flaw ≡ Flaw.BadName) × (All IsName (filter counts (trimmed_line line.now ∷ [])) → ⊥)) }
+    ensures fault { IfErr result (λ flaw.
+        flaw ≢ Flaw.Memory → (flaw ≡ Flaw.BadName)
+        × (All IsName (filter counts (trimmed_line line.now ∷ [])) → ⊥)) }
 {
     let line = without_end(without_front(line));
     if !is_counted(line) {
@@ -213,7 +222,8 @@ fn add_line(alloc: Global, names: &mut Vec<Name>, line: &[u8]) -> Result<(), Fla
 // The name that bytes are.
 pub(crate) fn name_in(alloc: Global, bytes: &[u8]) -> Result<Name, Flaw>
     ensures name { IfOk result (λ name. (name ≡ bytes.now) × IsName bytes.now) }
-    ensures fault { IfErr result (λ flaw. flaw ≢ Flaw.Memory → (flaw ≡ Flaw.BadName) × (IsName bytes.now → ⊥)) }
+    ensures fault { IfErr result (λ flaw.
+        flaw ≢ Flaw.Memory → (flaw ≡ Flaw.BadName) × (IsName bytes.now → ⊥)) }
 {
     let Ok(text) = std::str::from_utf8(bytes) else {
         return Err(Flaw::BadName);
@@ -230,7 +240,8 @@ pub(crate) fn one_name_in(alloc: Global, text: &str) -> Result<Option<Name>, Fla
     ensures name { IfOk result (λ name. name ≡ slice_get (names_in text.now) 0) }
     ensures is_name { IfOk result (λ name. IfSome name IsName) }
     ensures right { OnOk result (IsWrong OneName text.now → ⊥) }
-    ensures fault { IfErr result (λ flaw. flaw ≢ Flaw.Memory → (flaw ≡ Flaw.BadName) × IsWrong OneName text.now) }
+    ensures fault { IfErr result (λ flaw.
+        flaw ≢ Flaw.Memory → (flaw ≡ Flaw.BadName) × IsWrong OneName text.now) }
 {
     let mut names = names_of(alloc, text)?;
     if names.len() > 1 {

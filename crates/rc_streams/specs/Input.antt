@@ -28,7 +28,8 @@ failure_text Read = codes "Read"
 failure_text Write = codes "Write"
 failure_text Memory = codes "Memory"
 
--- why a command may fail: an input is too long only where it has more bytes than the bound, and a device is the cause only where it has failed
+-- why a command may fail: an input is too long only where it has more bytes than the bound, and a
+-- device is the cause only where it has failed
 abbrev pub IsCause : (input : Option (List ℕ)) → (reader writer : Type 0) → Failure → Type 0
 IsCause input reader writer TooLong = IfSome input (λ bytes. 16777216 < length bytes)
 IsCause input reader writer Read = reader
@@ -37,11 +38,14 @@ IsCause input reader writer Memory = Unit {0}
 
 -- a command has failed so, and a prefix of its line was told
 abbrev pub FailsWith : Failure → (status : ℕ) → (old new : Option (List ℕ)) → Type 0
-FailsWith failure status old new = (status ≡ 111) × AppendsFront old new (fault_line (failure_text failure))
+FailsWith failure status old new =
+    (status ≡ 111) × AppendsFront old new (fault_line (failure_text failure))
 
 -- a failure that has its cause is told by a prefix of its line
-abbrev pub TellsFailure : (input : Option (List ℕ)) → (reader writer : Type 0) → (old new : Option (List ℕ)) → Type 0
-TellsFailure input reader writer old new = (failure : Failure) × AppendsFront old new (fault_line (failure_text failure)) × IsCause input reader writer failure
+abbrev pub TellsFailure : (input : Option (List ℕ)) → (reader writer : Type 0) →
+    (old new : Option (List ℕ)) → Type 0
+TellsFailure input reader writer old new = (failure : Failure)
+    × AppendsFront old new (fault_line (failure_text failure)) × IsCause input reader writer failure
 
 -- a writer gains all of an answer
 abbrev pub WritesAll : (List ℕ → Type 0) → Option (List ℕ) → Option (List ℕ) → Type 0

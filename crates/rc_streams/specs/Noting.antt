@@ -21,7 +21,8 @@ IsFlushed n = n.flushed ≡ true
 abbrev pub interrupts_of : {T : Type 0} → Noted T → ℕ
 interrupts_of n = n.interrupts
 
--- after so many interrupted reads in a row, the read has failed: by an error, or as the 1,001st that was interrupted
+-- after so many interrupted reads in a row, the read has failed: by an error, or as
+-- the 1,001st that was interrupted
 abbrev pub IsReadFault : ℕ → Result ℕ Error → Type 0
 IsReadFault row (Ok count) = ⊥
 IsReadFault row (Err e) = (error_kind e ≢ Interrupted) ⊎ (1000 ≤ row)
@@ -31,7 +32,8 @@ abbrev pub CountsRow : ℕ → Result ℕ Error → ℕ → Type 0
 CountsRow old (Ok count) new = new ≡ 0
 CountsRow old (Err e) new = (IsReadFault old (Err e) → ⊥) → new ≡ old + 1
 
--- the write of so many bytes has failed: by an error, an interruption among them, or because it took none
+-- the write of so many bytes has failed: by an error, an interruption
+-- among them, or because it took none
 abbrev pub IsWriteFault : ℕ → Result ℕ Error → Type 0
 IsWriteFault length (Ok count) = (count ≡ 0) × (length ≢ 0)
 IsWriteFault length (Err e) = Unit {0}

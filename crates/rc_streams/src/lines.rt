@@ -51,7 +51,8 @@ impl Lines {
         }
     }
 
-    /// The next line, without its newline, and whether it ends in one. A line that does not is the last. None: there is no more.
+    /// The next line, without its newline, and whether it ends in one. A line that does not is
+    /// the last. None: there is no more.
     pub fn next<R: Read>(
         &mut self,
         alloc: Global,
@@ -59,17 +60,23 @@ impl Lines {
     ) -> Result<Option<(Vec<u8>, bool)>, Failure>
         requires { HasFailed reader.old → ⊥ }
         ensures line { IfOk result (λ next. MatchOption next
-            (HandsNothing (R.remaining (inner_of reader.old)) (R.remaining (inner_of reader.new)) self.old self.new)
-            (λ found. HandsLine found.1 (R.remaining (inner_of reader.old)) (R.remaining (inner_of reader.new)) self.old self.new found.0.items)) }
+            (HandsNothing (R.remaining (inner_of reader.old))
+            (R.remaining (inner_of reader.new)) self.old self.new)
+            (λ found. HandsLine found.1 (R.remaining (inner_of reader.old))
+            (R.remaining (inner_of reader.new)) self.old self.new found.0.items)) }
 
         // No read is made while a whole line is held.
         ensures waits { IsOneLine self.old.pending ⊎ (reader.new ≡ reader.old) }
-        ensures fault { IfErr result (LacksLine (HasFailed reader.new) (R.remaining (inner_of reader.old)) (R.remaining (inner_of reader.new)) self.old self.new) }
-        ensures taken { Takes (R.remaining (inner_of reader.old)) (R.remaining (inner_of reader.new)) self.old.taken self.new.taken }
+        ensures fault { IfErr result (LacksLine (HasFailed reader.new)
+            (R.remaining (inner_of reader.old))
+            (R.remaining (inner_of reader.new)) self.old self.new) }
+        ensures taken { Takes (R.remaining (inner_of reader.old))
+            (R.remaining (inner_of reader.new)) self.old.taken self.new.taken }
         ensures within { self.new.taken ≤ 16777217 }
         ensures sound { OnOk result (HasFailed reader.new → ⊥) }
 
-        // A read that has failed is told as that, so none is made before a whole line that was read is handed out.
+        // A read that has failed is told as that, so none is made before a whole
+        // line that was read is handed out.
         ensures told { HasFailed reader.new → result ≡ Err Failure.Read }
     {
         let mut line = Vec::new(alloc);
@@ -90,9 +97,11 @@ impl Lines {
     /// Moves what is held to the end of a line, up to the newline. True: the line is whole.
     fn take_line(&mut self, line: &mut Vec<u8>) -> Result<bool, Failure>
         requires { IsOneLine line.old.items }
-        ensures moved { IfOk result (λ whole. MovesPart whole self.old self.new line.old.items line.new.items) }
+        ensures moved { IfOk result (λ whole.
+            MovesPart whole self.old self.new line.old.items line.new.items) }
         ensures short { OnOk result (length line.new.items ≤ MAX_LINE) }
-        ensures fault { IfErr result (IsPartFault (BeginsTooLong (line.old.items ++ self.old.pending))) }
+        ensures fault { IfErr result (IsPartFault
+            (BeginsTooLong (line.old.items ++ self.old.pending))) }
         ensures same { OnErr result (self.new ≡ self.old) }
         ensures within { self.new.taken ≤ 16777217 }
     {
@@ -114,12 +123,16 @@ impl Lines {
     /// Reads the next piece, and tells its length: 0 at the end of the input.
     fn refill<R: Read>(&mut self, reader: &mut Noted<R>) -> Result<usize, Failure>
         requires { HasFailed reader.old → ⊥ }
-        ensures read { IfOk result (Refills (R.remaining (inner_of reader.old)) (R.remaining (inner_of reader.new)) self.old self.new) }
-        ensures taken { Takes (R.remaining (inner_of reader.old)) (R.remaining (inner_of reader.new)) self.old.taken self.new.taken }
+        ensures read { IfOk result (Refills (R.remaining (inner_of reader.old))
+            (R.remaining (inner_of reader.new)) self.old self.new) }
+        ensures taken { Takes (R.remaining (inner_of reader.old))
+            (R.remaining (inner_of reader.new)) self.old.taken self.new.taken }
         ensures within { self.new.taken ≤ 16777217 }
         ensures sound { OnOk result (HasFailed reader.new → ⊥) }
         ensures told { HasFailed reader.new → result ≡ Err Failure.Read }
-        ensures fault { IfErr result (IsRefillFault (HasFailed reader.new) (R.remaining (inner_of reader.old)) (R.remaining (inner_of reader.new)) self.old.taken self.new.taken) }
+        ensures fault { IfErr result (IsRefillFault (HasFailed reader.new)
+            (R.remaining (inner_of reader.old))
+            (R.remaining (inner_of reader.new)) self.old.taken self.new.taken) }
     {
         if self.taken > MAX_INPUT {
             return Err(Failure::TooLong);

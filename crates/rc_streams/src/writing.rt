@@ -8,12 +8,15 @@ use crate::input::Failure;
 use crate::noted::Noted;
 use std::io::Write;
 
-/// Writes all of an answer, and flushes. A write that fails, takes nothing or is interrupted is not tried again.
+/// Writes all of an answer, and flushes. A write that fails, takes nothing or is
+/// interrupted is not tried again.
 pub fn write_answer<W: Write>(writer: &mut Noted<W>, answer: &[u8]) -> Result<(), Failure>
-    ensures whole { OnOk result (Appends (W.contents (inner_of writer.old)) (W.contents (inner_of writer.new)) answer.now) }
+    ensures whole { OnOk result (Appends (W.contents (inner_of writer.old))
+        (W.contents (inner_of writer.new)) answer.now) }
 
     // Whatever the result, a prefix of the answer is all that is written.
-    ensures front { AppendsFront (W.contents (inner_of writer.old)) (W.contents (inner_of writer.new)) answer.now }
+    ensures front { AppendsFront (W.contents (inner_of writer.old))
+        (W.contents (inner_of writer.new)) answer.now }
     ensures flushed { OnOk result (IsFlushed writer.new) }
     ensures sound { OnOk result (HasFailed writer.new → HasFailed writer.old) }
     ensures fault { OnErr result ((result ≡ Err Failure.Write) × HasFailed writer.new) }

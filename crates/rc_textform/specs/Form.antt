@@ -11,8 +11,8 @@ abbrev pub IsRead : {L A : Type 0} → (L → List ℕ) → (A → Type 0) → (
     → List ℕ → A → List ℕ → Type 0
 IsRead spell Is lines bytes value rest = Is value × (bytes ≡ spells spell (lines value) ++ rest)
 
--- the lines of some value stand at the beginning up to the one that is due, where the rest begins, and
--- no value has one line more there
+-- the lines of some value stand at the beginning up to the one that is due, where the rest begins,
+-- and no value has one line more there
 pub record IsStuck {L A : Type 0} (spell : L → List ℕ) (Is : A → Type 0) (lines : A → List L)
     (bytes rest : List ℕ) (due : L) : Type 0 where
   pub value : A

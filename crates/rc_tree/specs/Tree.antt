@@ -13,11 +13,13 @@ abbrev pub names_of : {A : Type 0} → List (List ℕ × A) → List (List ℕ)
 names_of pairs = map (λ pair. pair.0) pairs
 
 -- beside the name stands this value now, and beside each other name what stood there
-pub record IsPutAt {A : Type 0} (old : List (List ℕ × A)) (name : List ℕ) (value : A) (new : List (List ℕ × A)) : Type 0 where
+pub record IsPutAt {A : Type 0} (old : List (List ℕ × A)) (name : List ℕ) (value : A)
+    (new : List (List ℕ × A)) : Type 0 where
   pub here : value_at new name ≡ Some value
   pub others : (other : List ℕ) → other ≢ name → value_at new other ≡ value_at old other
 
--- what a tree holds: the names of its service directories, and the files in them, each a path with its bytes
+-- what a tree holds: the names of its service directories, and the files in
+-- them, each a path with its bytes
 pub record Source : Type 0 where
   pub entries : List (List ℕ)
   pub files : List (List ℕ × List ℕ)
@@ -38,16 +40,19 @@ file_at source service file = value_at source.files (path_of service file)
 -- the name that stands next in a path after this beginning
 abbrev pub next_name : List ℕ → List ℕ → Option (List ℕ)
 next_name beginning path =
-    if starts_with nat_eq path beginning then Some (before_first (λ byte. byte == 47) (drop (length beginning) path)) else None
+    if starts_with nat_eq path beginning
+    then Some (before_first (λ byte. byte == 47) (drop (length beginning) path)) else None
 
 -- the names that the paths through a folder of a service directory have next
 abbrev pub names_next : Source → List ℕ → List ℕ → List (List ℕ)
-names_next source service folder = filter_map (next_name (path_of (path_of service folder) [])) (names_of source.files)
+names_next source service folder =
+    filter_map (next_name (path_of (path_of service folder) [])) (names_of source.files)
 
 -- the names in a folder, in any order; none where no path leads through it
 abbrev pub IsListing : Source → List ℕ → List ℕ → Option (List (List ℕ)) → Type 0
 IsListing source service folder None = names_next source service folder ≡ []
-IsListing source service folder (Some names) = (name : List ℕ) → Contains names name ↔ Contains (names_next source service folder) name
+IsListing source service folder (Some names) =
+    (name : List ℕ) → Contains names name ↔ Contains (names_next source service folder) name
 
 -- the names of the service directories, in any order
 abbrev pub AreEntries : Source → List (List ℕ) → Type 0

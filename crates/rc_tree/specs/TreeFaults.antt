@@ -3,7 +3,8 @@ use Rattle.rc_tree.specs.declared.tree.TreeFault.{TreeFault}
 use Rattle.rc_tree.specs.declared.tree.TreeFault.TheVariants.{Io, TooLong, Memory}
 use Rattle.rc_tree.specs.Tree.{Source, file_at}
 
--- a device failed between two looks at the count of its failures: the count rose, or it is at its last value
+-- a device failed between two looks at the count of its failures: the count
+-- rose, or it is at its last value
 abbrev pub HasFailed : ℕ → ℕ → Type 0
 HasFailed before after = min (before + 1) (2 ^ 64 - 1) ≤ after
 
@@ -20,5 +21,6 @@ IsCallFault before after Memory = Unit {0}
 -- when reading a file is refused, where it is known what the tree holds
 abbrev pub IsReadFault : ℕ → ℕ → Option Source → List ℕ → List ℕ → TreeFault → Type 0
 IsReadFault before after held service file Io = HasFailed before after
-IsReadFault before after held service file TooLong = (source : Source) → held ≡ Some source → (bytes : List ℕ) × (file_at source service file ≡ Some bytes) × IsTooLong bytes
+IsReadFault before after held service file TooLong = (source : Source) → held ≡ Some source →
+    (bytes : List ℕ) × (file_at source service file ≡ Some bytes) × IsTooLong bytes
 IsReadFault before after held service file Memory = Unit {0}

@@ -136,8 +136,8 @@ fn path_in(alloc: Global, root: &str, service: &str, file: &str) -> Result<Strin
     path_to(alloc, directory.as_str(), file)
 }
 
-// Whether a service directory can be listed and has nothing of this name. It is listed unless it was
-// asked last.
+// Whether a service directory can be listed and has nothing of this name. It is
+// listed unless it was asked last.
 fn lacks<R: Files>(
     rt: &R,
     alloc: Global,
@@ -163,7 +163,8 @@ fn is_of(seen: &Option<Seen>, service: &str) -> bool {
     }
 }
 
-// Whether a directory was listed and has nothing of this name, or of what stands before its first slash.
+// Whether a directory was listed and has nothing of this name, or of what
+// stands before its first slash.
 fn is_unseen(seen: &Option<Seen>, file: &str) -> bool {
     let name = first_part(file).as_bytes();
     match seen {
@@ -177,8 +178,8 @@ fn is_unseen(seen: &Option<Seen>, file: &str) -> bool {
     }
 }
 
-// The names in a directory, each with a byte 0 after it; none where it can't be listed or holds more of
-// them than are worth a look.
+// The names in a directory, each with a byte 0 after it; none where it can't be listed or holds
+// more of them than are worth a look.
 fn names_seen<R: Files>(rt: &R, alloc: Global, path: &str) -> Result<Option<Vec<u8>>, NoMem> {
     let mut names = Vec::new(alloc);
     let Ok(mut directory) = rt.open_dir(path) else {
@@ -255,7 +256,8 @@ fn names_in<R: Files + AllocGlobal + Clone + Drop>(
     Ok(names)
 }
 
-// The names of the subdirectories of a directory, but for hidden ones; a link to a directory is one.
+// The names of the subdirectories of a directory, but for hidden
+// ones; a link to a directory is one.
 fn subdirectories<R: Files + AllocGlobal + Clone + Drop>(
     rt: &R,
     alloc: Global,
@@ -279,8 +281,8 @@ fn is_directory<R: Files>(rt: &R, alloc: Global, path: &str, name: &str) -> io::
     })
 }
 
-// The bytes at the beginning of a file, one more than it may have. What is no plain file is a fault: to open a
-// pipe would be to wait for whoever writes into it.
+// The bytes at the beginning of a file, one more than it may have. What is no plain file is a
+// fault: to open a pipe would be to wait for whoever writes into it.
 fn first_bytes<R: Files>(rt: &R, alloc: Global, path: &str) -> io::Result<Vec<u8>> {
     if !rt.metadata(path)?.is_file() {
         return Err(io::Error::from(ErrorKind::InvalidInput));

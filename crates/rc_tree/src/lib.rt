@@ -1,4 +1,5 @@
-//! Source trees: service directories with their files, in memory or in a file system, and sets of the texts in them.
+//! Source trees: service directories with their files, in memory or in a file system,
+//! and sets of the texts in them.
 #![tactic(auto)]
 
 mod folder_tree;

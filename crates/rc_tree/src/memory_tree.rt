@@ -28,7 +28,10 @@ impl Model for MemoryTree {
 
     ghost Value = { Source };
 
-    ghost view = { λ tree. record { entries = map string_bytes tree.entries.keys; files = shown_files tree.files.entries } };
+    ghost view = { λ tree. record {
+      entries = map string_bytes tree.entries.keys;
+      files = shown_files tree.files.entries;
+    } };
 }
 
 impl MemoryTree {
@@ -53,10 +56,12 @@ impl MemoryTree {
         Ok(())
     }
 
-    /// Writes a file, in place of the one that is there, and makes its service directory where that is missing.
+    /// Writes a file, in place of the one that is there, and makes its service
+    /// directory where that is missing.
     pub fn put(&mut self, service: &str, path: &str, bytes: &[u8]) -> Result<(), NoMem>
         ensures entries { OnOk result (Adds self.old.entries service.now self.new.entries) }
-        ensures files { OnOk result (IsPutAt self.old.files (path_of service.now path.now) bytes.now self.new.files) }
+        ensures files { OnOk result (IsPutAt self.old.files
+            (path_of service.now path.now) bytes.now self.new.files) }
         ensures err { OnErr result (self.new ≡ self.old) }
     {
         let path = path_to(self.alloc, service, path)?;
@@ -127,8 +132,10 @@ fn put_file(
     path: String,
     bytes: Vec<u8>,
 ) -> Result<(), NoMem>
-    ensures entries { OnOk result (Adds (map string_bytes entries.old.keys) (string_bytes service) (map string_bytes entries.new.keys)) }
-    ensures files { OnOk result (IsPutAt (shown_files files.old.entries) (string_bytes path) bytes.items (shown_files files.new.entries)) }
+    ensures entries { OnOk result (Adds (map string_bytes entries.old.keys) (string_bytes service)
+        (map string_bytes entries.new.keys)) }
+    ensures files { OnOk result (IsPutAt (shown_files files.old.entries)
+        (string_bytes path) bytes.items (shown_files files.new.entries)) }
     ensures entries_stay { OnErr result (entries.new.keys ≡ entries.old.keys) }
     ensures files_stay { OnErr result (files.new.entries ≡ files.old.entries) }
 {

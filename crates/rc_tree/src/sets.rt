@@ -10,8 +10,10 @@ use std::collections::BTreeSet;
 /// Puts a text in. True: it is new.
 pub fn add(alloc: Global, set: &mut BTreeSet<String>, text: &str) -> Result<bool, NoMem>
     ensures order { OnOk result (IsInByteOrder (map string_bytes set.new.keys)) }
-    ensures adds { OnOk result (Adds (map string_bytes set.old.keys) text.now (map string_bytes set.new.keys)) }
-    ensures added { IfOk result (λ added. IsTrue added ↔ (Contains (map string_bytes set.old.keys) text.now → ⊥)) }
+    ensures adds { OnOk result (Adds (map string_bytes set.old.keys) text.now
+        (map string_bytes set.new.keys)) }
+    ensures added { IfOk result (λ added.
+        IsTrue added ↔ (Contains (map string_bytes set.old.keys) text.now → ⊥)) }
     ensures err { OnErr result (map string_bytes set.new.keys ≡ map string_bytes set.old.keys) }
 {
     let text = String::from_str(alloc, text)?;
@@ -27,7 +29,8 @@ pub fn has(set: &BTreeSet<String>, text: &str) -> bool
 
 /// The texts of a set, in byte order.
 pub fn texts(alloc: Global, set: &BTreeSet<String>) -> Result<Vec<String>, NoMem>
-    ensures texts { IfOk result (λ texts. map string_bytes texts.items ≡ map string_bytes set.now.keys) }
+    ensures texts { IfOk result (λ texts.
+        map string_bytes texts.items ≡ map string_bytes set.now.keys) }
     ensures order { IsInByteOrder (map string_bytes set.now.keys) }
 {
     let _count = set.len();

@@ -41,7 +41,8 @@ impl<T: Drop> From<AllocFailed<T>> for TreeFault {
     }
 }
 
-/// Service directories with their files. A call changes nothing but the count of the device's failures.
+/// Service directories with their files. A call changes nothing but the
+/// count of the device's failures.
 pub trait Tree {
     /// What it holds, where it tells.
     ghost held: { Self → Option Source } = { λ _. None };
@@ -70,7 +71,8 @@ pub trait Tree {
         folder: &str,
     ) -> Result<Option<Vec<String>>, TreeFault>
         ensures names { IfOk result (λ names. (source : Source) → held self.old ≡ Some source
-            → IsListing source service.now folder.now (option_map (λ names. map string_bytes names.items) names)) }
+            → IsListing source service.now folder.now
+            (option_map (λ names. map string_bytes names.items) names)) }
         ensures fault { IfErr result (IsCallFault (failed self.old) (failed self.new)) }
         ensures same { held self.new ≡ held self.old }
         ensures count { failed self.old ≤ failed self.new }
@@ -86,7 +88,8 @@ pub trait Tree {
         ensures file { IfOk result (λ bytes. (source : Source) → held self.old ≡ Some source
             → file_at source service.now file.now ≡ option_map (λ bytes. bytes.items) bytes) }
         ensures short { IfOk result (λ bytes. IfSome bytes (λ bytes. vec_len bytes ≤ 65536)) }
-        ensures fault { IfErr result (IsReadFault (failed self.old) (failed self.new) (held self.old) service.now file.now) }
+        ensures fault { IfErr result (IsReadFault (failed self.old) (failed self.new)
+            (held self.old) service.now file.now) }
         ensures same { held self.new ≡ held self.old }
         ensures count { failed self.old ≤ failed self.new }
         ensures quiet { OnOk result (failed self.new ≡ failed self.old) };

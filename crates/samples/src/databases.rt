@@ -9,7 +9,8 @@ use rc_set::Set;
 use std::alloc::Global;
 use std::test::Fail;
 
-/// A service of a test: its name, its kind, whether it is essential, and which service reads what it writes.
+/// A service of a test: its name, its kind, whether it is essential, and
+/// which service reads what it writes.
 pub type Row<'a> = (&'a str, Kind, bool, Option<u16>);
 
 /// A bundle of a test: its name and its services.
@@ -32,8 +33,9 @@ pub fn sample(alloc: Global) -> Result<Db, Fail> {
     db_of(alloc, &SERVICES, &NEEDS, &BUNDLES)
 }
 
-/// The database of these services, in the order of their names, of these needs and these bundles. Each oneshot
-/// runs the one text on both ways, but an essential one has nothing to run on the way down.
+/// The database of these services, in the order of their names, of these needs and these
+/// bundles. Each oneshot runs the one text on both ways, but an essential one has
+/// nothing to run on the way down.
 fn db_of(
     alloc: Global,
     rows: &[Row],

@@ -47,8 +47,8 @@ impl Draw {
     }
 }
 
-/// A graph, what is up and what is to be up, both closed, the services whose transition fails, and the moment from which
-/// the run may be stopped.
+/// A graph, what is up and what is to be up, both closed, the services whose transition fails, and
+/// the moment from which the run may be stopped.
 #[derive(Drop)]
 pub struct Change {
     pub graph: Graph,

@@ -1,5 +1,5 @@
-//! What tests share: small sets, graphs and databases, changes that are drawn with what they come to by plain rules and
-//! workers that carry them out in drawn orders.
+//! What tests share: small sets, graphs and databases, changes that are drawn with what they come
+//! to by plain rules and workers that carry them out in drawn orders.
 #![tactic(auto)]
 
 mod databases;

@@ -14,8 +14,9 @@ pub struct End {
     pub left: Vec<u16>,
 }
 
-/// A service goes down where it does not fail and all that need it are down or go down. It comes up where it does not
-/// fail and all that it needs is up or comes up. It is tried where nothing else keeps it.
+/// A service goes down where it does not fail and all that need it are down or go down.
+/// It comes up where it does not fail and all that it needs is up or comes up. It is
+/// tried where nothing else keeps it.
 pub fn end_of(alloc: Global, change: &Change) -> Result<End, NoMem> {
     let moved = moved_of(alloc, change)?;
     let mut end = End {
@@ -56,8 +57,8 @@ fn moved_of(alloc: Global, change: &Change) -> Result<Vec<u16>, NoMem> {
     Ok(moved)
 }
 
-/// Whether nothing else keeps a service where it is: what needs it, if it is to go down, or what it needs, if it is to
-/// come up.
+/// Whether nothing else keeps a service where it is: what needs it, if it is to go down, or what
+/// it needs, if it is to come up.
 fn is_free(change: &Change, moved: &[u16], service: u16) -> bool
     requires { service < length change.now.graph }
 {

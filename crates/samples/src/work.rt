@@ -12,10 +12,12 @@ use rc_select::between;
 use rc_set::{NoMem, Set};
 use std::alloc::Global;
 
-/// Turns, in each of which one worker takes a service or ends one: far more than any change here asks for.
+/// Turns, in each of which one worker takes a service or ends one: far more
+/// than any change here asks for.
 const TURNS: u32 = 10_000;
 
-/// What a change comes to by so many workers, from 1 to 64, or nothing where a call was refused that may not be.
+/// What a change comes to by so many workers, from 1 to 64, or nothing where a
+/// call was refused that may not be.
 pub fn carry_out(
     alloc: Global,
     draw: &mut Draw,

@@ -46,7 +46,8 @@ struct Tally {
 /// Who asks: the workers of the events, another, and two that are none.
 const WORKERS: [u8; 5] = [1, 2, 64, 0, 65];
 
-/// Tries each event after each list of at most so many legal ones. A refused event changes nothing, so these are all lists.
+/// Tries each event after each list of at most so many legal ones. A refused event changes
+/// nothing, so these are all lists.
 fn try_all(alloc: Global, plain: &Plain, alphabet: &[Event], length: u32) -> Result<Tally, Fail>
     requires { plain.now.services ≤ 4096 }
 {
@@ -167,7 +168,8 @@ fn answer_of(mut run: Run, plain: &Plain, made: &[Event], worker: u8) -> Option<
     (is_made && is_right).then_some(answer)
 }
 
-/// Whether a run takes one more event after these, or nothing where these are refused or its trace is not as it must be.
+/// Whether a run takes one more event after these, or nothing where these are refused or
+/// its trace is not as it must be.
 fn is_taken(
     alloc: Global,
     trial: &Trial,

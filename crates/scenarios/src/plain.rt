@@ -1,4 +1,5 @@
-//! The rules of a run once more, by a plain program that reads the whole list of events again each time.
+//! The rules of a run once more, by a plain program that reads the whole
+//! list of events again each time.
 
 use rc_core::{Event, Outcome, Standing};
 

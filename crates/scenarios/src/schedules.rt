@@ -1,5 +1,5 @@
-//! Carries drawn changes out in many orders, with drawn transitions that fail, and prints how many ended
-//! as the plain rules say that what fails makes them end, whatever the order.
+//! Carries drawn changes out in many orders, with drawn transitions that fail, and prints how many
+//! ended as the plain rules say that what fails makes them end, whatever the order.
 
 use rc_core::Finish;
 use rc_set::NoMem;

@@ -4,7 +4,8 @@ ghost use Rattle.std.specs.Prelude.{◌≡◌, true, false, length, IfOk};
 ghost use Rattle.rc_model.specs.Headline.{HasRun};
 ghost use Rattle.rc_model.specs.Names.{Has};
 ghost use Rattle.rc_model.specs.Graph.{IsClosed};
-ghost use Rattle.rc_model.specs.Run.{course_of, TargetOf};
+ghost use Rattle.rc_model.specs.Run.{course_of};
+ghost use Rattle.rc_model.specs.Beside.{TargetOf};
 ghost use Rattle.rc_session.specs.Commands.{command_of};
 
 use crate::calls::{by_events, planned};

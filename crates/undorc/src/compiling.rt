@@ -1,12 +1,12 @@
 //! `compile`: the database of source directories, on standard output or in a file.
 use crate::hints;
-use crate::replaced_file::replace;
 use rc_asked::CompileRequest;
 use rc_compiling::{compile_run, tell_trees, text_of};
 use rc_hints::Told;
 use rc_names::NoMem;
 use rc_source::FolderTree;
 use rc_streams::Noted;
+use rc_streams::replaced_file::replace;
 
 /// Compiles source directories, and answers the status.
 pub fn compile(rt: &HostRuntime, request: &CompileRequest<'_>) -> u8 {

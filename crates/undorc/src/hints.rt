@@ -37,8 +37,8 @@ pub fn behind_compile(rt: &HostRuntime, request: &CompileRequest<'_>, told: &Tol
     }
 }
 
-/// Where the database of a command stands, in the file of `-b` or at the beginning of standard input,
-/// and what was read of that, if there was memory for all of it.
+/// Where the database of a command stands, in the file of `-b` or at the beginning of standard
+/// input, and what was read of that, if there was memory for all of it.
 #[derive(Clone, Copy)]
 pub struct Seen<'a> {
     file: Option<&'a str>,

@@ -1,9 +1,9 @@
 //! The file in which a session is kept. Its text is replaced whole.
 ghost use Rattle.std.specs.Prelude.{◌≡◌, true, None};
 
-use crate::replaced_file::replace;
 use rc_serve::KeepFault;
 use rc_sessions::Store;
+use rc_streams::replaced_file::replace;
 use std::io::{self, ErrorKind};
 
 /// A file by its path, which may lead through links, and to nothing yet; and whether it could not

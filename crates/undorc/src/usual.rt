@@ -1,4 +1,5 @@
-//! The files of `-b` and `-l` where the words name none: the environment's UNDORC_DB and UNDORC_LIVE.
+//! The files of `-b` and `-l` where the words name none: the
+//! environment's UNDORC_DB and UNDORC_LIVE.
 use std::env::{self, VarError};
 use std::io::{self, ErrorKind};
 
