@@ -91,7 +91,8 @@ fn lowered(
     requires essential_bound { length essential.now ≡ length graph.now }
     requires wanted_bound { length wanted.now ≡ length graph.now }
     ensures { IfOk result (λ sides.
-        AreSides graph.now up.now essential.now Mode.Down prune wanted.now sides.target sides.kept) }
+        AreSides graph.now up.now essential.now Mode.Down prune wanted.now sides.target
+        sides.kept) }
 {
     let mut gone = graph.down_of(alloc, wanted)?;
     let kept = both(alloc, essential, &gone)?;

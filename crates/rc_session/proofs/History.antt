@@ -7,7 +7,8 @@ use Rattle.rc_model.proofs.Fitting.{Loses, Oldest, Last, fitted_cases, fitted_bo
 use Rattle.rc_model.specs.Session.{Command, Change, Undo, Redo, Add, Delete, Reported, DoesByRun, DoesByEdit, IsLineOf}
 use Rattle.rc_model.specs.Headline.{LosesOne, Keeps, IsUndo, IsRedo, KeepsHistory, HistoryIsKept}
 
--- a line that loses a state is the one that it was but for that, where one stands before the current one
+-- a line that loses a state is the one that it was but for that, where one stands before the
+-- current one
 loses : (full new : Line) → 1 ≤ cursor full → Loses full new → LosesOne full new
 loses full new some (Oldest gone second rest front made) = (
   gone,

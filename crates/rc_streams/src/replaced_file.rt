@@ -61,13 +61,13 @@ fn put_at(
 }
 
 /// The path of a file beside a place, with this ending.
-pub fn beside(rt: &HostRuntime, place: &PathBuf, ending: &str) -> io::Result<String> {
+pub(crate) fn beside(rt: &HostRuntime, place: &PathBuf, ending: &str) -> io::Result<String> {
     let front = place.as_str();
     Ok(format!(in rt.alloc(); "{front}{ending}")?)
 }
 
 /// Where a path leads, through links.
-pub fn place(rt: &HostRuntime, path: &str) -> io::Result<PathBuf> {
+pub(crate) fn place(rt: &HostRuntime, path: &str) -> io::Result<PathBuf> {
     let mut place = PathBuf::from_str(rt.alloc(), path)?;
     match follow_all(rt, &mut place) {
         Ok(()) => Ok(place),
