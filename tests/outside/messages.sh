@@ -217,7 +217,10 @@ helps 1 "undorc: Bad $(sed -n '1,2p' whole | wc -c)\\n" 'plane:3: this line has 
 helps 1 'undorc: Bad 0\n' '-b FILE names one' -- plan web
 helps 1 'undorc: Unknown wbe\n' 'is web meant?' -- db -b db type wbe
 helps 1 'undorc: Unknown dis\n' 'is disk meant?' -- plan -b db dis
-helps 1 'undorc: NotAtomic\n' 'a bundle' -- db -b db timeout all
+helps 1 'undorc: NotAtomic\n' "the name is a bundle's, and a service is asked about" -- db -b db timeout all
+helps 1 'undorc: NotBundle\n' "the name is a service's, and a bundle is asked about" -- db -b db contents web
+helps 1 'undorc: NotLongrun\n' "the name is a oneshot's, and a longrun is asked about" -- db -b db pipeline disk
+helps 1 'undorc: NotOneshot\n' "the name is a longrun's, and a oneshot is asked about" -- db -b db script web
 helps 1 'undorc: PruneNeedsUp\n' '-p goes with' -- plan -b db -d -p web
 
 # Of what is read: which service lacks which need, and a name of a database on standard input.
