@@ -219,8 +219,17 @@ pub fn plan_as_asked<R: Read, W: Write, F: Write>(
 {
     match open(alloc, base, reader) {
         Ok(opened) => match plan_of(alloc, request, &opened.db, &opened.input[opened.start..]) {
-            Ok(text) => write_answer(writer, faults, &text),
-            Err(fault) => tell_fault(alloc, faults, fault),
+            Ok(text) => {
+                let status = write_answer(writer, faults, &text);
+                drop(text);
+                drop(opened);
+                status
+            }
+            Err(fault) => {
+                let status = tell_fault(alloc, faults, fault);
+                drop(opened);
+                status
+            }
         },
         Err(OpenFault::OfText(wrong)) => tell_fault(alloc, faults, PlanFault::from(wrong)),
         Err(OpenFault::Failed(failure)) => fail(faults, failure),

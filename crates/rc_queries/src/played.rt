@@ -30,8 +30,17 @@ fn played_text(alloc: Global, db: Db, steps: &[Step]) -> Result<Vec<u8>, NoMem>
     ensures { IfOk result (λ text. IsPlayed db (map command_of steps.now) text.items) }
 {
     let mut session = Session::new(alloc, db)?;
-    let played = session.play(alloc, steps)?;
-    told_text(alloc, &session, steps, &played.answers)
+    match session.play(alloc, steps) {
+        Ok(played) => {
+            let text = told_text(alloc, &session, steps, &played.answers);
+            drop(session);
+            text
+        }
+        Err(short) => {
+            drop(session);
+            Err(short)
+        }
+    }
 }
 
 /// The answers to commands, then what is live, then the journal.

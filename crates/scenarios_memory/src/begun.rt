@@ -4,7 +4,7 @@ ghost use Rattle.std.specs.Prelude.{◌≡◌, true, false, length, IfOk};
 ghost use Rattle.rc_model.specs.Headline.{HasRun};
 ghost use Rattle.rc_model.specs.Names.{Has};
 ghost use Rattle.rc_model.specs.Graph.{IsClosed};
-ghost use Rattle.rc_model.specs.Run.{course_of};
+ghost use Rattle.rc_model.specs.Run.{course_of, IsSettled};
 ghost use Rattle.rc_model.specs.Beside.{TargetOf};
 ghost use Rattle.rc_session.specs.Commands.{command_of};
 
@@ -122,19 +122,24 @@ fn ended(
         rt,
         "Run::is_of, planned, standings, trace, take, done, settled and finish",
     );
-    if !is_new(&run, graph, plan, deadline) {
-        return Err(AllocError);
+    if is_new(&run, graph, plan, deadline) && settles(&mut run) {
+        return Ok(run.finish());
     }
+    drop(run);
+    Err(AllocError)
+}
+
+/// Takes one service after the other, and ends it well. Whether nothing is left to do then.
+fn settles(run: &mut Run) -> bool
+    ensures course { run.new.course ≡ run.old.course }
+    ensures settled { result ≡ true → IsSettled run.new.course run.new.events }
+{
     for _ in 0..TURNS {
-        if !go_on(&mut run) {
+        if !go_on(run) {
             break;
         }
     }
-    if run.settled() {
-        Ok(run.finish())
-    } else {
-        Err(AllocError)
-    }
+    run.settled()
 }
 
 /// Whether a run is that of a plan, and nothing has happened yet.
@@ -158,18 +163,34 @@ pub(crate) fn is_stopped(rt: &(impl Print + AllocGlobal), graph: &Graph) -> Resu
     }
 }
 
+/// Whether a run is stopped after its only service, and its end says so.
 fn ends_stopped(mut run: Run) -> bool {
-    if run.standings().len() <= ROOT as usize || run.standing(ROOT) != Standing::Down {
-        return false;
-    }
-    let is_made = run.step(Event::Take(1, ROOT)).is_ok()
-        && run.step(Event::Done(1, ROOT, Outcome::Ok)).is_ok()
-        && run.stop(1, 7).is_ok();
-    if !is_made || !run.settled() {
+    if !is_stopped_once_up(&mut run) {
+        drop(run);
         return false;
     }
     let finish = run.finish().take_apart();
-    finish.stopped && finish.trace.len() == 3
+    let is_told = finish.stopped && finish.trace.len() == 3;
+    drop(finish);
+    is_told
+}
+
+/// Brings the only service up and stops the run. Whether nothing is left to do then.
+fn is_stopped_once_up(run: &mut Run) -> bool
+    ensures { result ≡ true → IsSettled run.new.course run.new.events }
+{
+    is_down(run, ROOT) && comes_up(run, ROOT) && run.stop(1, 7).is_ok() && run.settled()
+}
+
+/// Whether a service is down.
+fn is_down(run: &Run, service: u16) -> bool {
+    (service as usize) < run.standings().len() && run.standing(service) == Standing::Down
+}
+
+/// Takes a service by itself, and ends it well. Whether that was legal.
+fn comes_up(run: &mut Run, service: u16) -> bool {
+    run.step(Event::Take(1, service)).is_ok()
+        && run.step(Event::Done(1, service, Outcome::Ok)).is_ok()
 }
 
 /// Takes a service and ends it well. Whether there was one.

@@ -140,13 +140,28 @@ fn is_same_at(alloc: Global, one: &Line, other: &Line, place: usize) -> Result<b
     requires one { one.now.is_open ≡ false }
     requires other { other.now.is_open ≡ false }
 {
-    if place >= one.states() || place >= other.states() {
+    if place >= one.states() {
         return Ok(false);
     }
-    let (live, table) = one.state(alloc, place)?;
-    let (other_live, other_table) = other.state(alloc, place)?;
-    if live.bound() != other_live.bound() {
+    let state = one.state(alloc, place)?;
+    is_state_at(alloc, other, place, &state)
+}
+
+fn is_state_at(
+    alloc: Global,
+    line: &Line,
+    place: usize,
+    state: &(Set, Table),
+) -> Result<bool, NoMem>
+    requires { line.now.is_open ≡ false }
+{
+    if place >= line.states() {
         return Ok(false);
     }
-    Ok(live.same(&other_live) && table.same(&other_table))
+    let found = line.state(alloc, place)?;
+    Ok(is_same_state(&found, state))
+}
+
+fn is_same_state(one: &(Set, Table), other: &(Set, Table)) -> bool {
+    one.0.bound() == other.0.bound() && one.0.same(&other.0) && one.1.same(&other.1)
 }

@@ -56,14 +56,18 @@ pub(crate) fn show_same(rt: &impl Print, is_same: bool) -> io::Result<()> {
 
 fn show_names(rt: &(impl Print + AllocGlobal), what: &str) -> io::Result<()> {
     let mut names = nine_names(rt.alloc())?;
+    let shown = show_added(rt, what, &mut names);
+    drop(names);
+    shown
+}
+
+fn show_added(rt: &(impl Print + AllocGlobal), what: &str, names: &mut Names) -> io::Result<()> {
     let added = name_of(rt.alloc(), "a")?;
     let again = added.copy(rt.alloc())?;
     let _ = print!(rt; "{what}: ");
-    let came = named(rt, &mut names, added, again);
-    let is_same = are_nine(&names);
-    drop(names);
+    let came = named(rt, names, added, again);
     show_came(rt, fault_of(came))?;
-    show_same(rt, is_same)
+    show_same(rt, are_nine(names))
 }
 
 fn nine_names(alloc: Global) -> Result<Names, NoMem> {
@@ -134,24 +138,60 @@ fn has_eight_needs(draft: Draft) -> bool {
 
 fn show_table(rt: &(impl Print + AllocGlobal), what: &str) -> io::Result<()> {
     let mut table = nine_bundles(rt.alloc())?;
+    let shown = show_beside_copy(rt, what, &mut table);
+    drop(table);
+    shown
+}
+
+fn show_beside_copy(
+    rt: &(impl Print + AllocGlobal),
+    what: &str,
+    table: &mut Table,
+) -> io::Result<()> {
     let before = table.copy(rt.alloc())?;
+    let shown = show_put(rt, what, table, &before);
+    drop(before);
+    shown
+}
+
+fn show_put(
+    rt: &(impl Print + AllocGlobal),
+    what: &str,
+    table: &mut Table,
+    before: &Table,
+) -> io::Result<()> {
     let name = name_of(rt.alloc(), "a")?;
+    let came = put_named(rt, what, table, &name);
+    drop(name);
+    show_came(rt, fault_of(came?))?;
+    show_same(rt, table.same(before))
+}
+
+/// Names the call, and makes it; an error of its own where there is no memory for what it is given.
+fn put_named(
+    rt: &(impl Print + AllocGlobal),
+    what: &str,
+    table: &mut Table,
+    name: &Name,
+) -> Result<Result<(), NoMem>, NoMem> {
     let set = set_of(rt.alloc(), 5, &[0, 1])?;
     let again = set.copy(rt.alloc())?;
     let _ = print!(rt; "{what}: ");
-    let came = put(rt, &mut table, &name, set, again);
-    let is_same = table.same(&before);
-    drop(table);
-    show_came(rt, fault_of(came))?;
-    show_same(rt, is_same)
+    Ok(put(rt, table, name, set, again))
 }
 
 fn nine_bundles(alloc: Global) -> Result<Table, NoMem> {
     let mut table = Table::new(alloc);
     for text in &NINE {
-        put_one(&mut table, &name_of(alloc, text)?, set_of(alloc, 5, &[2])?)?;
+        put_text(alloc, &mut table, text)?;
     }
     Ok(table)
+}
+
+fn put_text(alloc: Global, table: &mut Table, text: &str) -> Result<(), NoMem> {
+    let name = name_of(alloc, text)?;
+    let set = set_of(alloc, 5, &[2])?;
+    put_one(table, &name, set)
 }
 
 /// Puts a bundle in, puts it in once more, and takes it out.

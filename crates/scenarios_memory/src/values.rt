@@ -9,7 +9,7 @@ use rc_graph::Graph;
 use rc_line::Line;
 use rc_livetext::{LiveFault, read_live, write_live};
 use rc_names::{Name, NameFault, Names};
-use rc_select::{between, plan_up};
+use rc_select::{Plan, between, plan_up};
 use rc_session::{Refusal, Session};
 use rc_set::{NoMem, Set};
 use samples::has_ids;
@@ -125,8 +125,14 @@ fn brings_all_up(alloc: Global, graph: &Graph, up: &Set, wanted: &Set) -> Result
         return Ok(false);
     }
     let plan = plan_up(alloc, graph, up, wanted)?;
-    let is_rise = plan.opening().is_empty() && plan.lower().is_empty() && plan.kept().is_empty();
-    Ok(is_rise && plan.raise().len() == 5)
+    Ok(is_rise_of_all(&plan))
+}
+
+fn is_rise_of_all(plan: &Plan) -> bool {
+    plan.opening().is_empty()
+        && plan.lower().is_empty()
+        && plan.kept().is_empty()
+        && plan.raise().len() == 5
 }
 
 fn is_on_session(alloc: Global, session: &Session, value: Value, text: &[u8]) -> Result<bool, NoMem>
@@ -160,8 +166,8 @@ fn is_on_line(alloc: Global, line: &Line, value: Value) -> Result<bool, NoMem>
         Value::LineCopy => Ok(is_alike(&line.copy(alloc)?, line)),
         Value::EditCopy => Ok(line.entry(1).edit().copy(alloc)?.len() == 1),
         _ => {
-            let (live, table) = line.state(alloc, 0)?;
-            Ok(live.is_empty() && table.len() == 1)
+            let state = line.state(alloc, 0)?;
+            Ok(state.0.is_empty() && state.1.len() == 1)
         }
     }
 }

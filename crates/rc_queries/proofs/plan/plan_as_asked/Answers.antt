@@ -14,46 +14,46 @@ use Rattle.rc_queries.proofs.plan.plan_as_asked.Goals as goal
 pub returns-in-Ok-plan_of-clause-done : goal.returns-in-Ok-plan_of-clause-done
 returns-in-Ok-plan_of-clause-done g c zero =
     if_some_then (g.R.Read.remaining (inner_of c.args.reader.now)) _
-    (λ input. WritesAll (IsPlanFor (ask_of c.args.request.now) (bytes_of c.args.base) input) (g.W.Write.contents (inner_of c.args.writer.now)) (g.W.Write.contents (inner_of c.write_answer.new.writer)))
+    (λ input. WritesAll (IsPlanFor (ask_of c.args.request.now) (bytes_of c.args.base) input) (g.W.Write.contents (inner_of c.args.writer.now)) (g.W.Write.contents (inner_of c.write_answer-status.new.writer)))
     (λ input spelled. (
       c.in-Ok-plan_of.text.items,
       record { database = _; rest = _; spelled = spelled; text = c.in-Ok-plan_of.ensures.plan },
-      subst (Appends (g.W.Write.contents (inner_of c.args.writer.now)) (g.W.Write.contents (inner_of c.write_answer.new.writer))) c.deref-in-Ok-plan_of.ensures.value (c.write_answer.ensures.done zero),
+      subst (Appends (g.W.Write.contents (inner_of c.args.writer.now)) (g.W.Write.contents (inner_of c.write_answer-status.new.writer))) c.deref-in-Ok-plan_of.ensures.value (c.write_answer-status.ensures.done zero),
     ))
     (spelled_in _ _ _ _ _ _ _ c.deref.ensures.value c.in-Ok.ensures.opened)
 
 pub returns-in-Ok-plan_of-clause-failed : goal.returns-in-Ok-plan_of-clause-failed
-returns-in-Ok-plan_of-clause-failed g c told = (failure.Write, (c.write_answer.ensures.failed told).1.1, (c.write_answer.ensures.failed told).0)
+returns-in-Ok-plan_of-clause-failed g c told = (failure.Write, (c.write_answer-status.ensures.failed told).1.1, (c.write_answer-status.ensures.failed told).0)
 
 pub returns-in-Ok-plan_of-clause-begun : goal.returns-in-Ok-plan_of-clause-begun
 returns-in-Ok-plan_of-clause-begun g c told = inr
     (if_some_then (g.R.Read.remaining (inner_of c.args.reader.now)) _
-    (λ input. WritesFront (IsPlanFor (ask_of c.args.request.now) (bytes_of c.args.base) input) (g.W.Write.contents (inner_of c.args.writer.now)) (g.W.Write.contents (inner_of c.write_answer.new.writer)))
+    (λ input. WritesFront (IsPlanFor (ask_of c.args.request.now) (bytes_of c.args.base) input) (g.W.Write.contents (inner_of c.args.writer.now)) (g.W.Write.contents (inner_of c.write_answer-status.new.writer)))
     (λ input spelled. (
       c.in-Ok-plan_of.text.items,
       record { database = _; rest = _; spelled = spelled; text = c.in-Ok-plan_of.ensures.plan },
-      subst (AppendsFront (g.W.Write.contents (inner_of c.args.writer.now)) (g.W.Write.contents (inner_of c.write_answer.new.writer))) c.deref-in-Ok-plan_of.ensures.value c.write_answer.ensures.begun,
+      subst (AppendsFront (g.W.Write.contents (inner_of c.args.writer.now)) (g.W.Write.contents (inner_of c.write_answer-status.new.writer))) c.deref-in-Ok-plan_of.ensures.value c.write_answer-status.ensures.begun,
     ))
     (spelled_in _ _ _ _ _ _ _ c.deref.ensures.value c.in-Ok.ensures.opened))
 
-pub returns-in-Ok-clause-refused : goal.returns-in-Ok-clause-refused
-returns-in-Ok-clause-refused g c told =
-    let line = c.tell_fault.ensures.refused told in
+pub returns-in-Err-clause-refused : goal.returns-in-Err-clause-refused
+returns-in-Err-clause-refused g c told =
+    let line = c.tell_fault-status.ensures.refused told in
     if_some_then (g.R.Read.remaining (inner_of c.args.reader.now)) _
-    (λ input. TellsPlanFault (ask_of c.args.request.now) (bytes_of c.args.base) input (g.F.Write.contents c.args.faults.now) (g.F.Write.contents c.tell_fault.new.faults))
+    (λ input. TellsPlanFault (ask_of c.args.request.now) (bytes_of c.args.base) input (g.F.Write.contents c.args.faults.now) (g.F.Write.contents c.tell_fault-status.new.faults))
     (λ input spelled. (c.in-Err.fault, inr (_, _, spelled, c.in-Err.ensures.fault), line.0, line.1))
     (spelled_in _ _ _ _ _ _ _ c.deref.ensures.value c.in-Ok.ensures.opened)
 
-pub returns-in-Ok-clause-failed : goal.returns-in-Ok-clause-failed
-returns-in-Ok-clause-failed g c told = (failure.Memory, c.tell_fault.ensures.failed told, tt)
+pub returns-in-Err-clause-failed : goal.returns-in-Err-clause-failed
+returns-in-Err-clause-failed g c told = (failure.Memory, c.tell_fault-status.ensures.failed told, tt)
 
-pub returns-in-Ok-clause-untrue : goal.returns-in-Ok-clause-untrue
-returns-in-Ok-clause-untrue g c told wrong = absurd (base_right _ _ _ _ _ _ c.in-Ok.ensures.opened wrong)
+pub returns-in-Err-clause-untrue : goal.returns-in-Err-clause-untrue
+returns-in-Err-clause-untrue g c told wrong = absurd (base_right _ _ _ _ _ _ c.in-Ok.ensures.opened wrong)
 
 pub returns-in-Err-OfText-clause-refused : goal.returns-in-Err-OfText-clause-refused
 returns-in-Err-OfText-clause-refused g c told =
-    let line = c.tell_fault-in-Err-OfText.ensures.refused told in
+    let line = c.tell_fault.ensures.refused told in
     if_some_then (g.R.Read.remaining (inner_of c.args.reader.now)) _
-    (λ input. TellsPlanFault (ask_of c.args.request.now) (bytes_of c.args.base) input (g.F.Write.contents c.args.faults.now) (g.F.Write.contents c.tell_fault-in-Err-OfText.new.faults))
+    (λ input. TellsPlanFault (ask_of c.args.request.now) (bytes_of c.args.base) input (g.F.Write.contents c.args.faults.now) (g.F.Write.contents c.tell_fault.new.faults))
     (λ input refused. (c.from.result, inl (c.in-Err-OfText.wrong, refused, c.from.ensures), line.0, line.1))
     (refused_text (bytes_of c.args.base) (g.R.Read.remaining (inner_of c.args.reader.now)) (g.R.Read.remaining (inner_of c.open.new.reader)) (HasFailed c.open.new.reader) c.in-Err-OfText.field-0 c.in-Err-OfText.wrong c.in-Err-OfText.field-0-is c.in-Err-OfText.ensures.fault)
