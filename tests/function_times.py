@@ -60,7 +60,10 @@ def modules(name):
 
 
 def main():
-    name, count = sys.argv[1], int(sys.argv[2]) if len(sys.argv) > 2 else 20
+    name = sys.argv[1] if len(sys.argv) > 1 else ""
+    count = int(sys.argv[2]) if len(sys.argv) > 2 else 20
+    if name not in Crates().uses:
+        sys.exit("function_times.py: name a crate of crates.txt: tests/function_times.py NAME [COUNT]")
     begin, rows, last = modules(name)
     functions, parts = collections.Counter(), collections.Counter()
     for (before, _), (when, module) in zip([(begin, ""), *rows], rows):
