@@ -265,18 +265,23 @@ class Crates:
         return KIT / "rlibs" / f"{crate}.rlib"
 
     def words(self, copies):
-        """The prover's words for the libraries that the copies stand on."""
-        words, named = [], {"std"}
+        """The prover's words for the copies, and for the libraries that they stand on."""
+        words = []
         for copy in copies:
-            used = [*self.uses[copy.crate], "std"]
-            words += ["--lib", f"{copy.name}:{','.join(used)}={copy.folder / 'src' / 'lib.rt'}"]
-            named.update(used)
-        for name in sorted(named):
-            words += ["--extern", f"{name}={self.lib(name)}"]
-        below = {it for copy in copies for it in self.below(copy.crate)}
+            used = ",".join([*self.uses[copy.crate], "std"])
+            words += ["--lib", f"{copy.name}:{used}={copy.folder / 'src' / 'lib.rt'}"]
+        return words + self.libs({copy.crate for copy in copies})
+
+    def libs(self, names):
+        """The prover's words for the libraries that these crates stand on, and for its logic."""
+        words = []
+        for used in sorted({"std", *(it for name in names for it in self.uses[name])}):
+            words += ["--extern", f"{used}={self.lib(used)}"]
+        below = {it for name in names for it in self.below(name)}
         for folder in [*(self.lib(it).parent for it in sorted(below)), KIT / "rlibs"]:
             words += ["-L", f"dependency={folder}"]
-        return words
+        words += ["--antt-project", KIT / "rattle" / "logic" / "antt-project.json"]
+        return words + ["--logic-built", KIT / "logic_built"]
 
 
 def check(crates, copies, room, has_holes):
@@ -287,8 +292,6 @@ def check(crates, copies, room, has_holes):
     words = [KIT / "bin" / "rattle", "check", "--crate-name", "nothing", "src/lib.rt", "--jobs", "1"]
     words += [f"--only={copy.name}::{function}" for copy in copies for function in copy.functions]
     words += crates.words(copies) + ["--allow-holes"] * has_holes
-    words += ["--antt-project", KIT / "rattle" / "logic" / "antt-project.json"]
-    words += ["--logic-built", KIT / "logic_built"]
     done = subprocess.run(words, cwd=root, stdin=subprocess.DEVNULL, capture_output=True, text=True)
     return done.stdout + done.stderr
 

@@ -22,26 +22,19 @@ from edits import KIT, TOP, Crates
 
 # What stands behind a function's path in the name of a module: `Lts` is its code with the goals, `Proof` the answers
 # that are searched for.
-PART = re.compile(r"\.(Answers|AnswersOffered|Code|Given|Goals|Invariants|Kinds[-\d]*|Layout|Lts|Met|Mir|Named|Proof"
-                  r"|Reads|Statement|Symbol|TheLink|Tie|View)$")
+PART = re.compile(r"\.(Answers|AnswersOffered|Carried|Code|Given|Goals|Invariants|Kinds|Layout|Lts|Met|Mir|Named|Proof"
+                  r"|Reads|Statement|Symbol|TheLink|Tie|View)(-[-\w]+)?$")
 
 
-def prover(name):
+def prover(crates, name):
     """The prover's words for the crate as it stands."""
-    crates, folder = Crates(), TOP / "crates" / name
-    root = "src/main.rt" if (folder / "src" / "main.rt").exists() else "src/lib.rt"
+    root = "src/main.rt" if (TOP / "crates" / name / "src" / "main.rt").exists() else "src/lib.rt"
     words = [KIT / "bin" / "rattle", "check", "--crate-name", name, root, "--jobs", "1"]
-    for used in ["std", *crates.uses[name]]:
-        words += ["--extern", f"{used}={crates.lib(used)}"]
-    for below in [*(crates.lib(it).parent for it in crates.below(name)), KIT / "rlibs"]:
-        words += ["-L", f"dependency={below}"]
-    words += ["--antt-project", KIT / "rattle" / "logic" / "antt-project.json"]
-    return words + ["--logic-built", KIT / "logic_built"], folder
+    return words + crates.libs([name])
 
 
-def modules(name):
+def modules(words, folder):
     """When the check began, and when each module was written, in that order; and how the check ended."""
-    words, folder = prover(name)
     with tempfile.TemporaryDirectory() as room:
         begin, written = time.time(), {}
         out = pathlib.Path(room) / "out"
@@ -59,19 +52,27 @@ def modules(name):
     return begin, sorted((when, module) for module, when in written.items() if when >= begin), last
 
 
-def main():
-    name = sys.argv[1] if len(sys.argv) > 1 else ""
-    count = int(sys.argv[2]) if len(sys.argv) > 2 else 20
-    if name not in Crates().uses:
+def named():
+    """The crate of the first word, and how many functions are asked for."""
+    crates = Crates()
+    name, count = [*sys.argv[1:], "20"][:2] if len(sys.argv) in (2, 3) else ("", "")
+    if name not in crates.uses or not count.isdigit():
         sys.exit("function_times.py: name a crate of crates.txt: tests/function_times.py NAME [COUNT]")
-    begin, rows, last = modules(name)
+    for below in crates.below(name):
+        if not crates.lib(below).is_dir():
+            sys.exit(f"function_times.py: there is no proved library of {below}: run rt ci, or rt all check")
+    return crates, name, int(count)
+
+
+def main():
+    crates, name, count = named()
+    begin, rows, last = modules(prover(crates, name), TOP / "crates" / name)
     functions, parts = collections.Counter(), collections.Counter()
     for (before, _), (when, module) in zip([(begin, ""), *rows], rows):
-        own = module.removeprefix(f"Rattle-{name}-proofs.")
-        function = own
-        while PART.search(function):
-            function = PART.sub("", function)
-        kind = own.rpartition(".")[2] if function != own else "others"
+        function, kind = module.removeprefix(f"Rattle-{name}-proofs."), "others"
+        while part := PART.search(function):
+            kind = part[1] if kind == "others" else kind
+            function = function[: part.start()]
         functions["before the first" if before == begin else function] += when - before
         parts[kind] += when - before
     for what, counted in ("function", functions), ("part", parts):
