@@ -5,16 +5,19 @@
 
 It stands over the libraries that `rt ci` has just proved; those that `rt lib` keeps do too. An edit
 makes a body wrong. Its lines are 'refuses: FUNCTION', the function whose proof must fail, by its path
-below the crate; 'file: src/..'; and pairs 'old: TEXT' and 'new: TEXT', of which each old text stands
-in the file once.
+below the crate; 'goal: NAME', the goal of it that is left open, as the run tells it; 'file: src/..'; and
+pairs 'old: TEXT' and 'new: TEXT', of which each old text stands in the file once.
 
 Many are tried in one run of the prover, in copies of their crates with names of their own. A run proves
 the named functions alone: in the copies all others have a hole for a proof, so that they stand for their
 contracts, and no body. A further edit of one function stands beside the first in a function of its own,
 with the same contract and the same proof files, or, where it changes more than that, in a further copy.
-An edit is refused where a goal of its function's own is open. One that is not is tried once more by
-itself, with each proof as it is. A copy that cannot be read is named, with the error, and the others go
-on without it.
+Of an edited function the goal that the edit names is tried, and no other that has no written answer: by
+what the prover would try of itself, each under a name of its own. So an edit costs one goal, and not all
+that its function has.
+An edit is refused where a goal of its function's own is open. One that is not, or names no goal, or one
+that is none, is tried once more by itself, with each proof as it is. A copy that cannot be read is named,
+with the error, and the others go on without it.
 
 The last line is 'N passed, M failed'.
 """
@@ -35,6 +38,8 @@ KIT = pathlib.Path(subprocess.check_output(["rt", "doc"], text=True).strip()).pa
 # So many edits are tried in one run, which takes up to 3 GB.
 EDITS = 60
 RUN_BYTES = 3_000_000_000
+# The second of the two ways in which a goal without a written answer is tried.
+BY_GRIND = "by_grind"
 # Errors that only miss a name that the edit took away show nothing of a contract.
 MISSING = re.compile(
     r"defines no `|has no `|has no field|is not in scope|was not admitted|was rejected"
@@ -48,6 +53,7 @@ class Edit:
     crate: str
     name: str
     function: str
+    goal: str | None
     changes: list[tuple[str, str, str]]
 
     def apply(self, folder):
@@ -69,12 +75,14 @@ def read_edit(path):
     """The edit in a file; a ValueError that says why it is none."""
     if path.suffix != ".edit":
         raise ValueError("its name does not end in .edit")
-    functions, file, old, changes = [], None, None, []
+    functions, goals, file, old, changes = [], [], None, None, []
     for line in path.read_text().splitlines():
         word, _, text = line.partition(":")
         text = text.removeprefix(" ")
         if word == "refuses" and text:
             functions.append(text)
+        elif word == "goal" and text:
+            goals.append(text)
         elif word == "file" and text.startswith("src/"):
             file = text
         elif word == "old" and text and file and old is None:
@@ -86,9 +94,11 @@ def read_edit(path):
             raise ValueError(f"this is no line of an edit: {line}")
     if len(functions) != 1:
         raise ValueError("it has not one line that says what is refused")
+    if len(goals) > 1:
+        raise ValueError("it has more than one line that says which goal is left open")
     if not changes or old is not None:
         raise ValueError("it has no whole pair of an old and a new text")
-    return Edit(path.parent.parent.name, path.stem, functions[0], changes)
+    return Edit(path.parent.parent.name, path.stem, functions[0], goals[0] if goals else None, changes)
 
 
 @dataclass
@@ -100,6 +110,8 @@ class Copy:
     folder: pathlib.Path
     edits: list[Edit] = field(default_factory=list)
     functions: list[str] = field(default_factory=list)
+    # Of a function of which one goal alone is tried: the answers by which it is, none where one is written.
+    attempts: dict[str, list[str]] = field(default_factory=dict)
 
     def make(self):
         """Copies the texts, in which the crate names itself."""
@@ -188,6 +200,37 @@ class Copy:
                 f"use Rattle.{self.name}.proofs.{module}.Statement.{{statement}}\n\n"
                 f"pub {function}_spec : {{M : Type 1}} → statement M\n{function}_spec = ?\n"
             )
+
+
+    def leave_out_goals(self):
+        """Has the goal that an edit names tried, and those with a written answer, and no other of its function."""
+        for edit, function in zip(self.edits, self.functions):
+            it = edit.goal and self.found(function, self.folder)
+            lines = it.file.read_text().splitlines() if it else []
+            # What a function asks for by an attribute of its own, an attempt would lack.
+            if not it or any("#[tactic(" in line for line in lines[it.begin : it.end]):
+                continue
+            lines[it.begin : it.begin] = [re.match(" *", lines[it.begin])[0] + "#[tactic(none)]"]
+            it.file.write_text("\n".join(lines) + "\n")
+            path = function.replace("::", "/")
+            answers = self.folder / "proofs" / path / "Answers.antt"
+            text = answers.read_text() if answers.exists() else ""
+            self.attempts[function] = []
+            if not re.search(rf"^pub {re.escape(edit.goal)} :", text, re.M):
+                answers.parent.mkdir(parents=True, exist_ok=True)
+                answers.write_text(self.attempts_at(edit.goal, function, text))
+                self.attempts[function] = [edit.goal, BY_GRIND]
+
+    def attempts_at(self, goal, function, text):
+        """Written answers, and behind them what the prover tries of itself of a goal without one."""
+        own = f"Rattle.{self.name}.proofs.{function.replace('::', '.')}"
+        uses = ["use Rattle.std.proofs.Common.{rules as auto_rules, arith as auto_arith}",
+                "use Rattle.std.proofs.lemmas.Grind.{common_steps as auto_steps}"]
+        if not text:
+            uses.append(f"use {own}.Goals as goal")
+        tried = [f"pub {goal} : goal.{goal}", f"{goal} = search auto_rules", "",
+                 f"{BY_GRIND} : goal.{goal}", f"{BY_GRIND} = grind (auto_arith, auto_steps)"]
+        return "\n".join([*uses, text, *tried, ""])
 
 
 @dataclass
@@ -313,14 +356,23 @@ def open_goal(copy, function, said):
     verdict = verdict_of(copy, function, said)
     if verdict is None:
         return False, f"no proof was tried: {errors_in(said)[0]}"
-    if verdict.startswith("no proof: expected answers in"):
+    if verdict.startswith("no proof: expected answers in") and function not in copy.attempts:
         return True, verdict.partition("; ")[2]
     if verdict.startswith("not proved"):
-        own = f"{copy.folder}/proofs/{function.replace('::', '/')}/"
-        for line in said.splitlines():
-            if re.match(re.escape(own) + r"[A-Za-z]*\.antt:[0-9:]*: error", line) and not MISSING.search(line):
-                return True, line.removeprefix(f"{copy.folder}/")
+        attempts = copy.attempts.get(function, [])
+        lines = own_errors(copy, function, said)
+        failed = [it for it in attempts if any(f"error: `{it}`" in line for line in lines)]
+        for line in lines:
+            if attempts and failed == attempts or not any(f"error: `{it}`" in line for it in attempts):
+                return True, line
     return False, f"no goal of {function}'s own is open: it is {verdict}"
+
+
+def own_errors(copy, function, said):
+    """The errors at answers of the function's own, but those that only miss a name."""
+    own = re.escape(f"{copy.folder}/proofs/{function.replace('::', '/')}/")
+    lines = [it for it in said.splitlines() if re.match(own + r"[A-Za-z]*\.antt:[0-9:]*: error", it)]
+    return [it.removeprefix(f"{copy.folder}/") for it in lines if not MISSING.search(it)]
 
 
 class Trial:
@@ -429,6 +481,7 @@ class Trial:
     def run(self, lanes):
         for copy in self.copies:
             copy.leave_out_others()
+            copy.leave_out_goals()
         with ThreadPoolExecutor(lanes) as pool:
             left = [edit for some in pool.map(self.try_together, self.batches(lanes)) for edit in some]
             list(pool.map(self.try_alone, left, range(len(left))))

@@ -1,5 +1,5 @@
 -- What is so of a database with its input, and where there is none.
-use Rattle.std.proofs.Common.{◌≡◌, ◌≢◌, ℕ, List, Option, None, Some, IfSome, ◌-◌, drop, length, take, sym, subst}
+use Rattle.std.proofs.Common.{◌≡◌, ◌≢◌, ◌⊎◌, ◌≤◌, ℕ, List, Option, None, Some, IfSome, ◌-◌, drop, length, take, sym, subst, arith, inl, inr}
 use Rattle.std.proofs.lemmas.List.{take_rest}
 use Rattle.rc_model.specs.Database.{Database}
 use Rattle.rc_dbtext.specs.declared.fault.TextFault.{TextFault}
@@ -12,7 +12,10 @@ use Rattle.rc_base.specs.Opening.{IsOpenFault, IsWrongBase, Opens}
 use Rattle.rc_base.specs.declared.opening.OpenFault.{OpenFault}
 use Rattle.rc_base.specs.declared.opening.OpenFault.TheVariants as unopened
 use Rattle.rc_base.proofs.OpeningLemmas.{refused_in}
+use Rattle.rc_queries.specs.PlanFaults.{IsTextRefusal}
 use Rattle.rc_queries.specs.Replay.{IsReplayRefused, IsScriptAs, IsTextAs}
+use Rattle.rc_queries.specs.declared.plan.PlanFault.{PlanFault}
+use Rattle.rc_queries.specs.declared.plan.PlanFault.TheVariants as plan
 use Rattle.rc_queries.specs.declared.replay.ReplayFault.{ReplayFault}
 use Rattle.rc_queries.specs.declared.replay.ReplayFault.TheVariants.{Memory}
 
@@ -36,6 +39,40 @@ refused_text base remaining after failed fault wrong is h =
 pub base_right : (base remaining after : Option (List ℕ)) (d : Database) (held : List ℕ) (start : ℕ) → Opens base remaining after d held start → IsWrongBase base → ⊥
 base_right None remaining after d held start opens wrong = wrong
 base_right (Some bytes) remaining after d held start opens wrong = wrong d opens.spelled.0 opens.spelled.1 opens.spelled.2
+
+-- an input that was read is within the bound
+pub input_within : (base remaining after : Option (List ℕ)) (d : Database) (held : List ℕ) (start : ℕ) → Opens base remaining after d held start → IfSome remaining (λ input. length input ≤ 16777216)
+input_within base None after d held start opens = tt
+input_within base (Some all) after d held start opens = subst (λ (x : List ℕ). length x ≤ 16777216) opens.reads.0 opens.reads.1
+
+-- a text is refused for a wrong base, or where all was read within the bound, or for want of memory
+pub refused_within : (base remaining after : Option (List ℕ)) (failed : Type 0) (fault : OpenFault) (wrong : TextFault) → fault ≡ unopened.OfText wrong → IsOpenFault base remaining after failed fault → wrong ≢ text.Memory
+    → IsWrongBase base ⊎ IfSome remaining (λ input. length input ≤ 16777216)
+refused_within None None after failed fault wrong is h other = inr tt
+refused_within None (Some all) after failed fault wrong is h other =
+    let (input, reads, refused, why) = subst (IsOpenFault None (Some all) after failed) is h in
+    inr (subst (λ (x : List ℕ). length x ≤ 16777216) reads.0 reads.1)
+refused_within (Some base) remaining after failed fault wrong is h other =
+    let (input, reads, refused, why) = subst (IsOpenFault (Some base) remaining after failed) is h in
+    elim (why other) [ inl none ↦ (let no : ⊥ = cc in absurd no) | inr bad ↦ inl bad ]
+
+-- what was refused for a text is told as that, out of memory as out of memory
+pub plan_refused : (wrong : TextFault) (fault : PlanFault) → IsTextRefusal wrong fault → fault ≢ plan.Memory → wrong ≢ text.Memory
+plan_refused wrong fault told other memory = other (subst (λ (x : TextFault). IsTextRefusal x fault) memory told)
+
+pub replay_refused : (wrong : TextFault) (fault : ReplayFault) → IsTextAs wrong fault → fault ≢ Memory → wrong ≢ text.Memory
+replay_refused wrong fault told other memory = other (subst (λ (x : TextFault). IsTextAs x fault) memory told)
+
+-- a command that ended well or refused, and whose fault was told, refused
+pub told_refused : (status : ℕ) → (status ≡ 0) ⊎ (status ≡ 1) → (status ≡ 1) ⊎ (status ≡ 111) → status ≡ 1
+told_refused status (inr refused) told = refused
+told_refused status (inl zero) (inl refused) = refused
+told_refused status (inl zero) (inr failed) = absurd (let no : ⊥ = omega (arith, zero, failed) in no)
+
+-- a command that failed neither ended well nor refused
+pub failed_alone : (status : ℕ) → status ≡ 111 → (status ≡ 0) ⊎ (status ≡ 1) → ⊥
+failed_alone status failed (inl zero) = omega (arith, zero, failed)
+failed_alone status failed (inr refused) = omega (arith, refused, failed)
 
 -- a refused text refuses the replay
 pub text_refused : (wrong : TextFault) (fault : ReplayFault) (base : Option (List ℕ)) (all : List ℕ) → IsTextAs wrong fault → fault ≢ Memory → IsTextFault base all wrong → IsReplayRefused fault base all

@@ -1,10 +1,17 @@
 use Rattle.std.proofs.Common.{◌≡◌, ◌∙◌, ℕ, List, subst}
+use Rattle.rc_streams.specs.declared.input.Failure.TheVariants as failure
 use Rattle.rc_base.specs.Base.{bytes_of}
 use Rattle.rc_streams.specs.Noting.{inner_of}
 use Rattle.rc_queries.specs.DbFaults.{IsDbRefused, TellsAnswerFault}
 use Rattle.rc_asked.specs.DbAsked.{db_ask_of}
 use Rattle.rc_queries.proofs.DbLemmas.{if_read_then}
 use Rattle.rc_queries.proofs.db.db_as_asked.Goals as goal
+
+pub returns-in-Ok-answer_for-clause-failed : goal.returns-in-Ok-answer_for-clause-failed
+returns-in-Ok-answer_for-clause-failed g c told = (failure.Write, (c.write_answer.ensures.failed told).1.1, (c.write_answer.ensures.failed told).0)
+
+pub returns-clause-failed : goal.returns-clause-failed
+returns-clause-failed g c told = (failure.Memory, c.tell_db_fault.ensures.failed told, tt)
 
 pub returns-clause-refused : goal.returns-clause-refused
 returns-clause-refused g c told =
