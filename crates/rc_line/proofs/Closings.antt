@@ -1,5 +1,5 @@
 -- Each way to end a move: what the stacks show then is the move, and they fit.
-use Rattle.std.proofs.Common.{ℕ, ◌≡◌, ◌≢◌, ◌∙◌, ◌+◌, ◌≤◌, List, [], ◌∷◌, ◌++◌, reverse, Bool, true, false, Option, length, inl, inr, refl, ap, subst, sym, arith}
+use Rattle.std.proofs.Common.{ℕ, ◌≡◌, ◌≢◌, ◌∙◌, ◌+◌, ◌≤◌, List, [], ◌∷◌, ◌++◌, reverse, Bool, true, false, Option, length, length-append, inl, inr, refl, ap, subst, sym, arith}
 use Rattle.rc_model.specs.Database.{Bundles, IsTable}
 use Rattle.rc_model.specs.Line.{Alteration, IsEdit, State, Entry, IsGained, Line, IsBound, IsNext, states, cursor, but_last, shorter, within_bound, MovesTo, MovesByChange, MovesByEdit, MovesByUndo, MovesByRedo, put_between, put_last, with_live, with_table, Lists}
 use Rattle.rc_line.specs.declared.aim.Aim.TheVariants.{Undo, Redo}
@@ -10,11 +10,15 @@ use Rattle.rc_model.proofs.Lines.{length_push, cons_head, one_cut}
 use Rattle.rc_line.proofs.Rewriting.{no_edit, leads_ahead}
 use Rattle.rc_line.proofs.Writing.{leads_nowhere}
 use Rattle.rc_line.proofs.Steps.{live_step, edit_step}
-use Rattle.rc_line.proofs.Stacks.{size_is, cursor_is, before_is, on_is, next_of, behind_push, ahead_push, behind_pop, ahead_pop, behind_short, ahead_short, before_short, after_short}
+use Rattle.rc_line.proofs.Stacks.{size_is, cursor_is, after_is, before_is, on_is, next_of, behind_push, ahead_push, behind_pop, ahead_pop, behind_short, ahead_short, before_short, after_short}
 
 -- stacks that fit, and hold no more than there may be
 abbrev pub IsHeld : ℕ → List Entry → List Entry → State → Type 0
 IsHeld most done undone s = Fits done undone s × (length done + length undone + 1 ≤ most)
+
+-- what a test that failed denies
+pub apart_by : {A : Type 0} (a b : A) → (a ≡ b → false ≡ true) → a ≢ b
+apart_by a b denied same = let bad : false ≡ true = denied same in cc
 
 -- a line that is not open needs no room
 pub kept_closed : (most : ℕ) → (done undone : List Entry) (s : State) (done_most undone_most : ℕ) → IsBound most → IsHeld most done undone s → IsKept most done undone s false done_most undone_most
@@ -94,6 +98,9 @@ module _ (most : ℕ) (done undone : List Entry) (s : State) (line : Line) (show
 
   pub cursor_shown : length done ≡ cursor line
   cursor_shown = sym (cursor_is most done undone s) ∙ ap cursor shown
+
+  pub after_shown : length undone ≡ length line.after
+  after_shown = sym (after_is most done undone s) ∙ ap (λ (l : Line). length l.after) shown
 
   pub bound_shown : (live : List Bool) → length live ≡ length line.current.live → length live ≡ length s.live
   bound_shown live bound = bound ∙ ap (λ (t : State). length t.live) (sym current_shown)
@@ -177,6 +184,12 @@ module _ (most : ℕ) (done undone es : List Entry) (e : Entry) (s : State) (lin
       target_here most done undone s line shown live table ∙ aim.2 ∙ same_back line aim.0 (line_of most es (undone ++ e ∷ []) (back e s)) aim.1 (next_back (back e s) parts.0) in
       record { behind = subst (Behind (reverse es)) (sym aimed) parts.1; step = subst (λ (from : State). IsStep from s e) (sym aimed) parts.0 }
 
+  pub few_back : length done + length undone + 1 ≤ most → length es + length (undone ++ e ∷ []) + 1 ≤ most
+  few_back few = omega (arith, few, ap length is, length-append es (e ∷ []), length-append undone (e ∷ []))
+
+  pub few_split_back : (near far : Entry) → length done + length undone + 1 ≤ most → length (es ++ near ∷ []) + length (undone ++ far ∷ []) ≤ most
+  few_split_back near far few = omega (arith, few, ap length is, length-append es (e ∷ []), length-append es (near ∷ []), length-append undone (far ∷ []))
+
   -- it ends where it aimed
   pub undo_whole : (from : State) (live : List Bool) → Fits done undone s → StepsBack es e from s → from.live ≡ live → Fits es (undone ++ e ∷ []) from × MovesByUndo line live (line_of most es (undone ++ e ∷ []) from)
   undo_whole from live fits steps same = (
@@ -233,6 +246,12 @@ module _ (most : ℕ) (done undone es : List Entry) (e : Entry) (s : State) (lin
       let aimed : state live (table_or table s.table) ≡ forth e s =
       target_here most done undone s line shown live table ∙ aim.2 ∙ same_on line aim.0 (line_of most (done ++ e ∷ []) es (forth e s)) aim.1 (next_on (forth e s) parts.0) in
       record { ahead = subst (Ahead (reverse es)) (sym aimed) parts.1; step = subst (λ (to : State). IsStep s to e) (sym aimed) parts.0 }
+
+  pub few_on : length done + length undone + 1 ≤ most → length (done ++ e ∷ []) + length es + 1 ≤ most
+  few_on few = omega (arith, few, ap length is, length-append es (e ∷ []), length-append done (e ∷ []))
+
+  pub few_split_on : (near far : Entry) → length done + length undone + 1 ≤ most → length (done ++ near ∷ []) + length (es ++ far ∷ []) ≤ most
+  few_split_on near far few = omega (arith, few, ap length is, length-append es (e ∷ []), length-append es (far ∷ []), length-append done (near ∷ []))
 
   -- it ends where it aimed
   pub redo_whole : (to : State) (live : List Bool) → Fits done undone s → StepsOn es e s to → to.live ≡ live → Fits (done ++ e ∷ []) es to × MovesByRedo line live (line_of most (done ++ e ∷ []) es to)

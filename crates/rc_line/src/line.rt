@@ -218,7 +218,10 @@ impl Line {
         ensures err { OnErr result (self.new ≡ self.old) }
     {
         let live = self.live.copy(alloc)?;
-        let table = led(alloc, &self.table, edit, true)?;
+        let Ok(table) = led(alloc, &self.table, edit, true) else {
+            drop(live);
+            return Err(LineFault::Memory);
+        };
         let opening = self.opened(alloc, Aim::Edit, live, table)?;
         Ok(opening)
     }

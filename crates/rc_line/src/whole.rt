@@ -9,7 +9,7 @@ ghost use Rattle.rc_line.specs.Opening.{table_or};
 use crate::line::Line;
 use rc_db::Table;
 use rc_set::{NoMem, Set};
-use std::alloc::Global;
+use std::alloc::{AllocError, Global};
 
 impl Line {
     /// The line of some states, with the cursor at a place. Out of memory, the states are gone.
@@ -45,13 +45,19 @@ impl Line {
     {
         let mut at = self.states() - 1;
         let live = self.live().copy(alloc)?;
-        let table = self.table().copy(alloc)?;
+        let Ok(table) = self.table().copy(alloc) else {
+            drop(live);
+            return Err(AllocError);
+        };
         let (live, table) = self.walk_on(alloc, at, live, table)?;
         let mut line = Line::with_bound(alloc, live, table, self.bound());
         while at > 0 {
             at -= 1;
             let (live, table) = self.step_at(at).before(alloc, line.live(), line.table())?;
-            let table = table_of(alloc, table, line.table())?;
+            let Ok(table) = table_of(alloc, table, line.table()) else {
+                drop(live);
+                return Err(AllocError);
+            };
             line.prepend(alloc, live, table)?;
         }
         go_to(alloc, &mut line, self.cursor())?;

@@ -1,5 +1,5 @@
 use Rattle.std.proofs.Common.{◌≡◌, ◌∙◌, ◌++◌, ◌∷◌, [], List, Bool, length, arith, length-append, ap, sym}
-use Rattle.std.proofs.lemmas.List.{length-map}
+use Rattle.std.proofs.lemmas.List.{nil_from_length, length-map}
 use Rattle.rc_model.specs.Database.{Bundles}
 use Rattle.rc_line.specs.State.{states_of}
 use Rattle.rc_model.specs.Line.{Line, states}
@@ -56,3 +56,40 @@ prepend-requires-clause-few c =
       length-append c.pop.new.self.items ((c.in-Some.live, c.in-Some.table) ∷ []),
       c.loop-live.invariant.bound,
     )
+
+pub take_last-live-requires : goal.take_last-live-requires
+take_last-live-requires c = omega (arith, c.requires.cursor)
+
+pub with_bound-line-requires : goal.with_bound-line-requires
+with_bound-line-requires c = c.requires.three
+
+pub loop-live-smaller : goal.loop-live-smaller
+loop-live-smaller c = omega (arith, c.in-Some.ensures.len)
+
+pub go_to-requires-clause-closed : goal.go_to-requires-clause-closed
+go_to-requires-clause-closed c = c.loop-live.invariant.closed
+
+pub go_to-requires-clause-first : goal.go_to-requires-clause-first
+go_to-requires-clause-first c = c.loop-live.invariant.first
+
+pub go_to-requires-clause-place : goal.go_to-requires-clause-place
+go_to-requires-clause-place c =
+    let size : length c.loop-live.held.items ≡ 0 = omega (arith, c.in_default.ensures.cases.0) in
+    let none : c.loop-live.held.items ≡ [] = nil_from_length c.loop-live.held.items size in
+    let all : states c.loop-live.line.line ≡ states_of c.args.held.items = ap (λ (held : List (List Bool × Bundles)). states_of held ++ states c.loop-live.line.line) (sym none) ∙ c.loop-live.invariant.whole in
+    rw (all, length-map) c.requires.cursor
+
+pub returns-clause-states : goal.returns-clause-states
+returns-clause-states c =
+    let size : length c.loop-live.held.items ≡ 0 = omega (arith, c.in_default.ensures.cases.0) in
+    let none : c.loop-live.held.items ≡ [] = nil_from_length c.loop-live.held.items size in
+    c.in_ok-go_to.ensures.states ∙ ap (λ (held : List (List Bool × Bundles)). states_of held ++ states c.loop-live.line.line) (sym none) ∙ c.loop-live.invariant.whole
+
+pub returns-clause-cursor : goal.returns-clause-cursor
+returns-clause-cursor c = c.in_ok-go_to.ensures.cursor
+
+pub returns-clause-bound : goal.returns-clause-bound
+returns-clause-bound c = c.in_ok-go_to.ensures.bound ∙ c.loop-live.invariant.bound
+
+pub returns-clause-closed : goal.returns-clause-closed
+returns-clause-closed c = c.in_ok-go_to.ensures.closed

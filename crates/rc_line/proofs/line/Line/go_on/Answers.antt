@@ -49,3 +49,11 @@ returns-clause-line c =
     let m = gone_on c.self.inside.bound c.self.inside.done.items c.self.inside.undone.items c.take_last-entry.new.stack.items c.take_last-entry.result c.step_at-entry.result.now s (state c.in_ok-live.live c.replace.new.table) line shown c.take_last-entry.ensures.items c.self.invariant.fits at
     (λ to h. ap (state c.in_ok-live.live) table ∙ c.in_ok-live.ensures to (rw (c.live.ensures, c.table.ensures) h)) in
     rw (c.push_back_reserved.ensures.items, c.in-Ok.ensures.items) m.1
+
+pub invariant_of-self : goal.invariant_of-self
+invariant_of-self c =
+    let closed : c.self.inside.is_open ≡ false = ap (λ (j : Journal). j.is_open) c.self.view_is ∙ c.requires.closed in
+    rw (closed, c.reserve.ensures.items) (kept_closed c.self.inside.bound _ _ _ _ _ c.self.invariant.bound (c.self.invariant.fits, c.self.invariant.few))
+
+pub push_back_reserved-requires : goal.push_back_reserved-requires
+push_back_reserved-requires c = omega (arith, c.in-Ok.ensures.ok)
