@@ -1,5 +1,5 @@
 //! From a line of states to its text.
-ghost use Rattle.std.specs.Prelude.{◌≡◌, ◌++◌, false, length, map, All, Some, IfOk, OnOk};
+ghost use Rattle.std.specs.Prelude.{◌≡◌, ◌++◌, false, length, map, slice_get, All, Some, IfOk, OnOk};
 ghost use Rattle.rc_model.specs.Database.{HaveBound};
 ghost use Rattle.rc_model.specs.Line.{states, cursor};
 ghost use Rattle.rc_textform.specs.Form.{spells};
@@ -27,7 +27,7 @@ pub fn write_live(alloc: Global, session: &Session) -> Result<Vec<u8>, NoMem>
     let line = session.journal();
     let mut out = Vec::new(alloc);
     push_head(alloc, &mut out, names, line.bound())?;
-    push_states(alloc, &mut out, names, line)?;
+    push_whole(alloc, &mut out, names, line)?;
     out.extend_from_slice(b"end\n")?;
     Ok(out)
 }
@@ -63,20 +63,40 @@ fn push_services(out: &mut Vec<u8>, names: &Names) -> Result<(), NoMem>
     Ok(())
 }
 
-// All states in turn: each entry is taken once.
-fn push_states(alloc: Global, out: &mut Vec<u8>, names: &Names, line: &Line) -> Result<(), NoMem>
+// All states.
+fn push_whole(alloc: Global, out: &mut Vec<u8>, names: &Names, line: &Line) -> Result<(), NoMem>
     requires closed { line.now.is_open ≡ false }
     requires sets { All (IsWithin (length names.now)) (states line.now.line) }
     ensures { OnOk result (out.new.items ≡ out.old.items
         ++ state_bytes names.now (cursor line.now.line) 0 (states line.now.line)) }
 {
+    let (mut live, mut table) = line.state(alloc, 0)?;
+    let pushed = push_states(alloc, out, names, line, &mut live, &mut table);
+    drop((live, table));
+    pushed
+}
+
+// All states in turn, from the first one on: each entry is taken once.
+fn push_states(
+    alloc: Global,
+    out: &mut Vec<u8>,
+    names: &Names,
+    line: &Line,
+    live: &mut Set,
+    table: &mut Table,
+) -> Result<(), NoMem>
+    requires sets { All (IsWithin (length names.now)) (states line.now.line) }
+    requires first { slice_get (states line.now.line) 0
+        ≡ Some (record { live = live.old; table = table.old }) }
+    ensures { OnOk result (out.new.items ≡ out.old.items
+        ++ state_bytes names.now (cursor line.now.line) 0 (states line.now.line)) }
+{
     let cursor = line.cursor();
     let last = line.states() - 1;
-    let (mut live, mut table) = line.state(alloc, 0)?;
-    push_state(alloc, out, names, cursor == 0, &live, &table)?;
+    push_state(alloc, out, names, cursor == 0, live, table)?;
     for place in 0..last {
-        line.step_on(alloc, place, &mut live, &mut table)?;
-        push_state(alloc, out, names, cursor == place + 1, &live, &table)?;
+        line.step_on(alloc, place, live, table)?;
+        push_state(alloc, out, names, cursor == place + 1, live, table)?;
     }
     Ok(())
 }

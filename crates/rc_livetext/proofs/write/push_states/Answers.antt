@@ -1,20 +1,34 @@
-use Rattle.std.proofs.Common.{◌∙◌, ◌+◌, ◌==◌, ◌++◌, ℕ, List, take, ap, sym, arith}
+use Rattle.std.proofs.Common.{◌∙◌, ◌+◌, ◌==◌, ◌++◌, ℕ, List, length, take, ap, sym, arith}
 use Rattle.rc_model.specs.Line.{State, states, cursor}
 use Rattle.rc_textform.specs.Form.{spells}
 use Rattle.rc_livetext.specs.Text.{spell, state_lines}
 use Rattle.rc_livetext.specs.Spelling.{state_text}
 use Rattle.rc_livetext.specs.Written.{state_bytes}
+use Rattle.rc_livetext.specs.Parts.{IsWithin}
+use Rattle.rc_livetext.proofs.OneFault.{at_place}
 use Rattle.rc_livetext.proofs.Writing.{grown, states_first, states_next, states_all}
 use Rattle.rc_livetext.proofs.write.push_states.Goals as goal
+
+pub push_state-requires : goal.push_state-requires
+push_state-requires c = at_place (IsWithin (length c.args.names.now)) (states c.args.line.now.line) 0 _ c.requires.first c.requires.sets
+
+pub step_on-requires-clause-place : goal.step_on-requires-clause-place
+step_on-requires-clause-place c = omega (arith, c.states-last.ensures.count)
+
+pub step_on-requires-clause-here : goal.step_on-requires-clause-here
+step_on-requires-clause-here c = c.loop-place.invariant.here
+
+pub push_state-requires-in-loop-place : goal.push_state-requires-in-loop-place
+push_state-requires-in-loop-place c = at_place (IsWithin (length c.args.names.now)) (states c.args.line.now.line) (c.loop-place.place + 1) _ c.in_ok-step_on.ensures c.requires.sets
 
 pub loop-place-init : goal.loop-place-init
 loop-place-init c =
     let line = c.args.line.now.line in
-    let s : State = record { live = c.in_ok-live.live; table = c.in_ok-live.table } in
+    let s : State = record { live = c.args.live.now; table = c.args.table.now } in
     record {
-      here = c.in_ok-live.ensures;
+      here = c.requires.first;
       said = c.in_ok-push_state.ensures
-          ∙ ap (λ (t : List ℕ). c.args.out.now.items ++ t) (ap (λ (k : ℕ). spells spell (state_lines (k == 0) (state_text c.args.names.now s))) c.cursor-cursor.ensures ∙ sym (states_first c.args.names.now (cursor line) (states line) s c.in_ok-live.ensures));
+          ∙ ap (λ (t : List ℕ). c.args.out.now.items ++ t) (ap (λ (k : ℕ). spells spell (state_lines (k == 0) (state_text c.args.names.now s))) c.cursor-cursor.ensures ∙ sym (states_first c.args.names.now (cursor line) (states line) s c.requires.first));
     }
 
 pub loop-place-preserved : goal.loop-place-preserved
