@@ -110,14 +110,11 @@ impl Run {
         let tables = Tables::new(alloc, plan.opening(), plan.lower(), plan.raise())?;
         let events = 2 * tables.left.len() as usize + 1;
         let services = graph.len() as usize;
-        let ready = Ready::new(
-            alloc,
-            graph,
-            plan.opening(),
-            plan.lower(),
-            plan.raise(),
-            &tables.left,
-        )?;
+        let (up, lower, raise) = (plan.opening(), plan.lower(), plan.raise());
+        let Ok(ready) = Ready::new(alloc, graph, up, lower, raise, &tables.left) else {
+            drop(tables);
+            return Err(AllocError);
+        };
         let Ok(rooms) = rooms_of(alloc, events, services) else {
             drop((tables, ready));
             return Err(AllocError);
@@ -323,8 +320,14 @@ fn sets_of(alloc: Global, plan: &Plan) -> Result<(Set, Set, Set), NoMem>
     ensures raise { IfOk result (λ sets. sets.2 ≡ plan.now.raise) }
 {
     let opening = plan.opening().copy(alloc)?;
-    let lower = plan.lower().copy(alloc)?;
-    let raise = plan.raise().copy(alloc)?;
+    let Ok(lower) = plan.lower().copy(alloc) else {
+        drop(opening);
+        return Err(AllocError);
+    };
+    let Ok(raise) = plan.raise().copy(alloc) else {
+        drop((opening, lower));
+        return Err(AllocError);
+    };
     Ok((opening, lower, raise))
 }
 
