@@ -1,5 +1,5 @@
 use Rattle.std.proofs.Common.{◌≡◌, ◌∙◌, inl, inr, ◌⊎◌, ℕ, zero, suc, ◌+◌, ◌*◌, ◌<◌, ◌≤◌, Bool, true, false, cond, ◌||◌, List, [], ◌∷◌, length, count_by, slice_index_or, Result, Ok, Err, IfOk, refl, ap, sym, subst, arith}
-use Rattle.std.proofs.lemmas.List.Sums.{sum_by-cons}
+use Rattle.std.proofs.lemmas.List.Sums.{sum_by-cons, count_by-le-length}
 use Rattle.rc_model.specs.Names.{Has, Holds}
 use Rattle.rc_model.specs.declared.Event.{Event}
 use Rattle.rc_model.specs.Run.{Course, IsPlanned, IsRun, IsSettled}
@@ -119,3 +119,10 @@ idle_settled c none = record {
 pub ok_always : {A E : Type 0} (r : Result A E) (P : A → Type 0) → ((a : A) → P a) → IfOk r P
 ok_always (Ok a) P all = all a
 ok_always (Err e) P all = tt
+
+-- so few services that a course can move
+pub few_planned : (c : Course) → IsCourse c → planned_count c ≤ 8192
+few_planned c course =
+    let low = count_by-le-length (λ (flag : Bool). flag) c.lower in
+    let high = count_by-le-length (λ (flag : Bool). flag) c.raise in
+    omega (arith, low, high, course.lower_bound, course.raise_bound, course.lists.few)

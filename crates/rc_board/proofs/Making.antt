@@ -1,15 +1,18 @@
 -- What workers make, one event after the other.
-use Rattle.std.proofs.Common.{◌≡◌, ◌≤◌, ℕ, Bool, true, false, List, [], ◌∷◌, ◌++◌, Result, Ok, Err, IfOk, IfErr, slice_index_or, get_or, refl, arith}
+use Rattle.std.proofs.Common.{◌≡◌, ◌≤◌, ℕ, Bool, true, false, List, [], ◌∷◌, ◌++◌, Result, Ok, Err, IfOk, IfErr, OnOk, OnErr, slice_index_or, get_or, refl, sym, subst, arith}
 use Rattle.std.proofs.lemmas.Bool.{false_from_ne_true}
 use Rattle.std.proofs.lemmas.List.Elements.{All-nil, All-push}
 use Rattle.rc_graph.specs.declared.Way.{Way}
 use Rattle.rc_graph.specs.declared.Way.TheVariants.{Raise, Lower}
 use Rattle.rc_model.specs.declared.Outcome.{Outcome}
 use Rattle.rc_model.specs.declared.Event.{Event}
+use Rattle.rc_model.specs.declared.Event.TheVariants.{Take, Stop}
 use Rattle.rc_model.specs.Run.{Course, IsPlanned}
 use Rattle.rc_model.specs.Beside.{IsCourse}
-use Rattle.rc_core.specs.Settled.{RunSoFar}
-use Rattle.rc_core.specs.Taking.{CanGo}
+use Rattle.rc_core.specs.declared.took.Took.{Took}
+use Rattle.rc_core.specs.declared.took.Took.TheVariants as took
+use Rattle.rc_core.specs.Settled.{RunSoFar, with_event}
+use Rattle.rc_core.specs.Taking.{CanGo, IsAnswered}
 use Rattle.rc_board.specs.declared.play.Halt.{Halt}
 use Rattle.rc_board.specs.declared.play.Halt.TheVariants.{Memory, NoThread, Strange}
 use Rattle.rc_board.specs.Halting.{MayHalt}
@@ -64,3 +67,34 @@ module _ (Answers : ℕ → Way → Outcome → Type 0) (Gives : ℕ → Type 0)
       → IfOk r (λ ended. AreMade m Answers Gives up ended.events)
   ok_by_more n m (Ok ended) more made = made_by_more n m ended.events more made
   ok_by_more n m (Err e) more made = tt
+
+-- a run goes on as it was made: its course stays, and worker 1 made what came
+abbrev pub GoesOn : (ℕ → Way → Outcome → Type 0) → (ℕ → Type 0) → RunSoFar → RunSoFar → Type 0
+GoesOn Answers Gives old new =
+    (new.course ≡ old.course) × AreMade 1 Answers Gives new.course.up new.events
+
+module _ (Answers : ℕ → Way → Outcome → Type 0) (Gives : ℕ → Type 0) (old new : RunSoFar)
+    (made : AreMade 1 Answers Gives old.course.up old.events) where
+  stays : new ≡ old → GoesOn Answers Gives old new
+  stays same = subst (λ (run : RunSoFar). GoesOn Answers Gives old run) (sym same) (refl, made)
+
+  comes : (e : Event) → worker_of e ≤ 1 → IsSaid Answers Gives old.course.up e
+      → new ≡ with_event old e → GoesOn Answers Gives old new
+  comes e number said is =
+      let more = made_more Answers Gives old.course.up 1 old.events e number said made in
+      subst (λ (run : RunSoFar). GoesOn Answers Gives old run) (sym is) (refl, more)
+
+  -- after a stop, legal or not
+  pub goes_on_stop : {A E : Type 0} (r : Result A E) (moment : ℕ) → Gives moment
+      → OnOk r (new ≡ with_event old (Stop 1 moment)) → OnErr r (new ≡ old)
+      → GoesOn Answers Gives old new
+  goes_on_stop (Ok a) moment gives made_so same = comes (Stop 1 moment) (omega arith) gives made_so
+  goes_on_stop (Err e) moment gives made_so same = stays same
+
+  -- and after a job was asked for
+  pub goes_on_take : {E : Type 0} (r : Result Took E)
+      → IfOk r (λ t. IsAnswered old 1 t new) → OnErr r (new ≡ old) → GoesOn Answers Gives old new
+  goes_on_take (Ok (took.Job job)) told same = comes (Take 1 job.service) (omega arith) tt told.3
+  goes_on_take (Ok took.Wait) told same = stays told.2
+  goes_on_take (Ok took.Settled) told same = stays told.1
+  goes_on_take (Err e) told same = stays same

@@ -18,7 +18,7 @@ use crate::pad::Pad;
 use crate::watch::Watch;
 use rc_core::{Job, Outcome, Took};
 use rc_graph::Way;
-use std::sync::Wait;
+use std::sync::{MutexGuard, Wait};
 
 /// A transition that a worker has made.
 #[derive(Clone, Copy, Debug)]
@@ -182,18 +182,23 @@ fn ask<G: Gate, R: Wait>(
     if let Some(made) = untold {
         tell(&mut guard, pad, worker, made);
     }
-    match next_on(&mut guard, pad, worker, late) {
-        Asked::Job(job) => {
+    let asked = next_on(&mut guard, pad, worker, late);
+    let_go(rt, shared, guard, &asked);
+    asked
+}
+
+/// Lets the board go: wakes one that waits where a job was taken, and waits for a change where
+/// there is none yet.
+fn let_go<R: Wait>(rt: &R, shared: &Shared, guard: MutexGuard<Board>, asked: &Asked) {
+    match asked {
+        Asked::Job(_) => {
             drop(guard);
             shared.changed.notify_one();
-            Asked::Job(job)
         }
         Asked::Again => {
             let _ = shared.changed.wait(rt, guard);
-            Asked::Again
         }
-        Asked::Stopped => Asked::Stopped,
-        Asked::Over => Asked::Over,
+        Asked::Stopped | Asked::Over => drop(guard),
     }
 }
 

@@ -1,10 +1,11 @@
-use Rattle.std.proofs.Common.{◌≡◌, ◌∙◌, ◌<◌, ◌≤◌, ℕ, [], ap, sym, subst, rules}
+use Rattle.std.proofs.Common.{◌≡◌, ◌∙◌, ◌<◌, ◌≤◌, ℕ, [], IfOk, ap, sym, subst, rules}
 use Rattle.std.proofs.Math.Nat.{min-le_left}
 use Rattle.rc_model.specs.Run.{Course, IsPlanned, course_of, IsSettled}
 use Rattle.rc_model.specs.Beside.{planned_count}
 use Rattle.rc_core.specs.Settled.{RunSoFar}
-use Rattle.rc_board.proofs.Counting.{idle_settled, none_planned, one_planned, ok_always}
-use Rattle.rc_board.proofs.Making.{ok_by_more, may_halt}
+use Rattle.rc_board.specs.Made.{AreMade}
+use Rattle.rc_board.proofs.Counting.{idle_settled, none_planned, one_planned, few_planned, ok_always}
+use Rattle.rc_board.proofs.Making.{made_none, ok_by_more, may_halt}
 use Rattle.rc_board.proofs.play.played.Goals as goal
 
 pub finish-requires : goal.finish-requires
@@ -62,3 +63,57 @@ returns-in-Ok-clause-made g c =
     ok_by_more (g.G.Gate.answers c.args.gate.now) (g.G.Gate.gives c.args.gate.now)
     c.args.plan.now.opening c.crew_for-crew.result c.args.workers c.worked.result fewer
     c.worked.ensures.made
+
+pub returns-then-planned-eq0-clause-course : goal.returns-then-planned-eq0-clause-course
+returns-then-planned-eq0-clause-course g c =
+    ap (λ (r : RunSoFar). r.course) (c.finish.ensures.run ∙ c.in_ok-run.ensures)
+
+pub returns-then-planned-eq0-clause-settled : goal.returns-then-planned-eq0-clause-settled
+returns-then-planned-eq0-clause-settled g c =
+    let course = course_of c.args.graph.now c.args.plan.now c.args.deadline in
+    let zero : c.planned-planned.result ≡ 0 = search rules in
+    let none : planned_count course ≡ 0 =
+    sym (ap (λ (r : RunSoFar). planned_count r.course) c.in_ok-run.ensures)
+    ∙ sym c.planned-planned.ensures ∙ zero in
+    subst (λ (r : RunSoFar). IsSettled course r.events)
+    (sym (c.finish.ensures.run ∙ c.in_ok-run.ensures)) (idle_settled course (none_planned course none))
+
+pub returns-then-planned-eq0-clause-made : goal.returns-then-planned-eq0-clause-made
+returns-then-planned-eq0-clause-made g c =
+    let answers = g.G.Gate.answers c.args.gate.now in
+    let gives = g.G.Gate.gives c.args.gate.now in
+    subst (λ (r : RunSoFar). AreMade c.args.workers answers gives c.args.plan.now.opening r.events)
+    (sym (c.finish.ensures.run ∙ c.in_ok-run.ensures))
+    (made_none answers gives c.args.plan.now.opening c.args.workers)
+
+pub returns-then-planned-eq0-clause-idle : goal.returns-then-planned-eq0-clause-idle
+returns-then-planned-eq0-clause-idle g c none =
+    ap (λ (r : RunSoFar). r.events) (c.finish.ensures.run ∙ c.in_ok-run.ensures)
+
+pub returns-then-crew-eq1-clause-course : goal.returns-then-crew-eq1-clause-course
+returns-then-crew-eq1-clause-course g c =
+    subst (λ (r : RunSoFar). IfOk c.played_alone.result (λ ended. ended.course ≡ r.course))
+    c.in_ok-run.ensures c.played_alone.ensures.course
+
+pub returns-then-crew-eq1-clause-settled : goal.returns-then-crew-eq1-clause-settled
+returns-then-crew-eq1-clause-settled g c =
+    subst (λ (r : RunSoFar). IfOk c.played_alone.result (λ ended. IsSettled r.course ended.events))
+    c.in_ok-run.ensures c.played_alone.ensures.settled
+
+pub returns-then-crew-eq1-clause-made : goal.returns-then-crew-eq1-clause-made
+returns-then-crew-eq1-clause-made g c =
+    let answers = g.G.Gate.answers c.args.gate.now in
+    let gives = g.G.Gate.gives c.args.gate.now in
+    ok_by_more answers gives c.args.plan.now.opening 1 c.args.workers c.played_alone.result
+    c.requires.crew.0
+    (subst (λ (r : RunSoFar). IfOk c.played_alone.result
+    (λ ended. AreMade 1 answers gives r.course.up ended.events))
+    c.in_ok-run.ensures c.played_alone.ensures.made)
+
+pub room_for-requires-clause-fresh : goal.room_for-requires-clause-fresh
+room_for-requires-clause-fresh g c = ap (λ (r : RunSoFar). r.events) c.in_ok-run.ensures
+
+pub room_for-requires-clause-few : goal.room_for-requires-clause-few
+room_for-requires-clause-few g c =
+    subst (λ (r : RunSoFar). planned_count r.course ≤ 8192) (sym c.in_ok-run.ensures)
+    (few_planned _ c.requires.course)
