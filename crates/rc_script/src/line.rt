@@ -208,8 +208,8 @@ fn alone(line: SessionLine, choices: &[Choice], words: &[&str]) -> SessionLine
         (saying_of result) }
 {
     if choices.is_empty() && words.is_empty() {
-        line
-    } else {
-        SessionLine::Wrong
+        return line;
     }
+    drop(line);
+    SessionLine::Wrong
 }

@@ -20,26 +20,17 @@ impl Verb {
     pub(crate) fn of(word: &str) -> Option<Verb>
         ensures { result ≡ verb_of word.now }
     {
-        if word == "change" {
-            Some(Verb::Change)
-        } else if word == "dry" {
-            Some(Verb::Dry)
-        } else if word == "undo" {
-            Some(Verb::Undo)
-        } else if word == "redo" {
-            Some(Verb::Redo)
-        } else if word == "add" {
-            Some(Verb::Add)
-        } else if word == "delete" {
-            Some(Verb::Delete)
-        } else if word == "live" {
-            Some(Verb::Live)
-        } else if word == "bundles" {
-            Some(Verb::Bundles)
-        } else if word == "journal" {
-            Some(Verb::Journal)
-        } else {
-            None
+        match word {
+            "change" => Some(Verb::Change),
+            "dry" => Some(Verb::Dry),
+            "undo" => Some(Verb::Undo),
+            "redo" => Some(Verb::Redo),
+            "add" => Some(Verb::Add),
+            "delete" => Some(Verb::Delete),
+            "live" => Some(Verb::Live),
+            "bundles" => Some(Verb::Bundles),
+            "journal" => Some(Verb::Journal),
+            _ => None,
         }
     }
 }
