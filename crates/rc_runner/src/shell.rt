@@ -194,8 +194,14 @@ impl<'a, R: Processes + Clock> ShellGate<'a, R> {
         let Some(mut command) = command_of(self.alloc, &self.runner)? else {
             return Ok(None);
         };
-        command.arg(text.as_str())?;
-        tell_task(self.alloc, &mut command, task)?;
+        let Ok(_) = command.arg(text.as_str()) else {
+            drop(command);
+            return Err(AllocError);
+        };
+        let Ok(()) = tell_task(self.alloc, &mut command, task) else {
+            drop(command);
+            return Err(AllocError);
+        };
         Ok(Some(command))
     }
 
@@ -209,8 +215,14 @@ impl<'a, R: Processes + Clock> ShellGate<'a, R> {
         let Some(mut command) = command_of(self.alloc, &self.controller)? else {
             return Ok(None);
         };
-        add_two(&mut command, word_towards(task.way), task.name)?;
-        tell_task(self.alloc, &mut command, task)?;
+        let Ok(()) = add_two(&mut command, word_towards(task.way), task.name) else {
+            drop(command);
+            return Err(AllocError);
+        };
+        let Ok(()) = tell_task(self.alloc, &mut command, task) else {
+            drop(command);
+            return Err(AllocError);
+        };
         Ok(Some(command))
     }
 }

@@ -181,11 +181,26 @@ fn end<R: Processes + Clock, P: OpenProcess + Drop>(rt: &R, alloc: Global, child
 /// Sends TERM to a program that was started and not yet waited for, so that its number is no
 /// other's.
 fn ask_to_end<R: Processes>(rt: &R, alloc: Global, id: u32) -> io::Result<ExitStatus> {
-    let number = format!(in alloc; "{id}")?;
     let mut command = Command::new(alloc, "/bin/sh")?;
-    command.arg("-c")?;
-    command.arg("kill -TERM \"$0\"")?;
+    let Ok(()) = add_kill(alloc, &mut command, id) else {
+        drop(command);
+        return Err(io::Error::from(AllocError));
+    };
+    let ended = status_of(rt, &mut command);
+    drop(command);
+    ended
+}
+
+/// Appends the words by which a shell sends TERM to the program of this number.
+fn add_kill(alloc: Global, command: &mut Command, id: u32) -> Result<(), AllocError> {
+    add_two(command, "-c", "kill -TERM \"$0\"")?;
+    let number = format!(in alloc; "{id}")?;
     command.arg(number.as_str())?;
+    Ok(())
+}
+
+/// Runs a program that reads nothing and whose writing is thrown away.
+fn status_of<R: Processes>(rt: &R, command: &mut Command) -> io::Result<ExitStatus> {
     command
         .stdin(Stdio::null())
         .stdout(Stdio::null())
