@@ -287,6 +287,24 @@ pub stops_writing : (Done : Doing) (failure : Failure) (May : KeepFault → Type
     → MeetsBytes Done old.database old.line bytes text new.line → AppendsFront io.written io.gained text → IsKeptUp was is old.database old.line new.line → StopsAt Done (of_failure failure) May was is io held after old new
 stops_writing Done failure May was is ends io held after old new bytes text of handed met told kept = inr (of, ends, bytes, text, handed, met, told.0, told.1, inl kept)
 
+-- as the writer's
+pub fails_writing : {A : Type 0} (failure : Failure) (reader writer keeper : Type 0)
+    → ◌≡◌ {A = Result A Failure} (Err failure) (Err failures.Write) → writer
+    → IsServeFault reader writer keeper (of_failure failure)
+fails_writing {A} failure reader writer keeper is failed =
+    subst (λ (r : Result A Failure). IfErr r (λ f. IsServeFault reader writer keeper (of_failure f)))
+    (sym is) failed
+
+-- and it was written
+pub serves_next : (Done : Doing) (ends : Bool) (io : Exchange) (held after : Held)
+    (old new : Holding) (bytes text : List ℕ) → HandsLine ends io.input io.left held after bytes
+    → MeetsBytes Done old.database old.line bytes text new.line
+    → Appends io.written io.gained text → ServesNext Done ends io held after old new
+serves_next Done true io held after old new bytes text handed met told =
+    (bytes, text, handed, met, told)
+serves_next Done false io held after old new bytes text handed met told =
+    inl (bytes, text, handed, met, told)
+
 -- there was no line to hand out
 pub stops_unread : (Done : Doing) (failed : Type 0) (failure : Failure) (May : KeepFault → Type 0) (k : Keeping) (input left : Option (List ℕ)) (held after : Held) (written : Option (List ℕ)) (old : Holding) → LacksLine failed input left held after failure
     → StopsAt Done (of_failure failure) May k k (over input left written written) held after old old
