@@ -23,8 +23,14 @@ pub(crate) fn names_of(alloc: Global, services: &[ServiceForm]) -> Result<Names,
 {
     let mut names = Names::new(alloc);
     for service in services {
-        let name = copy_of(alloc, name_of(service))?;
-        names.add(name)?;
+        let Ok(name) = copy_of(alloc, name_of(service)) else {
+            drop(names);
+            return Err(AllocError);
+        };
+        let Ok(_) = names.add(name) else {
+            drop(names);
+            return Err(AllocError);
+        };
     }
     Ok(names)
 }
