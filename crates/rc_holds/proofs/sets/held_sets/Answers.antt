@@ -1,14 +1,31 @@
-use Rattle.std.proofs.Common.{◌∙◌, ap, map, sym, subst}
+use Rattle.std.proofs.Common.{◌∙◌, ap, length, map, sym, subst}
 use Rattle.std.proofs.lemmas.List.{take_at}
 use Rattle.rc_holds.specs.Rows.{rows}
 use Rattle.rc_source.specs.Said.{meaning_of}
 use Rattle.rc_holds.specs.Pipelines.{ReadsFrom}
 use Rattle.rc_holds.specs.Standing.{HasContent}
 use Rattle.rc_holds.specs.Mirror.{Mirrors}
+use Rattle.rc_holds.specs.Joining.{AllWithin}
 use Rattle.rc_holds.specs.Sets.{AreSetsOf}
+use Rattle.rc_holds.proofs.RowLemmas.{length-rows}
 use Rattle.rc_holds.proofs.Drafts.{known_among}
 use Rattle.rc_holds.proofs.SetLists.{held_sets}
 use Rattle.rc_holds.proofs.sets.held_sets.Goals as goal
+
+pub add_pipelines-requires-clause-few : goal.add_pipelines-requires-clause-few
+add_pipelines-requires-clause-few c = ap length c.deref_mut.ensures.value ∙ c.in_ok-sets.ensures.few
+
+pub add_pipelines-requires-clause-bounds : goal.add_pipelines-requires-clause-bounds
+add_pipelines-requires-clause-bounds c = subst (AllWithin (length c.args.services.now)) (sym c.deref_mut.ensures.value) c.in_ok-sets.ensures.bounds
+
+pub add_pipelines-requires-clause-readers : goal.add_pipelines-requires-clause-readers
+add_pipelines-requires-clause-readers c = ap length c.deref.ensures.value ∙ (sym (length-rows c.in_ok-readers.readers.items) ∙ c.in_ok-readers.ensures.few)
+
+pub returns-clause-few : goal.returns-clause-few
+returns-clause-few c = rw (take_at _ _ _ (c.add_pipelines.auto.sets ∙ c.deref_mut.ensures.len)) (c.add_pipelines.ensures.few ∙ (ap length c.deref_mut.ensures.value ∙ c.in_ok-sets.ensures.few))
+
+pub returns-clause-bounds : goal.returns-clause-bounds
+returns-clause-bounds c = rw (take_at _ _ _ (c.add_pipelines.auto.sets ∙ c.deref_mut.ensures.len)) c.add_pipelines.ensures.bounds
 
 pub add_pipelines-requires-clause-known : goal.add_pipelines-requires-clause-known
 add_pipelines-requires-clause-known c =
