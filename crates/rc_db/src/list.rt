@@ -46,13 +46,15 @@ fn all_names<'a>(alloc: Global, names: &'a Names, table: &'a Table) -> Result<Ve
     let mut id = 0;
     let mut place = 0;
     for _turn in 0..names.len() + table.len() {
+        let next;
         if is_service_next(names, id, table, place) {
-            all.push(names.name_of(id))?;
+            next = names.name_of(id);
             id += 1;
         } else {
-            all.push(table.at(place).0)?;
+            next = table.at(place).0;
             place += 1;
         }
+        all.push(next)?;
     }
     Ok(all)
 }

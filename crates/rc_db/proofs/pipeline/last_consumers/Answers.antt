@@ -1,9 +1,17 @@
-use Rattle.std.proofs.Common.{◌≡◌, ◌∙◌, ◌<◌, List, ℕ, length, get_or, sym, subst, arith}
+use Rattle.std.proofs.Common.{◌≡◌, ◌∙◌, ◌<◌, List, ℕ, length, get_or, ap, sym, subst, arith}
 use Rattle.std.proofs.lemmas.List.{length-set}
 use Rattle.std.proofs.lemmas.Option.{slice_get-get_or}
 use Rattle.rc_graph.specs.Order.{IsOrder}
 use Rattle.rc_db.proofs.Pipelines.{EndsUpTo, ends_known, ends_next, ends_all, order_within}
 use Rattle.rc_db.proofs.pipeline.last_consumers.Goals as goal
+
+pub loop-s-init : goal.loop-s-init
+loop-s-init c =
+    let long : length c.names.result.now ≡ length c.args.db.now.names = ap length c.names.ensures.names in
+    record { bound = omega (arith, c.in_ok-ends.ensures.len); ends = λ k s none. absurd (omega arith) }
+
+pub last_consumer-end-requires-clause-bound : goal.last_consumer-end-requires-clause-bound
+last_consumer-end-requires-clause-bound c = ap length c.deref.ensures.value ∙ c.loop-s.invariant.bound
 
 pub last_consumer-end-requires-clause-service : goal.last_consumer-end-requires-clause-service
 last_consumer-end-requires-clause-service c =
@@ -46,3 +54,6 @@ returns-clause-ends c s within =
     let fits : length c.args.db.now.needs ≡ length c.args.db.now.names = c.graph.ensures.database.fit.graph in
     ends_all c.args.db.now order c.loop-s.ends.items c.loop-s.s-index (subst Ordered c.graph.ensures.graph c.order-order.ensures.order)
     c.loop-s.invariant.ends (omega arith) s (omega arith)
+
+pub returns-clause-bound : goal.returns-clause-bound
+returns-clause-bound c = c.loop-s.invariant.bound

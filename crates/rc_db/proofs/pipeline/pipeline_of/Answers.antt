@@ -9,6 +9,16 @@ add_if_in_pipeline-requires-clause-set c = c.loop-s.invariant.bound
 pub add_if_in_pipeline-requires-clause-id : goal.add_if_in_pipeline-requires-clause-id
 add_if_in_pipeline-requires-clause-id c = c.requires
 
+pub loop-s-init : goal.loop-s-init
+loop-s-init c = record {
+  bound = c.in_ok-set.ensures.bound ∙ c.len.ensures.len ∙ ap length c.names.ensures.names;
+  members = λ s. (λ has. absurd (c.in_ok-set.ensures.members s has), λ passed. absurd (omega (arith, passed.0)));
+}
+
+pub add_if_in_pipeline-requires-clause-service : goal.add_if_in_pipeline-requires-clause-service
+add_if_in_pipeline-requires-clause-service c =
+    let long : length c.names-2.result.now ≡ length c.args.db.now.names = ap length c.names-2.ensures.names in omega arith
+
 pub add_if_in_pipeline-requires-clause-bound : goal.add_if_in_pipeline-requires-clause-bound
 add_if_in_pipeline-requires-clause-bound c = ap length c.deref.ensures.value ∙ c.in_ok-ends.ensures.bound
 

@@ -1,4 +1,5 @@
 use Rattle.std.proofs.Common.{◌≡◌, ℕ, Some, slice_get, sym, subst}
+use Rattle.std.proofs.lemmas.Option.{slice_get_within}
 use Rattle.std.proofs.lemmas.Result.{IfOk-weaker, IfErr-weaker}
 use Rattle.rc_model.specs.Line.{Lists}
 use Rattle.rc_model.specs.Names.{Has}
@@ -9,6 +10,14 @@ use Rattle.rc_db.specs.Pipeline.{InPipelineOf}
 use Rattle.rc_db.specs.QueryFaults.{OfLongrun, IsSuch, IsQueryFault}
 use Rattle.rc_db.proofs.db.Db.pipeline.Goals as goal
 use Rattle.rc_db.proofs.db.Db.pipeline.Goals.{After-ids_of}
+
+pub service-requires : goal.service-requires
+service-requires c =
+    slice_get_within c.args.self.now.names c.in_ok-id.id c.args.name.now c.in_ok-id.ensures.service
+
+pub pipeline_of-requires : goal.pipeline_of-requires
+pipeline_of-requires c =
+    slice_get_within c.args.self.now.names c.in_ok-id.id c.args.name.now c.in_ok-id.ensures.service
 
 -- the name is a longrun's
 such : (c : After-ids_of) → IsSuch c.args.self.now OfLongrun c.args.name.now

@@ -1,6 +1,11 @@
 use Rattle.std.proofs.Common.{◌∙◌, refl, sym, true≢false}
+use Rattle.std.proofs.lemmas.Option.{slice_get_within}
 use Rattle.rc_db.proofs.KindLemmas.{longrun_or}
 use Rattle.rc_db.proofs.db.Db.script.Goals as goal
+
+pub service-service-requires : goal.service-service-requires
+service-service-requires c =
+    slice_get_within c.args.self.now.names c.in_ok-service_named.field-0 c.args.name.now c.in_ok-service_named.ensures.service
 
 pub returns-clause-text : goal.returns-clause-text
 returns-clause-text c =
