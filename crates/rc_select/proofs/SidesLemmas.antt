@@ -1,5 +1,5 @@
 -- Sets that are computed from others, and plans that lead to them.
-use Rattle.std.proofs.Common.{◌↔◌, ℕ, Bool, List, inl, inr}
+use Rattle.std.proofs.Common.{◌≡◌, ◌↔◌, ◌⊎◌, ⊎_elim, ℕ, Bool, List, inl, inr, subst, sym}
 use Rattle.rc_model.specs.Names.{Has, Holds}
 use Rattle.rc_model.proofs.SetMembers.{has_or_lacks}
 use Rattle.rc_model.specs.Plan.{IsPlanTo, PlanSets}
@@ -29,3 +29,19 @@ leads_same up T U K L plan leads target kept = record {
   raise_bound = leads.raise_bound;
   kept_bound = leads.kept_bound;
 }
+
+-- the members of two sets together
+pub joined : (P Q : ℕ → Type 0) (one other all : List Bool) → Holds one P → Holds other Q → Holds all (λ s. Has one s ⊎ Has other s) → Holds all (λ s. P s ⊎ Q s)
+joined P Q one other all are also both s = (
+  λ has. ⊎_elim (λ a. inl ((are s).0 a)) (λ b. inr ((also s).0 b)) ((both s).0 has),
+  λ cases. (both s).1 (⊎_elim (λ p. inl ((are s).1 p)) (λ q. inr ((also s).1 q)) cases),
+)
+
+-- what a copy of a set is without others
+pub without_those : (P : ℕ → Type 0) (set copied taken left : List Bool) → copied ≡ set → Holds taken P → Holds left (λ s. Has copied s × (Has taken s → ⊥))
+    → Holds left (λ s. Has set s × (P s → ⊥))
+without_those P set copied taken left same are rest s =
+    let Copied : List Bool → Type 0 = λ members. Has members s in (
+      λ has. let h = (rest s).0 has in (subst Copied same h.0, λ p. h.1 ((are s).1 p)),
+      λ h. (rest s).1 (subst Copied (sym same) h.0, λ t. h.1 ((are s).0 t)),
+    )

@@ -1,5 +1,5 @@
 //! What is lowered by the old database, what is carried over, and what is raised by the new one.
-ghost use Rattle.std.specs.Prelude.{◌≡◌, ◌<◌, ◌⊎◌, ℕ, Some, length, map, slice_get, string_bytes, IfOk};
+ghost use Rattle.std.specs.Prelude.{◌≡◌, ◌<◌, ◌⊎◌, ℕ, Some, length, map, slice_get, string_bytes, IfOk, OnOk};
 ghost use Rattle.rc_model.specs.Names.{AreNames, Has, Holds};
 ghost use Rattle.rc_names.specs.Names.{ListsNames};
 ghost use Rattle.rc_model.specs.Graph.{IsClosed};
@@ -41,14 +41,39 @@ pub fn carry(alloc: Global, old: &Db, new: &Db, live: &Set) -> Result<Update, No
         (Carried old.now new.now (Has live.now)) (map string_bytes update.raise.items)) }
 {
     let altered = altered(alloc, old, new, live)?;
-    let mut stays = live.copy(alloc)?;
-    stays.without(&old.graph().down_of(alloc, &altered)?);
-    let there = carried(alloc, old, new, live)?;
+    let lower = names_of(alloc, old.names(), &altered)?;
+    let kept = kept(alloc, old, new, live, &altered);
+    drop(altered);
     Ok(Update {
-        lower: names_of(alloc, old.names(), &altered)?,
-        kept: carried(alloc, old, new, &stays)?,
-        raise: names_of(alloc, new.names(), &there)?,
+        lower,
+        kept: kept?,
+        raise: raised(alloc, old, new, live)?,
     })
+}
+
+// What stays live, where these are altered or gone.
+fn kept(alloc: Global, old: &Db, new: &Db, live: &Set, altered: &Set) -> Result<Set, NoMem>
+    requires live { length live.now ≡ length old.now.names }
+    requires bound { length altered.now ≡ length old.now.names }
+    requires altered { Holds altered.now (IsAlteredUp old.now new.now (Has live.now)) }
+    ensures bound { IfOk result (λ kept. length kept ≡ length new.now.names) }
+    ensures members { IfOk result (λ kept. Holds kept
+        (Carried old.now new.now (StaysUp old.now new.now (Has live.now)))) }
+    ensures database { OnOk result (IsDatabase new.now) }
+{
+    let mut stays = live.copy(alloc)?;
+    stays.without(&old.graph().down_of(alloc, altered)?);
+    carried(alloc, old, new, &stays)
+}
+
+// The names of what is live and still there.
+fn raised(alloc: Global, old: &Db, new: &Db, live: &Set) -> Result<Vec<String>, NoMem>
+    requires { length live.now ≡ length old.now.names }
+    ensures { IfOk result (λ raise. AreNamesOf new.now
+        (Carried old.now new.now (Has live.now)) (map string_bytes raise.items)) }
+{
+    let there = carried(alloc, old, new, live)?;
+    names_of(alloc, new.names(), &there)
 }
 
 // What is live, and is altered or gone.
@@ -75,6 +100,7 @@ fn carried(alloc: Global, old: &Db, new: &Db, set: &Set) -> Result<Set, NoMem>
     ensures bound { IfOk result (λ carried. length carried ≡ length new.now.names) }
     ensures members { IfOk result (λ carried. Holds carried
         (Carried old.now new.now (Has set.now))) }
+    ensures database { IsDatabase new.now }
 {
     let mut carried = Set::empty(alloc, new.names().len())?;
     for id in 0..old.names().len() {
