@@ -15,9 +15,11 @@ with the same contract and the same proof files, or, where it changes more than 
 Of an edited function the goal that the edit names is tried, and no other that has no written answer: by
 what the prover would try of itself, each under a name of its own. So an edit costs one goal, and not all
 that its function has.
-An edit is refused where a goal of its function's own is open. One that is not, or names no goal, or one
-that is none, is tried once more by itself, with each proof as it is. A copy that cannot be read is named,
-with the error, and the others go on without it.
+Where an edit names no goal, or its function says in an attribute how its goals are tried, all are.
+An edit is refused where a goal of its function's own is open, the named one or one with a written
+answer. One that is not, as where the named goal is proved or there is none of that name, is tried once
+more by itself, with each proof as it is. A copy that cannot be read is named, with the error, and the
+others go on without it.
 
 The last line is 'N passed, M failed'.
 """
