@@ -2,6 +2,10 @@
 """Tries the edits crates/NAME/edits/*.edit, each of which the prover must refuse.
 
     tests/edits.py [NAME..]
+    tests/edits.py --right [NAME..]
+
+With --right the bodies are tried as they are, in the same way, and none may be refused: so it is seen that
+a goal which an edit names is proved where nothing is wrong. An edit for which it is not names no goal.
 
 It stands over the libraries that `rt ci` has just proved; those that `rt lib` keeps do too. An edit
 makes a body wrong. Its lines are 'refuses: FUNCTION', the function whose proof must fail, by its path
@@ -33,7 +37,7 @@ import subprocess
 import sys
 import tempfile
 from concurrent.futures import ThreadPoolExecutor
-from dataclasses import dataclass, field
+from dataclasses import dataclass, field, replace
 
 TOP = pathlib.Path(__file__).resolve().parent.parent
 KIT = pathlib.Path(subprocess.check_output(["rt", "doc"], text=True).strip()).parent
@@ -378,11 +382,12 @@ def own_errors(copy, function, said):
 
 
 class Trial:
-    """The edits of some crates, and how each was answered."""
+    """The edits of some crates, and how each was answered; with the right bodies, none may be refused."""
 
-    def __init__(self, names, room):
+    def __init__(self, names, room, is_right):
         self.crates = Crates()
         self.room = room
+        self.is_right = is_right
         self.passed = self.failed = 0
         self.copies = []
         self.numbers = itertools.count()
@@ -395,7 +400,7 @@ class Trial:
                 try:
                     edit = read_edit(path)
                     edit.apply(TOP / "crates" / name)
-                    self.place(edit)
+                    self.place(replace(edit, changes=[]) if is_right else edit)
                 except ValueError as why:
                     self.fail(name, path.stem, why)
 
@@ -424,6 +429,9 @@ class Trial:
 
     def refused(self, edit, goal):
         goal = " ".join(goal.split()[:25])
+        if self.is_right:
+            self.fail(edit.crate, edit.name, f"{edit.function} is refused as it is: {goal}")
+            return
         print(f"{edit.crate}/{edit.name}: refused, as it must be: {edit.function}: {goal}", flush=True)
         self.passed += 1
 
@@ -438,7 +446,11 @@ class Trial:
                 if is_open:
                     self.refused(edit, what)
                 elif verdict_of(copy, function, said) is not None or len(copies) == 1:
-                    self.tell(f"{edit.crate}/{edit.name}: is tried once more alone: {what}")
+                    if not self.is_right:
+                        self.tell(f"{edit.crate}/{edit.name}: is tried once more alone: {what}")
+                    elif verdict_of(copy, function, said) is None:
+                        self.fail(edit.crate, edit.name, what)
+                        continue
                     left.append(edit)
         silent = [it for it in copies if all(verdict_of(it, function, said) is None for function in it.functions)]
         if not silent or len(copies) == 1:
@@ -486,7 +498,10 @@ class Trial:
             copy.leave_out_goals()
         with ThreadPoolExecutor(lanes) as pool:
             left = [edit for some in pool.map(self.try_together, self.batches(lanes)) for edit in some]
-            list(pool.map(self.try_alone, left, range(len(left))))
+            if self.is_right:
+                self.passed += len(left)
+            else:
+                list(pool.map(self.try_alone, left, range(len(left))))
 
 
 def lanes():
@@ -498,11 +513,12 @@ def lanes():
 
 
 def main():
-    names = sys.argv[1:] or sorted(it.name for it in (TOP / "crates").iterdir())
+    is_right = sys.argv[1:2] == ["--right"]
+    names = sys.argv[1 + is_right :] or sorted(it.name for it in (TOP / "crates").iterdir())
     names = [it for it in names if (TOP / "crates" / it / "edits").is_dir()]
     room = pathlib.Path(tempfile.mkdtemp())
     try:
-        trial = Trial(names, room)
+        trial = Trial(names, room, is_right)
         trial.run(lanes())
     finally:
         shutil.rmtree(room)
