@@ -19,6 +19,8 @@ use Rattle.rc_serve.specs.declared.fault.ServeFault.{ServeFault}
 use Rattle.rc_serve.specs.declared.fault.ServeFault.TheVariants.{Read, Write, TooLong, Memory, NoThread, Strange, Workers, Io}
 use Rattle.rc_streams.specs.Exchange.{Exchange}
 use Rattle.rc_streams.specs.Input.{AppendsFront, fault_line}
+use Rattle.rc_streams.specs.declared.input.Failure.{Failure}
+use Rattle.rc_streams.specs.declared.input.Failure.TheVariants as failure
 use Rattle.rc_serve.specs.Faults.{IsServeFault}
 use Rattle.rc_serve.specs.Keeping.{IsKeptAt, IsKeptUp, IsOfKeeping, Keeping, ServesFrontKept}
 use Rattle.rc_serve.specs.declared.keeper.KeepFault.{KeepFault}
@@ -51,6 +53,20 @@ fault_wider NoThread reader writer keeper more others kept f g h fails = fails
 fault_wider Strange reader writer keeper more others kept f g h fails = fails
 fault_wider Workers reader writer keeper more others kept f g h fails = fails
 fault_wider Io reader writer keeper more others kept f g h fails = h fails
+
+-- a fault of serving comes only where its cause does
+pub fault_caused : {A : Type 0} (result : Result A ServeFault) (reader writer keeper : Type 0)
+    → (result ≡ Err Read → reader) → (result ≡ Err Write → writer) → (result ≡ Err Io → keeper) → (result ≡ Err Workers → ⊥)
+    → IfErr result (IsServeFault reader writer keeper)
+fault_caused (Ok done) reader writer keeper read write io workers = tt
+fault_caused (Err Read) reader writer keeper read write io workers = read refl
+fault_caused (Err Write) reader writer keeper read write io workers = write refl
+fault_caused (Err TooLong) reader writer keeper read write io workers = tt
+fault_caused (Err Memory) reader writer keeper read write io workers = tt
+fault_caused (Err NoThread) reader writer keeper read write io workers = tt
+fault_caused (Err Strange) reader writer keeper read write io workers = tt
+fault_caused (Err Workers) reader writer keeper read write io workers = workers refl
+fault_caused (Err Io) reader writer keeper read write io workers = io refl
 
 -- a session that is not begun is not served
 unbegun : (fault : ServeFault) (base remaining : Option (List ℕ)) → IsOfFile fault → IsUnserved fault base remaining
@@ -124,6 +140,12 @@ ends_on_base (Failed fault) bytes d ask file was is io reader writer keeper spel
     | inr run ↦ inr (record { database = d; input = io.input; left = io.left; opened = (spelled, refl, refl); run = run })
   ],
 )
+
+-- where the input was read whole the reader has not failed
+pub read_well : {A : Type 0} (result : Result A Failure) (input : A) (before : Type 0)
+    → before ⊎ (result ≡ Err failure.Read) → (before → ⊥) → result ≡ Ok input → ⊥
+read_well result input before (inl failed) well is = well failed
+read_well result input before (inr wrong) well is = let bad : Ok input ≡ Err failure.Read = sym is ∙ wrong in cc
 
 -- a session on the database at the beginning of the input, over what is after it, is one of the input
 pub runs_on_input : (Served : Serving) (all rest : List ℕ) (d : Database) (ask : SessionAsk) (file : LiveFile) (was is : Option (List ℕ)) (io : Exchange) (left : Option (List ℕ))

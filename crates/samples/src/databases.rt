@@ -4,6 +4,7 @@ ghost use Rattle.std.specs.Prelude.{◌<◌, ◌≤◌, length};
 
 use crate::graphs::{LOG, NEEDS, WEB, graph_of, set_of};
 use rc_db::{Db, MAX_BUNDLES, NoMem, Parts, Service, Table};
+use rc_graph::Graph;
 use rc_names::{Kind, MAX_NAMES, Name, NameFault, Names};
 use rc_set::Set;
 use std::alloc::Global;
@@ -55,25 +56,74 @@ pub fn parts_of(
     bundles: &[Bundle],
 ) -> Result<Parts, Fail> {
     let names = names_of(alloc, named)?;
-    let services = services_of(alloc, rows)?;
-    let graph = graph_of(alloc, names.len(), needs)?;
-    let table = table_of(alloc, names.len(), bundles)?;
-    Ok(Parts {
-        names,
-        services,
-        graph,
-        table,
-    })
+    match services_of(alloc, rows) {
+        Ok(services) => with_services(alloc, names, services, needs, bundles),
+        Err(fault) => {
+            drop(names);
+            Err(Fail::from(fault))
+        }
+    }
+}
+
+fn with_services(
+    alloc: Global,
+    names: Names,
+    services: Vec<Service>,
+    needs: &[(u16, u16)],
+    bundles: &[Bundle],
+) -> Result<Parts, Fail> {
+    match linked(alloc, names.len(), needs, bundles) {
+        Ok((graph, table)) => Ok(Parts {
+            names,
+            services,
+            graph,
+            table,
+        }),
+        Err(fault) => {
+            drop(names);
+            drop(services);
+            Err(fault)
+        }
+    }
+}
+
+/// The graph and the table of so many services.
+fn linked(
+    alloc: Global,
+    services: u16,
+    needs: &[(u16, u16)],
+    bundles: &[Bundle],
+) -> Result<(Graph, Table), Fail>
+    requires { services ≤ 4096 }
+{
+    let graph = graph_of(alloc, services, needs)?;
+    match table_of(alloc, services, bundles) {
+        Ok(table) => Ok((graph, table)),
+        Err(fault) => {
+            drop(graph);
+            Err(fault)
+        }
+    }
 }
 
 fn names_of(alloc: Global, rows: &[Row]) -> Result<Names, NameFault> {
     let mut names = Names::new(alloc);
-    for (name, _, _, _) in rows {
-        if names.len() < MAX_NAMES {
-            add_name(alloc, &mut names, name)?;
+    match add_names(alloc, &mut names, rows) {
+        Ok(()) => Ok(names),
+        Err(fault) => {
+            drop(names);
+            Err(fault)
         }
     }
-    Ok(names)
+}
+
+fn add_names(alloc: Global, names: &mut Names, rows: &[Row]) -> Result<(), NameFault> {
+    for (name, _, _, _) in rows {
+        if names.len() < MAX_NAMES {
+            add_name(alloc, names, name)?;
+        }
+    }
+    Ok(())
 }
 
 fn add_name(alloc: Global, names: &mut Names, text: &str) -> Result<(), NameFault>
@@ -88,10 +138,20 @@ fn add_name(alloc: Global, names: &mut Names, text: &str) -> Result<(), NameFaul
 
 fn services_of(alloc: Global, rows: &[Row]) -> Result<Vec<Service>, NoMem> {
     let mut services = Vec::new(alloc);
+    match add_services(alloc, &mut services, rows) {
+        Ok(()) => Ok(services),
+        Err(fault) => {
+            drop(services);
+            Err(fault)
+        }
+    }
+}
+
+fn add_services(alloc: Global, services: &mut Vec<Service>, rows: &[Row]) -> Result<(), NoMem> {
     for (_, kind, essential, producer_for) in rows {
         services.push(service_of(alloc, *kind, *essential, *producer_for)?)?;
     }
-    Ok(services)
+    Ok(())
 }
 
 fn service_of(
@@ -126,12 +186,24 @@ fn table_of(alloc: Global, bound: u16, bundles: &[Bundle]) -> Result<Table, Fail
     requires { bound ≤ 4096 }
 {
     let mut table = Table::new(alloc);
-    for (name, services) in bundles {
-        if table.len() < MAX_BUNDLES {
-            put(alloc, &mut table, name, set_of(alloc, bound, services)?)?;
+    match put_all(alloc, &mut table, bound, bundles) {
+        Ok(()) => Ok(table),
+        Err(fault) => {
+            drop(table);
+            Err(fault)
         }
     }
-    Ok(table)
+}
+
+fn put_all(alloc: Global, table: &mut Table, bound: u16, bundles: &[Bundle]) -> Result<(), Fail>
+    requires { bound ≤ 4096 }
+{
+    for (name, services) in bundles {
+        if table.len() < MAX_BUNDLES {
+            put(alloc, table, name, set_of(alloc, bound, services)?)?;
+        }
+    }
+    Ok(())
 }
 
 fn put(alloc: Global, table: &mut Table, text: &str, set: Set) -> Result<(), NameFault>

@@ -24,20 +24,33 @@ pub fn end_of(alloc: Global, change: &Change) -> Result<End, NoMem> {
         failed: Vec::new(alloc),
         left: Vec::new(alloc),
     };
+    let sorted = sort_out(change, &moved, &mut end);
+    drop(moved);
+    match sorted {
+        Ok(()) => Ok(end),
+        Err(fault) => {
+            drop(end);
+            Err(fault)
+        }
+    }
+}
+
+/// Puts each service where it belongs in the end, once it is known what moved.
+fn sort_out(change: &Change, moved: &[u16], end: &mut End) -> Result<(), NoMem> {
     for service in 0..change.graph.len() {
         let is_up = change.up.contains(&service);
         if is_up != moved.contains(&service) {
             end.live.push(service)?;
         }
         if is_up != change.to.contains(&service) && !moved.contains(&service) {
-            if is_free(change, &moved, service) {
+            if is_free(change, moved, service) {
                 end.failed.push(service)?;
             } else {
                 end.left.push(service)?;
             }
         }
     }
-    Ok(end)
+    Ok(())
 }
 
 /// The services that go down or come up: in each round one more on each way through the graph.

@@ -1,6 +1,6 @@
 //! Parts that fit together, and parts that do not.
 
-use rc_db::{Db, Unfit};
+use rc_db::{Db, Parts, Unfit};
 use samples::{BUNDLES, Bundle, LOG, NEEDS, SERVICES, WEB, parts_of};
 use std::alloc::Global;
 use std::io;
@@ -30,12 +30,17 @@ static ROWS: [Row; 4] = [
 fn refusal(alloc: Global, row: &Row) -> Result<Option<Unfit>, Fail> {
     let (_, count, needs, bundles) = row;
     let services = SERVICES.get(..*count).unwrap_or(&SERVICES);
-    match Db::join(parts_of(alloc, &SERVICES, services, needs, bundles)?) {
+    let parts = parts_of(alloc, &SERVICES, services, needs, bundles)?;
+    Ok(unfit_of(parts))
+}
+
+fn unfit_of(parts: Parts) -> Option<Unfit> {
+    match Db::join(parts) {
         Ok(db) => {
             drop(db);
-            Ok(None)
+            None
         }
-        Err(unfit) => Ok(Some(unfit)),
+        Err(unfit) => Some(unfit),
     }
 }
 

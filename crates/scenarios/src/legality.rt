@@ -17,11 +17,13 @@ use std::test::Fail;
 fn alphabet(alloc: Global, services: u16, further: &[Event]) -> Result<Vec<Event>, NoMem> {
     let mut events = Vec::from_slice(alloc, further)?;
     for service in 0..services {
-        events.push(Event::Take(1, service))?;
-        events.push(Event::Take(2, service))?;
-        events.push(Event::Done(1, service, Outcome::Ok))?;
-        events.push(Event::Done(2, service, Outcome::Ok))?;
-        events.push(Event::Done(1, service, Outcome::Failed(1)))?;
+        events.extend_from_slice(&[
+            Event::Take(1, service),
+            Event::Take(2, service),
+            Event::Done(1, service, Outcome::Ok),
+            Event::Done(2, service, Outcome::Ok),
+            Event::Done(1, service, Outcome::Failed(1)),
+        ])?;
     }
     Ok(events)
 }
@@ -86,15 +88,21 @@ fn try_after(
     more: u32,
     tally: &mut Tally,
 ) -> Result<(), NoMem> {
-    for worker in WORKERS {
-        ask_one(alloc, trial, made, worker, tally)?;
-    }
+    ask_all(alloc, trial, made, tally)?;
     for event in trial.alphabet {
         if try_one(alloc, trial, made, *event, tally)? && more > 0 {
             made.push(*event)?;
             try_after(alloc, trial, made, more - 1, tally)?;
             made.pop();
         }
+    }
+    Ok(())
+}
+
+/// All workers ask after a list.
+fn ask_all(alloc: Global, trial: &Trial, made: &[Event], tally: &mut Tally) -> Result<(), NoMem> {
+    for worker in WORKERS {
+        ask_one(alloc, trial, made, worker, tally)?;
     }
     Ok(())
 }

@@ -53,13 +53,20 @@ const LINE_FAULTS: [LineFault; 3] = [
 pub(crate) fn show_names(rt: &(impl Print + AllocGlobal)) -> io::Result<()> {
     let mut right = 0u8;
     for row in TEXTS.lines() {
-        if is_read_so(rt.alloc(), row)? {
+        if show_text(rt, row)? {
             right = right.saturating_add(1);
-        } else {
-            println!(rt; "read otherwise: {row}")?;
         }
     }
     println!(rt; "texts that are names or say why not: {right}")
+}
+
+/// Whether a text is read as it must be; one that is not is shown.
+fn show_text(rt: &(impl Print + AllocGlobal), row: &str) -> io::Result<bool> {
+    let is_right = is_read_so(rt.alloc(), row)?;
+    if !is_right {
+        println!(rt; "read otherwise: {row}")?;
+    }
+    Ok(is_right)
 }
 
 fn is_read_so(alloc: Global, row: &str) -> Result<bool, NoMem> {

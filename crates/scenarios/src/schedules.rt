@@ -60,16 +60,13 @@ fn try_to_end(
 }
 
 fn show_tally(rt: &impl Print, tally: &Tally) -> io::Result<()> {
-    println!(rt; "seed {SEED}, {CHANGES} changes, {ORDERS} orders each, by one to four workers")?;
-    println!(rt; "end as the rules say: {}", tally.alike)?;
-    println!(rt; "end otherwise: {}", tally.otherwise)?;
     println!(rt;
-        "some fail: {}, some are blocked: {}",
-        tally.failed, tally.blocked
-    )?;
-    println!(rt;
-        "some go down: {}, some come up: {}",
-        tally.lowered, tally.raised
+        "seed {SEED}, {CHANGES} changes, {ORDERS} orders each, by one to four workers\n\
+         end as the rules say: {}\n\
+         end otherwise: {}\n\
+         some fail: {}, some are blocked: {}\n\
+         some go down: {}, some come up: {}",
+        tally.alike, tally.otherwise, tally.failed, tally.blocked, tally.lowered, tally.raised
     )
 }
 

@@ -41,14 +41,14 @@ pub(crate) fn show_drawn(rt: &(impl Print + AllocGlobal)) -> Result<(), Fail> {
 }
 
 fn show_tally(rt: &impl Print, tally: &Tally) -> io::Result<()> {
-    println!(rt; "seed {SEED}, {DATABASES} databases, {EDITS} edits of the text of each")?;
-    println!(rt; "read back the same, and written the same: {}", tally.alike)?;
-    println!(rt;
-        "edits refused, or read as what is written so: {}",
-        tally.right
-    )?;
     let has_many = tally.others > 100;
-    println!(rt; "of these many are texts of another database: {has_many}")
+    println!(rt;
+        "seed {SEED}, {DATABASES} databases, {EDITS} edits of the text of each\n\
+         read back the same, and written the same: {}\n\
+         edits refused, or read as what is written so: {}\n\
+         of these many are texts of another database: {has_many}",
+        tally.alike, tally.right
+    )
 }
 
 /// What comes of one drawn database.

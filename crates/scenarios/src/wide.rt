@@ -1,7 +1,7 @@
 //! A graph of as many services as there may be, of which each but the first needs the first.
 
 use crate::steps::{make, refuses};
-use rc_core::{Event, Outcome};
+use rc_core::{Event, Outcome, Run};
 use rc_graph::Graph;
 use rc_set::NoMem;
 use samples::{run_between, set_of, widest_fan};
@@ -43,7 +43,13 @@ fn whole_fan(alloc: Global, graph: &Graph) -> Result<Vec<u16>, NoMem> {
 /// Whether all services of the fan rise after the first.
 fn is_planned(alloc: Global, graph: &Graph, all: &[u16]) -> Result<bool, NoMem> {
     match run_between(alloc, graph, &[], all, None)? {
-        Some(mut run) => Ok(make(&mut run, &WIDE).is_ok() && refuses(&mut run, &AFTER_WIDE)),
+        Some(run) => Ok(rises(run)),
         None => Ok(false),
     }
+}
+
+fn rises(mut run: Run) -> bool {
+    let has_risen = make(&mut run, &WIDE).is_ok() && refuses(&mut run, &AFTER_WIDE);
+    drop(run);
+    has_risen
 }

@@ -1,7 +1,7 @@
 use Rattle.rc_streams.specs.Exchange.{exchanged}
 use Rattle.rc_serve.specs.Meeting.{IsDoneBy}
 use Rattle.rc_serve.specs.SessionText.{IsDoneFailing}
-use Rattle.rc_sessions.proofs.SessionLemmas.{alone_all, alone_front}
+use Rattle.rc_sessions.proofs.SessionLemmas.{alone_all, alone_front, fault_caused}
 use Rattle.rc_sessions.proofs.serving.serve_alone.Goals as goal
 
 pub returns-clause-done : goal.returns-clause-done
@@ -24,3 +24,8 @@ returns-clause-begun_by g c =
     (λ fault. ⊥) (λ d line. Unit {0}) (λ d line. Unit {0})
     (exchanged g.R.Read.remaining g.W.Write.contents c.args.reader.now c.serve.new.reader c.args.writer.now c.serve.new.writer)
     c.args.session.now c.serve.new.session c.serve.ensures.begun c.serve.ensures.play
+
+pub returns-clause-fault : goal.returns-clause-fault
+returns-clause-fault g c =
+    fault_caused c.serve.result _ _ _ c.serve.ensures.read c.serve.ensures.written c.serve.ensures.io
+    (λ wrong. c.serve.ensures.workers.0 wrong c.requires.crew)

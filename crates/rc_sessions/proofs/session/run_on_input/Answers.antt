@@ -6,7 +6,7 @@ use Rattle.rc_base.specs.Base.{Spells}
 use Rattle.rc_asked.specs.SessionAsked.{session_ask_of}
 use Rattle.rc_sessions.specs.Storing.{store_of}
 use Rattle.rc_sessions.specs.Serving.{Serves}
-use Rattle.rc_sessions.proofs.SessionLemmas.{ends_on_input, on_ok, runs_on_input}
+use Rattle.rc_sessions.proofs.SessionLemmas.{ends_on_input, on_ok, read_well, runs_on_input}
 use Rattle.rc_sessions.proofs.session.run_on_input.Goals as goal
 
 pub returns-clause-done : goal.returns-clause-done
@@ -44,3 +44,9 @@ returns-clause-ended g c =
     (Some (inner_of c.run_on.new.reader).now) (HasFailed c.run_on.new.reader) (HasFailed c.run_on.new.writer) _
     (c.in-Ok.ensures.whole, within, c.in-Ok.ensures.end) spelled end)
     c.run_on.ensures.ended
+
+pub returns-clause-told : goal.returns-clause-told
+returns-clause-told g c failed = absurd (read_well c.read_all.result c.in-Ok.input _ (c.read_all.ensures.told failed) c.requires.reader c.in-Ok.is)
+
+pub returns-in_err-db-clause-told : goal.returns-in_err-db-clause-told
+returns-in_err-db-clause-told g c failed = absurd (read_well c.read_all.result c.in-Ok.input _ (c.read_all.ensures.told failed) c.requires.reader c.in-Ok.is)
