@@ -1,2 +1,4 @@
 mod InputLemmas
 mod Handing
+mod Pieces
+mod Parts
