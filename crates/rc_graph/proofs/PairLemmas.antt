@@ -40,13 +40,27 @@ pub record IsGap (xs : List ℕ) (i y : ℕ) : Type 0 where
   pub below : (k d : ℕ) → k < i → slice_index_or xs k d < y
   pub above : (k d : ℕ) → i ≤ k → k < length xs → y < slice_index_or xs k d
 
+-- ascending ones do not fall
+rising : (xs : List ℕ) → IsAscending xs → (a b : ℕ) → a ≤ b → b < length xs → slice_index_or xs a 0 ≤ slice_index_or xs b 0
+rising xs up a b le h = elim (cases_lt a b) [
+  | inl low ↦ let up_here : slice_index_or xs a 0 < slice_index_or xs b 0 = up a b 0 low h in omega arith
+  | inr high ↦ let same : a ≡ b = omega arith in rw same (omega arith)
+]
+
+-- where a search among ascending ones ended with a find
+pub found_searched : (xs slice : List ℕ) (y i : ℕ) → IsAscending xs → slice ≡ xs → IsBinarySearchResult (λ x. nat_cmp x y) slice (Ok i) → Contains xs y
+found_searched xs slice y i up same search_ended =
+    let found = searched xs y (Ok i) (let P : List ℕ → Type 0 = λ s. IsBinarySearchResult (λ x. nat_cmp x y) s (Ok i) in subst P same search_ended) (rising xs up) in
+    (i, found.0, get_or_default xs i y 0 found.0 ∙ found.1)
+
+-- one that is there is no new one
+pub none_new : (xs : List ℕ) (y : ℕ) → Contains xs y → (s : ℕ) → Contains xs s ↔ (Contains xs s ⊎ (s ≡ y))
+none_new xs y there s = (λ has. inl has, λ h. elim h [ inl old ↦ old | inr same ↦ subst (Contains xs) (sym same) there ])
+
 -- where a search among ascending ones ended without a find
 pub gap_searched : (xs slice : List ℕ) (y i : ℕ) → IsAscending xs → slice ≡ xs → IsBinarySearchResult (λ x. nat_cmp x y) slice (Err i) → IsGap xs i y
 gap_searched xs slice y i up same search_ended =
-    let found = searched xs y (Err i) (let P : List ℕ → Type 0 = λ s. IsBinarySearchResult (λ x. nat_cmp x y) s (Err i) in subst P same search_ended) (λ a b le h. elim (cases_lt a b) [
-      | inl low ↦ let up_here : slice_index_or xs a 0 < slice_index_or xs b 0 = up a b 0 low h in omega arith
-      | inr high ↦ let same : a ≡ b = omega arith in rw same (omega arith)
-    ]) in
+    let found = searched xs y (Err i) (let P : List ℕ → Type 0 = λ s. IsBinarySearchResult (λ x. nat_cmp x y) s (Err i) in subst P same search_ended) (rising xs up) in
     record {
       within = found.0;
       below = λ k d h. let low : slice_index_or xs k 0 < y = found.1 k h in rw (get_or_default xs k d 0 (let le : i ≤ length xs = found.0 in omega arith)) low;

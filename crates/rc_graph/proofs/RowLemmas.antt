@@ -1,6 +1,6 @@
-use Rattle.std.proofs.Common.{◌≡◌, ◌∙◌, inl, inr, ℕ, ◌<◌, ◌↔◌, List, [], All, Contains, length, slice_index_or, ◌∷◌, ◌≤◌, zero, suc, refl, arith, ap, sym, subst}
+use Rattle.std.proofs.Common.{◌≡◌, ◌∙◌, inl, inr, ℕ, ◌+◌, ◌<◌, ◌↔◌, List, [], All, Contains, length, map, replicate, take, slice_index_or, ◌∷◌, ◌++◌, ◌≤◌, zero, suc, refl, arith, ap, sym, subst}
 use Rattle.smallvec.specs.SmallVec.{SmallVec}
-use Rattle.std.proofs.lemmas.List.{get_or-map, length-map}
+use Rattle.std.proofs.lemmas.List.{get_or-map, length-map, map_more, map_push, replicate_more, take_all}
 use Rattle.std.proofs.lemmas.List.Elements.{Contains-get_or}
 use Rattle.std.proofs.lemmas.Bool.{cases_lt}
 use Rattle.rc_model.specs.Graph.{Needs, AreServices}
@@ -15,6 +15,16 @@ row_at vectors s d h = get_or-map (λ v. v.items) vectors s d [] h
 -- as many lists as vectors
 pub length-rows : (vectors : List (SmallVec ℕ)) → length (rows vectors) ≡ length vectors
 length-rows vectors = length-map vectors (λ v. v.items)
+
+-- who is in a table that the vectors hold is in what was lent of them
+pub lent_known : (lent own : List (SmallVec ℕ)) (table : List (List ℕ)) (s : ℕ) → lent ≡ own → rows own ≡ table → s < length table → s < length lent
+lent_known lent own table s same is low =
+    subst (λ n. s < n) (sym (ap (λ (t : List (List ℕ)). length t) is) ∙ (length-rows own ∙ sym (ap (λ (t : List (SmallVec ℕ)). length t) same))) low
+
+-- what was lent of one table is as long as another
+pub lent_long : (lent own other : List (SmallVec ℕ)) → lent ≡ own → length (rows own) ≡ length (rows other) → length lent ≡ length other
+lent_long lent own other same few =
+    ap (λ (t : List (SmallVec ℕ)). length t) same ∙ (sym (length-rows own) ∙ (few ∙ length-rows other))
 
 -- a list that was read from the table
 pub row_is : (vectors : List (SmallVec ℕ)) (s : ℕ) (vector : SmallVec ℕ) (list : List ℕ)
@@ -35,6 +45,30 @@ pub row_known : (vectors : List (SmallVec ℕ)) (s : ℕ) (list : List ℕ) (bou
 row_known vectors s list bound e known few k d within =
     let low : slice_index_or list k d < length (rows vectors) = known s _ ((row_needs vectors s list e _).1 (Contains-get_or list k d within)) in
     subst (λ n. slice_index_or list k d < n) (length-rows vectors ∙ sym few) low
+
+-- one more list is counted
+pub one_counted : (vectors : List (SmallVec ℕ)) (i : ℕ) (vector : SmallVec ℕ) (count : ℕ) (before after : List ℕ) → i < length vectors → vector ≡ slice_index_or vectors i vector → count ≡ length vector.items
+    → before ≡ map (λ (list : List ℕ). length list) (take i (rows vectors)) → after ≡ before ++ count ∷ [] → after ≡ map (λ (list : List ℕ). length list) (take (i + 1) (rows vectors))
+one_counted vectors i vector count before after within is counted so_far grown =
+    let row : slice_index_or (rows vectors) i [] ≡ vector.items = row_is vectors i vector vector.items within is refl in
+    grown ∙ (ap (λ (list : List ℕ). list ++ count ∷ []) so_far
+    ∙ (ap (λ n. map (λ (list : List ℕ). length list) (take i (rows vectors)) ++ n ∷ []) (counted ∙ sym (ap (λ (list : List ℕ). length list) row))
+    ∙ sym (map_more (λ (list : List ℕ). length list) (rows vectors) i [] (rw (length-rows vectors) within))))
+
+-- all are
+pub all_counted : (vectors : List (SmallVec ℕ)) (i : ℕ) (counts : List ℕ) → length vectors ≤ i → counts ≡ map (λ (list : List ℕ). length list) (take i (rows vectors)) → counts ≡ map (λ (list : List ℕ). length list) (rows vectors)
+all_counted vectors i counts past so_far =
+    so_far ∙ ap (map (λ (list : List ℕ). length list)) (take_all i (rows vectors) (rw (length-rows vectors) past))
+
+-- one more empty list
+pub one_empty : (lists new : List (SmallVec ℕ)) (row : SmallVec ℕ) (n : ℕ) → rows lists ≡ replicate n [] → new ≡ lists ++ row ∷ [] → row.items ≡ [] → rows new ≡ replicate (n + 1) []
+one_empty lists new row n before grown empty =
+    ap rows grown ∙ (map_push (λ (v : SmallVec ℕ). v.items) lists row
+    ∙ (ap (λ (t : List (List ℕ)). t ++ row.items ∷ []) before ∙ (ap (λ (list : List ℕ). replicate n [] ++ list ∷ []) empty ∙ replicate_more n [])))
+
+-- as many as were asked for
+pub all_empty : (lists : List (SmallVec ℕ)) (n asked : ℕ) → rows lists ≡ replicate n [] → n ≤ asked → asked ≤ n → rows lists ≡ replicate asked []
+all_empty lists n asked before low high = let same : n ≡ asked = omega arith in rw (← same) before
 
 -- past the end nothing is listed
 pub no_row : (needs : List (List ℕ)) (s : ℕ) → length needs ≤ s → slice_index_or needs s [] ≡ []

@@ -13,6 +13,12 @@ use Rattle.rc_graph.proofs.cycle.ring_from.Goals as goal
 in_table : (vectors : List (SmallVec ℕ)) (s : ℕ) → s < length (rows vectors) → s < length vectors
 in_table vectors s h = let n : length (rows vectors) ≡ length vectors = length-rows vectors in omega arith
 
+pub bounds-needs-at : goal.bounds-needs-at
+bounds-needs-at c = in_table _ _ c.loop-path.invariant.known
+
+pub insert-requires : goal.insert-requires
+insert-requires c = subst (λ n. c.loop-path.at < n) (sym c.loop-path.invariant.bound) c.loop-path.invariant.known
+
 pub left_need-at-requires-clause-known : goal.left_need-at-requires-clause-known
 left_need-at-requires-clause-known c =
     row_known _ _ _ _

@@ -1,5 +1,12 @@
-use Rattle.rc_graph.proofs.PairLemmas.{ascending_gap, contains_insert, gap_searched, gap_lacks}
+use Rattle.std.proofs.Common.{refl, arith}
+use Rattle.rc_graph.proofs.PairLemmas.{ascending_gap, contains_insert, found_searched, gap_searched, gap_lacks, none_new}
 use Rattle.rc_graph.proofs.pairs.insert_ascending.Goals as goal
+
+pub insert-requires : goal.insert-requires
+insert-requires c = (omega arith, (gap_searched _ _ _ _ c.requires c.deref.ensures c.in-Err.ensures.position).within)
+
+pub returns-in_err-insert-clause-ascending : goal.returns-in_err-insert-clause-ascending
+returns-in_err-insert-clause-ascending c = rw c.in_err-insert.ensures.err c.requires
 
 pub returns-in_ok-insert-clause-ascending : goal.returns-in_ok-insert-clause-ascending
 returns-in_ok-insert-clause-ascending c =
@@ -19,3 +26,15 @@ pub returns-in_err-insert-clause-again : goal.returns-in_err-insert-clause-again
 returns-in_err-insert-clause-again c has =
     absurd (gap_lacks _ _ _
     (gap_searched _ _ _ _ c.requires c.deref.ensures c.in-Err.ensures.position) has)
+
+pub returns-in_default-clause-ascending : goal.returns-in_default-clause-ascending
+returns-in_default-clause-ascending c = c.requires
+
+pub returns-in_default-clause-members : goal.returns-in_default-clause-members
+returns-in_default-clause-members c = none_new _ _ (found_searched _ _ _ _ c.requires c.deref.ensures c.in_default.ensures.position)
+
+pub returns-in_default-clause-err : goal.returns-in_default-clause-err
+returns-in_default-clause-err c = tt
+
+pub returns-in_default-clause-again : goal.returns-in_default-clause-again
+returns-in_default-clause-again c has = (refl, refl)
