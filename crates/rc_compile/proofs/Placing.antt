@@ -25,6 +25,10 @@ pub record ArePlacedBelow (ms : List Meaning) (names : List (List ℕ)) (i : ℕ
   pub long : length places ≡ length names
   pub placed : (k s : ℕ) (m : Meaning) → k < i → slice_get ms k ≡ Some m → slice_get names s ≡ Some m.name → (found : Meaning) × (slice_get ms (slice_index places s) ≡ Some found) × (found.name ≡ m.name)
 
+-- none is passed at first
+pub placed_none : (ms : List Meaning) (names : List (List ℕ)) (places : List ℕ) → length places ≡ length names → ArePlacedBelow ms names 0 places
+placed_none ms names places long = record { long = long; placed = λ k s m low at_k at_s. absurd (omega arith) }
+
 -- one more definition, whose name is in the table
 pub placed_more : (ms : List Meaning) (names : List (List ℕ)) (i id : ℕ) (places : List ℕ) (one : Meaning) → IsInByteOrder names → ArePlacedBelow ms names i places → slice_get ms i ≡ Some one → slice_get names id ≡ Some one.name
     → ArePlacedBelow ms names (i + 1) (set places id i)

@@ -1,4 +1,4 @@
-use Rattle.std.proofs.Common.{◌≡◌, ◌<◌, ℕ, eqb, length, slice_get, Some, subst, arith}
+use Rattle.std.proofs.Common.{◌≡◌, ◌∙◌, ◌<◌, ℕ, List, eqb, length, slice_get, Some, Contains, ap, sym, subst, true≢false}
 use Rattle.std.proofs.lemmas.List.Elements.{contains_decides, Decides-contains}
 use Rattle.std.proofs.lemmas.Bool.Decides.{Decides-eqb}
 use Rattle.std.proofs.lemmas.Option.{slice_get_within}
@@ -6,7 +6,26 @@ use Rattle.rc_model.specs.Graph.{Needs}
 use Rattle.rc_holds.specs.Rows.{rows}
 use Rattle.rc_holds.proofs.RowLemmas.{row_is, row_needs}
 use Rattle.rc_model.proofs.ByteOrder.{one_place}
+use Rattle.rc_model.proofs.Places.{contains_at}
 use Rattle.rc_compile.proofs.pipes.has_pair.Goals as goal
+
+pub returns-in_default : goal.returns-in_default
+returns-in_default c = (
+  λ no. absurd (true≢false (sym no)),
+  λ (s, t, at_s, at_t, need). absurd (c.in_default.ensures.missing
+      (subst (Contains c.args.names.now) (sym c.text.ensures.bytes) (contains_at c.args.names.now s c.args.from.now at_s))),
+)
+
+pub returns-in_default-find : goal.returns-in_default-find
+returns-in_default-find c = (
+  λ no. absurd (true≢false (sym no)),
+  λ (s, t, at_s, at_t, need). absurd (c.in_default-find.ensures.missing
+      (subst (Contains c.args.names.now) (sym c.text-2.ensures.bytes) (contains_at c.args.names.now t c.args.to.now at_t))),
+)
+
+pub bounds-lists-from : goal.bounds-lists-from
+bounds-lists-from c =
+    subst (λ n. c.in-Some.from < n) (sym c.requires) (slice_get_within c.args.names.now c.in-Some.from c.text.result.now c.in-Some.ensures.found)
 
 pub returns : goal.returns
 returns c =
@@ -14,10 +33,10 @@ returns c =
     let from = c.in-Some.from in
     let to = c.in-Some-find.to in
     let list = c.deref.result.now in
-    let at_from : slice_get names from ≡ Some c.args.from.now = cc (c.in-Some.ensures.found, c.text.ensures.bytes) in
-    let at_to : slice_get names to ≡ Some c.args.to.now = cc (c.in-Some-find.ensures.found, c.text-2.ensures.bytes) in
-    let inside : from < length names = slice_get_within names from c.args.from.now at_from in
-    let row = row_needs c.args.lists.now from list (row_is c.args.lists.now from c.index-lists-from.result list (omega (arith, c.requires)) c.index-lists-from.is c.deref.ensures.value) in
+    let at_from : slice_get names from ≡ Some c.args.from.now = c.in-Some.ensures.found ∙ ap (λ (x : List ℕ). Some x) c.text.ensures.bytes in
+    let at_to : slice_get names to ≡ Some c.args.to.now = c.in-Some-find.ensures.found ∙ ap (λ (x : List ℕ). Some x) c.text-2.ensures.bytes in
+    let inside : from < length c.args.lists.now = subst (λ n. from < n) (sym c.requires) (slice_get_within names from c.args.from.now at_from) in
+    let row = row_needs c.args.lists.now from list (row_is c.args.lists.now from c.index-lists-from.result list inside c.index-lists-from.is c.deref.ensures.value) in
     let decides = Decides-contains list to c.contains.result (contains_decides eqb Decides-eqb list to c.contains.result c.contains.ensures.cases) in
     let order = c.len-count.ensures.names.order in (
       λ passed. (from, to, at_from, at_to, (row to).1 (decides.0 passed)),

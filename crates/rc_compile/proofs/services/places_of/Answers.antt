@@ -1,10 +1,21 @@
-use Rattle.std.proofs.Common.{◌≡◌, ◌∙◌, ℕ, List, Some, Contains, map, slice_get, sym, ap, subst, arith}
+use Rattle.std.proofs.Common.{◌≡◌, ◌∙◌, ◌<◌, ℕ, List, Some, Contains, length, map, slice_get, sym, ap, subst, arith}
 use Rattle.std.proofs.lemmas.List.{length-map}
+use Rattle.std.proofs.lemmas.Option.{slice_get_within}
 use Rattle.rc_source.specs.Said.{meaning_of}
 use Rattle.rc_source.specs.declared.definition.Definition.{Definition}
-use Rattle.rc_compile.proofs.Placing.{meaning_at, placed_more, placed_passed, placed_all}
+use Rattle.rc_compile.proofs.Placing.{meaning_at, placed_none, placed_more, placed_passed, placed_all}
 use Rattle.rc_compile.proofs.services.places_of.Goals as goal
 use Rattle.rc_compile.proofs.services.places_of.Goals.{in-Some, in_default}
+
+pub loop-place-init : goal.loop-place-init
+loop-place-init c =
+    placed_none (map meaning_of c.args.definitions.now) c.args.names.now c.in_ok-places.places.items
+    (omega (arith, c.in_ok-places.ensures.len, c.in_ok-places.places.ok.0, c.len.ensures.len))
+
+pub index_mut-requires : goal.index_mut-requires
+index_mut-requires c =
+    let low : c.in-Some.id < length c.args.names.now = slice_get_within c.args.names.now c.in-Some.id c.text.result.now c.in-Some.ensures.found in
+    omega (arith, low, c.loop-place.invariant.long, c.loop-place.places.ok.0)
 
 pub loop-place-preserved : goal.loop-place-preserved
 loop-place-preserved c =
