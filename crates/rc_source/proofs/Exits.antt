@@ -1,6 +1,6 @@
 -- The exit of a `?`.
 use Rattle.std.proofs.Common.{◌≡◌, ◌≢◌, Result, Ok, Err, refl, sym, subst}
-use Rattle.std.specs.Result.{IfErr, IsErrAnd}
+use Rattle.std.specs.Result.{IfOk, IfErr, OnOk, IsErrAnd}
 use Rattle.rc_source.specs.declared.fault.Flaw.{Flaw}
 use Rattle.rc_source.specs.declared.fault.Flaw.TheVariants.{Memory}
 
@@ -8,6 +8,15 @@ use Rattle.rc_source.specs.declared.fault.Flaw.TheVariants.{Memory}
 pub exit : {T E : Type 0} (r : Result T E) (told : E) (P : E → Type 0) → IsErrAnd r (λ e. e ≡ told) → P told → IfErr r P
 exit (Ok x) told P h p = tt
 exit (Err e) told P h p = subst P (sym h) p
+
+-- what is promised of a value is not of an error
+pub no_value : {T E : Type 0} (r : Result T E) (told : E) (P : T → Type 0) → IsErrAnd r (λ e. e ≡ told) → IfOk r P
+no_value (Ok x) told P h = absurd h
+no_value (Err e) told P h = tt
+
+pub no_success : {T E : Type 0} (r : Result T E) (told : E) (P : Type 0) → IsErrAnd r (λ e. e ≡ told) → OnOk r P
+no_success (Ok x) told P h = absurd h
+no_success (Err e) told P h = tt
 
 -- out of memory is no flaw that says more
 pub exit_memory : {T : Type 0} (r : Result T Flaw) (P : Flaw → Type 0) → IsErrAnd r (λ e. e ≡ Memory) → IfErr r (λ flaw. flaw ≢ Memory → P flaw)

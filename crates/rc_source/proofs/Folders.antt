@@ -3,7 +3,7 @@ use Rattle.std.proofs.Common.{◌≡◌, ◌↔◌, ◌⊎◌, ◌∙◌, ⊎_el
 use Rattle.std.specs.Result.{IfOk, OnOk}
 use Rattle.std.proofs.Math.ListN.{get_or-map}
 use Rattle.std.proofs.lemmas.List.{take_more, length-map}
-use Rattle.std.proofs.lemmas.List.Elements.{All-contains, Contains-append_cases, Contains-append_left, Contains-append_right}
+use Rattle.std.proofs.lemmas.List.Elements.{All-contains, Contains-get_or, Contains-append_cases, Contains-append_left, Contains-append_right}
 use Rattle.rc_model.specs.Names.{IsInByteOrder, IsName, IsBefore}
 use Rattle.rc_source.specs.declared.fault.Flaw.{Flaw}
 use Rattle.rc_source.specs.declared.fault.Flaw.TheVariants.{BadName}
@@ -58,6 +58,11 @@ push_shown f xs i x old new name within here pushed before same =
 -- what is shown at a place
 pub shown_at : {X : Type 0} (f : X → List ℕ) (xs : List X) (i : ℕ) (x : X) (e : List ℕ) → x ≡ get_or xs i x → e ≡ f x → e ≡ get_or (map f xs) i e
 shown_at f xs i x e here same = subst (λ n. n ≡ get_or (map f xs) i n) (sym same) (ap f here ∙ sym (get_or-map f xs i x))
+
+-- so it is shown
+pub is_shown : {X : Type 0} (f : X → List ℕ) (xs : List X) (i : ℕ) (x : X) → i < length xs → x ≡ get_or xs i x → Contains (map f xs) (f x)
+is_shown f xs i x within here =
+    subst (Contains (map f xs)) (sym (shown_at f xs i x (f x) here refl)) (Contains-get_or (map f xs) i (f x) (subst (λ n. i < n) (sym (length-map xs f)) within))
 
 -- one more name is looked at, and put in unless it is hidden
 pub seen_more : (mid new names : List (List ℕ)) (i : ℕ) (name : List ℕ) → take (i + 1) names ≡ take i names ++ name ∷ []

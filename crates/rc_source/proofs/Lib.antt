@@ -1,3 +1,4 @@
+mod Asking
 mod Digits
 mod EntryFiles
 mod EntryMeaning

@@ -37,3 +37,10 @@ pub one_name : (P : List ℕ → Type 0) (name line : List ℕ) → name ≡ lin
 one_name P name line e counted all =
     let here : All P (cond (counts name) (name ∷ []) []) = subst (λ l. All P (cond (counts l) (l ∷ []) [])) (sym e) all in
     All-head P name [] (subst (λ b. All P (cond b (name ∷ []) [])) counted here)
+
+-- a line that does not count gives no name, and any other gives one
+pub none_of_line : (line trimmed : List ℕ) → line ≡ trimmed → counts line ≡ false → filter counts (trimmed ∷ []) ≡ []
+none_of_line line trimmed e uncounted = ap (λ l. filter counts (l ∷ [])) (sym e) ∙ ap (λ b. cond b (line ∷ []) []) uncounted
+
+pub one_of_line : (line trimmed : List ℕ) → line ≡ trimmed → counts line ≡ true → filter counts (trimmed ∷ []) ≡ line ∷ []
+one_of_line line trimmed e counted = ap (λ l. filter counts (l ∷ [])) (sym e) ∙ ap (λ b. cond b (line ∷ []) []) counted
