@@ -69,21 +69,11 @@ pub returns-in_err-extend_from_slice-clause-taken : goal.returns-in_err-extend_f
 returns-in_err-extend_from_slice-clause-taken g c =
     takes_read _ _ c.read_some.new.buffer _ _ c.in_ok-count.count c.in_ok-count.ensures.bytes.0 c.in_ok-count.ensures.bound.0 (ap (λ (h : Held). h.taken) c.self.view_is)
 
-pub returns-in_err-extend_from_slice-clause-within : goal.returns-in_err-extend_from_slice-clause-within
-returns-in_err-extend_from_slice-clause-within g c =
-    taken_within _ _ _ c.self.invariant.1 (room_given (16777217 - c.self.inside.taken) _ _ _ c.min-room.ensures c.read_some.auto.buffer) c.in_ok-count.ensures.bound.0
-
 pub returns-in_err-extend_from_slice-clause-told : goal.returns-in_err-extend_from_slice-clause-told
 returns-in_err-extend_from_slice-clause-told g c = λ failed. absurd (c.requires (c.in_ok-count.ensures.sound failed))
 
 pub returns-in_err-extend_from_slice-clause-fault : goal.returns-in_err-extend_from_slice-clause-fault
 returns-in_err-extend_from_slice-clause-fault g c = by_memory _ _ c.from_residual-in_err-extend_from_slice.ensures.1 tt
-
-pub invariant_of-self-2 : goal.invariant_of-self-2
-invariant_of-self-2 g c = (
-  zero-le,
-  taken_within _ _ _ c.self.invariant.1 (room_given (16777217 - c.self.inside.taken) _ _ _ c.min-room.ensures c.read_some.auto.buffer) c.in_ok-count.ensures.bound.0,
-)
 
 pub returns-clause-read : goal.returns-clause-read
 returns-clause-read g c =
@@ -104,3 +94,13 @@ returns-clause-sound g c = λ failed. c.requires (c.in_ok-count.ensures.sound fa
 
 pub returns-clause-told : goal.returns-clause-told
 returns-clause-told g c = λ failed. absurd (c.requires (c.in_ok-count.ensures.sound failed))
+
+pub returns-in_err-extend_from_slice-clause-within : goal.returns-in_err-extend_from_slice-clause-within
+returns-in_err-extend_from_slice-clause-within g c =
+    taken_within _ _ _ c.self.invariant.1 (room_given (16777217 - c.self.inside.taken) _ _ _ c.min-room.ensures c.read_some.auto.buffer) c.in_ok-count.ensures.bound.0
+
+pub invariant_of-self-2 : goal.invariant_of-self-2
+invariant_of-self-2 g c = (
+  zero-le,
+  taken_within _ _ _ c.self.invariant.1 (room_given (16777217 - c.self.inside.taken) _ _ _ c.min-room.ensures c.read_some.auto.buffer) c.in_ok-count.ensures.bound.0,
+)
