@@ -1,5 +1,5 @@
 //! Sessions, and sessions of one line, which go on with a file and are kept there.
-ghost use Rattle.std.specs.Prelude.{◌≤◌};
+ghost use Rattle.std.specs.Prelude.{◌≤◌, IfSome};
 ghost use Rattle.rc_board.specs.Crew.{IsCrew};
 ghost use Rattle.rc_asked.specs.OnceAsked.{HasNoEvents, once_ask_of};
 
@@ -32,11 +32,53 @@ pub fn session<'a, T: Threads + Wait + Sync>(
     requires crew { IsCrew request.workers }
     requires bound { 3 ≤ request.bound }
 {
-    let file = usual.base_or(file);
     request.live = usual.live_or(request.live);
+    run(rt, threads, &request, None, usual.base_or(file))
+}
+
+/// Runs a session of one line, and answers the status, which tells how the line ended.
+pub fn once<'a, T: Threads + Wait + Sync>(
+    rt: &'a HostRuntime,
+    threads: &T,
+    request: OnceRequest<'a>,
+    file: Option<&'a str>,
+    usual: &'a Usual,
+) -> u8
+    requires crew { IsCrew request.session.workers }
+    requires bound { 3 ≤ request.session.bound }
+    requires eventless { HasNoEvents (once_ask_of request).what }
+{
+    let mut session = request.session;
+    session.live = usual.live_or(session.live);
+    let request = OnceRequest {
+        once: request.once,
+        session,
+    };
+    run(
+        rt,
+        threads,
+        &request.session,
+        Some(&request),
+        usual.base_or(file),
+    )
+}
+
+/// Runs a session, of the one line where that is given, and answers the status.
+fn run<T: Threads + Wait + Sync>(
+    rt: &HostRuntime,
+    threads: &T,
+    request: &SessionRequest<'_>,
+    once: Option<&OnceRequest<'_>>,
+    file: Option<&str>,
+) -> u8
+    requires crew { IsCrew request.now.workers }
+    requires bound { 3 ≤ request.now.bound }
+    requires once { IfSome once (λ one. IsCrew one.now.session.workers × (3 ≤ one.now.session.bound)
+        × HasNoEvents (once_ask_of one.now).what) }
+{
     match base_at(rt, file) {
         Ok(base) => {
-            let status = session_on(rt, threads, &request, file, base.as_deref());
+            let status = run_on(rt, threads, request, once, file, base.as_deref());
             drop(base);
             status
         }
@@ -45,20 +87,24 @@ pub fn session<'a, T: Threads + Wait + Sync>(
 }
 
 /// The same with what was read of the file of `-b`.
-fn session_on<T: Threads + Wait + Sync>(
+fn run_on<T: Threads + Wait + Sync>(
     rt: &HostRuntime,
     threads: &T,
     request: &SessionRequest<'_>,
+    once: Option<&OnceRequest<'_>>,
     file: Option<&str>,
     base: Option<&[u8]>,
 ) -> u8
     requires crew { IsCrew request.now.workers }
     requires bound { 3 ≤ request.now.bound }
+    requires once { IfSome once (λ one. IsCrew one.now.session.workers × (3 ≤ one.now.session.bound)
+        × HasNoEvents (once_ask_of one.now).what) }
 {
-    match lock_at(rt, request.live, request.waits) {
+    let kept = if moves(once) { request.live } else { None };
+    match lock_at(rt, kept, request.waits) {
         Ok(lock) => {
             let text = live_at(rt, request.live);
-            let status = session_from(rt, threads, request, file, base, &text, lock);
+            let status = run_from(rt, threads, request, once, file, base, &text, lock);
             drop(text);
             status
         }
@@ -67,10 +113,11 @@ fn session_on<T: Threads + Wait + Sync>(
 }
 
 /// The same with the lock, and what was read of the file of `-l`.
-fn session_from<T: Threads + Wait + Sync>(
+fn run_from<T: Threads + Wait + Sync>(
     rt: &HostRuntime,
     threads: &T,
     request: &SessionRequest<'_>,
+    once: Option<&OnceRequest<'_>>,
     file: Option<&str>,
     base: Option<&[u8]>,
     text: &io::Result<Option<Vec<u8>>>,
@@ -78,27 +125,42 @@ fn session_from<T: Threads + Wait + Sync>(
 ) -> u8
     requires crew { IsCrew request.now.workers }
     requires bound { 3 ≤ request.now.bound }
+    requires once { IfSome once (λ one. IsCrew one.now.session.workers × (3 ≤ one.now.session.bound)
+        × HasNoEvents (once_ask_of one.now).what) }
 {
-    let reads = if file.is_none() {
-        Some("the database and the session's lines")
-    } else {
-        None
-    };
-    let mut typed = Typed::new(rt, reads);
+    let mut typed = Typed::new(rt, reads(file, once));
     let mut answers = Answers::new(rt, base);
     let mut told = Told::new(rt.alloc(), rt.stderr());
-    let status = session_as_asked(
-        threads,
-        rt,
-        rt.alloc(),
-        request,
-        base,
-        live_file(text),
-        &mut TextKeeper::new(LiveStore::new(rt, request.live.unwrap_or(""))),
-        &mut Noted::new(&mut typed),
-        &mut Noted::new(&mut answers),
-        &mut told,
-    );
+    let mut keeper = TextKeeper::new(LiveStore::new(rt, request.live.unwrap_or("")));
+    let mut reader = Noted::new(&mut typed);
+    let mut writer = Noted::new(&mut answers);
+    let live = live_file(text);
+    let status = match once {
+        None => session_as_asked(
+            threads,
+            rt,
+            rt.alloc(),
+            request,
+            base,
+            live,
+            &mut keeper,
+            &mut reader,
+            &mut writer,
+            &mut told,
+        ),
+        Some(one) => once_as_asked(
+            threads,
+            rt,
+            rt.alloc(),
+            one,
+            base,
+            live,
+            &mut keeper,
+            &mut reader,
+            &mut writer,
+            &mut told,
+        ),
+    };
     drop(lock);
     let seen = Seen::new(file, base, typed.kept());
     tell_behind(rt, request.live, text, &seen, &answers, &told);
@@ -106,6 +168,17 @@ fn session_from<T: Threads + Wait + Sync>(
     drop(answers);
     drop(typed);
     status
+}
+
+/// What is read whole, as a person at a terminal is told.
+fn reads(file: Option<&str>, once: Option<&OnceRequest<'_>>) -> Option<&'static str> {
+    if file.is_some() {
+        return None;
+    }
+    match once {
+        Some(_) => Some("the database"),
+        None => Some("the database and the session's lines"),
+    }
 }
 
 /// Tells what helps after a session.
@@ -123,108 +196,13 @@ fn tell_behind(
     behind_session(rt, live, text, seen, told);
 }
 
-/// Runs a session of one line, and answers the status, which tells how the line ended.
-pub fn once<'a, T: Threads + Wait + Sync>(
-    rt: &'a HostRuntime,
-    threads: &T,
-    request: OnceRequest<'a>,
-    file: Option<&'a str>,
-    usual: &'a Usual,
-) -> u8
-    requires crew { IsCrew request.session.workers }
-    requires bound { 3 ≤ request.session.bound }
-    requires eventless { HasNoEvents (once_ask_of request).what }
-{
-    let file = usual.base_or(file);
-    let mut session = request.session;
-    session.live = usual.live_or(session.live);
-    let request = OnceRequest {
-        once: request.once,
-        session,
-    };
-    match base_at(rt, file) {
-        Ok(base) => {
-            let status = once_on(rt, threads, &request, file, base.as_deref());
-            drop(base);
-            status
-        }
-        Err(error) => tell_file(rt, file.unwrap_or(""), &error),
-    }
-}
-
-/// The same with what was read of the file of `-b`.
-fn once_on<T: Threads + Wait + Sync>(
-    rt: &HostRuntime,
-    threads: &T,
-    request: &OnceRequest<'_>,
-    file: Option<&str>,
-    base: Option<&[u8]>,
-) -> u8
-    requires crew { IsCrew request.now.session.workers }
-    requires bound { 3 ≤ request.now.session.bound }
-    requires eventless { HasNoEvents (once_ask_of request.now).what }
-{
-    let live = request.session.live;
-    let kept = if moves(&request.once) { live } else { None };
-    match lock_at(rt, kept, request.session.waits) {
-        Ok(lock) => {
-            let text = live_at(rt, live);
-            let status = once_from(rt, threads, request, file, base, &text, lock);
-            drop(text);
-            status
-        }
-        Err(fault) => tell_lock(rt, live, &fault),
-    }
-}
-
-/// The same with the lock, and what was read of the file of `-l`.
-fn once_from<T: Threads + Wait + Sync>(
-    rt: &HostRuntime,
-    threads: &T,
-    request: &OnceRequest<'_>,
-    file: Option<&str>,
-    base: Option<&[u8]>,
-    text: &io::Result<Option<Vec<u8>>>,
-    lock: Option<LiveLock>,
-) -> u8
-    requires crew { IsCrew request.now.session.workers }
-    requires bound { 3 ≤ request.now.session.bound }
-    requires eventless { HasNoEvents (once_ask_of request.now).what }
-{
-    let live = request.session.live;
-    let reads = if file.is_none() {
-        Some("the database")
-    } else {
-        None
-    };
-    let mut typed = Typed::new(rt, reads);
-    let mut answers = Answers::new(rt, base);
-    let mut told = Told::new(rt.alloc(), rt.stderr());
-    let status = once_as_asked(
-        threads,
-        rt,
-        rt.alloc(),
-        request,
-        base,
-        live_file(text),
-        &mut TextKeeper::new(LiveStore::new(rt, live.unwrap_or(""))),
-        &mut Noted::new(&mut typed),
-        &mut Noted::new(&mut answers),
-        &mut told,
-    );
-    drop(lock);
-    let seen = Seen::new(file, base, typed.kept());
-    tell_behind(rt, live, text, &seen, &answers, &told);
-    drop(told);
-    drop(answers);
-    drop(typed);
-    status
-}
-
-/// Whether a line is to do something, and not only to show it. Who only looks takes no lock: the
+/// Whether a session is to do something, and not only to show it. Who only looks takes no lock: the
 /// file is replaced whole, so what is read is one text of it.
-fn moves(once: &Once) -> bool {
-    matches!(once, Once::Line(SessionLine::Step(_)))
+fn moves(once: Option<&OnceRequest<'_>>) -> bool {
+    match once {
+        Some(one) => matches!(one.once, Once::Line(SessionLine::Step(_))),
+        None => true,
+    }
 }
 
 /// The lock of the file of `-l`, where one is named. It is held until it is dropped.
