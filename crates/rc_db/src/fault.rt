@@ -1,27 +1,40 @@
 use std::alloc::AllocError;
+use std::fmt;
 use thiserror::Error;
 
 /// Why a query has no answer. The first fault in this order is the one that is reported.
 #[derive(Clone, Copy, PartialEq, Eq, Debug, Error)]
 pub enum QueryFault {
     /// The word at this place, counted from 0, is the name of nothing.
-    #[error("unknown name")]
     Unknown(usize),
     /// The name is a bundle's, where a service's is asked for.
-    #[error("a bundle")]
     NotAtomic,
     /// The name is a service's, where a bundle's is asked for.
-    #[error("no bundle")]
     NotBundle,
     /// The name is a oneshot's, where a longrun's is asked for.
-    #[error("no longrun")]
     NotLongrun,
     /// The name is a longrun's, where a oneshot's is asked for.
-    #[error("no oneshot")]
     NotOneshot,
     /// There was no room for the answer.
-    #[error("out of memory")]
     Memory,
+}
+
+// What is told of a fault.
+fn told_of(fault: &QueryFault) -> &'static str {
+    match fault {
+        QueryFault::Unknown(_) => "unknown name",
+        QueryFault::NotAtomic => "a bundle",
+        QueryFault::NotBundle => "no bundle",
+        QueryFault::NotLongrun => "no longrun",
+        QueryFault::NotOneshot => "no oneshot",
+        QueryFault::Memory => "out of memory",
+    }
+}
+
+impl fmt::Display for QueryFault {
+    fn fmt<W: fmt::Write>(&self, f: &mut fmt::Formatter<W>) -> fmt::Result {
+        f.write_str(told_of(self))
+    }
 }
 
 impl From<AllocError> for QueryFault {

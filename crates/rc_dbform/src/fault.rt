@@ -1,17 +1,33 @@
+use std::fmt;
 use thiserror::Error;
 
 /// Why bytes do not begin with the text of a database, by their form alone.
 #[derive(Clone, Copy, PartialEq, Eq, Debug, Error)]
 pub enum FormFault {
     /// A line has not the form that is due. So many bytes are left from it on.
-    #[error("a line has not the form that is due, {0} bytes before the end")]
     Bad(usize),
     /// The first line names another version.
-    #[error("another version")]
     Version,
     /// A count is above 4,096.
-    #[error("more than 4,096 services or bundles")]
     TooMany,
-    #[error("out of memory")]
     Memory,
+}
+
+// What is told of a fault, but for where it is.
+fn told_of(fault: &FormFault) -> &'static str {
+    match fault {
+        FormFault::Bad(_) => "a line has not the form that is due",
+        FormFault::Version => "another version",
+        FormFault::TooMany => "more than 4,096 services or bundles",
+        FormFault::Memory => "out of memory",
+    }
+}
+
+impl fmt::Display for FormFault {
+    fn fmt<W: fmt::Write>(&self, f: &mut fmt::Formatter<W>) -> fmt::Result {
+        match self {
+            FormFault::Bad(left) => write!(f, "{}, {left} bytes before the end", told_of(self)),
+            fault => f.write_str(told_of(fault)),
+        }
+    }
 }

@@ -1,26 +1,42 @@
+use std::fmt;
 use thiserror::Error;
 
 /// Why bytes are not the text of a database.
 #[derive(Clone, Copy, PartialEq, Eq, Debug, Error)]
 pub enum TextFault {
     /// The line at this offset has not the form that is due there, or more bytes follow the text.
-    #[error("a line has not the form that is due, at byte {0}")]
     Bad(usize),
     /// The first line names another version.
-    #[error("another version")]
     Version,
     /// Names do not ascend, or one stands twice.
-    #[error("names do not ascend")]
     NotSorted,
     /// Some service needs itself along a path.
-    #[error("services need each other in a circle")]
     Cyclic,
     /// A count is above 4,096.
-    #[error("more than 4,096 services or bundles")]
     TooMany,
     /// A name stands for no service, or for none that may stand there.
-    #[error("a name of no service that may stand there")]
     Dangling,
-    #[error("out of memory")]
     Memory,
+}
+
+// What is told of a fault, but for where it is.
+fn told_of(fault: &TextFault) -> &'static str {
+    match fault {
+        TextFault::Bad(_) => "a line has not the form that is due",
+        TextFault::Version => "another version",
+        TextFault::NotSorted => "names do not ascend",
+        TextFault::Cyclic => "services need each other in a circle",
+        TextFault::TooMany => "more than 4,096 services or bundles",
+        TextFault::Dangling => "a name of no service that may stand there",
+        TextFault::Memory => "out of memory",
+    }
+}
+
+impl fmt::Display for TextFault {
+    fn fmt<W: fmt::Write>(&self, f: &mut fmt::Formatter<W>) -> fmt::Result {
+        match self {
+            TextFault::Bad(at) => write!(f, "{}, at byte {at}", told_of(self)),
+            fault => f.write_str(told_of(fault)),
+        }
+    }
 }

@@ -5,6 +5,7 @@
 #![tactic(auto)]
 
 use std::alloc::AllocError;
+use std::fmt;
 use thiserror::Error;
 
 /// The most services that a database has; of bundles it has no more than that either.
@@ -37,14 +38,17 @@ pub enum Mode {
 #[derive(Clone, Copy, PartialEq, Eq, Debug, Error)]
 pub enum PlanFault {
     /// Only a change upwards prunes, that is, lets go what is not wanted.
-    #[error("prune goes with up alone")]
     PruneNeedsUp,
     /// The word at this place, counted from 0, is the name of nothing.
-    #[error("unknown name")]
     Unknown(usize),
     /// Memory ran out.
-    #[error("out of memory")]
     Memory,
+}
+
+impl fmt::Display for PlanFault {
+    fn fmt<W: fmt::Write>(&self, f: &mut fmt::Formatter<W>) -> fmt::Result {
+        f.write_str(told_of(&Refusal::from(*self)))
+    }
 }
 
 impl From<AllocError> for PlanFault {
@@ -63,23 +67,23 @@ impl From<AllocError> for PlanFault {
 #[derive(Clone, Copy, PartialEq, Eq, Debug, Error)]
 pub enum BundleFault {
     /// The word at this place is the name of a service. In a definition place 0 is the name.
-    #[error("a service has that name")]
     IsAtomic(usize),
     /// The name is a bundle's, and nothing is forced.
-    #[error("there is such a bundle")]
     Exists,
     /// The word at this place is no bundle's name, and nothing is forced.
-    #[error("there is no such bundle")]
     Missing(usize),
     /// The word at this place is the name of nothing. The contents of a definition count from 1.
-    #[error("unknown name")]
     Unknown(usize),
     /// Memory ran out.
-    #[error("out of memory")]
     Memory,
     /// The name is new, and the table has as many bundles as it may have.
-    #[error("there are too many bundles")]
     Full,
+}
+
+impl fmt::Display for BundleFault {
+    fn fmt<W: fmt::Write>(&self, f: &mut fmt::Formatter<W>) -> fmt::Result {
+        f.write_str(told_of(&Refusal::from(*self)))
+    }
 }
 
 impl From<AllocError> for BundleFault {
@@ -132,40 +136,52 @@ pub enum Standing {
 #[derive(Clone, Copy, PartialEq, Eq, Debug, Error)]
 pub enum Refusal {
     /// The event at this place is not legal after those before it.
-    #[error("an event is not legal after those before it")]
     BadEvent(usize),
     /// The events are legal and leave something to do. The place is their number.
-    #[error("the events leave something to do")]
     NotSettled(usize),
-    #[error("prune goes with up alone")]
     PruneNeedsUp,
     /// The word at this place is the name of nothing.
-    #[error("unknown name")]
     Unknown(usize),
     /// The word at this place is the name of a service.
-    #[error("a service has that name")]
     IsAtomic(usize),
-    #[error("there is such a bundle")]
     Exists,
     /// The word at this place is no bundle.
-    #[error("there is no such bundle")]
     Missing(usize),
-    #[error("there are too many bundles")]
     Full,
-    #[error("there is nothing to undo")]
     NothingToUndo,
-    #[error("there is nothing to redo")]
     NothingToRedo,
     /// Services move between the current state and the one beside it. Only the calls that undo or
     /// redo an edit, and no run, give this. No answer of the eight modules is this, `Strange` or
     /// `Memory`.
-    #[error("services moved between the two states")]
     NotEdit,
     /// The session is poisoned: a run of it was lost, so nobody can tell what is live.
-    #[error("the session is poisoned")]
     Strange,
-    #[error("out of memory")]
     Memory,
+}
+
+// What is told of a refusal.
+fn told_of(refusal: &Refusal) -> &'static str {
+    match refusal {
+        Refusal::BadEvent(_) => "an event is not legal after those before it",
+        Refusal::NotSettled(_) => "the events leave something to do",
+        Refusal::PruneNeedsUp => "prune goes with up alone",
+        Refusal::Unknown(_) => "unknown name",
+        Refusal::IsAtomic(_) => "a service has that name",
+        Refusal::Exists => "there is such a bundle",
+        Refusal::Missing(_) => "there is no such bundle",
+        Refusal::Full => "there are too many bundles",
+        Refusal::NothingToUndo => "there is nothing to undo",
+        Refusal::NothingToRedo => "there is nothing to redo",
+        Refusal::NotEdit => "services moved between the two states",
+        Refusal::Strange => "the session is poisoned",
+        Refusal::Memory => "out of memory",
+    }
+}
+
+impl fmt::Display for Refusal {
+    fn fmt<W: fmt::Write>(&self, f: &mut fmt::Formatter<W>) -> fmt::Result {
+        f.write_str(told_of(self))
+    }
 }
 
 impl From<AllocError> for Refusal {
@@ -199,14 +215,17 @@ impl From<PlanFault> for Refusal {
 #[derive(Clone, Copy, PartialEq, Eq, Debug, Error)]
 pub enum LineFault {
     /// The current state is the first.
-    #[error("there is nothing to undo")]
     NothingToUndo = 1,
     /// The current state is the last.
-    #[error("there is nothing to redo")]
     NothingToRedo = 2,
     /// Memory ran out.
-    #[error("out of memory")]
     Memory = 3,
+}
+
+impl fmt::Display for LineFault {
+    fn fmt<W: fmt::Write>(&self, f: &mut fmt::Formatter<W>) -> fmt::Result {
+        f.write_str(told_of(&Refusal::from(*self)))
+    }
 }
 
 impl From<AllocError> for LineFault {

@@ -4,6 +4,7 @@ ghost use Rattle.rc_names.specs.Name.{IsWrongBy};
 
 use crate::NoMem;
 use std::alloc::Global;
+use std::fmt;
 use std::marker::Model;
 use thiserror::Error;
 
@@ -16,16 +17,29 @@ const RESERVED: &str = "s6rc-";
 /// Why a text is no name. The first fault in this order is the one that is reported.
 #[derive(Clone, Copy, PartialEq, Eq, Debug, Error)]
 pub enum NameFault {
-    #[error("a name has at least one byte")]
     Empty = 1,
-    #[error("a name has at most 255 bytes")]
     Long = 2,
-    #[error("a name has no control character, space or slash, and begins with neither `-` nor `#`")]
     BadByte = 3,
-    #[error("names that begin with `s6rc-` are reserved")]
     Reserved = 4,
-    #[error("out of memory")]
     Memory = 5,
+}
+
+// What is told of a fault.
+fn told_of(fault: &NameFault) -> &'static str {
+    match fault {
+        NameFault::Empty => "a name has at least one byte",
+        NameFault::Long => "a name has at most 255 bytes",
+        NameFault::BadByte =>
+            "a name has no control character, space or slash, and begins with neither `-` nor `#`",
+        NameFault::Reserved => "names that begin with `s6rc-` are reserved",
+        NameFault::Memory => "out of memory",
+    }
+}
+
+impl fmt::Display for NameFault {
+    fn fmt<W: fmt::Write>(&self, f: &mut fmt::Formatter<W>) -> fmt::Result {
+        f.write_str(told_of(self))
+    }
 }
 
 /// The name of a service.

@@ -5,6 +5,7 @@ ghost use Rattle.rc_tree.specs.TreeFaults.{IsCallFault, IsReadFault};
 
 use rc_names::NoMem;
 use std::alloc::{AllocError, AllocFailed, Global};
+use std::fmt;
 use thiserror::Error;
 
 /// The most bytes of a file that is read.
@@ -13,12 +14,24 @@ pub const MAX_FILE: usize = 65536;
 /// Why a tree does not answer.
 #[derive(Clone, Copy, PartialEq, Eq, Debug, Error)]
 pub enum TreeFault {
-    #[error("the device failed")]
     Io = 1,
-    #[error("a file is too long")]
     TooLong = 2,
-    #[error("out of memory")]
     Memory = 3,
+}
+
+// What is told of a fault.
+fn told_of(fault: &TreeFault) -> &'static str {
+    match fault {
+        TreeFault::Io => "the device failed",
+        TreeFault::TooLong => "a file is too long",
+        TreeFault::Memory => "out of memory",
+    }
+}
+
+impl fmt::Display for TreeFault {
+    fn fmt<W: fmt::Write>(&self, f: &mut fmt::Formatter<W>) -> fmt::Result {
+        f.write_str(told_of(self))
+    }
 }
 
 impl From<AllocError> for TreeFault {
