@@ -2,7 +2,8 @@ use Rattle.std.proofs.Common.{◌≡◌, ◌∙◌, inl, inr, false, Contains, m
 use Rattle.rc_tree.specs.Tree.{file_at, names_next}
 use Rattle.rc_source.specs.Kinds.{Names, NameEach, is_hidden}
 use Rattle.rc_source.specs.Meaning.{given_in}
-use Rattle.rc_source.proofs.Exits.{exit, exit_memory}
+use Rattle.rc_source.proofs.Asking.{asked_memory, asked_ok, asked_on, asked_then}
+use Rattle.rc_source.proofs.Exits.{exit, exit_memory, no_success, no_value}
 use Rattle.rc_source.proofs.EntryFiles.{two_pass}
 use Rattle.rc_source.proofs.Folders.{lists_both}
 use Rattle.rc_source.proofs.entry.joined_at.Goals as goal
@@ -28,3 +29,49 @@ returns-clause-names g c = λ source known.
 pub returns-clause-passes : goal.returns-clause-passes
 returns-clause-passes g c = λ source known. two_pass source c.args.entry.now (c.args.file.now, Names) (c.args.folder.now, NameEach)
     (c.in_ok-add_names_at.ensures.passes source known) (c.in_ok-add_folder_at.ensures.passes source (c.in_ok-add_names_at.ensures.asked.same ∙ known))
+
+pub returns-in_err-add_names_at-clause-names : goal.returns-in_err-add_names_at-clause-names
+returns-in_err-add_names_at-clause-names g c = no_value c.from_residual.result c.in_err-add_names_at.field-0.0 _ c.from_residual.ensures.1
+
+pub returns-in_err-add_names_at-clause-each : goal.returns-in_err-add_names_at-clause-each
+returns-in_err-add_names_at-clause-each g c = no_value c.from_residual.result c.in_err-add_names_at.field-0.0 _ c.from_residual.ensures.1
+
+pub returns-in_err-add_names_at-clause-passes : goal.returns-in_err-add_names_at-clause-passes
+returns-in_err-add_names_at-clause-passes g c = no_success c.from_residual.result c.in_err-add_names_at.field-0.0 _ c.from_residual.ensures.1
+
+pub returns-in_err-add_names_at-clause-asked : goal.returns-in_err-add_names_at-clause-asked
+returns-in_err-add_names_at-clause-asked g c = asked_on c.from_residual.result c.in_err-add_names_at.field-0.0 _ _ _ _ c.from_residual.ensures.1 c.in_err-add_names_at.ensures.asked
+
+pub returns-in_err-add_folder_at-clause-names : goal.returns-in_err-add_folder_at-clause-names
+returns-in_err-add_folder_at-clause-names g c = no_value c.from_residual-in_err-add_folder_at.result c.in_err-add_folder_at.field-0.0 _ c.from_residual-in_err-add_folder_at.ensures.1
+
+pub returns-in_err-add_folder_at-clause-each : goal.returns-in_err-add_folder_at-clause-each
+returns-in_err-add_folder_at-clause-each g c = no_value c.from_residual-in_err-add_folder_at.result c.in_err-add_folder_at.field-0.0 _ c.from_residual-in_err-add_folder_at.ensures.1
+
+pub returns-in_err-add_folder_at-clause-passes : goal.returns-in_err-add_folder_at-clause-passes
+returns-in_err-add_folder_at-clause-passes g c = no_success c.from_residual-in_err-add_folder_at.result c.in_err-add_folder_at.field-0.0 _ c.from_residual-in_err-add_folder_at.ensures.1
+
+pub returns-in_err-add_folder_at-clause-asked : goal.returns-in_err-add_folder_at-clause-asked
+returns-in_err-add_folder_at-clause-asked g c =
+    asked_then _ _ _ _ _ _ _ c.in_ok-add_names_at.ensures.asked.same c.in_ok-add_names_at.ensures.asked.quiet
+    (asked_on c.from_residual-in_err-add_folder_at.result c.in_err-add_folder_at.field-0.0 _ _ _ _ c.from_residual-in_err-add_folder_at.ensures.1 c.in_err-add_folder_at.ensures.asked)
+
+pub returns-in_err-names-clause-names : goal.returns-in_err-names-clause-names
+returns-in_err-names-clause-names g c = no_value c.from_residual-in_err-names.result _ _ c.from_residual-in_err-names.ensures.1
+
+pub returns-in_err-names-clause-each : goal.returns-in_err-names-clause-each
+returns-in_err-names-clause-each g c = no_value c.from_residual-in_err-names.result _ _ c.from_residual-in_err-names.ensures.1
+
+pub returns-in_err-names-clause-passes : goal.returns-in_err-names-clause-passes
+returns-in_err-names-clause-passes g c = no_success c.from_residual-in_err-names.result _ _ c.from_residual-in_err-names.ensures.1
+
+pub returns-in_err-names-clause-asked : goal.returns-in_err-names-clause-asked
+returns-in_err-names-clause-asked g c = asked_memory c.from_residual-in_err-names.result _ _ _ _ c.from_residual-in_err-names.ensures.1
+    (c.in_ok-add_folder_at.ensures.asked.same ∙ c.in_ok-add_names_at.ensures.asked.same) (c.in_ok-add_folder_at.ensures.asked.quiet ∙ c.in_ok-add_names_at.ensures.asked.quiet)
+
+pub returns-clause-each : goal.returns-clause-each
+returns-clause-each g c = c.in_ok-names.ensures.each
+
+pub returns-clause-asked : goal.returns-clause-asked
+returns-clause-asked g c = asked_ok _ _ _ _ _ (c.in_ok-add_folder_at.ensures.asked.same ∙ c.in_ok-add_names_at.ensures.asked.same)
+    (c.in_ok-add_folder_at.ensures.asked.quiet ∙ c.in_ok-add_names_at.ensures.asked.quiet)
