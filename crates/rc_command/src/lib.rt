@@ -3,6 +3,7 @@
 
 mod commands;
 mod query_words;
+mod told;
 mod words;
 
 pub use crate::query_words::{NameQuery, NamesQuery, name_query, names_query};

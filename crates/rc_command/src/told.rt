@@ -1,0 +1,262 @@
+//! The commands of the program and their arguments, in the order of its help.
+use ToldArg::{Flag, Needed, Query, Valued, Words};
+
+/// An argument of a command.
+pub(crate) enum ToldArg {
+    /// A flag: its id, its letter, and what help says of it.
+    Flag(&'static str, char, &'static str),
+    /// An option: its id, its letter, the name of its value, and what help says of it.
+    Valued(&'static str, char, &'static str, &'static str),
+    /// The same, where the option must be given.
+    Needed(&'static str, char, &'static str, &'static str),
+    /// The word that is the query.
+    Query,
+    /// Words: how many there must be, the name of one, and what help says of them.
+    Words(usize, &'static str, &'static str),
+}
+
+/// A command: its name, what help says of it, and its arguments.
+pub(crate) struct ToldCommand {
+    pub(crate) name: &'static str,
+    pub(crate) about: &'static str,
+    pub(crate) args: &'static [ToldArg],
+}
+
+const BASE: ToldArg = Valued(
+    "base",
+    'b',
+    "FILE",
+    "Read the database from this file, and not from the front of the input",
+);
+
+const COMPILE: [ToldArg; 3] = [
+    Valued(
+        "output",
+        'o',
+        "FILE",
+        "Put it into this file, once it is whole, and not on standard output",
+    ),
+    Flag(
+        "verbose",
+        'v',
+        "Tell which files were not looked at, on standard error",
+    ),
+    Words(
+        1,
+        "SOURCE",
+        "A directory that has a subdirectory for each service or bundle",
+    ),
+];
+
+const DB: [ToldArg; 5] = [
+    BASE,
+    Flag(
+        "down",
+        'd',
+        "Ask for what needs the names, or for the way down",
+    ),
+    Valued(
+        "live",
+        'l',
+        "FILE",
+        "With dot: fill what is up in the session that this file holds",
+    ),
+    Query,
+    Words(0, "WORD", "The names that it is asked of"),
+];
+
+// The flags of the three ways.
+const UP: ToldArg = Flag(
+    "up",
+    'u',
+    "Raise the names and all that they need; so it is without -d and -D",
+);
+
+const DOWN: ToldArg = Flag(
+    "down",
+    'd',
+    "Lower the names and all that need them, but for what essential services hold up",
+);
+
+const DOWN_ALL: ToldArg = Flag("down-all", 'D', "Lower the names and all that need them");
+
+// The flags of the names, and the names.
+const PRUNE: ToldArg = Flag(
+    "prune",
+    'p',
+    "With -u: lower what is not named, but for what essential services hold up",
+);
+
+const ALL: ToldArg = Flag("all", 'a', "Name all that is up, too");
+
+const NAMES: ToldArg = Words(0, "NAME", "The name of a service or of a bundle");
+
+const PLAN: [ToldArg; 7] = [BASE, UP, DOWN, DOWN_ALL, PRUNE, ALL, NAMES];
+
+// How many transitions are made at once, and which of them fail.
+const WORKERS: ToldArg = Valued(
+    "workers",
+    'w',
+    "N",
+    "Make so many transitions at once, 1 to 64; 4 without it",
+);
+
+const FAILING: ToldArg = Valued(
+    "failing",
+    'x',
+    "LIST",
+    "Start nothing, and let these transitions fail: `none`, or `up:NAME` and `down:NAME` joined by commas",
+);
+
+// The programs that are started.
+const RUNNER: ToldArg = Valued(
+    "runner",
+    'r',
+    "TEXT",
+    "Start this program, with these words, for a oneshot, whose text is its last word; `/bin/sh -c` without it",
+);
+
+const CONTROLLER: ToldArg = Valued(
+    "controller",
+    'c',
+    "TEXT",
+    "Start this program, with these words, for a longrun; `up` or `down` and the name are its last words",
+);
+
+// How long a transition may take, and that each is told.
+const USUAL: ToldArg = Valued(
+    "usual",
+    'T',
+    "MS",
+    "Give services that have no limit this one, in milliseconds",
+);
+
+const VERBOSE: ToldArg = Flag(
+    "verbose",
+    'v',
+    "Tell each transition as it begins and as it ends, on standard error",
+);
+
+// The file that a session goes on with and is kept in, and that it is waited for.
+const LIVE: ToldArg = Valued(
+    "live",
+    'l',
+    "FILE",
+    "Go on with the session that this file holds, and keep it there",
+);
+
+const WAIT: ToldArg = Flag(
+    "wait",
+    'W',
+    "Wait where another program holds the file of -l",
+);
+
+const BOUND: ToldArg = Valued(
+    "bound",
+    'n',
+    "N",
+    "Keep so many states of a new session at most, 3 or more; 1024 without it",
+);
+
+const LIMIT: ToldArg = Valued(
+    "limit",
+    't',
+    "MS",
+    "Begin no transition once so many milliseconds are over",
+);
+
+const NEW: ToldArg = Needed(
+    "new",
+    'B',
+    "FILE",
+    "Carry what is up over to the database of this file",
+);
+
+const DRY: ToldArg = Flag(
+    "dry",
+    'n',
+    "Print what would be lowered and raised, and move nothing",
+);
+
+const SESSION: [ToldArg; 10] = [
+    BASE, WORKERS, FAILING, RUNNER, CONTROLLER, USUAL, VERBOSE, LIVE, WAIT, BOUND,
+];
+
+const CHANGE: [ToldArg; 17] = [
+    BASE, WORKERS, FAILING, RUNNER, CONTROLLER, USUAL, VERBOSE, LIVE, WAIT, LIMIT, DRY, UP, DOWN,
+    DOWN_ALL, PRUNE, ALL, NAMES,
+];
+
+const STEP: [ToldArg; 11] = [
+    BASE, WORKERS, FAILING, RUNNER, CONTROLLER, USUAL, VERBOSE, LIVE, WAIT, LIMIT, DRY,
+];
+
+const UPDATE: [ToldArg; 11] = [
+    BASE, WORKERS, FAILING, RUNNER, CONTROLLER, USUAL, VERBOSE, LIVE, WAIT, NEW, DRY,
+];
+
+const SHOW: [ToldArg; 3] = [BASE, LIVE, WAIT];
+
+/// The commands.
+pub(crate) const COMMANDS: [ToldCommand; 12] = [
+    ToldCommand {
+        name: "compile",
+        about: "Makes the database that source directories define",
+        args: &COMPILE,
+    },
+    ToldCommand {
+        name: "db",
+        about: "Reads a database, and prints the answer of a query",
+        args: &DB,
+    },
+    ToldCommand {
+        name: "plan",
+        about: "Reads a database, and then from standard input the names that are up, one a line, and prints the plan",
+        args: &PLAN,
+    },
+    ToldCommand {
+        name: "replay",
+        about: "Reads a database, and then from standard input commands with the events of their runs, and prints what they come to",
+        args: &[BASE],
+    },
+    ToldCommand {
+        name: "session",
+        about: "Reads a database, and then from standard input session lines; does what each says, and answers it",
+        args: &SESSION,
+    },
+    ToldCommand {
+        name: "change",
+        about: "Raises or lowers services with all that this needs, and answers",
+        args: &CHANGE,
+    },
+    ToldCommand {
+        name: "undo",
+        about: "Takes the last change back that is not undone",
+        args: &STEP,
+    },
+    ToldCommand {
+        name: "redo",
+        about: "Makes the change again that was undone last",
+        args: &STEP,
+    },
+    ToldCommand {
+        name: "update",
+        about: "Carries what is up over to another database, whose journal begins anew",
+        args: &UPDATE,
+    },
+    ToldCommand {
+        name: "live",
+        about: "Prints what is up",
+        args: &SHOW,
+    },
+    ToldCommand {
+        name: "journal",
+        about: "Prints what the changes raised and lowered, and which of them are undone",
+        args: &SHOW,
+    },
+    ToldCommand {
+        name: "version",
+        about: "Prints the version",
+        args: &[],
+    },
+];
