@@ -1,6 +1,7 @@
 //! What helps where the names that entries give do not fit together.
 use crate::entries::Entry;
 use crate::listed::{first_word, line_of, name_on, text_of};
+use crate::said::Said;
 use crate::search::{Found, Search};
 use crate::slips::nearest;
 use rc_names::Kind;
@@ -32,7 +33,7 @@ pub(crate) fn add_unknown(search: &mut Search<'_>, names: &str) {
 /// Adds where an entry gives a name, in a file, by its line, or in a
 /// folder, and says whether it does.
 fn add_place(search: &mut Search<'_>, entry: &Entry<'_, '_>, name: &str) -> bool {
-    if entry.kind == Some(Kind::Bundle) {
+    if matches!(&entry.kind, Some(Kind::Bundle)) {
         return add_line(search, entry, "contents", name)
             || add_in(search, entry, "contents.d", name);
     }
@@ -102,16 +103,20 @@ fn add_step(search: &mut Search<'_>, from: &str, to: &str) {
 fn add_holder(search: &mut Search<'_>, entry: &Entry<'_, '_>, to: &str) {
     search.said.add_file(entry, "dependencies");
     let list = search.file(entry, "dependencies");
-    match holder_of(search, text_of(&list), to, MAX_DEPTH) {
-        Some((number, bundle)) => {
-            search.said.add_number(number);
-            search
-                .said
-                .add_row(" names the bundle ", bundle, ", which holds ");
-        }
-        None => search.said.add(" names what holds "),
-    }
+    let holder = holder_of(search, text_of(&list), to, MAX_DEPTH);
+    add_bundle(&mut search.said, holder);
     drop(list);
+}
+
+/// Adds the number of a line, and the bundle that it names, where it is known.
+fn add_bundle(said: &mut Said, holder: Option<(usize, &str)>) {
+    match holder {
+        Some((number, bundle)) => {
+            said.add_number(number);
+            said.add_row(" names the bundle ", bundle, ", which holds ");
+        }
+        None => said.add(" names what holds "),
+    }
 }
 
 /// The first name of a list that is a bundle's which holds a service, through so many bundles in
@@ -144,7 +149,7 @@ fn holder_of<'l>(
 /// What the file `contents` of a bundle holds; nothing where a name is none of a bundle.
 fn contents_of(search: &mut Search<'_>, name: &str) -> Vec<u8> {
     match search.entry(name) {
-        Some(entry) if entry.kind == Some(Kind::Bundle) => search.file(&entry, "contents"),
+        Some(entry) if matches!(&entry.kind, Some(Kind::Bundle)) => search.file(&entry, "contents"),
         _ => Vec::new(search.said.alloc),
     }
 }

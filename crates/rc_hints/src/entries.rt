@@ -1,5 +1,5 @@
 //! Source directories, and the entries in them.
-use crate::listed::text_of;
+use crate::listed::{is_among, text_of};
 use crate::search::Search;
 use rc_names::Kind;
 use std::alloc::Global;
@@ -72,15 +72,10 @@ impl Entry<'_, '_> {
 impl Entry<'_, '_> {
     /// Whether a file of this name, or a folder, is read; or is a flag that it may have.
     pub(crate) fn reads(&self, file: &str) -> bool {
-        if file == "flag-essential" {
+        if matches!(file, "flag-essential") {
             return matches!(&self.kind, Some(Kind::Oneshot | Kind::Longrun));
         }
-        for read in self.files() {
-            if *read == file {
-                return true;
-            }
-        }
-        false
+        is_among(self.files(), file)
     }
 }
 

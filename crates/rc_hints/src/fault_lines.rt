@@ -38,10 +38,20 @@ impl<W> Told<W> {
 
 /// The first word of a fault's line, and what stands after it.
 fn fault_in(bytes: &[u8]) -> Option<(&str, &str)> {
-    let line = text_of(bytes).strip_prefix("undorc: ")?.strip_suffix('\n')?;
+    let Some(line) = text_of(bytes).strip_prefix("undorc: ") else {
+        return None;
+    };
+    match line.strip_suffix('\n') {
+        Some(line) => Some(word_and_rest(line)),
+        None => None,
+    }
+}
+
+/// What stands before the first space, and what after.
+fn word_and_rest(line: &str) -> (&str, &str) {
     match line.split_once(' ') {
-        Some((word, rest)) => Some((word, rest)),
-        None => Some((line, "")),
+        Some(words) => words,
+        None => (line, ""),
     }
 }
 

@@ -2,6 +2,7 @@
 use crate::entries::{Entry, without_end};
 use crate::listed::{name_on, text_of};
 use crate::places::{line_at, offset_of};
+use crate::said::Said;
 use crate::search::{Found, MAX_FILE, Search};
 use std::fs::{self, Files};
 use std::io::{self, ErrorKind};
@@ -26,7 +27,7 @@ fn add_flaw_of(search: &mut Search<'_>, path: &str, file: &str, word: &str) {
         "BadName" if is_folder => add_bad_listing(search, path),
         _ => {
             if let Some(bytes) = search.bytes(path) {
-                add_wrong_text(search, path, file, word, &bytes);
+                add_wrong_text(&mut search.said, path, file, word, &bytes);
                 drop(bytes);
             }
         }
@@ -97,28 +98,30 @@ fn add_bad_listing(search: &mut Search<'_>, path: &str) {
 }
 
 /// Adds what is wrong in the bytes of a file, as the refusal's word says.
-fn add_wrong_text(search: &mut Search<'_>, path: &str, file: &str, word: &str, bytes: &[u8]) {
+fn add_wrong_text(said: &mut Said, path: &str, file: &str, word: &str, bytes: &[u8]) {
     let text = text_of(bytes);
     match word {
-        "NotText" => add_bad_byte(search, path, bytes),
-        "BadName" if lists_names(file) => add_bad_line(search, path, text),
-        "BadType" if file == "type" => {
-            add_line(
-                search,
-                path,
-                ":1: one of oneshot, longrun and bundle may stand here",
-                text,
-            );
+        "NotText" => add_bad_byte(said, path, bytes),
+        "BadName" if lists_names(file) => add_bad_line(said, path, text),
+        _ => {
+            if let Some(due) = due_in(file, word, text) {
+                add_line(said, path, due, text);
+            }
+        }
+    }
+}
+
+/// What may stand in a file of one line, where the refusal's word tells of one, and something else
+/// does.
+fn due_in(file: &str, word: &str, text: &str) -> Option<&'static str> {
+    match word {
+        "BadType" if matches!(file, "type") => {
+            Some(":1: one of oneshot, longrun and bundle may stand here")
         }
         "BadTimeout" if file.starts_with("timeout-") && !is_limit(text) => {
-            add_line(
-                search,
-                path,
-                ":1: milliseconds may stand here, up to 4294967295",
-                text,
-            );
+            Some(":1: milliseconds may stand here, up to 4294967295")
         }
-        _ => {}
+        _ => None,
     }
 }
 
@@ -131,7 +134,7 @@ fn lists_names(file: &str) -> bool {
 }
 
 /// Adds the first line of a list that gives something else than a name.
-fn add_bad_line(search: &mut Search<'_>, path: &str, list: &str) {
+fn add_bad_line(said: &mut Said, path: &str, list: &str) {
     let mut number = 0usize;
     for line in list.split('\n') {
         number = number.saturating_add(1);
@@ -139,23 +142,23 @@ fn add_bad_line(search: &mut Search<'_>, path: &str, list: &str) {
         if name.is_empty() {
             continue;
         }
-        if let Some(wrong) = search.said.wrong(name) {
-            search.said.add(path);
-            search.said.add_number(number);
-            search.said.add_wrong(wrong);
-            search.said.add(": ");
-            search.said.add_quoted(name);
+        if let Some(wrong) = said.wrong(name) {
+            said.add(path);
+            said.add_number(number);
+            said.add_wrong(wrong);
+            said.add(": ");
+            said.add_quoted(name);
             return;
         }
     }
 }
 
 /// Adds what may stand in a file of one line, and what does.
-fn add_line(search: &mut Search<'_>, path: &str, due: &str, text: &str) {
-    search.said.add_row(path, due, ", not ");
-    search.said.add_quoted(text);
+fn add_line(said: &mut Said, path: &str, due: &str, text: &str) {
+    said.add_row(path, due, ", not ");
+    said.add_quoted(text);
     if text.contains('\r') {
-        search.said.add(" (a Windows line end?)");
+        said.add(" (a Windows line end?)");
     }
 }
 
@@ -166,8 +169,8 @@ fn is_limit(text: &str) -> bool {
 }
 
 /// Adds the line of the first byte that makes bytes no text, and what it is.
-fn add_bad_byte(search: &mut Search<'_>, path: &str, bytes: &[u8]) {
-    let (offset, said) = match std::str::from_utf8(bytes) {
+fn add_bad_byte(said: &mut Said, path: &str, bytes: &[u8]) {
+    let (offset, why) = match std::str::from_utf8(bytes) {
         Err(fault) => (
             fault.valid_up_to(),
             ": the text is to be UTF-8, and here it is not",
@@ -177,9 +180,9 @@ fn add_bad_byte(search: &mut Search<'_>, path: &str, bytes: &[u8]) {
             None => return,
         },
     };
-    search.said.add(path);
-    search.said.add_number(line_at(bytes, offset));
-    search.said.add(said);
+    said.add(path);
+    said.add_number(line_at(bytes, offset));
+    said.add(why);
 }
 
 /// Adds which source directory can't be listed, and why.

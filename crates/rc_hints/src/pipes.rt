@@ -7,10 +7,10 @@ use rc_names::Kind;
 /// Adds which side of a pipe is no longrun, or which neighbour does not name the service from its
 /// side.
 pub(crate) fn add_neighbour(search: &mut Search<'_>, entry: &Entry<'_, '_>, word: &str) {
-    if word == "PipelineMismatch" {
+    if matches!(word, "PipelineMismatch") {
         add_unfit(search, entry, "producer-for", "consumer-for");
         add_unfit(search, entry, "consumer-for", "producer-for");
-    } else if entry.kind == Some(Kind::Longrun) {
+    } else if matches!(&entry.kind, Some(Kind::Longrun)) {
         add_unfit(search, entry, "producer-for", "type");
         add_unfit(search, entry, "consumer-for", "type");
     } else {
@@ -31,7 +31,7 @@ fn add_unfit(search: &mut Search<'_>, entry: &Entry<'_, '_>, file: &str, back: &
         search.said.add_file(entry, file);
         search.said.add_row(" names ", other.name, ", and ");
         search.said.add_file(&other, back);
-        if back == "type" {
+        if matches!(back, "type") {
             search.said.add(" is no longrun");
         } else {
             search.said.add_row(" does not name ", entry.name, "");
@@ -60,8 +60,8 @@ fn unfit_in<'a, 'l>(
 /// Whether a neighbour is a longrun, where it is asked for its type, or else names
 /// an entry in a file of its own.
 fn fits(search: &mut Search<'_>, entry: &Entry<'_, '_>, other: &Entry<'_, '_>, back: &str) -> bool {
-    if back == "type" {
-        return other.kind == Some(Kind::Longrun);
+    if matches!(back, "type") {
+        return matches!(&other.kind, Some(Kind::Longrun));
     }
     search.line_of(other, back, entry.name).is_some()
 }

@@ -201,7 +201,7 @@ fn read_folder(rt: &HostRuntime, path: &str, bytes: &mut Vec<u8>) -> io::Result<
 
 /// Adds a name, but for those of a directory itself and of the one above it.
 fn push_name(alloc: Global, name: &str, names: &mut Vec<String>) -> Result<(), NoMem> {
-    if name == "." || name == ".." {
+    if matches!(name, "." | "..") {
         return Ok(());
     }
     let copy = String::from_str(alloc, name)?;
