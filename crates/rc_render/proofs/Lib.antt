@@ -2,3 +2,4 @@ pub mod LineLemmas
 mod NameLemmas
 mod JournalLemmas
 mod DotLemmas
+mod RefusalLemmas

@@ -1,6 +1,6 @@
 //! The picture of a database, in the language of graphviz.
-ghost use Rattle.std.specs.Prelude.{◌≡◌, ◌<◌, ◌++◌, false, length, slice_index_or};
-ghost use Rattle.std.specs.Prelude.{All, IfOk, OnOk};
+ghost use Rattle.std.specs.Prelude.{◌≡◌, ◌<◌, ◌++◌, ◌∷◌, [], false, length, slice_index_or};
+ghost use Rattle.std.specs.Prelude.{All, IfOk, OnOk, MatchOption};
 ghost use Rattle.std.specs.List.{flat_map, range_with_len};
 ghost use Rattle.rc_render.specs.DotText.{bundle_lines, dot_text, edge_line, edge_lines, look};
 ghost use Rattle.rc_render.specs.DotText.{marks, member_end, need_end, node_line, in_quotes};
@@ -163,10 +163,21 @@ fn add_quoted(text: &mut Vec<u8>, name: &Name) -> Result<(), NoMem>
 fn add_byte(text: &mut Vec<u8>, byte: u8) -> Result<(), NoMem>
     ensures { OnOk result (text.new.items ≡ text.old.items ++ quoted_byte byte) }
 {
+    match escaped(byte) {
+        Some(escape) => text.extend_from_slice(escape),
+        None => text.extend_from_slice(&[byte]),
+    }
+}
+
+/// What stands between quotes for a byte that can't stand there as it is.
+fn escaped(byte: u8) -> Option<&'static [u8]>
+    ensures { MatchOption result (quoted_byte byte ≡ byte ∷ [])
+        (λ escape. quoted_byte byte ≡ escape.now) }
+{
     match byte {
-        b'"' => text.extend_from_slice(b"\\\""),
-        b'\\' => text.extend_from_slice(b"\\\\"),
-        b'&' => text.extend_from_slice(b"&amp;"),
-        _ => text.extend_from_slice(&[byte]),
+        b'"' => Some(b"\\\""),
+        b'\\' => Some(b"\\\\"),
+        b'&' => Some(b"&amp;"),
+        _ => None,
     }
 }
