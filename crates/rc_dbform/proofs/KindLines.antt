@@ -1,9 +1,11 @@
 -- The kinds of lines: the words of each are words, and each is read once.
-use Rattle.std.proofs.Common.{◌≡◌, ◌∙◌, ℕ, ◌<◌, ◌≤◌, ◌^◌, Bool, true, false, List, [], ◌∷◌, ◌++◌, length, get_or, drop, All, Option, Some, None, IfSome, zero, suc, arith, refl, sym, ap}
+use Rattle.std.proofs.Common.{◌≡◌, ◌∙◌, ℕ, ◌<◌, ◌≤◌, ◌^◌, Bool, true, false, List, [], ◌∷◌, ◌++◌, length, get_or, map, drop, All, Option, Some, None, IfSome, zero, suc, arith, refl, sym, ap, subst}
 use Rattle.std.proofs.lemmas.Bool.{false≢true}
 use Rattle.std.proofs.lemmas.Fmt.{decimal_injective}
+use Rattle.std.proofs.lemmas.List.{length-map}
 use Rattle.std.proofs.lemmas.Str.{IsUtf8-from_ascii}
 use Rattle.std.proofs.lemmas.Str.Ascii.{IsAscii-from_all}
+use denote.Ref.{Bor}
 use Rattle.std.specs.Prelude.{codes}
 use Rattle.std.specs.Fmt.{decimal}
 use Rattle.rc_model.specs.declared.Kind.{Kind}
@@ -11,7 +13,7 @@ use Rattle.rc_model.specs.declared.Kind.TheVariants as kinds
 use Rattle.rc_model.specs.Names.{IsName, IsNameByte}
 use Rattle.rc_db.specs.Service.{IsScript}
 use Rattle.rc_dbform.specs.Text.{First, ServiceCount, OfService, OfNeeds, OfProducer, OfUp, OfDown, BundleCount, OfBundle, Last, Head, BundleText, IsHead, IsBundleText, words, text_behind, kind_word, flag_word, or_dash, length_word}
-use Rattle.rc_dbform.specs.Words.{IsPlain, ArePlain}
+use Rattle.rc_dbform.specs.Words.{IsPlain, ArePlain, IsOfWords, IsOfNoWords}
 use Rattle.rc_dbform.proofs.Sequences.{IsOnce}
 use Rattle.rc_textform.proofs.Numbers.{IsNumber-decimal}
 use Rattle.rc_textform.proofs.NumberLines.{plain_numbered}
@@ -226,6 +228,26 @@ bundle_kind = record {
 
 pub last_kind : IsKind (λ (u : Unit {0}). Unit {0}) (λ _. Last)
 last_kind = record { plain = λ u is. plain_last; some = tt; is_some = tt; no_version = λ bytes bad. bad; no_count = λ bytes bad. bad }
+
+-- no bundle where the word for its name is none
+pub no_bundle_name : (name : List ℕ) (members : List (List ℕ)) → (IsName name → ⊥) → IsOfNoWords IsBundleText OfBundle (codes "bundle" ∷ name ∷ members)
+no_bundle_name name members none value is same = none (subst IsName (sym (word_at 1 (codes "bundle" ∷ name ∷ members) (words (OfBundle value)) same)) is.name)
+
+-- nor where the words for its members are none
+pub no_bundle_members : (name : List ℕ) (members : List (List ℕ)) → (All IsName members → ⊥) → IsOfNoWords IsBundleText OfBundle (codes "bundle" ∷ name ∷ members)
+no_bundle_members name members none value is same = none (subst (All IsName) (sym (ap (λ (l : List (List ℕ)). drop 2 l) same)) is.members)
+
+-- a bundle by its words
+pub is_bundle : (word name : List ℕ) (ws members : List (List ℕ)) → name ≡ word → IsName word → members ≡ ws → All IsName members → IsOfWords IsBundleText OfBundle (codes "bundle" ∷ word ∷ ws) (record { name = name; members = members })
+is_bundle word name ws members named is same each = (
+  record { name = subst IsName (sym named) is; members = each },
+  sym (ap (λ (n : List ℕ). codes "bundle" ∷ n ∷ members) named ∙ ap (λ (ms : List (List ℕ)). codes "bundle" ∷ word ∷ ms) same),
+)
+
+-- no first line of a service where not five words follow
+pub no_head : (ws : List (List ℕ)) (others : List (Bor (List ℕ))) → ws ≡ codes "service" ∷ map (λ (w : Bor (List ℕ)). w.now) others → (length others ≡ 5 → ⊥) → IsOfNoWords IsHead OfService ws
+no_head ws others are other value is same =
+    other (sym (length-map others (λ (w : Bor (List ℕ)). w.now)) ∙ ap (λ (l : List (List ℕ)). length (drop 1 l)) (sym are ∙ same))
 
 -- a text for the way down is neither missing nor here
 pub no_down : (long rest : List ℕ) → (long ≡ codes "-" → ⊥) → ((text tail : List ℕ) → IsScript text → long ≡ decimal (length text) → rest ≡ text_behind (OfUp text) ++ tail → ⊥)

@@ -288,8 +288,11 @@ fn head_of(alloc: Global, words: &[&[u8]]) -> Result<Option<Head>, NoMem>
         (IsOfNoWords IsHead OfService (map (λ word. word.now) words.now))
         (IsOfWords IsHead OfService (map (λ word. word.now) words.now))) }
 {
-    match arguments(words, b"service") {
-        Some([name, kind, flag, up, down]) => head_from(alloc, name, kind, flag, up, down),
+    let Some(others) = arguments(words, b"service") else {
+        return Ok(None);
+    };
+    match others {
+        [name, kind, flag, up, down] => head_from(alloc, name, kind, flag, up, down),
         _ => Ok(None),
     }
 }

@@ -1,9 +1,11 @@
-use Rattle.std.proofs.Common.{◌≡◌, ◌∙◌, List, ℕ, [], get_or, IfSome, sym, ap, true}
+use Rattle.std.proofs.Common.{◌∙◌, List, ℕ, [], ◌∷◌, get_or, Some, None, IfSome, string_bytes, refl, sym, ap}
+use Rattle.std.proofs.lemmas.Bool.{true≢false}
 use Rattle.std.proofs.lemmas.Result.{err_from_is_err_and}
+use Rattle.std.specs.Prelude.{codes}
 use Rattle.rc_db.specs.Service.{IsScript}
 use Rattle.rc_dbform.specs.Text.{OfDown, length_word}
 use Rattle.rc_dbform.proofs.KindLines.{down_kind, no_down}
-use Rattle.rc_dbform.proofs.LineReads.{no_line_here, other_line}
+use Rattle.rc_dbform.proofs.LineReads.{read_with_text, no_line_here, other_line}
 use Rattle.rc_dbform.proofs.lines.down_line.Goals as goal
 
 pub returns-in_err-words-clause-fault : goal.returns-in_err-words-clause-fault
@@ -22,5 +24,18 @@ returns-in-Ok-None-clause-fault c =
     let long = rw c.as_slice.ensures.value at c.in-Some.ensures in
     other_line (λ t. IfSome t IsScript) OfDown down_kind c.args.bytes.now c.in_ok-words.rest.now _ c.in_ok-words.ensures.ok
     (λ value tail is same behind. no_down c.in-Some.long.now c.in_ok-words.rest.now
-    (λ dash. let yes : c.is.result ≡ true = c.is.ensures.1 dash in cc)
+    (λ dash. true≢false (sym (c.is.ensures.1 dash) ∙ c.if-is.false))
     none value tail is (ap (λ (l : List (List ℕ)). get_or l 1 []) (sym long ∙ same)) behind)
+
+pub returns-then-is-clause-ok : goal.returns-then-is-clause-ok
+returns-then-is-clause-ok c =
+    let words = rw c.as_slice.ensures.value at c.in-Some.ensures in
+    read_with_text (λ t. IfSome t IsScript) OfDown c.args.bytes.now c.in_ok-words.rest.now c.in_ok-words.rest.now _ None c.in_ok-words.ensures.ok tt
+    (words ∙ ap (λ (w : List ℕ). codes "down" ∷ w ∷ []) (c.is.ensures.0 c.if-is.true)) refl
+
+pub returns-in-Ok-Some-clause-ok : goal.returns-in-Ok-Some-clause-ok
+returns-in-Ok-Some-clause-ok c =
+    let words = rw c.as_slice.ensures.value at c.in-Some.ensures in
+    let said = rw c.in-Ok-Some.field-0-is at c.in-Ok-Some.ensures in
+    read_with_text (λ t. IfSome t IsScript) OfDown c.args.bytes.now c.in_ok-words.rest.now c.in-Ok-Some.behind.now _ (Some (string_bytes c.in-Ok-Some.text)) c.in_ok-words.ensures.ok said.0
+    (words ∙ ap (λ (w : List ℕ). codes "down" ∷ w ∷ []) said.1) said.2

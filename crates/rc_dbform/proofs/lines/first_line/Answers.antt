@@ -1,4 +1,5 @@
-use Rattle.std.proofs.Common.{◌≡◌, true}
+use Rattle.std.proofs.Common.{◌∙◌, sym}
+use Rattle.std.proofs.lemmas.Bool.{true≢false}
 use Rattle.std.proofs.lemmas.Result.{err_from_is_err_and}
 use Rattle.rc_dbform.proofs.NumberLines.{no_first, other_first}
 use Rattle.rc_dbform.proofs.lines.first_line.Goals as goal
@@ -11,4 +12,4 @@ returns-in_err-number-clause-fault c =
 pub returns-else-is-clause-fault : goal.returns-else-is-clause-fault
 returns-else-is-clause-fault c =
     let read = c.in_ok-number.ensures.ok in
-    other_first c.args.bytes.now c.in_ok-number.number.now c.in_ok-number.rest.now read.0 (λ same. let yes : c.is.result ≡ true = c.is.ensures.1 same in cc) read.1
+    other_first c.args.bytes.now c.in_ok-number.number.now c.in_ok-number.rest.now read.0 (λ same. true≢false (sym (c.is.ensures.1 same) ∙ c.if-is.false)) read.1

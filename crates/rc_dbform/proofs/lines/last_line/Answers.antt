@@ -1,4 +1,5 @@
-use Rattle.std.proofs.Common.{◌≡◌, ◌∙◌, List, ℕ, [], length, map, drop, sym, ap, eq-eqb, true}
+use Rattle.std.proofs.Common.{◌≡◌, ◌∙◌, List, ℕ, [], length, map, drop, sym, ap, eq-eqb}
+use Rattle.std.proofs.lemmas.Bool.{true≢false}
 use Rattle.std.proofs.lemmas.List.{length-map}
 use Rattle.std.proofs.lemmas.Result.{err_from_is_err_and}
 use denote.Ref.{Bor}
@@ -23,5 +24,4 @@ returns-clause-fault c =
     other_line (λ (u : Unit {0}). Unit {0}) (λ _. Last) last_kind c.args.bytes.now c.in_ok-words.rest.now _ c.in_ok-words.ensures.ok (λ value tail is same behind.
     let none : length (map (λ (w : Bor (List ℕ)). w.now) c.in-Some.others.now) ≡ 0 = ap (λ (l : List (List ℕ)). length (drop 1 l)) (sym words ∙ same) in
     let empty : length c.in-Some.others.now ≡ 0 = sym (length-map c.in-Some.others.now (λ (w : Bor (List ℕ)). w.now)) ∙ none in
-    let yes : c.is_empty.result ≡ true = c.is_empty.ensures ∙ eq-eqb (length c.in-Some.others.now) 0 empty in
-    cc)
+    true≢false (sym (c.is_empty.ensures ∙ eq-eqb (length c.in-Some.others.now) 0 empty) ∙ c.if-is_empty.false))
