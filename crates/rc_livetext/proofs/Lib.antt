@@ -19,3 +19,5 @@ mod Pairs
 mod Joined
 mod Knowing
 mod Reading
+mod Rests
+mod Makings

@@ -2,13 +2,16 @@
 use Rattle.std.proofs.Common.{◌≡◌, ◌∙◌, ℕ, Bool, true, false, List, [], ◌∷◌, ◌++◌, map, All}
 use Rattle.std.proofs.Common.{refl, sym, ap, subst, append_assoc, Vec, Global}
 use Rattle.std.proofs.lemmas.List.Elements.{All-nil, All-push}
+use Rattle.rc_textform.specs.Words.{BundleText}
 use Rattle.rc_textform.specs.Form.{spells}
 use Rattle.rc_livetext.specs.Text.{Line, First, OfServices, OfBound, OfState, OfBundle, Last}
 use Rattle.rc_livetext.specs.Text.{StateText, IsStateText, AreAscending, state_lines, spell}
 use Rattle.rc_livetext.specs.Following.{Place, AtFirst, AtServices, AtBound, AtStates, InState}
 use Rattle.rc_livetext.specs.Following.{May, place_after, IsNoLineHere}
 use Rattle.rc_livetext.specs.Held.{AreBundles, HasBundles, HasNoMore, HasNo, HasStates}
-use Rattle.rc_livetext.specs.Held.{HasNoBundle, states_lines}
+use Rattle.rc_livetext.specs.Held.{HasNoBundle, IsMissing, Stops, states_lines}
+use Rattle.rc_livetext.specs.declared.form_fault.FormFault.{FormFault}
+use Rattle.rc_livetext.specs.declared.form_fault.FormFault.TheVariants.{Bad, Version, Memory}
 use Rattle.rc_livetext.specs.Saying.{IsSaid}
 use Rattle.rc_livetext.specs.FormText.{line_text}
 use Rattle.rc_livetext.specs.declared.lines.LineForm.{LineForm}
@@ -134,3 +137,27 @@ pub not_again : (place : Place) (names : List (List ℕ)) → IsOpenTo true plac
 not_again AtStates names opens may = let bad : true ≡ false = opens in cc
 not_again (InState seen bundles) names opens may = may.1 opens refl
 not_again place names opens may = opens
+
+-- where no line stands at all, reading states stops
+pub stops_here : (place : Place) (bytes rest : List ℕ) (states : List StateText) (fault : FormFault) → HasStates bytes states rest → IsMissing IsSaid (λ l. l) rest fault → Stops place bytes fault
+stops_here place bytes rest states (Bad left) has missing = record { states = states; rest = rest; has = has; size = missing.0; none = no_line (place_after place (states_lines states)) rest missing.1 }
+stops_here place bytes rest states Version has missing = absurd missing
+stops_here place bytes rest states Memory has missing = tt
+
+-- want of memory stops it anywhere
+pub stops_short : (place : Place) (bytes : List ℕ) (fault : FormFault) → fault ≡ Memory → Stops place bytes fault
+stops_short place bytes fault is = subst (Stops place bytes) (sym is) tt
+
+-- no bundle stands where another line does
+pub no_bundle_here : (bundles : List BundleText) (line : LineForm) (rest behind : List ℕ) → IsSaid (line_text line) → rest ≡ spell (line_text line) ++ behind
+    → ((b : BundleText) → line ≡ form.Bundle b → ⊥) → HasNoMore bundles rest
+no_bundle_here bundles line rest behind said here other b tail may same =
+    apart line other (first_once (line_text line) (OfBundle b) behind tail said may.is (sym here ∙ same)).0
+  where
+    apart : (one : LineForm) → ((c : BundleText) → one ≡ form.Bundle c → ⊥) → line_text one ≡ OfBundle b → ⊥
+    apart (form.First bounded) differs is = absurd (cc)
+    apart (form.Services names) differs is = absurd (cc)
+    apart (form.Bound bound) differs is = absurd (cc)
+    apart (form.State current names) differs is = absurd (cc)
+    apart (form.Bundle c) differs is = differs c refl
+    apart form.Last differs is = absurd (cc)

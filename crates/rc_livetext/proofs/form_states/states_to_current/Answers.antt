@@ -1,10 +1,12 @@
-use Rattle.std.proofs.Common.{◌≡◌, ◌++◌, ◌∷◌, [], List, rules, refl, subst, sym, Bool, false}
+use Rattle.std.proofs.Common.{◌≡◌, ◌++◌, ◌∷◌, [], List, rules, refl, subst, sym, Bool, ℕ, false}
+use Rattle.std.proofs.lemmas.Result.{err_from_is_err_and}
 use Rattle.rc_livetext.specs.Text.{StateText, OfState, spell}
 use Rattle.rc_livetext.specs.Following.{AtStates, place_after}
 use Rattle.rc_livetext.specs.FormText.{line_text}
 use Rattle.rc_livetext.specs.Held.{HasStates, HasNoBundle, states_lines}
 use Rattle.rc_livetext.proofs.Follows.{states_may}
-use Rattle.rc_livetext.proofs.StateLines.{one_state, none_behind, state_is, other_line, not_before}
+use Rattle.rc_livetext.proofs.StateLines.{one_state, none_behind, state_is, other_line, not_before, stops_here, stops_short}
+use Rattle.rc_livetext.proofs.Rests.{shorter_behind}
 use Rattle.rc_livetext.proofs.form_states.states_to_current.Goals as goal
 
 pub returns-in_default : goal.returns-in_default
@@ -47,3 +49,24 @@ loop-before-preserved c =
           (none_behind false AtStates c.loop-before.before.items state c.in_ok-bundles.behind.now refl
           held.has.0 (state_is state line.0 read.0.0) read.1);
     }
+
+pub returns-in_err-line-clause-fault : goal.returns-in_err-line-clause-fault
+returns-in_err-line-clause-fault c =
+    let p = err_from_is_err_and c.from_residual.result c.from_residual.ensures.1 in
+    rw (p.1, p.2) (stops_here AtStates c.args.bytes.now c.loop-before.rest.now c.loop-before.before.items c.in_err-line.field-0.0 c.loop-before.invariant.has c.in_err-line.ensures.fault)
+
+pub returns-then-current-clause-ok : goal.returns-then-current-clause-ok
+returns-then-current-clause-ok c =
+    let line = rw c.in-State.is at c.in_ok-line.ensures.ok in
+    let Line_of : Bool → Type 0 =
+    λ b. c.loop-before.rest.now ≡ spell (OfState b c.in-State.live.items) ++ c.in_ok-line.behind.now in
+    (line.0, subst (λ (r : List ℕ). HasStates c.args.bytes.now c.loop-before.before.items r) (subst Line_of c.if-current.true line.1) c.loop-before.invariant.has)
+
+pub returns-in_err-bundles-clause-fault : goal.returns-in_err-bundles-clause-fault
+returns-in_err-bundles-clause-fault c =
+    let p = err_from_is_err_and c.from_residual-in_err-bundles.result c.from_residual-in_err-bundles.ensures.1 in
+    rw (p.1, p.2) (stops_short AtStates c.args.bytes.now c.in_err-bundles.field-0.0 c.in_err-bundles.ensures.fault)
+
+pub loop-before-smaller : goal.loop-before-smaller
+loop-before-smaller c =
+    shorter_behind (line_text c.in_ok-line.line) c.loop-before.rest.now c.in_ok-line.behind.now c.in_ok-bundles.behind.now c.in_ok-bundles.bundles.items c.in_ok-line.ensures.ok.1 c.in_ok-bundles.ensures.ok.0

@@ -1,11 +1,14 @@
-use Rattle.std.proofs.Common.{◌≡◌, ◌∙◌, ℕ, Bool, Option, List, All, length, rules, refl, sym, ap, subst}
+use Rattle.std.proofs.Common.{◌≡◌, ◌∙◌, ℕ, Bool, Option, List, All, IfSome, ◌<◌, length, rules, refl, sym, ap, subst}
 use Rattle.rc_model.specs.Database.{Bundles, Database}
 use Rattle.rc_line.specs.State.{states_of}
 use Rattle.rc_livetext.specs.Text.{LiveText}
 use Rattle.rc_livetext.specs.declared.fault.LiveFault.{LiveFault}
 use Rattle.rc_livetext.specs.Meaning.{IsKnownState, all_states}
 use Rattle.rc_livetext.specs.Parts.{IsWithin, MakeLine, MakeNone, state_texts}
+use Rattle.rc_model.specs.Line.{DifferInTurn}
+use Rattle.rc_livetext.specs.Text.{IsBound}
 use Rattle.rc_livetext.proofs.Joined.{line_is, says, told}
+use Rattle.rc_livetext.proofs.Makings.{cursor_within, few_held, one_bound, within_graph}
 use Rattle.rc_livetext.proofs.read.joined.Goals as goal
 
 pub states_in-requires-clause-known : goal.states_in-requires-clause-known
@@ -61,3 +64,30 @@ returns-clause-line c =
           (c.in-Ok-from_states.ensures.cursor ∙ count ∙ ap (λ (x : LiveText). length x.before) c.form.view_is) c.in-Ok-from_states.ensures.bound c.states-count.ensures.line,
       c.in-Ok-from_states.ensures.closed,
     )
+
+pub bound_of_line-requires-clause-sets : goal.bound_of_line-requires-clause-sets
+bound_of_line-requires-clause-sets c =
+    within_graph c.args.db.now c.names.result.now c.graph.result.now c.as_slice.result.now c.in-Ok.held.items c.names.ensures.database c.names.ensures.names c.graph.ensures.graph c.as_slice.ensures.value c.in-Ok.ensures.sets
+
+pub bound_of_line-requires-clause-said : goal.bound_of_line-requires-clause-said
+bound_of_line-requires-clause-said c =
+    subst (λ (said : Option ℕ). IfSome said IsBound) (sym (ap (λ (x : LiveText). x.bound) c.form.view_is)) c.requires.text.bound
+
+pub from_states-requires-clause-three : goal.from_states-requires-clause-three
+from_states-requires-clause-three c = c.in-Ok-bound_of_line.ensures.line.three
+
+pub from_states-requires-clause-few : goal.from_states-requires-clause-few
+from_states-requires-clause-few c = few_held c.as_slice.result.now c.in-Ok.held.items c.in-Ok-bound_of_line.bound c.as_slice.ensures.value c.in-Ok-bound_of_line.ensures.line.few
+
+pub from_states-requires-clause-cursor : goal.from_states-requires-clause-cursor
+from_states-requires-clause-cursor c =
+    let count : c.len.result ≡ length c.form.inside.before.items = search rules in
+    subst (λ (n : ℕ). n < length c.in-Ok.held.items) (sym (count ∙ ap (λ (x : LiveText). length x.before) c.form.view_is))
+    (cursor_within c.names.result.now c.in-Ok.held.items c.args.form.now c.in-Ok.ensures.says)
+
+pub from_states-requires-clause-differ : goal.from_states-requires-clause-differ
+from_states-requires-clause-differ c =
+    subst (λ (ps : List (List Bool × Bundles)). DifferInTurn (states_of ps)) c.as_slice.ensures.value c.in-Ok-bound_of_line.ensures.line.differ
+
+pub from_states-requires-clause-sets : goal.from_states-requires-clause-sets
+from_states-requires-clause-sets c = (length c.names.result.now, one_bound (length c.names.result.now) (states_of c.in-Ok.held.items) c.in-Ok.ensures.sets)
