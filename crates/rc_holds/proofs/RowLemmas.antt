@@ -1,6 +1,6 @@
-use Rattle.std.proofs.Common.{◌≡◌, ◌∙◌, ℕ, ◌<◌, ◌↔◌, List, [], All, Contains, length, slice_index_or, ap, sym, subst}
+use Rattle.std.proofs.Common.{◌≡◌, ◌∙◌, ℕ, ◌+◌, ◌<◌, ◌≤◌, ◌↔◌, List, [], ◌∷◌, ◌++◌, All, Contains, length, replicate, slice_index_or, ap, sym, subst, arith}
 use Rattle.std.specs.Global.{Vec}
-use Rattle.std.proofs.lemmas.List.{get_or-map, length-map}
+use Rattle.std.proofs.lemmas.List.{get_or-map, length-map, map_push, replicate_more}
 use Rattle.std.proofs.lemmas.List.Elements.{Contains-get_or}
 use Rattle.rc_model.specs.Graph.{Needs, AreServices}
 use Rattle.rc_holds.specs.Rows.{rows}
@@ -38,3 +38,19 @@ row_known vectors s list bound e known few k d within =
     let low : slice_index_or list k d < length (rows vectors) =
     known s _ ((row_needs vectors s list e _).1 (Contains-get_or list k d within)) in
     subst (λ n. slice_index_or list k d < n) (length-rows vectors ∙ sym few) low
+
+-- one more empty list
+pub one_empty : (lists new : List (Vec ℕ)) (row : Vec ℕ) (n : ℕ)
+    → rows lists ≡ replicate n [] → new ≡ lists ++ row ∷ [] → row.items ≡ []
+    → rows new ≡ replicate (n + 1) []
+one_empty lists new row n before grown empty =
+    ap rows grown ∙ (map_push (λ (v : Vec ℕ). v.items) lists row
+    ∙ (ap (λ (t : List (List ℕ)). t ++ row.items ∷ []) before
+    ∙ (ap (λ (list : List ℕ). replicate n [] ++ list ∷ []) empty ∙ replicate_more n [])))
+
+-- all of them
+pub all_empty : (lists : List (Vec ℕ)) (n asked : ℕ)
+    → rows lists ≡ replicate n [] → n ≤ asked → asked ≤ n → rows lists ≡ replicate asked []
+all_empty lists n asked before low high =
+    let same : n ≡ asked = omega (arith, low, high) in
+    subst (λ k. rows lists ≡ replicate k []) same before

@@ -5,6 +5,15 @@ use Rattle.rc_holds.specs.Joining.{HasJoined}
 use Rattle.rc_holds.proofs.Joins.{joins_more, set_at}
 use Rattle.rc_holds.proofs.join.joined.Goals as goal
 
+pub bounds-sets-id : goal.bounds-sets-id
+bounds-sets-id c = c.requires.id
+
+pub bounds-sets-t : goal.bounds-sets-t
+bounds-sets-t c = c.requires.known c.loop-t.t-index 0 c.loop-t-test.true
+
+pub returns-clause-bound : goal.returns-clause-bound
+returns-clause-bound c = c.loop-t.invariant.bound
+
 pub loop-t-preserved : goal.loop-t-preserved
 loop-t-preserved c =
     let t = get_or c.args.list.now c.loop-t.t-index 0 in

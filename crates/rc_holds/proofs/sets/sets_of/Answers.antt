@@ -1,4 +1,4 @@
-use Rattle.std.proofs.Common.{◌≡◌, Bool, List, [], length, get_or, slice_index_or, sym, ap, subst, arith}
+use Rattle.std.proofs.Common.{◌≡◌, ◌∙◌, ℕ, ◌<◌, ◌≤◌, Bool, List, [], length, get_or, slice_index_or, sym, ap, subst, arith}
 use Rattle.std.proofs.lemmas.List.{length_push}
 use Rattle.std.proofs.lemmas.List.Elements.{All-push, Contains-get_or}
 use Rattle.rc_holds.specs.Rows.{rows}
@@ -6,6 +6,16 @@ use Rattle.rc_holds.proofs.RowLemmas.{row_is, row_needs}
 use Rattle.rc_holds.specs.Joining.{AllWithin}
 use Rattle.rc_holds.proofs.SetLists.{sets_more}
 use Rattle.rc_holds.proofs.sets.sets_of.Goals as goal
+
+-- a count that ended is its bound
+same_end : (i end : ℕ) → i ≤ end → end ≤ i → i ≡ end
+same_end i end low high = omega (arith, low, high)
+
+pub bounds-lists-s : goal.bounds-lists-s
+bounds-lists-s c = c.loop-s-test.true
+
+pub set_of-requires-clause-bound : goal.set_of-requires-clause-bound
+set_of-requires-clause-bound c = c.requires.bound
 
 pub set_of-requires-clause-known : goal.set_of-requires-clause-known
 set_of-requires-clause-known c k d low =
@@ -24,3 +34,12 @@ loop-s-preserved c =
       sets = sets_more (rows c.args.lists.now) c.loop-s.sets.items c.push.new.self.items c.loop-s.s c.in_ok-set.set list c.loop-s.invariant.few c.loop-s.invariant.sets c.in_ok-push.ensures.items
           c.in_ok-set.ensures.members (row_needs c.args.lists.now c.loop-s.s list row);
     }
+
+pub returns-clause-few : goal.returns-clause-few
+returns-clause-few c = c.loop-s.invariant.few ∙ same_end c.loop-s.s (length c.args.lists.now) c.loop-s.auto.s-end c.loop-s-test.false
+
+pub returns-clause-bounds : goal.returns-clause-bounds
+returns-clause-bounds c = c.loop-s.invariant.bounds
+
+pub returns-clause-sets : goal.returns-clause-sets
+returns-clause-sets c s low = c.loop-s.invariant.sets s (subst (λ n. s < n) (sym (same_end c.loop-s.s (length c.args.lists.now) c.loop-s.auto.s-end c.loop-s-test.false)) low)
