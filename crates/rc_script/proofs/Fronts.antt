@@ -1,13 +1,20 @@
 -- The choices in front of words, option by option.
-use Rattle.std.proofs.Common.{◌≡◌, ◌∙◌, ◌≤◌, ◌+◌, ◌-◌, ◌==◌, ℕ, Bool, true, false, cond, List, [], ◌∷◌, ◌++◌, Option, Some, None, length, drop, slice_index_or, arith, refl, sym, ap, subst, append_assoc}
+use Rattle.std.proofs.Common.{◌≡◌, ◌∙◌, ◌<◌, ◌≤◌, ◌+◌, ◌-◌, ◌==◌, ℕ, Bool, true, false, cond, List, [], ◌∷◌, ◌++◌, Option, Some, None, length, map, drop, get_or, slice_index, slice_index_or, codes, arith, refl, sym, ap, subst, append_assoc}
+use Rattle.std.specs.Option.{option_and_then}
+use Rattle.std.specs.Str.{bytes_eq}
+use Rattle.std.proofs.lemmas.Bool.{false≢true}
 use Rattle.std.proofs.Math.Seq.{drop-drop}
 use Rattle.std.proofs.lemmas.List.{append-nil, length-drop}
 use Rattle.rc_script.specs.declared.options.Choice.{Choice}
-use Rattle.rc_script.specs.Options.{Front, onto, front_of, has_option, IsOption}
+use Rattle.rc_script.specs.Options.{Front, onto, front_of, has_option, word_choices, IsOption}
 
 onto_onto : (a b : List Choice) (front : Option Front) → onto a (onto b front) ≡ onto (a ++ b) front
 onto_onto a b None = refl
 onto_onto a b (Some front) = ap (λ (choices : List Choice). let f : Front = record { choices = choices; words = front.words } in Some f) (sym (append_assoc a b front.choices))
+
+onto_none : (front : Option Front) → front ≡ onto [] front
+onto_none None = refl
+onto_none (Some front) = refl
 
 -- the words after some words of those after others
 behind_both : {X : Type 0} (start count : ℕ) (xs : List X) → drop count (drop start xs) ≡ drop (start + count) xs
@@ -17,6 +24,67 @@ behind_both start count xs = drop-drop count start xs
 pub no_option : (words : List (List ℕ)) → has_option words ≡ false → front_of false words ≡ Some (record { choices = []; words = words })
 no_option [] none = refl
 no_option (word ∷ words) none = rw none refl
+
+-- no option yet
+pub options_begin : (words : List (List ℕ)) (none : List Choice) → none ≡ [] → front_of false words ≡ onto none (front_of false words)
+options_begin words none is =
+    let All : List Choice → Type 0 = λ choices. front_of false words ≡ onto choices (front_of false words) in
+    subst All (sym is) (onto_none (front_of false words))
+
+-- an option takes a word and more, so fewer are left
+pub option_nears : (whole words : List (List ℕ)) (start count n : ℕ) (old new : List Choice) → length whole ≡ n → words ≡ drop start whole → start ≤ n → IsOption false old new words count → n - (start + count) < n - start
+option_nears whole words start count n old new long here within option =
+    omega (arith, long, within, option.some, option.within, ap length here, length-drop start whole)
+
+-- where an option stands in front there is a word
+pub words_some : {X : Type 0} (f : X → List ℕ) (words : List X) → has_option (map f words) ≡ true → 0 < length words
+words_some f [] has = absurd (false≢true has)
+words_some f (word ∷ words) has = omega arith
+
+filled : (word : List ℕ) → slice_index word 0 == 45 ≡ true → 0 < length word
+filled [] dash = absurd (false≢true dash)
+filled (byte ∷ bytes) dash = omega arith
+
+-- and the first word is not empty
+pub first_filled : {X : Type 0} (f : X → List ℕ) (words : List X) (d : X) → has_option (map f words) ≡ true → 0 < length (f (get_or words 0 d))
+first_filled f [] d has = absurd (false≢true has)
+first_filled f (word ∷ words) d has = filled (f word) has
+
+-- a limit that is well formed
+pub limit_option : {X : Type 0} (f : X → List ℕ) (words : List X) (d : X) (rest : List (List ℕ)) (old new : List Choice) → has_option (map f words) ≡ true
+    → bytes_eq (f (get_or words 0 d)) (codes "-t") ≡ true → rest ≡ drop 1 (map f words) → IsOption true old new rest 1 → IsOption false old new (map f words) 2
+limit_option f [] d rest old new has limit here option = absurd (false≢true has)
+limit_option f (word ∷ words) d rest old new has limit here option =
+    let behind : IsOption true old new (map f words) 1 = subst (λ (ws : List (List ℕ)). IsOption true old new ws 1) here option in
+    record {
+      added = behind.added;
+      choices = behind.choices;
+      front = rw (has, limit) behind.front;
+      some = omega arith;
+      within = omega (arith, behind.within);
+    }
+
+-- and one that is not
+pub limit_fails : {X : Type 0} (f : X → List ℕ) (words : List X) (d : X) (rest : List (List ℕ)) → has_option (map f words) ≡ true
+    → bytes_eq (f (get_or words 0 d)) (codes "-t") ≡ true → rest ≡ drop 1 (map f words) → front_of true rest ≡ None → front_of false (map f words) ≡ None
+limit_fails f [] d rest has limit here none = absurd (false≢true has)
+limit_fails f (word ∷ words) d rest has limit here none =
+    let behind : front_of true (map f words) ≡ None = subst (λ (ws : List (List ℕ)). front_of true ws ≡ None) here none in
+    rw (has, limit) behind
+
+-- letters that each choose something
+pub letters_option : {X : Type 0} (f : X → List ℕ) (words : List X) (d : X) (letters old new : List Choice) → has_option (map f words) ≡ true
+    → bytes_eq (f (get_or words 0 d)) (codes "-t") ≡ false → Some letters ≡ word_choices (f (get_or words 0 d)) → new ≡ old ++ letters → IsOption false old new (map f words) 1
+letters_option f [] d letters old new has other is grown = absurd (false≢true has)
+letters_option f (word ∷ words) d letters old new has other is grown =
+    let After : List Choice → Option Front = λ choices. onto choices (front_of false (map f words)) in
+    record {
+      added = letters;
+      choices = grown;
+      front = rw (has, other) (ap (option_and_then After) (sym is));
+      some = omega arith;
+      within = omega arith;
+    }
 
 -- one option more
 pub option_more : (whole words : List (List ℕ)) (start count : ℕ) (old new : List Choice) → front_of false whole ≡ onto old (front_of false (drop start whole))

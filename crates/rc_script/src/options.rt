@@ -93,7 +93,7 @@ fn has_option(words: &[&str]) -> bool
 {
     match words {
         [] => false,
-        [first, ..] => first.as_bytes().first() == Some(&b'-'),
+        [first, ..] => matches!(first.as_bytes(), [b'-', ..]),
     }
 }
 
@@ -110,17 +110,20 @@ fn add_option(
         (IsOption false choices.old.items choices.new.items (map (λ word. word.now) words.now))) }
 {
     if words[0] == "-t" {
-        return match add_limit(choices, &words[1..])? {
-            true => Ok(Some(2)),
-            false => Ok(None),
+        return match add_limit(choices, &words[1..]) {
+            Ok(true) => Ok(Some(2)),
+            Ok(false) => Ok(None),
+            Err(fault) => Err(fault),
         };
     }
-    match letters_of(alloc, words[0])? {
-        Some(letters) => {
-            choices.extend_from_slice(&letters)?;
-            Ok(Some(1))
-        }
-        None => Ok(None),
+    let Some(letters) = letters_of(alloc, words[0])? else {
+        return Ok(None);
+    };
+    let added = choices.extend_from_slice(&letters);
+    drop(letters);
+    match added {
+        Ok(()) => Ok(Some(1)),
+        Err(fault) => Err(fault),
     }
 }
 

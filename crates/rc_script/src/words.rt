@@ -33,7 +33,7 @@ pub(crate) fn is_silent(words: &[&[u8]]) -> bool
 {
     match words {
         [] => true,
-        [first, ..] => first.first() == Some(&b'#'),
+        [first, ..] => matches!(first, [b'#', ..]),
     }
 }
 
