@@ -21,14 +21,11 @@ fn event_by(names: &Names, verb: &str, worker: &str, object: &str, words: &[&str
     ensures { result ≡ event_by names.now verb.now worker.now object.now
         (map (λ word. word.now) words.now) }
 {
-    if verb == "take" {
-        take_in(names, worker, object, words)
-    } else if verb == "done" {
-        done_in(names, worker, object, words)
-    } else if verb == "stop" {
-        stop_in(worker, object, words)
-    } else {
-        None
+    match verb {
+        "take" => take_in(names, worker, object, words),
+        "done" => done_in(names, worker, object, words),
+        "stop" => stop_in(worker, object, words),
+        _ => None,
     }
 }
 
@@ -81,14 +78,11 @@ fn outcome_in(words: &[&str]) -> Option<Outcome>
 fn plain_outcome(word: &str) -> Option<Outcome>
     ensures { result ≡ plain_outcome word.now }
 {
-    if word == "ok" {
-        Some(Outcome::Ok)
-    } else if word == "timeout" {
-        Some(Outcome::TimedOut)
-    } else if word == "nostart" {
-        Some(Outcome::NotStarted)
-    } else {
-        None
+    match word {
+        "ok" => Some(Outcome::Ok),
+        "timeout" => Some(Outcome::TimedOut),
+        "nostart" => Some(Outcome::NotStarted),
+        _ => None,
     }
 }
 
