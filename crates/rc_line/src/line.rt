@@ -197,11 +197,12 @@ impl Line {
         ensures memory { OnErr result (result ≡ Err LineFault.Memory) }
         ensures err { OnErr result (self.new ≡ self.old) }
     {
-        let mut live = plan.opening().copy(alloc)?;
+        let Ok(mut live) = plan.opening().copy(alloc) else {
+            return Err(LineFault::Memory);
+        };
         live.join(plan.raise());
         live.without(plan.lower());
-        let opening = self.opened(alloc, Aim::Change, live, None)?;
-        Ok(opening)
+        self.opened(alloc, Aim::Change, live, None)
     }
 
     /// Opens an edit that was made from the current table. All the room
@@ -217,13 +218,14 @@ impl Line {
         ensures memory { OnErr result (result ≡ Err LineFault.Memory) }
         ensures err { OnErr result (self.new ≡ self.old) }
     {
-        let live = self.live.copy(alloc)?;
+        let Ok(live) = self.live.copy(alloc) else {
+            return Err(LineFault::Memory);
+        };
         let Ok(table) = led(alloc, &self.table, edit, true) else {
             drop(live);
             return Err(LineFault::Memory);
         };
-        let opening = self.opened(alloc, Aim::Edit, live, table)?;
-        Ok(opening)
+        self.opened(alloc, Aim::Edit, live, table)
     }
 
     /// Opens the way to the state before. All the room that its end needs is made here.
@@ -240,9 +242,10 @@ impl Line {
         let Some(entry) = nearest(&self.done) else {
             return Err(LineFault::NothingToUndo);
         };
-        let (live, table) = entry.before(alloc, &self.live, &self.table)?;
-        let opening = self.opened(alloc, Aim::Undo, live, table)?;
-        Ok(opening)
+        let Ok((live, table)) = entry.before(alloc, &self.live, &self.table) else {
+            return Err(LineFault::Memory);
+        };
+        self.opened(alloc, Aim::Undo, live, table)
     }
 
     /// Opens the way to the state after. All the room that its end needs is made here.
@@ -259,9 +262,10 @@ impl Line {
         let Some(entry) = nearest(&self.undone) else {
             return Err(LineFault::NothingToRedo);
         };
-        let (live, table) = entry.after(alloc, &self.live, &self.table)?;
-        let opening = self.opened(alloc, Aim::Redo, live, table)?;
-        Ok(opening)
+        let Ok((live, table)) = entry.after(alloc, &self.live, &self.table) else {
+            return Err(LineFault::Memory);
+        };
+        self.opened(alloc, Aim::Redo, live, table)
     }
 
     /// Ends a change, an undo or a redo with what is live now. Takes no memory.
@@ -338,18 +342,21 @@ impl Line {
         aim: Aim,
         live: Set,
         table: Option<Table>,
-    ) -> Result<Open, NoMem>
+    ) -> Result<Open, LineFault>
         requires { self.old.is_open ≡ false }
         ensures opening { IfOk result (λ opening.
             opening ≡ record { aim = aim; live = live; table = table }) }
         ensures open { OnOk result (self.new.is_open ≡ true) }
         ensures line { self.new.line ≡ self.old.line }
+        ensures memory { OnErr result (result ≡ Err LineFault.Memory) }
         ensures err { OnErr result (self.new ≡ self.old) }
     {
-        let opening = Open::new(alloc, aim, live, table)?;
+        let Ok(opening) = Open::new(alloc, aim, live, table) else {
+            return Err(LineFault::Memory);
+        };
         let Ok(()) = make_room(&mut self.done, &mut self.undone) else {
             opening.spend();
-            return Err(AllocError);
+            return Err(LineFault::Memory);
         };
         self.is_open = true;
         Ok(opening)
