@@ -107,10 +107,12 @@ impl Run {
         ensures { IfOk result (λ run. run
             ≡ record { course = course_of graph.now plan.now deadline; events = [] }) }
     {
-        let tables = Tables::new(alloc, plan.opening(), plan.lower(), plan.raise())?;
+        let up = plan.opening();
+        let lower = plan.lower();
+        let raise = plan.raise();
+        let tables = Tables::new(alloc, up, lower, raise)?;
         let events = 2 * tables.left.len() as usize + 1;
         let services = graph.len() as usize;
-        let (up, lower, raise) = (plan.opening(), plan.lower(), plan.raise());
         let Ok(ready) = Ready::new(alloc, graph, up, lower, raise, &tables.left) else {
             drop(tables);
             return Err(AllocError);
