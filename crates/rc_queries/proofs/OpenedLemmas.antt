@@ -1,12 +1,16 @@
 -- What is so of a database with its input, and where there is none.
-use Rattle.std.proofs.Common.{◌≡◌, ◌≢◌, ◌⊎◌, ◌≤◌, ℕ, List, Option, None, Some, IfSome, ◌-◌, drop, length, take, sym, subst, arith, inl, inr}
+use Rattle.std.proofs.Common.{◌≡◌, ◌≢◌, ◌⊎◌, ◌≤◌, ℕ, List, [], Option, None, Some, Result, Ok, Err, IfSome, ◌-◌, drop, length, take, sym, subst, arith, inl, inr}
 use Rattle.std.proofs.lemmas.List.{take_rest}
+use Rattle.std.specs.Io.KnownBytes.{IsAtEnd}
 use Rattle.rc_model.specs.Database.{Database}
 use Rattle.rc_dbtext.specs.declared.fault.TextFault.{TextFault}
 use Rattle.rc_dbtext.specs.declared.fault.TextFault.TheVariants as text
 use Rattle.rc_script.specs.Script.{IsScriptFault}
 use Rattle.rc_script.specs.declared.script.ScriptFault.{ScriptFault}
 use Rattle.rc_script.specs.declared.script.ScriptFault.TheVariants as script
+use Rattle.rc_streams.specs.Input.{AppendsFront, FailsWith, IsCause, failure_text, fault_line}
+use Rattle.rc_streams.specs.declared.input.Failure.{Failure}
+use Rattle.rc_streams.specs.declared.input.Failure.TheVariants as failures
 use Rattle.rc_base.specs.Base.{IsTextFault, Spells}
 use Rattle.rc_base.specs.Opening.{IsOpenFault, IsWrongBase, Opens}
 use Rattle.rc_base.specs.declared.opening.OpenFault.{OpenFault}
@@ -88,3 +92,67 @@ text_refused text.Dangling fault base all is other wrong = subst (λ (f : Replay
 pub script_refused : (wrong : ScriptFault) (fault : ReplayFault) (base : Option (List ℕ)) (all rest : List ℕ) (d : Database) → IsScriptAs wrong fault → Spells base all d rest → IsScriptFault d.names rest wrong → IsReplayRefused fault base all
 script_refused (script.BadLine number) fault base all rest d is spelled wrong = subst (λ (f : ReplayFault). IsReplayRefused f base all) (sym is) (d, rest, spelled, wrong)
 script_refused script.Memory fault base all rest d is spelled wrong = subst (λ (f : ReplayFault). IsReplayRefused f base all) (sym is) tt
+
+-- a command that wrote its answer, or failed in that, ended as one of three, and refused nothing
+pub written_ended : (status : ℕ) → (status ≡ 0) ⊎ (status ≡ 111) → (status ≡ 0) ⊎ (status ≡ 1) ⊎ (status ≡ 111)
+written_ended status (inl zero) = inl zero
+written_ended status (inr failed) = inr (inr failed)
+
+pub written_unrefused : (status : ℕ) → (status ≡ 0) ⊎ (status ≡ 111) → status ≡ 1 → ⊥
+written_unrefused status (inl zero) one = omega (arith, zero, one)
+written_unrefused status (inr failed) one = omega (arith, failed, one)
+
+-- one whose fault was told did not end well
+pub told_undone : (status : ℕ) → (status ≡ 1) ⊎ (status ≡ 111) → status ≡ 0 → ⊥
+told_undone status (inl refused) zero = omega (arith, refused, zero)
+told_undone status (inr failed) zero = omega (arith, failed, zero)
+
+-- a reader that failed while the input was opened had failed before, where there is one, or where it is the text that is refused
+pub opened_sound : {T E P Q : Type 0} (r : Result T E) (x : T) (e : E) → r ≡ Ok x → P ⊎ (r ≡ Err e) → P ⊎ Q
+opened_sound r x e is (inl before) = inl before
+opened_sound r x e is (inr read) = let no : ⊥ = cc in absurd no
+
+pub refused_sound : {T P Q : Type 0} (r : Result T OpenFault) (fault : OpenFault) (wrong : TextFault) → r ≡ Err fault → fault ≡ unopened.OfText wrong → P ⊎ (r ≡ Err (unopened.Failed failures.Read)) → P ⊎ Q
+refused_sound r fault wrong is of_text (inl before) = inl before
+refused_sound r fault wrong is of_text (inr read) = let no : ⊥ = cc in absurd no
+
+-- and else it is told as that
+pub failed_read : {T P : Type 0} (r : Result T OpenFault) (fault : OpenFault) (failure : Failure) (status : ℕ) (old new : Option (List ℕ)) → r ≡ Err fault → fault ≡ unopened.Failed failure → status ≡ 111
+    → AppendsFront old new (fault_line (failure_text failure)) → P ⊎ (r ≡ Err (unopened.Failed failures.Read)) → P ⊎ FailsWith failures.Read status old new
+failed_read r fault failure status old new is failed ended told (inl before) = inl before
+failed_read r fault failure status old new is failed ended told (inr read) =
+    let same : failure ≡ failures.Read = cc in inr (ended, subst (λ (f : Failure). AppendsFront old new (fault_line (failure_text f))) same told)
+
+-- and so where no database is looked for
+pub input_read : {T P : Type 0} (r : Result T Failure) (failure : Failure) (status : ℕ) (old new : Option (List ℕ)) → r ≡ Err failure → status ≡ 111 → AppendsFront old new (fault_line (failure_text failure))
+    → P ⊎ (r ≡ Err failures.Read) → P ⊎ FailsWith failures.Read status old new
+input_read r failure status old new is ended told (inl before) = inl before
+input_read r failure status old new is ended told (inr read) =
+    let same : failure ≡ failures.Read = cc in inr (ended, subst (λ (f : Failure). AppendsFront old new (fault_line (failure_text f))) same told)
+
+-- an input that was not read whole has a cause, whatever the writer does
+pub cause_wider : (remaining : Option (List ℕ)) (reader writer : Type 0) (failure : Failure) → IsCause remaining reader ⊥ failure → IsCause remaining reader writer failure
+cause_wider remaining reader writer failures.TooLong h = h
+cause_wider remaining reader writer failures.Read h = h
+cause_wider remaining reader writer failures.Write h = absurd h
+cause_wider remaining reader writer failures.Memory h = tt
+
+pub unread_cause : (base remaining after : Option (List ℕ)) (reader writer : Type 0) (fault : OpenFault) (failure : Failure) → fault ≡ unopened.Failed failure → IsOpenFault base remaining after reader fault
+    → IsCause remaining reader writer failure
+unread_cause base remaining after reader writer fault failure is h = cause_wider remaining reader writer failure ((subst (IsOpenFault base remaining after reader) is h).1)
+
+-- where the base is wrong its text is refused, whatever the input has
+pub wrong_base : (base remaining after : Option (List ℕ)) (failed : Type 0) (fault : OpenFault) (wrong : TextFault) → fault ≡ unopened.OfText wrong → IsOpenFault base remaining after failed fault → IsWrongBase base
+    → IsTextFault base [] wrong
+wrong_base None remaining after failed fault wrong is h bad = absurd bad
+wrong_base (Some base) remaining after failed fault wrong is h bad =
+    let (input, reads, refused, why) = subst (IsOpenFault (Some base) remaining after failed) is h in refused
+
+-- a text is refused for a wrong base, or where all was read to the end, or for want of memory
+pub refused_end : (base remaining after : Option (List ℕ)) (failed : Type 0) (fault : OpenFault) (wrong : TextFault) → fault ≡ unopened.OfText wrong → IsOpenFault base remaining after failed fault → wrong ≢ text.Memory
+    → IsWrongBase base ⊎ IsAtEnd after
+refused_end None remaining after failed fault wrong is h other =
+    let (input, reads, refused, why) = subst (IsOpenFault None remaining after failed) is h in inr reads.2
+refused_end (Some base) remaining after failed fault wrong is h other =
+    let (input, reads, refused, why) = subst (IsOpenFault (Some base) remaining after failed) is h in
+    elim (why other) [ inl none ↦ (let no : ⊥ = cc in absurd no) | inr bad ↦ inl bad ]
