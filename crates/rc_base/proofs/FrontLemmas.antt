@@ -15,3 +15,8 @@ pub after_front : (front rest input : List ℕ) (taken : ℕ) → input ≡ fron
 after_front front rest input taken is at =
     let left : drop taken input ≡ rest = subst (λ (n : ℕ). drop n input ≡ rest) (sym at) (subst (λ (x : List ℕ). drop (length front) x ≡ rest) (sym is) (drop-append_seam front rest)) in
     is ∙ ap (λ (x : List ℕ). front ++ x) (sym (take_rest input taken ∙ left))
+
+pub rest_after : (front rest input : List ℕ) (taken : ℕ) → input ≡ front ++ rest → taken ≡ length front → input ≡ front ++ drop taken input
+rest_after front rest input taken is at =
+    let left : drop taken input ≡ rest = subst (λ (n : ℕ). drop n input ≡ rest) (sym at) (subst (λ (x : List ℕ). drop (length front) x ≡ rest) (sym is) (drop-append_seam front rest)) in
+    is ∙ ap (λ (x : List ℕ). front ++ x) (sym left)

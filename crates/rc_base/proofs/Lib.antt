@@ -1,2 +1,2 @@
-pub mod OpeningLemmas
 mod FrontLemmas
+pub mod OpeningLemmas
