@@ -2,4 +2,3 @@ pub mod LineLemmas
 mod NameLemmas
 mod JournalLemmas
 mod DotLemmas
-mod RefusalLemmas

@@ -1,6 +1,5 @@
 //! Refusals as text.
-ghost use Rattle.std.specs.Prelude.{◌≡◌, ℕ, [], ◌∷◌, ◌++◌, map, string_bytes, codes, slice_index_or, IfOk};
-ghost use Rattle.rc_model.specs.declared.Refusal.TheVariants as refusals;
+ghost use Rattle.std.specs.Prelude.{◌≡◌, [], ◌∷◌, ◌++◌, map, string_bytes, codes, slice_index_or, IfOk};
 ghost use Rattle.rc_render.specs.Lines.{line};
 ghost use Rattle.rc_session.specs.Commands.{command_of};
 ghost use Rattle.rc_render.specs.AnswerText.{words_of};
@@ -67,39 +66,17 @@ fn words(alloc: Global, word: &[u8], refusal: Refusal) -> Result<Vec<u8>, NoMem>
     match refusal {
         Refusal::BadEvent(place) => Ok(format!(in alloc; "BadEvent {place}")?.into_bytes()),
         Refusal::NotSettled(place) => Ok(format!(in alloc; "NotSettled {place}")?.into_bytes()),
-        _ => joined(alloc, front(refusal), told(refusal, word)),
-    }
-}
-
-/// The name of a refusal that tells no number, and a space where it tells a word.
-fn front(refusal: Refusal) -> &'static [u8]
-    requires event { (place : ℕ) → refusal ≡ refusals.BadEvent place → ⊥ }
-    requires settled { (place : ℕ) → refusal ≡ refusals.NotSettled place → ⊥ }
-    ensures { result.now ≡ refusal_words [] refusal }
-{
-    match refusal {
-        Refusal::PruneNeedsUp => b"PruneNeedsUp",
-        Refusal::Unknown(_) => b"Unknown ",
-        Refusal::IsAtomic(_) => b"IsAtomic ",
-        Refusal::Exists => b"Exists ",
-        Refusal::Missing(_) => b"Missing ",
-        Refusal::Full => b"Full",
-        Refusal::NothingToUndo => b"NothingToUndo",
-        Refusal::NothingToRedo => b"NothingToRedo",
-        Refusal::NotEdit => b"NotEdit",
-        Refusal::Strange => b"Strange",
-        Refusal::Memory => b"Memory",
-        Refusal::BadEvent(_) | Refusal::NotSettled(_) => unreachable!(),
-    }
-}
-
-/// The word, where the refusal tells one, and nothing elsewhere.
-fn told(refusal: Refusal, word: &[u8]) -> &[u8]
-    ensures { refusal_words word.now refusal ≡ refusal_words [] refusal ++ result.now }
-{
-    match refusal {
-        Refusal::Unknown(_) | Refusal::IsAtomic(_) | Refusal::Exists | Refusal::Missing(_) => word,
-        _ => b"",
+        Refusal::PruneNeedsUp => Vec::from_slice(alloc, b"PruneNeedsUp"),
+        Refusal::Unknown(_) => joined(alloc, b"Unknown ", word),
+        Refusal::IsAtomic(_) => joined(alloc, b"IsAtomic ", word),
+        Refusal::Exists => joined(alloc, b"Exists ", word),
+        Refusal::Missing(_) => joined(alloc, b"Missing ", word),
+        Refusal::Full => Vec::from_slice(alloc, b"Full"),
+        Refusal::NothingToUndo => Vec::from_slice(alloc, b"NothingToUndo"),
+        Refusal::NothingToRedo => Vec::from_slice(alloc, b"NothingToRedo"),
+        Refusal::NotEdit => Vec::from_slice(alloc, b"NotEdit"),
+        Refusal::Strange => Vec::from_slice(alloc, b"Strange"),
+        Refusal::Memory => Vec::from_slice(alloc, b"Memory"),
     }
 }
 
