@@ -4,10 +4,9 @@ ghost use Rattle.std.specs.Prelude.{◌<◌, ◌≤◌, length};
 
 use crate::graphs::{LOG, NEEDS, WEB, graph_of, set_of};
 use rc_db::{Db, MAX_BUNDLES, NoMem, Parts, Service, Table};
-use rc_graph::Graph;
-use rc_names::{Kind, MAX_NAMES, Name, NameFault, Names};
+use rc_names::{Kind, MAX_NAMES, Name, Names};
 use rc_set::Set;
-use std::alloc::Global;
+use std::alloc::{AllocError, Global};
 use std::test::Fail;
 
 /// A service of a test: its name, its kind, whether it is essential, and
@@ -29,22 +28,19 @@ pub const SERVICES: [Row; 5] = [
 /// The bundles of the sample.
 pub const BUNDLES: [Bundle; 1] = [("site", &[WEB])];
 
-/// The sample database.
+/// The sample database. Each oneshot runs the one text on both ways, but an essential one has
+/// nothing to run on the way down.
 pub fn sample(alloc: Global) -> Result<Db, Fail> {
-    db_of(alloc, &SERVICES, &NEEDS, &BUNDLES)
+    let parts = parts_of(alloc, &SERVICES, &SERVICES, &NEEDS, &BUNDLES)?;
+    joined(parts)
 }
 
-/// The database of these services, in the order of their names, of these needs and these
-/// bundles. Each oneshot runs the one text on both ways, but an essential one has
-/// nothing to run on the way down.
-fn db_of(
-    alloc: Global,
-    rows: &[Row],
-    needs: &[(u16, u16)],
-    bundles: &[Bundle],
-) -> Result<Db, Fail> {
-    let parts = parts_of(alloc, rows, rows, needs, bundles)?;
-    Ok(Db::join(parts)?)
+/// The database of parts that fit.
+pub fn joined(parts: Parts) -> Result<Db, Fail> {
+    match Db::join(parts) {
+        Ok(db) => Ok(db),
+        Err(unfit) => Err(Fail::from(unfit)),
+    }
 }
 
 /// The parts of a database: the names of some services, and the others of these.
@@ -55,95 +51,49 @@ pub fn parts_of(
     needs: &[(u16, u16)],
     bundles: &[Bundle],
 ) -> Result<Parts, Fail> {
-    let names = names_of(alloc, named)?;
-    match services_of(alloc, rows) {
-        Ok(services) => with_services(alloc, names, services, needs, bundles),
+    let services = u16::try_from(named.len()).unwrap_or(MAX_NAMES);
+    let graph = graph_of(alloc, services.min(MAX_NAMES), needs)?;
+    let mut parts = Parts {
+        names: Names::new(alloc),
+        services: Vec::new(alloc),
+        graph,
+        table: Table::new(alloc),
+    };
+    match fill(alloc, &mut parts, named, rows, bundles) {
+        Ok(()) => Ok(parts),
         Err(fault) => {
-            drop(names);
+            drop(parts);
             Err(Fail::from(fault))
         }
     }
 }
 
-fn with_services(
+fn fill(
     alloc: Global,
-    names: Names,
-    services: Vec<Service>,
-    needs: &[(u16, u16)],
+    parts: &mut Parts,
+    named: &[Row],
+    rows: &[Row],
     bundles: &[Bundle],
-) -> Result<Parts, Fail> {
-    match linked(alloc, names.len(), needs, bundles) {
-        Ok((graph, table)) => Ok(Parts {
-            names,
-            services,
-            graph,
-            table,
-        }),
-        Err(fault) => {
-            drop(names);
-            drop(services);
-            Err(fault)
-        }
-    }
+) -> Result<(), NoMem> {
+    add_names(alloc, &mut parts.names, named)?;
+    add_services(alloc, &mut parts.services, rows)?;
+    put_all(alloc, &mut parts.table, parts.graph.len(), bundles)
 }
 
-/// The graph and the table of so many services.
-fn linked(
-    alloc: Global,
-    services: u16,
-    needs: &[(u16, u16)],
-    bundles: &[Bundle],
-) -> Result<(Graph, Table), Fail>
-    requires { services ≤ 4096 }
-{
-    let graph = graph_of(alloc, services, needs)?;
-    match table_of(alloc, services, bundles) {
-        Ok(table) => Ok((graph, table)),
-        Err(fault) => {
-            drop(graph);
-            Err(fault)
-        }
-    }
-}
-
-fn names_of(alloc: Global, rows: &[Row]) -> Result<Names, NameFault> {
-    let mut names = Names::new(alloc);
-    match add_names(alloc, &mut names, rows) {
-        Ok(()) => Ok(names),
-        Err(fault) => {
-            drop(names);
-            Err(fault)
-        }
-    }
-}
-
-fn add_names(alloc: Global, names: &mut Names, rows: &[Row]) -> Result<(), NameFault> {
+fn add_names(alloc: Global, names: &mut Names, rows: &[Row]) -> Result<(), NoMem> {
     for (name, _, _, _) in rows {
         if names.len() < MAX_NAMES {
-            add_name(alloc, names, name)?;
+            names.add(name_of(alloc, name)?)?;
         }
     }
     Ok(())
 }
 
-fn add_name(alloc: Global, names: &mut Names, text: &str) -> Result<(), NameFault>
-    requires { length names.old < 4096 }
-{
-    let name = Name::read(alloc, text)?;
-    match names.add(name) {
-        Ok(_) => Ok(()),
-        Err(_) => Err(NameFault::Memory),
-    }
-}
-
-fn services_of(alloc: Global, rows: &[Row]) -> Result<Vec<Service>, NoMem> {
-    let mut services = Vec::new(alloc);
-    match add_services(alloc, &mut services, rows) {
-        Ok(()) => Ok(services),
-        Err(fault) => {
-            drop(services);
-            Err(fault)
-        }
+/// A text that is a name.
+pub fn name_of(alloc: Global, text: &str) -> Result<Name, NoMem> {
+    match Name::read(alloc, text) {
+        Ok(name) => Ok(name),
+        Err(_) => Err(AllocError),
     }
 }
 
@@ -181,21 +131,8 @@ fn text_of(alloc: Global, has_text: bool) -> Result<Option<String>, NoMem> {
     }
 }
 
-/// The table of these bundles, whose sets have this bound.
-fn table_of(alloc: Global, bound: u16, bundles: &[Bundle]) -> Result<Table, Fail>
-    requires { bound ≤ 4096 }
-{
-    let mut table = Table::new(alloc);
-    match put_all(alloc, &mut table, bound, bundles) {
-        Ok(()) => Ok(table),
-        Err(fault) => {
-            drop(table);
-            Err(fault)
-        }
-    }
-}
-
-fn put_all(alloc: Global, table: &mut Table, bound: u16, bundles: &[Bundle]) -> Result<(), Fail>
+/// Puts these bundles in, whose sets have this bound.
+fn put_all(alloc: Global, table: &mut Table, bound: u16, bundles: &[Bundle]) -> Result<(), NoMem>
     requires { bound ≤ 4096 }
 {
     for (name, services) in bundles {
@@ -206,15 +143,16 @@ fn put_all(alloc: Global, table: &mut Table, bound: u16, bundles: &[Bundle]) -> 
     Ok(())
 }
 
-fn put(alloc: Global, table: &mut Table, text: &str, set: Set) -> Result<(), NameFault>
+/// Puts a bundle in, in place of one of its name.
+pub fn put(alloc: Global, table: &mut Table, text: &str, set: Set) -> Result<(), NoMem>
     requires { length table.old < 4096 }
 {
-    let name = Name::read(alloc, text)?;
+    let name = name_of(alloc, text)?;
     let put = table.set(&name, set);
     drop(name);
     match put {
         Ok(_) => Ok(()),
-        Err(_) => Err(NameFault::Memory),
+        Err(_) => Err(AllocError),
     }
 }
 

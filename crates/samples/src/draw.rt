@@ -62,35 +62,53 @@ impl Change {
     /// A change on two to nine services, without a deadline.
     pub fn drawn(alloc: Global, draw: &mut Draw) -> Result<Change, Fail> {
         let services = 2 + draw.below(8);
-        let graph = graph_of(alloc, services, &drawn_needs(alloc, draw, services)?)?;
-        let up = drawn_closed(alloc, draw, &graph)?;
-        let to = drawn_closed(alloc, draw, &graph)?;
-        let fails = draw.some(alloc, services, 4)?;
-        Ok(Change {
-            graph,
-            up,
-            to,
-            fails,
+        let mut change = Change {
+            graph: drawn_graph(alloc, draw, services)?,
+            up: Vec::new(alloc),
+            to: Vec::new(alloc),
+            fails: Vec::new(alloc),
             deadline: None,
-        })
+        };
+        match draw_services(alloc, draw, &mut change) {
+            Ok(()) => Ok(change),
+            Err(fault) => {
+                drop(change);
+                Err(Fail::from(fault))
+            }
+        }
     }
 }
 
+/// Draws what is up, what is to be up and what fails.
+fn draw_services(alloc: Global, draw: &mut Draw, change: &mut Change) -> Result<(), NoMem> {
+    change.up = drawn_closed(alloc, draw, &change.graph)?;
+    change.to = drawn_closed(alloc, draw, &change.graph)?;
+    change.fails = draw.some(alloc, change.graph.len(), 4)?;
+    Ok(())
+}
+
+/// A graph of drawn needs.
+pub fn drawn_graph(alloc: Global, draw: &mut Draw, services: u16) -> Result<Graph, Fail>
+    requires { services ≤ 4096 }
+{
+    let needs = drawn_needs(alloc, draw, services)?;
+    graph_of(alloc, services, &needs)
+}
+
 /// Needs that make no cycle: all of the one direction, or all of the other.
-pub fn drawn_needs(
-    alloc: Global,
-    draw: &mut Draw,
-    services: u16,
-) -> Result<Vec<(u16, u16)>, NoMem> {
+fn drawn_needs(alloc: Global, draw: &mut Draw, services: u16) -> Result<Vec<(u16, u16)>, NoMem> {
     let turned = draw.below(2) == 0;
     let mut needs = Vec::new(alloc);
     for service in 0..services {
-        for other in draw.some(alloc, service, 3)?.as_slice() {
-            needs.push(if turned {
-                (*other, service)
-            } else {
-                (service, *other)
-            })?;
+        for other in 0..service {
+            if draw.below(3) == 0 {
+                let need = if turned {
+                    (other, service)
+                } else {
+                    (service, other)
+                };
+                needs.push(need)?;
+            }
         }
     }
     Ok(needs)
@@ -99,6 +117,10 @@ pub fn drawn_needs(
 /// Some services with all that they need.
 fn drawn_closed(alloc: Global, draw: &mut Draw, graph: &Graph) -> Result<Vec<u16>, NoMem> {
     let some = draw.some(alloc, graph.len(), 3)?;
-    let some = set_of(alloc, graph.len(), &some)?;
-    graph.up_of(alloc, &some)?.ids(alloc)
+    let set = set_of(alloc, graph.len(), &some);
+    drop(some);
+    let set = set?;
+    let closed = graph.up_of(alloc, &set);
+    drop(set);
+    closed?.ids(alloc)
 }

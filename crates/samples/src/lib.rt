@@ -9,8 +9,10 @@ mod plain;
 mod same;
 mod work;
 
-pub use crate::databases::{BUNDLES, Bundle, Row, SERVICES, parts_of, sample, words_of};
-pub use crate::draw::{Change, Draw, drawn_needs};
+pub use crate::databases::{
+    BUNDLES, Bundle, Row, SERVICES, joined, name_of, parts_of, put, sample, words_of,
+};
+pub use crate::draw::{Change, Draw, drawn_graph};
 pub use crate::graphs::{DB, LOG, NEEDS, NET, ROOT, WEB, graph_of, has_ids, set_of, widest_fan};
 pub use crate::plain::{End, end_of};
 pub use crate::same::is_same;

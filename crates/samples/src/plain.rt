@@ -39,15 +39,17 @@ pub fn end_of(alloc: Global, change: &Change) -> Result<End, NoMem> {
 fn sort_out(change: &Change, moved: &[u16], end: &mut End) -> Result<(), NoMem> {
     for service in 0..change.graph.len() {
         let is_up = change.up.contains(&service);
-        if is_up != moved.contains(&service) {
+        let has_moved = moved.contains(&service);
+        if is_up != has_moved {
             end.live.push(service)?;
         }
-        if is_up != change.to.contains(&service) && !moved.contains(&service) {
-            if is_free(change, moved, service) {
-                end.failed.push(service)?;
+        if is_up != change.to.contains(&service) && !has_moved {
+            let put = if is_free(change, moved, service) {
+                end.failed.push(service)
             } else {
-                end.left.push(service)?;
-            }
+                end.left.push(service)
+            };
+            put?;
         }
     }
     Ok(())

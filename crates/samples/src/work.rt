@@ -1,8 +1,6 @@
 //! Several workers who carry a change out, in a drawn order.
 
 ghost use Rattle.std.specs.Prelude.{◌≡◌, length};
-ghost use Rattle.rc_model.specs.Names.{Has};
-ghost use Rattle.rc_model.specs.Graph.{IsClosed};
 
 use crate::draw::{Change, Draw};
 use crate::graphs::set_of;
@@ -55,11 +53,16 @@ pub fn run_between(
     deadline: Option<u64>,
 ) -> Result<Option<Run>, NoMem> {
     let from = set_of(alloc, graph.len(), from)?;
-    let to = set_of(alloc, graph.len(), to)?;
-    if !graph.closed(&from) || !graph.closed(&to) {
-        return Ok(None);
-    }
-    Ok(Some(open_between(alloc, graph, &from, &to, deadline)?))
+    let to = match set_of(alloc, graph.len(), to) {
+        Ok(to) => to,
+        Err(short) => {
+            drop(from);
+            return Err(short);
+        }
+    };
+    let run = open_between(alloc, graph, &from, &to, deadline);
+    drop((from, to));
+    run
 }
 
 fn open_between(
@@ -68,14 +71,20 @@ fn open_between(
     from: &Set,
     to: &Set,
     deadline: Option<u64>,
-) -> Result<Run, NoMem>
+) -> Result<Option<Run>, NoMem>
     requires from_bound { length from.now ≡ length graph.now }
     requires to_bound { length to.now ≡ length graph.now }
-    requires from_closed { IsClosed graph.now (Has from.now) }
-    requires to_closed { IsClosed graph.now (Has to.now) }
 {
+    if !graph.closed(from) || !graph.closed(to) {
+        return Ok(None);
+    }
     let plan = between(alloc, graph, from, to)?;
-    Run::open(alloc, graph, &plan, deadline)
+    let run = Run::open(alloc, graph, &plan, deadline);
+    drop(plan);
+    match run {
+        Ok(run) => Ok(Some(run)),
+        Err(short) => Err(short),
+    }
 }
 
 /// In each turn a drawn worker ends what it holds, or stops the run, or asks for a job. False: a

@@ -1,12 +1,12 @@
 //! Databases drawn by chance.
 
-ghost use Rattle.std.specs.Prelude.{◌<◌, ◌≤◌, length};
+ghost use Rattle.std.specs.Prelude.{◌≤◌};
 
 use rc_db::{Db, MAX_BUNDLES, NoMem, Parts, Service, Table};
 use rc_graph::Graph;
-use rc_names::{Kind, MAX_NAMES, Name, NameFault, Names};
+use rc_names::{Kind, MAX_NAMES, Names};
 use rc_set::Set;
-use samples::{Draw, drawn_needs, graph_of, set_of};
+use samples::{Draw, drawn_graph, joined, name_of, parts_of, put, set_of};
 use std::alloc::Global;
 use std::test::Fail;
 
@@ -32,99 +32,45 @@ const PIECES: [&str; 10] = [
 
 /// A database of up to twelve services and six bundles, which can be written.
 pub(crate) fn drawn_db(alloc: Global, draw: &mut Draw) -> Result<Db, Fail> {
-    let names = drawn_names(alloc, draw)?;
-    match drawn_graph(alloc, draw, names.len()) {
-        Ok(graph) => with_graph(alloc, draw, names, graph),
+    let mut parts = parts_of(alloc, &[], &[], &[], &[])?;
+    match fill(alloc, draw, &mut parts) {
+        Ok(()) => joined(parts),
         Err(fault) => {
-            drop(names);
+            drop(parts);
             Err(fault)
         }
     }
 }
 
-fn drawn_names(alloc: Global, draw: &mut Draw) -> Result<Names, NameFault> {
-    let mut names = Names::new(alloc);
-    match add_names(alloc, draw, &mut names) {
-        Ok(()) => Ok(names),
-        Err(fault) => {
-            drop(names);
-            Err(fault)
-        }
-    }
+/// Draws parts in place of none.
+fn fill(alloc: Global, draw: &mut Draw, parts: &mut Parts) -> Result<(), Fail> {
+    add_names(alloc, draw, &mut parts.names)?;
+    parts.graph = drawn_graph(alloc, draw, parts.names.len())?;
+    add_services(alloc, draw, &mut parts.services, &parts.graph)?;
+    set_bundles(alloc, draw, &mut parts.table, parts.names.len())?;
+    Ok(())
 }
 
-fn add_names(alloc: Global, draw: &mut Draw, names: &mut Names) -> Result<(), NameFault> {
+fn add_names(alloc: Global, draw: &mut Draw, names: &mut Names) -> Result<(), NoMem> {
     for text in SERVICES.split(' ') {
         if draw.below(2) == 0 && names.len() < MAX_NAMES {
-            add_name(alloc, names, text)?;
+            names.add(name_of(alloc, text)?)?;
         }
     }
     Ok(())
 }
 
-fn add_name(alloc: Global, names: &mut Names, text: &str) -> Result<(), NameFault>
-    requires { length names.old < 4096 }
-{
-    let name = Name::read(alloc, text)?;
-    match names.add(name) {
-        Ok(_) => Ok(()),
-        Err(_) => Err(NameFault::Memory),
-    }
-}
-
-fn drawn_graph(alloc: Global, draw: &mut Draw, services: u16) -> Result<Graph, Fail>
-    requires { services ≤ 4096 }
-{
-    let needs = drawn_needs(alloc, draw, services)?;
-    graph_of(alloc, services, &needs)
-}
-
-fn with_graph(alloc: Global, draw: &mut Draw, names: Names, graph: Graph) -> Result<Db, Fail> {
-    match drawn_services(alloc, draw, &graph) {
-        Ok(services) => with_services(alloc, draw, names, graph, services),
-        Err(fault) => {
-            drop(names);
-            drop(graph);
-            Err(Fail::from(fault))
-        }
-    }
-}
-
-fn with_services(
+fn add_services(
     alloc: Global,
     draw: &mut Draw,
-    names: Names,
-    graph: Graph,
-    services: Vec<Service>,
-) -> Result<Db, Fail> {
-    match drawn_table(alloc, draw, graph.len()) {
-        Ok(table) => joined(names, graph, services, table),
-        Err(fault) => {
-            drop(names);
-            drop(graph);
-            drop(services);
-            Err(fault)
-        }
-    }
-}
-
-fn joined(names: Names, graph: Graph, services: Vec<Service>, table: Table) -> Result<Db, Fail> {
-    let parts = Parts {
-        names,
-        services,
-        graph,
-        table,
-    };
-    Ok(Db::join(parts)?)
-}
-
-fn drawn_services(alloc: Global, draw: &mut Draw, graph: &Graph) -> Result<Vec<Service>, NoMem> {
+    services: &mut Vec<Service>,
+    graph: &Graph,
+) -> Result<(), NoMem> {
     let longruns = draw.some(alloc, graph.len(), 2)?;
-    let mut services = Vec::new(alloc);
     for id in 0..graph.len() {
-        push_service(alloc, draw, &mut services, graph.needs(id), &longruns, id)?;
+        push_service(alloc, draw, services, graph.needs(id), &longruns, id)?;
     }
-    Ok(services)
+    Ok(())
 }
 
 fn push_service(
@@ -135,17 +81,18 @@ fn push_service(
     longruns: &[u16],
     id: u16,
 ) -> Result<(), NoMem> {
-    if longruns.contains(&id) {
-        services.push(drawn_longrun(draw, needs, longruns))?;
+    let service = if longruns.contains(&id) {
+        drawn_longrun(draw, needs, longruns)
     } else {
-        services.push(drawn_oneshot(alloc, draw)?)?;
-    }
+        drawn_oneshot(alloc, draw)?
+    };
+    services.push(service)?;
     Ok(())
 }
 
 /// A longrun that feeds a longrun that it needs, where there is one, half of the time.
 fn drawn_longrun(draw: &mut Draw, needs: &[u16], longruns: &[u16]) -> Service {
-    let fed = needs.iter().find(|need| longruns.contains(need)).copied();
+    let fed = first_in(needs, longruns);
     Service {
         kind: Kind::Longrun,
         essential: draw.below(3) == 0,
@@ -155,6 +102,16 @@ fn drawn_longrun(draw: &mut Draw, needs: &[u16], longruns: &[u16]) -> Service {
         text_down: None,
         producer_for: if draw.below(2) == 0 { fed } else { None },
     }
+}
+
+/// The first of these that is one of the others.
+fn first_in(ids: &[u16], others: &[u16]) -> Option<u16> {
+    for id in ids {
+        if others.contains(id) {
+            return Some(*id);
+        }
+    }
+    None
 }
 
 fn drawn_oneshot(alloc: Global, draw: &mut Draw) -> Result<Service, NoMem> {
@@ -189,44 +146,25 @@ fn drawn_text(alloc: Global, draw: &mut Draw) -> Result<String, NoMem> {
     Ok(text)
 }
 
-fn drawn_table(alloc: Global, draw: &mut Draw, services: u16) -> Result<Table, Fail>
-    requires { services ≤ 4096 }
-{
-    let mut table = Table::new(alloc);
-    match set_bundles(alloc, draw, &mut table, services) {
-        Ok(()) => Ok(table),
-        Err(fault) => {
-            drop(table);
-            Err(fault)
-        }
-    }
-}
-
-fn set_bundles(alloc: Global, draw: &mut Draw, table: &mut Table, services: u16) -> Result<(), Fail>
+fn set_bundles(
+    alloc: Global,
+    draw: &mut Draw,
+    table: &mut Table,
+    services: u16,
+) -> Result<(), NoMem>
     requires { services ≤ 4096 }
 {
     for name in BUNDLES.split(' ') {
         if draw.below(2) == 0 && table.len() < MAX_BUNDLES {
-            let some = draw.some(alloc, services, 3)?;
-            set_bundle(alloc, table, name, set_of(alloc, services, &some)?)?;
+            put(alloc, table, name, drawn_set(alloc, draw, services)?)?;
         }
     }
     Ok(())
 }
 
-fn set_bundle(alloc: Global, table: &mut Table, name: &str, set: Set) -> Result<(), Fail>
-    requires { length table.old < 4096 }
+fn drawn_set(alloc: Global, draw: &mut Draw, services: u16) -> Result<Set, NoMem>
+    requires { services ≤ 4096 }
 {
-    match Name::read(alloc, name) {
-        Ok(name) => {
-            let before = table.set(&name, set);
-            drop(name);
-            drop(before?);
-            Ok(())
-        }
-        Err(fault) => {
-            drop(set);
-            Err(Fail::from(fault))
-        }
-    }
+    let some = draw.some(alloc, services, 3)?;
+    set_of(alloc, services, &some)
 }
