@@ -5,7 +5,7 @@ ghost use Rattle.std.specs.Prelude.{◌≡◌, false};
 use crate::begun::{abandoned, completed, is_stopped};
 use crate::lines::{is_of_states, is_stepped_on};
 use crate::rows::How;
-use crate::values::told_of;
+use crate::values::is_value;
 use crate::workers::{by_workers, within};
 use rc_board::Fault;
 use rc_session::{Refusal, Session, Step};
@@ -46,19 +46,52 @@ fn told(
     requires { session.old.begun ≡ false }
     ensures { session.new.begun ≡ false }
 {
-    let alloc = rt.alloc();
-    match (how, steps.first()) {
-        (How::Of(value), _) => told_of(alloc, session, value, text),
-        (How::Stop, _) => answered(is_stopped(rt, session.db().graph())),
-        (How::States, _) => answered(is_of_states(rt, session.db().table(), session.table())),
-        (How::StepOn, _) => answered(is_stepped_on(rt, session.journal(), session.table())),
-        (How::Play, _) => played(alloc, session, steps),
-        (How::Complete, Some(step)) => completed(rt, session, step),
-        (How::Abandon, Some(step)) => abandoned(rt, session, step, false),
-        (How::Spoil, Some(step)) => abandoned(rt, session, step, true),
-        (How::By, Some(step)) => by_events(alloc, session, step),
-        (How::Edit, Some(step)) => edited(alloc, session, step),
-        (How::Dry, Some(step)) => planned(alloc, session, step),
+    match how {
+        How::Of(_) | How::Stop | How::States | How::StepOn => {
+            answered(is_right(rt, session, how, text))
+        }
+        How::Play => played(rt.alloc(), session, steps),
+        _ => match steps.first() {
+            Some(step) => stepped(rt, session, how, step),
+            None => Err(Refusal::Strange),
+        },
+    }
+}
+
+/// Whether a call that alters nothing answers as it must.
+fn is_right(
+    rt: &(impl Print + AllocGlobal),
+    session: &Session,
+    how: How,
+    text: &[u8],
+) -> Result<bool, NoMem>
+    requires { session.now.begun ≡ false }
+{
+    match how {
+        How::Of(value) => is_value(rt.alloc(), session, value, text),
+        How::Stop => is_stopped(rt, session.db().graph()),
+        How::States => is_of_states(rt, session.db().table(), session.table()),
+        _ => is_stepped_on(rt, session.journal(), session.table()),
+    }
+}
+
+/// A call by one step.
+fn stepped(
+    rt: &(impl Print + AllocGlobal),
+    session: &mut Session,
+    how: How,
+    step: &Step,
+) -> Result<(), Refusal>
+    requires { session.old.begun ≡ false }
+    ensures { session.new.begun ≡ false }
+{
+    match how {
+        How::Complete => completed(rt, session, step),
+        How::Abandon => abandoned(rt, session, step, false),
+        How::Spoil => abandoned(rt, session, step, true),
+        How::By => by_events(rt.alloc(), session, step),
+        How::Edit => edited(rt.alloc(), session, step),
+        How::Dry => planned(rt.alloc(), session, step),
         _ => Err(Refusal::Strange),
     }
 }

@@ -5,7 +5,7 @@ ghost use Rattle.rc_model.specs.Database.{Bundles};
 ghost use Rattle.rc_line.specs.Opening.{IsEditFrom};
 
 use crate::begun::go_on_to;
-use crate::own::{fault_of, show_came, show_same};
+use crate::own::{fault_of, show_came, show_line, show_same};
 use rc_bundle::Edit;
 use rc_db::Table;
 use rc_line::Line;
@@ -21,38 +21,48 @@ pub(crate) fn is_of_states(
     before: &Table,
     now: &Table,
 ) -> Result<bool, NoMem> {
-    let (first, second) = sets(rt.alloc())?;
-    let first = (first, before.copy(rt.alloc())?);
-    let second = (second, now.copy(rt.alloc())?);
-    match of_two(rt, first, second)? {
-        Some(line) => Ok(line.states() == 2 && line.cursor() == 1),
-        None => Ok(false),
+    let first = state_of(rt.alloc(), &[], before)?;
+    match state_of(rt.alloc(), &[LOG, ROOT], now) {
+        Ok(second) => of_two(rt, first, second),
+        Err(short) => {
+            drop(first);
+            Err(short)
+        }
     }
 }
 
-fn sets(alloc: Global) -> Result<(Set, Set), NoMem>
-    ensures { IfOk result (λ sets. length sets.1 ≡ length sets.0) }
+/// The state in which these services are live.
+fn state_of(alloc: Global, live: &[u16], table: &Table) -> Result<(Set, Table), NoMem>
+    ensures { IfOk result (λ state. length state.0 ≡ 5) }
 {
-    let first = set_of(alloc, 5, &[])?;
-    let second = set_of(alloc, 5, &[LOG, ROOT])?;
-    Ok((first, second))
+    let live = set_of(alloc, 5, live)?;
+    match table.copy(alloc) {
+        Ok(table) => Ok((live, table)),
+        Err(short) => {
+            drop(live);
+            Err(short)
+        }
+    }
 }
 
-/// The line of two states, on the second, if different services are live in them.
+/// Whether different services are live in two states, and their line has them and stands on the
+/// second.
 fn of_two(
     rt: &(impl Print + AllocGlobal),
     first: (Set, Table),
     second: (Set, Table),
-) -> Result<Option<Line>, NoMem>
+) -> Result<bool, NoMem>
     requires sets { length second.0 ≡ length first.0 }
 {
     if first.0.same(&second.0) {
-        return Ok(None);
+        return Ok(false);
     }
     let held = vec![in rt.alloc(); first, second]?;
     go_on_to(rt, "Line::from_states");
-    let line = Line::from_states(rt.alloc(), held, 1, 3)?;
-    Ok(Some(line))
+    match Line::from_states(rt.alloc(), held, 1, 3) {
+        Ok(line) => Ok(line.states() == 2 && line.cursor() == 1),
+        Err(short) => Err(short),
+    }
 }
 
 /// Whether a step on from the state before the last leads to the table of the last.
@@ -69,8 +79,13 @@ pub(crate) fn is_stepped_on(
     let place = line.states() - 2;
     let (mut live, mut table) = line.state(rt.alloc(), place)?;
     go_on_to(rt, "Line::step_on");
-    line.step_on(rt.alloc(), place, &mut live, &mut table)?;
-    Ok(table.same(to))
+    let stepped = line.step_on(rt.alloc(), place, &mut live, &mut table);
+    let is_same = table.same(to);
+    drop((live, table));
+    match stepped {
+        Ok(()) => Ok(is_same),
+        Err(short) => Err(short),
+    }
 }
 
 /// An edit of a copy of a line that removes all bundles, and whether that is the line as it was.
@@ -94,13 +109,14 @@ fn show_on(
 {
     let none = Table::new(rt.alloc());
     let _bundles = none.len();
-    let edit = Edit::between(rt.alloc(), copied.table(), &none)?;
+    let edit = Edit::between(rt.alloc(), copied.table(), &none);
     drop(none);
+    let edit = edit?;
     let _ = print!(rt; "{what}: ");
     let came = entered(rt, copied, edit);
     show_came(rt, fault_of(came))?;
     if copied.is_open() {
-        return println!(rt; "left open");
+        return show_line(rt, "left open");
     }
     let is_same = is_same_line(rt.alloc(), copied, line)?;
     show_same(rt, is_same)

@@ -17,9 +17,9 @@ mod workers;
 
 use crate::calls::made;
 use crate::lines::show_edit;
-use crate::own::{show_came, show_own};
+use crate::own::{show_came, show_line, show_own};
 use crate::rows::{How, ROWS, Row};
-use crate::steps::steps_of;
+use crate::steps::{Act, steps_of};
 use crate::tables::altered;
 use rc_board::Fault;
 use rc_db::Db;
@@ -64,9 +64,9 @@ fn show_on<R: Print + AllocGlobal + Threads + Wait + Sync>(
 ) -> io::Result<()>
     requires { session.old.begun ≡ false }
 {
-    let (what, before, how, words) = row;
+    let (what, before, how, acts) = row;
     set_up(rt.alloc(), session, before)?;
-    let steps = steps_of(rt.alloc(), words)?;
+    let steps = steps_of(rt.alloc(), acts)?;
     let shown = match how {
         How::Table => show_table(rt, session.db(), what, steps.first()),
         How::Own(given) => show_own(rt, what, *given),
@@ -77,11 +77,11 @@ fn show_on<R: Print + AllocGlobal + Threads + Wait + Sync>(
     shown
 }
 
-fn set_up(alloc: Global, session: &mut Session, words: &str) -> Result<(), NoMem>
+fn set_up(alloc: Global, session: &mut Session, acts: &[Act]) -> Result<(), NoMem>
     requires { session.old.begun ≡ false }
     ensures { session.new.begun ≡ false }
 {
-    let steps = steps_of(alloc, words)?;
+    let steps = steps_of(alloc, acts)?;
     let played = session.play(alloc, &steps);
     drop(steps);
     match played {
@@ -122,7 +122,7 @@ fn show_table(
     drop(table);
     show_came(rt, came)?;
     if is_same {
-        println!(rt; "as before")
+        show_line(rt, "as before")
     } else {
         println!(rt; "now {bundles} bundles")
     }
@@ -133,15 +133,22 @@ fn show_session(rt: &(impl Print + AllocGlobal), session: &Session, text: &[u8])
     requires { session.now.begun ≡ false }
 {
     if session.is_open() {
-        return println!(rt; "left open");
+        return show_line(rt, "left open");
     }
-    if write_live(rt.alloc(), session)?.as_slice() == text {
-        return println!(rt; "as before");
+    if has_text(rt.alloc(), session, text)? {
+        return show_line(rt, "as before");
     }
     let journal = session.journal();
-    let (cursor, states) = (journal.cursor(), journal.states());
-    println!(rt;
-        "now at {cursor} of {states}, {} live",
-        session.live().len()
-    )
+    show_place(rt, journal.cursor(), journal.states(), session.live().len())
+}
+
+fn has_text(alloc: Global, session: &Session, text: &[u8]) -> Result<bool, NoMem>
+    requires { session.now.begun ≡ false }
+{
+    let written = write_live(alloc, session)?;
+    Ok(written.as_slice() == text)
+}
+
+fn show_place(rt: &impl Print, cursor: usize, states: usize, live: u16) -> io::Result<()> {
+    println!(rt; "now at {cursor} of {states}, {live} live")
 }

@@ -4,14 +4,13 @@ ghost use Rattle.std.specs.Prelude.{◌≡◌, ◌≤◌, length, IfOk};
 
 use crate::begun::go_on_to;
 use crate::rows::Given;
-use crate::steps::name_of;
 use rc_board::Fault;
 use rc_db::{MAX_BUNDLES, Table};
 use rc_graph::Draft;
 use rc_names::{MAX_NAMES, Name, Names};
 use rc_session::Refusal;
 use rc_set::{NoMem, Set};
-use samples::set_of;
+use samples::{name_of, put, set_of};
 use std::alloc::{AllocGlobal, Global};
 use std::io;
 use std::io::Print;
@@ -30,6 +29,10 @@ pub(crate) fn fault_of(came: Result<(), NoMem>) -> Result<(), Fault> {
     }
 }
 
+/// What a call came to, and whether the value is as it was; an error of its own where there is no
+/// memory for what the call is given.
+type Own = Result<(Result<(), NoMem>, bool), NoMem>;
+
 /// The call, what it came to, and whether the value is as it was.
 pub(crate) fn show_own(
     rt: &(impl Print + AllocGlobal),
@@ -37,10 +40,16 @@ pub(crate) fn show_own(
     given: Given,
 ) -> io::Result<()> {
     match given {
-        Given::Names => show_names(rt, what),
+        Given::Names => show_end(rt, on_names(rt, what)),
         Given::Draft => show_draft(rt, what),
-        Given::Bundles => show_table(rt, what),
+        Given::Bundles => show_end(rt, on_table(rt, what)),
     }
+}
+
+fn show_end(rt: &impl Print, own: Own) -> io::Result<()> {
+    let (came, is_same) = own?;
+    show_came(rt, fault_of(came))?;
+    show_same(rt, is_same)
 }
 
 pub(crate) fn show_came(rt: &impl Print, came: Result<(), Fault>) -> io::Result<()> {
@@ -51,31 +60,42 @@ pub(crate) fn show_came(rt: &impl Print, came: Result<(), Fault>) -> io::Result<
 }
 
 pub(crate) fn show_same(rt: &impl Print, is_same: bool) -> io::Result<()> {
-    println!(rt; "{}", if is_same { "as before" } else { "altered" })
+    show_line(rt, if is_same { "as before" } else { "altered" })
 }
 
-fn show_names(rt: &(impl Print + AllocGlobal), what: &str) -> io::Result<()> {
-    let mut names = nine_names(rt.alloc())?;
-    let shown = show_added(rt, what, &mut names);
+pub(crate) fn show_line(rt: &impl Print, line: &str) -> io::Result<()> {
+    println!(rt; "{line}")
+}
+
+fn on_names(rt: &(impl Print + AllocGlobal), what: &str) -> Own {
+    let mut names = Names::new(rt.alloc());
+    let came = add_named(rt, what, &mut names);
+    let is_same = are_nine(&names);
     drop(names);
-    shown
+    match came {
+        Ok(came) => Ok((came, is_same)),
+        Err(short) => Err(short),
+    }
 }
 
-fn show_added(rt: &(impl Print + AllocGlobal), what: &str, names: &mut Names) -> io::Result<()> {
+/// Names the call on nine names, and makes it.
+fn add_named(
+    rt: &(impl Print + AllocGlobal),
+    what: &str,
+    names: &mut Names,
+) -> Result<Result<(), NoMem>, NoMem> {
+    add_nine(rt.alloc(), names)?;
     let added = name_of(rt.alloc(), "a")?;
     let again = added.copy(rt.alloc())?;
     let _ = print!(rt; "{what}: ");
-    let came = named(rt, names, added, again);
-    show_came(rt, fault_of(came))?;
-    show_same(rt, are_nine(names))
+    Ok(named(rt, names, added, again))
 }
 
-fn nine_names(alloc: Global) -> Result<Names, NoMem> {
-    let mut names = Names::new(alloc);
+fn add_nine(alloc: Global, names: &mut Names) -> Result<(), NoMem> {
     for text in &NINE {
-        add(&mut names, name_of(alloc, text)?)?;
+        add(names, name_of(alloc, text)?)?;
     }
-    Ok(names)
+    Ok(())
 }
 
 fn add(names: &mut Names, name: Name) -> Result<(), NoMem> {
@@ -136,39 +156,47 @@ fn has_eight_needs(draft: Draft) -> bool {
     }
 }
 
-fn show_table(rt: &(impl Print + AllocGlobal), what: &str) -> io::Result<()> {
-    let mut table = nine_bundles(rt.alloc())?;
-    let shown = show_beside_copy(rt, what, &mut table);
+fn on_table(rt: &(impl Print + AllocGlobal), what: &str) -> Own {
+    let mut table = Table::new(rt.alloc());
+    let own = put_beside_copy(rt, what, &mut table);
     drop(table);
-    shown
+    own
 }
 
-fn show_beside_copy(
-    rt: &(impl Print + AllocGlobal),
-    what: &str,
-    table: &mut Table,
-) -> io::Result<()> {
+fn put_beside_copy(rt: &(impl Print + AllocGlobal), what: &str, table: &mut Table) -> Own {
+    put_nine(rt.alloc(), table)?;
     let before = table.copy(rt.alloc())?;
-    let shown = show_put(rt, what, table, &before);
+    let came = put_named(rt, what, table);
+    let is_same = table.same(&before);
     drop(before);
-    shown
+    match came {
+        Ok(came) => Ok((came, is_same)),
+        Err(short) => Err(short),
+    }
 }
 
-fn show_put(
+fn put_nine(alloc: Global, table: &mut Table) -> Result<(), NoMem> {
+    for text in &NINE {
+        if table.len() < MAX_BUNDLES {
+            put(alloc, table, text, set_of(alloc, 5, &[2])?)?;
+        }
+    }
+    Ok(())
+}
+
+fn put_named(
     rt: &(impl Print + AllocGlobal),
     what: &str,
     table: &mut Table,
-    before: &Table,
-) -> io::Result<()> {
+) -> Result<Result<(), NoMem>, NoMem> {
     let name = name_of(rt.alloc(), "a")?;
-    let came = put_named(rt, what, table, &name);
+    let came = put_sets(rt, what, table, &name);
     drop(name);
-    show_came(rt, fault_of(came?))?;
-    show_same(rt, table.same(before))
+    came
 }
 
-/// Names the call, and makes it; an error of its own where there is no memory for what it is given.
-fn put_named(
+/// Names the call, and makes it.
+fn put_sets(
     rt: &(impl Print + AllocGlobal),
     what: &str,
     table: &mut Table,
@@ -177,25 +205,17 @@ fn put_named(
     let set = set_of(rt.alloc(), 5, &[0, 1])?;
     let again = set.copy(rt.alloc())?;
     let _ = print!(rt; "{what}: ");
-    Ok(put(rt, table, name, set, again))
-}
-
-fn nine_bundles(alloc: Global) -> Result<Table, NoMem> {
-    let mut table = Table::new(alloc);
-    for text in &NINE {
-        put_text(alloc, &mut table, text)?;
-    }
-    Ok(table)
-}
-
-fn put_text(alloc: Global, table: &mut Table, text: &str) -> Result<(), NoMem> {
-    let name = name_of(alloc, text)?;
-    let set = set_of(alloc, 5, &[2])?;
-    put_one(table, &name, set)
+    Ok(put_twice(rt, table, name, set, again))
 }
 
 /// Puts a bundle in, puts it in once more, and takes it out.
-fn put(rt: &impl Print, table: &mut Table, name: &Name, set: Set, again: Set) -> Result<(), NoMem> {
+fn put_twice(
+    rt: &impl Print,
+    table: &mut Table,
+    name: &Name,
+    set: Set,
+    again: Set,
+) -> Result<(), NoMem> {
     put_one(table, name, set)?;
     go_on_to(rt, "set of a name that is there");
     put_one(table, name, again)?;

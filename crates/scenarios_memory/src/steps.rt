@@ -1,12 +1,11 @@
 //! Steps of a session over the sample.
 
 use rc_core::{Event, Outcome};
-use rc_names::Name;
 use rc_select::{Mode, Request};
 use rc_session::Step;
 use rc_set::NoMem;
-use samples::{DB, LOG, NET, ROOT, WEB, words_of};
-use std::alloc::{AllocError, Global};
+use samples::{DB, LOG, NET, ROOT, WEB, name_of, words_of};
+use std::alloc::Global;
 
 /// The order in which one worker brings all up.
 const RISE: [u16; 5] = [ROOT, NET, DB, LOG, WEB];
@@ -14,30 +13,52 @@ const RISE: [u16; 5] = [ROOT, NET, DB, LOG, WEB];
 /// The order in which it brings all down.
 const FALL: [u16; 5] = [WEB, LOG, DB, NET, ROOT];
 
-/// These steps, with a space between two.
-pub(crate) fn steps_of(alloc: Global, words: &str) -> Result<Vec<Step>, NoMem> {
+/// What a step does.
+pub(crate) enum Act {
+    /// Brings `site` up, within a limit if that is not 0.
+    Up(u32),
+    /// Undoes a change, by taking these services, or an edit.
+    Undo(&'static [u16]),
+    /// Redoes a change or an edit.
+    Redo(&'static [u16]),
+    /// Defines the bundle `pair`.
+    Add,
+    /// Removes `site`.
+    Delete,
+}
+
+pub(crate) const UP: Act = Act::Up(0);
+
+pub(crate) const LIMITED: Act = Act::Up(5);
+
+/// Brings all down again.
+pub(crate) const UNDO: Act = Act::Undo(&FALL);
+
+/// Brings all up again.
+pub(crate) const REDO: Act = Act::Redo(&RISE);
+
+/// Undoes an edit.
+pub(crate) const BACK: Act = Act::Undo(&[]);
+
+/// Redoes one.
+pub(crate) const ON: Act = Act::Redo(&[]);
+
+/// The steps that do this.
+pub(crate) fn steps_of(alloc: Global, acts: &[Act]) -> Result<Vec<Step>, NoMem> {
     let mut steps = Vec::new(alloc);
-    for word in words.split(' ') {
-        if !word.is_empty() {
-            steps.push(step_of(alloc, word)?)?;
-        }
+    for act in acts {
+        steps.push(step_of(alloc, act)?)?;
     }
     Ok(steps)
 }
 
-/// `up` brings `site` up, `limited` does so within a limit, `undo` and `redo` bring all down again
-/// and up again. `add` defines the bundle `pair`, `delete` removes `site`, `back` and `on` undo and
-/// redo an edit.
-fn step_of(alloc: Global, word: &str) -> Result<Step, NoMem> {
-    match word {
-        "up" => up_site(alloc, 0),
-        "limited" => up_site(alloc, 5),
-        "undo" => Ok(Step::Undo(0, run_of(alloc, &FALL)?)),
-        "redo" => Ok(Step::Redo(0, run_of(alloc, &RISE)?)),
-        "add" => add_pair(alloc),
-        "delete" => Ok(Step::Delete(words_of(alloc, &["site"])?, false)),
-        "back" => Ok(Step::Undo(0, Vec::new(alloc))),
-        _ => Ok(Step::Redo(0, Vec::new(alloc))),
+fn step_of(alloc: Global, act: &Act) -> Result<Step, NoMem> {
+    match act {
+        Act::Up(limit) => up_site(alloc, *limit),
+        Act::Undo(order) => Ok(Step::Undo(0, run_of(alloc, order)?)),
+        Act::Redo(order) => Ok(Step::Redo(0, run_of(alloc, order)?)),
+        Act::Add => add_pair(alloc),
+        Act::Delete => Ok(Step::Delete(words_of(alloc, &["site"])?, false)),
     }
 }
 
@@ -66,12 +87,4 @@ fn up_site(alloc: Global, limit: u32) -> Result<Step, NoMem> {
 fn add_pair(alloc: Global) -> Result<Step, NoMem> {
     let contents = words_of(alloc, &["db", "log"])?;
     Ok(Step::Add(name_of(alloc, "pair")?, contents, false))
-}
-
-/// A text that is a name.
-pub(crate) fn name_of(alloc: Global, text: &str) -> Result<Name, NoMem> {
-    match Name::read(alloc, text) {
-        Ok(name) => Ok(name),
-        Err(_) => Err(AllocError),
-    }
 }

@@ -10,7 +10,7 @@ use rc_line::Line;
 use rc_livetext::{LiveFault, read_live, write_live};
 use rc_names::{Name, NameFault, Names};
 use rc_select::{Plan, between, plan_up};
-use rc_session::{Refusal, Session};
+use rc_session::Session;
 use rc_set::{NoMem, Set};
 use samples::has_ids;
 use std::alloc::{AllocError, Global};
@@ -37,33 +37,28 @@ pub(crate) enum Value {
     PadNew,
 }
 
-/// Makes a value. A wrong one is strange.
-pub(crate) fn told_of(
+/// Makes a value. Whether it is right.
+pub(crate) fn is_value(
     alloc: Global,
     session: &Session,
     value: Value,
     text: &[u8],
-) -> Result<(), Refusal>
+) -> Result<bool, NoMem>
     requires { session.now.begun ≡ false }
 {
-    let is_right = match value {
-        Value::SetEmpty | Value::SetCopy | Value::SetIds => is_set(alloc, session.live(), value)?,
-        Value::NameRead => is_name(alloc)?,
-        Value::NameCopy => is_copied(alloc, session.db().names())?,
+    match value {
+        Value::SetEmpty | Value::SetCopy | Value::SetIds => is_set(alloc, session.live(), value),
+        Value::NameRead => is_name(alloc),
+        Value::NameCopy => is_copied(alloc, session.db().names()),
         Value::GraphShare | Value::UpOf | Value::DownOf | Value::PlanBetween => {
-            is_on_graph(alloc, session.db().graph(), session.live(), value)?
+            is_on_graph(alloc, session.db().graph(), session.live(), value)
         }
         Value::PlanUp => match session.table().get("site") {
-            Some(site) => brings_all_up(alloc, session.db().graph(), session.live(), site)?,
-            None => false,
+            Some(site) => brings_all_up(alloc, session.db().graph(), session.live(), site),
+            None => Ok(false),
         },
-        Value::PadNew => Pad::new(alloc, 5)?.room() == 11,
-        _ => is_on_session(alloc, session, value, text)?,
-    };
-    if is_right {
-        Ok(())
-    } else {
-        Err(Refusal::Strange)
+        Value::PadNew => Ok(Pad::new(alloc, 5)?.room() == 11),
+        _ => is_on_session(alloc, session, value, text),
     }
 }
 
@@ -113,9 +108,14 @@ fn is_on_graph(alloc: Global, graph: &Graph, set: &Set, value: Value) -> Result<
     }
     match value {
         Value::GraphShare => Ok(graph.share()?.len() == 5),
-        Value::UpOf => Ok(graph.up_of(alloc, set)?.len() == 5),
-        Value::DownOf => Ok(graph.down_of(alloc, set)?.len() == 5),
-        _ => Ok(between(alloc, graph, set, set)?.raise().is_empty()),
+        Value::PlanBetween => Ok(between(alloc, graph, set, set)?.raise().is_empty()),
+        _ => {
+            let closed = match value {
+                Value::UpOf => graph.up_of(alloc, set),
+                _ => graph.down_of(alloc, set),
+            };
+            Ok(closed?.len() == 5)
+        }
     }
 }
 
