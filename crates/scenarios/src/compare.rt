@@ -18,7 +18,7 @@ fn is_right_whole(alloc: Global, db: &Db, text: &[u8], bytes: &[u8]) -> Result<b
             drop(other);
             is_right
         }
-        Err(fault) => Ok(fault != TextFault::Memory && bytes != text),
+        Err(fault) => Ok(!matches!(fault, TextFault::Memory) && bytes != text),
     }
 }
 
@@ -40,7 +40,7 @@ fn is_right_front(alloc: Global, bytes: &[u8]) -> Result<bool, NoMem> {
             drop(other);
             is_front
         }
-        Err(fault) => Ok(fault != TextFault::Memory),
+        Err(fault) => Ok(!matches!(fault, TextFault::Memory)),
     }
 }
 

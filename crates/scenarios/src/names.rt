@@ -7,33 +7,34 @@ use std::alloc::Global;
 use std::io;
 
 /// So many times a text, and the number of the fault for which that is no name, or 0.
-const TEXTS: &str = "\
-1||1
-1|web|0
-1|a/b|3
-1|a b|3
-1|a\tb|3
-1|a\u{1}|3
-1|a\u{7f}|3
-1|!|0
-1|~|0
-1|-x|3
-1|#x|3
-1|a-b|0
-1|a#|0
-1|.x|0
-1|é|0
-1|s6rc-x|4
-1|s6rc-|4
-1|s6rc|0
-1|x-s6rc-|0
-1|s6rc- x|3
-255|a|0
-256|a|2
-255|/|3
-300|/|2
-127|é|0
-128|é|2";
+static TEXTS: [(usize, &str, u8); 26] = [
+    (1, "", 1),
+    (1, "web", 0),
+    (1, "a/b", 3),
+    (1, "a b", 3),
+    (1, "a\tb", 3),
+    (1, "a\u{1}", 3),
+    (1, "a\u{7f}", 3),
+    (1, "!", 0),
+    (1, "~", 0),
+    (1, "-x", 3),
+    (1, "#x", 3),
+    (1, "a-b", 0),
+    (1, "a#", 0),
+    (1, ".x", 0),
+    (1, "é", 0),
+    (1, "s6rc-x", 4),
+    (1, "s6rc-", 4),
+    (1, "s6rc", 0),
+    (1, "x-s6rc-", 0),
+    (1, "s6rc- x", 3),
+    (255, "a", 0),
+    (256, "a", 2),
+    (255, "/", 3),
+    (300, "/", 2),
+    (127, "é", 0),
+    (128, "é", 2),
+];
 
 const NAME_FAULTS: [NameFault; 5] = [
     NameFault::Empty,
@@ -52,8 +53,8 @@ const LINE_FAULTS: [LineFault; 3] = [
 /// Shows how many texts are read as they must be, and each that is not.
 pub(crate) fn show_names(rt: &(impl Print + AllocGlobal)) -> io::Result<()> {
     let mut right = 0u8;
-    for row in TEXTS.lines() {
-        if show_text(rt, row)? {
+    for (count, part, code) in &TEXTS {
+        if show_text(rt, *count, part, *code)? {
             right = right.saturating_add(1);
         }
     }
@@ -61,20 +62,22 @@ pub(crate) fn show_names(rt: &(impl Print + AllocGlobal)) -> io::Result<()> {
 }
 
 /// Whether a text is read as it must be; one that is not is shown.
-fn show_text(rt: &(impl Print + AllocGlobal), row: &str) -> io::Result<bool> {
-    let is_right = is_read_so(rt.alloc(), row)?;
+fn show_text(
+    rt: &(impl Print + AllocGlobal),
+    count: usize,
+    part: &str,
+    code: u8,
+) -> io::Result<bool> {
+    let is_right = is_read_so(rt.alloc(), count, part, code)?;
     if !is_right {
-        println!(rt; "read otherwise: {row}")?;
+        println!(rt; "read otherwise: {count}|{part}|{code}")?;
     }
     Ok(is_right)
 }
 
-fn is_read_so(alloc: Global, row: &str) -> Result<bool, NoMem> {
-    let (count, row) = row.split_once('|').unwrap_or(("", ""));
-    let (part, code) = row.split_once('|').unwrap_or(("", ""));
-    let text = part.repeat(alloc, count.parse::<usize>().unwrap_or(0))?;
-    let found = code_of(alloc, text.as_str());
-    Ok(code.parse::<u8>().unwrap_or(u8::MAX) == found)
+fn is_read_so(alloc: Global, count: usize, part: &str, code: u8) -> Result<bool, NoMem> {
+    let text = part.repeat(alloc, count)?;
+    Ok(code_of(alloc, text.as_str()) == code)
 }
 
 /// A name keeps its text.
@@ -86,11 +89,11 @@ fn code_of(alloc: Global, text: &str) -> u8 {
 }
 
 pub(crate) fn show_words(rt: &impl Print) -> io::Result<()> {
-    for fault in NAME_FAULTS {
-        println!(rt; "{} {fault}", fault as u8)?;
+    for fault in &NAME_FAULTS {
+        println!(rt; "{} {fault}", *fault as u8)?;
     }
-    for fault in LINE_FAULTS {
-        println!(rt; "{} {fault}", fault as u8)?;
+    for fault in &LINE_FAULTS {
+        println!(rt; "{} {fault}", *fault as u8)?;
     }
     println!(rt; "{NotLegal}")
 }

@@ -10,8 +10,8 @@ use std::io;
 const BOUNDS: [u16; 6] = [0, 1, 63, 64, 65, 4096];
 
 pub(crate) fn show_sets(rt: &(impl Print + AllocGlobal)) -> io::Result<()> {
-    for bound in BOUNDS {
-        let is_whole = is_whole(rt.alloc(), bound)?;
+    for bound in &BOUNDS {
+        let is_whole = is_whole(rt.alloc(), *bound)?;
         println!(rt; "all ids below {bound}: {is_whole}")?;
     }
     Ok(())
@@ -19,16 +19,30 @@ pub(crate) fn show_sets(rt: &(impl Print + AllocGlobal)) -> io::Result<()> {
 
 /// Whether a set takes each id below a bound as a new one, and then has them all.
 fn is_whole(alloc: Global, bound: u16) -> Result<bool, NoMem> {
-    let many = bound.min(4096);
-    let mut set = Set::empty(alloc, many)?;
+    let mut set = Set::empty(alloc, bound.min(4096))?;
+    let is_whole = takes_all(&mut set) && set.len() == bound;
+    let are_listed = are_listed(alloc, &mut set, bound);
+    drop(set);
+    Ok(are_listed? && is_whole)
+}
+
+/// Whether all ids are new to a set.
+fn takes_all(set: &mut Set) -> bool {
+    let many = set.bound();
     let mut are_new = true;
     for id in 0..many {
         are_new &= set.insert(id);
     }
+    are_new
+}
+
+/// Whether a set has all ids below a bound, and the last goes out and comes back in.
+fn are_listed(alloc: Global, set: &mut Set, bound: u16) -> Result<bool, NoMem> {
     let ids = set.ids(alloc)?;
+    let are_all = ids.len() == bound as usize && ids.last().copied() == bound.checked_sub(1);
+    drop(ids);
     let all = set.copy(alloc)?;
-    let are_listed = ids.len() == bound as usize && ids.last().copied() == bound.checked_sub(1);
-    Ok(are_new && are_listed && set.len() == bound && comes_back(&mut set, &all))
+    Ok(are_all && comes_back(set, &all))
 }
 
 /// Whether a set is the same again when its last id has gone out and come back in.

@@ -8,36 +8,42 @@ use std::alloc::{AllocError, Global};
 use std::io;
 use std::io::ErrorKind;
 
-/// The files of two services: the directory of each, its path there, and its line.
-const FILES: &str = "\
-a type longrun
-a run
-a dependencies.d/b
-b type oneshot
-b up false
-b up true";
+/// A file: the directory of its service, its path there, and its line. A directory alone has no
+/// path.
+type File = (&'static str, &'static str, &'static str);
 
-/// How a flush fails.
-const FLUSHES: [Option<ErrorKind>; 3] = [
-    None,
-    Some(ErrorKind::BrokenPipe),
-    Some(ErrorKind::Interrupted),
+/// The files of two services.
+const FILES: [File; 6] = [
+    ("a", "type", "longrun"),
+    ("a", "run", ""),
+    ("a", "dependencies.d/b", ""),
+    ("b", "type", "oneshot"),
+    ("b", "up", "false"),
+    ("b", "up", "true"),
+];
+
+/// What is shown, the files, and how each flush fails, if it does.
+static ROWS: [(&str, &[File], Option<ErrorKind>); 5] = [
+    ("two services", &FILES, None),
+    ("two services", &FILES, Some(ErrorKind::BrokenPipe)),
+    ("two services", &FILES, Some(ErrorKind::Interrupted)),
+    ("no files", &[], None),
+    ("an empty directory", &[("a", "", "")], None),
 ];
 
 /// Shows what is made of the files over writers whose flush does well or not, and of an empty
 /// directory.
 pub(crate) fn show_trees(rt: &(impl Print + AllocGlobal)) -> io::Result<()> {
-    for failing in FLUSHES {
-        show_with(rt, "two services", FILES, failing)?;
+    for (what, files, failing) in &ROWS {
+        show_with(rt, what, files, *failing)?;
     }
-    show_with(rt, "no files", "", None)?;
-    show_with(rt, "an empty directory", "a", None)
+    Ok(())
 }
 
 fn show_with(
     rt: &(impl Print + AllocGlobal),
     what: &str,
-    files: &str,
+    files: &[File],
     failing: Option<ErrorKind>,
 ) -> io::Result<()> {
     let mut trees = [MemoryTree::new(rt.alloc())];
@@ -50,7 +56,7 @@ fn show_filled(
     rt: &(impl Print + AllocGlobal),
     what: &str,
     trees: &mut [MemoryTree],
-    files: &str,
+    files: &[File],
     failing: Option<ErrorKind>,
 ) -> io::Result<()> {
     for tree in &mut *trees {
@@ -75,18 +81,13 @@ fn show_line(rt: &impl Print, what: &str, status: u8, written: &str, told: &str)
     println!(rt; " {told:?}")
 }
 
-/// A line of one word is an empty directory.
-fn put_all(tree: &mut MemoryTree, files: &str) -> Result<(), AllocError> {
-    for line in files.lines() {
-        match line.split_once(' ') {
-            Some((service, file)) => put(tree, service, file)?,
-            None => tree.folder(line)?,
+fn put_all(tree: &mut MemoryTree, files: &[File]) -> Result<(), AllocError> {
+    for (service, path, line) in files {
+        if path.is_empty() {
+            tree.folder(service)?;
+        } else {
+            tree.put(service, path, line.as_bytes())?;
         }
     }
     Ok(())
-}
-
-fn put(tree: &mut MemoryTree, service: &str, file: &str) -> Result<(), AllocError> {
-    let (path, line) = file.split_once(' ').unwrap_or((file, ""));
-    tree.put(service, path, line.as_bytes())
 }
