@@ -1,5 +1,5 @@
 -- Numbers among the words of a line.
-use Rattle.std.proofs.Common.{◌≡◌, ◌<◌, ◌≤◌, ◌^◌, ℕ, Bool, true, false, cond, List, Option, Some, None, Result, Ok, Err, length, arith, refl, ltb, ◌&&◌, ◌∙◌}
+use Rattle.std.proofs.Common.{◌≡◌, ◌<◌, ◌≤◌, ◌^◌, ℕ, Bool, true, false, cond, List, Some, None, Result, Ok, Err, length, arith, refl, ltb, ◌&&◌, ◌∙◌}
 use Rattle.std.proofs.lemmas.Bool.{ltb-true, lt-ltb}
 use Rattle.std.proofs.lemmas.Str.Parse.{IsNumeralModel, numerals_by_value, tells_all_ascii_digits, parse_digits}
 use Rattle.std.specs.Result.{OkIff, result_ok}

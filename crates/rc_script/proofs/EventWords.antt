@@ -1,8 +1,7 @@
 -- Numbers and words of event lines.
-use Rattle.std.proofs.Common.{◌≡◌, ◌∙◌, ◌<◌, ◌==◌, ◌||◌, ℕ, Bool, true, List, [], ◌∷◌, ◌^◌, length, Option, None, Result, arith, refl, ltb, nat_lt, not, slice_index_or}
+use Rattle.std.proofs.Common.{◌≡◌, ◌∙◌, ◌<◌, ◌==◌, ◌||◌, ℕ, true, List, [], ◌∷◌, ◌^◌, length, None, Result, arith, refl, ltb, nat_lt, not, slice_index_or}
 use Rattle.std.specs.Result.{result_ok}
 use Rattle.std.specs.Str.Parse.{ParsesUnsigned, digits_value}
-use Rattle.rc_model.specs.declared.Event.{Event}
 use Rattle.rc_script.specs.Words.{is_digits}
 use Rattle.rc_script.proofs.Digits.{halves, parsed_digits, past}
 use Rattle.rc_script.specs.Numbers.{is_plain, number_in}

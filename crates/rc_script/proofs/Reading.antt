@@ -7,7 +7,7 @@ use Rattle.rc_script.proofs.Texts.{images_more}
 use Rattle.rc_model.specs.declared.Event.{Event}
 use Rattle.rc_model.specs.Session.{Command}
 use Rattle.rc_script.specs.Says.{SaysWrong, Says}
-use Rattle.rc_script.specs.Script.{Item, Happens, event_item, IsItemSaying, AddsLine, CannotAdd, Reads, IsBadLine, lines_in, taking, with_event}
+use Rattle.rc_script.specs.Script.{Happens, IsItemSaying, AddsLine, CannotAdd, Reads, IsBadLine, lines_in, taking, with_event}
 
 twice : {X Y Z : Type 0} (g : Y → Z) (f : X → Y) (o : Option X) → option_map g (option_map f o) ≡ option_map (λ x. g (f x)) o
 twice g f None = refl

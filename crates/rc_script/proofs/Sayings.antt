@@ -4,13 +4,13 @@ use Rattle.std.proofs.lemmas.Bool.Decides.{Decides-eqb}
 use Rattle.std.specs.Prelude.{IfOk}
 use Rattle.std.specs.Str.{IsUtf8}
 use Rattle.std.specs.Option.{option_map_or}
-use Rattle.rc_model.specs.Session.{Command, Change, Undo, Redo, Add, Delete, events_of}
+use Rattle.rc_model.specs.Session.{Command, Change, Undo, Redo, events_of}
 use Rattle.rc_script.specs.declared.verb.Verb.{Verb}
 use Rattle.rc_script.specs.declared.verb.Verb.TheVariants as verb
 use Rattle.rc_script.specs.declared.options.Choice.{Choice}
 use Rattle.rc_script.specs.Words.{words_in, is_silent}
-use Rattle.rc_script.specs.Options.{Front, front_of, ask_chosen}
-use Rattle.rc_script.specs.Says.{Saying, SaysNothing, SaysWrong, SaysStep, SaysDry, SaysLive, SaysBundles, SaysJournal, verb_of, addition_of, deletion_of, is_forced, unforced, alone, plain, limit_alone, said, behind, sentence, HasName, IsRight, Says, IsSaid}
+use Rattle.rc_script.specs.Options.{front_of, ask_chosen}
+use Rattle.rc_script.specs.Says.{Saying, SaysWrong, SaysStep, SaysDry, SaysLive, SaysBundles, SaysJournal, verb_of, addition_of, deletion_of, is_forced, unforced, alone, plain, limit_alone, said, behind, sentence, HasName, Says, IsSaid}
 
 -- what holds of all that may be said, and of what is wrong
 module _ (P : Saying → Type 0) (wrong : P SaysWrong) where

@@ -13,7 +13,7 @@ use Rattle.rc_script.specs.declared.verb.Verb.{Verb}
 use Rattle.rc_script.specs.declared.verb.Verb.TheVariants as verb
 use Rattle.rc_script.specs.declared.options.Choice.{Choice}
 use Rattle.rc_script.specs.Words.{words_in, is_silent}
-use Rattle.rc_script.specs.Options.{Front, front_of, ask_chosen, only_limit}
+use Rattle.rc_script.specs.Options.{front_of, ask_chosen, only_limit}
 
 -- what a session line says: nothing, nothing that has a form, a command without events, that the
 -- plan of a change is wanted, or what is wanted to be shown

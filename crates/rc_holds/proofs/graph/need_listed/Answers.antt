@@ -1,4 +1,4 @@
-use Rattle.std.proofs.Common.{◌≡◌, ◌∙◌, inl, inr, map, length, sym, ap, subst}
+use Rattle.std.proofs.Common.{◌∙◌, inl, inr, map, length, sym, ap, subst}
 use Rattle.std.proofs.lemmas.Result.{on_ok_weaker}
 use Rattle.rc_holds.specs.Rows.{rows}
 use Rattle.rc_holds.proofs.RowLemmas.{length-rows}

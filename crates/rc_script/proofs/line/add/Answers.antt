@@ -1,7 +1,6 @@
 use Rattle.std.proofs.Common.{◌≡◌, ◌∙◌, ◌∷◌, [], ℕ, List, map, sym, ap}
 use denote.Ref.{Bor}
-use Rattle.rc_script.specs.declared.options.Choice.{Choice}
-use Rattle.rc_script.specs.Says.{saying_of, plain, addition_of, is_forced, unforced}
+use Rattle.rc_script.specs.Says.{saying_of}
 use Rattle.rc_script.proofs.Sayings.{said_as, plain_as, forced_as, empty_list}
 use Rattle.rc_script.proofs.line.add.Goals as goal
 

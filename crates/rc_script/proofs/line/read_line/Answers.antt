@@ -1,4 +1,4 @@
-use Rattle.std.proofs.Common.{rules, ◌≡◌, ◌∙◌, ℕ, List, false, map, sym, ap}
+use Rattle.std.proofs.Common.{◌≡◌, ◌∙◌, ℕ, List, false, map, sym, ap}
 use denote.Ref.{Bor}
 use Rattle.rc_script.specs.Words.{words_in, is_silent}
 use Rattle.rc_script.specs.Says.{saying_of}

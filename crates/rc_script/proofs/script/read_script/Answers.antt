@@ -1,6 +1,5 @@
 use Rattle.std.proofs.Common.{◌≡◌, ◌∙◌, ◌∷◌, ◌++◌, ◌+◌, [], ℕ, List, map, take, get_or, sym, ap, subst}
 use denote.Ref.{Bor}
-use Rattle.rc_model.specs.Session.{Command}
 use Rattle.rc_session.specs.Commands.{command_of}
 use Rattle.rc_script.proofs.Texts.{images_more, images_all}
 use Rattle.rc_script.specs.Script.{Reads, lines_in}

@@ -1,4 +1,4 @@
-use Rattle.std.proofs.Common.{◌≡◌, [], map, take}
+use Rattle.std.proofs.Common.{[], map, take}
 use Rattle.rc_session.specs.Commands.{command_of}
 use Rattle.rc_script.specs.Script.{Reads}
 use Rattle.rc_script.proofs.script.read_script.Given as goal
