@@ -15,16 +15,12 @@ use rc_select::Plan;
 use rc_session::{Refusal, Session, Step};
 use rc_set::NoMem;
 use samples::{ROOT, run_between};
+use samples_memory::go_on_to;
 use std::alloc::{AllocError, AllocGlobal, Global};
 use std::io::Print;
 
 /// More turns than an undo asks for.
 const TURNS: u16 = 20;
-
-/// Tells that a call is done, and names the next one.
-pub(crate) fn go_on_to(rt: &impl Print, what: &str) {
-    let _ = print!(rt; "done; {what}: ");
-}
 
 /// Begins the run of a step, and gives it up.
 pub(crate) fn abandoned(

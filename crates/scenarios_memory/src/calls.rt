@@ -3,13 +3,12 @@
 ghost use Rattle.std.specs.Prelude.{◌≡◌, false};
 
 use crate::begun::{abandoned, completed, is_stopped};
-use crate::lines::{is_of_states, is_stepped_on};
 use crate::rows::How;
-use crate::values::is_value;
 use crate::workers::{by_workers, within};
 use rc_board::Fault;
 use rc_session::{Refusal, Session, Step};
 use rc_set::NoMem;
+use samples_memory::{is_of_states, is_stepped_on, is_value};
 use std::alloc::{AllocGlobal, Global};
 use std::io::Print;
 use std::sync::Wait;

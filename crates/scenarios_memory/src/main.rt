@@ -7,26 +7,18 @@ ghost use Rattle.std.specs.Prelude.{◌≡◌, false, IfOk};
 
 mod begun;
 mod calls;
-mod lines;
-mod own;
 mod rows;
 mod steps;
-mod tables;
-mod values;
 mod workers;
 
 use crate::calls::made;
-use crate::lines::show_edit;
-use crate::own::{show_came, show_line, show_own};
 use crate::rows::{How, ROWS, Row};
 use crate::steps::{Act, steps_of};
-use crate::tables::altered;
-use rc_board::Fault;
-use rc_db::Db;
 use rc_livetext::write_live;
 use rc_session::{Session, Step};
 use rc_set::NoMem;
 use samples::sample;
+use samples_memory::{show_came, show_edit, show_line, show_own, show_table};
 use std::alloc::{AllocGlobal, Global};
 use std::io;
 use std::io::Print;
@@ -105,27 +97,6 @@ fn show_call<R: Print + AllocGlobal + Threads + Wait + Sync>(
     let came = made(rt, session, how, steps, &text);
     show_came(rt, came)?;
     show_session(rt, session, &text)
-}
-
-/// An edit of a table that is given outright, what it came to, and whether the table is as it was.
-fn show_table(
-    rt: &(impl Print + AllocGlobal),
-    db: &Db,
-    what: &str,
-    step: Option<&Step>,
-) -> io::Result<()> {
-    let mut table = db.table().copy(rt.alloc())?;
-    let _ = print!(rt; "{what}: ");
-    let came = altered(rt.alloc(), &mut table, db, step);
-    let is_same = table.same(db.table());
-    let bundles = table.len();
-    drop(table);
-    show_came(rt, came)?;
-    if is_same {
-        show_line(rt, "as before")
-    } else {
-        println!(rt; "now {bundles} bundles")
-    }
 }
 
 /// Whether a session has this text, or else where it stands.

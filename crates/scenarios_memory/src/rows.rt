@@ -6,7 +6,8 @@ use crate::rows::How::{
 };
 use crate::steps::Act::{Add, Delete};
 use crate::steps::{Act, BACK, LIMITED, ON, REDO, UNDO, UP};
-use crate::values::Value::{
+use samples_memory::Given;
+use samples_memory::Value::{
     self, DownOf, EditBetween, EditCopy, GraphShare, LineCopy, LineState, NameCopy, NameRead,
     PadNew, PlanBetween, PlanUp, ReadLive, SetCopy, SetEmpty, SetIds, TableCopy, UpOf, WriteLive,
 };
@@ -45,16 +46,6 @@ pub(crate) enum How {
     Line,
     /// On a value of its own.
     Own(Given),
-}
-
-#[derive(Clone, Copy)]
-pub(crate) enum Given {
-    /// Names, to which one is added.
-    Names,
-    /// A draft, in which one service needs one more.
-    Draft,
-    /// A table, into which a bundle is put.
-    Bundles,
 }
 
 pub(crate) type Row = (&'static str, &'static [Act], How, &'static [Act]);

@@ -2,12 +2,11 @@
 
 ghost use Rattle.std.specs.Prelude.{◌≡◌, false};
 
-use crate::begun::go_on_to;
 use rc_board::{Fault, Gate, Glance, Watch, change, redo, undo};
 use rc_core::{Event, Job, Outcome, Standing};
 use rc_runner::StepClock;
 use rc_session::{Refusal, Report, Session, Step};
-use rc_set::NoMem;
+use samples_memory::go_on_to;
 use std::alloc::AllocGlobal;
 use std::io::Print;
 use std::sync::Wait;

@@ -4,8 +4,7 @@ ghost use Rattle.std.specs.Prelude.{◌≡◌, false, length, IfOk};
 ghost use Rattle.rc_model.specs.Database.{Bundles};
 ghost use Rattle.rc_line.specs.Opening.{IsEditFrom};
 
-use crate::begun::go_on_to;
-use crate::own::{fault_of, show_came, show_line, show_same};
+use crate::told::{fault_of, go_on_to, show_came, show_line, show_same};
 use rc_bundle::Edit;
 use rc_db::Table;
 use rc_line::Line;
@@ -16,7 +15,7 @@ use std::io;
 use std::io::Print;
 
 /// Whether the line of two states has them, and stands on the second.
-pub(crate) fn is_of_states(
+pub fn is_of_states(
     rt: &(impl Print + AllocGlobal),
     before: &Table,
     now: &Table,
@@ -66,7 +65,7 @@ fn of_two(
 }
 
 /// Whether a step on from the state before the last leads to the table of the last.
-pub(crate) fn is_stepped_on(
+pub fn is_stepped_on(
     rt: &(impl Print + AllocGlobal),
     line: &Line,
     to: &Table,
@@ -89,7 +88,7 @@ pub(crate) fn is_stepped_on(
 }
 
 /// An edit of a copy of a line that removes all bundles, and whether that is the line as it was.
-pub(crate) fn show_edit(rt: &(impl Print + AllocGlobal), line: &Line, what: &str) -> io::Result<()>
+pub fn show_edit(rt: &(impl Print + AllocGlobal), line: &Line, what: &str) -> io::Result<()>
     requires { line.now.is_open ≡ false }
 {
     let mut copied = line.copy(rt.alloc())?;

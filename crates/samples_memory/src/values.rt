@@ -15,8 +15,9 @@ use rc_set::{NoMem, Set};
 use samples::has_ids;
 use std::alloc::{AllocError, Global};
 
+/// What a call makes.
 #[derive(Clone, Copy)]
-pub(crate) enum Value {
+pub enum Value {
     SetEmpty,
     SetCopy,
     SetIds,
@@ -38,12 +39,7 @@ pub(crate) enum Value {
 }
 
 /// Makes a value. Whether it is right.
-pub(crate) fn is_value(
-    alloc: Global,
-    session: &Session,
-    value: Value,
-    text: &[u8],
-) -> Result<bool, NoMem>
+pub fn is_value(alloc: Global, session: &Session, value: Value, text: &[u8]) -> Result<bool, NoMem>
     requires { session.now.begun ≡ false }
 {
     match value {

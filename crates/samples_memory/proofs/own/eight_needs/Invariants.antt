@@ -1,5 +1,5 @@
 use Rattle.std.proofs.Common.{◌≡◌, length}
-use Rattle.scenarios_memory.proofs.own.eight_needs.Given as goal
+use Rattle.samples_memory.proofs.own.eight_needs.Given as goal
 
 abbrev pub invariant-loop-service : goal.invariant-loop-service
 invariant-loop-service l = length l.draft ≡ 10

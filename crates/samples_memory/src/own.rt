@@ -1,19 +1,27 @@
 //! Calls that alter a value of their own, by which each is compared with what it was.
 
-ghost use Rattle.std.specs.Prelude.{◌≡◌, ◌≤◌, length, IfOk};
+ghost use Rattle.std.specs.Prelude.{◌≡◌, length, IfOk};
 
-use crate::begun::go_on_to;
-use crate::rows::Given;
-use rc_board::Fault;
+use crate::told::{fault_of, go_on_to, show_came, show_same};
 use rc_db::{MAX_BUNDLES, Table};
 use rc_graph::Draft;
 use rc_names::{MAX_NAMES, Name, Names};
-use rc_session::Refusal;
 use rc_set::{NoMem, Set};
 use samples::{name_of, put, set_of};
 use std::alloc::{AllocGlobal, Global};
 use std::io;
 use std::io::Print;
+
+/// The value that a call alters.
+#[derive(Clone, Copy)]
+pub enum Given {
+    /// Names, to which one is added.
+    Names,
+    /// A draft, in which one service needs one more.
+    Draft,
+    /// A table, into which a bundle is put.
+    Bundles,
+}
 
 /// As many names, in their order, as a table has room for before it grows.
 static NINE: [&str; 9] = ["b", "c", "d", "e", "f", "g", "h", "i", "j"];
@@ -21,24 +29,12 @@ static NINE: [&str; 9] = ["b", "c", "d", "e", "f", "g", "h", "i", "j"];
 /// As many needs of the first service as stand in a list that has taken no memory.
 const EIGHT: [u16; 8] = [1, 2, 3, 4, 5, 6, 7, 8];
 
-/// What a call is refused for.
-pub(crate) fn fault_of(came: Result<(), NoMem>) -> Result<(), Fault> {
-    match came {
-        Ok(()) => Ok(()),
-        Err(_) => Err(Fault::Refused(Refusal::Memory)),
-    }
-}
-
 /// What a call came to, and whether the value is as it was; an error of its own where there is no
 /// memory for what the call is given.
 type Own = Result<(Result<(), NoMem>, bool), NoMem>;
 
 /// The call, what it came to, and whether the value is as it was.
-pub(crate) fn show_own(
-    rt: &(impl Print + AllocGlobal),
-    what: &str,
-    given: Given,
-) -> io::Result<()> {
+pub fn show_own(rt: &(impl Print + AllocGlobal), what: &str, given: Given) -> io::Result<()> {
     match given {
         Given::Names => show_end(rt, on_names(rt, what)),
         Given::Draft => show_draft(rt, what),
@@ -50,21 +46,6 @@ fn show_end(rt: &impl Print, own: Own) -> io::Result<()> {
     let (came, is_same) = own?;
     show_came(rt, fault_of(came))?;
     show_same(rt, is_same)
-}
-
-pub(crate) fn show_came(rt: &impl Print, came: Result<(), Fault>) -> io::Result<()> {
-    match came {
-        Ok(()) => print!(rt; "done, "),
-        Err(fault) => print!(rt; "{fault}, "),
-    }
-}
-
-pub(crate) fn show_same(rt: &impl Print, is_same: bool) -> io::Result<()> {
-    show_line(rt, if is_same { "as before" } else { "altered" })
-}
-
-pub(crate) fn show_line(rt: &impl Print, line: &str) -> io::Result<()> {
-    println!(rt; "{line}")
 }
 
 fn on_names(rt: &(impl Print + AllocGlobal), what: &str) -> Own {

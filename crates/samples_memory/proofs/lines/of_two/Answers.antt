@@ -2,7 +2,7 @@ use Rattle.std.proofs.Common.{◌≡◌, ℕ, zero, suc, Bool, List, [], ◌∷�
 use Rattle.rc_model.specs.Database.{Bundles}
 use Rattle.rc_model.specs.Line.{State}
 use Rattle.rc_line.specs.State.{states_of}
-use Rattle.scenarios_memory.proofs.lines.of_two.Goals as goal
+use Rattle.samples_memory.proofs.lines.of_two.Goals as goal
 
 -- the sets of two states have one bound
 abbrev HaveOneBound : List (List Bool × Bundles) → Type 0

@@ -3,19 +3,38 @@
 ghost use Rattle.std.specs.Prelude.{length};
 ghost use Rattle.rc_model.specs.Database.{HaveBound};
 
+use crate::told::{show_came, show_line};
 use rc_board::Fault;
 use rc_bundle::{BundleFault, add, delete};
 use rc_db::{Db, Table};
 use rc_session::{Refusal, Step};
-use std::alloc::Global;
+use std::alloc::{AllocGlobal, Global};
+use std::io;
+use std::io::Print;
+
+/// An edit of a table that is given outright, what it came to, and whether the table is as it was.
+pub fn show_table(
+    rt: &(impl Print + AllocGlobal),
+    db: &Db,
+    what: &str,
+    step: Option<&Step>,
+) -> io::Result<()> {
+    let mut table = db.table().copy(rt.alloc())?;
+    let _ = print!(rt; "{what}: ");
+    let came = altered(rt.alloc(), &mut table, db, step);
+    let is_same = table.same(db.table());
+    let bundles = table.len();
+    drop(table);
+    show_came(rt, came)?;
+    if is_same {
+        show_line(rt, "as before")
+    } else {
+        println!(rt; "now {bundles} bundles")
+    }
+}
 
 /// Defines a bundle or removes some, as a step says.
-pub(crate) fn altered(
-    alloc: Global,
-    table: &mut Table,
-    db: &Db,
-    step: Option<&Step>,
-) -> Result<(), Fault>
+fn altered(alloc: Global, table: &mut Table, db: &Db, step: Option<&Step>) -> Result<(), Fault>
     requires { HaveBound (length db.now.names) table.old }
 {
     let edit = match step {

@@ -1,0 +1,15 @@
+//! Calls that alter no session and run no plan, each made on values of its own and compared with
+//! what is to come, and what is told of a call: half of `scenarios_memory`, proved by itself.
+#![tactic(auto)]
+
+mod lines;
+mod own;
+mod tables;
+mod told;
+mod values;
+
+pub use crate::lines::{is_of_states, is_stepped_on, show_edit};
+pub use crate::own::{Given, show_own};
+pub use crate::tables::show_table;
+pub use crate::told::{go_on_to, show_came, show_line};
+pub use crate::values::{Value, is_value};

@@ -1,0 +1,38 @@
+//! What is told of a call.
+
+use rc_board::Fault;
+use rc_session::Refusal;
+use rc_set::NoMem;
+use std::io;
+use std::io::Print;
+
+/// Tells that a call is done, and names the next one.
+pub fn go_on_to(rt: &impl Print, what: &str) {
+    let _ = print!(rt; "done; {what}: ");
+}
+
+/// What a call is refused for.
+pub(crate) fn fault_of(came: Result<(), NoMem>) -> Result<(), Fault> {
+    match came {
+        Ok(()) => Ok(()),
+        Err(_) => Err(Fault::Refused(Refusal::Memory)),
+    }
+}
+
+/// Tells what a call came to, with more to follow on the line.
+pub fn show_came(rt: &impl Print, came: Result<(), Fault>) -> io::Result<()> {
+    match came {
+        Ok(()) => print!(rt; "done, "),
+        Err(fault) => print!(rt; "{fault}, "),
+    }
+}
+
+/// Tells whether what a call was made on is as it was.
+pub(crate) fn show_same(rt: &impl Print, is_same: bool) -> io::Result<()> {
+    show_line(rt, if is_same { "as before" } else { "altered" })
+}
+
+/// Tells this, and ends the line.
+pub fn show_line(rt: &impl Print, line: &str) -> io::Result<()> {
+    println!(rt; "{line}")
+}
