@@ -1,6 +1,7 @@
 -- How one line is served, and how a one-shot command ends.
-use Rattle.std.proofs.Common.{◌≡◌, ◌≢◌, ◌∙◌, ◌⊎◌, ℕ, true, false, List, [], Option, None, Some, Result, Ok, Err, IfErr, IfOk, OnOk, inl, inr, ap, refl, sym, subst}
+use Rattle.std.proofs.Common.{◌≡◌, ◌≢◌, ◌∙◌, ◌⊎◌, ℕ, true, false, List, [], Option, None, Some, Result, Ok, Err, IfErr, IfOk, OnOk, inl, inr, ap, arith, refl, sym, subst}
 use Rattle.std.specs.Io.KnownBytes.{Appends}
+use Rattle.std.specs.Result.{IsErrAnd}
 use Rattle.clap.specs.Words.{Text, Text as Path}
 use Rattle.rc_graph.specs.declared.Way.{Way}
 use Rattle.rc_model.specs.Database.{Database}
@@ -12,6 +13,11 @@ use Rattle.rc_runner.specs.Shell.{MayAnswer, Scripts, scripts_of}
 use Rattle.rc_model.specs.Session.{Command, Redo, Undo, events_of}
 use Rattle.rc_session.specs.Holding.{Holding}
 use Rattle.rc_streams.specs.Exchange.{Exchange}
+use Rattle.rc_streams.specs.Input.{IsCause}
+use Rattle.rc_streams.specs.declared.input.Failure.{Failure}
+use Rattle.rc_streams.specs.declared.input.Failure.TheVariants as failures
+use Rattle.rc_dbtext.specs.declared.fault.TextFault.{TextFault}
+use Rattle.rc_dbtext.specs.declared.fault.TextFault.TheVariants as text
 use Rattle.rc_script.specs.Says.{Saying, SaysNothing, SaysWrong, SaysStep, SaysDry, SaysLive, SaysBundles, SaysJournal}
 use Rattle.rc_serve.specs.declared.ending.Ending.{Ending}
 use Rattle.rc_serve.specs.declared.ending.Ending.TheVariants.{Done, Refused}
@@ -28,13 +34,13 @@ use Rattle.rc_asked.specs.Listed.{Listed}
 use Rattle.rc_asked.specs.OnceAsked.{HasNoEvents, OnceAsk, OnceSaying, Said, WantsDryRedo, WantsDryUndo}
 use Rattle.rc_asked.specs.Programs.{ByPrograms, ByTable, MakingAsk, listed_in}
 use Rattle.rc_asked.specs.SessionAsked.{SessionAsk}
-use Rattle.rc_base.specs.Base.{Spells}
+use Rattle.rc_base.specs.Base.{IsTextFault, Spells}
 use Rattle.rc_base.specs.Opening.{Reads}
 use Rattle.rc_sessions.specs.Filing.{BeginsWith, CannotKeep, Filing, IsLeft, IsLeftOrFirst, IsUnread, filing_of}
 use Rattle.rc_sessions.specs.Finding.{AreFound, IsFirstUnknown, IsGateFault}
 use Rattle.rc_sessions.specs.Serving.{IsOfFile, session_on}
 use Rattle.rc_sessions.specs.Storing.{HoldsText}
-use Rattle.rc_sessions.specs.SessionFaults.{AreAllFound, IsBeginFault, IsGateFailing, IsRefusal, IsRefusedBy, IsToldAs}
+use Rattle.rc_sessions.specs.SessionFaults.{AreAllFound, IsBeginFault, IsGateFailing, IsRefusal, IsRefusedBy, IsTextFailing, IsToldAs, reading_fault}
 use Rattle.rc_sessions.specs.declared.failing.GateFault.{GateFault}
 use Rattle.rc_sessions.specs.declared.failing.GateFault.TheVariants as gate
 use Rattle.rc_sessions.specs.declared.keeping.LiveFile.{LiveFile}
@@ -400,3 +406,61 @@ found_at d names listed table same found = subst (λ (ns : List (List ℕ)). Are
 pub found_ok : {A E : Type 0} (result : Result A E) (P : Type 0) → P → OnOk result P
 found_ok (Ok a) P p = p
 found_ok (Err e) P p = tt
+
+-- a line that was answered ended in one of three ways, and no failure was told
+pub answered_ended : (status : ℕ) → (status ≡ 0) ⊎ (status ≡ 1) ⊎ (status ≡ 2) → (status ≡ 0) ⊎ (status ≡ 1) ⊎ (status ≡ 2) ⊎ (status ≡ 111)
+answered_ended status (inl zero) = inl zero
+answered_ended status (inr (inl one)) = inr (inl one)
+answered_ended status (inr (inr two)) = inr (inr (inl two))
+
+pub answered_well : (status : ℕ) → (status ≡ 0) ⊎ (status ≡ 1) ⊎ (status ≡ 2) → status ≡ 111 → ⊥
+answered_well status (inl zero) failed = omega (arith, zero, failed)
+answered_well status (inr (inl one)) failed = omega (arith, one, failed)
+answered_well status (inr (inr two)) failed = omega (arith, two, failed)
+
+-- where a fault was told it ended in one of two ways, and no line was answered
+pub told_ended : (status : ℕ) → (status ≡ 1) ⊎ (status ≡ 111) → (status ≡ 0) ⊎ (status ≡ 1) ⊎ (status ≡ 2) ⊎ (status ≡ 111)
+told_ended status (inl one) = inr (inl one)
+told_ended status (inr failed) = inr (inr (inr failed))
+
+pub told_unanswered : (status : ℕ) → (status ≡ 1) ⊎ (status ≡ 111) → (status ≡ 0) ⊎ (status ≡ 2) → ⊥
+told_unanswered status (inl one) (inl zero) = omega (arith, one, zero)
+told_unanswered status (inl one) (inr two) = omega (arith, one, two)
+told_unanswered status (inr failed) (inl zero) = omega (arith, failed, zero)
+told_unanswered status (inr failed) (inr two) = omega (arith, failed, two)
+
+-- an input that was not read whole ends the command
+pub reading_once : (fault : ServeFault) (failure : Failure) (ask : OnceAsk) (file : LiveFile) (held : Option (List ℕ)) (io : Exchange) (failed writer keeper : Type 0)
+    → fault ≡ reading_fault failure → io.gained ≡ io.written → IsCause io.input failed ⊥ failure
+    → IsServeFault failed writer keeper fault × FailsOnce fault None ask file held held io
+reading_once fault failures.TooLong ask file held io failed writer keeper is none cause =
+    subst (λ (f : ServeFault). IsServeFault failed writer keeper f × FailsOnce f None ask file held held io) (sym is) (tt, inl ((refl, cause), none, inl refl))
+reading_once fault failures.Memory ask file held io failed writer keeper is none cause =
+    subst (λ (f : ServeFault). IsServeFault failed writer keeper f × FailsOnce f None ask file held held io) (sym is) (tt, inl (tt, none, inl refl))
+reading_once fault failures.Read ask file held io failed writer keeper is none cause =
+    subst (λ (f : ServeFault). IsServeFault failed writer keeper f × FailsOnce f None ask file held held io) (sym is) (cause, inl (refl, none, inl refl))
+reading_once fault failures.Write ask file held io failed writer keeper is none cause = absurd cause
+
+-- and so does a text that is refused
+module _ (base : Option (List ℕ)) (ask : OnceAsk) (file : LiveFile) (held : Option (List ℕ)) (io : Exchange) (input : List ℕ) (reader writer keeper : Type 0) where
+  refused_once : (fault : TextFault) (told : SessionFault) → told ≡ OfText fault → fault ≢ text.Memory → Reads base io.input io.left input → IsTextFault base input fault → io.gained ≡ io.written
+      → EndsOnceBy told base ask file held held io reader writer keeper
+  refused_once fault told is other reads wrong none =
+      subst (λ (f : SessionFault). EndsOnceBy f base ask file held held io reader writer keeper) (sym is) ((input, reads, (other, wrong)), none, refl)
+
+  pub text_once : {T : Type 0} (result : Result T SessionFault) (fault : TextFault) → IsErrAnd result (λ told. IsTextFailing fault told) → Reads base io.input io.left input → IsTextFault base input fault → io.gained ≡ io.written
+      → IfErr result (λ told. EndsOnceBy told base ask file held held io reader writer keeper)
+  text_once (Ok x) fault is reads wrong none = absurd is
+  text_once (Err told) text.Memory is reads wrong none =
+      subst (λ (f : SessionFault). EndsOnceBy f base ask file held held io reader writer keeper) (sym is) (tt, inl (tt, none, inl refl))
+  text_once (Err told) (text.Bad offset) is reads wrong none = refused_once (text.Bad offset) told is (λ bad. cc) reads wrong none
+  text_once (Err told) text.Version is reads wrong none = refused_once text.Version told is (λ bad. cc) reads wrong none
+  text_once (Err told) text.NotSorted is reads wrong none = refused_once text.NotSorted told is (λ bad. cc) reads wrong none
+  text_once (Err told) text.Cyclic is reads wrong none = refused_once text.Cyclic told is (λ bad. cc) reads wrong none
+  text_once (Err told) text.TooMany is reads wrong none = refused_once text.TooMany told is (λ bad. cc) reads wrong none
+  text_once (Err told) text.Dangling is reads wrong none = refused_once text.Dangling told is (λ bad. cc) reads wrong none
+
+-- what a question mark hands on is no answer
+pub no_answer : {T E F : Type 0} (result : Result T E) (fault : F) (P : T → Type 0) (Fails : F → E → Type 0) → IsErrAnd result (λ told. Fails fault told) → IfOk result P
+no_answer (Ok x) fault P Fails is = absurd is
+no_answer (Err e) fault P Fails is = tt

@@ -1,13 +1,15 @@
 -- How the two steps of an update are served, and how it ends.
-use Rattle.std.proofs.Common.{All, ◌≡◌, ◌≢◌, ◌∙◌, ◌⊎◌, ◌++◌, ◌∷◌, ℕ, Bool, true, false, List, [], None, Option, Some, OnOk, Result, Ok, Err, IfErr, IfOk, inl, inr, ap, refl, sym, subst}
+use Rattle.std.proofs.Common.{All, ◌≡◌, ◌≢◌, ◌≤◌, ◌∙◌, ◌⊎◌, ◌++◌, ◌∷◌, ℕ, Bool, true, false, List, [], None, Option, Some, OnOk, Result, Ok, Err, IfErr, IfOk, inl, inr, ap, refl, sym, subst}
 use Rattle.std.proofs.lemmas.List.Elements.{All-cons, All-nil}
 use Rattle.clap.specs.Words.{Text as Path}
 use Rattle.rc_graph.specs.declared.Way.{Way}
 use Rattle.rc_graph.specs.declared.Way.TheVariants.{Lower, Raise}
 use Rattle.rc_model.specs.Database.{Database}
-use Rattle.rc_model.specs.Line.{Line, states, State}
+use Rattle.rc_model.specs.Line.{IsLine, Line, states, State}
 use Rattle.rc_model.specs.Session.{Command}
 use Rattle.rc_session.specs.Holding.{Holding}
+use Rattle.rc_line.specs.Opening.{Journal}
+use Rattle.rc_script.specs.Says.{Saying}
 use Rattle.rc_serve.specs.declared.ending.Ending.{Ending}
 use Rattle.rc_serve.specs.declared.ending.Ending.TheVariants.{Done, Refused, Hindered}
 use Rattle.rc_serve.specs.declared.fault.ServeFault.{ServeFault}
@@ -43,6 +45,24 @@ pub step_eventless : (dry : Bool) (ask : Ask) → HasNoEvents (Said (step_by dry
 step_eventless true ask = tt
 step_eventless false ask = refl
 
+pub says_eventless : (dry : Bool) (ask : Ask) (saying : Saying) → saying ≡ step_by dry ask → HasNoEvents (Said saying)
+says_eventless dry ask saying is = subst (λ (s : Saying). HasNoEvents (Said s)) (sym is) (step_eventless dry ask)
+
+-- a session that stands so has no run begun, and is not poisoned
+pub stands_closed : (session : Holding) (d : Database) (line : Line) → session ≡ session_on d line → (session.begun ≡ false) × (session.spoiled ≡ false)
+stands_closed session d line is = (ap (λ (h : Holding). h.begun) is, ap (λ (h : Holding). h.spoiled) is)
+
+-- and so does one from where a session begins
+pub begun_closed : (session : Holding) (d : Database) (bound : ℕ) (text : Option (List ℕ)) → ((start : Line) × BeginsBy d bound text start × (session ≡ session_on d start)) → (session.begun ≡ false) × (session.spoiled ≡ false)
+begun_closed session d bound text (start, begins, is) = stands_closed session d start is
+
+-- the bound of a line is that of what it is kept in, and three at least
+pub journal_bound : (journal : Journal) (line : Line) (begun : Bool) (bound : ℕ) → journal ≡ record { line = line; is_open = begun } → bound ≡ journal.line.bound → bound ≡ line.bound
+journal_bound journal line begun bound same is = is ∙ ap (λ (j : Journal). j.line.bound) same
+
+pub line_bound : (line : Line) (bound : ℕ) → IsLine line → bound ≡ line.bound → 3 ≤ bound
+line_bound line bound is_line is = subst (λ (n : ℕ). 3 ≤ n) (sym is) is_line.bound.0
+
 -- two lines of which both were served
 module _ (path : Option Path) (was held is : Option (List ℕ)) (As At : EndsIn) (what then : OnceSaying) (written shown gained : Option (List ℕ)) (from middle to after : Holding) where
   both : (ending : Ending) → ServesOnce path was held As Done what written shown from middle → ServesOnce path held is At ending then shown gained to after
@@ -55,10 +75,30 @@ module _ (path : Option Path) (was held is : Option (List ℕ)) (As At : EndsIn)
   ends_behind Refused first second = inr (Refused, (λ bad. cc), both Refused first second)
   ends_behind Hindered first second = inr (Hindered, (λ bad. cc), both Hindered first second)
 
+  pub both_ended : (told raised ending : Ending) → told ≡ Done → ending ≡ ending_behind raised
+      → ServesOnce path was held As told what written shown from middle → ServesOnce path held is At raised then shown gained to after
+      → EndsBoth ending path was is As At what then written gained from to
+  both_ended told raised ending done ended first second =
+      subst (λ (e : Ending). EndsBoth e path was is As At what then written gained from to) (sym ended)
+      (ends_behind raised (subst (λ (e : Ending). ServesOnce path was held As e what written shown from middle) done first) second)
+
   pub stops_behind : (fault : ServeFault) → ServesOnce path was held As Done what written shown from middle
       → StopsServing fault (is ≡ held) (λ d line. HoldsOnce path held is d then line) At then shown gained to
       → StopsBoth fault path was is As At what then written gained from to
   stops_behind fault first stops = inr (record { middle = middle; held = held; shown = shown; first = first; stops = stops })
+
+  pub both_stopped : (fault : ServeFault) (told : Ending) → told ≡ Done → ServesOnce path was held As told what written shown from middle
+      → StopsServing fault (is ≡ held) (λ d line. HoldsOnce path held is d then line) At then shown gained to
+      → StopsBoth fault path was is As At what then written gained from to
+  both_stopped fault told done first stops = stops_behind fault (subst (λ (e : Ending). ServesOnce path was held As e what written shown from middle) done first) stops
+
+-- two lines of which the first was not done
+module _ (path : Option Path) (was is : Option (List ℕ)) (As At : EndsIn) (what then : OnceSaying) (written gained : Option (List ℕ)) (from to after : Holding) where
+  pub first_refused : (told : Ending) → told ≡ Refused → ServesOnce path was is As told what written gained from after → EndsBoth Refused path was is As At what then written gained from to
+  first_refused told refused first = (after, subst (λ (e : Ending). ServesOnce path was is As e what written gained from after) refused first)
+
+  pub first_hindered : (told : Ending) → told ≡ Hindered → ServesOnce path was is As told what written gained from after → EndsBoth Hindered path was is As At what then written gained from to
+  first_hindered told hindered first = inl (after, subst (λ (e : Ending). ServesOnce path was is As e what written gained from after) hindered first)
 
 -- what two lines come to is what an update comes to, whose steps they are
 module _ (path : Option Path) (was is : Option (List ℕ)) (As At : EndsIn) (dry : Bool) (what then : OnceSaying) (written gained : Option (List ℕ)) (from to : Holding) (new : Database) (parts : Parts) where
@@ -234,6 +274,14 @@ ends_between (OfText fault) old new ask file was is written gained writer keeper
 ends_between (Unknown word) old new ask file was is written gained writer keeper from to first second end = (from, to, first, second, end)
 ends_between (OfLive fault) old new ask file was is written gained writer keeper from to first second end = (from, to, first, second, end)
 ends_between (Failed fault) old new ask file was is written gained writer keeper from to first second end = inr (from, to, first, second, end)
+
+pub fails_between : (result : Result Ending SessionFault) (old new : List ℕ) (ask : UpdateAsk) (file : LiveFile) (was is written gained : Option (List ℕ)) (writer keeper : Type 0) (from to : Database)
+    → Spells (Some old) [] from [] → Spells (Some new) [] to []
+    → IfErr result (λ fault. EndsUpdateOn fault ask ask.session.making file was is from to written gained writer keeper)
+    → IfErr result (λ fault. EndsUpdateBy fault old new ask file was is written gained writer keeper)
+fails_between (Ok ending) old new ask file was is written gained writer keeper from to first second end = tt
+fails_between (Err fault) old new ask file was is written gained writer keeper from to first second end =
+    ends_between fault old new ask file was is written gained writer keeper from to first second end
 
 -- a text that is refused ends it
 module _ (old new : List ℕ) (ask : UpdateAsk) (file : LiveFile) (held written : Option (List ℕ)) (writer keeper : Type 0) where

@@ -3,7 +3,7 @@ use Rattle.rc_streams.specs.Exchange.{exchanged}
 use Rattle.rc_base.specs.Base.{bytes_of}
 use Rattle.rc_asked.specs.OnceAsked.{once_ask_of}
 use Rattle.rc_sessions.specs.Storing.{store_of}
-use Rattle.rc_cli.proofs.OnceLemmas.{failure_once, refusal_once}
+use Rattle.rc_cli.proofs.OnceLemmas.{answered_ended, answered_well, failure_once, refusal_once, told_ended, told_unanswered}
 use Rattle.rc_cli.proofs.once.once_as_asked.Goals as goal
 
 pub returns-in-Ok-clause-done : goal.returns-in-Ok-clause-done
@@ -26,3 +26,45 @@ returns-in-Err-clause-failed g c told =
     let line = c.tell_session_fault.ensures.failed told in
     let holds = failure_once c.in-Err.fault line.0 (bytes_of c.args.base) (once_ask_of c.args.request.now) c.args.live (g.S.Store.holds (store_of c.args.keeper.now)) (g.S.Store.holds (store_of c.run_asked.new.keeper)) (exchanged g.R.Read.remaining g.W.Write.contents c.args.reader.now c.run_asked.new.reader c.args.writer.now c.run_asked.new.writer) _ _ _ line.1 c.in-Err.ensures.ended in
     (line.0, holds.0, line.2, holds.1)
+
+pub run_asked-requires-clause-crew : goal.run_asked-requires-clause-crew
+run_asked-requires-clause-crew g c κs within = c.requires.crew
+
+pub run_asked-requires-clause-bound : goal.run_asked-requires-clause-bound
+run_asked-requires-clause-bound g c κs within = c.requires.bound
+
+pub run_asked-requires-clause-eventless : goal.run_asked-requires-clause-eventless
+run_asked-requires-clause-eventless g c κs within = c.requires.eventless
+
+pub run_asked-requires-clause-reader : goal.run_asked-requires-clause-reader
+run_asked-requires-clause-reader g c κs within = c.requires.reader
+
+pub run_asked-requires-clause-writer : goal.run_asked-requires-clause-writer
+run_asked-requires-clause-writer g c κs within = c.requires.writer
+
+pub returns-in-Ok-clause-statuses : goal.returns-in-Ok-clause-statuses
+returns-in-Ok-clause-statuses g c = answered_ended c.status_of.result c.status_of.ensures.statuses
+
+pub returns-in-Ok-clause-untold : goal.returns-in-Ok-clause-untold
+returns-in-Ok-clause-untold g c = λ told. refl
+
+pub returns-in-Ok-clause-failed : goal.returns-in-Ok-clause-failed
+returns-in-Ok-clause-failed g c failed = absurd (answered_well c.status_of.result c.status_of.ensures.statuses failed)
+
+pub returns-in-Err-clause-statuses : goal.returns-in-Err-clause-statuses
+returns-in-Err-clause-statuses g c = told_ended c.tell_session_fault.result c.tell_session_fault.ensures.statuses
+
+pub returns-in-Err-clause-done : goal.returns-in-Err-clause-done
+returns-in-Err-clause-done g c zero = absurd (told_unanswered c.tell_session_fault.result c.tell_session_fault.ensures.statuses (inl zero))
+
+pub returns-in-Err-clause-hindered : goal.returns-in-Err-clause-hindered
+returns-in-Err-clause-hindered g c two = absurd (told_unanswered c.tell_session_fault.result c.tell_session_fault.ensures.statuses (inr two))
+
+pub returns-in-Err-clause-untold : goal.returns-in-Err-clause-untold
+returns-in-Err-clause-untold g c well = absurd (told_unanswered c.tell_session_fault.result c.tell_session_fault.ensures.statuses well)
+
+pub returns-in-Ok-clause-taken : goal.returns-in-Ok-clause-taken
+returns-in-Ok-clause-taken g c = c.run_asked.ensures.taken
+
+pub returns-in-Err-clause-taken : goal.returns-in-Err-clause-taken
+returns-in-Err-clause-taken g c = c.run_asked.ensures.taken

@@ -1,8 +1,9 @@
-use Rattle.std.proofs.Common.{◌≡◌, ◌∙◌, Bool, List, ap, length, map, subst, sym}
+use Rattle.std.proofs.Common.{◌≡◌, ◌∙◌, Bool, List, ap, inl, length, map, refl, subst, sym}
 use Rattle.std.specs.String.{string_bytes}
 use Rattle.rc_model.specs.Names.{Has}
 use Rattle.rc_model.specs.Graph.{IsClosed}
 use Rattle.rc_model.specs.Database.{Database}
+use Rattle.rc_model.specs.declared.Mode.TheVariants.{DownAll, Up}
 use Rattle.rc_streams.specs.Noting.{inner_of}
 use Rattle.rc_script.specs.Says.{saying_of}
 use Rattle.rc_asked.specs.OnceAsked.{Said}
@@ -10,8 +11,8 @@ use Rattle.rc_asked.specs.SessionAsked.{session_ask_of}
 use Rattle.rc_serve.specs.Ending.{IsDoneAs}
 use Rattle.rc_session.proofs.States.{current_state}
 use Rattle.rc_sessions.specs.Storing.{store_of}
-use Rattle.rc_cli.specs.Updating.{IsUpdate, Parts, session_with}
-use Rattle.rc_cli.proofs.UpdateLemmas.{update_ends, update_is, update_stops, with_bound}
+use Rattle.rc_cli.specs.Updating.{IsUpdate, Parts, carried_line, session_with, step_ask}
+use Rattle.rc_cli.proofs.UpdateLemmas.{journal_bound, line_bound, says_eventless, stands_closed, update_ends, update_is, update_stops, with_bound}
 use Rattle.rc_cli.proofs.updating.update_from.Goals as goal
 
 pub carry-requires-clause-bound : goal.carry-requires-clause-bound
@@ -33,7 +34,7 @@ returns-clause-done g c =
     update_is c.db.result.now c.args.from.now.database c.args.new c.live.result.now c.args.from.now.line.current.live parts c.db.ensures.db c.live.ensures
     (record { lower = c.in-Ok.ensures.lower; kept = c.in-Ok.ensures.kept; bound = c.in-Ok.ensures.bound; raise = c.in-Ok.ensures.raise }) in
     let there : c.in-Ok-session_of.to ≡ session_with c.args.new parts c.args.from.now =
-    with_bound c.args.new parts c.bound-bound.result c.args.from.now c.in-Ok-session_of.to c.in-Ok-session_of.ensures (c.bound-bound.ensures ∙ ap (λ j. j.line.bound) c.journal.ensures.journal) in
+    with_bound c.args.new parts c.bound-bound.result c.args.from.now c.in-Ok-session_of.to c.in-Ok-session_of.ensures (journal_bound c.journal.result.now c.args.from.now.line c.args.from.now.begun c.bound-bound.result c.journal.ensures.journal c.bound-bound.ensures) in
     update_ends (session_ask_of c.args.request.now.session).live (g.S.Store.holds (store_of c.args.keeper.now)) _
     (IsDoneAs c.args.request.now.session.workers (g.G.Gate.answers c.args.gate.now) (g.G.Gate.gives c.args.gate.now))
     (IsDoneAs c.args.request.now.session.workers (g.H.Gate.answers c.args.other.now) (g.H.Gate.gives c.args.other.now))
@@ -48,10 +49,60 @@ returns-clause-stopped g c =
     update_is c.db.result.now c.args.from.now.database c.args.new c.live.result.now c.args.from.now.line.current.live parts c.db.ensures.db c.live.ensures
     (record { lower = c.in-Ok.ensures.lower; kept = c.in-Ok.ensures.kept; bound = c.in-Ok.ensures.bound; raise = c.in-Ok.ensures.raise }) in
     let there : c.in-Ok-session_of.to ≡ session_with c.args.new parts c.args.from.now =
-    with_bound c.args.new parts c.bound-bound.result c.args.from.now c.in-Ok-session_of.to c.in-Ok-session_of.ensures (c.bound-bound.ensures ∙ ap (λ j. j.line.bound) c.journal.ensures.journal) in
+    with_bound c.args.new parts c.bound-bound.result c.args.from.now c.in-Ok-session_of.to c.in-Ok-session_of.ensures (journal_bound c.journal.result.now c.args.from.now.line c.args.from.now.begun c.bound-bound.result c.journal.ensures.journal c.bound-bound.ensures) in
     update_stops (session_ask_of c.args.request.now.session).live (g.S.Store.holds (store_of c.args.keeper.now)) _
     (IsDoneAs c.args.request.now.session.workers (g.G.Gate.answers c.args.gate.now) (g.G.Gate.gives c.args.gate.now))
     (IsDoneAs c.args.request.now.session.workers (g.H.Gate.answers c.args.other.now) (g.H.Gate.gives c.args.other.now))
     c.args.request.now.dry (Said (saying_of c.step_line-lowering.result)) (Said (saying_of c.step_line-raising.result))
     (g.W.Write.contents (inner_of c.args.writer.now)) _ c.args.from.now c.in-Ok-session_of.to c.args.new parts
     c.serve_both-ended.result update there (ap Said c.step_line-lowering.ensures.says) (ap Said c.step_line-raising.ensures.says) c.serve_both-ended.ensures.stopped
+
+pub session_of-requires-clause-length : goal.session_of-requires-clause-length
+session_of-requires-clause-length g c = c.in-Ok.ensures.bound
+
+pub session_of-requires-clause-closed : goal.session_of-requires-clause-closed
+session_of-requires-clause-closed g c = c.in-Ok.ensures.closed
+
+pub session_of-requires-clause-bound : goal.session_of-requires-clause-bound
+session_of-requires-clause-bound g c =
+    line_bound c.args.from.now.line c.bound-bound.result (c.journal.ensures.states).is_line
+    (journal_bound c.journal.result.now c.args.from.now.line c.args.from.now.begun c.bound-bound.result c.journal.ensures.journal c.bound-bound.ensures)
+
+pub serve_both-ended-requires-clause-crew : goal.serve_both-ended-requires-clause-crew
+serve_both-ended-requires-clause-crew g c κs within = c.requires.crew
+
+pub serve_both-ended-requires-clause-from : goal.serve_both-ended-requires-clause-from
+serve_both-ended-requires-clause-from g c κs within = (c.requires.closed, c.requires.whole)
+
+pub serve_both-ended-requires-clause-to : goal.serve_both-ended-requires-clause-to
+serve_both-ended-requires-clause-to g c κs within = stands_closed c.in-Ok-session_of.to c.args.new (carried_line c.args.new c.in-Ok.update.kept c.bound-bound.result) c.in-Ok-session_of.ensures
+
+pub serve_both-ended-requires-clause-lowering : goal.serve_both-ended-requires-clause-lowering
+serve_both-ended-requires-clause-lowering g c κs within = says_eventless c.args.request.now.dry (step_ask DownAll (map string_bytes c.in-Ok.update.lower.items)) (saying_of c.step_line-lowering.result) c.step_line-lowering.ensures.says
+
+pub serve_both-ended-requires-clause-raising : goal.serve_both-ended-requires-clause-raising
+serve_both-ended-requires-clause-raising g c κs within = says_eventless c.args.request.now.dry (step_ask Up (map string_bytes c.in-Ok.update.raise.items)) (saying_of c.step_line-raising.result) c.step_line-raising.ensures.says
+
+pub serve_both-ended-requires-clause-writer : goal.serve_both-ended-requires-clause-writer
+serve_both-ended-requires-clause-writer g c κs within = c.requires.writer
+
+pub returns-clause-fault : goal.returns-clause-fault
+returns-clause-fault g c = c.serve_both-ended.ensures.fault
+
+pub returns-in-Err-clause-done : goal.returns-in-Err-clause-done
+returns-in-Err-clause-done g c = tt
+
+pub returns-in-Err-clause-stopped : goal.returns-in-Err-clause-stopped
+returns-in-Err-clause-stopped g c = inl (refl, refl, refl)
+
+pub returns-in-Err-clause-fault : goal.returns-in-Err-clause-fault
+returns-in-Err-clause-fault g c = tt
+
+pub returns-in-Err-session_of-clause-done : goal.returns-in-Err-session_of-clause-done
+returns-in-Err-session_of-clause-done g c = tt
+
+pub returns-in-Err-session_of-clause-stopped : goal.returns-in-Err-session_of-clause-stopped
+returns-in-Err-session_of-clause-stopped g c = inl (refl, refl, refl)
+
+pub returns-in-Err-session_of-clause-fault : goal.returns-in-Err-session_of-clause-fault
+returns-in-Err-session_of-clause-fault g c = tt

@@ -1,0 +1,110 @@
+use Rattle.std.proofs.Common.{inl}
+use Rattle.rc_streams.specs.Noting.{inner_of}
+use Rattle.rc_script.specs.Says.{saying_of}
+use Rattle.rc_serve.specs.Ending.{IsDoneAs}
+use Rattle.rc_asked.specs.OnceAsked.{Said}
+use Rattle.rc_asked.specs.SessionAsked.{session_ask_of}
+use Rattle.rc_sessions.specs.Storing.{store_of}
+use Rattle.rc_cli.proofs.UpdateLemmas.{both_ended, both_stopped, first_hindered, first_refused}
+use Rattle.rc_cli.proofs.updating.serve_both.Goals as goal
+
+pub line_once-requires-clause-crew : goal.line_once-requires-clause-crew
+line_once-requires-clause-crew g c κs within = c.requires.crew
+
+pub line_once-requires-clause-closed : goal.line_once-requires-clause-closed
+line_once-requires-clause-closed g c κs within = c.requires.from.0
+
+pub line_once-requires-clause-whole : goal.line_once-requires-clause-whole
+line_once-requires-clause-whole g c κs within = c.requires.from.1
+
+pub line_once-requires-clause-eventless : goal.line_once-requires-clause-eventless
+line_once-requires-clause-eventless g c κs within = c.requires.lowering
+
+pub line_once-requires-clause-writer : goal.line_once-requires-clause-writer
+line_once-requires-clause-writer g c κs within = c.requires.writer
+
+pub line_once-requires-in-Ok-Done-clause-crew : goal.line_once-requires-in-Ok-Done-clause-crew
+line_once-requires-in-Ok-Done-clause-crew g c κs within = c.requires.crew
+
+pub line_once-requires-in-Ok-Done-clause-closed : goal.line_once-requires-in-Ok-Done-clause-closed
+line_once-requires-in-Ok-Done-clause-closed g c κs within = c.requires.to.0
+
+pub line_once-requires-in-Ok-Done-clause-whole : goal.line_once-requires-in-Ok-Done-clause-whole
+line_once-requires-in-Ok-Done-clause-whole g c κs within = c.requires.to.1
+
+pub line_once-requires-in-Ok-Done-clause-eventless : goal.line_once-requires-in-Ok-Done-clause-eventless
+line_once-requires-in-Ok-Done-clause-eventless g c κs within = c.requires.raising
+
+pub line_once-requires-in-Ok-Done-clause-writer : goal.line_once-requires-in-Ok-Done-clause-writer
+line_once-requires-in-Ok-Done-clause-writer g c κs within = c.in-Ok-Done.ensures.sound
+
+pub returns-in-Ok-clause-done : goal.returns-in-Ok-clause-done
+returns-in-Ok-clause-done g c =
+    both_ended (session_ask_of c.args.request.now).live (g.S.Store.holds (store_of c.args.keeper.now)) (g.S.Store.holds (store_of c.line_once.new.keeper)) (g.S.Store.holds (store_of c.line_once-in-Ok-Done.new.keeper))
+    (IsDoneAs c.args.request.now.workers (g.G.Gate.answers c.args.gate.now) (g.G.Gate.gives c.args.gate.now))
+    (IsDoneAs c.args.request.now.workers (g.H.Gate.answers c.args.other.now) (g.H.Gate.gives c.args.other.now))
+    (Said (saying_of c.args.lowering.now)) (Said (saying_of c.args.raising.now))
+    (g.W.Write.contents (inner_of c.args.writer.now)) (g.W.Write.contents (inner_of c.line_once.new.writer)) (g.W.Write.contents (inner_of c.line_once-in-Ok-Done.new.writer))
+    c.args.from.now c.line_once.new.session c.args.to.now c.line_once-in-Ok-Done.new.session
+    c.in-Ok-Done.field-0 c.in-Ok.raised c.behind.result c.in-Ok-Done.field-0-is c.behind.ensures c.in-Ok-Done.ensures.done c.in-Ok.ensures.done
+
+pub returns-in-Ok-clause-stopped : goal.returns-in-Ok-clause-stopped
+returns-in-Ok-clause-stopped g c = tt
+
+pub returns-in-Ok-clause-fault : goal.returns-in-Ok-clause-fault
+returns-in-Ok-clause-fault g c = tt
+
+pub returns-in-Err-line_once-clause-done : goal.returns-in-Err-line_once-clause-done
+returns-in-Err-line_once-clause-done g c = tt
+
+pub returns-in-Err-line_once-clause-stopped : goal.returns-in-Err-line_once-clause-stopped
+returns-in-Err-line_once-clause-stopped g c =
+    both_stopped (session_ask_of c.args.request.now).live (g.S.Store.holds (store_of c.args.keeper.now)) (g.S.Store.holds (store_of c.line_once.new.keeper)) (g.S.Store.holds (store_of c.line_once-in-Ok-Done.new.keeper))
+    (IsDoneAs c.args.request.now.workers (g.G.Gate.answers c.args.gate.now) (g.G.Gate.gives c.args.gate.now))
+    (IsDoneAs c.args.request.now.workers (g.H.Gate.answers c.args.other.now) (g.H.Gate.gives c.args.other.now))
+    (Said (saying_of c.args.lowering.now)) (Said (saying_of c.args.raising.now))
+    (g.W.Write.contents (inner_of c.args.writer.now)) (g.W.Write.contents (inner_of c.line_once.new.writer)) (g.W.Write.contents (inner_of c.line_once-in-Ok-Done.new.writer))
+    c.args.from.now c.line_once.new.session c.args.to.now c.line_once-in-Ok-Done.new.session
+    c.in-Err-line_once.fault c.in-Ok-Done.field-0 c.in-Ok-Done.field-0-is c.in-Ok-Done.ensures.done c.in-Err-line_once.ensures.stopped
+
+pub returns-in-Err-line_once-clause-fault : goal.returns-in-Err-line_once-clause-fault
+returns-in-Err-line_once-clause-fault g c = c.in-Err-line_once.ensures.fault
+
+pub returns-in-Ok-Refused-clause-done : goal.returns-in-Ok-Refused-clause-done
+returns-in-Ok-Refused-clause-done g c =
+    first_refused (session_ask_of c.args.request.now).live (g.S.Store.holds (store_of c.args.keeper.now)) (g.S.Store.holds (store_of c.line_once.new.keeper))
+    (IsDoneAs c.args.request.now.workers (g.G.Gate.answers c.args.gate.now) (g.G.Gate.gives c.args.gate.now))
+    (IsDoneAs c.args.request.now.workers (g.H.Gate.answers c.args.other.now) (g.H.Gate.gives c.args.other.now))
+    (Said (saying_of c.args.lowering.now)) (Said (saying_of c.args.raising.now))
+    (g.W.Write.contents (inner_of c.args.writer.now)) (g.W.Write.contents (inner_of c.line_once.new.writer)) c.args.from.now c.args.to.now c.line_once.new.session
+    c.in-Ok-Refused.field-0 c.in-Ok-Refused.field-0-is c.in-Ok-Refused.ensures.done
+
+pub returns-in-Ok-Refused-clause-stopped : goal.returns-in-Ok-Refused-clause-stopped
+returns-in-Ok-Refused-clause-stopped g c = tt
+
+pub returns-in-Ok-Refused-clause-fault : goal.returns-in-Ok-Refused-clause-fault
+returns-in-Ok-Refused-clause-fault g c = tt
+
+pub returns-in-Ok-Hindered-clause-done : goal.returns-in-Ok-Hindered-clause-done
+returns-in-Ok-Hindered-clause-done g c =
+    first_hindered (session_ask_of c.args.request.now).live (g.S.Store.holds (store_of c.args.keeper.now)) (g.S.Store.holds (store_of c.line_once.new.keeper))
+    (IsDoneAs c.args.request.now.workers (g.G.Gate.answers c.args.gate.now) (g.G.Gate.gives c.args.gate.now))
+    (IsDoneAs c.args.request.now.workers (g.H.Gate.answers c.args.other.now) (g.H.Gate.gives c.args.other.now))
+    (Said (saying_of c.args.lowering.now)) (Said (saying_of c.args.raising.now))
+    (g.W.Write.contents (inner_of c.args.writer.now)) (g.W.Write.contents (inner_of c.line_once.new.writer)) c.args.from.now c.args.to.now c.line_once.new.session
+    c.in-Ok-Hindered.field-0 c.in-Ok-Hindered.field-0-is c.in-Ok-Hindered.ensures.done
+
+pub returns-in-Ok-Hindered-clause-stopped : goal.returns-in-Ok-Hindered-clause-stopped
+returns-in-Ok-Hindered-clause-stopped g c = tt
+
+pub returns-in-Ok-Hindered-clause-fault : goal.returns-in-Ok-Hindered-clause-fault
+returns-in-Ok-Hindered-clause-fault g c = tt
+
+pub returns-in-Err-clause-done : goal.returns-in-Err-clause-done
+returns-in-Err-clause-done g c = tt
+
+pub returns-in-Err-clause-stopped : goal.returns-in-Err-clause-stopped
+returns-in-Err-clause-stopped g c = inl c.in-Err.ensures.stopped
+
+pub returns-in-Err-clause-fault : goal.returns-in-Err-clause-fault
+returns-in-Err-clause-fault g c = c.in-Err.ensures.fault
