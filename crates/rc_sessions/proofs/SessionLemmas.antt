@@ -1,5 +1,6 @@
 -- How a session of the program ends.
 use Rattle.std.proofs.Common.{◌≡◌, ◌≢◌, ◌∙◌, ◌⊎◌, ◌↔◌, ℕ, Bool, true, false, if◌then◌else◌, Contains, List, [], Option, None, Some, option_map, Result, Ok, Err, IfErr, OnOk, inl, inr, ap, arith, refl, sym, subst}
+use Rattle.std.specs.Result.{IsErrAnd}
 use Rattle.clap.specs.Words.{Text, Text as Path}
 use Rattle.rc_graph.specs.declared.Way.{Way}
 use Rattle.rc_model.specs.Run.{is_success}
@@ -18,7 +19,7 @@ use Rattle.rc_sessions.specs.declared.failing.GateFault.TheVariants as gate
 use Rattle.rc_serve.specs.declared.fault.ServeFault.{ServeFault}
 use Rattle.rc_serve.specs.declared.fault.ServeFault.TheVariants.{Read, Write, TooLong, Memory, NoThread, Strange, Workers, Io}
 use Rattle.rc_streams.specs.Exchange.{Exchange}
-use Rattle.rc_streams.specs.Input.{AppendsFront, fault_line}
+use Rattle.rc_streams.specs.Input.{AppendsFront, IsCause, fault_line}
 use Rattle.rc_streams.specs.declared.input.Failure.{Failure}
 use Rattle.rc_streams.specs.declared.input.Failure.TheVariants as failure
 use Rattle.rc_serve.specs.Faults.{IsServeFault}
@@ -27,7 +28,12 @@ use Rattle.rc_serve.specs.declared.keeper.KeepFault.{KeepFault}
 use Rattle.rc_serve.specs.Playing.{PlaysInput}
 use Rattle.rc_serve.specs.Meeting.{Doing, IsDoneBy}
 use Rattle.rc_serve.specs.SessionText.{FailsExactly, IsDoneFailing, IsTimeless}
-use Rattle.rc_base.specs.Base.{Spells}
+use Rattle.rc_base.specs.Base.{IsTextFault, Spells}
+use Rattle.rc_dbtext.specs.declared.fault.TextFault.{TextFault}
+use Rattle.rc_dbtext.specs.declared.fault.TextFault.TheVariants as text
+use Rattle.rc_livetext.specs.LiveFaults.{IsLiveFault}
+use Rattle.rc_livetext.specs.declared.fault.LiveFault.{LiveFault}
+use Rattle.rc_livetext.specs.declared.fault.LiveFault.TheVariants as live
 use Rattle.rc_model.specs.Line.{Line}
 use Rattle.rc_sessions.specs.Filing.{BeginsWith, CannotKeep, Filing, Holds, HoldsBy, IsLeft, IsLeftOrFirst, IsUnread, filing_of}
 use Rattle.rc_sessions.specs.Storing.{HoldsText}
@@ -37,7 +43,7 @@ use Rattle.rc_base.specs.Opening.{Reads}
 use Rattle.rc_sessions.specs.Session.{Runs}
 use Rattle.rc_asked.specs.Programs.{ByPrograms, ByTable}
 use Rattle.rc_asked.specs.SessionAsked.{SessionAsk}
-use Rattle.rc_sessions.specs.SessionFaults.{EndsBy, EndsGated, EndsOn, IsBeginFault, IsGateFailing, IsNotBegun, IsRefusal, IsRefusedBy, IsToldAs, IsUnserved, serve_word}
+use Rattle.rc_sessions.specs.SessionFaults.{EndsBy, EndsGated, EndsOn, IsBeginFault, IsGateFailing, IsLiveFailing, IsNotBegun, IsRefusal, IsRefusedBy, IsTextFailing, IsTextFaultOf, IsToldAs, IsUnserved, reading_fault, serve_word}
 use Rattle.rc_sessions.specs.declared.session_fault.SessionFault.{SessionFault}
 use Rattle.rc_sessions.specs.declared.session_fault.SessionFault.TheVariants.{OfText, Unknown, OfLive, Failed}
 
@@ -415,3 +421,98 @@ pub never_wrong : (s : ℕ) → (s ≡ 0) ⊎ (s ≡ 1) ⊎ (s ≡ 111) → s �
 never_wrong s (inl is) wrong = let bad : ⊥ = omega arith in bad
 never_wrong s (inr (inl is)) wrong = let bad : ⊥ = omega arith in bad
 never_wrong s (inr (inr is)) wrong = let bad : ⊥ = omega arith in bad
+
+-- and where its status is 0 it is no other
+pub zero_alone : (s other : ℕ) → s ≡ 0 → s ≡ other → (other ≡ 1) ⊎ (other ≡ 111) → ⊥
+zero_alone s other zero is (inl one) = omega (arith, zero, is, one)
+zero_alone s other zero is (inr failed) = omega (arith, zero, is, failed)
+
+-- where a fault was told it is not 0
+pub told_undone : (s : ℕ) → (s ≡ 1) ⊎ (s ≡ 111) → s ≡ 0 → ⊥
+told_undone s (inl one) zero = omega (arith, one, zero)
+told_undone s (inr failed) zero = omega (arith, failed, zero)
+
+-- what ended well did not fail
+pub well_ended : {A E : Type 0} (result : Result A E) (x : A) (e : E) → result ≡ Ok x → result ≡ Err e → ⊥
+well_ended result x e is wrong = let bad : ⊥ = cc in bad
+
+-- what has not failed did not
+pub never_failed : (flag : Bool) → flag ≡ false → flag ≡ true → ⊥
+never_failed flag well failed = let bad : ⊥ = cc in bad
+
+-- an input that was not read whole ends the session
+pub reading_ends : (fault : ServeFault) (why : Failure) (ask : SessionAsk) (file : LiveFile) (held : Option (List ℕ)) (io : Exchange) (failed writer keeper : Type 0)
+    → fault ≡ reading_fault why → io.gained ≡ io.written → IsCause io.input failed ⊥ why → EndsBy (Failed fault) None ask file held held io (Unit {0}) writer keeper
+reading_ends fault failure.TooLong ask file held io failed writer keeper is none cause =
+    subst (λ (f : ServeFault). EndsBy (Failed f) None ask file held held io (Unit {0}) writer keeper) (sym is) (tt, inl ((refl, cause), none, inl refl))
+reading_ends fault failure.Memory ask file held io failed writer keeper is none cause =
+    subst (λ (f : ServeFault). EndsBy (Failed f) None ask file held held io (Unit {0}) writer keeper) (sym is) (tt, inl (tt, none, inl refl))
+reading_ends fault failure.Read ask file held io failed writer keeper is none cause =
+    subst (λ (f : ServeFault). EndsBy (Failed f) None ask file held held io (Unit {0}) writer keeper) (sym is) (tt, inl (refl, none, inl refl))
+reading_ends fault failure.Write ask file held io failed writer keeper is none cause = absurd cause
+
+-- and a read that has failed is told as that
+pub unread_told : {A B : Type 0} (result : Result A Failure) (why : Failure) (fault : ServeFault) (before : Type 0) → before ⊎ (result ≡ Err failure.Read) → (before → ⊥) → result ≡ Err why → fault ≡ reading_fault why
+    → ◌≡◌ {A = Result B SessionFault} (Err (Failed fault)) (Err (Failed Read))
+unread_told result why fault before (inl failed) well is of = absurd (well failed)
+unread_told {A} {B} result why fault before (inr read) well is of =
+    let same : why ≡ failure.Read = cc in
+    let told : fault ≡ Read = of ∙ ap reading_fault same in
+    subst (λ (f : ServeFault). ◌≡◌ {A = Result B SessionFault} (Err (Failed f)) (Err (Failed Read))) (sym told) refl
+
+-- a text that is refused ends the session
+module _ (base : Option (List ℕ)) (ask : SessionAsk) (file : LiveFile) (held : Option (List ℕ)) (io : Exchange) (input : List ℕ) (reader writer keeper : Type 0) where
+  refused_ends : (fault : TextFault) (told : SessionFault) → told ≡ OfText fault → fault ≢ text.Memory → Reads base io.input io.left input → IsTextFault base input fault → io.gained ≡ io.written
+      → EndsBy told base ask file held held io reader writer keeper
+  refused_ends fault told is other reads wrong none =
+      subst (λ (f : SessionFault). EndsBy f base ask file held held io reader writer keeper) (sym is) ((input, reads, (other, wrong)), none, refl)
+
+  pub text_ends : {T : Type 0} (result : Result T SessionFault) (fault : TextFault) → IsErrAnd result (λ told. IsTextFailing fault told) → Reads base io.input io.left input → IsTextFault base input fault → io.gained ≡ io.written
+      → IfErr result (λ told. EndsBy told base ask file held held io reader writer keeper)
+  text_ends (Ok x) fault is reads wrong none = absurd is
+  text_ends (Err told) text.Memory is reads wrong none =
+      subst (λ (f : SessionFault). EndsBy f base ask file held held io reader writer keeper) (sym is) (tt, inl (tt, none, inl refl))
+  text_ends (Err told) (text.Bad offset) is reads wrong none = refused_ends (text.Bad offset) told is (λ bad. cc) reads wrong none
+  text_ends (Err told) text.Version is reads wrong none = refused_ends text.Version told is (λ bad. cc) reads wrong none
+  text_ends (Err told) text.NotSorted is reads wrong none = refused_ends text.NotSorted told is (λ bad. cc) reads wrong none
+  text_ends (Err told) text.Cyclic is reads wrong none = refused_ends text.Cyclic told is (λ bad. cc) reads wrong none
+  text_ends (Err told) text.TooMany is reads wrong none = refused_ends text.TooMany told is (λ bad. cc) reads wrong none
+  text_ends (Err told) text.Dangling is reads wrong none = refused_ends text.Dangling told is (λ bad. cc) reads wrong none
+
+-- what a question mark hands on is no success
+pub handed_on : {T E F : Type 0} (result : Result T E) (fault : F) (P : Type 0) (Fails : F → E → Type 0) → IsErrAnd result (λ told. Fails fault told) → OnOk result P
+handed_on (Ok x) fault P Fails is = absurd is
+handed_on (Err e) fault P Fails is = tt
+
+-- a text that is no line of the database is why a session does not go on with it
+pub live_fault : (d : Database) (bytes : List ℕ) (fault : LiveFault) (told : SessionFault) → IsLiveFailing fault told → IsLiveFault d bytes fault → IsTextFaultOf d bytes told
+live_fault d bytes live.Memory told is wrong = subst (λ (f : SessionFault). IsTextFaultOf d bytes f) (sym is) refl
+live_fault d bytes (live.Bad offset) told is wrong = subst (λ (f : SessionFault). IsTextFaultOf d bytes f) (sym is) ((λ bad. cc), wrong)
+live_fault d bytes live.Version told is wrong = subst (λ (f : SessionFault). IsTextFaultOf d bytes f) (sym is) ((λ bad. cc), wrong)
+live_fault d bytes live.Unknown told is wrong = subst (λ (f : SessionFault). IsTextFaultOf d bytes f) (sym is) ((λ bad. cc), wrong)
+live_fault d bytes (live.NotClosed place) told is wrong = subst (λ (f : SessionFault). IsTextFaultOf d bytes f) (sym is) ((λ bad. cc), wrong)
+live_fault d bytes live.SameState told is wrong = subst (λ (f : SessionFault). IsTextFaultOf d bytes f) (sym is) ((λ bad. cc), wrong)
+live_fault d bytes live.OtherDb told is wrong = subst (λ (f : SessionFault). IsTextFaultOf d bytes f) (sym is) ((λ bad. cc), wrong)
+live_fault d bytes live.OverBound told is wrong = subst (λ (f : SessionFault). IsTextFaultOf d bytes f) (sym is) ((λ bad. cc), wrong)
+
+-- what a session with a base or without one comes to is what the session that is asked comes to
+ends_wider : (fault : SessionFault) (base : Option (List ℕ)) (ask : SessionAsk) (file : LiveFile) (was is : Option (List ℕ)) (io : Exchange) (reader more writer keeper : Type 0)
+    → (reader → more) → EndsBy fault base ask file was is io reader writer keeper → EndsBy fault base ask file was is io more writer keeper
+ends_wider (OfText fault) base ask file was is io reader more writer keeper so end = end
+ends_wider (Unknown word) base ask file was is io reader more writer keeper so end = end
+ends_wider (OfLive fault) base ask file was is io reader more writer keeper so end = end
+ends_wider (Failed fault) base ask file was is io reader more writer keeper so end =
+    (fault_wider fault reader writer keeper more writer keeper so (λ w. w) (λ k. k) end.0, end.1)
+
+module _ {A : Type 0} (result : Result A SessionFault) (base one : Option (List ℕ)) (ask : SessionAsk) (file : LiveFile) (was is : Option (List ℕ)) (io : Exchange) (same : base ≡ one) where
+  pub asked_done : OnOk result (Runs Serves one ask file was is io) → OnOk result (Runs Serves base ask file was is io)
+  asked_done done = subst (λ (b : Option (List ℕ)). OnOk result (Runs Serves b ask file was is io)) (sym same) done
+
+  pub asked_ended : (reader more writer keeper : Type 0) → (reader → more) → IfErr result (λ fault. EndsBy fault one ask file was is io reader writer keeper)
+      → IfErr result (λ fault. EndsBy fault base ask file was is io more writer keeper)
+  asked_ended reader more writer keeper so ended =
+      wider result (subst (λ (b : Option (List ℕ)). IfErr result (λ fault. EndsBy fault b ask file was is io reader writer keeper)) (sym same) ended)
+    where
+      wider : (r : Result A SessionFault) → IfErr r (λ fault. EndsBy fault base ask file was is io reader writer keeper) → IfErr r (λ fault. EndsBy fault base ask file was is io more writer keeper)
+      wider (Ok x) e = tt
+      wider (Err fault) e = ends_wider fault base ask file was is io reader more writer keeper so e
