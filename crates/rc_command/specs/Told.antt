@@ -4,7 +4,8 @@ use Rattle.std.specs.List.{fold}
 use Rattle.clap.specs.Lexer.{usize_max}
 use Rattle.clap.specs.Words.{App, Rule, Text, new_rule}
 use Rattle.clap.specs.declared.builder.ArgAction.TheVariants.{Append}
-use Rattle.rc_command.specs.Commands.{bare, bare_program, flag, option, query_word, with_arg, with_command}
+use Rattle.rc_command.specs.Commands.{bare, bare_program, flag, option, query_word}
+use Rattle.rc_command.specs.Commands.{with_arg, with_command}
 use Rattle.rc_command.specs.declared.told.ToldArg.{ToldArg}
 use Rattle.rc_command.specs.declared.told.ToldArg.TheVariants.{Flag, Valued, Needed, Query, Words}
 use Rattle.rc_command.specs.declared.told.ToldCommand.{ToldCommand}
@@ -32,5 +33,5 @@ told_command name args = fold (λ app told. with_arg app (told_rule told)) (bare
 
 -- the program with these commands
 abbrev pub told_program : List ToldCommand → App
-told_program commands =
-    fold (λ app told. with_command app (told_command told.name.now told.args.now)) bare_program commands
+told_program commands = fold
+    (λ app told. with_command app (told_command told.name.now told.args.now)) bare_program commands

@@ -1,8 +1,8 @@
 //! The commands of the program, as they are told to `clap`.
 ghost use Rattle.std.specs.Prelude.{◌≡◌};
 ghost use Rattle.clap.specs.Words.{App};
-ghost use Rattle.rc_command.specs.Commands.{IsOwn, Reads, bare, bare_program, flag, option, program, query_word, rule_in};
-ghost use Rattle.rc_command.specs.Commands.{with_arg, with_command};
+ghost use Rattle.rc_command.specs.Commands.{IsOwn, Reads, bare, bare_program, flag, option};
+ghost use Rattle.rc_command.specs.Commands.{program, query_word, rule_in, with_arg, with_command};
 ghost use Rattle.rc_command.specs.Told.{listed, told_command, told_program, told_rule};
 
 use crate::query_words::QUERIES;

@@ -144,7 +144,7 @@ stops_here place bytes rest states (Bad left) has missing = record { states = st
 stops_here place bytes rest states Version has missing = absurd missing
 stops_here place bytes rest states Memory has missing = tt
 
--- want of memory stops it anywhere
+-- it may run out of memory anywhere
 pub stops_short : (place : Place) (bytes : List ℕ) (fault : FormFault) → fault ≡ Memory → Stops place bytes fault
 stops_short place bytes fault is = subst (Stops place bytes) (sym is) tt
 

@@ -49,7 +49,7 @@ pub input_within : (base remaining after : Option (List ℕ)) (d : Database) (he
 input_within base None after d held start opens = tt
 input_within base (Some all) after d held start opens = subst (λ (x : List ℕ). length x ≤ 16777216) opens.reads.0 opens.reads.1
 
--- a text is refused for a wrong base, or where all was read within the bound, or for want of memory
+-- a text is refused for a wrong base, or where all was read within the bound, or where memory runs out
 pub refused_within : (base remaining after : Option (List ℕ)) (failed : Type 0) (fault : OpenFault) (wrong : TextFault) → fault ≡ unopened.OfText wrong → IsOpenFault base remaining after failed fault → wrong ≢ text.Memory
     → IsWrongBase base ⊎ IfSome remaining (λ input. length input ≤ 16777216)
 refused_within None None after failed fault wrong is h other = inr tt
@@ -107,7 +107,8 @@ pub told_undone : (status : ℕ) → (status ≡ 1) ⊎ (status ≡ 111) → sta
 told_undone status (inl refused) zero = omega (arith, refused, zero)
 told_undone status (inr failed) zero = omega (arith, failed, zero)
 
--- a reader that failed while the input was opened had failed before, where there is one, or where it is the text that is refused
+-- a reader that failed while the input was opened had failed before, where there is an input or where
+-- it is the text that is refused
 pub opened_sound : {T E P Q : Type 0} (r : Result T E) (x : T) (e : E) → r ≡ Ok x → P ⊎ (r ≡ Err e) → P ⊎ Q
 opened_sound r x e is (inl before) = inl before
 opened_sound r x e is (inr read) = let no : ⊥ = cc in absurd no
@@ -148,7 +149,7 @@ wrong_base None remaining after failed fault wrong is h bad = absurd bad
 wrong_base (Some base) remaining after failed fault wrong is h bad =
     let (input, reads, refused, why) = subst (IsOpenFault (Some base) remaining after failed) is h in refused
 
--- a text is refused for a wrong base, or where all was read to the end, or for want of memory
+-- a text is refused for a wrong base, or where all was read to the end, or where memory runs out
 pub refused_end : (base remaining after : Option (List ℕ)) (failed : Type 0) (fault : OpenFault) (wrong : TextFault) → fault ≡ unopened.OfText wrong → IsOpenFault base remaining after failed fault → wrong ≢ text.Memory
     → IsWrongBase base ⊎ IsAtEnd after
 refused_end None remaining after failed fault wrong is h other =

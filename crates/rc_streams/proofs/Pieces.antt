@@ -87,7 +87,7 @@ pub no_success : {T E : Type 0} (r : Result T E) (P : Type 0) → IsErr r → On
 no_success (Ok x) P fails = absurd (false≢true fails)
 no_success (Err failure) P fails = tt
 
--- a failure is want of memory
+-- it fails where memory runs out, and for nothing else
 pub by_memory : {T : Type 0} (r : Result T Failure) (P : Failure → Type 0) → IsErrAnd r (λ failure. failure ≡ Memory) → P Memory → IfErr r P
 by_memory (Ok x) P is holds = absurd is
 by_memory (Err failure) P is holds = subst P (sym is) holds
