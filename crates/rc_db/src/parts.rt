@@ -6,12 +6,24 @@ use thiserror::Error;
 
 /// What a database is made of. A service is its place among the names: its description and what it
 /// needs stand at that place.
-#[derive(Debug, Drop)]
+#[derive(Debug)]
 pub struct Parts {
     pub names: Names,
     pub services: Vec<Service>,
     pub graph: Graph,
     pub table: Table,
+}
+
+// Not derived: a crate that lets one go calls this, and proves nothing of its parts.
+impl Drop for Parts {
+    fn drop(self) {
+        let Parts {
+            names: _,
+            services: _,
+            graph: _,
+            table: _,
+        } = self;
+    }
 }
 
 /// The parts do not fit together: lengths or bounds differ, a service's kind is a

@@ -8,7 +8,7 @@ use std::alloc::Global;
 use std::marker::Model;
 
 /// What a database says of one service, beside its name and what it needs.
-#[derive(Debug, Drop)]
+#[derive(Debug)]
 pub struct Service {
     /// A oneshot or a longrun.
     pub kind: Kind,
@@ -46,6 +46,21 @@ impl Model for Service {
     } };
 
     ghost invariant = { λ s. (s.limit_up < 2 ^ 32) × (s.limit_down < 2 ^ 32) };
+}
+
+// Not derived: a crate that lets one go calls this, and proves nothing of its parts.
+impl Drop for Service {
+    fn drop(self) {
+        let Service {
+            kind: _,
+            essential: _,
+            limit_up: _,
+            limit_down: _,
+            text_up: _,
+            text_down: _,
+            producer_for: _,
+        } = self;
+    }
 }
 
 impl Service {

@@ -35,7 +35,7 @@ pub returns-clause-names : goal.returns-clause-names
 returns-clause-names c = (after c).names
 
 -- the name is among the names where it was found
-there : (c : goal.After-drop-name-inside) → Contains c.args.self.now c.args.name
+there : (c : goal.After-drop-name) → Contains c.args.self.now c.args.name
 there c = is_there c.args.self.now c.args.name _ _ _ c.find.ensures.found c.text.ensures.bytes c.is_some.ensures c.if-is_some.true
 
 pub returns-then-is_some-clause-added : goal.returns-then-is_some-clause-added
