@@ -46,15 +46,35 @@ second() {
     count sh tests/fuzz.sh 30 1 crates/undorc/out/undorc
 }
 
-count rt ci
+# Whether each crate that has edits is proved, as far as the proofs have come.
+are_proved() {
+    for edits in crates/*/edits; do
+        crate=$(basename "$(dirname "$edits")")
+        grep -Eqs "rt: $crate (proved|is kept)" "$room"/*/said || return 1
+    done
+}
+
+{
+    count rt ci
+    : > "$room/ended"
+} &
+proofs=$!
+# What is proved last is programs, one after the other, so the edits need not wait for them.
+until [ -f "$room/ended" ] || are_proved; do
+    sleep 2
+done
+count tests/edits.py > "$room/edits" 2>&1 &
+edits=$!
+wait "$proofs"
 # The edits keep the processors busy, and the runs from outside mostly wait, so they go side by side; what
-# the runs say comes when the edits have been tried. Supervisors are given the machine for themselves, since
+# they say comes when the edits have been tried. Supervisors are given the machine for themselves, since
 # how soon they answer is what is looked at.
 first > "$room/first" 2>&1 &
 first=$!
 second > "$room/second" 2>&1 &
 second=$!
-count tests/edits.py
+wait "$edits"
+cat "$room/edits"
 wait "$first"
 cat "$room/first"
 wait "$second"

@@ -41,9 +41,9 @@ from dataclasses import dataclass, field, replace
 
 TOP = pathlib.Path(__file__).resolve().parent.parent
 KIT = pathlib.Path(subprocess.check_output(["rt", "doc"], text=True).strip()).parent
-# So many edits are tried in one run, which takes up to 4 GB.
-EDITS = 80
-RUN_BYTES = 4_000_000_000
+# So many edits are tried in one run, which takes up to 5 GB: a run reads all libraries first, so few are cheaper.
+EDITS = 130
+RUN_BYTES = 5_000_000_000
 # The second of the two ways in which a goal without a written answer is tried.
 BY_GRIND = "by_grind"
 # Errors that only miss a name that the edit took away show nothing of a contract.
