@@ -22,7 +22,7 @@ if [ -e bad ] && [ "$failed" -eq 0 ]; then
     echo 'FAILED: the rows of text were not run to their end'
 fi
 
-for topic in words inputs bounds pictures messages sessions scripts starting live locking oneshots update readme devices keeping memory drawn; do
+for topic in words inputs bounds pictures messages sessions scripts starting live locking oneshots update readme devices keeping memory held drawn; do
     # shellcheck source=/dev/null
     . "$here/outside/$topic.sh"
 done
