@@ -1,4 +1,3 @@
-mod Entries
 mod Fits
 mod Growing
 mod KindLemmas

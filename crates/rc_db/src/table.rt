@@ -1,10 +1,10 @@
-ghost use Rattle.std.specs.Prelude.{◌≡◌, ◌<◌, ◌↔◌, ◌⊎◌, ℕ, [], ◌∷◌, ◌++◌, length, All, Contains, Some, None, IfOk, OnOk, OnErr, IsTrue, slice_get};
+ghost use Rattle.std.specs.Prelude.{◌≡◌, ◌<◌, ◌↔◌, ◌⊎◌, ℕ, [], ◌∷◌, ◌++◌, length, All, Contains, Some, None, IfOk, IfErr, OnOk, OnErr, IsTrue, slice_get};
 ghost use Rattle.std.specs.Option.{option_copied};
 ghost use Rattle.rc_model.specs.Line.{IsChangedAt};
 ghost use Rattle.rc_model.specs.Names.{IsBefore};
 ghost use Rattle.rc_model.specs.Database.{names_of, value_of, IsTable};
+ghost use Rattle.rc_names.specs.Names.{IsGap};
 
-use indexmap::IndexMap;
 use rc_names::Name;
 use rc_set::{NoMem, Set};
 use std::alloc::Global;
@@ -16,26 +16,22 @@ pub const MAX_BUNDLES: u16 = 4096;
 
 /// Bundles in byte order of their names.
 ///
-/// Time: `len` and `at` take one step, `get` looks a name up, `set` and `clear` move the bundles
-/// after the name, `same` and `copy` grow with the table.
+/// Time: `len` and `at` take one step, `get` grows with the logarithm of the number of bundles,
+/// `set` and `clear` move the bundles after the name, `same` and `copy` grow with the table.
 #[derive(Debug)]
 pub struct Table {
     alloc: Global,
-    bundles: IndexMap<String, (Name, Set)>,
+    bundles: Vec<(Name, Set)>,
 }
 
 impl Model for Table {
-    ghost use Rattle.std.specs.Prelude.{◌≡◌, map};
-    ghost use Rattle.std.specs.String.{string_bytes};
-    ghost use Rattle.indexmap.specs.IndexMap.{keys, values};
-    ghost use Rattle.rc_model.specs.Database.{Bundles, names_of, IsTable};
+    ghost use Rattle.rc_model.specs.Database.{Bundles, IsTable};
 
     ghost Value = { Bundles };
 
-    ghost view = { λ t. values t.bundles };
+    ghost view = { λ t. t.bundles.items };
 
-    ghost invariant = { λ t. (map string_bytes (keys t.bundles) ≡ names_of (values t.bundles))
-        × IsTable (values t.bundles) };
+    ghost invariant = { λ t. IsTable t.bundles.items };
 }
 
 // Not derived: a crate that lets one go calls this, and proves nothing of its parts.
@@ -55,7 +51,7 @@ impl Table {
     {
         Table {
             alloc,
-            bundles: IndexMap::new(alloc),
+            bundles: Vec::new(alloc),
         }
     }
 
@@ -63,8 +59,10 @@ impl Table {
     pub fn get(&self, name: &str) -> Option<&Set>
         ensures { option_copied result ≡ value_of self.now name.now }
     {
-        let bundle = self.bundles.get(name)?;
-        Some(&bundle.1)
+        match self.place_of(name) {
+            Ok(place) => Some(&self.bundles[place].1),
+            Err(_) => None,
+        }
     }
 
     /// How many bundles there are. Their places are those below it.
@@ -125,14 +123,17 @@ impl Table {
         ensures table { OnOk result (IsChangedAt self.old name.now (Some set) self.new) }
         ensures same { OnErr result (self.new ≡ self.old) }
     {
-        if let Some(place) = self.bundles.get_index_of(name.text()) {
-            let old = mem::replace(&mut self.bundles[place].1, set);
-            return Ok(Some(old));
+        match self.place_of(name.text()) {
+            Ok(place) => {
+                let old = mem::replace(&mut self.bundles[place].1, set);
+                Ok(Some(old))
+            }
+            Err(place) => {
+                let name = name.copy(self.alloc)?;
+                self.bundles.insert(place, (name, set))?;
+                Ok(None)
+            }
         }
-        let key = String::from_str(self.alloc, name.text())?;
-        let name = name.copy(self.alloc)?;
-        self.bundles.insert_sorted(key, (name, set))?;
-        Ok(None)
     }
 
     /// Takes a name out, and tells the set that it had. Takes no memory.
@@ -140,9 +141,12 @@ impl Table {
         ensures value { result ≡ value_of self.old name.now }
         ensures table { IsChangedAt self.old name.now None self.new }
     {
-        match self.bundles.shift_remove(name) {
-            Some((_, set)) => Some(set),
-            None => None,
+        match self.place_of(name) {
+            Ok(place) => {
+                let (_, set) = self.bundles.remove(place);
+                Some(set)
+            }
+            Err(_) => None,
         }
     }
 }
@@ -154,10 +158,21 @@ impl Table {
         requires last { All (λ other. IsBefore other name.now) (names_of self.old) }
         ensures { OnOk result (self.new ≡ self.old ++ (name.now, set.now) ∷ []) }
     {
-        let key = String::from_str(self.alloc, name.text())?;
+        // The text tells that it is a name.
+        let _text = name.text();
         let bundle = (name.copy(self.alloc)?, set.copy(self.alloc)?);
-        self.bundles.insert(key, bundle)?;
+        self.bundles.push(bundle)?;
         Ok(())
+    }
+
+    // The place of the bundle of a name, or else that at which it would stand.
+    fn place_of(&self, name: &str) -> Result<usize, usize>
+        ensures found { IfOk result (λ place. slice_get (names_of self.now) place
+            ≡ Some name.now) }
+        ensures missing { IfErr result (λ place. IsGap (names_of self.now) name.now place) }
+        ensures table { IsTable self.now }
+    {
+        self.bundles.binary_search_by(|bundle| bundle.0.text().cmp(name))
     }
 }
 

@@ -1,50 +1,47 @@
-ghost use Rattle.std.specs.Prelude.{◌≡◌, ◌+◌, ◌<◌, ◌↔◌, [], false, length, Contains, IfOk, OnOk, OnErr, IfSome, IfNone, IsTrue, slice_get, if◌then◌else◌};
-ghost use Rattle.rc_names.specs.Names.{Adds};
+ghost use Rattle.std.specs.Prelude.{◌≡◌, ◌+◌, ◌<◌, ◌↔◌, [], false, length, Some, Contains, IfOk, IfErr, OnOk, OnErr, IfSome, IfNone, IsTrue, slice_get, if◌then◌else◌};
+ghost use Rattle.rc_names.specs.Names.{Adds, IsGap};
 ghost use Rattle.rc_model.specs.Names.{AreNames};
 
 use crate::NoMem;
 use crate::name::Name;
-use indexmap::IndexMap;
 pub use rc_model::MAX_NAMES;
 use std::alloc::Global;
 use std::marker::Model;
 
 /// A table of names in byte order. A name's id is its place.
+///
+/// Time: `len` and `name_of` take one step, `find` and `find_bytes` grow with the logarithm of the
+/// number of names, and `add` moves the names after the new one.
 #[derive(Debug)]
 pub struct Names {
-    alloc: Global,
-    table: IndexMap<String, Name>,
+    table: Vec<Name>,
 }
 
 impl Model for Names {
-    ghost use Rattle.std.specs.Prelude.{◌≡◌, ℕ, List, map};
-    ghost use Rattle.std.specs.String.{string_bytes};
-    ghost use Rattle.indexmap.specs.IndexMap.{keys, values};
+    ghost use Rattle.std.specs.Prelude.{ℕ, List};
     ghost use Rattle.rc_model.specs.Names.{AreNames};
 
     ghost Value = { List (List ℕ) };
 
-    ghost view = { λ names. values names.table };
+    ghost view = { λ names. names.table.items };
 
-    ghost invariant = { λ names. (map string_bytes (keys names.table) ≡ values names.table)
-        × AreNames (values names.table) };
+    ghost invariant = { λ names. AreNames names.table.items };
 }
 
 // Not derived: a crate that lets one go calls this, and proves nothing of its parts.
 impl Drop for Names {
     fn drop(self) {
-        let Names { alloc: _, table: _ } = self;
+        let Names { table: _ } = self;
     }
 }
 
 impl Names {
-    /// A table of no names, which keeps the allocator.
+    /// A table of no names.
     pub fn new(alloc: Global) -> Names
         ensures { result ≡ [] }
     {
         Names {
-            alloc,
-            table: IndexMap::new(alloc),
+            table: Vec::new(alloc),
         }
     }
 
@@ -61,12 +58,13 @@ impl Names {
         ensures present { Contains self.old name → (result ≡ Ok false) × (self.new ≡ self.old) }
         ensures err { OnErr result (self.new ≡ self.old) }
     {
-        if self.find(name.text()).is_some() {
-            return Ok(false);
+        match self.place_of(name.text()) {
+            Ok(_) => Ok(false),
+            Err(place) => {
+                self.table.insert(place, name)?;
+                Ok(true)
+            }
         }
-        let key = String::from_str(self.alloc, name.text())?;
-        self.table.insert_sorted(key, name)?;
-        Ok(true)
     }
 
     /// The id of a text, if it is among the names.
@@ -74,8 +72,10 @@ impl Names {
         ensures found { IfSome result (λ id. slice_get self.now id ≡ Some text.now) }
         ensures missing { IfNone result (Contains self.now text.now → ⊥) }
     {
-        let place = self.table.get_index_of(text)?;
-        Some(place as u16)
+        match self.place_of(text) {
+            Ok(place) => Some(place as u16),
+            Err(_) => None,
+        }
     }
 
     /// The id of a name that is given as bytes. Bytes that are no text are no name.
@@ -112,5 +112,13 @@ impl Names {
         ensures { IsTrue result ↔ (self.now ≡ []) }
     {
         self.table.is_empty()
+    }
+    // The place of a text among the names, or else that at which it would stand.
+    fn place_of(&self, text: &str) -> Result<usize, usize>
+        ensures found { IfOk result (λ place. slice_get self.now place ≡ Some text.now) }
+        ensures missing { IfErr result (λ place. IsGap self.now text.now place) }
+        ensures names { AreNames self.now }
+    {
+        self.table.binary_search_by(|name| name.text().cmp(text))
     }
 }

@@ -4,13 +4,12 @@ use Rattle.std.proofs.lemmas.Option.{slice_get-map, slice_get-get_or, slice_get_
 use Rattle.std.proofs.lemmas.Bool.{false_from_ne_true}
 use Rattle.std.proofs.lemmas.Slice.Eq.{bytes_eq-Decides}
 use Rattle.std.specs.Str.{bytes_eq}
-use Rattle.rc_names.proofs.Growth.{before_from}
 use Rattle.std.specs.Option.{option_map}
 use Rattle.rc_model.specs.Names.{IsBefore}
 use Rattle.rc_model.specs.Database.{names_of}
 use Rattle.rc_db.specs.Merging.{IsNext}
 use Rattle.rc_db.proofs.Fits.{on_true}
-use Rattle.rc_db.proofs.Listing.{less_from, on_false}
+use Rattle.rc_db.proofs.Listing.{before_from, less_from, on_false}
 use Rattle.rc_model.proofs.Places.{contains_at}
 use Rattle.rc_db.proofs.list.is_service_next.Goals as goal
 
