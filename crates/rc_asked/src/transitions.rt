@@ -9,7 +9,7 @@ use rc_graph::Way;
 use std::alloc::{AllocError, Global};
 
 /// A transition as it is named: which way the service of this name goes.
-#[derive(Clone, Copy, Debug)]
+#[derive(Clone, Copy)]
 pub struct Transition<'a> {
     pub way: Way,
     pub name: &'a [u8],

@@ -17,7 +17,7 @@ pub enum Start {
 
 /// What the workers share under one lock: the run, and whether they may begin. Contracts see the
 /// run.
-#[derive(Debug, Drop)]
+#[derive(Drop)]
 pub struct Board {
     pub(crate) run: Run,
     start: Start,

@@ -9,7 +9,7 @@ use std::alloc::Global;
 use std::marker::Model;
 
 /// What is seen of a run: its events so far, and where each service stands after them.
-#[derive(Debug, Drop)]
+#[derive(Drop)]
 pub struct Glance {
     standings: Vec<Standing>,
     events: Vec<Event>,

@@ -11,7 +11,7 @@ use std::alloc::Global;
 use std::marker::Model;
 
 /// The pad of one worker: its own events, in order.
-#[derive(Debug, Drop)]
+#[derive(Drop)]
 pub struct Pad {
     notes: Vec<Note>,
 }

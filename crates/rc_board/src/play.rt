@@ -23,7 +23,7 @@ use std::sync::{Condvar, Mutex, Wait};
 use std::thread::Threads;
 
 /// Why there is no settled run.
-#[derive(Clone, Copy, Debug)]
+#[derive(Clone, Copy)]
 pub(crate) enum Halt {
     Memory,
     /// Not all workers could be started, and nothing was taken.

@@ -21,7 +21,7 @@ use rc_graph::Way;
 use std::sync::{MutexGuard, Wait};
 
 /// A transition that a worker has made.
-#[derive(Clone, Copy, Debug)]
+#[derive(Clone, Copy)]
 pub(crate) struct Made {
     service: u16,
     way: Way,

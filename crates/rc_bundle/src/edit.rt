@@ -12,7 +12,7 @@ use std::cmp::Ordering;
 use std::marker::Model;
 
 /// A name whose set alters.
-#[derive(Debug, Drop)]
+#[derive(Drop)]
 struct Change {
     name: Name,
     before: Option<Set>,
@@ -38,7 +38,6 @@ impl Change {
 
 /// What a change alters in a table of bundles: each name whose set alters, with the set before and
 /// the set after, in byte order. It is empty where nothing alters.
-#[derive(Debug)]
 pub struct Edit {
     changes: Vec<Change>,
 }

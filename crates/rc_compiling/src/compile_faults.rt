@@ -12,7 +12,7 @@ use std::alloc::{AllocError, Global};
 use std::io::Write;
 
 /// Why trees give no text.
-#[derive(Debug, Drop)]
+#[derive(Drop)]
 pub enum TreesFault {
     /// A file is not what it is to be, or a device failed.
     Source(SourceFault),

@@ -11,7 +11,7 @@ use rc_set::{NoMem, Set};
 use std::alloc::Global;
 
 /// How many others each service waits for, and the services that wait for none.
-#[derive(Debug, Drop)]
+#[derive(Drop)]
 pub(crate) struct Ready {
     /// How many must still arrive before a service may be taken: of those that it needs, where
     /// it is to come up; of those that need it, where it is to go down.

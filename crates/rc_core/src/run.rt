@@ -36,7 +36,7 @@ pub struct NotLegal;
 /// the services and their pairs, `take_apart` with the services; `done` with those that the service
 /// needs or that need it; `step` of a take looks for the service among those that may be taken; the
 /// others take one step. So a whole run looks at each service and pair once.
-#[derive(Debug, Drop)]
+#[derive(Drop)]
 pub struct Run {
     pub(crate) graph: Graph,
     pub(crate) opening: Set,

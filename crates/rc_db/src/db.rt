@@ -17,7 +17,6 @@ use std::alloc::Global;
 use std::marker::Model;
 
 /// Services with their names, what they need, and the bundles that were compiled with them.
-#[derive(Debug)]
 pub struct Db {
     parts: Parts,
 }

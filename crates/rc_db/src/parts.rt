@@ -6,7 +6,6 @@ use thiserror::Error;
 
 /// What a database is made of. A service is its place among the names: its description and what it
 /// needs stand at that place.
-#[derive(Debug)]
 pub struct Parts {
     pub names: Names,
     pub services: Vec<Service>,

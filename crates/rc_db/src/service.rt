@@ -8,7 +8,6 @@ use std::alloc::Global;
 use std::marker::Model;
 
 /// What a database says of one service, beside its name and what it needs.
-#[derive(Debug)]
 pub struct Service {
     /// A oneshot or a longrun.
     pub kind: Kind,

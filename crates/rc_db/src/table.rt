@@ -18,7 +18,6 @@ pub const MAX_BUNDLES: u16 = 4096;
 ///
 /// Time: `len` and `at` take one step, `get` grows with the logarithm of the number of bundles,
 /// `set` and `clear` move the bundles after the name, `same` and `copy` grow with the table.
-#[derive(Debug)]
 pub struct Table {
     alloc: Global,
     bundles: Vec<(Name, Set)>,
@@ -172,7 +171,8 @@ impl Table {
         ensures missing { IfErr result (λ place. IsGap (names_of self.now) name.now place) }
         ensures table { IsTable self.now }
     {
-        self.bundles.binary_search_by(|bundle| bundle.0.text().cmp(name))
+        self.bundles
+            .binary_search_by(|bundle| bundle.0.text().cmp(name))
     }
 }
 

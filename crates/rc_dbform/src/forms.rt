@@ -17,14 +17,14 @@ use std::alloc::Global;
 use std::marker::Model;
 
 /// What follows the needs of a service.
-#[derive(Debug, Drop)]
+#[derive(Drop)]
 pub enum BodyForm {
     Longrun(Option<Name>),
     Oneshot(String, Option<String>),
 }
 
 /// A service as the text gives it.
-#[derive(Debug, Drop)]
+#[derive(Drop)]
 pub struct ServiceForm {
     pub head: Head,
     pub needs: Vec<Name>,
@@ -41,7 +41,7 @@ impl Model for ServiceForm {
 }
 
 /// A database as its text gives it.
-#[derive(Debug, Drop)]
+#[derive(Drop)]
 pub struct DbForm {
     pub services: Vec<ServiceForm>,
     pub bundles: Vec<BundleForm>,

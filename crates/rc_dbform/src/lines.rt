@@ -22,7 +22,7 @@ use std::marker::Model;
 const MAX_COUNT: u32 = 4096;
 
 /// What the first line of a service says.
-#[derive(Debug, Drop)]
+#[derive(Drop)]
 pub struct Head {
     pub name: Name,
     pub kind: Kind,

@@ -16,7 +16,6 @@ use std::sync::Arc;
 ///
 /// Time: `share`, `needs`, `needed_by`, `order` and `len` take one step. `closed`, `up_of` and
 /// `down_of` grow with the services and their pairs.
-#[derive(Debug)]
 pub struct Graph {
     pub(crate) lists: Arc<Lists, Global>,
 }
@@ -25,7 +24,7 @@ pub struct Graph {
 pub(crate) type Row = SmallVec<u16, 8>;
 
 /// What the handles to one graph share: what each service needs, who needs it, and the order.
-#[derive(Debug, Drop)]
+#[derive(Drop)]
 pub(crate) struct Lists {
     pub(crate) needs: Vec<Row>,
     pub(crate) needed_by: Vec<Row>,

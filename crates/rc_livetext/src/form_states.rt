@@ -18,7 +18,7 @@ use std::marker::Model;
 const MAX_BUNDLES: usize = 4096;
 
 /// A state as the text gives it.
-#[derive(Debug, Drop)]
+#[derive(Drop)]
 pub struct StateForm {
     pub live: Vec<Name>,
     pub bundles: Vec<BundleForm>,

@@ -10,7 +10,7 @@ use std::alloc::Global;
 use std::marker::Model;
 
 /// A line of states as its text gives it.
-#[derive(Debug, Drop)]
+#[derive(Drop)]
 pub struct LiveForm {
     pub services: Vec<Name>,
     /// How many states there may be, where the text says so.

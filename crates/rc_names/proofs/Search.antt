@@ -38,7 +38,7 @@ module _ {X : Type 0} (bytes : X → List ℕ) (xs : List X) (texts : List (List
           stands = λ e. get_or_from_slice_get xs k at.0 e at.2;
           shows = shows;
           reads = λ d. get_or_from_slice_get texts k (bytes at.0) d shows;
-        }
+        },
       ))
       (λ past. absurd (omega arith))
       (slice_get_cases xs k).1
@@ -70,11 +70,11 @@ module _ {X : Type 0} (bytes : X → List ℕ) (xs : List X) (texts : List (List
           record {
             within = omega (arith, as_long, within);
             before = λ k d low inside.
-            let at = shown_at k (omega arith) in
-            rw (at.1.reads d) (subst (λ x. IsBefore (bytes x) text) (at.1.stands at.0) (met.0 k at.0 low inside));
+                let at = shown_at k (omega arith) in
+                rw (at.1.reads d) (subst (λ x. IsBefore (bytes x) text) (at.1.stands at.0) (met.0 k at.0 low inside));
             after = λ k d low inside.
-            let here : k < length xs = omega (arith, as_long) in
-            let at = shown_at k here in
-            rw (at.1.reads d) (turned (bytes at.0) text (subst (λ x. slice_cmp nat_cmp (bytes x) text ≡ Greater) (at.1.stands at.0) (met.1 k at.0 low here)));
-          }
+                let here : k < length xs = omega (arith, as_long) in
+                let at = shown_at k here in
+                rw (at.1.reads d) (turned (bytes at.0) text (subst (λ x. slice_cmp nat_cmp (bytes x) text ≡ Greater) (at.1.stands at.0) (met.1 k at.0 low here)));
+          },
         )

@@ -12,7 +12,6 @@ use std::marker::Model;
 ///
 /// Time: `len` and `name_of` take one step, `find` and `find_bytes` grow with the logarithm of the
 /// number of names, and `add` moves the names after the new one.
-#[derive(Debug)]
 pub struct Names {
     table: Vec<Name>,
 }

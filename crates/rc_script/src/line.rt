@@ -11,7 +11,7 @@ use rc_session::Step;
 use std::alloc::{AllocError, Global};
 
 /// What a session line says.
-#[derive(Debug, Drop)]
+#[derive(Drop)]
 pub enum SessionLine {
     /// An empty line or a comment. It has no answer.
     Nothing,

@@ -9,7 +9,7 @@ use rc_select::{Mode, Request};
 use std::alloc::Global;
 
 /// What one letter or one limit in front of a line chooses.
-#[derive(Clone, Copy, PartialEq, Eq, Debug)]
+#[derive(Clone, Copy, PartialEq, Eq)]
 pub(crate) enum Choice {
     /// Bring up; so it is without a way.
     Up,
@@ -26,7 +26,7 @@ pub(crate) enum Choice {
 }
 
 /// What the choices in front of a line come to.
-#[derive(Clone, Copy, Debug)]
+#[derive(Clone, Copy)]
 pub(crate) struct Chosen {
     up: bool,
     down: bool,

@@ -12,7 +12,6 @@ use std::alloc::Global;
 use std::marker::Model;
 
 /// What a change does to the services that are up.
-#[derive(Debug)]
 pub struct Plan {
     opening: Set,
     lower: Set,

@@ -1,7 +1,7 @@
 pub use rc_model::{Mode, PlanFault};
 
 /// What a change is asked to do.
-#[derive(Debug, Drop)]
+#[derive(Drop)]
 pub struct Request {
     pub mode: Mode,
     /// On the way up: what is not wanted goes down, but for what essential services hold up.

@@ -9,7 +9,7 @@ use std::alloc::Global;
 
 /// What a change leads to: what is to be up in the end, and the essential services that
 /// stay although they were to go.
-#[derive(Debug, Drop)]
+#[derive(Drop)]
 pub(crate) struct Sides {
     pub(crate) target: Set,
     pub(crate) kept: Set,

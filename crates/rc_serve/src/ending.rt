@@ -17,7 +17,7 @@ pub enum Ending {
 }
 
 /// The answer to a line, and how that ends.
-#[derive(Debug, Drop)]
+#[derive(Drop)]
 pub(crate) struct Answer {
     pub text: Vec<u8>,
     pub ending: Ending,

@@ -19,7 +19,6 @@ use std::marker::Model;
 pub type NoMem = AllocError;
 
 /// A set of ids below a bound that is fixed when the set is made.
-#[derive(Debug)]
 pub struct Set {
     words: Vec<u64>,
     bound: u16,

@@ -1,7 +1,7 @@
 use rc_names::{Kind, Name};
 
 /// What the files of a service directory say of the service or bundle of its name.
-#[derive(Debug, Drop)]
+#[derive(Drop)]
 pub struct Definition {
     pub name: Name,
     pub kind: Kind,

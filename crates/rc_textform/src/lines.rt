@@ -8,7 +8,7 @@ use std::alloc::{AllocError, Global};
 use std::marker::Model;
 
 /// A bundle as a text gives it.
-#[derive(Debug, Drop)]
+#[derive(Drop)]
 pub struct BundleForm {
     pub name: Name,
     pub members: Vec<Name>,
