@@ -8,6 +8,12 @@ trap 'rm -rf "$room"' EXIT
 : > "$room/counts"
 : > "$room/spent"
 
+# How many crates are proved at a time: one a processor, as far as there are 4 GB for each.
+lanes() {
+    awk -v processors="$(nproc)" '/^MemAvailable:/ { room = int($2 / 4000000) }
+        END { print room < 1 ? 1 : room < processors ? room : processors }' /proc/meminfo
+}
+
 # Runs a command whose last line counts what passed and what failed, and notes that. A command that
 # ends badly without saying what failed is one failure.
 count() {
@@ -54,8 +60,10 @@ are_proved() {
     done
 }
 
+# With a number of lanes of its own `rt ci` gives each crate one processor; else the last crate has all, and
+# costs a fifth more.
 {
-    count rt ci
+    count env RT_JOBS="$(lanes)" rt ci
     : > "$room/ended"
 } &
 proofs=$!
