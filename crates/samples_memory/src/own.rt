@@ -24,7 +24,7 @@ pub enum Given {
 }
 
 /// As many names, in their order, as a table has room for before it grows.
-static NINE: [&str; 9] = ["b", "c", "d", "e", "f", "g", "h", "i", "j"];
+static TEXTS: [&str; 8] = ["b", "c", "d", "e", "f", "g", "h", "i"];
 
 /// As many needs of the first service as stand in a list that has taken no memory.
 const EIGHT: [u16; 8] = [1, 2, 3, 4, 5, 6, 7, 8];
@@ -51,7 +51,7 @@ fn show_end(rt: &impl Print, own: Own) -> io::Result<()> {
 fn on_names(rt: &(impl Print + AllocGlobal), what: &str) -> Own {
     let mut names = Names::new(rt.alloc());
     let came = add_named(rt, what, &mut names);
-    let is_same = are_nine(&names);
+    let is_same = are_eight(&names);
     drop(names);
     match came {
         Ok(came) => Ok((came, is_same)),
@@ -59,21 +59,21 @@ fn on_names(rt: &(impl Print + AllocGlobal), what: &str) -> Own {
     }
 }
 
-/// Names the call on nine names, and makes it.
+/// Names the call on eight names, and makes it.
 fn add_named(
     rt: &(impl Print + AllocGlobal),
     what: &str,
     names: &mut Names,
 ) -> Result<Result<(), NoMem>, NoMem> {
-    add_nine(rt.alloc(), names)?;
+    add_eight(rt.alloc(), names)?;
     let added = name_of(rt.alloc(), "a")?;
     let again = added.copy(rt.alloc())?;
     let _ = print!(rt; "{what}: ");
     Ok(named(rt, names, added, again))
 }
 
-fn add_nine(alloc: Global, names: &mut Names) -> Result<(), NoMem> {
-    for text in &NINE {
+fn add_eight(alloc: Global, names: &mut Names) -> Result<(), NoMem> {
+    for text in &TEXTS {
         add(names, name_of(alloc, text)?)?;
     }
     Ok(())
@@ -93,14 +93,14 @@ fn named(rt: &impl Print, names: &mut Names, added: Name, again: Name) -> Result
     add(names, again)
 }
 
-fn are_nine(names: &Names) -> bool {
+fn are_eight(names: &Names) -> bool {
     for id in 0..names.len() {
         let text = names.name_of(id).text();
-        if NINE.get(id as usize) != Some(&text) || names.find(text) != Some(id) {
+        if TEXTS.get(id as usize) != Some(&text) || names.find(text) != Some(id) {
             return false;
         }
     }
-    names.len() == 9 && names.find("a").is_none()
+    names.len() == 8 && names.find("a").is_none()
 }
 
 fn show_draft(rt: &(impl Print + AllocGlobal), what: &str) -> io::Result<()> {
@@ -145,7 +145,7 @@ fn on_table(rt: &(impl Print + AllocGlobal), what: &str) -> Own {
 }
 
 fn put_beside_copy(rt: &(impl Print + AllocGlobal), what: &str, table: &mut Table) -> Own {
-    put_nine(rt.alloc(), table)?;
+    put_eight(rt.alloc(), table)?;
     let before = table.copy(rt.alloc())?;
     let came = put_named(rt, what, table);
     let is_same = table.same(&before);
@@ -156,8 +156,8 @@ fn put_beside_copy(rt: &(impl Print + AllocGlobal), what: &str, table: &mut Tabl
     }
 }
 
-fn put_nine(alloc: Global, table: &mut Table) -> Result<(), NoMem> {
-    for text in &NINE {
+fn put_eight(alloc: Global, table: &mut Table) -> Result<(), NoMem> {
+    for text in &TEXTS {
         if table.len() < MAX_BUNDLES {
             put(alloc, table, text, set_of(alloc, 5, &[2])?)?;
         }
