@@ -16,7 +16,6 @@ pub mod SetMembers
 pub mod StandingLemmas
 pub mod Standings
 pub mod StrictLemmas
-pub mod Table
 pub mod Tables
 pub mod Telling
 pub mod Texts
