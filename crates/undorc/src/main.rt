@@ -1,25 +1,18 @@
 //! `undorc`: hands the process's words, files and streams to the library.
 #![tactic(auto)]
 
-mod answers;
-mod asking;
-mod compiling;
-mod hints;
 mod live_store;
 mod own_name;
 mod sessions;
-mod terminal;
 mod updates;
 mod usual;
 
-use crate::asking::{db, plan, replay};
-use crate::compiling::compile;
-use crate::hints::tell_failure;
 use crate::own_name::OwnName;
 use crate::sessions::{once, session};
 use crate::updates::update;
 use crate::usual::{Usual, usual_at};
 use rc_asked::{Task, task_of, tell_words};
+use rc_console::{compile, db, plan, replay, tell_failure};
 use std::env;
 use std::io::{self, ErrorKind};
 use std::process::ExitCode;

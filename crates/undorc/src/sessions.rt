@@ -3,21 +3,19 @@ ghost use Rattle.std.specs.Prelude.{◌≤◌, IfSome};
 ghost use Rattle.rc_board.specs.Crew.{IsCrew};
 ghost use Rattle.rc_asked.specs.OnceAsked.{HasNoEvents, once_ask_of};
 
-use crate::answers::Answers;
-use crate::asking::base_at;
-use crate::hints::{Seen, ToldErrors, behind_session, tell_failure, tell_file};
 use crate::live_store::{LiveStore, keep_fault};
-use crate::terminal::Typed;
 use crate::usual::Usual;
 use rc_asked::{Once, OnceRequest, SessionRequest};
 use rc_cli::once_as_asked;
+use rc_console::{
+    Answers, Seen, ToldErrors, Typed, base_at, behind_session, live_at, tell_failure, tell_file,
+};
 use rc_hints::Told;
 use rc_script::SessionLine;
 use rc_sessions::{LiveFile, TextKeeper, session_as_asked};
 use rc_streams::Noted;
 use rc_streams::live_lock::{LiveLock, LockFault};
-use std::fs;
-use std::io::{self, ErrorKind};
+use std::io;
 use std::sync::Wait;
 use std::thread::Threads;
 
@@ -222,28 +220,6 @@ pub fn tell_lock(rt: &HostRuntime, file: Option<&str>, fault: &LockFault) -> u8 
     match fault {
         LockFault::Busy => tell_failure(rt, "undorc: Busy"),
         LockFault::Failed(error) => tell_file(rt, file.unwrap_or(""), error),
-    }
-}
-
-/// The bytes of the file of `-l`, where one is named and is there.
-pub fn live_at(rt: &HostRuntime, file: Option<&str>) -> io::Result<Option<Vec<u8>>> {
-    let Some(path) = file else {
-        return Ok(None);
-    };
-    // A pipe would be waited for, and a device may have no end.
-    if let Ok(found) = fs::metadata(rt, path) {
-        if !found.is_file() && !found.is_dir() {
-            return Err(io::Error::from(ErrorKind::InvalidInput));
-        }
-    }
-    match fs::read(rt, path) {
-        Ok(bytes) => Ok(Some(bytes)),
-        Err(error) => {
-            if error.kind() == ErrorKind::NotFound {
-                return Ok(None);
-            }
-            Err(error)
-        }
     }
 }
 

@@ -2,12 +2,12 @@
 ghost use Rattle.std.specs.Prelude.{◌≤◌};
 ghost use Rattle.rc_board.specs.Crew.{IsCrew};
 
-use crate::hints::{Seen, ToldErrors, behind_session, tell_file};
 use crate::live_store::LiveStore;
-use crate::sessions::{live_at, live_file, lock_at, tell_lock};
+use crate::sessions::{live_file, lock_at, tell_lock};
 use crate::usual::Usual;
 use rc_asked::{UpdateRequest, WordsFault, tell_words};
 use rc_cli::update_as_asked;
+use rc_console::{Seen, ToldErrors, behind_session, live_at, tell_file};
 use rc_hints::Told;
 use rc_names::NoMem;
 use rc_sessions::TextKeeper;

@@ -1,21 +1,13 @@
 //! `db`, `plan` and `replay`, on the database of a file or at the beginning of standard input.
+use crate::files::{base_at, live_at};
 use crate::hints::{Seen, behind_database, behind_session, tell_file};
-use crate::sessions::live_at;
 use crate::terminal::Typed;
 use rc_asked::DbRequest;
 use rc_hints::Told;
 use rc_queries::{db_as_asked, plan_as_asked, replay_as_asked};
 use rc_select::Request;
 use rc_streams::Noted;
-use std::{fs, io};
-
-/// The bytes of the file of `-b`, if one is named.
-pub fn base_at(rt: &HostRuntime, file: Option<&str>) -> io::Result<Option<Vec<u8>>> {
-    match file {
-        Some(path) => Ok(Some(fs::read(rt, path)?)),
-        None => Ok(None),
-    }
-}
+use std::io;
 
 /// Answers a question about a database, and gives the status. A file of a session that is not there
 /// is one of a session with nothing up.
