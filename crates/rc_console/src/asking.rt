@@ -1,9 +1,9 @@
 //! `db`, `plan` and `replay`, on the database of a file or at the beginning of standard input.
+use crate::fault_lines::Told;
 use crate::files::{base_at, live_at};
 use crate::hints::{Seen, behind_database, behind_session, tell_file};
 use crate::terminal::Typed;
 use rc_asked::DbRequest;
-use rc_hints::Told;
 use rc_queries::{db_as_asked, plan_as_asked, replay_as_asked};
 use rc_select::Request;
 use rc_streams::Noted;

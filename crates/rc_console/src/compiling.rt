@@ -1,8 +1,8 @@
 //! `compile`: the database of source directories, on standard output or in a file.
+use crate::fault_lines::Told;
 use crate::hints;
 use rc_asked::CompileRequest;
 use rc_compiling::{compile_run, tell_trees, text_of};
-use rc_hints::Told;
 use rc_names::NoMem;
 use rc_source::FolderTree;
 use rc_streams::Noted;

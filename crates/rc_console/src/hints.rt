@@ -1,10 +1,9 @@
 //! The lines after a fault, for people: where it is, and what helps. They change no status, and
 //! where nothing is found, or memory is short, there are none.
+use crate::databases::{behind_end, database_hint, lacking_hint, live_hint, near_hint};
+use crate::fault_lines::Told;
 use rc_asked::{CompileRequest, DbRequest, Query};
-use rc_hints::{
-    Sources, Told, behind_end, compile_hint, database_hint, lacking_hint, live_hint,
-    looks_like_entry, near_hint, unread_files, word_of,
-};
+use rc_hints::{Hint, Sources, compile_hint, looks_like_entry, unread_files, word_of};
 use rc_names::NoMem;
 use rc_queries::{db_as_asked, query_hint};
 use rc_streams::Noted;
@@ -16,9 +15,6 @@ const FAILED: u8 = 111;
 
 /// A fault writer that keeps what was told.
 pub type ToldErrors = Told<Stderr>;
-
-/// What may help, or nothing; only memory can be short.
-type Hint = Result<Option<String>, NoMem>;
 
 /// What helps after what `compile` told, and what was not looked at.
 pub fn behind_compile(rt: &HostRuntime, request: &CompileRequest<'_>, told: &ToldErrors) {

@@ -8,6 +8,8 @@
 mod answers;
 mod asking;
 mod compiling;
+mod databases;
+mod fault_lines;
 mod files;
 mod hints;
 mod terminal;
@@ -15,6 +17,7 @@ mod terminal;
 pub use crate::answers::Answers;
 pub use crate::asking::{db, plan, replay};
 pub use crate::compiling::compile;
+pub use crate::fault_lines::Told;
 pub use crate::files::{base_at, live_at};
 pub use crate::hints::{Seen, ToldErrors, behind_session, tell_failure, tell_file};
 pub use crate::terminal::Typed;

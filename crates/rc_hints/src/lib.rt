@@ -4,10 +4,8 @@
 #![tactic(auto)]
 
 mod chains;
-mod databases;
 mod entries;
 mod entry_flaws;
-mod fault_lines;
 mod file_flaws;
 mod listed;
 mod name_flaws;
@@ -19,12 +17,12 @@ mod search;
 mod slips;
 mod unread;
 
-pub use crate::databases::{behind_end, database_hint, lacking_hint, live_hint, near_hint};
 pub use crate::entries::Sources;
-pub use crate::fault_lines::Told;
 pub use crate::file_flaws::word_of;
+pub use crate::listed::{first_word, text_of};
 pub use crate::name_flaws::{WrongName, wrong_name};
-pub use crate::places::line_at;
+pub use crate::places::{cut_at, line_at};
 pub use crate::refusals::compile_hint;
+pub use crate::said::{Hint, Said};
 pub use crate::slips::{is_one_edit, nearest};
 pub use crate::unread::{looks_like_entry, unread_files};

@@ -1,7 +1,7 @@
 //! Files that list names, line by line.
 
 /// The text of a file; none where its bytes are none.
-pub(crate) fn text_of(bytes: &[u8]) -> &str {
+pub fn text_of(bytes: &[u8]) -> &str {
     std::str::from_utf8(bytes).unwrap_or("")
 }
 
@@ -52,7 +52,7 @@ pub(crate) fn is_among(words: &[&str], word: &str) -> bool {
 }
 
 /// What stands before the first space, or all of it.
-pub(crate) fn first_word(words: &str) -> &str {
+pub fn first_word(words: &str) -> &str {
     match words.split_once(' ') {
         Some((word, _)) => word,
         None => words,

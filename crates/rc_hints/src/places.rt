@@ -24,7 +24,7 @@ pub(crate) fn offset_of(text: &[u8], byte: u8) -> Option<usize> {
 }
 
 /// What stands before the first such byte, and what after.
-pub(crate) fn cut_at(bytes: &[u8], byte: u8) -> (&[u8], &[u8]) {
+pub fn cut_at(bytes: &[u8], byte: u8) -> (&[u8], &[u8]) {
     let end = offset_of(bytes, byte).unwrap_or(bytes.len());
     let front = bytes.get(..end).unwrap_or(bytes);
     match bytes.get(end..) {

@@ -7,19 +7,19 @@ use std::alloc::{AllocError, Global};
 use std::io::{self, ErrorKind};
 
 /// What may help after a fault, or nothing; only memory can be short.
-pub(crate) type Hint = Result<Option<String>, NoMem>;
+pub type Hint = Result<Option<String>, NoMem>;
 
 /// What was said so far, and whether memory was short for any of it.
 #[derive(Drop)]
-pub(crate) struct Said {
-    pub alloc: Global,
+pub struct Said {
+    pub(crate) alloc: Global,
     text: String,
     is_short: bool,
 }
 
 impl Said {
     /// Nothing is said yet.
-    pub(crate) fn new(alloc: Global) -> Said {
+    pub fn new(alloc: Global) -> Said {
         Said {
             alloc,
             text: String::new(alloc),
@@ -28,7 +28,7 @@ impl Said {
     }
 
     /// What was said, if anything was.
-    pub(crate) fn hint(self) -> Hint {
+    pub fn hint(self) -> Hint {
         if self.is_short {
             return Err(AllocError);
         }
@@ -51,13 +51,13 @@ impl Said {
     }
 
     /// Adds a text.
-    pub(crate) fn add(&mut self, text: &str) {
+    pub fn add(&mut self, text: &str) {
         let added = self.text.push_str(text);
         self.note(added);
     }
 
     /// Adds three texts.
-    pub(crate) fn add_row(&mut self, first: &str, second: &str, third: &str) {
+    pub fn add_row(&mut self, first: &str, second: &str, third: &str) {
         self.add(first);
         self.add(second);
         self.add(third);
@@ -71,7 +71,7 @@ impl Said {
     }
 
     /// Adds a colon, and the number of a line.
-    pub(crate) fn add_number(&mut self, number: usize) {
+    pub fn add_number(&mut self, number: usize) {
         let added = write!(self.text, ":{number}");
         self.note(added);
     }

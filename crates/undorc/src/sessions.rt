@@ -8,9 +8,9 @@ use crate::usual::Usual;
 use rc_asked::{Once, OnceRequest, SessionRequest};
 use rc_cli::once_as_asked;
 use rc_console::{
-    Answers, Seen, ToldErrors, Typed, base_at, behind_session, live_at, tell_failure, tell_file,
+    Answers, Seen, Told, ToldErrors, Typed, base_at, behind_session, live_at, tell_failure,
+    tell_file,
 };
-use rc_hints::Told;
 use rc_script::SessionLine;
 use rc_sessions::{LiveFile, TextKeeper, session_as_asked};
 use rc_streams::Noted;

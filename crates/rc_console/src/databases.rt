@@ -1,8 +1,5 @@
 //! What helps where a text is no database, or no session's, or a name is not in a database.
-use crate::listed::{first_word, text_of};
-use crate::places::{cut_at, line_at};
-use crate::said::{Hint, Said};
-use crate::slips::is_one_edit;
+use rc_hints::{Hint, Said, cut_at, first_word, is_one_edit, line_at, text_of};
 use rc_names::NoMem;
 use std::alloc::Global;
 
