@@ -1,8 +1,8 @@
-//! What the program does towards people and files, and needs no threads for: the commands `compile`,
-//! `db`, `plan` and `replay`, a standard input that may be a terminal, answers after which the name
-//! is told that may have been meant, and the lines after a fault. No contract can say what files
-//! hold and what is told to people; what a command answers for what was read is said by the calls
-//! of `rc_compiling` and `rc_queries`.
+//! What the program does towards people and files, and needs no threads for: the commands
+//! `compile`, `db`, `plan` and `replay`, a standard input that may be a terminal, answers after
+//! which the name is told that may have been meant, and the lines after a fault. No contract can
+//! say what files hold and what is told to people; what a command answers for what was read is said
+//! by the calls of `rc_compiling` and `rc_queries`.
 #![tactic(auto)]
 
 mod answers;
