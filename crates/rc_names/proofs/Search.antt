@@ -1,4 +1,4 @@
--- What a search by a text finds in a list that shows names in byte order, and what an insert there leaves.
+-- What a search by a text finds in a list that shows names in byte order.
 use Rattle.std.proofs.Common.{◌≡◌, ℕ, ◌+◌, ◌<◌, ⊎_elim, List, length, get_or, map, slice_get, Some, Result, Ok, Err, IfOk, IfErr, arith, sym, ap, subst, ◌∙◌}
 use Rattle.std.proofs.lemmas.Cmp.{nat_list_cmp_total}
 use Rattle.std.proofs.lemmas.List.{length-map}
@@ -17,7 +17,8 @@ use Rattle.rc_names.specs.Names.{IsGap}
 turned : (a b : List ℕ) → slice_cmp nat_cmp a b ≡ Greater → IsBefore b a
 turned a b greater = nat_list_cmp_total.antisymm b a ∙ ap ordering_reverse greater
 
-module _ {X : Type 0} (bytes : X → List ℕ) (xs : List X) (texts : List (List ℕ)) (seen : map bytes xs ≡ texts) where
+module _ {X : Type 0} (bytes : X → List ℕ) (xs : List X) (texts : List (List ℕ))
+    (seen : map bytes xs ≡ texts) where
   as_long : length texts ≡ length xs
   as_long = ap length (sym seen) ∙ length-map xs bytes
 
@@ -32,7 +33,8 @@ module _ {X : Type 0} (bytes : X → List ℕ) (xs : List X) (texts : List (List
       ⊎_elim
       (λ at.
       let shows : slice_get texts k ≡ Some (bytes at.0) =
-      subst (λ ts. slice_get ts k ≡ option_map bytes (slice_get xs k)) seen (slice_get-map bytes xs k) ∙ ap (option_map bytes) at.2 in (
+      subst (λ ts. slice_get ts k ≡ option_map bytes (slice_get xs k)) seen
+      (slice_get-map bytes xs k) ∙ ap (option_map bytes) at.2 in (
         at.0,
         record {
           stands = λ e. get_or_from_slice_get xs k at.0 e at.2;
@@ -50,19 +52,25 @@ module _ {X : Type 0} (bytes : X → List ℕ) (xs : List X) (texts : List (List
         let one = shown_at k here in
         let next = shown_at (k + 1) within in
         let d' = bytes one.0 in
-        let up : IsBefore (get_or texts k d') (get_or texts (k + 1) d') = order k (k + 1) d' (omega arith) (omega (arith, as_long)) in
-        let before : IsBefore (bytes one.0) (bytes next.0) = rw (sym (one.1.reads d'), sym (next.1.reads d')) up in
+        let up : IsBefore (get_or texts k d') (get_or texts (k + 1) d') =
+        order k (k + 1) d' (omega arith) (omega (arith, as_long)) in
+        let before : IsBefore (bytes one.0) (bytes next.0) =
+        rw (sym (one.1.reads d'), sym (next.1.reads d')) up in
         let down : is_lt (slice_cmp nat_cmp (bytes next.0) (bytes one.0)) ≡ is_lt Greater =
-        ap is_lt (nat_list_cmp_total.antisymm (bytes next.0) (bytes one.0) ∙ ap ordering_reverse before) in
+        ap is_lt (nat_list_cmp_total.antisymm (bytes next.0) (bytes one.0)
+        ∙ ap ordering_reverse before) in
         rw (one.1.stands d, next.1.stands d) down
 
     -- the place of a text, or else that at which it would stand
-    pub place_of : (r : Result ℕ ℕ) → IsSearchInRange r (length xs) → IsBinarySearchResult (λ x. slice_cmp nat_cmp (bytes x) text) xs r
-        → IfOk r (λ place. slice_get texts place ≡ Some text) × IfErr r (λ place. IsGap texts text place)
+    pub place_of : (r : Result ℕ ℕ) → IsSearchInRange r (length xs)
+        → IsBinarySearchResult (λ x. slice_cmp nat_cmp (bytes x) text) xs r
+        → IfOk r (λ place. slice_get texts place ≡ Some text)
+        × IfErr r (λ place. IsGap texts text place)
     place_of (Ok place) within equal =
         let at = shown_at place within in
         let same : bytes at.0 ≡ text =
-        same_text (bytes at.0) text (subst (λ x. slice_cmp nat_cmp (bytes x) text ≡ Equal) (at.1.stands at.0) (equal at.0)) in
+        same_text (bytes at.0) text (subst (λ x. slice_cmp nat_cmp (bytes x) text ≡ Equal)
+        (at.1.stands at.0) (equal at.0)) in
         (at.1.shows ∙ ap Some same, tt)
     place_of (Err place) within parted =
         let met = parted (searchable_from_sorted nat_list_cmp_total bytes xs text sorted) in (
@@ -71,10 +79,12 @@ module _ {X : Type 0} (bytes : X → List ℕ) (xs : List X) (texts : List (List
             within = omega (arith, as_long, within);
             before = λ k d low inside.
                 let at = shown_at k (omega arith) in
-                rw (at.1.reads d) (subst (λ x. IsBefore (bytes x) text) (at.1.stands at.0) (met.0 k at.0 low inside));
+                rw (at.1.reads d) (subst (λ x. IsBefore (bytes x) text) (at.1.stands at.0)
+                (met.0 k at.0 low inside));
             after = λ k d low inside.
                 let here : k < length xs = omega (arith, as_long) in
                 let at = shown_at k here in
-                rw (at.1.reads d) (turned (bytes at.0) text (subst (λ x. slice_cmp nat_cmp (bytes x) text ≡ Greater) (at.1.stands at.0) (met.1 k at.0 low here)));
+                rw (at.1.reads d) (turned (bytes at.0) text (subst (λ x. slice_cmp nat_cmp
+                (bytes x) text ≡ Greater) (at.1.stands at.0) (met.1 k at.0 low here)));
           },
         )
