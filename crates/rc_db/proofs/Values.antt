@@ -81,29 +81,38 @@ changed_at old new name value now = record {
     is_false true h = absurd (h refl)
     is_false false h = refl
 
-module _ (bundle : List ℕ × List Bool) (rest : Bundles) (order : IsInByteOrder (names_of (bundle ∷ rest))) where
+module _ (bundle : List ℕ × List Bool) (rest : Bundles) (order : IsInByteOrder (names_of
+    (bundle ∷ rest))) where
   later_order : IsInByteOrder (names_of rest)
   later_order = order_tail bundle.0 (names_of rest) order
 
   -- the first bundle's name is no later one's
-  is_later : (i : ℕ) (name : List ℕ) → slice_get (names_of rest) i ≡ Some name → bytes_eq bundle.0 name ≡ false
+  is_later : (i : ℕ) (name : List ℕ) → slice_get (names_of rest) i ≡ Some name
+      → bytes_eq bundle.0 name ≡ false
   is_later i name there =
-      let head = order_head bundle.0 (names_of rest) order i name (slice_get_within (names_of rest) i name there) in
+      let head = order_head bundle.0 (names_of rest) order i name (slice_get_within
+      (names_of rest) i name there) in
       let P : List ℕ → Type 0 = λ n. IsBefore bundle.0 n in
       apart bundle.0 name (subst P (get_or_from_slice_get (names_of rest) i name name there) head)
 
 -- the name of a place, and the set there, are a bundle
-pub value_at : (table : Bundles) (i : ℕ) (name : List ℕ) (set : List Bool) → IsInByteOrder (names_of table) → slice_get table i ≡ Some (name, set) → value_of table name ≡ Some set
+pub value_at : (table : Bundles) (i : ℕ) (name : List ℕ) (set : List Bool)
+    → IsInByteOrder (names_of table) → slice_get table i ≡ Some (name, set)
+    → value_of table name ≡ Some set
 value_at [] i name set order there = let bad : None ≡ Some (name, set) = there in cc
 value_at (bundle ∷ rest) zero name set order there =
     let same : bundle ≡ (name, set) = cc in
-    subst (λ (b : List ℕ × List Bool). cond (bytes_eq name b.0) (Some b.1) (value_of rest name) ≡ Some set) (sym same)
+    subst (λ (b : List ℕ × List Bool). cond (bytes_eq name b.0) (Some b.1)
+    (value_of rest name) ≡ Some set) (sym same)
     (ap (λ b. cond b (Some set) (value_of rest name)) ((bytes_eq-Decides name name).1 refl))
 value_at (bundle ∷ rest) (suc i) name set order there =
     let tail : slice_get rest i ≡ Some (name, set) = there in
-    let shown : slice_get (names_of rest) i ≡ Some name = slice_get-map (λ b. b.0) rest i ∙ ap (option_map (λ b. b.0)) tail in
-    let differ : bytes_eq name bundle.0 ≡ false = nat_list_eq_equiv.symm name bundle.0 ∙ is_later bundle rest order i name shown in
-    ap (λ b. cond b (Some bundle.1) (value_of rest name)) differ ∙ value_at rest i name set (later_order bundle rest order) tail
+    let shown : slice_get (names_of rest) i ≡ Some name = slice_get-map (λ b. b.0) rest i
+    ∙ ap (option_map (λ b. b.0)) tail in
+    let differ : bytes_eq name bundle.0 ≡ false = nat_list_eq_equiv.symm name bundle.0
+    ∙ is_later bundle rest order i name shown in
+    ap (λ b. cond b (Some bundle.1) (value_of rest name)) differ
+    ∙ value_at rest i name set (later_order bundle rest order) tail
 
 -- a set written at the place of its name
 pub set_at : (table : Bundles) (i : ℕ) (name : List ℕ) (set : List Bool) → IsInByteOrder (names_of table) → slice_get (names_of table) i ≡ Some name
@@ -118,13 +127,18 @@ set_at table i name set order there = record { at = λ q. go table i order there
         rw same (sym (twice (bytes_eq q name) (Some set) (Some bundle.1) (value_of rest q)))
     go (bundle ∷ rest) (suc i) order there q =
         let tail : slice_get (names_of rest) i ≡ Some name = there in
-        ap (λ v. cond (bytes_eq q bundle.0) (Some bundle.1) v) (go rest i (later_order bundle rest order) tail q)
-        ∙ swap (bytes_eq q bundle.0) (bytes_eq q name) (Some bundle.1) (Some set) (value_of rest q) (not_both q bundle.0 name (is_later bundle rest order i name tail))
+        ap (λ v. cond (bytes_eq q bundle.0) (Some bundle.1) v) (go rest i
+        (later_order bundle rest order) tail q)
+        ∙ swap (bytes_eq q bundle.0) (bytes_eq q name) (Some bundle.1) (Some set)
+        (value_of rest q) (not_both q bundle.0 name (is_later bundle rest order i name tail))
 
-pub names_of-put : (table : Bundles) (i : ℕ) (name : List ℕ) (set : List Bool) → slice_get (names_of table) i ≡ Some name → names_of (put table i (name, set)) ≡ names_of table
+pub names_of-put : (table : Bundles) (i : ℕ) (name : List ℕ) (set : List Bool)
+    → slice_get (names_of table) i ≡ Some name → names_of (put table i (name, set)) ≡ names_of table
 names_of-put [] i name set there = refl
-names_of-put (bundle ∷ rest) zero name set there = let same : bundle.0 ≡ name = cc in ap (λ n. n ∷ names_of rest) (sym same)
-names_of-put (bundle ∷ rest) (suc i) name set there = ap (λ ns. bundle.0 ∷ ns) (names_of-put rest i name set there)
+names_of-put (bundle ∷ rest) zero name set there = let same : bundle.0 ≡ name =
+    cc in ap (λ n. n ∷ names_of rest) (sym same)
+names_of-put (bundle ∷ rest) (suc i) name set there =
+    ap (λ ns. bundle.0 ∷ ns) (names_of-put rest i name set there)
 
 -- a bundle put in between
 put_between : (before after : Bundles) (name : List ℕ) (set : List Bool) → value_of (before ++ after) name ≡ None → (q : List ℕ)
@@ -159,15 +173,22 @@ distinct (name ∷ names) order = (differ names (order_head name names order), d
     differ (n ∷ ns) all = (apart name n (all 0 n (omega arith)), differ ns (λ k d within. all (suc k) d (omega arith)))
 
 -- what is removed at the place of a name is its bundle
-pub remove_at : (table : Bundles) (i : ℕ) (name : List ℕ) → IsInByteOrder (names_of table) → slice_get (names_of table) i ≡ Some name
+pub remove_at : (table : Bundles) (i : ℕ) (name : List ℕ) → IsInByteOrder (names_of table)
+    → slice_get (names_of table) i ≡ Some name
     → remove table i ≡ remove_entry (bytes_eq name) table
-remove_at [] i name order there = absurd (omega (arith, slice_get_within (names_of []) i name there))
+remove_at [] i name order there = absurd (omega (
+  arith,
+  slice_get_within
+      (names_of []) i name there,
+))
 remove_at (bundle ∷ rest) zero name order there =
     let same : bundle.0 ≡ name = cc in
-    ap (λ b. cond b rest (bundle ∷ remove_entry (bytes_eq name) rest)) (sym ((bytes_eq-Decides name bundle.0).1 (sym same)))
+    ap (λ b. cond b rest (bundle ∷ remove_entry (bytes_eq name) rest)) (sym
+    ((bytes_eq-Decides name bundle.0).1 (sym same)))
 remove_at (bundle ∷ rest) (suc i) name order there =
     let tail : slice_get (names_of rest) i ≡ Some name = there in
-    let differ : bytes_eq name bundle.0 ≡ false = nat_list_eq_equiv.symm name bundle.0 ∙ is_later bundle rest order i name tail in
+    let differ : bytes_eq name bundle.0 ≡ false = nat_list_eq_equiv.symm name bundle.0
+    ∙ is_later bundle rest order i name tail in
     ap (λ t. bundle ∷ t) (remove_at rest i name (later_order bundle rest order) tail)
     ∙ ap (λ b. cond b rest (bundle ∷ remove_entry (bytes_eq name) rest)) (sym differ)
 
