@@ -70,13 +70,15 @@ controls 100 restart plain down
 
 # A wish outlives the supervisor, both ways.
 controls 0 up plain up
+was=$(number plain)
 kills_supervisor plain
-until_so is_state plain unsupervised
-holds 'what is up comes up behind a killed supervisor' until_so is_state plain up
+holds 'the scanner starts another supervisor' until_so is_replaced plain
+holds 'what is up comes up behind a killed supervisor' until_so is_another plain "$was"
 orphans plain
 controls 0 down plain down
 kills_supervisor plain
-until_so is_state plain unsupervised
+holds 'the scanner starts another supervisor again' until_so is_replaced plain
+sleep 1
 holds 'what is down stays down behind a killed supervisor' until_so is_state plain down
 
 # One that is ended by TERM takes its wish back; so does one whose supervisor dies while it waits.

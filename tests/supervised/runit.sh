@@ -46,9 +46,10 @@ checked() {
     chmod +x "services/$1/check"
 }
 
-# ready_after NAME SECONDS: a longrun that is ready after so long
+# ready_after NAME SECONDS: a longrun that is ready after so long. The file of an earlier life has
+# another process id.
 ready_after() {
-    checked "$1" "rm -f ready; sleep $2; : > ready; exec sleep 1000" 'test -e ready'
+    checked "$1" "sleep $2; echo \$\$ > ready; exec sleep 1000" 'cmp -s ready supervise/pid'
 }
 
 # never_ready NAME: one that never says that it is

@@ -125,17 +125,31 @@ is_state() {
     [ "$(state "$1")" = "$2" ]
 }
 
-# kills_supervisor NAME: by KILL the process that supervises it, a child of the scanner in its folder
-kills_supervisor() {
+# supervisor_of NAME: prints the process id of its supervisor, a child of the scanner
+supervisor_of() {
     at=$(realpath "scan/$1")
     for process in /proc/[0-9]*; do
         if [ "$(readlink "$process/cwd")" = "$at" ] && grep -q "^[^)]*) [A-Z] $scanner " "$process/stat"; then
-            kill -KILL "${process#/proc/}"
-            return
+            echo "${process#/proc/}"
         fi
     done 2> /dev/null
-    echo "no supervisor of $1"
-    return 1
+}
+# kills_supervisor NAME: sends it KILL
+kills_supervisor() {
+    killed=$(supervisor_of "$1")
+    if [ -z "$killed" ]; then
+        echo "no supervisor of $1"
+        return 1
+    fi
+    kill -KILL "$killed"
+}
+# is_replaced NAME: whether another supervisor has come after the killed one
+is_replaced() {
+    case $(supervisor_of "$1") in '' | "$killed") return 1 ;; esac
+}
+# is_another NAME NUMBER: whether it is up as another process
+is_another() {
+    is_state "$1" up && [ "$(number "$1")" != "$2" ]
 }
 # orphans NAME: ends the daemons of this name that no supervisor has any more
 orphans() {
