@@ -24,7 +24,7 @@ entry() {
 }
 # finds LINES: what it says of these, and nothing else
 finds() {
-    if [ -z "$1" ]; then expect 0 '' '' '' tree; else expect 1 "$1" '' '' tree; fi
+    if [ -z "$1" ]; then expect 0 '' '' '' -l tree; else expect 1 "$1" '' '' -l tree; fi
     rm -r tree
     entry oneshot disk
     entry longrun web
@@ -51,6 +51,21 @@ finds 'tree/web: no readiness\n'
 mv tree/web/notification-fd tree/web/check
 chmod +x tree/web/check
 finds ''
+
+# Without -l, one line on standard error counts the limits that are not set, and nothing is found.
+rm tree/disk/timeout-up tree/web/timeout-up tree/web/timeout-down
+expect 0 '' 'lint: 3 limits are not set, and are 120000 ms; -l lists them\n' '' tree
+export UNDORC_USUAL=0
+expect 1 'tree/disk/timeout-up: no limit\ntree/web/timeout-up: no limit\ntree/web/timeout-down: no limit\n' '' '' tree
+unset UNDORC_USUAL
+finds 'tree/disk/timeout-up: no limit\ntree/web/timeout-up: no limit\ntree/web/timeout-down: no limit\n'
+
+# Ends of pipelines that init does not join, a logger that gets nothing, and names that are taken.
+echo log > tree/web/producer-for
+mkdir tree/web/log
+chmod -x tree/web/run
+entry longrun undorc-pipes
+finds 'tree/undorc-pipes: name is taken\ntree/web/run: no right to run\ntree/web/producer-for: not joined\ntree/web/log: log gets nothing\n'
 
 # The right to run.
 chmod -x tree/web/run
@@ -80,7 +95,7 @@ finds 'tree/all/dependencies: nobody reads it\ntree/disk/depends: nobody reads i
 mkdir tree/.hidden tree/none tree/daemon
 : > tree/readme
 echo daemon > tree/daemon/type
-finds 'tree/daemon: no type, or none that there is; undorc refuses it\ntree/none: no type, or none that there is; undorc refuses it\n'
+finds 'tree/daemon: no type, or an unknown one; undorc refuses it\ntree/none: no type, or an unknown one; undorc refuses it\n'
 expect 1 'tree/web: it looks like an entry: name the directory above it\nnowhere: no directory\n' '' '' tree/web nowhere tree
-expect 100 '' 'usage: lint SOURCE..\n' ''
+expect 100 '' 'usage: lint [-l] SOURCE..\n' ''
 tally
