@@ -34,7 +34,10 @@ for supervisor in s6 runit; do
 "
         continue
     fi
-    for kind in controllers readme 1 4 64; do
+    kinds='controllers 1 4 64'
+    # The README sets a machine up under s6.
+    [ "$supervisor" != s6 ] || kinds="$kinds readme"
+    for kind in $kinds; do
         name=$supervisor.$kind
         sh "$here/supervised/machine.sh" "$program" "$supervisor" "$kind" > "$room/$name" 2>&1 &
         machines="$machines $!"

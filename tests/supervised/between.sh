@@ -29,7 +29,7 @@ judges 'a fifo loses nothing while its reader is away' 0
 
 # A name that shells read otherwise.
 does 0 'raised *\\nx\nok\n' "$folder/manage" change '*\nx'
-does 0 '' "$folder/../drift" "$folder"
+does 0 '' "$folder/drift"
 does 0 'lowered *\\nx\nok\n' "$folder/manage" undo
 
 # `sv` takes the words of a controller as they are.

@@ -68,7 +68,7 @@ wait "$session" 2> killed || true
 until_so is_state slow up
 wants 'slow: not live, but up wanted\n' ''
 echo 0 > status
-"$folder/../drift" "$folder" > out 2> err || echo $? > status
+"$folder/drift" > out 2> err || echo $? > status
 judges 'drift behind a session that was killed' 1
 does 0 'raised slow web\nok\n' "$folder/manage" change web
 
@@ -76,7 +76,7 @@ does 0 'raised slow web\nok\n' "$folder/manage" change web
 drifts() {
     wants "$2" ''
     echo 0 > status
-    "$folder/../drift" "$folder" > out 2> err || echo $? > status
+    "$folder/drift" > out 2> err || echo $? > status
     judges 'drift' "$1"
 }
 drifts 0 ''
@@ -106,7 +106,6 @@ judges 'an update that is shown' 0
 "$folder/manage" update -B "$room/new" > out 2> told || echo $? > status
 wants 'lowered web\nok\nraised web\nok\n' ''
 judges 'an update' 0
-mv new db
 numbers > numbers.after
 holds 'an update leaves the processes alone that it does not name' cmp -s numbers.before numbers.after
 does 0 'ok\n' "$folder/manage" change web

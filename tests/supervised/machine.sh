@@ -6,7 +6,8 @@ here=$(realpath "$(dirname "$0")/..")
 program=$(realpath "$1")
 supervisor=$2
 kind=$3
-folder=$(realpath "$here/../contrib/$supervisor")
+folder=$(realpath "$here/../contrib/machine")
+export UNDORC_SUPERVISOR="$supervisor"
 # shellcheck source=../library.sh
 . "$here/library.sh"
 # shellcheck source=s6.sh
