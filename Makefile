@@ -5,7 +5,7 @@ PREFIX ?= /usr/local
 PROGRAM := crates/undorc/out/undorc
 SOURCES := $(shell find crates -name out -prune -o -type f -print) crates.txt
 
-.PHONY: build demo model pages test install release
+.PHONY: build demo model pages test install uninstall release
 
 # Only a proved crate is built, so the first build proves everything below the program. `make test`
 # builds the program too.
@@ -29,9 +29,13 @@ pages:
 test:
 	@sh tests/all.sh
 
-# The program, the man pages, the completion and contrib.
+# The program, the man pages, the completion, contrib and the documents.
 install: build
 	DESTDIR="$(DESTDIR)" PREFIX="$(PREFIX)" sh packaging/install.sh $(PROGRAM)
+
+# What `make install` installed under this PREFIX, and nothing else.
+uninstall:
+	DESTDIR="$(DESTDIR)" PREFIX="$(PREFIX)" sh packaging/uninstall.sh
 
 # An archive of what `make install` copies, with what was proved.
 release: build

@@ -1,7 +1,8 @@
 #!/bin/sh
 # Makes the archive of a release: packaging/release.sh PROGRAM FOLDER. It holds the program, the man
-# pages, the completion, contrib, what `make install` there needs, a file PROVED that says what was
-# proved, and the sum of each file. The same program of the same commit gives the same archive.
+# pages, the completion, contrib, the documents, what `make install` there needs, a file PROVED that
+# says what was proved and which C library the program needs, and the sum of each file. The same
+# program of the same commit gives the same archive.
 set -eu
 program=$(realpath "$1")
 folder=$(realpath "$2")
@@ -13,8 +14,8 @@ trap 'rm -rf "$room"' EXIT
 made=$room/$name
 mkdir "$made" "$made/packaging"
 install -m 755 "$program" "$made/undorc"
-cp -R man contrib "$made"
-cp packaging/install.sh "$made/packaging"
+cp -R man contrib docs README.md LICENSE "$made"
+cp packaging/install.sh packaging/uninstall.sh "$made/packaging"
 cp packaging/Makefile "$made/Makefile"
 
 # The commit, and how the gate ended where it was run on this very program.
@@ -26,8 +27,15 @@ sum=$(sha256sum < "$program" | cut -d ' ' -f 1)
 kept=crates/undorc/out/gate
 gate='not kept for this program'
 [ ! -f "$kept" ] || ! grep -q "^program $sum\$" "$kept" || gate=$(sed -n 's/^gate //p' "$kept")
+# The newest version of glibc that the program names; a program without one is linked statically.
+library=$(grep -a -o 'GLIBC_2\.[0-9]*' "$program" | sort -u -t . -k 2n | tail -n 1 | tr _ ' ')
+case $library in
+    '') library='none' ;;
+    *) library="glibc ${library#* }, or a later one; musl does not run it" ;;
+esac
 cat > "$made/PROVED" <<END
 program: sha256 $sum
+C library: $library
 commit: $commit$changed
 kit: $(rt version 2> /dev/null || echo unknown)
 last line of the gate: $gate

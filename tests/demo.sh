@@ -64,6 +64,9 @@ show() {
 if [ -x "$program" ] && [ -z "$(newer)" ]; then
     proved=yes
     run_proved
+elif ! command -v rt > /dev/null; then
+    echo 'rt is not on PATH. It is the command of the Rattle kit, which README.md names.' >&2
+    exit 127
 else
     proved=no
     echo 'Compiling the program as it stands, with nothing proved: a minute or two ..'

@@ -29,7 +29,7 @@ installs() {
     cat said
 }
 
-# Every file of contrib and man is installed, under the prefix, and the program runs there.
+# Every file of contrib, man and docs is installed, under the prefix, and the program runs there.
 DESTDIR=$room/copied PREFIX=/usr installs sh "$top/packaging/install.sh" "$program" > out
 to=$room/copied/usr
 cmp "$program" "$to/bin/undorc" >> out 2>&1 || true
@@ -38,9 +38,14 @@ for file in "$top"/man/*; do
 done
 (cd "$top/contrib" && find . -path ./completion -prune -o -type f -print) > files
 while IFS= read -r file; do
-    cmp "$top/contrib/$file" "$to/share/undorc/$file" >> out 2>&1 || true
+    # One word of the settings differs.
+    sed 's|UNDORC_PROGRAM:=/usr/bin/undorc}|UNDORC_PROGRAM:=undorc}|' "$to/share/undorc/$file" |
+        cmp "$top/contrib/$file" - >> out 2>&1 || true
     [ ! -x "$top/contrib/$file" ] || [ -x "$to/share/undorc/$file" ] || echo "$file: no right to run"
 done < files >> out
+(cd "$top" && find README.md LICENSE docs -type f) | while IFS= read -r file; do
+    cmp "$top/$file" "$to/share/doc/undorc/$file" 2>&1 || true
+done >> out
 for file in bash-completion/completions/undorc zsh/site-functions/_undorc \
     fish/vendor_completions.d/undorc.fish; do
     [ -s "$to/share/$file" ] || echo "$file is missing" >> out
@@ -51,6 +56,47 @@ told 'what is installed'
 find copied -type f ! -path copied/usr/bin/undorc ! -path 'copied/usr/share/*' > out
 : > out.wanted
 told 'nothing is installed beside the prefix'
+
+# The scripts call the program by its full path, whatever PATH has.
+(
+    UNDORC_SUPERVISOR=s6
+    # shellcheck source=../contrib/machine/settings
+    . "$to/share/undorc/machine/settings"
+    echo "$UNDORC_PROGRAM"
+) > out
+echo /usr/bin/undorc > out.wanted
+told 'the settings name the program by its full path'
+
+# What is removed: all of that, and nothing else.
+cp -R copied removed
+echo mine > removed/usr/share/undorc/machine/mine
+removes() {
+    DESTDIR=$room/removed PREFIX=/usr MAKEFLAGS='' make -s -C "$top" uninstall
+}
+installs removes > out
+(cd removed && find . -type f) >> out
+echo ./usr/share/undorc/machine/mine > out.wanted
+told 'make uninstall removes what was installed, and nothing else'
+(cd removed && find usr/share/doc usr/share/undorc -type d | sort) > out
+printf '%s\n' usr/share/doc usr/share/undorc usr/share/undorc/machine > out.wanted
+told 'make uninstall removes its own directories'
+if removes > said 2>&1; then echo 'it is done twice' > out; else grep -c 'is not installed under' said > out; fi
+echo 1 > out.wanted
+told 'a second make uninstall says that nothing is installed'
+
+# Without the kit, `make build` and `make demo` say so at once.
+if ! PATH=/usr/bin:/bin command -v rt > /dev/null; then
+    for target in build demo; do
+        status=0
+        PATH=/usr/bin:/bin MAKEFLAGS='' timeout 5 make -s -C "$top" "PROGRAM=$room/no/program" "$target" \
+            > out 2> said || status=$?
+        echo "$target: $status" >> out
+        sed '/^make/d' said >> out
+        printf '%s: 2\n%s\n' "$target" \
+            'rt is not on PATH. It is the command of the Rattle kit, which README.md names.' > out.wanted
+        told "make $target without the kit"
+    done
+fi
 
 # The archive, in an empty folder.
 mkdir once again unpacked
@@ -78,6 +124,10 @@ told 'each file has its sum'
 } > out
 { sha256sum < "$program" | cut -d ' ' -f 1; echo 3; } > out.wanted
 told 'the archive says what was proved'
+newest=$(grep -a -o 'GLIBC_2\.[0-9]*' "$program" | sort -u -t . -k 2n | tail -n 1)
+sed -n 's/^C library: \(glibc 2\.[0-9]*\), .*/\1/p' "$unpacked/PROVED" > out
+echo "glibc ${newest#GLIBC_}" > out.wanted
+told 'the archive names the C library that the program needs'
 
 # `make install` there copies the same, with nothing but what is in the archive, and no proof.
 : > out
