@@ -36,8 +36,8 @@ count() {
 first() {
     count sh tests/program.sh crates/undorc/out/undorc
     count sh tests/pages.sh crates/undorc/out/undorc
-    count sh tests/packaging.sh crates/undorc/out/undorc
-    count sh tests/tutorial.sh crates/undorc/out/undorc
+    count timeout -k 10 300 sh tests/packaging.sh crates/undorc/out/undorc
+    count timeout -k 10 300 sh tests/tutorial.sh crates/undorc/out/undorc
     count sh tests/growths.sh crates/scenarios_memory/out/scenarios_memory
     count sh tests/shells.sh
 }
@@ -87,7 +87,8 @@ wait "$first"
 cat "$room/first"
 wait "$second"
 cat "$room/second"
-count sh tests/supervised.sh crates/undorc/out/undorc
+count timeout -k 30 600 sh tests/supervised.sh crates/undorc/out/undorc
+count timeout -k 30 600 sh tests/machine.sh crates/undorc/out/undorc
 
 # What it cost: the clock, and of the processors user and system time of the last line of `times`.
 passed=$(awk '{ sum += $1 } END { print sum + 0 }' "$room/counts")

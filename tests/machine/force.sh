@@ -1,0 +1,44 @@
+# shellcheck shell=sh
+# A shutdown that ends: a daemon that ignores TERM on a mount, a script that fails, one that hangs,
+# and a session that another program holds.
+disk f
+oneshot mnt 'mount -t tmpfs x /mnt/x' 'umount /mnt/x'
+: > mnt/flag-essential
+longrun deaf "cd /mnt/x; trap '' TERM; while :; do sleep 1; done" mnt
+longrun above 'exec sleep 1000' deaf
+longrun good 'exec sleep 1000' mnt
+oneshot bad true 'echo no >&2; exit 3' mnt
+oneshot hang true 'sleep 1000' mnt
+timeout_of 4000 deaf above good bad hang
+bundle default above good bad hang
+start_scanner f
+step 'boot' 'status 0' 'undorc compile -o db services; machine/boot > /run/x'
+begun=$(date +%s)
+step 'shutdown' 'lowered above good
+failed bad deaf hang
+blocked mnt
+ok
+lowered bad deaf hang mnt
+ok
+status 2' machine/shutdown
+is 'it ends within 30 s' yes "$([ $(($(date +%s) - begun)) -gt 30 ] || echo yes)"
+is 'it names what it forced' 'down bad: status 3
+down deaf: killed
+down hang: status 124
+shutdown: by force now: bad deaf hang mnt' \
+    "$(told | grep -x -e 'shutdown: .*' -e 'down .*: killed' -e 'down .*: status .*' | sort)"
+is 'nothing is up, and nothing is mounted' 'live no' \
+    "$(script 'echo $(machine/manage live | head -n 1) $(mountpoint -q /mnt/x || echo no)')"
+step 'drift' 'status 0' machine/drift
+step 'a shutdown where all goes well' 'lowered good mnt
+ok
+status 0' 'machine/manage change good > /run/x; machine/shutdown'
+step 'a shutdown of nothing' 'ok
+status 0' machine/shutdown
+step 'a session that another program holds' 'status 111' '
+    flock /run/undorc/live.lock sleep 30 > /dev/null 2>&1 &
+    export UNDORC_SHUTDOWN=2000; sleep 0.3; machine/shutdown'
+is 'it says so' 'shutdown: another program holds /run/undorc/live; nothing was brought down' \
+    "$(told)"
+is 'only its owner may hold the lock' 600 "$(script 'stat -c %a /run/undorc/live.lock')"
+stop

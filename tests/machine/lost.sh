@@ -1,0 +1,10 @@
+# shellcheck shell=sh
+# Runs in a machine: prints for each producer which of its numbers the log lacks, or `whole`.
+for name in p1 p2; do
+    read -r last < "/run/n.$name"
+    grep "^$name " /run/logged/current | sort -k 2n -u | awk -v "last=$last" '
+        BEGIN { due = 1 }
+        $2 != due { gaps = gaps " " due "-" $2 - 1 }
+        { due = $2 + 1 }
+        END { print $1, gaps ? "without" gaps : due <= last ? "ends at " due - 1 : "whole" }'
+done

@@ -1,0 +1,158 @@
+# shellcheck shell=sh
+# A set of some fifty services as s6-rc takes it, with nothing edited: oneshots and longruns in
+# execline, pipelines, readiness, a daemon that crashes, and one that ignores TERM. A machine with a
+# real first process boots it, changes, undoes, updates, loses a command and a supervisor, shuts
+# down, and boots again.
+disk s
+
+# runs NAME TEXT [NEED..]: a longrun in execline
+runs() {
+    longrun "$@"
+    printf '#!/bin/execlineb -P\n%s\n' "$2" > "$1/run"
+}
+# logged NAME TEXT [NEED..]: a longrun in execline and its logger, which says when it is ready
+logged() {
+    runs "$@"
+    runs "$1-log" "s6-log -b -d 3 n3 s100000 /run/log/$1" logs
+    echo 3 > "$1-log/notification-fd"
+    pipe "$1" "$1-log"
+    echo "$1-pipeline" > "$1-log/pipeline-name"
+}
+# once NAME [NEED..]: a oneshot that leaves a directory
+once() {
+    name=$1
+    shift
+    oneshot "$name" "foreground { mkdir -p /run/once } mkdir -p /run/once/$name" \
+        "rm -rf /run/once/$name" "$@"
+}
+says_ready='foreground { fdmove 1 3 echo } fdclose 3 sleep 100000'
+chats='loopwhilex if { echo works } sleep 0.5'
+
+once root
+: > root/flag-essential
+oneshot logs 'mkdir -p /run/log' '' root
+for name in hostname lo sysctl modules swap seed utmp; do once "$name" root; done
+once fsck modules
+once cleanup fsck
+once net lo modules hostname
+once route net
+for name in udevd klogd syslogd; do logged "$name" "$chats" fsck; done
+for name in dbus ntpd sshd nginx redis; do logged "$name" "$chats" net; done
+for name in postgres php-fpm; do
+    logged "$name" "foreground { echo works } $says_ready" route
+    echo 3 > "$name/notification-fd"
+done
+for name in getty-1 getty-2 getty-3 getty-4 crond acpid smartd; do
+    runs "$name" 'sleep 100000' utmp
+done
+echo postgres >> nginx/dependencies
+runs collector "$chats" net
+runs forwarder 's6-log -b 1'
+runs archive 's6-log -b -d 3 n3 s100000 /run/log/archive' logs
+echo 3 > archive/notification-fd
+pipe collector forwarder
+pipe forwarder archive
+echo collecting > archive/pipeline-name
+runs flaky 'exit 1' net
+longrun legacy "trap '' TERM; while :; do sleep 0.2; done" net
+timeout_of 5000 legacy
+longrun slow "trap 'sleep 2; exit 0' TERM; while :; do sleep 0.2; done" net
+bundle basic root hostname lo sysctl modules swap seed utmp fsck cleanup net route
+bundle default basic udevd-pipeline klogd-pipeline syslogd-pipeline dbus-pipeline ntpd-pipeline \
+    sshd-pipeline nginx-pipeline redis-pipeline postgres-pipeline php-fpm-pipeline getty-1 \
+    getty-2 getty-3 getty-4 crond acpid smartd collecting legacy slow
+sed -i 's|/bin/sh -ec|execlineb -Pc|' ../machine/settings
+case $supervisor in
+    s6) begin=/etc/undorc/machine/first/s6/stage1 ;;
+    runit)
+        begin=runit
+        cp -a "$contrib"/machine/first/runit/* "$disk/upper/etc/runit/"
+        ;;
+esac
+
+# boots WHAT: a first process boots the set
+boots() {
+    start s sh -c "cd /etc/undorc; [ -e db ] || undorc compile -o db services; exec $begin"
+    within 60 'grep -q "^boot: status" /run/undorc/boot.log' || true
+    step "$1" 'boot: status 0
+status 0' 'tail -n 1 /run/undorc/boot.log'
+    [ "$(script 'tail -n 1 /run/undorc/boot.log')" = 'boot: status 0' ] ||
+        script 'grep -v "ok$\|started$" /run/undorc/boot.log'
+}
+# supervisor_of NAME: prints the process id of what supervises it
+supervisor_of() {
+    case $supervisor in
+        s6) script "pgrep -f '^s6-supervise $1\$'" ;;
+        runit) script "pgrep -f '^runsv $1\$'" ;;
+    esac
+}
+
+boots 'boot'
+step 'drift finds nothing' 'status 0' machine/drift
+within 20 'set -- /run/log/*/current; [ $# -eq 11 ] || exit
+    for log; do [ -s "$log" ] || exit; done' || true
+is 'each pipeline has its log' \
+    'archive dbus klogd nginx ntpd php-fpm postgres redis sshd syslogd udevd ' \
+    "$(script 'cd /run/log; for log in *; do [ ! -s $log/current ] || printf "%s " $log; done')"
+is 'nothing of them is in the catch-all log' 0 \
+    "$(script 'grep -c works /run/undorc/caught/current')"
+step 'a daemon that crashes' 'failed flaky
+ok
+status 2' 'machine/manage change flaky'
+step 'a change' 'lowered nginx nginx-log php-fpm postgres
+ok
+status 0' 'machine/manage change -d postgres php-fpm nginx-log | sed "s/ postgres-log//"'
+step 'its undo' 'raised nginx nginx-log php-fpm postgres
+ok
+status 0' 'machine/manage undo'
+
+# A command that is killed while a daemon is on its way: given again, it sets things right.
+script 'machine/manage change -d slow > /run/x 2>&1 &
+    sleep 1; kill -KILL "$!"; wait "$!"; sleep 3' 2> "$room/said"
+step 'a command after one that was killed' 'lowered slow
+ok
+status 0' 'machine/manage change -d slow'
+step 'the machine is whole again' 'raised slow
+ok
+status 0' 'machine/manage change default'
+orphan=$(daemon sshd)
+is 'a supervisor is killed' yes "$(script "kill -KILL $(supervisor_of sshd) && echo yes")"
+case $supervisor in s6) supervised='s6-svok' ;; runit) supervised='sv status' ;; esac
+is 'the scanner starts it again' yes \
+    "$(within 10 "[ \$($(daemon_text sshd)) != $orphan ] && $supervised /run/service/sshd" &&
+        echo yes)"
+script "kill -KILL $orphan"
+step 'drift finds nothing behind it' 'status 0' machine/drift
+
+step 'an update: a changed run, one that is gone, and one that is new' 'lowered crond ntpd
+ok
+raised ntpd
+ok
+status 0' 'sed -i "2i # renewed" services/ntpd/run; echo 9000 > services/ntpd/timeout-up
+    rm -r services/crond; sed -i /crond/d services/default/contents
+    mkdir services/cups; cp services/acpid/type services/acpid/run services/cups/
+    undorc compile -o new services; machine/manage update -B new'
+is 'it runs its new run' 1 "$(script 'grep -c renewed /run/service/ntpd/run.own')"
+is 'what is gone is out of the supervisor' no \
+    "$(script 'ls -d /run/service/crond 2> /dev/null || echo no')"
+step 'what is new comes up' 'raised cups
+ok
+status 0' 'machine/manage change cups'
+step 'drift finds nothing again' 'status 0' machine/drift
+
+# ends WHAT: the first process is asked to halt
+ends() {
+    case $supervisor in
+        s6) kill -USR1 "$first" ;;
+        runit) ask_runit 0 ;;
+    esac
+    read_shutdown
+    wait_end
+    is "$1" 130 "$status"
+    is "$1: what is forced" 'down legacy: killed,shutdown: status 2,' \
+        "$(grep -x -e 'down .*: killed' -e 'shutdown: status.*' <&7 | tr '\n' ,)"
+    exec 7<&-
+}
+ends 'the end'
+boots 'boot of the updated set'
+ends 'its end'

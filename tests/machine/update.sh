@@ -1,0 +1,123 @@
+# shellcheck shell=sh
+# An update: changed sources are copied and used from the next start on, new longruns come, old ones
+# go, and an update that was killed is finished by the next one.
+disk u
+oneshot net 'touch /run/net' 'rm -f /run/net'
+for name in a b gone below; do
+    longrun "$name" "echo v1 > /run/v.$name; exec sleep 1000" net
+done
+longrun needy 'exec sleep 1000' a
+bundle default a b gone needy
+# An entry may be a link.
+mv b ../kept
+ln -s ../kept b
+start_scanner u
+step 'boot' 'raised a b gone needy net
+ok
+status 0' 'undorc compile -o db services; machine/boot'
+step 'drift finds nothing' 'status 0' machine/drift
+script 'cd services
+    sed -i s/v1/v2/ a/run b/run
+    echo 9000 > a/timeout-up
+    rm -r gone
+    sed -i /gone/d default/contents
+    mkdir new
+    cp a/type a/run new/
+    sed -i s/v2/new/ new/run'
+step 'drift names changed sources' 'a: its source has changed since init was called
+b: its source has changed since init was called
+gone: its source has changed since init was called
+status 1' machine/drift
+step 'update -n moves nothing and renames nothing' 'lower a gone needy
+ok
+raise a needy
+ok
+there
+status 0' 'undorc compile -o new services; machine/manage update -B new -n
+    test -e new && echo there'
+step 'update' 'lowered a gone needy
+ok
+raised a needy
+ok
+status 0' 'machine/manage update -B new'
+is 'it names the longrun that keeps its old copy' \
+    'init: b: has its old copy until it starts again' "$(told | grep '^init: b')"
+is 'what it restarts runs its new run' v2 "$(script 'cat /run/v.a')"
+is 'what it leaves alone runs its old one' v1 "$(script 'cat /run/v.b')"
+is 'NEW has taken the place of the database' a,b,below,needy,new, \
+    "$(script 'test -e new || undorc db -b db list longruns | tr "\n" ,')"
+is 'the supervisor has the new longrun' 'new down' "$(script 'machine/says | grep ^new')"
+is 'nothing is left of the old one' '' \
+    "$(script 'ls -d /run/service/gone /run/undorc/services/gone 2> /dev/null')"
+step 'drift names the old copy' 'b: has its old copy until it starts again
+status 1' machine/drift
+step 'a restart' 'lowered b
+ok
+raised b
+ok
+status 0' 'machine/manage change -d b && machine/manage undo'
+is 'the restarted longrun runs its new run' v2 "$(script 'cat /run/v.b')"
+step 'drift finds nothing again' 'status 0' machine/drift
+
+# A crash starts the copy that is there, and a change the one that is staged.
+script "sed -i s/v2/v3/ services/b/run; machine/init; rm /run/v.b
+    kill -KILL $(daemon b)" 2> "$room/said"
+within 10 'test -e /run/v.b'
+is 'a crash starts the old copy' v2 "$(script 'cat /run/v.b')"
+step 'a change starts the new one' 'v3
+status 0' 'machine/manage change -d b > /run/x; machine/manage change b > /run/x; cat /run/v.b'
+
+# A logger of the supervisor's own comes and goes with the next start.
+step 'a logger that is new' 'lowered b
+ok
+raised b
+ok
+status 0' 'mkdir services/b/log; printf "#!/bin/sh\nexec s6-log n1 /run/b\n" > services/b/log/run
+    chmod +x services/b/log/run; sed -i "2i echo works" services/b/run; machine/init
+    machine/manage change -d b && machine/manage undo'
+within 10 'grep -q works /run/b/current'
+is 'it logs' works "$(script 'cat /run/b/current')"
+step 'a logger that is gone' 'lowered b
+ok
+raised b
+ok
+status 0' 'rm -r services/b/log; machine/init; machine/manage change -d b && machine/manage undo'
+is 'nothing of it is left' no "$(script 'ls -d /run/service/b/log 2> /dev/null || echo no')"
+
+# An update that was killed behind undorc, and before it renamed NEW.
+step 'an update after one that was killed' 'status 0' 'rm -r services/below
+    undorc compile -o new services
+    undorc update -b db -B new -l /run/undorc/live -c machine/controller > /run/x
+    machine/manage update -B new | grep -v ^refused; test ! -e new'
+is 'it finishes the first one' a,b,needy,new, \
+    "$(script 'undorc db -b db list longruns | tr "\n" ,')"
+
+# An update that is sent TERM: undorc ends with it, and the same command goes on.
+script 'echo 3 > services/needy/notification-fd; echo 20001 > services/needy/timeout-up
+    undorc compile -o new services'
+is 'an update that is sent TERM ends, and undorc with it' ended "$(script '
+    machine/manage update -B new > /run/x 2>&1 &
+    manager=$!
+    sleep 2
+    kill -TERM "$manager"
+    wait "$manager"
+    pgrep -x undorc > /run/x || echo ended')"
+stop
+
+# An update that can't lower everything.
+disk w
+oneshot net true 'exit 1'
+longrun deaf 'trap : TERM; while :; do sleep 0.1; done' net
+longrun a 'exec sleep 1000' net
+echo 1000 > deaf/timeout-down
+bundle default deaf a
+start_scanner w
+step 'boot with a daemon that ignores TERM' 'raised a deaf net
+ok
+status 0' 'undorc compile -o db services; machine/boot'
+step 'an update that can not lower it renames nothing' '1 there
+status 2' 'echo 5000 > services/deaf/timeout-up; echo 6000 > services/net/timeout-up
+    undorc compile -o new services
+    machine/manage update -B new > /run/x; ended=$?
+    echo $(grep -cx ok /run/x) $(test -e new && echo there); (exit $ended)'
+stop
