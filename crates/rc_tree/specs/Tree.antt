@@ -51,8 +51,8 @@ names_next source service folder =
 -- the names in a folder, in any order; none where no path leads through it
 abbrev pub IsListing : Source → List ℕ → List ℕ → Option (List (List ℕ)) → Type 0
 IsListing source service folder None = names_next source service folder ≡ []
-IsListing source service folder (Some names) =
-    (name : List ℕ) → Contains names name ↔ Contains (names_next source service folder) name
+IsListing source service folder (Some names) = (names ≢ [])
+    × ((name : List ℕ) → Contains names name ↔ Contains (names_next source service folder) name)
 
 -- the names of the service directories, in any order
 abbrev pub AreEntries : Source → List (List ℕ) → Type 0

@@ -11,7 +11,7 @@ pub returns-in-Ok-Some-clause-names : goal.returns-in-Ok-Some-clause-names
 returns-in-Ok-Some-clause-names g c = IfOk-weaker c.visible_names.result _ _
     (λ names gives source known. folder_gives (names_next source c.args.entry.now c.args.folder.now) (map string_bytes c.deref.result.now) names.items
     (subst (λ l. (name : List ℕ) → Contains (map string_bytes l) name ↔ Contains (names_next source c.args.entry.now c.args.folder.now) name) (sym c.deref.ensures.value)
-    (subst (λ o. IsListing source c.args.entry.now c.args.folder.now (option_map (λ names. map string_bytes names.items) o)) c.in-Ok-Some.field-0-is (c.in-Ok-Some.ensures.names source known)))
+    (subst (λ o. IsListing source c.args.entry.now c.args.folder.now (option_map (λ names. map string_bytes names.items) o)) c.in-Ok-Some.field-0-is (c.in-Ok-Some.ensures.names source known)).1)
     gives)
     c.visible_names.ensures.names
 
@@ -24,6 +24,6 @@ pub returns-in-Ok-Some-clause-fault : goal.returns-in-Ok-Some-clause-fault
 returns-in-Ok-Some-clause-fault g c = if_err_weaker c.visible_names.result _ _
     (λ flaw told no_memory source known. folder_stops source c.args.entry.now c.args.folder.now (map string_bytes c.deref.result.now)
     (subst (λ l. (name : List ℕ) → Contains (map string_bytes l) name ↔ Contains (names_next source c.args.entry.now c.args.folder.now) name) (sym c.deref.ensures.value)
-    (subst (λ o. IsListing source c.args.entry.now c.args.folder.now (option_map (λ names. map string_bytes names.items) o)) c.in-Ok-Some.field-0-is (c.in-Ok-Some.ensures.names source known)))
+    (subst (λ o. IsListing source c.args.entry.now c.args.folder.now (option_map (λ names. map string_bytes names.items) o)) c.in-Ok-Some.field-0-is (c.in-Ok-Some.ensures.names source known)).1)
     flaw (told no_memory).0 (told no_memory).1)
     c.visible_names.ensures.fault

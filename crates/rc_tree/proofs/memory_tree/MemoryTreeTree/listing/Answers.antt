@@ -1,4 +1,5 @@
-use Rattle.std.proofs.Common.{◌≡◌, ◌↔◌, ℕ, List, [], Contains, length, map, sym, ap, subst, ◌∙◌, string_bytes, vec_len, arith}
+use Rattle.std.proofs.lemmas.List.{length-map}
+use Rattle.std.proofs.Common.{◌≢◌, ◌==◌, true, false, ◌≡◌, ◌↔◌, ℕ, List, [], Contains, length, map, sym, ap, subst, ◌∙◌, string_bytes, vec_len, arith}
 use Rattle.std.specs.List.{filter_map}
 use Rattle.rc_tree.specs.Tree.{Source, path_of, next_name, names_of}
 use Rattle.rc_tree.specs.Shown.{shown_files}
@@ -28,4 +29,9 @@ returns-clause-names c =
     let P : Source → Type 0 = λ source. (name : List ℕ) → Contains names name ↔ Contains (filter_map (next_name inside) (names_of source.files)) name in
     let begins : c.as_str-2.result.now ≡ inside = c.as_str-2.ensures.value ∙ c.in_ok-beginning.ensures ∙ ap (λ f. path_of f []) (c.as_str.ensures.value ∙ c.in_ok-folder.ensures) in
     let found = gives (map string_bytes c.in_ok-names.names.items) _ (names_of (shown_files files)) c.as_str-2.result.now inside c.in_ok-names.ensures begins (names_of-shown string_bytes (λ v. v.items) files) in
-    of_known P c.args.self.now (subst P c.self.view_is (λ name. (λ h. subst (λ l. Contains l name) (sym found) h, λ h. subst (λ l. Contains l name) found h)))
+    let same : vec_len c.in_ok-names.names ≡ length c.in_ok-names.names.items = omega (arith, c.in_ok-names.names.ok.0) in
+    let some : names ≢ [] = λ e.
+    let zero : vec_len c.in_ok-names.names ≡ 0 = same ∙ sym (length-map c.in_ok-names.names.items string_bytes) ∙ ap length e in
+    let no : true ≡ false = subst (λ v. (v == 0) ≡ false) zero (sym c.is_empty.ensures ∙ c.if-is_empty.false) in
+    absurd cc in
+    λ source known. (some, of_known P c.args.self.now (subst P c.self.view_is (λ name. (λ h. subst (λ l. Contains l name) (sym found) h, λ h. subst (λ l. Contains l name) found h))) source known)
