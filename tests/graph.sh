@@ -4,6 +4,7 @@
 #   none    none needs another
 #   next    a chain: each needs the next by name
 #   before  a chain: each needs the one before
+#   shuffled  a chain in an order of its own, the same one each time
 #   fan     the first needs all others
 #   layers  layers of 64, each service needing the whole layer before
 #   random  each needs about 4 others, the same ones each time
@@ -20,6 +21,7 @@ awk -v form="$form" -v kind="$kind" -v count="$count" '
         words = ""
         if (kind == "next" && i + 1 < count) words = " " name(i + 1)
         if (kind == "before" && i > 0) words = " " name(i - 1)
+        if (kind == "shuffled" && rank[i] > 0) words = " " name(below[rank[i]])
         if (kind == "fan" && i == 0) for (j = 1; j < count; j++) words = words " " name(j)
         if (kind == "layers" && i >= 64) {
             first = int(i / 64) * 64 - 64
@@ -28,12 +30,13 @@ awk -v form="$form" -v kind="$kind" -v count="$count" '
         if (kind == "random") for (k = 0; k < many[i]; k++) words = words " " name(drawn[i, k])
         return words
     }
-    # Each service has a rank of its own, and needs services of lower ranks alone.
+    # Each service has a rank of its own, and needs services of lower ranks alone; in a chain, the one below it.
     function draw_needs(    i, j, k) {
         seed = 20261123
         for (i = 0; i < count; i++) rank[i] = i
         for (i = count - 1; i > 0; i--) { j = draw(i + 1); k = rank[i]; rank[i] = rank[j]; rank[j] = k }
-        for (i = 0; i < count; i++) for (k = 0; k < 8; k++) {
+        for (i = 0; i < count; i++) below[rank[i] + 1] = i
+        if (kind == "random") for (i = 0; i < count; i++) for (k = 0; k < 8; k++) {
             j = draw(count)
             if (rank[j] < rank[i]) put(i, j)
         }
@@ -46,8 +49,8 @@ awk -v form="$form" -v kind="$kind" -v count="$count" '
         drawn[i, place] = j
     }
     BEGIN {
-        if (kind !~ /^(none|next|before|fan|layers|random)$/ || form !~ /^(text|ninja)$/) exit 2
-        if (kind == "random") draw_needs()
+        if (kind !~ /^(none|next|before|shuffled|fan|layers|random)$/ || form !~ /^(text|ninja)$/) exit 2
+        if (kind ~ /^(shuffled|random)$/) draw_needs()
         if (form == "ninja") {
             print "rule up\n  command = true"
             for (i = 0; i < count; i++) print "build " name(i) ": up" needs(i)

@@ -20,6 +20,7 @@ use Rattle.rc_textform.proofs.NumberLines.{plain_numbered}
 use Rattle.rc_textform.proofs.Plain.{plain_from, plain_name, plain_names, plain_words, plain_decimal, no_words}
 use Rattle.rc_textform.proofs.WordLines.{each_cons}
 use Rattle.rc_dbform.proofs.LineReads.{IsKind}
+use Rattle.rc_dbform.proofs.LineTexts.{text_head, text_needs, text_producer, text_up, text_down, text_bundle, text_last}
 use Rattle.rc_dbform.proofs.WordLines.{once_words}
 use Rattle.rc_dbform.proofs.Cutting.{text_once}
 
@@ -196,6 +197,7 @@ IsScript-none = record { short = omega arith; bytes = λ k d within. absurd (ome
 pub head_kind : IsKind IsHead OfService
 head_kind = record {
   plain = plain_head;
+  text = text_head;
   some = record { name = codes "a"; kind = kinds.Longrun; essential = false; limit_up = 0; limit_down = 0 };
   is_some = record { name = IsName-a; kind = λ same. longrun_no_bundle same; limit_up = omega arith; limit_down = omega arith };
   no_version = λ bytes bad. bad;
@@ -206,20 +208,21 @@ head_kind = record {
     longrun_no_bundle same = absurd cc
 
 pub needs_kind : IsKind (All IsName) OfNeeds
-needs_kind = record { plain = plain_needs; some = []; is_some = λ k d within. absurd (omega arith); no_version = λ bytes bad. bad; no_count = λ bytes bad. bad }
+needs_kind = record { plain = plain_needs; text = text_needs; some = []; is_some = λ k d within. absurd (omega arith); no_version = λ bytes bad. bad; no_count = λ bytes bad. bad }
 
 pub producer_kind : IsKind (λ p. IfSome p IsName) OfProducer
-producer_kind = record { plain = plain_producer; some = None; is_some = tt; no_version = λ bytes bad. bad; no_count = λ bytes bad. bad }
+producer_kind = record { plain = plain_producer; text = text_producer; some = None; is_some = tt; no_version = λ bytes bad. bad; no_count = λ bytes bad. bad }
 
 pub up_kind : IsKind IsScript OfUp
-up_kind = record { plain = plain_up; some = []; is_some = IsScript-none; no_version = λ bytes bad. bad; no_count = λ bytes bad. bad }
+up_kind = record { plain = plain_up; text = text_up; some = []; is_some = IsScript-none; no_version = λ bytes bad. bad; no_count = λ bytes bad. bad }
 
 pub down_kind : IsKind (λ t. IfSome t IsScript) OfDown
-down_kind = record { plain = plain_down; some = None; is_some = tt; no_version = λ bytes bad. bad; no_count = λ bytes bad. bad }
+down_kind = record { plain = plain_down; text = text_down; some = None; is_some = tt; no_version = λ bytes bad. bad; no_count = λ bytes bad. bad }
 
 pub bundle_kind : IsKind IsBundleText OfBundle
 bundle_kind = record {
   plain = plain_bundle;
+  text = text_bundle;
   some = record { name = codes "a"; members = [] };
   is_some = record { name = IsName-a; members = λ k d within. absurd (omega arith) };
   no_version = λ bytes bad. bad;
@@ -227,7 +230,7 @@ bundle_kind = record {
 }
 
 pub last_kind : IsKind (λ (u : Unit {0}). Unit {0}) (λ _. Last)
-last_kind = record { plain = λ u is. plain_last; some = tt; is_some = tt; no_version = λ bytes bad. bad; no_count = λ bytes bad. bad }
+last_kind = record { plain = λ u is. plain_last; text = λ u is. text_last; some = tt; is_some = tt; no_version = λ bytes bad. bad; no_count = λ bytes bad. bad }
 
 -- no bundle where the word for its name is none
 pub no_bundle_name : (name : List ℕ) (members : List (List ℕ)) → (IsName name → ⊥) → IsOfNoWords IsBundleText OfBundle (codes "bundle" ∷ name ∷ members)

@@ -3,6 +3,7 @@ mod WordLines
 mod Cutting
 mod KindLines
 mod LineReads
+mod LineTexts
 mod NumberLines
 mod Grammar
 mod Aligned

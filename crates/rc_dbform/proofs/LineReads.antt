@@ -1,6 +1,7 @@
 -- What is read of a line, and what refuses it, from its words.
-use Rattle.std.proofs.Common.{◌≡◌, ◌∙◌, ℕ, List, ◌++◌, length, refl, sym, ap, append_assoc}
+use Rattle.std.proofs.Common.{◌≡◌, ◌∙◌, ℕ, List, ◌++◌, length, All, refl, sym, ap, append_assoc}
 use Rattle.std.proofs.lemmas.List.{append-nil}
+use Rattle.std.specs.Str.{IsUtf8}
 use Rattle.rc_dbform.specs.declared.fault.FormFault.{FormFault}
 use Rattle.rc_dbform.specs.declared.fault.FormFault.TheVariants.{Bad, Version, TooMany, Memory}
 use Rattle.rc_dbform.specs.Text.{Line, words, line_of_words, text_behind, spell}
@@ -9,9 +10,10 @@ use Rattle.rc_dbform.specs.Words.{ArePlain, BeginsWith, IsNoLine}
 use Rattle.rc_dbform.proofs.Sequences.{HasNo, stuck_line}
 use Rattle.rc_dbform.proofs.WordLines.{no_such_line, no_line}
 
--- a kind of line that is no line of a number: its words are words, and there is one
+-- a kind of line that is no line of a number: its words are words and UTF-8, and there is one
 pub record IsKind {A : Type 0} (Is : A → Type 0) (line : A → Line) : Type 0 where
   pub plain : (a : A) → Is a → ArePlain (words (line a))
+  pub text : (a : A) → Is a → All IsUtf8 (words (line a))
   pub some : A
   pub is_some : Is some
   pub no_version : (bytes : List ℕ) → HasOtherVersion (line some) bytes → ⊥
@@ -37,7 +39,7 @@ module _ {A : Type 0} (Is : A → Type 0) (line : A → Line) (kind : IsKind Is 
 
   -- no line stands here
   pub no_line_here : (bytes : List ℕ) (fault : FormFault) → IsNoLine bytes fault → IsRefused Is (one line) bytes fault
-  no_line_here bytes (Bad left) none = refused bytes left none.0 (no_line Is line kind.plain bytes none.1)
+  no_line_here bytes (Bad left) none = refused bytes left none.0 (no_line Is line kind.text bytes none.1)
   no_line_here bytes Version none = absurd none
   no_line_here bytes TooMany none = absurd none
   no_line_here bytes Memory none = tt

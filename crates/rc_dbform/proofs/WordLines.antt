@@ -1,5 +1,6 @@
 -- Lines of words with what stands after them: bytes begin with one such line.
-use Rattle.std.proofs.Common.{◌≡◌, ◌∙◌, ℕ, List, [], ◌∷◌, ◌++◌, sym, append_assoc}
+use Rattle.std.proofs.Common.{◌≡◌, ◌∙◌, ℕ, List, [], ◌∷◌, ◌++◌, All, sym, append_assoc}
+use Rattle.std.specs.Str.{IsUtf8}
 use Rattle.rc_textform.proofs.WordLines.{words_once}
 use Rattle.rc_dbform.specs.Text.{Line, words, line_of_words, text_behind}
 use Rattle.rc_dbform.specs.Words.{ArePlain, BeginsWith}
@@ -21,6 +22,11 @@ module _ {A : Type 0} (Is : A → Type 0) (line : A → Line) (plain : (a : A) �
       (sym begins.1 ∙ same ∙ append_assoc (line_of_words (words (line a))) (text_behind (line a)) tail) in
       other a tail is both.0 both.1
 
-  -- where there is no line at all, there is no such line
-  pub no_line : (bytes : List ℕ) → ((ws : List (List ℕ)) (rest : List ℕ) → bytes ≡ line_of_words ws ++ rest → ⊥) → HasNo Is line bytes
-  no_line bytes none a tail is same = none (words (line a)) (text_behind (line a) ++ tail) (same ∙ append_assoc (line_of_words (words (line a))) (text_behind (line a)) tail)
+-- where there is no line of text at all, there is no such line
+pub no_line : {A : Type 0} (Is : A → Type 0) (line : A → Line)
+    → ((a : A) → Is a → All IsUtf8 (words (line a))) → (bytes : List ℕ)
+    → ((ws : List (List ℕ)) (rest : List ℕ) → All IsUtf8 ws → bytes ≡ line_of_words ws ++ rest → ⊥)
+    → HasNo Is line bytes
+no_line Is line text bytes none a tail is same =
+    none (words (line a)) (text_behind (line a) ++ tail) (text a is)
+    (same ∙ append_assoc (line_of_words (words (line a))) (text_behind (line a)) tail)

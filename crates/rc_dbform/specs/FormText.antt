@@ -1,4 +1,3 @@
-use Rattle.std.specs.Prelude.{string_bytes}
 use Rattle.std.specs.Option.{option_map}
 use Rattle.rc_dbform.specs.declared.forms.BodyForm.{BodyForm}
 use Rattle.rc_dbform.specs.declared.forms.BodyForm.TheVariants as forms
@@ -7,4 +6,4 @@ use Rattle.rc_dbform.specs.Text.{Body, OfLongrun, OfOneshot}
 -- what follows the needs of a service, as it was read
 abbrev pub body_text : BodyForm → Body
 body_text (forms.Longrun producer_for) = OfLongrun producer_for
-body_text (forms.Oneshot up down) = OfOneshot (string_bytes up) (option_map string_bytes down)
+body_text (forms.Oneshot up down) = OfOneshot up.now (option_map (λ text. text.now) down)

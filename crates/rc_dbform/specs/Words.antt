@@ -1,13 +1,15 @@
-use Rattle.std.specs.Prelude.{◌≡◌, ℕ, List, ◌++◌, length}
+use Rattle.std.specs.Prelude.{◌≡◌, ℕ, List, ◌++◌, length, All}
+use Rattle.std.specs.Str.{IsUtf8}
 use Rattle.rc_dbform.specs.declared.fault.FormFault.{FormFault}
 use Rattle.rc_dbform.specs.declared.fault.FormFault.TheVariants.{Bad, Version, TooMany, Memory}
 pub use Rattle.rc_textform.specs.Words.{IsPlain, ArePlain, BeginsWith}
 use Rattle.rc_dbform.specs.Text.{Line, words, line_of_words}
 
--- there is no line here, unless memory ran out
+-- there is no line of text here, unless memory ran out
 abbrev pub IsNoLine : List ℕ → FormFault → Type 0
 IsNoLine bytes (Bad left) = (left ≡ length bytes)
-    × ((words : List (List ℕ)) (rest : List ℕ) → bytes ≡ line_of_words words ++ rest → ⊥)
+    × ((words : List (List ℕ)) (rest : List ℕ) → All IsUtf8 words
+    → bytes ≡ line_of_words words ++ rest → ⊥)
 IsNoLine bytes Version = ⊥
 IsNoLine bytes TooMany = ⊥
 IsNoLine bytes Memory = Unit {0}

@@ -11,27 +11,27 @@ use crate::lines::{
     Head, bundle_line, count_line, down_line, first_line, head_line, last_line, needs_line,
     producer_line, up_line,
 };
-use rc_names::{Kind, Name};
-use rc_textform::BundleForm;
+use rc_names::Kind;
+use rc_textform::{BundleForm, NameWord};
 use std::alloc::Global;
 use std::marker::Model;
 
 /// What follows the needs of a service.
 #[derive(Drop)]
-pub enum BodyForm {
-    Longrun(Option<Name>),
-    Oneshot(String, Option<String>),
+pub enum BodyForm<'a> {
+    Longrun(Option<NameWord<'a>>),
+    Oneshot(&'a str, Option<&'a str>),
 }
 
 /// A service as the text gives it.
 #[derive(Drop)]
-pub struct ServiceForm {
-    pub head: Head,
-    pub needs: Vec<Name>,
-    pub body: BodyForm,
+pub struct ServiceForm<'a> {
+    pub head: Head<'a>,
+    pub needs: Vec<NameWord<'a>>,
+    pub body: BodyForm<'a>,
 }
 
-impl Model for ServiceForm {
+impl<'a> Model for ServiceForm<'a> {
     ghost use Rattle.rc_dbform.specs.Text.{ServiceText};
     ghost use Rattle.rc_dbform.specs.FormText.{body_text};
 
@@ -42,12 +42,12 @@ impl Model for ServiceForm {
 
 /// A database as its text gives it.
 #[derive(Drop)]
-pub struct DbForm {
-    pub services: Vec<ServiceForm>,
-    pub bundles: Vec<BundleForm>,
+pub struct DbForm<'a> {
+    pub services: Vec<ServiceForm<'a>>,
+    pub bundles: Vec<BundleForm<'a>>,
 }
 
-impl Model for DbForm {
+impl<'a> Model for DbForm<'a> {
     ghost use Rattle.rc_dbform.specs.Text.{DbText};
 
     ghost Value = { DbText };
@@ -56,7 +56,7 @@ impl Model for DbForm {
 }
 
 /// What the text at the beginning says, and what follows it.
-pub fn read_form(alloc: Global, bytes: &[u8]) -> Result<(DbForm, &[u8]), FormFault>
+pub fn read_form<'a>(alloc: Global, bytes: &'a [u8]) -> Result<(DbForm<'a>, &'a [u8]), FormFault>
     ensures ok { IfOk result (λ read. IsRead IsDbText db_lines bytes.now read.0 read.1.now) }
     ensures fault { IfErr result (IsRefused IsDbText db_lines bytes.now) }
 {
@@ -68,35 +68,41 @@ pub fn read_form(alloc: Global, bytes: &[u8]) -> Result<(DbForm, &[u8]), FormFau
 }
 
 // The services after their count, and what follows them.
-fn all_services(alloc: Global, bytes: &[u8]) -> Result<(Vec<ServiceForm>, &[u8]), FormFault>
+fn all_services<'a>(
+    alloc: Global,
+    bytes: &'a [u8],
+) -> Result<(Vec<ServiceForm<'a>>, &'a [u8]), FormFault>
     ensures ok { IfOk result (λ read. IsRead (AreFew IsServiceText)
         (count_and_lines ServiceCount service_lines) bytes.now read.0.items read.1.now) }
     ensures fault { IfErr result (IsRefused (AreFew IsServiceText)
         (count_and_lines ServiceCount service_lines) bytes.now) }
 {
-    let (count, rest) = count_line(alloc, bytes, b"services")?;
+    let (count, rest) = count_line(alloc, bytes, "services")?;
     let (services, rest) = services_of(alloc, rest, count)?;
     Ok((services, rest))
 }
 
 // The bundles after their count, and what follows them.
-fn all_bundles(alloc: Global, bytes: &[u8]) -> Result<(Vec<BundleForm>, &[u8]), FormFault>
+fn all_bundles<'a>(
+    alloc: Global,
+    bytes: &'a [u8],
+) -> Result<(Vec<BundleForm<'a>>, &'a [u8]), FormFault>
     ensures ok { IfOk result (λ read. IsRead (AreFew IsBundleText)
         (count_and_lines BundleCount bundle_lines) bytes.now read.0.items read.1.now) }
     ensures fault { IfErr result (IsRefused (AreFew IsBundleText)
         (count_and_lines BundleCount bundle_lines) bytes.now) }
 {
-    let (count, rest) = count_line(alloc, bytes, b"bundles")?;
+    let (count, rest) = count_line(alloc, bytes, "bundles")?;
     let (bundles, rest) = bundles_of(alloc, rest, count)?;
     Ok((bundles, rest))
 }
 
 // So many services, and what follows them.
-fn services_of(
+fn services_of<'a>(
     alloc: Global,
-    bytes: &[u8],
+    bytes: &'a [u8],
     count: u32,
-) -> Result<(Vec<ServiceForm>, &[u8]), FormFault>
+) -> Result<(Vec<ServiceForm<'a>>, &'a [u8]), FormFault>
     ensures ok { IfOk result (λ read. IsRead (AreSo IsServiceText count)
         (flat_map service_lines) bytes.now read.0.items read.1.now) }
     ensures fault { IfErr result (IsRefused (AreSo IsServiceText count)
@@ -115,11 +121,11 @@ fn services_of(
 }
 
 // So many bundles, and what follows them.
-fn bundles_of(
+fn bundles_of<'a>(
     alloc: Global,
-    bytes: &[u8],
+    bytes: &'a [u8],
     count: u32,
-) -> Result<(Vec<BundleForm>, &[u8]), FormFault>
+) -> Result<(Vec<BundleForm<'a>>, &'a [u8]), FormFault>
     ensures ok { IfOk result (λ read. IsRead (AreSo IsBundleText count)
         (flat_map bundle_lines) bytes.now read.0.items read.1.now) }
     ensures fault { IfErr result (IsRefused (AreSo IsBundleText count)
@@ -138,7 +144,7 @@ fn bundles_of(
 }
 
 // A service, and what follows it.
-fn service_of(alloc: Global, bytes: &[u8]) -> Result<(ServiceForm, &[u8]), FormFault>
+fn service_of<'a>(alloc: Global, bytes: &'a [u8]) -> Result<(ServiceForm<'a>, &'a [u8]), FormFault>
     ensures ok { IfOk result (λ read.
         IsRead IsServiceText service_lines bytes.now read.0 read.1.now) }
     ensures fault { IfErr result (IsRefused IsServiceText service_lines bytes.now) }
@@ -150,7 +156,11 @@ fn service_of(alloc: Global, bytes: &[u8]) -> Result<(ServiceForm, &[u8]), FormF
 }
 
 // What follows the needs of a service of this kind, and what follows that.
-fn body_of(alloc: Global, bytes: &[u8], kind: Kind) -> Result<(BodyForm, &[u8]), FormFault>
+fn body_of<'a>(
+    alloc: Global,
+    bytes: &'a [u8],
+    kind: Kind,
+) -> Result<(BodyForm<'a>, &'a [u8]), FormFault>
     requires { (kind ≡ kinds.Bundle) → ⊥ }
     ensures ok { IfOk result (λ read. IsRead (IsBody kind) body_lines bytes.now
         (body_text read.0) read.1.now) }
@@ -164,7 +174,7 @@ fn body_of(alloc: Global, bytes: &[u8], kind: Kind) -> Result<(BodyForm, &[u8]),
 }
 
 // What follows the needs of a oneshot, and what follows that.
-fn oneshot_of(alloc: Global, bytes: &[u8]) -> Result<(BodyForm, &[u8]), FormFault>
+fn oneshot_of<'a>(alloc: Global, bytes: &'a [u8]) -> Result<(BodyForm<'a>, &'a [u8]), FormFault>
     ensures ok { IfOk result (λ read. IsRead (IsBody kinds.Oneshot) body_lines bytes.now
         (body_text read.0) read.1.now) }
     ensures fault { IfErr result (IsRefused (IsBody kinds.Oneshot) body_lines bytes.now) }
@@ -175,7 +185,7 @@ fn oneshot_of(alloc: Global, bytes: &[u8]) -> Result<(BodyForm, &[u8]), FormFaul
 }
 
 // What follows the needs of a longrun, and what follows that.
-fn longrun_of(alloc: Global, bytes: &[u8]) -> Result<(BodyForm, &[u8]), FormFault>
+fn longrun_of<'a>(alloc: Global, bytes: &'a [u8]) -> Result<(BodyForm<'a>, &'a [u8]), FormFault>
     ensures ok { IfOk result (λ read. IsRead (IsBody kinds.Longrun) body_lines bytes.now
         (body_text read.0) read.1.now) }
     ensures fault { IfErr result (IsRefused (IsBody kinds.Longrun) body_lines bytes.now) }

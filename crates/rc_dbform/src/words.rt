@@ -1,13 +1,12 @@
 //! The words and texts of lines, and where they are missing.
 ghost use Rattle.std.specs.Prelude.{◌≡◌, ℕ, List, [], ◌∷◌, ◌++◌, length, map};
-ghost use Rattle.std.specs.Prelude.{IfOk, IfErr, MatchOption, string_bytes};
+ghost use Rattle.std.specs.Prelude.{IfOk, IfErr, MatchOption};
 ghost use Rattle.rc_db.specs.Service.{IsScript};
 ghost use Rattle.rc_dbform.specs.Text.{line_of_words};
 ghost use Rattle.rc_dbform.specs.Reading.{IsNumber, IsNoNumber};
 ghost use Rattle.rc_dbform.specs.Words.{BeginsWith, IsPlain, IsNoLine};
 
 use crate::fault::FormFault;
-use rc_db::NoMem;
 use std::alloc::Global;
 
 /// The most bytes of a oneshot's text.
@@ -17,7 +16,7 @@ pub(crate) const MAX_TEXT: u32 = 65_536;
 pub(crate) fn words_of<'a>(
     alloc: Global,
     bytes: &'a [u8],
-) -> Result<(Vec<&'a [u8]>, &'a [u8]), FormFault>
+) -> Result<(Vec<&'a str>, &'a [u8]), FormFault>
     ensures ok { IfOk result (λ read.
         BeginsWith bytes.now (map (λ word. word.now) read.0.items) read.1.now) }
     ensures fault { IfErr result (λ fault. IsNoLine bytes.now fault) }
@@ -33,8 +32,8 @@ pub(crate) fn words_of<'a>(
 pub(crate) fn number_line<'a>(
     alloc: Global,
     bytes: &'a [u8],
-    word: &[u8],
-) -> Result<(&'a [u8], &'a [u8]), FormFault>
+    word: &str,
+) -> Result<(&'a str, &'a [u8]), FormFault>
     requires { IsPlain word.now }
     ensures ok { IfOk result (λ read. IsNumber read.0.now
         × (bytes.now ≡ line_of_words (word.now ∷ read.0.now ∷ []) ++ read.1.now)) }
@@ -48,23 +47,19 @@ pub(crate) fn number_line<'a>(
 }
 
 /// A text of so many bytes with its newline, if it stands here, and what follows it.
-pub(crate) fn text_of(
-    alloc: Global,
-    bytes: &[u8],
-    long: u32,
-) -> Result<Option<(String, &[u8])>, NoMem>
-    ensures { IfOk result (λ read. MatchOption read
+pub(crate) fn text_of(bytes: &[u8], long: u32) -> Option<(&str, &[u8])>
+    ensures { MatchOption result
         ((text rest : List ℕ) → IsScript text → length text ≡ long → bytes.now
         ≡ text ++ 10 ∷ [] ++ rest → ⊥)
-        (λ read. IsScript (string_bytes read.0) × (length (string_bytes read.0) ≡ long) × (bytes.now
-        ≡ string_bytes read.0 ++ 10 ∷ [] ++ read.1.now))) }
+        (λ read. IsScript read.0.now × (length read.0.now ≡ long) × (bytes.now
+        ≡ read.0.now ++ 10 ∷ [] ++ read.1.now)) }
 {
     let Some((text, rest)) = cut(bytes, long as usize) else {
-        return Ok(None);
+        return None;
     };
-    match script_of(alloc, text)? {
-        Some(text) => Ok(Some((text, rest))),
-        None => Ok(None),
+    match script_of(text) {
+        Some(text) => Some((text, rest)),
+        None => None,
     }
 }
 
@@ -81,15 +76,15 @@ fn cut(bytes: &[u8], long: usize) -> Option<(&[u8], &[u8])>
 }
 
 // The bytes as the text of a oneshot, if they are one.
-fn script_of(alloc: Global, bytes: &[u8]) -> Result<Option<String>, NoMem>
-    ensures { IfOk result (λ text. MatchOption text (IsScript bytes.now → ⊥)
-        (λ text. (string_bytes text ≡ bytes.now) × IsScript bytes.now)) }
+fn script_of(bytes: &[u8]) -> Option<&str>
+    ensures { MatchOption result (IsScript bytes.now → ⊥)
+        (λ text. (text.now ≡ bytes.now) × IsScript bytes.now) }
 {
     if bytes.len() > MAX_TEXT as usize || bytes.contains(&0) {
-        return Ok(None);
+        return None;
     }
     match str::from_utf8(bytes) {
-        Ok(text) => Ok(Some(String::from_str(alloc, text)?)),
-        Err(_) => Ok(None),
+        Ok(text) => Some(text),
+        Err(_) => None,
     }
 }

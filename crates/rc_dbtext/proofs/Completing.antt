@@ -1,5 +1,5 @@
 -- When a text is complete, said of its services and of its bundles.
-use Rattle.std.proofs.Common.{◌≡◌, ◌∙◌, ◌<◌, ◌↔◌, ℕ, Bool, IsTrue, List, [], length, get_or, slice_get, Some, arith, sym, ap, subst}
+use Rattle.std.proofs.Common.{◌≡◌, ◌∙◌, ◌<◌, ◌↔◌, All, Contains, ℕ, Bool, IsTrue, List, [], length, get_or, slice_get, Some, arith, sym, ap, subst}
 use Rattle.std.proofs.lemmas.List.{get_or-map, length-map}
 use Rattle.std.proofs.lemmas.Option.{slice_get_within, slice_get-get_or, get_or_from_slice_get}
 use Rattle.rc_model.specs.declared.Kind.TheVariants as kinds
@@ -19,6 +19,14 @@ own_complete t services bundles = record { needs = services.0; fed = services.1;
 pub own_halves : (t : DbText) → IsComplete t → AreServicesComplete (service_names t.services) t.services × AreBundlesComplete (service_names t.services) t.bundles
 unfolding IsKnown AreKnown IsApart
 own_halves t complete = ((complete.needs, complete.fed), (complete.members, complete.apart))
+
+-- needs that are names are known
+pub known_needs : (names : List (List ℕ)) (services own : List ServiceText) → services ≡ own
+    → All (λ s. All (Contains names) s.needs) services → All (λ s. AreKnown names s.needs) own
+unfolding IsKnown AreKnown
+known_needs names services own same known =
+    let P : List ServiceText → Type 0 = λ ss. All (λ s. All (Contains names) s.needs) ss in
+    subst P same known
 
 module _ (t : DbText) (names : List (List ℕ)) (services : List ServiceText) (bundles : List BundleText) (named : names ≡ service_names t.services) (own : services ≡ t.services) (listed : bundles ≡ t.bundles) where
   pub complete_from : AreServicesComplete names services → AreBundlesComplete names bundles → IsComplete t

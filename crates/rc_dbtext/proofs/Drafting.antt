@@ -1,7 +1,7 @@
 -- What a draft has after the needs of some services were added.
 use Rattle.std.proofs.Common.{◌≡◌, ◌∙◌, ℕ, ◌+◌, ◌<◌, ◌≤◌, ◌↔◌, ◌⊎◌, inl, inr, List, [], ◌∷◌, ◌++◌, length, map, replicate, get_or, slice_get, slice_index_or, Some, None, All, Contains, Bool, true, arith, refl, sym, ap, subst}
 use Rattle.std.proofs.lemmas.Bool.{cases_lt}
-use Rattle.std.proofs.lemmas.List.{length-map, length-replicate, get_or-map, get_or-replicate, get_or_past, same_lists, map-append}
+use Rattle.std.proofs.lemmas.List.{length-map, length-replicate, get_or-map, get_or-replicate, get_or_default, get_or_past, same_lists, map-append}
 use Rattle.std.proofs.lemmas.List.Elements.{Contains-append_left, Contains-get_or, Contains-push, Contains-push_cases}
 use Rattle.rc_model.specs.declared.Kind.TheVariants as kinds
 use Rattle.rc_model.specs.Names.{Has, Holds, IsInByteOrder}
@@ -135,6 +135,30 @@ drafted_one names services mid new s before added =
         | inr named ↦ let here : a ≡ s = named.0 in absurd (omega arith)
       ];
     }
+
+-- what the services below a place need are names
+abbrev pub NeedKnown : List (List ℕ) → List ServiceText → ℕ → Type 0
+NeedKnown names services end =
+    (k : ℕ) → k < end → All (Contains names) (get_or services k no_service).needs
+
+pub known_one : (names : List (List ℕ)) (services : List ServiceText) (s : ℕ)
+    → NeedKnown names services s → All (Contains names) (get_or services s no_service).needs
+    → NeedKnown names services (s + 1)
+known_one names services s before one k low = elim (cases_lt k s) [
+  | inl lower ↦ before k lower
+  | inr upper ↦
+      let here : k ≡ s = omega arith in
+      let P : ℕ → Type 0 =
+      λ n. All (Contains names) (get_or services n no_service).needs in
+      subst P (sym here) one
+]
+
+pub known_all : (names : List (List ℕ)) (services : List ServiceText) (end : ℕ)
+    → NeedKnown names services end → length services ≤ end
+    → All (λ s. All (Contains names) s.needs) services
+known_all names services end known all = λ k d within.
+    let P : ServiceText → Type 0 = λ s. All (Contains names) s.needs in
+    subst P (get_or_default services k no_service d within) (known k (omega arith))
 
 -- where all services are in, the lists name what they need
 pub drafted_all : (names : List (List ℕ)) (services : List ServiceText) (draft : List (List ℕ)) (end : ℕ) → HasDrafted names services draft end → length services ≤ end → AreNeeds draft

@@ -1,33 +1,35 @@
 //! The names, the graph and the services of a database, made of what a text says.
-ghost use Rattle.std.specs.Prelude.{◌≡◌, ◌<◌, ◌≤◌, ◌↔◌, ◌⊎◌, ℕ, length, All, Contains, IfOk, IfSome, OnOk, MatchOption, Some, None, slice_get, string_bytes};
+ghost use Rattle.std.specs.Prelude.{◌≡◌, ◌<◌, ◌≤◌, ◌↔◌, ◌⊎◌, ℕ, List, length, All, Contains, IfOk, IfSome, IsTrue, MatchOption, Some, None, slice_get, string_bytes};
 ghost use Rattle.std.specs.List.{AllZip};
 ghost use Rattle.std.specs.Option.{option_map};
 ghost use Rattle.rc_model.specs.Names.{AreNames, IsInByteOrder};
 ghost use Rattle.rc_model.specs.Graph.{Needs};
 ghost use Rattle.rc_dbform.specs.Text.{IsHead, IsServiceText};
-ghost use Rattle.rc_dbtext.specs.Meaning.{IsCyclic, service_names};
+ghost use Rattle.rc_graph.specs.Cycle.{IsCycle};
+ghost use Rattle.rc_dbtext.specs.Meaning.{service_names};
 ghost use Rattle.rc_dbtext.specs.Parts.{AreNeedsOf, FeedsKnown, IsNamed, IsServiceOf};
 ghost use Rattle.rc_dbtext.specs.Spelling.{head_of};
 
 use rc_db::{NoMem, Service};
 use rc_dbform::{BodyForm, Head, ServiceForm};
 use rc_graph::{Draft, Graph, GraphFault};
-use rc_names::{Name, Names};
+use rc_names::Names;
+use rc_textform::NameWord;
 use std::alloc::{AllocError, Global};
 
 /// The table of the names of services, which ascend.
-pub(crate) fn names_of(alloc: Global, services: &[ServiceForm]) -> Result<Names, NoMem>
+pub(crate) fn names_of(alloc: Global, services: &[ServiceForm<'_>]) -> Result<Names, NoMem>
     requires few { length services.now ≤ 4096 }
     requires sorted { IsInByteOrder (service_names services.now) }
     ensures { IfOk result (λ names. names ≡ service_names services.now) }
 {
     let mut names = Names::new(alloc);
     for service in services {
-        let Ok(name) = copy_of(alloc, name_of(service)) else {
+        let Ok(name) = name_of(service).copy(alloc) else {
             drop(names);
             return Err(AllocError);
         };
-        let Ok(_) = names.add(name) else {
+        let Ok(_) = names.append(name) else {
             drop(names);
             return Err(AllocError);
         };
@@ -36,35 +38,69 @@ pub(crate) fn names_of(alloc: Global, services: &[ServiceForm]) -> Result<Names,
 }
 
 // The name of a service.
-fn name_of(service: &ServiceForm) -> &Name
+fn name_of<'a, 'b>(service: &'b ServiceForm<'a>) -> &'b NameWord<'a>
     ensures { result.now ≡ service.now.head.name }
 {
     &service.head.name
 }
 
-// The same name once more.
-fn copy_of(alloc: Global, name: &Name) -> Result<Name, NoMem>
-    ensures { IfOk result (λ copy. copy ≡ name.now) }
-{
-    match Name::read(alloc, name.text()) {
-        Ok(copy) => Ok(copy),
-        Err(_) => Err(AllocError),
-    }
-}
-
-/// Which service needs which, or nothing where they need each other in a circle.
-pub(crate) fn graph_of(
+/// Which service needs which, or nothing where one needs what is no service.
+pub(crate) fn draft_of(
     alloc: Global,
-    services: &[ServiceForm],
+    services: &[ServiceForm<'_>],
     names: &Names,
-) -> Result<Option<Graph>, NoMem>
+) -> Result<Option<Draft>, NoMem>
     requires names { names.now ≡ service_names services.now }
     requires sorted { All (λ s. IsInByteOrder s.needs) services.now }
-    requires known { All (λ s. All (Contains names.now) s.needs) services.now }
-    ensures { IfOk result (λ graph. MatchOption graph (IsCyclic services.now)
-        (λ graph. AreNeedsOf names.now services.now graph)) }
+    ensures { IfOk result (λ draft. MatchOption draft
+        (All (λ s. All (Contains names.now) s.needs) services.now → ⊥)
+        (λ draft. All (λ s. All (Contains names.now) s.needs) services.now
+        × AreNeedsOf names.now services.now draft)) }
 {
-    let draft = draft_of(alloc, services, names)?;
+    let mut draft = Draft::new(alloc, names.len())?;
+    for s in 0..services.len() {
+        let service = &services[s];
+        if !add_needs(&mut draft, s as u16, service.needs.as_slice(), names)? {
+            return Ok(None);
+        }
+    }
+    // Each list ascends.
+    let _count = draft.len();
+    Ok(Some(draft))
+}
+
+// The needs of one service, each looked up once. It answers whether all are names.
+fn add_needs(
+    draft: &mut Draft,
+    service: u16,
+    needs: &[NameWord<'_>],
+    names: &Names,
+) -> Result<bool, NoMem>
+    requires bound { length draft.old ≡ length names.now }
+    requires service { service < length draft.old }
+    ensures bound { length draft.new ≡ length draft.old }
+    ensures known { IfOk result (λ known. IsTrue known ↔ All (Contains names.now) needs.now) }
+    ensures pairs { IfOk result (λ known. IsTrue known → (s t : ℕ) → Needs draft.new s t ↔
+        (Needs draft.old s t ⊎ ((s ≡ service) × IsNamed names.now needs.now t))) }
+{
+    // The names ascend, and are few.
+    let _count = names.len();
+    let mut next = 0;
+    for need in needs {
+        let Some(id) = names.find_near(need.text(), next) else {
+            return Ok(false);
+        };
+        draft.need(service, id)?;
+        next = id + 1;
+    }
+    Ok(true)
+}
+
+/// The graph of a draft, or nothing where services need each other in a circle.
+pub(crate) fn graph_of(draft: Draft) -> Result<Option<Graph>, NoMem>
+    ensures { IfOk result (λ graph. MatchOption graph
+        ((cycle : List ℕ) × IsCycle draft cycle) (λ graph. graph ≡ draft)) }
+{
     match draft.finish() {
         Ok(graph) => Ok(Some(graph)),
         Err(GraphFault::Cycle(_)) => Ok(None),
@@ -72,46 +108,14 @@ pub(crate) fn graph_of(
     }
 }
 
-// The pairs of the services, each need looked up among the names.
-fn draft_of(alloc: Global, services: &[ServiceForm], names: &Names) -> Result<Draft, NoMem>
-    requires names { names.now ≡ service_names services.now }
-    requires sorted { All (λ s. IsInByteOrder s.needs) services.now }
-    requires known { All (λ s. All (Contains names.now) s.needs) services.now }
-    ensures { IfOk result (λ draft. AreNeedsOf names.now services.now draft) }
-{
-    let mut draft = Draft::new(alloc, names.len())?;
-    for s in 0..services.len() {
-        let service = &services[s];
-        add_needs(&mut draft, s as u16, service.needs.as_slice(), names)?;
-    }
-    // Each list ascends.
-    let _count = draft.len();
-    Ok(draft)
-}
-
-// The needs of one service, which are all names.
-fn add_needs(draft: &mut Draft, service: u16, needs: &[Name], names: &Names) -> Result<(), NoMem>
-    requires bound { length draft.old ≡ length names.now }
-    requires service { service < length draft.old }
-    requires known { All (Contains names.now) needs.now }
-    ensures bound { length draft.new ≡ length draft.old }
-    ensures pairs { OnOk result ((s t : ℕ) → Needs draft.new s t ↔
-        (Needs draft.old s t ⊎ ((s ≡ service) × IsNamed names.now needs.now t))) }
-{
-    for need in needs {
-        draft.need(service, id_of(need, names))?;
-    }
-    Ok(())
-}
-
-/// The id of a text that is among the names.
-pub(crate) fn id_of(text: &Name, names: &Names) -> u16
+/// The id of a text that is among the names. It is looked for at this place first.
+pub(crate) fn id_of(text: &NameWord<'_>, names: &Names, place: u16) -> u16
     requires { Contains names.now text.now }
     ensures found { slice_get names.now result ≡ Some text.now }
     ensures names { AreNames names.now }
 {
     let _count = names.len();
-    match names.find(text.text()) {
+    match names.find_near(text.text(), place) {
         Some(id) => id,
         None => unreachable!(),
     }
@@ -120,7 +124,7 @@ pub(crate) fn id_of(text: &Name, names: &Names) -> u16
 /// What the text says of services, one by one.
 pub(crate) fn services_of(
     alloc: Global,
-    forms: &[ServiceForm],
+    forms: &[ServiceForm<'_>],
     names: &Names,
 ) -> Result<Vec<Service>, NoMem>
     requires texts { All IsServiceText forms.now }
@@ -136,7 +140,7 @@ pub(crate) fn services_of(
 }
 
 // What the text says of a service.
-fn service_of(alloc: Global, form: &ServiceForm, names: &Names) -> Result<Service, NoMem>
+fn service_of(alloc: Global, form: &ServiceForm<'_>, names: &Names) -> Result<Service, NoMem>
     requires text { IsServiceText form.now }
     requires fed { FeedsKnown names.now form.now.body }
     ensures { IfOk result (IsServiceOf names.now form.now) }
@@ -147,7 +151,7 @@ fn service_of(alloc: Global, form: &ServiceForm, names: &Names) -> Result<Servic
             Ok(service_with(&form.head, None, None, producer_for))
         }
         BodyForm::Oneshot(up, down) => {
-            let up = String::from_str(alloc, up.as_str())?;
+            let up = String::from_str(alloc, up)?;
             let down = text_once_more(alloc, down)?;
             Ok(service_with(&form.head, Some(up), down, None))
         }
@@ -155,31 +159,31 @@ fn service_of(alloc: Global, form: &ServiceForm, names: &Names) -> Result<Servic
 }
 
 // The id of the longrun that is fed, which is among the names.
-fn fed_id(fed: &Option<Name>, names: &Names) -> Option<u16>
+fn fed_id(fed: &Option<NameWord<'_>>, names: &Names) -> Option<u16>
     requires { IfSome fed.now (Contains names.now) }
     ensures { MatchOption fed.now (result ≡ None)
         (λ name. (id : ℕ) × (result ≡ Some id) × (slice_get names.now id ≡ Some name)) }
 {
     match fed {
-        Some(name) => Some(id_of(name, names)),
+        Some(name) => Some(id_of(name, names, 0)),
         None => None,
     }
 }
 
-// The same text once more, if there is one.
-fn text_once_more(alloc: Global, text: &Option<String>) -> Result<Option<String>, NoMem>
+// A copy of the text, if there is one.
+fn text_once_more(alloc: Global, text: &Option<&str>) -> Result<Option<String>, NoMem>
     ensures { IfOk result (λ copy. option_map string_bytes copy
-        ≡ option_map string_bytes text.now) }
+        ≡ option_map (λ text. text.now) text.now) }
 {
     match text {
-        Some(text) => Ok(Some(String::from_str(alloc, text.as_str())?)),
+        Some(text) => Ok(Some(String::from_str(alloc, text)?)),
         None => Ok(None),
     }
 }
 
 // The service of a first line, with its texts and what it feeds.
 fn service_with(
-    head: &Head,
+    head: &Head<'_>,
     text_up: Option<String>,
     text_down: Option<String>,
     producer_for: Option<u16>,

@@ -9,12 +9,13 @@ use crate::build::id_of;
 use rc_db::laws::tables_are_their_values;
 use rc_db::{NoMem, Table};
 use rc_dbform::BundleForm;
-use rc_names::{Name, Names};
+use rc_names::Names;
 use rc_set::Set;
+use rc_textform::NameWord;
 use std::alloc::Global;
 
 /// The table of the bundles, whose names and members ascend.
-pub fn table_of(alloc: Global, forms: &[BundleForm], names: &Names) -> Result<Table, NoMem>
+pub fn table_of(alloc: Global, forms: &[BundleForm<'_>], names: &Names) -> Result<Table, NoMem>
     requires few { length forms.now ≤ 4096 }
     requires sorted { IsInByteOrder (bundle_names forms.now) }
     requires each { All (λ b. IsInByteOrder b.members) forms.now }
@@ -33,7 +34,7 @@ pub fn table_of(alloc: Global, forms: &[BundleForm], names: &Names) -> Result<Ta
 fn add_bundle(
     alloc: Global,
     table: &mut Table,
-    form: &BundleForm,
+    form: &BundleForm<'_>,
     names: &Names,
 ) -> Result<(), NoMem>
     requires room { length table.old < 4096 }
@@ -45,24 +46,28 @@ fn add_bundle(
         × (map (name_at names.now) (members set) ≡ form.now.members)) }
 {
     let set = set_of(alloc, form.members.as_slice(), names)?;
+    let name = form.name.copy(alloc)?;
     // Both tables are in order, and a table is what it has under each name.
     tables_are_their_values();
     let _before = table.len();
-    table.set(&form.name, set)?;
+    table.set(&name, set)?;
     let _after = table.len();
     Ok(())
 }
 
 /// The set of services with these names, which are all names and ascend.
-pub fn set_of(alloc: Global, texts: &[Name], names: &Names) -> Result<Set, NoMem>
+pub fn set_of(alloc: Global, texts: &[NameWord<'_>], names: &Names) -> Result<Set, NoMem>
     requires sorted { IsInByteOrder texts.now }
     requires known { All (Contains names.now) texts.now }
     ensures bound { IfOk result (λ set. length set ≡ length names.now) }
     ensures members { IfOk result (λ set. map (name_at names.now) (members set) ≡ texts.now) }
 {
     let mut set = Set::empty(alloc, names.len())?;
+    let mut next = 0;
     for text in texts {
-        set.insert(id_of(text, names));
+        let id = id_of(text, names, next);
+        set.insert(id);
+        next = id + 1;
     }
     Ok(set)
 }

@@ -1,47 +1,32 @@
 //! Whether the names that a text speaks of stand for what they may.
 ghost use Rattle.std.specs.Prelude.{◌≡◌, ◌↔◌, All, Contains, IsTrue};
 ghost use Rattle.rc_dbtext.specs.Meaning.{FeedsWell, IsComplete, IsLongrunName, service_names};
-ghost use Rattle.rc_dbtext.specs.Parts.{AreBundlesComplete, AreKnown, AreServicesComplete, IsApart, IsKnown};
+ghost use Rattle.rc_dbtext.specs.Parts.{AreBundlesComplete, AreKnown, IsApart, IsKnown};
 
 use rc_dbform::{BodyForm, BundleForm, DbForm, ServiceForm};
-use rc_names::{Kind, Name, Names};
+use rc_names::{Kind, Names};
+use rc_textform::NameWord;
 
-/// Whether each need and each member is a service, what is fed is a longrun that is needed, and no
-/// bundle has the name of a service.
-pub(crate) fn is_complete(form: &DbForm, names: &Names) -> bool
-    requires { names.now ≡ service_names form.now.services }
+/// Whether each member is a service, what is fed is a longrun that is needed, and no bundle has the
+/// name of a service, where each need is a service.
+pub(crate) fn is_complete(form: &DbForm<'_>, names: &Names) -> bool
+    requires names { names.now ≡ service_names form.now.services }
+    requires known { All (λ s. AreKnown names.now s.needs) form.now.services }
     ensures { IsTrue result ↔ IsComplete form.now }
 {
-    services_are_complete(form.services.as_slice(), names)
+    all_feed_well(form.services.as_slice(), names)
         && bundles_are_complete(form.bundles.as_slice(), names)
 }
 
-// Whether what services need and feed is there.
-fn services_are_complete(services: &[ServiceForm], names: &Names) -> bool
-    requires { names.now ≡ service_names services.now }
-    ensures { IsTrue result ↔ AreServicesComplete names.now services.now }
-{
-    all_needs_known(services, names) && all_feed_well(services, names)
-}
-
 /// Whether what bundles have is there, and none has the name of a service.
-pub fn bundles_are_complete(bundles: &[BundleForm], names: &Names) -> bool
+pub fn bundles_are_complete(bundles: &[BundleForm<'_>], names: &Names) -> bool
     ensures { IsTrue result ↔ AreBundlesComplete names.now bundles.now }
 {
     all_members_known(bundles, names) && all_apart(bundles, names)
 }
 
-// Whether what services need are names.
-fn all_needs_known(services: &[ServiceForm], names: &Names) -> bool
-    ensures { IsTrue result ↔ All (λ s. AreKnown names.now s.needs) services.now }
-{
-    services
-        .iter()
-        .all(|service| are_known(service.needs.as_slice(), names))
-}
-
 // Whether the members of bundles are names.
-fn all_members_known(bundles: &[BundleForm], names: &Names) -> bool
+fn all_members_known(bundles: &[BundleForm<'_>], names: &Names) -> bool
     ensures { IsTrue result ↔ All (λ b. AreKnown names.now b.members) bundles.now }
 {
     bundles
@@ -50,14 +35,14 @@ fn all_members_known(bundles: &[BundleForm], names: &Names) -> bool
 }
 
 // Whether no bundle has one of the names.
-fn all_apart(bundles: &[BundleForm], names: &Names) -> bool
+fn all_apart(bundles: &[BundleForm<'_>], names: &Names) -> bool
     ensures { IsTrue result ↔ All (λ b. IsApart names.now b.name) bundles.now }
 {
     bundles.iter().all(|bundle| is_apart(&bundle.name, names))
 }
 
 // Whether each service, if it feeds another, feeds a longrun that it needs.
-fn all_feed_well(services: &[ServiceForm], names: &Names) -> bool
+fn all_feed_well(services: &[ServiceForm<'_>], names: &Names) -> bool
     requires { names.now ≡ service_names services.now }
     ensures { IsTrue result ↔ All (λ s. FeedsWell services.now s.needs s.body) services.now }
 {
@@ -67,7 +52,7 @@ fn all_feed_well(services: &[ServiceForm], names: &Names) -> bool
 }
 
 // Whether a service, if it feeds another, feeds a longrun that it needs.
-fn feeds_well(service: &ServiceForm, services: &[ServiceForm], names: &Names) -> bool
+fn feeds_well(service: &ServiceForm<'_>, services: &[ServiceForm<'_>], names: &Names) -> bool
     requires { names.now ≡ service_names services.now }
     ensures { IsTrue result ↔ FeedsWell services.now service.now.needs service.now.body }
 {
@@ -81,7 +66,7 @@ fn feeds_well(service: &ServiceForm, services: &[ServiceForm], names: &Names) ->
 }
 
 // Whether a name is that of a longrun.
-fn is_longrun(name: &Name, services: &[ServiceForm], names: &Names) -> bool
+fn is_longrun(name: &NameWord<'_>, services: &[ServiceForm<'_>], names: &Names) -> bool
     requires { names.now ≡ service_names services.now }
     ensures { IsTrue result ↔ IsLongrunName services.now name.now }
 {
@@ -94,23 +79,31 @@ fn is_longrun(name: &Name, services: &[ServiceForm], names: &Names) -> bool
 }
 
 // Whether a service is a longrun.
-fn is_of_longrun(service: &ServiceForm) -> bool
+fn is_of_longrun(service: &ServiceForm<'_>) -> bool
     ensures { IsTrue result ↔ (service.now.head.kind ≡ Kind.Longrun) }
 {
     service.head.kind() == Kind::Longrun
 }
 
-/// Whether all are among the names.
-#[tactic(auto, unfolding(crate::specs::Parts::AreKnown))]
-pub fn are_known(texts: &[Name], names: &Names) -> bool
+/// Whether all are among the names, each looked for after the one before.
+pub fn are_known(texts: &[NameWord<'_>], names: &Names) -> bool
     ensures { IsTrue result ↔ AreKnown names.now texts.now }
 {
-    texts.iter().all(|text| is_known(text, names))
+    // The names are few.
+    let _count = names.len();
+    let mut next = 0;
+    for text in texts {
+        let Some(id) = names.find_near(text.text(), next) else {
+            return false;
+        };
+        next = id + 1;
+    }
+    true
 }
 
 // Whether it is not among the names.
 #[tactic(auto, unfolding(crate::specs::Parts::IsApart))]
-fn is_apart(text: &Name, names: &Names) -> bool
+fn is_apart(text: &NameWord<'_>, names: &Names) -> bool
     ensures { IsTrue result ↔ IsApart names.now text.now }
 {
     !is_known(text, names)
@@ -118,14 +111,14 @@ fn is_apart(text: &Name, names: &Names) -> bool
 
 // Whether it is among the names.
 #[tactic(auto, unfolding(crate::specs::Parts::IsKnown))]
-fn is_known(text: &Name, names: &Names) -> bool
+fn is_known(text: &NameWord<'_>, names: &Names) -> bool
     ensures { IsTrue result ↔ IsKnown names.now text.now }
 {
     names.find(text.text()).is_some()
 }
 
 // Whether it is one of these.
-fn is_among(name: &Name, others: &[Name]) -> bool
+fn is_among(name: &NameWord<'_>, others: &[NameWord<'_>]) -> bool
     ensures { IsTrue result ↔ Contains others.now name.now }
 {
     others.iter().any(|other| other.text() == name.text())

@@ -10,7 +10,7 @@ ghost use Rattle.rc_dbtext.specs.Parts.{AreNeedsOf};
 ghost use Rattle.rc_dbtext.specs.Spelling.{spelling, text_of};
 ghost use Rattle.rc_dbtext.specs.TextFaults.{BeginsWith, HasFormFault, IsFrontFault, IsMeaningFault, IsWholeFault};
 
-use crate::build::{graph_of, names_of, services_of};
+use crate::build::{draft_of, graph_of, names_of, services_of};
 use crate::bundles::table_of;
 use crate::complete::is_complete;
 use crate::fault::TextFault;
@@ -37,7 +37,7 @@ pub fn read_db(alloc: Global, bytes: &[u8]) -> Result<Db, TextFault>
 }
 
 // What a text says that is all of the bytes.
-fn whole_form(alloc: Global, bytes: &[u8]) -> Result<DbForm, TextFault>
+fn whole_form<'a>(alloc: Global, bytes: &'a [u8]) -> Result<DbForm<'a>, TextFault>
     ensures ok { IfOk result (λ form. BeginsWith bytes.now form []) }
     ensures fault { IfErr result (IsWholeFault bytes.now) }
 {
@@ -83,7 +83,7 @@ fn told(fault: FormFault, bytes: &[u8]) -> TextFault
 }
 
 // The database of what a text says.
-fn db_of(alloc: Global, form: &DbForm) -> Result<Db, TextFault>
+fn db_of(alloc: Global, form: &DbForm<'_>) -> Result<Db, TextFault>
     requires { IsDbText form.now }
     ensures ok { IfOk result (λ db. IsWritable db × (text_of db ≡ form.now)) }
     ensures fault { IfErr result (IsMeaningFault form.now) }
@@ -94,11 +94,22 @@ fn db_of(alloc: Global, form: &DbForm) -> Result<Db, TextFault>
     let Ok(names) = names_of(alloc, form.services.as_slice()) else {
         return Err(TextFault::Memory);
     };
+    let draft = match draft_of(alloc, form.services.as_slice(), &names) {
+        Ok(Some(draft)) => draft,
+        Ok(None) => {
+            drop(names);
+            return Err(TextFault::Dangling);
+        }
+        Err(_) => {
+            drop(names);
+            return Err(TextFault::Memory);
+        }
+    };
     if !is_complete(form, &names) {
-        drop(names);
+        drop((names, draft));
         return Err(TextFault::Dangling);
     }
-    let graph = match graph_of(alloc, form.services.as_slice(), &names) {
+    let graph = match graph_of(draft) {
         Ok(Some(graph)) => graph,
         Ok(None) => {
             drop(names);
@@ -116,7 +127,7 @@ fn db_of(alloc: Global, form: &DbForm) -> Result<Db, TextFault>
 }
 
 // The database of what a text says, with its names and its graph.
-fn joined(alloc: Global, form: &DbForm, names: Names, graph: Graph) -> Result<Db, NoMem>
+fn joined(alloc: Global, form: &DbForm<'_>, names: Names, graph: Graph) -> Result<Db, NoMem>
     requires text { IsDbText form.now }
     requires sorted { IsSorted form.now }
     requires complete { IsComplete form.now }

@@ -7,14 +7,14 @@ use rc_dbform::{BundleForm, DbForm, ServiceForm};
 use rc_textform::{ascend, is_before};
 
 /// Whether all lists of names ascend.
-pub(crate) fn is_sorted(form: &DbForm) -> bool
+pub(crate) fn is_sorted(form: &DbForm<'_>) -> bool
     ensures { IsTrue result ↔ IsSorted form.now }
 {
     services_are_sorted(form.services.as_slice()) && bundles_are_sorted(form.bundles.as_slice())
 }
 
 // Whether services and what they need ascend.
-fn services_are_sorted(services: &[ServiceForm]) -> bool
+fn services_are_sorted(services: &[ServiceForm<'_>]) -> bool
     ensures { IsTrue result ↔ (IsInByteOrder (service_names services.now)
         × All (λ s. IsInByteOrder s.needs) services.now) }
 {
@@ -22,7 +22,7 @@ fn services_are_sorted(services: &[ServiceForm]) -> bool
 }
 
 // Whether bundles and their members ascend.
-fn bundles_are_sorted(bundles: &[BundleForm]) -> bool
+fn bundles_are_sorted(bundles: &[BundleForm<'_>]) -> bool
     ensures { IsTrue result ↔ (IsInByteOrder (bundle_names bundles.now)
         × All (λ b. IsInByteOrder b.members) bundles.now) }
 {
@@ -30,14 +30,14 @@ fn bundles_are_sorted(bundles: &[BundleForm]) -> bool
 }
 
 // Whether the names of services ascend.
-fn services_ascend(services: &[ServiceForm]) -> bool
+fn services_ascend(services: &[ServiceForm<'_>]) -> bool
     ensures { IsTrue result ↔ IsInByteOrder (service_names services.now) }
 {
     services.is_sorted_by(|first, second| is_before(&first.head.name, &second.head.name))
 }
 
 // Whether the needs of each service ascend.
-fn needs_ascend(services: &[ServiceForm]) -> bool
+fn needs_ascend(services: &[ServiceForm<'_>]) -> bool
     ensures { IsTrue result ↔ All (λ s. IsInByteOrder s.needs) services.now }
 {
     services
@@ -46,14 +46,14 @@ fn needs_ascend(services: &[ServiceForm]) -> bool
 }
 
 // Whether the names of bundles ascend.
-fn bundles_ascend(bundles: &[BundleForm]) -> bool
+fn bundles_ascend(bundles: &[BundleForm<'_>]) -> bool
     ensures { IsTrue result ↔ IsInByteOrder (bundle_names bundles.now) }
 {
     bundles.is_sorted_by(|first, second| is_before(&first.name, &second.name))
 }
 
 // Whether the members of each bundle ascend.
-fn members_ascend(bundles: &[BundleForm]) -> bool
+fn members_ascend(bundles: &[BundleForm<'_>]) -> bool
     ensures { IsTrue result ↔ All (λ b. IsInByteOrder b.members) bundles.now }
 {
     bundles

@@ -1,10 +1,13 @@
 -- The words of a line tell which line it is.
-use Rattle.std.proofs.Common.{◌≡◌, ℕ, ◌+◌, Bool, true, false, List, [], ◌∷◌, get_or, refl, ap, arith}
+use Rattle.std.proofs.Common.{◌≡◌, ℕ, ◌+◌, Bool, true, false, List, [], ◌∷◌, All, get_or, refl, ap, arith}
 use Rattle.std.proofs.lemmas.Fmt.{decimal_injective}
+use Rattle.std.proofs.lemmas.List.Elements.{All-cons}
 use Rattle.std.specs.Prelude.{codes}
 use Rattle.std.specs.Fmt.{decimal}
+use Rattle.std.specs.Str.{IsUtf8}
 use Rattle.rc_textform.specs.Words.{ArePlain, BundleText, IsPlain}
 use Rattle.rc_textform.proofs.Plain.{plain_from, plain_name, plain_names, plain_words, plain_decimal, no_words}
+use Rattle.rc_textform.proofs.Texts.{one_text, text_decimal, text_from, text_names}
 use Rattle.rc_textform.proofs.WordLines.{each_cons}
 pub use Rattle.rc_livetext.specs.Saying.{IsSaid}
 use Rattle.rc_livetext.specs.Text.{Line, First, OfServices, OfBound, OfState, OfBundle, Last, words, version_word, state_word}
@@ -25,6 +28,32 @@ plain_line (OfBound bound) is = plain_words (codes "bound") (decimal bound ∷ [
 plain_line (OfState current names) is = plain_words (state_word current) names (plain_state current) (plain_names names is.each)
 plain_line (OfBundle b) is = plain_words (codes "bundle") (b.name ∷ b.members) (plain_from (codes "bundle") refl) (each_cons b.name b.members (plain_name b.name is.name) (plain_names b.members is.members.each))
 plain_line Last is = plain_words (codes "end") [] (plain_from (codes "end") refl) no_words
+
+text_version : (bounded : Bool) → IsUtf8 (version_word bounded)
+text_version true = text_from (codes "2") refl
+text_version false = text_from (codes "1") refl
+
+text_state : (current : Bool) → IsUtf8 (state_word current)
+text_state true = text_from (codes "now") refl
+text_state false = text_from (codes "up") refl
+
+-- the words of a line are UTF-8
+pub text_line : (l : Line) → IsSaid l → All IsUtf8 (words l)
+text_line (First bounded) is =
+    All-cons IsUtf8 (codes "undorc-live") (version_word bounded ∷ [])
+    (text_from (codes "undorc-live") refl) (one_text (version_word bounded) (text_version bounded))
+text_line (OfServices names) is =
+    All-cons IsUtf8 (codes "services") names (text_from (codes "services") refl)
+    (text_names names is.each)
+text_line (OfBound bound) is =
+    All-cons IsUtf8 (codes "bound") (decimal bound ∷ []) (text_from (codes "bound") refl)
+    (one_text (decimal bound) (text_decimal bound (omega (arith, is.1))))
+text_line (OfState current names) is =
+    All-cons IsUtf8 (state_word current) names (text_state current) (text_names names is.each)
+text_line (OfBundle b) is =
+    All-cons IsUtf8 (codes "bundle") (b.name ∷ b.members) (text_from (codes "bundle") refl)
+    (All-cons IsUtf8 b.name b.members is.name.utf8 (text_names b.members is.members.each))
+text_line Last is = one_text (codes "end") (text_from (codes "end") refl)
 
 -- the first two bytes of the first word tell its kind
 abbrev mark : List (List ℕ) → ℕ

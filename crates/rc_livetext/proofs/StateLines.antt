@@ -1,11 +1,11 @@
 -- States one after another, and what may stand after them.
-use Rattle.std.proofs.Common.{◌≡◌, ◌∙◌, ℕ, Bool, true, false, List, [], ◌∷◌, ◌++◌, map, All}
+use Rattle.std.proofs.Common.{◌≡◌, ◌∙◌, ℕ, Bool, true, false, List, [], ◌∷◌, ◌++◌, get_or, map, All}
 use Rattle.std.proofs.Common.{refl, sym, ap, subst, append_assoc, Vec, Global}
 use Rattle.std.proofs.lemmas.List.Elements.{All-nil, All-push}
 use Rattle.rc_textform.specs.Words.{BundleText}
 use Rattle.rc_textform.specs.Form.{spells}
 use Rattle.rc_livetext.specs.Text.{Line, First, OfServices, OfBound, OfState, OfBundle, Last}
-use Rattle.rc_livetext.specs.Text.{StateText, IsStateText, AreAscending, state_lines, spell}
+use Rattle.rc_livetext.specs.Text.{StateText, IsStateText, AreAscending, IsBundleText, state_lines, spell}
 use Rattle.rc_livetext.specs.Following.{Place, AtFirst, AtServices, AtBound, AtStates, InState}
 use Rattle.rc_livetext.specs.Following.{May, place_after, IsNoLineHere}
 use Rattle.rc_livetext.specs.Held.{AreBundles, HasBundles, HasNoMore, HasNo, HasStates}
@@ -16,7 +16,7 @@ use Rattle.rc_livetext.specs.Saying.{IsSaid}
 use Rattle.rc_livetext.specs.FormText.{line_text}
 use Rattle.rc_livetext.specs.declared.lines.LineForm.{LineForm}
 use Rattle.rc_livetext.specs.declared.lines.LineForm.TheVariants as form
-use Rattle.rc_names.specs.declared.name.Name.{Name}
+use Rattle.rc_textform.specs.declared.name_word.NameWord.{NameWord}
 use Rattle.rc_livetext.proofs.ManyLines.{first_once, first_apart}
 use Rattle.rc_textform.proofs.Stuck.{spells-append}
 use Rattle.rc_livetext.proofs.PartLemmas.{lines_push}
@@ -106,7 +106,7 @@ other_line place line rest behind said here apart l tail may same =
 -- a line that was read and is no state's may not stand before the current state
 pub not_before : (place : Place) (line : LineForm) (rest behind : List ℕ) → IsOpenTo false place
     → HasNoBundle place rest → rest ≡ spell (line_text line) ++ behind
-    → ((current : Bool) (names : Vec Name Global) → line ≡ form.State current names → ⊥)
+    → ((current : Bool) (names : Vec NameWord Global) → line ≡ form.State current names → ⊥)
     → May place (line_text line) → ⊥
 not_before place (form.State current names) rest behind opens none here other may =
     other current names refl
@@ -120,7 +120,7 @@ not_before place line rest behind opens none here other may = opens
 -- and after it none that is no state's either and not the last one
 pub not_behind : (place : Place) (line : LineForm) (rest behind : List ℕ) → IsOpenTo true place
     → HasNoBundle place rest → rest ≡ spell (line_text line) ++ behind → (line ≡ form.Last → ⊥)
-    → ((current : Bool) (names : Vec Name Global) → line ≡ form.State current names → ⊥)
+    → ((current : Bool) (names : Vec NameWord Global) → line ≡ form.State current names → ⊥)
     → May place (line_text line) → ⊥
 not_behind place form.Last rest behind opens none here inner other may = inner refl
 not_behind place (form.State current names) rest behind opens none here inner other may =
@@ -148,11 +148,18 @@ stops_here place bytes rest states Memory has missing = tt
 pub stops_short : (place : Place) (bytes : List ℕ) (fault : FormFault) → fault ≡ Memory → Stops place bytes fault
 stops_short place bytes fault is = subst (Stops place bytes) (sym is) tt
 
+-- no bundle stands where another byte does
+pub no_bundle_byte : (bytes : List ℕ) → (get_or bytes 0 0 ≡ 98 → ⊥)
+    → HasNo IsBundleText OfBundle bytes
+no_bundle_byte bytes other b tail is same = other (ap (λ (l : List ℕ). get_or l 0 0) same)
+
 -- no bundle stands where another line does
-pub no_bundle_here : (bundles : List BundleText) (line : LineForm) (rest behind : List ℕ) → IsSaid (line_text line) → rest ≡ spell (line_text line) ++ behind
-    → ((b : BundleText) → line ≡ form.Bundle b → ⊥) → HasNoMore bundles rest
-no_bundle_here bundles line rest behind said here other b tail may same =
-    apart line other (first_once (line_text line) (OfBundle b) behind tail said may.is (sym here ∙ same)).0
+pub no_bundle_here : (line : LineForm) (rest behind : List ℕ) → IsSaid (line_text line)
+    → rest ≡ spell (line_text line) ++ behind → ((b : BundleText) → line ≡ form.Bundle b → ⊥)
+    → HasNo IsBundleText OfBundle rest
+no_bundle_here line rest behind said here other b tail is same =
+    apart line other
+    (first_once (line_text line) (OfBundle b) behind tail said is (sym here ∙ same)).0
   where
     apart : (one : LineForm) → ((c : BundleText) → one ≡ form.Bundle c → ⊥) → line_text one ≡ OfBundle b → ⊥
     apart (form.First bounded) differs is = absurd (cc)

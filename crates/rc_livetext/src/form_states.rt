@@ -1,17 +1,17 @@
 //! The states of a live text, each with its bundles.
-ghost use Rattle.std.specs.Prelude.{◌≡◌, ◌↔◌, ◌++◌, List, true, IfOk, IfErr, IsTrue};
+ghost use Rattle.std.specs.Prelude.{◌≡◌, ◌↔◌, ◌++◌, List, true, IfOk, IfErr, IsTrue, MatchOption};
+ghost use Rattle.std.specs.Bool.{OnFalse};
 ghost use Rattle.rc_model.specs.Names.{IsBefore};
 ghost use Rattle.rc_textform.specs.Words.{BundleText};
-ghost use Rattle.rc_livetext.specs.Text.{AreAscending, IsBundleText, OfState, Last, spell};
+ghost use Rattle.rc_livetext.specs.Text.{AreAscending, IsBundleText, OfBundle, OfState, Last, spell};
 ghost use Rattle.rc_livetext.specs.Following.{MayAdd, AtStates, InState};
-ghost use Rattle.rc_livetext.specs.Held.{AreBundles, HasBundles, HasNoMore, HasStates, Stops};
+ghost use Rattle.rc_livetext.specs.Held.{AreBundles, HasBundles, HasNo, HasNoMore, HasStates, Stops};
 
 use crate::form_fault::FormFault;
 use crate::heads::next_line;
 use crate::lines::{LineForm, line_of};
-use rc_names::Name;
-use rc_textform::{BundleForm, is_before};
-use std::alloc::Global;
+use rc_textform::{BundleForm, NameWord, is_before};
+use std::alloc::{AllocError, Global};
 use std::marker::Model;
 
 /// The most bundles of a state.
@@ -19,12 +19,12 @@ const MAX_BUNDLES: usize = 4096;
 
 /// A state as the text gives it.
 #[derive(Drop)]
-pub struct StateForm {
-    pub live: Vec<Name>,
-    pub bundles: Vec<BundleForm>,
+pub struct StateForm<'a> {
+    pub live: Vec<NameWord<'a>>,
+    pub bundles: Vec<BundleForm<'a>>,
 }
 
-impl Model for StateForm {
+impl<'a> Model for StateForm<'a> {
     ghost use Rattle.rc_livetext.specs.Text.{StateText};
 
     ghost Value = { StateText };
@@ -33,10 +33,10 @@ impl Model for StateForm {
 }
 
 /// The states before the current one, what is up in that, and what follows its line.
-pub(crate) fn states_to_current(
+pub(crate) fn states_to_current<'a>(
     alloc: Global,
-    bytes: &[u8],
-) -> Result<(Vec<StateForm>, Vec<Name>, &[u8]), FormFault>
+    bytes: &'a [u8],
+) -> Result<(Vec<StateForm<'a>>, Vec<NameWord<'a>>, &'a [u8]), FormFault>
     ensures ok { IfOk result (λ read. AreAscending read.1.items
         × HasStates bytes.now read.0.items (spell (OfState true read.1.items) ++ read.2.now)) }
     ensures fault { IfErr result (Stops AtStates bytes.now) }
@@ -60,10 +60,10 @@ pub(crate) fn states_to_current(
 }
 
 /// The states after the current one, and what follows the last line.
-pub(crate) fn states_to_last(
+pub(crate) fn states_to_last<'a>(
     alloc: Global,
-    bytes: &[u8],
-) -> Result<(Vec<StateForm>, &[u8]), FormFault>
+    bytes: &'a [u8],
+) -> Result<(Vec<StateForm<'a>>, &'a [u8]), FormFault>
     ensures ok { IfOk result (λ read.
         HasStates bytes.now read.0.items (spell Last ++ read.1.now)) }
     ensures fault { IfErr result (λ fault. (bundles : List BundleText)
@@ -91,7 +91,10 @@ pub(crate) fn states_to_last(
 }
 
 /// As many bundles as may follow the line of a state, and what follows them.
-pub(crate) fn bundles_at(alloc: Global, bytes: &[u8]) -> Result<(Vec<BundleForm>, &[u8]), FormFault>
+pub(crate) fn bundles_at<'a>(
+    alloc: Global,
+    bytes: &'a [u8],
+) -> Result<(Vec<BundleForm<'a>>, &'a [u8]), FormFault>
     ensures ok { IfOk result (λ read. HasBundles bytes.now read.0.items read.1.now
         × HasNoMore read.0.items read.1.now) }
     ensures fault { IfErr result (λ fault. fault ≡ FormFault.Memory) }
@@ -99,13 +102,10 @@ pub(crate) fn bundles_at(alloc: Global, bytes: &[u8]) -> Result<(Vec<BundleForm>
     let mut bundles = Vec::new(alloc);
     let mut rest = bytes;
     loop {
-        let Ok(read) = line_of(alloc, rest) else {
+        let Ok(read) = bundle_line(alloc, rest) else {
             return Err(FormFault::Memory);
         };
-        let Some((line, behind)) = read else {
-            return Ok((bundles, rest));
-        };
-        let LineForm::Bundle(bundle) = line else {
+        let Some((bundle, behind)) = read else {
             return Ok((bundles, rest));
         };
         if !may_add(bundles.as_slice(), &bundle) {
@@ -118,8 +118,35 @@ pub(crate) fn bundles_at(alloc: Global, bytes: &[u8]) -> Result<(Vec<BundleForm>
     }
 }
 
+// The bundle whose line is in front, and what follows it.
+fn bundle_line<'a>(
+    alloc: Global,
+    bytes: &'a [u8],
+) -> Result<Option<(BundleForm<'a>, &'a [u8])>, AllocError>
+    ensures { IfOk result (λ read. MatchOption read (HasNo IsBundleText OfBundle bytes.now)
+        (λ read. IsBundleText read.0 × (bytes.now ≡ spell (OfBundle read.0) ++ read.1.now))) }
+{
+    if !may_be_bundle(bytes) {
+        return Ok(None);
+    }
+    let Some((line, rest)) = line_of(alloc, bytes)? else {
+        return Ok(None);
+    };
+    let LineForm::Bundle(bundle) = line else {
+        return Ok(None);
+    };
+    Ok(Some((bundle, rest)))
+}
+
+// Whether the line of a bundle may begin here. Most lines show by their first byte that none does.
+fn may_be_bundle(bytes: &[u8]) -> bool
+    ensures { OnFalse result (HasNo IsBundleText OfBundle bytes.now) }
+{
+    !bytes.is_empty() && bytes[0] == b'b'
+}
+
 // Whether a bundle may follow others.
-fn may_add(bundles: &[BundleForm], bundle: &BundleForm) -> bool
+fn may_add(bundles: &[BundleForm<'_>], bundle: &BundleForm<'_>) -> bool
     requires before { AreBundles bundles.now }
     requires bundle { IsBundleText bundle.now }
     ensures { IsTrue result ↔ MayAdd bundles.now bundle.now }
@@ -132,7 +159,7 @@ fn may_add(bundles: &[BundleForm], bundle: &BundleForm) -> bool
 }
 
 // Whether the name of a bundle comes before that of another.
-fn comes_before(first: &BundleForm, second: &BundleForm) -> bool
+fn comes_before(first: &BundleForm<'_>, second: &BundleForm<'_>) -> bool
     ensures { IsTrue result ↔ IsBefore first.now.name second.now.name }
 {
     is_before(&first.name, &second.name)

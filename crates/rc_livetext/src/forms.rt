@@ -5,22 +5,22 @@ ghost use Rattle.rc_livetext.specs.Refusals.{BeginsWith, IsRefused};
 use crate::form_fault::FormFault;
 use crate::form_states::{StateForm, bundles_at, states_to_current, states_to_last};
 use crate::heads::head;
-use rc_names::Name;
+use rc_textform::NameWord;
 use std::alloc::Global;
 use std::marker::Model;
 
 /// A line of states as its text gives it.
 #[derive(Drop)]
-pub struct LiveForm {
-    pub services: Vec<Name>,
+pub struct LiveForm<'a> {
+    pub services: Vec<NameWord<'a>>,
     /// How many states there may be, where the text says so.
     pub bound: Option<u32>,
-    pub before: Vec<StateForm>,
-    pub current: StateForm,
-    pub after: Vec<StateForm>,
+    pub before: Vec<StateForm<'a>>,
+    pub current: StateForm<'a>,
+    pub after: Vec<StateForm<'a>>,
 }
 
-impl Model for LiveForm {
+impl<'a> Model for LiveForm<'a> {
     ghost use Rattle.rc_livetext.specs.Text.{LiveText};
 
     ghost Value = { LiveText };
@@ -35,7 +35,7 @@ impl Model for LiveForm {
 }
 
 /// What the text at the beginning says, and what follows it.
-pub fn read_form(alloc: Global, bytes: &[u8]) -> Result<(LiveForm, &[u8]), FormFault>
+pub fn read_form<'a>(alloc: Global, bytes: &'a [u8]) -> Result<(LiveForm<'a>, &'a [u8]), FormFault>
     ensures ok { IfOk result (λ read. BeginsWith bytes.now read.0 read.1.now) }
     ensures fault { IfErr result (IsRefused bytes.now) }
 {

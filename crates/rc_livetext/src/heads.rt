@@ -10,15 +10,14 @@ ghost use Rattle.rc_livetext.specs.Refusals.{IsRefused};
 
 use crate::form_fault::FormFault;
 use crate::lines::{LineForm, line_of, version_of};
-use rc_names::Name;
-use rc_textform::number_line;
+use rc_textform::{NameWord, number_line};
 use std::alloc::Global;
 
 /// The names of all services, how many states there may be, and what follows.
-pub(crate) fn head(
+pub(crate) fn head<'a>(
     alloc: Global,
-    bytes: &[u8],
-) -> Result<(Vec<Name>, Option<u32>, &[u8]), FormFault>
+    bytes: &'a [u8],
+) -> Result<(Vec<NameWord<'a>>, Option<u32>, &'a [u8]), FormFault>
     ensures ok { IfOk result (λ read. AreAscending read.0.items × IfSome read.1 IsBound
         × (bytes.now ≡ spells spell (head_lines read.0.items read.1) ++ read.2.now)) }
     ensures fault { IfErr result (IsRefused bytes.now) }
@@ -37,7 +36,7 @@ fn first_line(alloc: Global, bytes: &[u8]) -> Result<(bool, &[u8]), FormFault>
     ensures ok { IfOk result (λ read. bytes.now ≡ spell (text.First read.0) ++ read.1.now) }
     ensures fault { IfErr result (IsRefused bytes.now) }
 {
-    let Ok(read) = number_line(alloc, bytes, b"undorc-live") else {
+    let Ok(read) = number_line(alloc, bytes, "undorc-live") else {
         return Err(FormFault::Memory);
     };
     let Some((number, rest)) = read else {
@@ -50,7 +49,10 @@ fn first_line(alloc: Global, bytes: &[u8]) -> Result<(bool, &[u8]), FormFault>
 }
 
 // The names of all services, and what follows their line.
-fn services_line(alloc: Global, bytes: &[u8]) -> Result<(Vec<Name>, &[u8]), FormFault>
+fn services_line<'a>(
+    alloc: Global,
+    bytes: &'a [u8],
+) -> Result<(Vec<NameWord<'a>>, &'a [u8]), FormFault>
     ensures ok { IfOk result (λ read. AreAscending read.0.items
         × (bytes.now ≡ spell (text.OfServices read.0.items) ++ read.1.now)) }
     ensures fault { IfErr result (IsMissing AreAscending text.OfServices bytes.now) }
@@ -82,7 +84,10 @@ fn bound_line(alloc: Global, bytes: &[u8]) -> Result<(u32, &[u8]), FormFault>
 }
 
 /// The line in front, whatever it says, and what follows it.
-pub(crate) fn next_line(alloc: Global, bytes: &[u8]) -> Result<(LineForm, &[u8]), FormFault>
+pub(crate) fn next_line<'a>(
+    alloc: Global,
+    bytes: &'a [u8],
+) -> Result<(LineForm<'a>, &'a [u8]), FormFault>
     ensures ok { IfOk result (λ read. IsSaid (line_text read.0)
         × (bytes.now ≡ spell (line_text read.0) ++ read.1.now)) }
     ensures fault { IfErr result (IsMissing IsSaid (λ l. l) bytes.now) }

@@ -6,10 +6,11 @@ ghost use Rattle.rc_livetext.specs.Parts.{IsKnownHere};
 use crate::form_states::StateForm;
 use crate::forms::LiveForm;
 use rc_dbtext::{are_known, bundles_are_complete};
-use rc_names::{Name, Names};
+use rc_names::Names;
+use rc_textform::NameWord;
 
 /// Whether these are the names of the services, in their order.
-pub(crate) fn are_services(texts: &[Name], names: &Names) -> bool
+pub(crate) fn are_services(texts: &[NameWord<'_>], names: &Names) -> bool
     ensures { IsTrue result ↔ (texts.now ≡ names.now) }
 {
     if texts.len() != usize::from(names.len()) {
@@ -24,7 +25,7 @@ pub(crate) fn are_services(texts: &[Name], names: &Names) -> bool
 }
 
 /// Whether all that the states of a text name stands for what it may.
-pub(crate) fn states_are_known(form: &LiveForm, names: &Names) -> bool
+pub(crate) fn states_are_known(form: &LiveForm<'_>, names: &Names) -> bool
     ensures { IsTrue result ↔ All (IsKnownState names.now) (all_states form.now) }
 {
     all_known(form.before.as_slice(), names)
@@ -33,14 +34,14 @@ pub(crate) fn states_are_known(form: &LiveForm, names: &Names) -> bool
 }
 
 // Whether all that these states name stands for what it may.
-fn all_known(states: &[StateForm], names: &Names) -> bool
+fn all_known(states: &[StateForm<'_>], names: &Names) -> bool
     ensures { IsTrue result ↔ All (IsKnownHere names.now) states.now }
 {
     states.iter().all(|state| is_known_state(state, names))
 }
 
 // Whether all that a state names stands for what it may.
-fn is_known_state(state: &StateForm, names: &Names) -> bool
+fn is_known_state(state: &StateForm<'_>, names: &Names) -> bool
     ensures { IsTrue result ↔ IsKnownHere names.now state.now }
 {
     are_known(state.live.as_slice(), names) && bundles_are_complete(state.bundles.as_slice(), names)

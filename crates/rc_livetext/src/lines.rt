@@ -7,23 +7,25 @@ ghost use Rattle.rc_livetext.specs.Text.{AreAscending, IsBound, version_word, sp
 ghost use Rattle.rc_livetext.specs.Saying.{IsSaid, Says, SaysNone};
 ghost use Rattle.rc_livetext.specs.FormText.{line_text};
 
-use rc_names::Name;
-use rc_textform::{BundleForm, ascend, is, name_of, names_of, number_of, words_of};
+use rc_textform::{BundleForm, NameWord, ascend, is, names_of, number_of, words_of};
 use std::alloc::{AllocError, Global};
 
 /// A line by what it says.
 #[derive(Drop)]
-pub enum LineForm {
+pub enum LineForm<'a> {
     First(bool),
-    Services(Vec<Name>),
+    Services(Vec<NameWord<'a>>),
     Bound(u32),
-    State(bool, Vec<Name>),
-    Bundle(BundleForm),
+    State(bool, Vec<NameWord<'a>>),
+    Bundle(BundleForm<'a>),
     Last,
 }
 
 /// The line in front, and what follows it. None: no line of a live text stands there.
-pub(crate) fn line_of(alloc: Global, bytes: &[u8]) -> Result<Option<(LineForm, &[u8])>, AllocError>
+pub(crate) fn line_of<'a>(
+    alloc: Global,
+    bytes: &'a [u8],
+) -> Result<Option<(LineForm<'a>, &'a [u8])>, AllocError>
     ensures { IfOk result (λ read. MatchOption read
         ((l : text.Line) (tail : List ℕ) → IsSaid l → bytes.now ≡ spell l ++ tail → ⊥)
         (λ read. IsSaid (line_text read.0)
@@ -39,7 +41,7 @@ pub(crate) fn line_of(alloc: Global, bytes: &[u8]) -> Result<Option<(LineForm, &
 }
 
 // The line of these words, if they are one's.
-fn said(alloc: Global, words: &[&[u8]]) -> Result<Option<LineForm>, AllocError>
+fn said<'a>(alloc: Global, words: &[&'a str]) -> Result<Option<LineForm<'a>>, AllocError>
     ensures { IfOk result (λ line. MatchOption line
         (SaysNone (map (λ word. word.now) words.now))
         (λ line. Says (map (λ word. word.now) words.now) (line_text line))) }
@@ -47,13 +49,13 @@ fn said(alloc: Global, words: &[&[u8]]) -> Result<Option<LineForm>, AllocError>
     let Some((first, others)) = words.split_first() else {
         return Ok(None);
     };
-    if is(first, b"now") {
+    if is(first, "now") {
         said_state(alloc, true, others)
-    } else if is(first, b"up") {
+    } else if is(first, "up") {
         said_state(alloc, false, others)
-    } else if is(first, b"bundle") {
+    } else if is(first, "bundle") {
         said_bundle(alloc, others)
-    } else if is(first, b"services") {
+    } else if is(first, "services") {
         said_services(alloc, others)
     } else {
         Ok(said_plainly(first, others))
@@ -61,11 +63,11 @@ fn said(alloc: Global, words: &[&[u8]]) -> Result<Option<LineForm>, AllocError>
 }
 
 // The line of a state that has these names.
-fn said_state(
+fn said_state<'a>(
     alloc: Global,
     current: bool,
-    others: &[&[u8]],
-) -> Result<Option<LineForm>, AllocError>
+    others: &[&'a str],
+) -> Result<Option<LineForm<'a>>, AllocError>
     ensures { IfOk result (λ line. MatchOption line
         (SaysNone (text.state_word current ∷ map (λ word. word.now) others.now))
         (λ line. Says (text.state_word current ∷ map (λ word. word.now) others.now)
@@ -78,7 +80,7 @@ fn said_state(
 }
 
 // The line of services that has these names.
-fn said_services(alloc: Global, others: &[&[u8]]) -> Result<Option<LineForm>, AllocError>
+fn said_services<'a>(alloc: Global, others: &[&'a str]) -> Result<Option<LineForm<'a>>, AllocError>
     ensures { IfOk result (λ line. MatchOption line
         (SaysNone (codes "services" ∷ map (λ word. word.now) others.now))
         (λ line. Says (codes "services" ∷ map (λ word. word.now) others.now) (line_text line))) }
@@ -90,7 +92,7 @@ fn said_services(alloc: Global, others: &[&[u8]]) -> Result<Option<LineForm>, Al
 }
 
 // The line of a bundle that has these words.
-fn said_bundle(alloc: Global, others: &[&[u8]]) -> Result<Option<LineForm>, AllocError>
+fn said_bundle<'a>(alloc: Global, others: &[&'a str]) -> Result<Option<LineForm<'a>>, AllocError>
     ensures { IfOk result (λ line. MatchOption line
         (SaysNone (codes "bundle" ∷ map (λ word. word.now) others.now))
         (λ line. Says (codes "bundle" ∷ map (λ word. word.now) others.now) (line_text line))) }
@@ -98,7 +100,7 @@ fn said_bundle(alloc: Global, others: &[&[u8]]) -> Result<Option<LineForm>, Allo
     let Some((name, members)) = others.split_first() else {
         return Ok(None);
     };
-    let Some(name) = name_of(alloc, name)? else {
+    let Some(name) = NameWord::read(name) else {
         return Ok(None);
     };
     match ascending(alloc, members)? {
@@ -108,7 +110,7 @@ fn said_bundle(alloc: Global, others: &[&[u8]]) -> Result<Option<LineForm>, Allo
 }
 
 // The line of a first word and others, without names.
-fn said_plainly(first: &[u8], others: &[&[u8]]) -> Option<LineForm>
+fn said_plainly<'a>(first: &str, others: &[&str]) -> Option<LineForm<'a>>
     requires now { first.now ≡ codes "now" → ⊥ }
     requires up { first.now ≡ codes "up" → ⊥ }
     requires bundle { first.now ≡ codes "bundle" → ⊥ }
@@ -118,7 +120,7 @@ fn said_plainly(first: &[u8], others: &[&[u8]]) -> Option<LineForm>
 {
     match others {
         [] => {
-            if is(first, b"end") {
+            if is(first, "end") {
                 Some(LineForm::Last)
             } else {
                 None
@@ -130,7 +132,7 @@ fn said_plainly(first: &[u8], others: &[&[u8]]) -> Option<LineForm>
 }
 
 // The line of two words, without names.
-fn said_of_two(first: &[u8], other: &[u8]) -> Option<LineForm>
+fn said_of_two<'a>(first: &str, other: &str) -> Option<LineForm<'a>>
     requires now { first.now ≡ codes "now" → ⊥ }
     requires up { first.now ≡ codes "up" → ⊥ }
     requires bundle { first.now ≡ codes "bundle" → ⊥ }
@@ -138,10 +140,10 @@ fn said_of_two(first: &[u8], other: &[u8]) -> Option<LineForm>
     ensures { MatchOption result (SaysNone (first.now ∷ other.now ∷ []))
         (λ line. Says (first.now ∷ other.now ∷ []) (line_text line)) }
 {
-    if is(first, b"bound") {
+    if is(first, "bound") {
         let bound = bound_of(other)?;
         Some(LineForm::Bound(bound))
-    } else if is(first, b"undorc-live") {
+    } else if is(first, "undorc-live") {
         let bounded = version_of(other)?;
         Some(LineForm::First(bounded))
     } else {
@@ -150,7 +152,7 @@ fn said_of_two(first: &[u8], other: &[u8]) -> Option<LineForm>
 }
 
 // The bound that a word says.
-fn bound_of(word: &[u8]) -> Option<u32>
+fn bound_of(word: &str) -> Option<u32>
     ensures { MatchOption result ((n : ℕ) → IsBound n → word.now ≡ decimal n → ⊥)
         (λ n. IsBound n × (word.now ≡ decimal n)) }
 {
@@ -160,13 +162,13 @@ fn bound_of(word: &[u8]) -> Option<u32>
 }
 
 /// Whether the version that a word says has a bound.
-pub(crate) fn version_of(word: &[u8]) -> Option<bool>
+pub(crate) fn version_of(word: &str) -> Option<bool>
     ensures { MatchOption result ((bounded : Bool) → word.now ≡ version_word bounded → ⊥)
         (λ bounded. word.now ≡ version_word bounded) }
 {
-    if is(word, b"2") {
+    if is(word, "2") {
         Some(true)
-    } else if is(word, b"1") {
+    } else if is(word, "1") {
         Some(false)
     } else {
         None
@@ -174,7 +176,7 @@ pub(crate) fn version_of(word: &[u8]) -> Option<bool>
 }
 
 // The words as names that ascend, if they are such.
-fn ascending(alloc: Global, words: &[&[u8]]) -> Result<Option<Vec<Name>>, AllocError>
+fn ascending<'a>(alloc: Global, words: &[&'a str]) -> Result<Option<Vec<NameWord<'a>>>, AllocError>
     ensures { IfOk result (λ names. MatchOption names
         (AreAscending (map (λ word. word.now) words.now) → ⊥)
         (λ names. (names.items ≡ map (λ word. word.now) words.now)

@@ -42,7 +42,7 @@ pub fn read_live(alloc: Global, bytes: &[u8], db: &Db) -> Result<(Line, usize), 
 }
 
 // What a text says that is all of the bytes.
-fn whole_form(alloc: Global, bytes: &[u8]) -> Result<LiveForm, LiveFault>
+fn whole_form<'a>(alloc: Global, bytes: &'a [u8]) -> Result<LiveForm<'a>, LiveFault>
     ensures ok { IfOk result (λ form. BeginsWith bytes.now form []) }
     ensures fault { IfErr result (λ fault. (d : Database) → IsLiveFault d bytes.now fault) }
 {
@@ -70,7 +70,7 @@ fn told(fault: FormFault, bytes: &[u8]) -> LiveFault
 }
 
 // The line of what a text says.
-fn line_of(alloc: Global, form: &LiveForm, db: &Db) -> Result<Line, LiveFault>
+fn line_of(alloc: Global, form: &LiveForm<'_>, db: &Db) -> Result<Line, LiveFault>
     requires { IsLiveText form.now }
     ensures text { IfOk result (λ line. IsTextOf db.now form.now line.line form.now.bound) }
     ensures line { IfOk result (λ line. IsLineOf db.now line.line × (line.is_open ≡ false)) }
@@ -87,7 +87,7 @@ fn line_of(alloc: Global, form: &LiveForm, db: &Db) -> Result<Line, LiveFault>
 }
 
 // The line of a text whose names are those of the database.
-fn joined(alloc: Global, form: &LiveForm, db: &Db) -> Result<Line, LiveFault>
+fn joined(alloc: Global, form: &LiveForm<'_>, db: &Db) -> Result<Line, LiveFault>
     requires text { IsLiveText form.now }
     requires names { PassesNames db.now form.now }
     ensures text { IfOk result (λ line. IsTextOf db.now form.now line.line form.now.bound) }

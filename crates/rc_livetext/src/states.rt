@@ -17,7 +17,7 @@ use std::alloc::{AllocError, Global};
 /// The states that a text says, from the oldest to the newest.
 pub(crate) fn states_in(
     alloc: Global,
-    form: &LiveForm,
+    form: &LiveForm<'_>,
     names: &Names,
 ) -> Result<Vec<(Set, Table)>, NoMem>
     requires text { IsLiveText form.now }
@@ -40,7 +40,7 @@ pub(crate) fn states_in(
 fn push_all(
     alloc: Global,
     held: &mut Vec<(Set, Table)>,
-    form: &LiveForm,
+    form: &LiveForm<'_>,
     names: &Names,
 ) -> Result<(), NoMem>
     requires text { IsLiveText form.now }
@@ -59,7 +59,7 @@ fn push_all(
 fn push_states(
     alloc: Global,
     held: &mut Vec<(Set, Table)>,
-    forms: &[StateForm],
+    forms: &[StateForm<'_>],
     names: &Names,
 ) -> Result<(), NoMem>
     requires text { All IsStateText forms.now }
@@ -79,7 +79,7 @@ fn push_states(
 fn push_state(
     alloc: Global,
     held: &mut Vec<(Set, Table)>,
-    form: &StateForm,
+    form: &StateForm<'_>,
     names: &Names,
 ) -> Result<(), NoMem>
     requires text { IsStateText form.now }
@@ -95,7 +95,7 @@ fn push_state(
 }
 
 // The live set and the table that a text says of a state.
-fn state_in(alloc: Global, form: &StateForm, names: &Names) -> Result<(Set, Table), NoMem>
+fn state_in(alloc: Global, form: &StateForm<'_>, names: &Names) -> Result<(Set, Table), NoMem>
     requires text { IsStateText form.now }
     requires known { IsKnownState names.now form.now }
     ensures says { IfOk result (λ s.

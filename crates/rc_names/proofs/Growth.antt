@@ -1,28 +1,12 @@
 -- What a list of names is once a name went in at the place where it is missing.
-use Rattle.std.proofs.Common.{◌≡◌, ℕ, ◌+◌, ◌-◌, ◌<◌, ◌⊎◌, ◌↔◌, ⊎_elim, inl, inr, List, [], ◌∷◌, length, get_or, insert, Contains, All, arith, sym, subst}
+use Rattle.std.proofs.Common.{◌≡◌, ℕ, ◌+◌, ◌-◌, ◌<◌, ⊎_elim, inl, inr, List, ◌∷◌, length, get_or, insert, Contains, All, arith, subst}
 use Rattle.std.proofs.lemmas.Bool.{cases_lt}
 use Rattle.std.proofs.lemmas.List.Edits.{length-insert, get_or-insert_below, get_or-insert_at, get_or-insert_above}
-use Rattle.std.proofs.lemmas.List.Elements.{All-cons, Contains-append_cases, Contains-append_right, Contains-get_or}
-use Rattle.std.proofs.lemmas.List.Sorted.{IsPermutation-insert, IsPermutation-sym, All-permutation, Contains-permutation}
+use Rattle.std.proofs.lemmas.List.Elements.{All-cons}
+use Rattle.std.proofs.lemmas.List.Sorted.{IsPermutation-insert, All-permutation}
 use Rattle.rc_model.proofs.ByteOrder.{not_before_itself}
-use Rattle.rc_model.specs.Names.{IsName, IsBefore, IsInByteOrder, AreNames}
-use Rattle.rc_names.specs.Names.{Adds, IsGap}
-
-module _ {X : Type 0} where
-  only : (x y : X) → Contains (x ∷ []) y → y ≡ x
-  only x y (k, within, here) =
-      let first : k ≡ 0 = omega arith in
-      sym (subst (λ n. get_or (x ∷ []) n y ≡ y) first here)
-
-  -- an insert adds one element
-  Contains-insert : (xs : List X) (i : ℕ) (x y : X) → Contains (insert xs i x) y ↔ (Contains xs y ⊎ (y ≡ x))
-  Contains-insert xs i x y =
-      let moved = IsPermutation-insert xs i x in (
-        λ there. ⊎_elim (λ at. inr (only x y at)) (λ rest. inl rest)
-            (Contains-append_cases (x ∷ []) xs y (Contains-permutation (insert xs i x) (x ∷ xs) y (IsPermutation-sym (x ∷ xs) (insert xs i x) moved) there)),
-        λ cases. Contains-permutation (x ∷ xs) (insert xs i x) y moved
-            (⊎_elim (λ rest. Contains-append_right (x ∷ []) xs y rest) (λ at. subst (Contains (x ∷ xs)) (sym at) (Contains-get_or (x ∷ xs) 0 x (omega arith))) cases),
-      )
+use Rattle.rc_model.specs.Names.{IsName, IsBefore, IsInByteOrder}
+use Rattle.rc_names.specs.Names.{IsGap}
 
 module _ (texts : List (List ℕ)) (text : List ℕ) (place : ℕ) (gap : IsGap texts text place) where
   -- a text with a gap is none of the names
@@ -73,23 +57,3 @@ module _ (texts : List (List ℕ)) (text : List ℕ) (place : ℕ) (gap : IsGap 
   pub each_grown : All IsName texts → IsName text → All IsName (insert texts place text)
   each_grown each good = All-permutation IsName (text ∷ texts) (insert texts place text)
       (IsPermutation-insert texts place text) (All-cons IsName text texts good each)
-
-  -- what the names are with the text in its gap
-  pub names_grown : AreNames texts → IsName text → length texts < 4096
-      → AreNames (insert texts place text)
-  names_grown held good room = record {
-    order = order_grown held.order;
-    each = each_grown held.each good;
-    few = omega (arith, length-insert texts place text gap.within);
-  }
-
-  pub adds_grown : Adds texts text (insert texts place text)
-  adds_grown other = Contains-insert texts place text other
-
--- names to which one is added that is there stay the same
-pub adds_none : (old : List (List ℕ)) (name : List ℕ) → Contains old name → Adds old name old
-adds_none old name there text = (
-  λ has. inl has,
-  λ cases. ⊎_elim (λ has. has) (λ is. subst
-      (Contains old) (sym is) there) cases,
-)

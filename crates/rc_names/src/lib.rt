@@ -6,7 +6,7 @@ mod name;
 mod names;
 
 pub use kind::Kind;
-pub use name::{Name, NameFault};
+pub use name::{Name, NameFault, is_name};
 pub use names::{MAX_NAMES, Names};
 use std::alloc::AllocError;
 

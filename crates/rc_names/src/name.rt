@@ -99,13 +99,31 @@ impl Name {
         self.text.as_str()
     }
 
+    /// The name that a text is, which [`is_name`] tells.
+    pub fn of(alloc: Global, text: &str) -> Result<Name, NoMem>
+        requires { IsName text.now }
+        ensures { IfOk result (λ name. name ≡ text.now) }
+    {
+        let text = String::from_str(alloc, text)?;
+        Ok(Name { text })
+    }
+
     /// Another value of the same name.
     pub fn copy(&self, alloc: Global) -> Result<Name, NoMem>
         ensures { IfOk result (λ copy. copy ≡ self.now) }
     {
-        let text = String::from_str(alloc, self.text.as_str())?;
-        Ok(Name { text })
+        Name::of(alloc, self.text())
     }
+}
+
+/// Whether a text is a name.
+pub fn is_name(text: &str) -> bool
+    ensures { IsTrue result ↔ IsName text.now }
+{
+    !text.is_empty()
+        && text.len() <= MAX_BYTES
+        && has_name_bytes(text.as_bytes())
+        && !text.starts_with(RESERVED)
 }
 
 // Whether these bytes may stand in a name, the first of them at its start.

@@ -1,46 +1,49 @@
-ghost use Rattle.std.specs.Prelude.{◌≡◌, ◌+◌, ◌<◌, ◌↔◌, [], false, length, Some, Contains, IfOk, IfErr, OnOk, OnErr, IfSome, IfNone, IsTrue, slice_get, if◌then◌else◌};
-ghost use Rattle.rc_names.specs.Names.{Adds, IsGap};
-ghost use Rattle.rc_model.specs.Names.{AreNames};
+ghost use Rattle.std.specs.Prelude.{◌≡◌, ◌+◌, ◌<◌, ◌↔◌, ◌∷◌, ◌++◌, [], false, length, Some, All, Contains, IfOk, OnOk, OnErr, IfSome, IfNone, IsTrue, slice_get, if◌then◌else◌};
+ghost use Rattle.rc_names.specs.Names.{Adds};
+ghost use Rattle.rc_model.specs.Names.{AreNames, IsBefore};
 
 use crate::NoMem;
 use crate::name::Name;
+use indexmap::IndexMap;
 pub use rc_model::MAX_NAMES;
 use std::alloc::Global;
 use std::marker::Model;
 
 /// A table of names in byte order. A name's id is its place.
-///
-/// Time: `len` and `name_of` take one step, `find` and `find_bytes` grow with the logarithm of the
-/// number of names, and `add` moves the names after the new one.
 pub struct Names {
-    table: Vec<Name>,
+    alloc: Global,
+    table: IndexMap<String, Name>,
 }
 
 impl Model for Names {
-    ghost use Rattle.std.specs.Prelude.{ℕ, List};
+    ghost use Rattle.std.specs.Prelude.{◌≡◌, ℕ, List, map};
+    ghost use Rattle.std.specs.String.{string_bytes};
+    ghost use Rattle.indexmap.specs.IndexMap.{keys, values};
     ghost use Rattle.rc_model.specs.Names.{AreNames};
 
     ghost Value = { List (List ℕ) };
 
-    ghost view = { λ names. names.table.items };
+    ghost view = { λ names. values names.table };
 
-    ghost invariant = { λ names. AreNames names.table.items };
+    ghost invariant = { λ names. (map string_bytes (keys names.table) ≡ values names.table)
+        × AreNames (values names.table) };
 }
 
 // Not derived: a crate that lets one go calls this, and proves nothing of its parts.
 impl Drop for Names {
     fn drop(self) {
-        let Names { table: _ } = self;
+        let Names { alloc: _, table: _ } = self;
     }
 }
 
 impl Names {
-    /// A table of no names.
+    /// A table of no names, which keeps the allocator.
     pub fn new(alloc: Global) -> Names
         ensures { result ≡ [] }
     {
         Names {
-            table: Vec::new(alloc),
+            alloc,
+            table: IndexMap::new(alloc),
         }
     }
 
@@ -57,13 +60,24 @@ impl Names {
         ensures present { Contains self.old name → (result ≡ Ok false) × (self.new ≡ self.old) }
         ensures err { OnErr result (self.new ≡ self.old) }
     {
-        match self.place_of(name.text()) {
-            Ok(_) => Ok(false),
-            Err(place) => {
-                self.table.insert(place, name)?;
-                Ok(true)
-            }
+        if self.find(name.text()).is_some() {
+            return Ok(false);
         }
+        let key = String::from_str(self.alloc, name.text())?;
+        self.table.insert_sorted(key, name)?;
+        Ok(true)
+    }
+
+    /// Adds a name that comes after all others, and whose id is the last.
+    pub fn append(&mut self, name: Name) -> Result<(), NoMem>
+        requires room { length self.old < MAX_NAMES }
+        requires last { All (λ other. IsBefore other name) self.old }
+        ensures added { OnOk result (self.new ≡ self.old ++ name ∷ []) }
+        ensures err { OnErr result (self.new ≡ self.old) }
+    {
+        let key = String::from_str(self.alloc, name.text())?;
+        self.table.insert(key, name)?;
+        Ok(())
     }
 
     /// The id of a text, if it is among the names.
@@ -71,9 +85,28 @@ impl Names {
         ensures found { IfSome result (λ id. slice_get self.now id ≡ Some text.now) }
         ensures missing { IfNone result (Contains self.now text.now → ⊥) }
     {
-        match self.place_of(text) {
-            Ok(place) => Some(place as u16),
-            Err(_) => None,
+        let place = self.table.get_index_of(text)?;
+        Some(place as u16)
+    }
+
+    /// The id of a text, if it is among the names. It is looked for at this place first.
+    pub fn find_near(&self, text: &str, place: u16) -> Option<u16>
+        ensures found { IfSome result (λ id. slice_get self.now id ≡ Some text.now) }
+        ensures missing { IfNone result (Contains self.now text.now → ⊥) }
+    {
+        if self.is_at(text, place) {
+            return Some(place);
+        }
+        self.find(text)
+    }
+
+    // Whether a text is the name at this place.
+    fn is_at(&self, text: &str, place: u16) -> bool
+        ensures { IsTrue result → slice_get self.now place ≡ Some text.now }
+    {
+        match self.table.get_index(place as usize) {
+            Some((_, name)) => name.text() == text,
+            None => false,
         }
     }
 
@@ -111,13 +144,5 @@ impl Names {
         ensures { IsTrue result ↔ (self.now ≡ []) }
     {
         self.table.is_empty()
-    }
-    // The place of a text among the names, or else that at which it would stand.
-    fn place_of(&self, text: &str) -> Result<usize, usize>
-        ensures found { IfOk result (λ place. slice_get self.now place ≡ Some text.now) }
-        ensures missing { IfErr result (λ place. IsGap self.now text.now place) }
-        ensures names { AreNames self.now }
-    {
-        self.table.binary_search_by(|name| name.text().cmp(text))
     }
 }

@@ -1,5 +1,8 @@
-pub mod WordLines
+mod Images
+pub mod NumberLines
 pub mod Numbers
 pub mod Plain
-pub mod NumberLines
 pub mod Stuck
+mod TextLines
+pub mod Texts
+pub mod WordLines

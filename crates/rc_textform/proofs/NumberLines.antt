@@ -1,7 +1,10 @@
 -- Lines of a word and a number.
-use Rattle.std.proofs.Common.{◌≡◌, ◌∙◌, ℕ, List, [], ◌∷◌, sym}
+use Rattle.std.proofs.Common.{◌≡◌, ◌∙◌, ℕ, List, [], ◌∷◌, All, sym}
+use Rattle.std.proofs.lemmas.List.Elements.{All-cons}
+use Rattle.std.specs.Str.{IsUtf8}
 use Rattle.rc_textform.specs.Words.{IsPlain, ArePlain, BeginsWith, IsNumber, HasNumber}
 use Rattle.rc_textform.proofs.WordLines.{words_once, each_cons}
+use Rattle.rc_textform.proofs.Texts.{one_text, text_number}
 use Rattle.rc_textform.proofs.Plain.{plain_number, plain_words, no_words}
 
 -- a word and a number
@@ -10,6 +13,12 @@ pub plain_numbered : (word number : List ℕ) → IsPlain word → IsNumber numb
 plain_numbered word number plain is =
     plain_words word (number ∷ []) plain
     (each_cons number [] (plain_number number is) no_words)
+
+-- a word and a number are UTF-8
+pub numbered_text : (word number : List ℕ) → IsUtf8 word → IsNumber number
+    → All IsUtf8 (word ∷ number ∷ [])
+numbered_text word number text is =
+    All-cons IsUtf8 word (number ∷ []) text (one_text number (text_number number is))
 
 -- a line of a word and a number has these words
 pub number_words : (word bytes : List ℕ) → IsPlain word → (Such : List ℕ → Type 0)

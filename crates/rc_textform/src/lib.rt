@@ -5,9 +5,11 @@
 
 pub mod laws;
 mod lines;
+mod name_word;
 mod order;
 mod words;
 
 pub use crate::lines::{BundleForm, argument, arguments, number_line};
+pub use crate::name_word::{NameWord, names_of};
 pub use crate::order::{ascend, is_before};
-pub use crate::words::{is, is_number, name_of, names_of, number_of, value_of, words_of};
+pub use crate::words::{is, is_number, number_of, value_of, words_of};

@@ -2,19 +2,19 @@
 ghost use Rattle.std.specs.Prelude.{◌≡◌, ℕ, List, [], ◌∷◌, ◌++◌, map, IfOk, MatchOption};
 ghost use Rattle.rc_textform.specs.Words.{IsNumber, IsPlain, HasNumber, line_of_words};
 
+use crate::name_word::NameWord;
 use crate::words::{is, is_number, words_of};
-use rc_names::Name;
 use std::alloc::{AllocError, Global};
 use std::marker::Model;
 
 /// A bundle as a text gives it.
 #[derive(Drop)]
-pub struct BundleForm {
-    pub name: Name,
-    pub members: Vec<Name>,
+pub struct BundleForm<'a> {
+    pub name: NameWord<'a>,
+    pub members: Vec<NameWord<'a>>,
 }
 
-impl Model for BundleForm {
+impl<'a> Model for BundleForm<'a> {
     ghost use Rattle.rc_textform.specs.Words.{BundleText};
 
     ghost Value = { BundleText };
@@ -26,8 +26,8 @@ impl Model for BundleForm {
 pub fn number_line<'a>(
     alloc: Global,
     bytes: &'a [u8],
-    word: &[u8],
-) -> Result<Option<(&'a [u8], &'a [u8])>, AllocError>
+    word: &str,
+) -> Result<Option<(&'a str, &'a [u8])>, AllocError>
     requires { IsPlain word.now }
     ensures { IfOk result (λ read. MatchOption read
         (HasNumber word.now (λ _. Unit {0}) bytes.now → ⊥)
@@ -48,7 +48,7 @@ pub fn number_line<'a>(
 }
 
 /// The one word after this word, where there is one.
-pub fn argument<'a>(words: &[&'a [u8]], word: &[u8]) -> Option<&'a [u8]>
+pub fn argument<'a>(words: &[&'a str], word: &str) -> Option<&'a str>
     ensures { MatchOption result
         ((other : List ℕ) → map (λ word. word.now) words.entry.now ≡ word.now ∷ other ∷ [] → ⊥)
         (λ other. map (λ word. word.now) words.entry.now ≡ word.now ∷ other.now ∷ []) }
@@ -60,7 +60,7 @@ pub fn argument<'a>(words: &[&'a [u8]], word: &[u8]) -> Option<&'a [u8]>
 }
 
 /// The words after this word.
-pub fn arguments<'a, 'b>(words: &'b [&'a [u8]], word: &[u8]) -> Option<&'b [&'a [u8]]>
+pub fn arguments<'a, 'b>(words: &'b [&'a str], word: &str) -> Option<&'b [&'a str]>
     ensures { MatchOption result
         ((others : List (List ℕ)) → map (λ word. word.now) words.entry.now ≡ word.now ∷ others → ⊥)
         (λ others. map (λ word. word.now) words.entry.now

@@ -2,18 +2,18 @@
 ghost use Rattle.std.specs.Prelude.{◌↔◌, IsTrue};
 ghost use Rattle.rc_model.specs.Names.{IsBefore, IsInByteOrder};
 
-use rc_names::Name;
+use crate::name_word::NameWord;
 use std::cmp::Ordering;
 
 /// Whether names ascend, each before the next one.
-pub fn ascend(names: &[Name]) -> bool
+pub fn ascend(names: &[NameWord<'_>]) -> bool
     ensures { IsTrue result ↔ IsInByteOrder names.now }
 {
     names.is_sorted_by(is_before)
 }
 
 /// Whether a name comes before another.
-pub fn is_before(first: &Name, second: &Name) -> bool
+pub fn is_before(first: &NameWord<'_>, second: &NameWord<'_>) -> bool
     ensures { IsTrue result ↔ IsBefore first.now second.now }
 {
     first.text().cmp(second.text()) == Ordering::Less

@@ -2,11 +2,11 @@ use Rattle.rc_dbform.proofs.KindLines.{no_bundle_name, no_bundle_members, is_bun
 use Rattle.rc_dbform.proofs.lines.bundle_from.Goals as goal
 
 pub returns-in_default : goal.returns-in_default
-returns-in_default c = no_bundle_name c.args.name.now _ (rw c.in_default.is at c.in_ok-name.ensures)
+returns-in_default c = no_bundle_name c.args.name.now _ c.in_default.ensures
 
 pub returns-in-Some-2 : goal.returns-in-Some-2
 returns-in-Some-2 c =
-    let name = rw c.in-Some.is at c.in_ok-name.ensures in
+    let name = c.in-Some.ensures in
     let members = rw c.in-Some-2.is at c.in_ok-members.ensures in
     is_bundle c.args.name.now c.in-Some.name _ c.in-Some-2.members.items name.0 name.1 members.0 members.1
 

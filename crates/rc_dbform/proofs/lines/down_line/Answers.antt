@@ -1,4 +1,4 @@
-use Rattle.std.proofs.Common.{◌∙◌, List, ℕ, [], ◌∷◌, get_or, Some, None, IfSome, string_bytes, refl, sym, ap}
+use Rattle.std.proofs.Common.{◌∙◌, List, ℕ, [], ◌∷◌, get_or, Some, None, IfSome, refl, sym, ap}
 use Rattle.std.proofs.lemmas.Bool.{true≢false}
 use Rattle.std.proofs.lemmas.Result.{err_from_is_err_and}
 use Rattle.std.specs.Prelude.{codes}
@@ -18,9 +18,9 @@ returns-in_default-clause-fault c =
     let none = rw c.as_slice.ensures.value at c.in_default.ensures in
     other_line (λ t. IfSome t IsScript) OfDown down_kind c.args.bytes.now c.in_ok-words.rest.now _ c.in_ok-words.ensures.ok (λ value tail is same behind. none (length_word value) same)
 
-pub returns-in-Ok-None-clause-fault : goal.returns-in-Ok-None-clause-fault
-returns-in-Ok-None-clause-fault c =
-    let none = rw c.in-Ok-None.field-0-is at c.in-Ok-None.ensures in
+pub returns-clause-fault : goal.returns-clause-fault
+returns-clause-fault c =
+    let none = c.in-None.ensures in
     let long = rw c.as_slice.ensures.value at c.in-Some.ensures in
     other_line (λ t. IfSome t IsScript) OfDown down_kind c.args.bytes.now c.in_ok-words.rest.now _ c.in_ok-words.ensures.ok
     (λ value tail is same behind. no_down c.in-Some.long.now c.in_ok-words.rest.now
@@ -33,9 +33,9 @@ returns-then-is-clause-ok c =
     read_with_text (λ t. IfSome t IsScript) OfDown c.args.bytes.now c.in_ok-words.rest.now c.in_ok-words.rest.now _ None c.in_ok-words.ensures.ok tt
     (words ∙ ap (λ (w : List ℕ). codes "down" ∷ w ∷ []) (c.is.ensures.0 c.if-is.true)) refl
 
-pub returns-in-Ok-Some-clause-ok : goal.returns-in-Ok-Some-clause-ok
-returns-in-Ok-Some-clause-ok c =
+pub returns-in-Some-text_after-clause-ok : goal.returns-in-Some-text_after-clause-ok
+returns-in-Some-text_after-clause-ok c =
     let words = rw c.as_slice.ensures.value at c.in-Some.ensures in
-    let said = rw c.in-Ok-Some.field-0-is at c.in-Ok-Some.ensures in
-    read_with_text (λ t. IfSome t IsScript) OfDown c.args.bytes.now c.in_ok-words.rest.now c.in-Ok-Some.behind.now _ (Some (string_bytes c.in-Ok-Some.text)) c.in_ok-words.ensures.ok said.0
+    let said = c.in-Some-text_after.ensures in
+    read_with_text (λ t. IfSome t IsScript) OfDown c.args.bytes.now c.in_ok-words.rest.now c.in-Some-text_after.behind.now _ (Some c.in-Some-text_after.text.now) c.in_ok-words.ensures.ok said.0
     (words ∙ ap (λ (w : List ℕ). codes "down" ∷ w ∷ []) said.1) said.2

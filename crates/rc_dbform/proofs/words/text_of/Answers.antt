@@ -1,4 +1,4 @@
-use Rattle.std.proofs.Common.{◌≡◌, ◌∙◌, ◌++◌, ◌∷◌, [], ℕ, List, length, take, string_bytes, arith, append_assoc, ap, sym, subst}
+use Rattle.std.proofs.Common.{◌≡◌, ◌∙◌, ◌++◌, ◌∷◌, [], ℕ, List, length, take, arith, append_assoc, ap, sym, subst}
 use Rattle.std.proofs.lemmas.List.{take-append-le, take_all}
 use Rattle.rc_db.specs.Service.{IsScript}
 use Rattle.rc_dbform.proofs.words.text_of.Goals as goal
@@ -19,9 +19,12 @@ only bytes cut rest text more long (cut_long, is_cut) text_long is_text =
 pub returns-in_default : goal.returns-in_default
 returns-in_default c = λ text rest script long is. c.in_default.ensures text rest long is
 
-pub returns-in-Some-2 : goal.returns-in-Some-2
-returns-in-Some-2 c = copied c.args.bytes.now (string_bytes c.in-Some-2.text) c.in-Some.text.now c.in-Some.rest.now c.args.long c.in-Some.ensures (rw c.in-Some-2.is at c.in_ok-text.ensures)
+pub returns-in-Some-script_of : goal.returns-in-Some-script_of
+returns-in-Some-script_of c =
+    copied c.args.bytes.now c.in-Some-script_of.text.now c.in-Some.text.now c.in-Some.rest.now
+    c.args.long c.in-Some.ensures c.in-Some-script_of.ensures
 
 pub returns-in-None : goal.returns-in-None
 returns-in-None c = λ text rest script long is.
-    (rw c.in-None.is at c.in_ok-text.ensures) (subst IsScript (only c.args.bytes.now c.in-Some.text.now c.in-Some.rest.now text rest c.args.long c.in-Some.ensures long is) script)
+    c.in-None.ensures (subst IsScript (only c.args.bytes.now c.in-Some.text.now c.in-Some.rest.now
+    text rest c.args.long c.in-Some.ensures long is) script)

@@ -1,11 +1,10 @@
-use Rattle.std.proofs.Common.{◌≡◌, ◌∙◌, ℕ, List, [], Option, Some, None, MatchOption, slice_get, string_bytes, refl, sym, ap, subst}
+use Rattle.std.proofs.Common.{◌≡◌, ◌∙◌, ℕ, List, [], Option, Some, None, MatchOption, slice_get, refl, sym, ap, subst}
 use Rattle.std.proofs.lemmas.Option.{get_or_from_slice_get}
 use Rattle.std.specs.Option.{option_map}
 use Rattle.rc_model.specs.declared.Kind.{Kind}
 use Rattle.rc_model.specs.declared.Kind.TheVariants as kinds
 use Rattle.rc_model.specs.Database.{Service}
-use Rattle.rc_db.specs.Service.{IsScript}
-use Rattle.rc_dbform.specs.Text.{Head, Body, OfLongrun, OfOneshot, ServiceText, IsBody, IsHead, IsServiceText}
+use Rattle.rc_dbform.specs.Text.{Head, OfLongrun, OfOneshot, ServiceText, IsBody, IsHead, IsServiceText}
 use Rattle.rc_dbform.specs.FormText.{body_text}
 use Rattle.rc_dbtext.specs.Parts.{FeedsKnown, IsServiceOf}
 use Rattle.rc_dbtext.specs.Spelling.{body_of, head_of, name_at}
@@ -57,10 +56,10 @@ pub returns-in_ok-down-in-Oneshot : goal.returns-in_ok-down-in-Oneshot
 returns-in_ok-down-in-Oneshot c =
     let made : Service = c.service_with-in-Oneshot.result in
     let head : c.form.inside.head ≡ c.args.form.now.head = ap (λ (t : ServiceText). t.head) c.form.view_is in
-    oneshot_of c.args.names.now c.args.form.now made (string_bytes c.in-Oneshot.up) (option_map string_bytes c.in-Oneshot.down) c.requires.text
+    oneshot_of c.args.names.now c.args.form.now made c.in-Oneshot.up.now (option_map (λ text. text.now) c.in-Oneshot.down) c.requires.text
     (subst (λ (h : Head). head_of h.name made ≡ h) head c.service_with-in-Oneshot.ensures.head)
     (ap (λ (t : ServiceText). t.body) (sym c.form.view_is) ∙ ap body_text c.in-Oneshot.is)
-    (c.service_with-in-Oneshot.ensures.up ∙ ap Some (c.in_ok-up-in-Oneshot.ensures.ok ∙ c.as_str.ensures.value)) (c.service_with-in-Oneshot.ensures.down ∙ c.in_ok-down-in-Oneshot.ensures) c.service_with-in-Oneshot.ensures.fed
+    (c.service_with-in-Oneshot.ensures.up ∙ ap Some c.in_ok-up-in-Oneshot.ensures.ok) (c.service_with-in-Oneshot.ensures.down ∙ c.in_ok-down-in-Oneshot.ensures) c.service_with-in-Oneshot.ensures.fed
 
 pub fed_id-producer_for-requires : goal.fed_id-producer_for-requires
 fed_id-producer_for-requires c =

@@ -13,7 +13,8 @@ set_of-requires-clause-known c =
 pub returns : goal.returns
 returns c =
     let is : c.as_slice.result.now ≡ c.args.form.now.members = c.as_slice.ensures.value ∙ ap (λ (b : BundleText). b.members) c.form.view_is in
-    let named : c.form.inside.name ≡ c.args.form.now.name = ap (λ (b : BundleText). b.name) c.form.view_is in (
+    let named : c.in_ok-name.name ≡ c.args.form.now.name =
+    c.in_ok-name.ensures ∙ ap (λ (b : BundleText). b.name) c.form.view_is in (
       c.in_ok-set.set,
       added_last c.args.form.now.name c.in_ok-set.set c.tables_are_their_values.ensures c.args.table.now c.set.new.self c.len-before.ensures.table c.len-after.ensures.table c.requires.room c.requires.last
           (subst (λ (n : List ℕ). IsChangedAt c.args.table.now n (Some c.in_ok-set.set) c.set.new.self) named c.in_ok-set-2.ensures.table),

@@ -7,12 +7,12 @@ use Rattle.rc_dbtext.proofs.Bundling.{members_back}
 use Rattle.rc_dbtext.proofs.Drafting.{named_one}
 use Rattle.rc_dbtext.proofs.bundles.set_of.Goals as goal
 
-pub id_of-requires : goal.id_of-requires
-id_of-requires c = subst (Contains c.args.names.now) (sym c.text-item.is) (c.requires.known c.loop-text.text-index c.text-item.result c.loop-text-test.true)
+pub id_of-id-requires : goal.id_of-id-requires
+id_of-id-requires c = subst (Contains c.args.names.now) (sym c.text-item.is) (c.requires.known c.loop-text.text-index c.text-item.result c.loop-text-test.true)
 
 pub insert-requires : goal.insert-requires
 insert-requires c =
-    let within : c.id_of.result < length c.args.names.now = slice_get_within c.args.names.now c.id_of.result c.text-item.result c.id_of.ensures.found in
+    let within : c.id_of-id.result < length c.args.names.now = slice_get_within c.args.names.now c.id_of-id.result c.text-item.result c.id_of-id.ensures.found in
     omega (arith, c.loop-text.invariant.bound)
 
 pub loop-text-preserved : goal.loop-text-preserved
@@ -23,7 +23,7 @@ loop-text-preserved c =
     record {
       bound = c.insert.ensures.bound ∙ c.loop-text.invariant.bound;
       members = subst (λ (ws : List (List ℕ)). Holds c.insert.new.self (IsNamed c.args.names.now ws)) (sym more)
-          (named_one c.args.names.now front c.text-item.result c.id_of.result c.loop-text.set c.insert.new.self c.id_of.ensures.names.order c.id_of.ensures.found c.loop-text.invariant.members c.insert.ensures.members);
+          (named_one c.args.names.now front c.text-item.result c.id_of-id.result c.loop-text.set c.insert.new.self c.id_of-id.ensures.names.order c.id_of-id.ensures.found c.loop-text.invariant.members c.insert.ensures.members);
     }
 
 pub returns-clause-members : goal.returns-clause-members

@@ -1,8 +1,12 @@
 use Rattle.std.proofs.Common.{◌∙◌, sym}
 use Rattle.rc_textform.proofs.WordLines.{words_once}
 use Rattle.rc_livetext.specs.Text.{words}
-use Rattle.rc_livetext.proofs.LineWords.{plain_line}
+use Rattle.rc_livetext.proofs.LineWords.{plain_line, text_line}
 use Rattle.rc_livetext.proofs.lines.line_of.Goals as goal
+
+pub returns-in_default : goal.returns-in_default
+returns-in_default c = λ l tail is same.
+    (rw c.in_default.is at c.in_ok-words.ensures) (words l) tail (text_line l is) same
 
 pub returns : goal.returns
 returns c = λ l tail is same.

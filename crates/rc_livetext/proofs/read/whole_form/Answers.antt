@@ -7,8 +7,8 @@ pub returns-then-is_empty-clause-ok : goal.returns-then-is_empty-clause-ok
 returns-then-is_empty-clause-ok c =
     nothing_behind c.args.bytes.now c.in-Ok.read.1.now c.in-Ok.read.0 (eqb-true _ 0 (sym c.is_empty.ensures ∙ c.if-is_empty.true)) c.in-Ok.ensures.ok
 
-pub returns-else-is_empty-clause-fault : goal.returns-else-is_empty-clause-fault
-returns-else-is_empty-clause-fault c = λ d.
+pub returns-clause-fault : goal.returns-clause-fault
+returns-clause-fault c = λ d.
     more_behind d c.args.bytes.now c.in-Ok.read.1.now c.in-Ok.read.0 (λ none. false≢true (sym c.if-is_empty.false ∙ c.is_empty.ensures ∙ eq-eqb (length c.in-Ok.read.1.now) 0 none)) c.in-Ok.ensures.ok
 
 pub told-requires : goal.told-requires

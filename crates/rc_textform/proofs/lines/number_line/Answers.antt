@@ -1,12 +1,13 @@
 use Rattle.std.proofs.Common.{◌≡◌, ◌∙◌, ◌∷◌, List, ℕ, [], get_or, subst, sym, ap, true}
 use Rattle.rc_textform.specs.Words.{IsNumber}
-use Rattle.rc_textform.proofs.NumberLines.{number_words}
+use Rattle.rc_textform.proofs.NumberLines.{number_words, numbered_text}
 use Rattle.rc_textform.proofs.lines.number_line.Goals as goal
 
 pub returns-in_default : goal.returns-in_default
 returns-in_default c =
     let none = rw c.in_default.is at c.in_ok-words.ensures in
-    λ has. none (c.args.word.now ∷ has.0 ∷ []) has.1 has.4
+    λ has. none (c.args.word.now ∷ has.0 ∷ []) has.1
+    (numbered_text c.args.word.now has.0 c.utf8.word has.2) has.4
 
 pub returns-in_default-argument : goal.returns-in_default-argument
 returns-in_default-argument c =

@@ -1,14 +1,21 @@
-use Rattle.std.proofs.Common.{◌<◌, length, arith}
-use Rattle.std.proofs.lemmas.Option.{slice_get_within}
-use Rattle.rc_names.proofs.Growth.{gap_absent}
+use Rattle.std.proofs.Common.{◌<◌, length, Some, None, IfNone, Contains, sym, ◌∙◌}
+use Rattle.std.proofs.lemmas.List.{length-map}
+use Rattle.std.specs.String.{string_bytes}
+use Rattle.std.specs.HashMap.{keys}
+use Rattle.rc_names.proofs.Finding.{slice_get-found, not_shown}
 use Rattle.rc_names.proofs.names.Names.find.Goals as goal
 
-pub overflow_cast-result : goal.overflow_cast-result
-overflow_cast-result c =
-    let within : c.in-Ok.place < length c.args.self.now =
-    slice_get_within c.args.self.now c.in-Ok.place c.args.text.now c.in-Ok.ensures.found in
-    omega (arith, within, c.place_of.ensures.names.few)
+pub returns-in_err-place-clause-missing : goal.returns-in_err-place-clause-missing
+returns-in_err-place-clause-missing c =
+    let missing = not_shown string_bytes (keys c.self.inside.table) c.args.self.now c.args.text.now
+    (c.self.invariant.0 ∙ c.self.view_is) (sym c.in_err-place.ensures.index) in
+    elim c.from_residual.result as (λ r. IfNone r (Contains c.args.self.now c.args.text.now
+    → ⊥)) [ None ↦ missing | Some _ ↦ tt ]
 
-pub returns-in-Err-clause-missing : goal.returns-in-Err-clause-missing
-returns-in-Err-clause-missing c = gap_absent c.args.self.now c.args.text.now _
-    c.in-Err.ensures.missing
+pub returns-clause-found : goal.returns-clause-found
+returns-clause-found c =
+    let within : c.in_ok-place.place < length (keys c.self.inside.table) =
+    rw length-map c.in_ok-place.ensures.within in
+    slice_get-found string_bytes (keys c.self.inside.table) c.args.self.now c.args.text.now
+    (c.self.invariant.0 ∙ c.self.view_is) c.in_ok-place.place
+    (sym c.in_ok-place.ensures.index) within

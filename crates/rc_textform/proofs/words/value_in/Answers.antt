@@ -1,6 +1,6 @@
 use Rattle.std.proofs.Common.{arith}
 use Rattle.rc_textform.proofs.Numbers.{digits_value-more, digits_value-above}
-use Rattle.rc_textform.proofs.words.value_of.Goals as goal
+use Rattle.rc_textform.proofs.words.value_in.Goals as goal
 
 pub returns-then-above : goal.returns-then-above
 returns-then-above c =

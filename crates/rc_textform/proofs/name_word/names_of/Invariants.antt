@@ -1,6 +1,6 @@
 use Rattle.std.proofs.Common.{◌≡◌, map, take, All}
 use Rattle.rc_model.specs.Names.{IsName}
-use Rattle.rc_textform.proofs.words.names_of.Given as goal
+use Rattle.rc_textform.proofs.name_word.names_of.Given as goal
 
 -- the words so far are names
 abbrev pub invariant-loop-word : goal.invariant-loop-word
