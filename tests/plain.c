@@ -1,10 +1,14 @@
-// plain DATABASE PAIRS [kept]: what a session answers to a change of all services and to so many
-// pairs of its undo and redo, by a plain loop over services and pairs: no plan, no state, no events,
-// nothing kept. With `kept` each move is made by a thread of its own, which takes each service and
-// ends it under a lock, and keeps where each service stands and what happened, as a session does.
-// tests/measure-changes.sh compares the time of both, and what they write, with a session's.
+// plain DATABASE PAIRS [kept | one NAME]: what a session answers to a change of all services and to
+// so many pairs of its undo and redo, by a plain loop over services and pairs: no plan, no state, no
+// events, nothing kept. With `kept` each move is made by a thread of its own, which takes each service
+// and ends it under a lock, and keeps where each service stands and what happened, as a session does.
+// With `one` all are up but NAME and what needs it, and it raises NAME and lowers it again with what
+// needs it, so many times: it follows what is reached with a stack, and looks at all services once,
+// eight at a time, to write what moved. tests/measure-changes.sh and tests/measure-lines.sh compare the
+// time and the instructions, and what it writes, with a session's.
 #define _GNU_SOURCE
 #include <pthread.h>
+#include <stdint.h>
 #include <stdio.h>
 #include <stdlib.h>
 #include <string.h>
@@ -149,10 +153,70 @@ static void move(const char *word, int keeps, const int *before, const int *afte
     puts("\nok");
 }
 
+static char is_up[MANY], is_reached[MANY];
+
+// Marks what a service reaches along lists, the service among it, and lists it.
+static int reach(int service, const int *first, const int *list, int *reached) {
+    int many = 0;
+    memset(is_reached, 0, count);
+    is_reached[service] = 1;
+    reached[many++] = service;
+    for (int at = 0; at < many; at++)
+        for (int p = first[reached[at]]; p < first[reached[at] + 1]; p++)
+            if (!is_reached[list[p]]) is_reached[list[p]] = 1, reached[many++] = list[p];
+    return many;
+}
+
+// Brings a service up with all that it needs, or down with all that needs it, each of those that
+// move after those that it waits for, and tells what moved.
+static void turn(const char *word, int service, int up, const int *first, const int *list,
+                 const int *after, const int *next) {
+    static int reached[MANY], waits[MANY], queue[MANY];
+    static char moved[MANY];
+    int many = reach(service, first, list, reached), length = 0;
+    memset(moved, 0, count);
+    for (int at = 0; at < many; at++) {
+        int s = reached[at];
+        if (is_up[s] == up) continue;
+        waits[s] = 0;
+        for (int p = first[s]; p < first[s + 1]; p++) waits[s] += is_up[list[p]] != up;
+        if (!waits[s]) queue[length++] = s;
+    }
+    while (length) {
+        int s = queue[--length];
+        is_up[s] = up;
+        moved[s] = 1;
+        for (int p = after[s]; p < after[s + 1]; p++)
+            if (is_reached[next[p]] && is_up[next[p]] != up && !--waits[next[p]]) queue[length++] = next[p];
+    }
+    fputs(word, stdout);
+    for (int at = 0; at < count; at += 8) {
+        uint64_t eight;
+        memcpy(&eight, moved + at, 8);
+        for (int s = at; eight && s < at + 8; s++)
+            if (moved[s]) putchar(' '), fputs(names[s], stdout);
+    }
+    puts("\nok");
+}
+
+static void turn_one(const char *name, int pairs) {
+    int service = find(name);
+    memset(is_up, 1, count);
+    turn("lowered", service, 0, first_user, user, first_need, need);
+    for (; pairs > 0; pairs--) {
+        turn("raised", service, 1, first_need, need, first_user, user);
+        turn("lowered", service, 0, first_user, user, first_need, need);
+    }
+}
+
 int main(int words, char **word) {
-    int keeps = words == 4 && !strcmp(word[3], "kept");
-    if (words != 3 + keeps) return 2;
+    int keeps = words == 4 && !strcmp(word[3], "kept"), one = words == 5 && !strcmp(word[3], "one");
+    if (words != 3 + keeps + 2 * one) return 2;
     read_graph(word[1]);
+    if (one) {
+        turn_one(word[4], atoi(word[2]));
+        return 0;
+    }
     move("raised", keeps, first_need, first_user, user);
     for (int pairs = atoi(word[2]); pairs > 0; pairs--) {
         move("lowered", keeps, first_user, first_need, need);

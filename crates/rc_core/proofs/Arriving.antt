@@ -1,23 +1,22 @@
-use Rattle.std.proofs.Common.{◌≡◌, ◌≢◌, ◌∙◌, ◌↔◌, ℕ, ◌+◌, ◌-◌, ◌<◌, ◌≤◌, List, [], ◌∷◌, ◌++◌, Bool, true, false, Contains, eqb, inl, inr, length, take, remove, slice_index, slice_index_or, slice_set, vec_len, vec_capacity, All, cond, count_by, zero, suc, refl, sym, subst, arith}
+use Rattle.std.proofs.Common.{◌≡◌, ◌≢◌, ◌∙◌, ◌↔◌, ℕ, ◌+◌, ◌-◌, ◌<◌, ◌≤◌, List, [], ◌∷◌, ◌++◌, Bool, true, false, Contains, eqb, inl, inr, length, take, slice_index, slice_index_or, slice_set, vec_capacity, All, cond, count_by, zero, suc, refl, sym, subst, arith}
 use Rattle.std.specs.Global.{Vec}
 use mathlib.Core.Bool.{beq}
 use Rattle.std.proofs.lemmas.Bool.{cases_lt, cases_eq, ne_eqb}
-use Rattle.std.proofs.lemmas.List.{length_push, get_or_past, get_or_default, get_or-take, length-take-le, get_or_append_left, get_or_push}
+use Rattle.std.proofs.lemmas.List.{length_push, get_or_past, get_or_default, get_or-take, length-take-le}
 use Rattle.std.proofs.lemmas.List.Elements.{Contains-append_left, Contains-append_cases, Contains-push, Contains-push_cases, Contains-get_or}
-use Rattle.std.proofs.lemmas.List.Quantifiers.{all_pairs_push, all_pairs_remove}
+use Rattle.std.proofs.lemmas.List.Quantifiers.{all_pairs_push}
 use Rattle.std.proofs.lemmas.List.Sums.{count_by-le-length, sum_by-cons}
 use Rattle.std.proofs.lemmas.Map.Keys.{IsDistinct-from_apart}
 use Rattle.std.proofs.lemmas.Map.Steps.{length-le_from_distinct_below}
-use Rattle.rc_model.specs.Names.{Has, IsAscending}
+use Rattle.rc_model.specs.Names.{IsAscending}
 use Rattle.rc_graph.specs.Order.{AreDistinct}
 use Rattle.rc_graph.specs.Placing.{Meets}
 use Rattle.rc_graph.proofs.Orders.{none_met, last_met, more_met, distinct_ascending, not_before}
 use Rattle.rc_graph.proofs.PairLemmas.{no_member}
 use Rattle.rc_graph.proofs.Unmet.{contains_any}
 use Rattle.rc_core.specs.declared.ready.Ready.{Ready}
-use Rattle.rc_model.proofs.SetMembers.{has_within}
-use Rattle.rc_core.specs.Ready.{IsCount, HasQueue, Arrives, TakesOut, QueuesFrom}
-use Rattle.rc_core.proofs.Counted.{distinct_both, removed}
+use Rattle.rc_core.specs.Ready.{IsCount, HasQueue, Arrives}
+use Rattle.rc_core.proofs.Counted.{distinct_both}
 
 -- none of a list
 pub none_arrive : (old : Ready) → Arrives [] old old
@@ -28,12 +27,24 @@ none_arrive old = record {
   capacity = refl;
 }
 
--- the queue as far as it has come has room for one more that waited for one
-pub room_for_one : (those waits mid_waits : List ℕ) (queue mid : Vec ℕ) (x : ℕ)
+-- what waits for some stands in the queue neither at first nor so far
+pub out_of_queue : (those waits : List ℕ) (queue mid : Vec ℕ) (mid_waits : List ℕ) (x : ℕ)
+    → HasQueue waits queue → Meets those queue.items waits mid.items mid_waits
+    → (Contains those x → ⊥) → 0 < slice_index waits x → Contains mid.items x → ⊥
+out_of_queue those waits queue mid mid_waits x has meets out some there =
+    elim (Contains-append_cases queue.items meets.more x
+    (subst (λ (xs : List ℕ). Contains xs x) meets.behind there)) [
+      | inl earlier ↦ omega (arith, some, (has.none x earlier).1)
+      | inr now ↦ out ((meets.placed x).0 now).0
+    ]
+
+-- the queue as far as it has come has fewer services than there are, where one more that waited for
+-- one is to go in
+pub fewer_queued : (those waits mid_waits : List ℕ) (queue mid : Vec ℕ) (x : ℕ)
     → HasQueue waits queue → Meets those queue.items waits mid.items mid_waits
     → (Contains those x → ⊥) → x < length waits → slice_index mid_waits x ≡ 1
-    → length mid.items + 1 ≤ vec_capacity queue
-room_for_one those waits mid_waits queue mid x has meets out low one =
+    → length mid.items + 1 ≤ length waits
+fewer_queued those waits mid_waits queue mid x has meets out low one =
     let was : slice_index waits x ≡ 1 = sym (meets.same x out) ∙ one in
     let apart : (s : ℕ) → Contains queue.items s → Contains meets.more s → ⊥ =
     λ s first second. omega (arith, (has.none s first).1, ((meets.placed s).0 second).1) in
@@ -41,12 +52,7 @@ room_for_one those waits mid_waits queue mid x has meets out low one =
     subst AreDistinct (sym meets.behind)
     (distinct_both queue.items meets.more has.once meets.once apart) in
     let lacks : Contains mid.items x → ⊥ =
-    λ there.
-    elim (Contains-append_cases queue.items meets.more x
-    (subst (λ (xs : List ℕ). Contains xs x) meets.behind there)) [
-      | inl earlier ↦ omega (arith, was, (has.none x earlier).1)
-      | inr now ↦ out ((meets.placed x).0 now).0
-    ] in
+    out_of_queue those waits queue mid mid_waits x has meets out (omega (arith, was)) in
     let all : AreDistinct (mid.items ++ x ∷ []) =
     all_pairs_push (λ a b. a ≢ b) mid.items x once
     (λ k d h same. lacks (subst (Contains mid.items) same (Contains-get_or mid.items k d h))) in
@@ -64,7 +70,7 @@ room_for_one those waits mid_waits queue mid x has meets out low one =
     (IsDistinct-from_apart eqb (mid.items ++ x ∷ [])
     (λ i j d before within. ne_eqb _ _ (all i j d before within)))
     (λ q any. below q (contains_any (mid.items ++ x ∷ []) q any)) in
-    omega (arith, short, has.room, length_push mid.items x)
+    omega (arith, short, length_push mid.items x)
   where
     listed_low : (ws : List ℕ) (q : ℕ) → slice_index ws q ≡ 1 → q < length ws
     listed_low ws q here = elim (cases_lt q (length ws)) [
@@ -298,109 +304,3 @@ all_in (false ∷ set) full s low =
 -- what all of a list are
 pub each_listed : (P : ℕ → Type 0) (list : List ℕ) → All P list → (s : ℕ) → Contains list s → P s
 each_listed P list all s (j, low, is) = subst P is (all j s low)
-
--- a count at each service below a bound, with one more after
-pub one_more_count : (P : ℕ → ℕ → Type 0) (waits more : List ℕ) (k n : ℕ) → length waits ≡ k
-    → more ≡ waits ++ n ∷ [] → ((s : ℕ) → s < k → P s (slice_index waits s)) → P k n → (s : ℕ)
-    → s < k + 1 → P s (slice_index more s)
-one_more_count P waits more k n long is each here s low = elim (cases_lt s k) [
-  | inl before ↦
-      let at : slice_index more s ≡ slice_index waits s =
-      rw is (get_or_append_left waits (n ∷ []) 0 s (omega arith)) in
-      subst (P s) (sym at) (each s before)
-  | inr after ↦
-      let same : k ≡ s = omega arith in
-      let at : slice_index more k ≡ n = rw is (get_or_push waits n 0 k long) in
-      subst (λ (j : ℕ). P j (slice_index more j)) same (subst (P k) (sym at) here)
-]
-
--- no service yet
-pub none_queued : (waits : List ℕ) (planned : List Bool) (queue : Vec ℕ) (from : ℕ)
-    → length planned ≡ length waits → from ≡ length waits → queue.items ≡ [] → vec_len queue ≡ 0
-    → length waits ≤ vec_capacity queue → QueuesFrom waits planned from queue
-none_queued waits planned queue from bound end empty len room = record {
-  once = rw empty (λ i j d first within. absurd (omega arith));
-  ones = λ s. (
-    λ there. absurd (no_member s (subst (λ (xs : List ℕ). Contains xs s) empty there)),
-    λ h. absurd (omega (arith, has_within planned s h.0, h.2)),
-  );
-  few = omega (arith, len, end);
-  room = room;
-}
-
--- one more in front, which goes in
-pub one_queued : (waits : List ℕ) (planned : List Bool) (queue more : Vec ℕ) (from x : ℕ)
-    → QueuesFrom waits planned from queue → x + 1 ≡ from → Has planned x × (slice_index waits x ≡ 0)
-    → more.items ≡ queue.items ++ x ∷ [] → vec_len more ≡ vec_len queue + 1
-    → vec_capacity more ≡ vec_capacity queue → QueuesFrom waits planned x more
-one_queued waits planned queue more from x before next ready is len capacity = record {
-  once = rw is
-      (all_pairs_push (λ a b. a ≢ b) queue.items x before.once
-      (λ k d h same.
-      omega (
-        arith,
-        ((before.ones (slice_index_or queue.items k d)).0 (Contains-get_or queue.items k d h)).2,
-        same,
-      )));
-  ones = λ s. (
-    λ there.
-        elim (Contains-push_cases queue.items x s
-        (subst (λ (xs : List ℕ). Contains xs s) is there)) [
-          | inl earlier ↦ let h = (before.ones s).0 earlier in (h.0, h.1, omega (arith, h.2))
-          | inr now ↦ (
-            subst (Has planned) now ready.0,
-            subst (λ (y : ℕ). slice_index waits y ≡ 0) now ready.1,
-            omega (arith, now),
-          )
-        ],
-    λ h. subst (λ (xs : List ℕ). Contains xs s) (sym is) (elim (cases_eq x s) [
-      | inl same ↦ subst (Contains (queue.items ++ x ∷ [])) same (Contains-push queue.items x)
-      | inr other ↦ Contains-append_left queue.items (x ∷ []) s
-          ((before.ones s).1 (h.0, h.1, omega (arith, h.2)))
-    ]),
-  );
-  few = omega (arith, before.few, len);
-  room = omega (arith, before.room, capacity);
-}
-
--- one more in front, which stays out
-pub none_more_queued : (waits : List ℕ) (planned : List Bool) (queue : Vec ℕ) (from x : ℕ)
-    → QueuesFrom waits planned from queue → x + 1 ≡ from
-    → (Has planned x × (slice_index waits x ≡ 0) → ⊥) → QueuesFrom waits planned x queue
-none_more_queued waits planned queue from x before next out = record {
-  once = before.once;
-  ones = λ s. (
-    λ there. let h = (before.ones s).0 there in (h.0, h.1, omega (arith, h.2)),
-    λ h. elim (cases_eq x s) [
-      | inl same ↦ absurd
-          (out (
-            subst (Has planned) (sym same) h.0,
-            subst (λ (y : ℕ). slice_index waits y ≡ 0) (sym same) h.1,
-          ))
-      | inr other ↦ (before.ones s).1 (h.0, h.1, omega (arith, h.2))
-    ],
-  );
-  few = omega (arith, before.few);
-  room = before.room;
-}
-
--- a service that stands at a place is taken out there
-pub takes_out : (old new : Ready) (at s : ℕ) → AreDistinct old.queue.items
-    → at < length old.queue.items → slice_index old.queue.items at ≡ s
-    → new.waits.items ≡ old.waits.items → new.queue.items ≡ remove old.queue.items at
-    → vec_capacity new.queue ≡ vec_capacity old.queue → TakesOut old s new
-takes_out old new at s once within here waits queue capacity =
-    let out = removed old.queue.items at once within in
-    record {
-      waits = waits;
-      once = subst AreDistinct (sym queue)
-          (all_pairs_remove (λ a b. a ≢ b) old.queue.items at within once);
-      ones = λ t. (
-        λ there.
-            let h = (out t).0 (subst (λ (xs : List ℕ). Contains xs t) queue there) in
-            (h.0, λ same. h.1 (same ∙ sym here)),
-        λ h. subst (λ (xs : List ℕ). Contains xs t) (sym queue)
-            ((out t).1 (h.0, λ same. h.1 (same ∙ here))),
-      );
-      capacity = capacity;
-    }

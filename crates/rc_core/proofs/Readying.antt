@@ -308,7 +308,7 @@ ready_first c set r course all first = record {
     λ there.
         let h = (first.queue.ones s).0 there in
         (((all s).0 h.0, λ was. none_happened _ was.1), h.1),
-    λ h. (first.queue.ones s).1 ((all s).1 h.0.0, h.1, omega arith),
+    λ h. (first.queue.ones s).1 ((all s).1 h.0.0, h.1),
   );
 }
 

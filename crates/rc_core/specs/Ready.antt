@@ -1,4 +1,4 @@
-use Rattle.std.specs.Prelude.{◌≡◌, ◌≢◌, ◌+◌, ◌<◌, ◌≤◌, ◌⊎◌, ◌↔◌, ℕ, List, Bool, true, false, length, slice_index, slice_index_or, Contains, vec_len, vec_capacity}
+use Rattle.std.specs.Prelude.{◌≡◌, ◌≢◌, ◌<◌, ◌≤◌, ◌⊎◌, ◌↔◌, ℕ, List, Bool, true, false, length, slice_index, slice_index_or, Contains, All, vec_len, vec_capacity}
 use Rattle.std.specs.Global.{Vec}
 use Rattle.rc_model.specs.Line.{Lists}
 use Rattle.rc_model.specs.Names.{Has}
@@ -38,6 +38,18 @@ pub record AreReady (c : Course) (events : List Event) (waits queue : List ℕ) 
   pub once : AreDistinct queue
   pub ones : (s : ℕ) → Contains queue s ↔ (IsLeft c events s × (slice_index waits s ≡ 0))
 
+-- of each service of a queue its place in it is written down
+abbrev pub ArePlaces : List ℕ → List ℕ → Type 0
+ArePlaces queue places =
+    (k : ℕ) → k < length queue → slice_index places (slice_index queue k) ≡ k
+
+-- the places of the queue are written down, in a list with a place for each service
+pub record IsPlaced (r : Ready) : Type 0 where
+  pub bound : length r.places.items ≡ length r.waits.items
+  pub small : length r.waits.items ≤ 4096
+  pub known : All (λ s. s < length r.waits.items) r.queue.items
+  pub places : ArePlaces r.queue.items r.places.items
+
 -- the queue has room for as many services as there are, and in it each stands once and waits for
 -- none
 pub record HasQueue (waits : List ℕ) (queue : Vec ℕ) : Type 0 where
@@ -74,21 +86,32 @@ pub record NotesArrival (needs : List (List ℕ)) (lower raise : List Bool) (s :
   pub meets : Meets those old.queue.items old.waits.items new.queue.items new.waits.items
   pub capacity : vec_capacity new.queue ≡ vec_capacity old.queue
 
+-- what comes up waits for so many: for what it needs and is not up
+abbrev pub IsCountUp : List (List ℕ) → List Bool → ℕ → ℕ → Type 0
+IsCountUp needs up s = IsCount (λ t. Needs needs s t × (slice_index_or up t false ≡ false))
+
+-- what goes down waits for so many: for what needs it and is up
+abbrev pub IsCountDown : List (List ℕ) → List Bool → ℕ → ℕ → Type 0
+IsCountDown needs up s = IsCount (λ t. Needs needs t s × (slice_index_or up t false ≡ true))
+
+-- each service of a set has its count in the new list, and all others have what they had
+pub record Counts (Is : ℕ → ℕ → Type 0) (set : List Bool) (old new : List ℕ) : Type 0 where
+  pub bound : length new ≡ length old
+  pub counts : (s : ℕ) → Has set s → Is s (slice_index new s)
+  pub same : (s : ℕ) → (Has set s → ⊥) → slice_index new s ≡ slice_index old s
+
 -- how many a service waits for at first
 abbrev pub IsFirstCount : List (List ℕ) → List Bool → List Bool → List Bool → ℕ → ℕ → Type 0
 IsFirstCount needs up lower raise s n =
-    (Has raise s → IsCount (λ t. Needs needs s t × (slice_index_or up t false ≡ false)) n)
-    × ((Has raise s → ⊥) → Has lower s
-    → IsCount (λ t. Needs needs t s × (slice_index_or up t false ≡ true)) n)
+    (Has raise s → IsCountUp needs up s n)
+    × ((Has raise s → ⊥) → Has lower s → IsCountDown needs up s n)
     × ((Has raise s → ⊥) → (Has lower s → ⊥) → n ≡ 0)
 
--- a queue of the services from this one on that are to move and wait for none, with room for all
-pub record QueuesFrom (waits : List ℕ) (planned : List Bool) (from : ℕ) (queue : Vec ℕ) : Type
-    0 where
+-- a queue of the services that are to move and wait for none, with room for all
+pub record Queues (waits : List ℕ) (planned : List Bool) (queue : Vec ℕ) : Type 0 where
   pub once : AreDistinct queue.items
-  pub ones : (s : ℕ)
-      → Contains queue.items s ↔ (Has planned s × (slice_index waits s ≡ 0) × (from ≤ s))
-  pub few : vec_len queue + from ≤ length waits
+  pub ones : (s : ℕ) → Contains queue.items s ↔ (Has planned s × (slice_index waits s ≡ 0))
+  pub few : vec_len queue ≤ length waits
   pub room : length waits ≤ vec_capacity queue
 
 -- the counts and the queue at first
@@ -97,7 +120,8 @@ pub record IsFirstReady (needs : List (List ℕ)) (up lower raise planned : List
   pub bound : length r.waits.items ≡ length needs
   pub counts : (s : ℕ) → s < length needs
       → IsFirstCount needs up lower raise s (slice_index r.waits.items s)
-  pub queue : QueuesFrom r.waits.items planned 0 r.queue
+  pub queue : Queues r.waits.items planned r.queue
+  pub placed : IsPlaced r
 
 -- a service that has arrived can be written in: of its neighbours those that wait for it are those
 -- that wait for some, and the queue has room

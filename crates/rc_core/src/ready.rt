@@ -1,10 +1,10 @@
 //! How many others each service waits for, and the queue of those that may be taken.
 
-ghost use Rattle.std.specs.Prelude.{false, ◌≡◌, ◌≢◌, ℕ, ◌-◌, ◌<◌, ◌≤◌, ◌⊎◌, ◌↔◌, ◌++◌, ◌∷◌, [], Bool, List, IsTrue, IfSome, IfNone, IfOk, All, Contains, length, remove, slice_index, slice_index_or, slice_set, vec_len, vec_capacity};
+ghost use Rattle.std.specs.Prelude.{false, ◌≡◌, ◌≢◌, ℕ, ◌-◌, ◌<◌, ◌≤◌, ◌⊎◌, ◌↔◌, ◌++◌, ◌∷◌, [], Bool, List, IsTrue, IfSome, IfNone, IfOk, All, Contains, length, slice_index, slice_index_or, slice_set, vec_len, vec_capacity};
 ghost use Rattle.rc_model.specs.Names.{Has, IsAscending};
 ghost use Rattle.rc_model.specs.Graph.{AreNeeds};
 ghost use Rattle.rc_graph.specs.Order.{AreDistinct};
-ghost use Rattle.rc_core.specs.Ready.{AreAlike, IsCount, HasQueue, Arrives, TakesOut, IsFirstReady, IsFirstCount, IsNext, NotesArrival, QueuesFrom, CanArrive};
+ghost use Rattle.rc_core.specs.Ready.{AreAlike, IsCount, HasQueue, Arrives, TakesOut, IsFirstReady, IsFirstCount, IsNext, NotesArrival, Queues, CanArrive, IsPlaced, ArePlaces, Counts, IsCountUp, IsCountDown};
 
 use rc_graph::Graph;
 use rc_set::{NoMem, Set};
@@ -18,6 +18,8 @@ pub(crate) struct Ready {
     pub(crate) waits: Vec<u16>,
     /// The services that are to move, were never taken and wait for none. The last is taken next.
     pub(crate) queue: Vec<u16>,
+    /// Where each service of the queue stands in it.
+    pub(crate) places: Vec<u16>,
 }
 
 impl Ready {
@@ -39,7 +41,12 @@ impl Ready {
     {
         let waits = waits_of(alloc, graph, up, lower, raise)?;
         let queue = queue_of(alloc, &waits, planned)?;
-        Ok(Ready { waits, queue })
+        let places = places_of(alloc, &queue, graph.len())?;
+        Ok(Ready {
+            waits,
+            queue,
+            places,
+        })
     }
 
     /// The service that is to be taken next.
@@ -82,6 +89,8 @@ impl Ready {
         requires lower { length lower.now ≡ length graph.now }
         requires raise { length raise.now ≡ length graph.now }
         requires can { IsTrue well → CanArrive graph.now lower.now raise.now service self.old }
+        requires placed { IsPlaced self.old }
+        ensures placed { IsPlaced self.new }
         ensures arrived { IsTrue well →
             NotesArrival graph.now lower.now raise.now service self.old self.new }
         ensures failed { well ≡ false → self.new ≡ self.old }
@@ -91,45 +100,18 @@ impl Ready {
         }
     }
 
-    /// Takes a service out of the queue. What stands last goes in one step.
+    /// Takes a service out of the queue. What stands last takes its place.
     pub(crate) fn take_out(&mut self, service: u16)
         requires queued { Contains self.old.queue.items service }
-        requires once { AreDistinct self.old.queue.items }
-        ensures { TakesOut self.old service self.new }
+        requires placed { IsPlaced self.old }
+        ensures taken { TakesOut self.old service self.new }
+        ensures placed { IsPlaced self.new }
     {
-        let last = self.queue.len() - 1;
-        if self.queue[last] == service {
-            self.remove_at(last);
-        } else {
-            self.find_and_take_out(service);
-        }
-    }
-
-    /// Takes a service out of the queue, wherever it stands.
-    #[inline(never)]
-    fn find_and_take_out(&mut self, service: u16)
-        requires queued { Contains self.old.queue.items service }
-        requires once { AreDistinct self.old.queue.items }
-        ensures { TakesOut self.old service self.new }
-    {
-        let mut at = self.queue.len() - 1;
-        while self.queue[at] != service {
-            at -= 1;
-        }
-        self.remove_at(at);
-    }
-
-    /// Takes out of the queue what stands at a place. What stands last goes in one step.
-    fn remove_at(&mut self, at: usize)
-        requires { at < length self.old.queue.items }
-        ensures waits { self.new.waits.items ≡ self.old.waits.items }
-        ensures queue { self.new.queue.items ≡ remove self.old.queue.items at }
-        ensures capacity { vec_capacity self.new.queue ≡ vec_capacity self.old.queue }
-    {
-        if at + 1 == self.queue.len() {
-            self.queue.pop();
-        } else {
-            self.queue.remove(at);
+        let at = self.places[service as usize];
+        self.queue.swap_remove(at as usize);
+        if (at as usize) < self.queue.len() {
+            let moved = self.queue[at as usize];
+            self.places[moved as usize] = at;
         }
     }
 
@@ -138,7 +120,9 @@ impl Ready {
         requires list { IsAscending list.now }
         requires known { All (λ t. t < length self.old.waits.items) list.now }
         requires queue { HasQueue self.old.waits.items self.old.queue }
-        ensures { Arrives list.now self.old self.new }
+        requires placed { IsPlaced self.old }
+        ensures arrived { Arrives list.now self.old self.new }
+        ensures placed { IsPlaced self.new }
     {
         for service in list {
             if self.waits_for_some(*service) {
@@ -153,7 +137,9 @@ impl Ready {
         requires lower { length lower.now ≡ length graph.now }
         requires raise { length raise.now ≡ length graph.now }
         requires can { CanArrive graph.now lower.now raise.now service self.old }
-        ensures { NotesArrival graph.now lower.now raise.now service self.old self.new }
+        requires placed { IsPlaced self.old }
+        ensures arrived { NotesArrival graph.now lower.now raise.now service self.old self.new }
+        ensures placed { IsPlaced self.new }
     {
         if lower.contains(service) {
             self.arrive(graph.needs(service));
@@ -168,6 +154,10 @@ impl Ready {
         requires missing { 0 < slice_index self.old.waits.items service }
         requires room { slice_index self.old.waits.items service ≡ 1 →
             vec_len self.old.queue < vec_capacity self.old.queue }
+        requires few { slice_index self.old.waits.items service ≡ 1 →
+            vec_len self.old.queue < length self.old.waits.items }
+        requires out { Contains self.old.queue.items service → ⊥ }
+        requires placed { IsPlaced self.old }
         ensures missing { self.new.waits.items ≡ slice_set self.old.waits.items service
             (slice_index self.old.waits.items service - 1) }
         ensures last { slice_index self.old.waits.items service ≡ 1 →
@@ -175,10 +165,12 @@ impl Ready {
         ensures more { slice_index self.old.waits.items service ≢ 1 →
             self.new.queue.items ≡ self.old.queue.items }
         ensures capacity { vec_capacity self.new.queue ≡ vec_capacity self.old.queue }
+        ensures placed { IsPlaced self.new }
     {
         let left = self.waits[service as usize] - 1;
         self.waits[service as usize] = left;
         if left == 0 {
+            self.places[service as usize] = self.queue.len() as u16;
             self.queue.push_reserved(service);
         }
     }
@@ -201,10 +193,9 @@ fn waits_of(
         IsFirstCount graph.now up.now lower.now raise.now s (slice_index waits.items s)) }
 {
     let alike = alike(up);
-    let mut waits = Vec::with_capacity(alloc, graph.len() as usize)?;
-    for service in 0..graph.len() {
-        waits.push_reserved(count_for(graph, up, alike, lower, raise, service));
-    }
+    let mut waits = vec![in alloc; 0; graph.len() as usize]?;
+    count_needing(&mut waits, graph, up, alike, lower);
+    count_needed(&mut waits, graph, up, alike, raise);
     Ok(waits)
 }
 
@@ -221,29 +212,35 @@ fn alike(set: &Set) -> Option<bool>
     }
 }
 
-/// How many must arrive before a service may be taken.
-fn count_for(
-    graph: &Graph,
-    up: &Set,
-    alike: Option<bool>,
-    lower: &Set,
-    raise: &Set,
-    service: u16,
-) -> u16
+/// Writes down of each service of a set how many need it and are up.
+fn count_needing(waits: &mut Vec<u16>, graph: &Graph, up: &Set, alike: Option<bool>, lower: &Set)
+    requires bound { length waits.old.items ≡ length graph.now }
     requires lists { AreNeeds graph.now }
-    requires known { service < length graph.now }
     requires up { length up.now ≡ length graph.now }
     requires lower { length lower.now ≡ length graph.now }
+    requires alike { IfSome alike (AreAlike up.now) }
+    ensures { Counts (IsCountDown graph.now up.now) lower.now waits.old.items waits.new.items }
+{
+    let mut at = 0;
+    while let Some(service) = lower.next_from(at) {
+        waits[service as usize] = count_in(graph.needed_by(service), up, alike, true);
+        at = service + 1;
+    }
+}
+
+/// Writes down of each service of a set how many it needs that are not up.
+fn count_needed(waits: &mut Vec<u16>, graph: &Graph, up: &Set, alike: Option<bool>, raise: &Set)
+    requires bound { length waits.old.items ≡ length graph.now }
+    requires lists { AreNeeds graph.now }
+    requires up { length up.now ≡ length graph.now }
     requires raise { length raise.now ≡ length graph.now }
     requires alike { IfSome alike (AreAlike up.now) }
-    ensures { IsFirstCount graph.now up.now lower.now raise.now service result }
+    ensures { Counts (IsCountUp graph.now up.now) raise.now waits.old.items waits.new.items }
 {
-    if raise.contains(service) {
-        count_in(graph.needs(service), up, alike, false)
-    } else if lower.contains(service) {
-        count_in(graph.needed_by(service), up, alike, true)
-    } else {
-        0
+    let mut at = 0;
+    while let Some(service) = raise.next_from(at) {
+        waits[service as usize] = count_in(graph.needs(service), up, alike, false);
+        at = service + 1;
     }
 }
 
@@ -297,22 +294,31 @@ fn count_of(list: &[u16], set: &Set, inside: bool) -> u16
 fn queue_of(alloc: Global, waits: &[u16], planned: &Set) -> Result<Vec<u16>, NoMem>
     requires few { length waits.now ≤ 4096 }
     requires planned { length planned.now ≡ length waits.now }
-    ensures { IfOk result (λ queue. QueuesFrom waits.now planned.now 0 queue) }
+    ensures { IfOk result (λ queue. Queues waits.now planned.now queue) }
 {
     let mut queue = Vec::with_capacity(alloc, waits.len())?;
-    for service in (0..waits.len()).rev() {
-        if may_go(waits, planned, service as u16) {
-            queue.push_reserved(service as u16);
+    let mut at = 0;
+    while let Some(service) = planned.next_from(at) {
+        if waits[service as usize] == 0 {
+            queue.push_reserved(service);
         }
+        at = service + 1;
     }
+    queue.reverse();
     Ok(queue)
 }
 
-/// Whether a service is to move and waits for none.
-fn may_go(waits: &[u16], planned: &Set, service: u16) -> bool
-    requires known { service < length waits.now }
-    requires planned { length planned.now ≡ length waits.now }
-    ensures { IsTrue result ↔ (Has planned.now service × (slice_index waits.now service ≡ 0)) }
+/// Where each service of a queue stands in it.
+fn places_of(alloc: Global, queue: &[u16], services: u16) -> Result<Vec<u16>, NoMem>
+    requires once { AreDistinct queue.now }
+    requires known { All (λ s. s < services) queue.now }
+    requires few { length queue.now ≤ 4096 }
+    ensures bound { IfOk result (λ places. length places.items ≡ services) }
+    ensures places { IfOk result (λ places. ArePlaces queue.now places.items) }
 {
-    planned.contains(service) && waits[service as usize] == 0
+    let mut places = vec![in alloc; 0; services as usize]?;
+    for (place, service) in queue.iter().enumerate() {
+        places[*service as usize] = place as u16;
+    }
+    Ok(places)
 }

@@ -33,9 +33,9 @@ pub struct NotLegal;
 /// A change on its way: what was to move, and the events so far.
 ///
 /// It borrows nothing. No call but `open` can be refused as out of memory. Time: `open` grows with
-/// the services and their pairs, `take_apart` with the services; `done` with those that the service
-/// needs or that need it; `step` of a take looks for the service among those that may be taken; the
-/// others take one step. So a whole run looks at each service and pair once.
+/// the services that move and their pairs, `take_apart` with the services that do not arrive, and
+/// both pass over sets and lists a word at a time; `done` grows with those that the service needs or
+/// that need it; the others take one step. So a whole run looks at each service and pair once.
 #[derive(Drop)]
 pub struct Run {
     pub(crate) graph: Graph,
@@ -46,14 +46,13 @@ pub struct Run {
     pub(crate) tables: Tables,
     pub(crate) ready: Ready,
     pub(crate) trace: Vec<Event>,
-    /// Room for the lists of the end.
-    pub(crate) failed_room: Vec<u16>,
+    /// Room for the second list of the end. The first stands where the queue stood.
     pub(crate) left_room: Vec<u16>,
 }
 
 impl Model for Run {
     ghost use Rattle.std.specs.Prelude.{◌≤◌, length, vec_capacity};
-    ghost use Rattle.rc_core.specs.Ready.{AreReady};
+    ghost use Rattle.rc_core.specs.Ready.{AreReady, IsPlaced};
     ghost use Rattle.rc_core.specs.Settled.{RunSoFar};
     ghost use Rattle.rc_core.specs.Tables.{IsKept, IsRoomFor};
 
@@ -78,7 +77,7 @@ impl Model for Run {
       deadline = r.deadline;
     })
         r.trace r.tables
-        × IsRoomFor (length r.graph) r.failed_room × IsRoomFor (length r.graph) r.left_room
+        × IsPlaced r.ready × IsRoomFor (length r.graph) r.left_room
         × AreReady
         (record {
           needs = r.graph;
@@ -129,7 +128,7 @@ impl Run {
             drop((tables, ready, rooms, sets));
             return Err(AllocError);
         };
-        let (trace, failed_room, left_room) = rooms;
+        let (trace, left_room) = rooms;
         let (opening, lower, raise) = sets;
         Ok(Run {
             graph,
@@ -140,7 +139,6 @@ impl Run {
             tables,
             ready,
             trace,
-            failed_room,
             left_room,
         })
     }
@@ -333,18 +331,16 @@ fn sets_of(alloc: Global, plan: &Plan) -> Result<(Set, Set, Set), NoMem>
     Ok((opening, lower, raise))
 }
 
-/// Room for the events of a run, and for the two lists of its end.
-type Rooms = (Vec<Event>, Vec<u16>, Vec<u16>);
+/// Room for the events of a run, and for a list of its end.
+type Rooms = (Vec<Event>, Vec<u16>);
 
-/// Empty lists with room for so many events, and for so many services each.
+/// Empty lists with room for so many events, and for so many services.
 fn rooms_of(alloc: Global, events: usize, services: usize) -> Result<Rooms, NoMem>
     ensures trace { IfOk result (λ rooms. (rooms.0.items ≡ []) × (vec_len rooms.0 ≡ 0)
         × (events ≤ vec_capacity rooms.0)) }
-    ensures failed { IfOk result (λ rooms. IsRoomFor services rooms.1) }
-    ensures left { IfOk result (λ rooms. IsRoomFor services rooms.2) }
+    ensures left { IfOk result (λ rooms. IsRoomFor services rooms.1) }
 {
     let trace = Vec::with_capacity(alloc, events)?;
-    let failed = Vec::with_capacity(alloc, services)?;
     let left = Vec::with_capacity(alloc, services)?;
-    Ok((trace, failed, left))
+    Ok((trace, left))
 }

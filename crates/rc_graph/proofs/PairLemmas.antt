@@ -215,3 +215,8 @@ pub row_lower : (vectors : List (SmallVec ℕ)) (s : ℕ) (d : SmallVec ℕ) (bo
     → s < length vectors → ((t : ℕ) → Needs (rows vectors) s t → t < bound) → (t : ℕ)
     → Contains (slice_index_or vectors s d).items t → t < bound
 row_lower vectors s d bound h lower t has = lower t (rw (row_at vectors s d h) has)
+
+-- where ids are all below one, none is it
+pub below_lacks : (ids : List ℕ) (id : ℕ) → ((s : ℕ) → Contains ids s → s < id)
+    → Contains ids id → ⊥
+below_lacks ids id below has = let low : id < id = below id has in omega arith

@@ -15,7 +15,8 @@ use std::sync::Arc;
 /// which goes with the last of them.
 ///
 /// Time: `share`, `needs`, `needed_by`, `order` and `len` take one step. `closed`, `up_of` and
-/// `down_of` grow with the services and their pairs.
+/// `down_of` grow with the members of the set that they are given, or that they return, and the
+/// pairs of these; they look at each word of that set.
 pub struct Graph {
     pub(crate) lists: Arc<Lists, Global>,
 }

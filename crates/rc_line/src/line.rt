@@ -11,7 +11,6 @@ use crate::entry::Entry;
 use crate::fault::LineFault;
 use crate::opening::Open;
 use crate::room::Room;
-use crate::sets::overwrite;
 use crate::stack::{fit, make_room, nearest, spend_all, take_last};
 use crate::tables::{led, replace};
 use rc_bundle::Edit;
@@ -378,7 +377,7 @@ impl Line {
         spend_all(&mut self.undone);
         self.done.push_back_reserved(entry);
         fit(&mut self.done, &mut self.undone, self.bound);
-        overwrite(&mut self.live, live);
+        self.live.overwrite(live);
     }
 
     fn close_undo(
@@ -425,7 +424,7 @@ impl Line {
         self.undone
             .push_back_reserved(far.entry(live, &self.live, no_edit));
         fit(&mut self.done, &mut self.undone, self.bound);
-        overwrite(&mut self.live, live);
+        self.live.overwrite(live);
         drop((target, table));
     }
 
@@ -473,7 +472,7 @@ impl Line {
         self.undone
             .push_back_reserved(far.entry(live, &target, edit));
         fit(&mut self.done, &mut self.undone, self.bound);
-        overwrite(&mut self.live, live);
+        self.live.overwrite(live);
         drop((target, table));
     }
 

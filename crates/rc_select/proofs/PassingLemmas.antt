@@ -2,6 +2,7 @@
 use Rattle.std.proofs.Common.{◌≡◌, ◌+◌, ◌<◌, ◌≤◌, ◌⊎◌, ⊎_elim, inl, inr, ℕ, Bool, List, subst, arith}
 use Rattle.std.proofs.lemmas.Bool.{cases_lt}
 use Rattle.rc_model.specs.Names.{Has, Holds}
+use Rattle.rc_set.specs.Next.{HasNoneFrom}
 use Rattle.rc_db.proofs.Pipelines.{one_more_passed}
 
 -- the next one is put in
@@ -55,4 +56,27 @@ pub all_led : (In : ℕ → Type 0) (Leads : ℕ → ℕ → Type 0) (set : List
 all_led In Leads set i n most within passed t = (
   λ has. let from = (passed t).0 has in (from.0, from.2, from.3),
   λ from. let low : from.0 < n = within from.0 from.1 in (passed t).1 (from.0, omega arith, from.1, from.2),
+)
+
+-- none of those up to a further place is put in
+pub passed_to : (P : ℕ → Type 0) (set : List Bool) (at to : ℕ) → at ≤ to
+    → ((s : ℕ) → at ≤ s → s < to → P s → ⊥) → Holds set (λ s. (s < at) × P s)
+    → Holds set (λ s. (s < to) × P s)
+passed_to P set at to further none passed s = (
+  λ has. let h = (passed s).0 has in let low : s < at = h.0 in (omega arith, h.1),
+  λ h. let within : s < to = h.0 in elim (cases_lt s at) [
+    | inl low ↦ (passed s).1 (low, h.1)
+    | inr high ↦ absurd (none s high within h.1)
+  ],
+)
+
+-- where there is none from a place on, all are passed
+pub passed_all : (P : ℕ → Type 0) (set : List Bool) (at : ℕ) → HasNoneFrom P at
+    → Holds set (λ s. (s < at) × P s) → Holds set P
+passed_all P set at none passed s = (
+  λ has. ((passed s).0 has).1,
+  λ holds. elim (cases_lt s at) [
+    | inl low ↦ (passed s).1 (low, holds)
+    | inr high ↦ absurd (none s high holds)
+  ],
 )

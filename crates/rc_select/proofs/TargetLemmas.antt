@@ -5,6 +5,7 @@ use Rattle.rc_graph.proofs.Paths.{up_is_closed, reaches_one, reaches_first}
 use Rattle.rc_model.specs.declared.Mode.{Mode}
 use Rattle.rc_model.specs.declared.Mode.TheVariants.{Up, Down, DownAll}
 use Rattle.rc_model.specs.Plan.{Target, Kept}
+use Rattle.rc_select.specs.Sides.{MindsEssential}
 
 -- what needs a service that reaches a member reaches one too
 pub down_before : (needs : List (List ℕ)) (In : ℕ → Type 0) (s t : ℕ) → Needs needs s t → DownFrom needs In t → DownFrom needs In s
@@ -39,31 +40,61 @@ up_more needs In Also there t up = elim up [ inl here ↦ inl (there t here) | i
 down_more : (needs : List (List ℕ)) (In Also : ℕ → Type 0) → ((s : ℕ) → In s → Also s) → (t : ℕ) → DownFrom needs In t → DownFrom needs Also t
 down_more needs In Also there t down = elim down [ inl here ↦ inl (there t here) | inr from ↦ inr (from.0, there from.0 from.1, from.2) ]
 
--- the same facts have the same target, and the same services are kept
-module _ (needs : List (List ℕ)) (IsUp E F V W : ℕ → Type 0) (essential : (s : ℕ) → E s ↔ F s) (wanted : (s : ℕ) → V s ↔ W s) where
-  same_target_by : (mode : Mode) (prune : Bool) (s : ℕ) → Target needs IsUp E mode prune V s → Target needs IsUp F mode prune W s
-  same_target_by Up false s target = elim target [ inl up ↦ inl up | inr more ↦ inr (up_more needs V W (λ t. (wanted t).0) s more) ]
-  same_target_by Up true s target = elim target [ inl more ↦ inl (up_more needs V W (λ t. (wanted t).0) s more) | inr held ↦ inr (up_more needs E F (λ t. (essential t).0) s held) ]
-  same_target_by Down prune s target = (target.0, λ down. up_more needs E F (λ t. (essential t).0) s (target.1 (down_more needs W V (λ t. (wanted t).1) s down)))
-  same_target_by DownAll prune s target = (target.0, λ down. target.1 (down_more needs W V (λ t. (wanted t).1) s down))
+-- the same facts have the same target, and the same services are kept; of the essential services
+-- it is asked only where they make a difference
+module _ (needs : List (List ℕ)) (IsUp E F V W : ℕ → Type 0) (wanted : (s : ℕ) → V s ↔ W s) where
+  same_target_by : (mode : Mode) (prune : Bool)
+      → (MindsEssential mode prune → (s : ℕ) → E s ↔ F s) → (s : ℕ)
+      → Target needs IsUp E mode prune V s → Target needs IsUp F mode prune W s
+  same_target_by Up false essential s target =
+      elim target [
+        | inl up ↦ inl up
+        | inr more ↦ inr (up_more needs V W (λ t. (wanted t).0) s more)
+      ]
+  same_target_by Up true essential s target = elim target [
+    | inl more ↦ inl (up_more needs V W (λ t. (wanted t).0) s more)
+    | inr held ↦ inr (up_more needs E F (λ t. (essential tt t).0) s held)
+  ]
+  same_target_by Down prune essential s target = (
+    target.0,
+    λ down. up_more needs E F (λ t. (essential tt t).0) s
+        (target.1 (down_more needs W V (λ t. (wanted t).1) s down)),
+  )
+  same_target_by DownAll prune essential s target =
+      (target.0, λ down. target.1 (down_more needs W V (λ t. (wanted t).1) s down))
 
-  same_kept_by : (mode : Mode) (prune : Bool) (s : ℕ) → Kept needs E mode prune V s → Kept needs F mode prune W s
-  same_kept_by Up false s kept = kept
-  same_kept_by Up true s kept = ((essential s).0 kept.0, λ more. kept.1 (up_more needs W V (λ t. (wanted t).1) s more))
-  same_kept_by Down prune s kept = ((essential s).0 kept.0, down_more needs V W (λ t. (wanted t).0) s kept.1)
-  same_kept_by DownAll prune s kept = kept
+  same_kept_by : (mode : Mode) (prune : Bool)
+      → (MindsEssential mode prune → (s : ℕ) → E s ↔ F s) → (s : ℕ)
+      → Kept needs E mode prune V s → Kept needs F mode prune W s
+  same_kept_by Up false essential s kept = kept
+  same_kept_by Up true essential s kept = (
+    (essential tt s).0 kept.0,
+    λ more. kept.1 (up_more needs W V (λ t. (wanted t).1) s more),
+  )
+  same_kept_by Down prune essential s kept =
+      ((essential tt s).0 kept.0, down_more needs V W (λ t. (wanted t).0) s kept.1)
+  same_kept_by DownAll prune essential s kept = kept
 
-module _ (needs : List (List ℕ)) (IsUp E F V W : ℕ → Type 0) (essential : (s : ℕ) → E s ↔ F s) (wanted : (s : ℕ) → V s ↔ W s) where
-  pub same_target : (mode : Mode) (prune : Bool) (s : ℕ) → Target needs IsUp E mode prune V s ↔ Target needs IsUp F mode prune W s
-  same_target mode prune s = (
-    same_target_by needs IsUp E F V W essential wanted mode prune s,
-    same_target_by needs IsUp F E W V (λ t. ((essential t).1, (essential t).0)) (λ t. ((wanted t).1, (wanted t).0)) mode prune s,
+module _ (needs : List (List ℕ)) (IsUp E F V W : ℕ → Type 0) (mode : Mode) (prune : Bool)
+    (essential : MindsEssential mode prune → (s : ℕ) → E s ↔ F s)
+    (wanted : (s : ℕ) → V s ↔ W s) where
+  essential_back : MindsEssential mode prune → (s : ℕ) → F s ↔ E s
+  essential_back minds s = ((essential minds s).1, (essential minds s).0)
+
+  wanted_back : (s : ℕ) → W s ↔ V s
+  wanted_back s = ((wanted s).1, (wanted s).0)
+
+  pub same_target : (s : ℕ)
+      → Target needs IsUp E mode prune V s ↔ Target needs IsUp F mode prune W s
+  same_target s = (
+    same_target_by needs IsUp E F V W wanted mode prune essential s,
+    same_target_by needs IsUp F E W V wanted_back mode prune essential_back s,
   )
 
-  pub same_kept : (mode : Mode) (prune : Bool) (s : ℕ) → Kept needs E mode prune V s ↔ Kept needs F mode prune W s
-  same_kept mode prune s = (
-    same_kept_by needs IsUp E F V W essential wanted mode prune s,
-    same_kept_by needs IsUp F E W V (λ t. ((essential t).1, (essential t).0)) (λ t. ((wanted t).1, (wanted t).0)) mode prune s,
+  pub same_kept : (s : ℕ) → Kept needs E mode prune V s ↔ Kept needs F mode prune W s
+  same_kept s = (
+    same_kept_by needs IsUp E F V W wanted mode prune essential s,
+    same_kept_by needs IsUp F E W V wanted_back mode prune essential_back s,
   )
 
 -- what is kept is essential and up, and in the target

@@ -6,6 +6,7 @@ ghost use Rattle.rc_db.specs.QueryFaults.{IsNamesFault};
 ghost use Rattle.rc_model.specs.Plan.{IsPlanTo, Target, Kept, IsEssentialUp, IsWanted, IsPlanOf, CanPlan, IsPlanFault};
 ghost use Rattle.rc_select.specs.Ask.{ask_of};
 ghost use Rattle.rc_select.specs.PlanFaults.{IsWantedFault};
+ghost use Rattle.rc_select.specs.Sides.{MindsEssential};
 
 use crate::plans::{Plan, leading};
 use crate::request::{Mode, PlanFault, Request};
@@ -35,7 +36,7 @@ pub fn plan(
         return Err(PlanFault::PruneNeedsUp);
     }
     let wanted = wanted(alloc, db, table, up, request)?;
-    let essential = essential_up(alloc, db, up)?;
+    let essential = essential_for(alloc, db, up, request.mode, request.prune)?;
     let plan = planned(
         alloc,
         db.graph(),
@@ -87,6 +88,20 @@ fn fault_of(fault: QueryFault) -> PlanFault
     }
 }
 
+/// The essential services that are up, where the mode asks for them, and none where it does not.
+fn essential_for(alloc: Global, db: &Db, up: &Set, mode: Mode, prune: bool) -> Result<Set, NoMem>
+    requires { length up.now ≡ length db.now.names }
+    ensures bound { IfOk result (λ set. length set ≡ length db.now.names) }
+    ensures up { IfOk result (λ set. (s : ℕ) → Has set s → Has up.now s) }
+    ensures members { IfOk result (λ set. MindsEssential mode prune →
+        Holds set (IsEssentialUp db.now (Has up.now))) }
+{
+    match (mode, prune) {
+        (Mode::Up, false) | (Mode::DownAll, _) => Set::empty(alloc, db.names().len()),
+        (Mode::Up, true) | (Mode::Down, _) => essential_up(alloc, db, up),
+    }
+}
+
 /// The essential services that are up.
 fn essential_up(alloc: Global, db: &Db, up: &Set) -> Result<Set, NoMem>
     requires { length up.now ≡ length db.now.names }
@@ -95,10 +110,12 @@ fn essential_up(alloc: Global, db: &Db, up: &Set) -> Result<Set, NoMem>
     ensures database { IsDatabase db.now }
 {
     let mut set = Set::empty(alloc, db.names().len())?;
-    for service in 0..db.names().len() {
-        if up.contains(service) && db.is_essential(service) {
+    let mut at = 0;
+    while let Some(service) = up.next_from(at) {
+        if db.is_essential(service) {
             set.insert(service);
         }
+        at = service + 1;
     }
     Ok(set)
 }

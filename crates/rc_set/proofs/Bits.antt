@@ -137,7 +137,7 @@ or_one a b i = (
 )
 
 -- a bit of `a & !b`
-and_not_one : (a b i : ℕ) → b < 2 ^ 64 → i < 64
+pub and_not_one : (a b i : ℕ) → b < 2 ^ 64 → i < 64
     → (bit_at (bit_and a (2 ^ 64 - 1 - b)) i ≡ 1) ↔ ((bit_at a i ≡ 1) × (bit_at b i ≢ 1))
 and_not_one a b i fits low =
     let turned = bit_at_not w64 b i fits low in

@@ -4,3 +4,4 @@ mod Flags
 mod Writes
 pub mod Listing
 mod WordIds
+mod Nexts

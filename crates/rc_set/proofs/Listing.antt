@@ -4,6 +4,7 @@ use Rattle.std.proofs.lemmas.List.Elements.{Contains-push, Contains-push_cases, 
 use Rattle.std.proofs.lemmas.Bool.{cases_lt}
 use Rattle.std.proofs.lemmas.List.Quantifiers.{all_pairs_push}
 use Rattle.rc_set.specs.Listed.{ListsBelow}
+use Rattle.rc_set.specs.Next.{IsNextFrom, HasNoneFrom}
 
 -- one more id, of which the fact holds
 pub one_listed : (P : ℕ → Type 0) (id : ℕ) (ids : List ℕ) → ListsBelow P id ids → P id
@@ -79,3 +80,18 @@ lists_as P Q ids same lists = record {
   same = λ s.
       (λ there. (same s).0 ((lists.same s).0 there), λ holds. (lists.same s).1 ((same s).1 holds));
 }
+
+-- the next id of which the fact holds
+pub next_listed : (P : ℕ → Type 0) (at id : ℕ) (ids : List ℕ) → ListsBelow P at ids
+    → IsNextFrom P at id → ListsBelow P (id + 1) (ids ++ id ∷ [])
+next_listed P at id ids lists next =
+    one_listed P id ids (none_between P at id ids lists next.behind next.least) next.holds
+
+-- all are listed where there is no next one
+pub no_more_listed : (P : ℕ → Type 0) (at : ℕ) (ids : List ℕ) → ListsBelow P at ids
+    → HasNoneFrom P at → Lists P ids
+no_more_listed P at ids lists none =
+    all_listed P at ids lists (λ s holds. elim (cases_lt s at) [
+      | inl low ↦ low
+      | inr high ↦ absurd (none s high holds)
+    ])

@@ -3,14 +3,17 @@
 //! A set has a bit for each id, in words of 64.
 //!
 //! Time: `insert`, `remove`, `contains` and `bound` take one step; all other calls grow with the
-//! bound, a word at a time, and `ids` with the ids too.
+//! bound, a word at a time, and `ids` with the ids too. `next_from`, `next_beyond` and
+//! `next_missing` look at no word that ends before the number that they are given, nor at one
+//! behind their answer.
 #![tactic(auto)]
 
-ghost use Rattle.std.specs.Prelude.{◌≡◌, ◌≢◌, ℕ, ◌+◌, ◌*◌, ◌<◌, ◌≤◌, ◌⊎◌, ◌↔◌, length, count_by, IsTrue, IfOk, OnOk};
+ghost use Rattle.std.specs.Prelude.{◌≡◌, ◌≢◌, ℕ, ◌+◌, ◌*◌, ◌<◌, ◌≤◌, ◌⊎◌, ◌↔◌, length, count_by, IsTrue, IfOk, OnOk, IfSome, IfNone};
 ghost use Rattle.rc_model.specs.Line.{Lists};
 ghost use Rattle.rc_model.specs.Names.{Has, Holds};
 ghost use Rattle.rc_set.specs.Words.{has_bit, HasBit, flags_of};
 ghost use Rattle.rc_set.specs.Listed.{ListsBelow};
+ghost use Rattle.rc_set.specs.Next.{IsNextFrom, HasNoneFrom};
 
 use std::alloc::{AllocError, Global};
 use std::marker::Model;
@@ -85,6 +88,41 @@ impl Set {
         bit(&self.words, id)
     }
 
+    /// The least id of the set from a number on.
+    pub fn next_from(&self, from: u16) -> Option<u16>
+        ensures some { IfSome result (IsNextFrom (Has self.now) from) }
+        ensures none { IfNone result (HasNoneFrom (Has self.now) from) }
+        ensures below { IfSome result (λ s. (s < length self.now) × (s < 4096)) }
+    {
+        next_bit(&self.words, from)
+    }
+
+    /// The least id from a number on that the set has and another of the same bound lacks.
+    pub fn next_beyond(&self, other: &Set, from: u16) -> Option<u16>
+        requires { length other.now ≡ length self.now }
+        ensures some { IfSome result
+            (IsNextFrom (λ s. Has self.now s × (Has other.now s → ⊥)) from) }
+        ensures none { IfNone result
+            (HasNoneFrom (λ s. Has self.now s × (Has other.now s → ⊥)) from) }
+        ensures below { IfSome result (λ s. (s < length self.now) × (s < 4096)) }
+    {
+        next_bit_beyond(&self.words, &other.words, from)
+    }
+
+    /// The least id from a number on, below the bound, that the set lacks.
+    pub fn next_missing(&self, from: u16) -> Option<u16>
+        ensures some { IfSome result
+            (IsNextFrom (λ s. (s < length self.now) × (Has self.now s → ⊥)) from) }
+        ensures none { IfNone result
+            (HasNoneFrom (λ s. (s < length self.now) × (Has self.now s → ⊥)) from) }
+        ensures below { IfSome result (λ s. (s < length self.now) × (s < 4096)) }
+    {
+        match next_clear_bit(&self.words, from) {
+            Some(id) if id < self.bound => Some(id),
+            _ => None,
+        }
+    }
+
     /// Adds all ids of a set of the same bound.
     pub fn join(&mut self, other: &Set)
         requires { length other.now ≡ length self.old }
@@ -101,6 +139,14 @@ impl Set {
         ensures bound { length self.new ≡ length self.old }
     {
         clear_words(&mut self.words, &other.words);
+    }
+
+    /// Gives the set the ids of another of the same bound, and no others.
+    pub fn overwrite(&mut self, other: &Set)
+        requires { length other.now ≡ length self.old }
+        ensures { self.new ≡ other.now }
+    {
+        self.words.copy_from_slice(&other.words);
     }
 
     /// Whether two sets of one bound have the same ids.
@@ -194,6 +240,63 @@ fn clear_words(words: &mut [u64], others: &[u64])
     for i in 0..words.len() {
         words[i] &= !others[i];
     }
+}
+
+/// The least id from a number on whose bit is set.
+fn next_bit(words: &[u64], from: u16) -> Option<u16>
+    requires { length words.now ≤ 64 }
+    ensures some { IfSome result (IsNextFrom (HasBit words.now) from) }
+    ensures none { IfNone result (HasNoneFrom (HasBit words.now) from) }
+{
+    let mut at = from;
+    while (at as usize) < 64 * words.len() {
+        let rest = words[(at / 64) as usize] >> (at % 64);
+        if rest != 0 {
+            return Some(at + rest.trailing_zeros() as u16);
+        }
+        at = (at / 64 + 1) * 64;
+    }
+    None
+}
+
+/// The least id from a number on whose bit is set in the words and not in the others.
+fn next_bit_beyond(words: &[u64], others: &[u64], from: u16) -> Option<u16>
+    requires few { length words.now ≤ 64 }
+    requires long { length others.now ≡ length words.now }
+    ensures some { IfSome result
+        (IsNextFrom (λ s. HasBit words.now s × (HasBit others.now s → ⊥)) from) }
+    ensures none { IfNone result
+        (HasNoneFrom (λ s. HasBit words.now s × (HasBit others.now s → ⊥)) from) }
+{
+    let mut at = from;
+    while (at as usize) < 64 * words.len() {
+        let word = (at / 64) as usize;
+        let rest = (words[word] & !others[word]) >> (at % 64);
+        if rest != 0 {
+            return Some(at + rest.trailing_zeros() as u16);
+        }
+        at = (at / 64 + 1) * 64;
+    }
+    None
+}
+
+/// The least id of the words, from a number on, whose bit is not set.
+fn next_clear_bit(words: &[u64], from: u16) -> Option<u16>
+    requires { length words.now ≤ 64 }
+    ensures some { IfSome result
+        (IsNextFrom (λ s. (s < 64 * length words.now) × (HasBit words.now s → ⊥)) from) }
+    ensures none { IfNone result
+        (HasNoneFrom (λ s. (s < 64 * length words.now) × (HasBit words.now s → ⊥)) from) }
+{
+    let mut at = from;
+    while (at as usize) < 64 * words.len() {
+        let rest = !words[(at / 64) as usize] >> (at % 64);
+        if rest != 0 {
+            return Some(at + rest.trailing_zeros() as u16);
+        }
+        at = (at / 64 + 1) * 64;
+    }
+    None
 }
 
 /// The ids whose bits are set.

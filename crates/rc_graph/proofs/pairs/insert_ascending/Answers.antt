@@ -1,5 +1,5 @@
-use Rattle.std.proofs.Common.{refl, arith}
-use Rattle.rc_graph.proofs.PairLemmas.{ascending_gap, contains_insert, found_searched, gap_searched, gap_lacks, none_new}
+use Rattle.std.proofs.Common.{◌<◌, ℕ, List, Contains, refl, arith, subst}
+use Rattle.rc_graph.proofs.PairLemmas.{ascending_gap, below_lacks, contains_insert, found_searched, gap_searched, gap_lacks, none_new}
 use Rattle.rc_graph.proofs.pairs.insert_ascending.Goals as goal
 
 pub insert-requires : goal.insert-requires
@@ -38,3 +38,14 @@ returns-in_default-clause-err c = tt
 
 pub returns-in_default-clause-again : goal.returns-in_default-clause-again
 returns-in_default-clause-again c has = (refl, refl)
+
+pub push_ascending-requires-clause-lower : goal.push_ascending-requires-clause-lower
+push_ascending-requires-clause-lower c =
+    subst (λ (ids : List ℕ). (s : ℕ) → Contains ids s → s < c.args.id) c.as_slice.ensures
+    (c.are_below.ensures c.if-are_below.true)
+
+pub returns-then-are_below-clause-again : goal.returns-then-are_below-clause-again
+returns-then-are_below-clause-again c has =
+    absurd (below_lacks c.args.ids.now.items c.args.id
+    (subst (λ (ids : List ℕ). (s : ℕ) → Contains ids s → s < c.args.id) c.as_slice.ensures
+    (c.are_below.ensures c.if-are_below.true)) has)

@@ -1,4 +1,4 @@
-use Rattle.std.proofs.Common.{◌≡◌, ℕ, List, Option, Some, None, IfSome, IfNone, Contains, ap, length, slice_get, arith}
+use Rattle.std.proofs.Common.{◌≡◌, ℕ, Option, Some, None, IfSome, IfNone, Contains, ap, length, slice_get, arith}
 use Rattle.rc_model.proofs.Places.{contains_at}
 use Rattle.rc_select.specs.Carrying.{IsTwin}
 use Rattle.rc_select.proofs.same.twin.Goals as goal

@@ -16,14 +16,20 @@ pub planned-requires-clause-wanted_bound : goal.planned-requires-clause-wanted_b
 planned-requires-clause-wanted_bound c = c.in_ok-wanted.ensures.bound ∙ sym c.graph.ensures.database.fit.graph ∙ sym (ap length c.graph.ensures.graph)
 
 pub planned-requires-clause-essential_up : goal.planned-requires-clause-essential_up
-planned-requires-clause-essential_up c s has = ((c.in_ok-essential.ensures.members s).0 has).1
+planned-requires-clause-essential_up c = c.in_ok-essential.ensures.up
 
 pub returns-clause-plan : goal.returns-clause-plan
 returns-clause-plan c =
-    let needs = c.args.db.now.needs in
     let request = c.args.request.now in
-    let essential = c.in_ok-essential.ensures.members in
-    let wanted = c.in_ok-wanted.ensures.members in
+    let up = Has c.args.up.now in
+    let put = Has c.in_ok-essential.essential in
+    let essential = IsEssentialUp c.args.db.now up in
+    let asked = Has c.in_ok-wanted.wanted in
+    let wanted = IsWanted c.args.db.now.names c.args.table.now up (ask_of request) in
+    let minds = c.in_ok-essential.ensures.members in
+    let members = c.in_ok-wanted.ensures.members in
     leads_same _ _ _ _ _ _ (rw (← c.graph.ensures.graph) c.in_ok-plan.ensures)
-    (same_target needs (Has c.args.up.now) (Has c.in_ok-essential.essential) (IsEssentialUp c.args.db.now (Has c.args.up.now)) (Has c.in_ok-wanted.wanted) (IsWanted c.args.db.now.names c.args.table.now (Has c.args.up.now) (ask_of request)) essential wanted request.mode request.prune)
-    (same_kept needs (Has c.args.up.now) (Has c.in_ok-essential.essential) (IsEssentialUp c.args.db.now (Has c.args.up.now)) (Has c.in_ok-wanted.wanted) (IsWanted c.args.db.now.names c.args.table.now (Has c.args.up.now) (ask_of request)) essential wanted request.mode request.prune)
+    (same_target c.args.db.now.needs up put essential asked wanted request.mode request.prune minds
+    members)
+    (same_kept c.args.db.now.needs up put essential asked wanted request.mode request.prune minds
+    members)

@@ -1,27 +1,32 @@
-use Rattle.std.proofs.Common.{◌∙◌, ◌-◌, ◌<◌, length, sym, arith}
-use Rattle.std.proofs.lemmas.List.{get_or_read}
-use Rattle.rc_core.proofs.Arriving.{takes_out}
+use Rattle.std.proofs.Common.{refl, arith}
+use Rattle.rc_core.proofs.Placed.{is_taken, still_placed, still_placed_last}
 use Rattle.rc_core.proofs.ready.Ready.take_out.Goals as goal
 
-pub overflow_sub-last : goal.overflow_sub-last
-overflow_sub-last c =
-    omega (arith, c.len-last.ensures, c.args.self.now.queue.ok.0, c.requires.queued.1)
+pub returns-then-at-len-clause-taken : goal.returns-then-at-len-clause-taken
+returns-then-at-len-clause-taken c =
+    is_taken c.args.self.now c.swap_remove.new.self c.index-at.result.now c.args.service
+    c.requires.placed c.requires.queued c.index-at.ensures c.swap_remove.ensures.len
+    c.swap_remove.ensures.by_index.0 c.swap_remove.ensures.by_index.1
+    c.swap_remove.ensures.capacity _
 
-pub index-requires : goal.index-requires
-index-requires c =
-    omega (arith, c.len-last.ensures, c.args.self.now.queue.ok.0, c.requires.queued.1)
+pub returns-else-at-len-clause-taken : goal.returns-else-at-len-clause-taken
+returns-else-at-len-clause-taken c =
+    is_taken c.args.self.now c.swap_remove.new.self c.index-at.result.now c.args.service
+    c.requires.placed c.requires.queued c.index-at.ensures c.swap_remove.ensures.len
+    c.swap_remove.ensures.by_index.0 c.swap_remove.ensures.by_index.1
+    c.swap_remove.ensures.capacity _
 
-pub remove_at-requires : goal.remove_at-requires
-remove_at-requires c =
-    omega (arith, c.len-last.ensures, c.args.self.now.queue.ok.0, c.requires.queued.1)
+pub returns-then-at-len-clause-placed : goal.returns-then-at-len-clause-placed
+returns-then-at-len-clause-placed c =
+    still_placed c.args.self.now c.swap_remove.new.self c.index-at.result.now c.args.service
+    c.requires.placed c.requires.queued c.index-at.ensures c.swap_remove.ensures.len
+    c.swap_remove.ensures.by_index.0 c.swap_remove.ensures.by_index.1 _ c.index-moved.result.now
+    (omega (arith, c.if-at-len.true, c.len.ensures, c.swap_remove.new.self.ok.0))
+    c.index-moved.ensures refl
 
-pub returns-then-index-service : goal.returns-then-index-service
-returns-then-index-service c =
-    let queue = c.args.self.now.queue.items in
-    let last = c.len-last.result - 1 in
-    let within : last < length queue =
-    omega (arith, c.len-last.ensures, c.args.self.now.queue.ok.0, c.requires.queued.1) in
-    takes_out c.args.self.now c.remove_at.new.self last c.args.service c.requires.once within
-    (sym (get_or_read queue last c.index.result.now within c.index.ensures 0)
-    ∙ c.if-index-service.true) c.remove_at.ensures.waits c.remove_at.ensures.queue
-    c.remove_at.ensures.capacity
+pub returns-else-at-len-clause-placed : goal.returns-else-at-len-clause-placed
+returns-else-at-len-clause-placed c =
+    still_placed_last c.args.self.now c.swap_remove.new.self c.index-at.result.now c.args.service
+    c.requires.placed c.requires.queued c.index-at.ensures c.swap_remove.ensures.len
+    c.swap_remove.ensures.by_index.0 c.swap_remove.ensures.by_index.1
+    (omega (arith, c.if-at-len.false, c.len.ensures, c.swap_remove.new.self.ok.0))

@@ -25,6 +25,9 @@ note_end-requires-clause-can c well =
     c.self.invariant.0.run c.self.invariant.3 c.self.invariant.4 legal
     (sym c.went_well-well.ensures ∙ well)
 
+pub note_end-requires-clause-placed : goal.note_end-requires-clause-placed
+note_end-requires-clause-placed c = c.self.invariant.1
+
 pub push_reserved-requires : goal.push_reserved-requires
 push_reserved-requires c =
     let done = Done c.args.worker c.args.service c.args.outcome in
@@ -51,7 +54,7 @@ invariant_of-self c =
           c.note_done.new.self) c.went_well-well.ensures c.note_done.ensures)
           c.push_reserved.ensures.items c.push_reserved.ensures.len
           c.push_reserved.ensures.capacity,
-      c.self.invariant.1,
+      c.note_end.ensures.placed,
       c.self.invariant.2,
       rw c.push_reserved.ensures.items ready.0,
       ready.1,

@@ -23,8 +23,8 @@ take_out-requires-clause-queued c =
     (can_note_ready _ _ c.self.inside.ready take c.self.invariant.0.course
     c.self.invariant.0.run c.self.invariant.3 c.self.invariant.4 legal).0
 
-pub take_out-requires-clause-once : goal.take_out-requires-clause-once
-take_out-requires-clause-once c = c.self.invariant.3.once
+pub take_out-requires-clause-placed : goal.take_out-requires-clause-placed
+take_out-requires-clause-placed c = c.self.invariant.1
 
 pub push_reserved-requires : goal.push_reserved-requires
 push_reserved-requires c =
@@ -41,10 +41,10 @@ invariant_of-self c =
     let kept = c.self.invariant.0 in
     let ready =
     ready_noted _ _ c.self.inside.ready c.take_out.new.self take kept.course kept.run
-    c.self.invariant.3 c.self.invariant.4 legal c.take_out.ensures in (
+    c.self.invariant.3 c.self.invariant.4 legal c.take_out.ensures.taken in (
       kept_on _ _ _ _ _ take kept legal c.note_take.ensures c.push_reserved.ensures.items
           c.push_reserved.ensures.len c.push_reserved.ensures.capacity,
-      c.self.invariant.1,
+      c.take_out.ensures.placed,
       c.self.invariant.2,
       rw c.push_reserved.ensures.items ready.0,
       ready.1,
