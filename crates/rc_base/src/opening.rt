@@ -15,13 +15,16 @@ use rc_dbtext::{TextFault, read_db, read_db_front};
 use rc_streams::{Failure, MAX_INPUT, Noted, read_all};
 use std::alloc::Global;
 use std::io::Read;
+use thiserror::Error;
 
 /// Why there is no database with its input.
-#[derive(Clone, Copy)]
+#[derive(Clone, Copy, PartialEq, Eq, Debug, Error)]
 pub enum OpenFault {
     /// The database text is refused.
+    #[error(transparent)]
     OfText(TextFault),
     /// The input was not read whole.
+    #[error(transparent)]
     Failed(Failure),
 }
 

@@ -10,14 +10,18 @@ use rc_streams::ending::{FAILED, REFUSED, fail};
 use rc_streams::{Failure, tell};
 use std::alloc::{AllocError, Global};
 use std::io::Write;
+use thiserror::Error;
 
 /// Why trees give no text.
-#[derive(Drop)]
+#[derive(Debug, Drop, Error)]
 pub enum TreesFault {
     /// A file is not what it is to be, or a device failed.
+    #[error(transparent)]
     Source(SourceFault),
     /// What the files say does not fit together.
+    #[error(transparent)]
     Definitions(CompileFault),
+    #[error("out of memory")]
     Memory,
 }
 

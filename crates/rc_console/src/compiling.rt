@@ -14,7 +14,7 @@ pub fn compile(rt: &HostRuntime, request: &CompileRequest<'_>) -> u8 {
     let opened = open_all(rt, &request.sources, &mut trees);
     let status = match opened {
         Ok(()) => compile_trees(rt, request, &mut trees),
-        Err(_) => hints::tell_failure(rt, "undorc: Memory"),
+        Err(_) => hints::tell_failure(rt, "Memory"),
     };
     drop(trees);
     status

@@ -1,11 +1,12 @@
 //! The files that the words name, read whole.
+use rc_streams::whole_file;
 use std::fs;
 use std::io::{self, ErrorKind};
 
 /// The bytes of the file of `-b`, if one is named.
 pub fn base_at(rt: &HostRuntime, file: Option<&str>) -> io::Result<Option<Vec<u8>>> {
     match file {
-        Some(path) => Ok(Some(fs::read(rt, path)?)),
+        Some(path) => Ok(Some(whole_file::read(rt, path)?)),
         None => Ok(None),
     }
 }
@@ -21,7 +22,7 @@ pub fn live_at(rt: &HostRuntime, file: Option<&str>) -> io::Result<Option<Vec<u8
             return Err(io::Error::from(ErrorKind::InvalidInput));
         }
     }
-    match fs::read(rt, path) {
+    match whole_file::read(rt, path) {
         Ok(bytes) => Ok(Some(bytes)),
         Err(error) => {
             if error.kind() == ErrorKind::NotFound {

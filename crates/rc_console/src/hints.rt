@@ -2,11 +2,13 @@
 //! where nothing is found, or memory is short, there are none.
 use crate::databases::{behind_end, database_hint, lacking_hint, live_hint, near_hint};
 use crate::fault_lines::Told;
+use log::{error, info};
 use rc_asked::{CompileRequest, DbRequest, Query};
 use rc_hints::{Hint, Sources, compile_hint, looks_like_entry, unread_files, word_of};
 use rc_names::NoMem;
 use rc_queries::{db_as_asked, query_hint};
 use rc_streams::Noted;
+use rc_streams::messages::{HINT, MESSAGE, Messages};
 use std::alloc::AllocError;
 use std::io::{self, ErrorKind, Stderr};
 
@@ -21,15 +23,15 @@ pub fn behind_compile(rt: &HostRuntime, request: &CompileRequest<'_>, told: &Tol
     let sources = Sources::new(rt, rt.alloc(), &request.sources);
     match told.fault() {
         Ok(Some((word, names))) => {
-            tell_found(rt, "  ", compile_hint(&sources, word, names));
+            tell_found(rt, HINT, compile_hint(&sources, word, names));
         }
         Ok(None) => {
-            tell_found(rt, "undorc: ", looks_like_entry(&sources));
+            tell_found(rt, MESSAGE, looks_like_entry(&sources));
         }
         Err(_) => {}
     }
     if request.tells {
-        tell_found(rt, "undorc: ", unread_files(&sources));
+        tell_found(rt, MESSAGE, unread_files(&sources));
     }
 }
 
@@ -81,7 +83,7 @@ pub fn behind_database(rt: &HostRuntime, seen: &Seen<'_>, told: &ToldErrors) {
     match plain_hint(word, rest, seen.file.is_some()) {
         Some(line) => tell_hint(rt, line),
         None => {
-            tell_found(rt, "  ", hint_on(rt, seen, word, rest));
+            tell_found(rt, HINT, hint_on(rt, seen, word, rest));
         }
     }
 }
@@ -113,7 +115,7 @@ pub fn behind_session(
     told: &ToldErrors,
 ) {
     if let (Some(path), Ok(Some((word, rest)))) = (live, told.fault()) {
-        if tell_found(rt, "  ", behind_live(rt, path, text, seen, word, rest)) {
+        if tell_found(rt, HINT, behind_live(rt, path, text, seen, word, rest)) {
             return;
         }
     }
@@ -152,7 +154,7 @@ fn behind_live(
 
 /// Tells which name of a database may have been meant by one that is nobody's.
 pub fn tell_near(rt: &HostRuntime, database: &[u8], name: &str) {
-    tell_found(rt, "  ", near_hint(rt.alloc(), database, name));
+    tell_found(rt, HINT, near_hint(rt.alloc(), database, name));
 }
 
 /// What helps without a second look.
@@ -171,27 +173,27 @@ fn plain_hint(word: &str, rest: &str, is_file: bool) -> Option<&'static str> {
 /// Tells why a file was not read or written, and answers the status.
 pub fn tell_file(rt: &HostRuntime, path: &str, error: &io::Error) -> u8 {
     if error.kind() == ErrorKind::OutOfMemory {
-        return tell_failure(rt, "undorc: Memory");
+        return tell_failure(rt, "Memory");
     }
-    let status = tell_failure(rt, "undorc: Io");
+    let status = tell_failure(rt, "Io");
     let word = word_of(error.kind());
-    let _ = rt.eprintln(format_args!("  {path}: {word}"));
+    info!(Messages(rt); target: HINT, "{path}: {word}");
     status
 }
 
-/// Tells a failure, and answers the status.
-pub fn tell_failure(rt: &HostRuntime, line: &str) -> u8 {
-    let _ = rt.eprintln(line);
+/// Reports a failure by its word, and returns the status.
+pub fn tell_failure(rt: &HostRuntime, word: &str) -> u8 {
+    error!(Messages(rt); target: MESSAGE, "{word}");
     FAILED
 }
 
-/// Tells what helps, if anything does, behind this front. Says whether nothing more is to be
-/// looked for, as something was told, or memory was short.
-fn tell_found(rt: &HostRuntime, front: &str, hint: Hint) -> bool {
+/// Reports what helps, if anything does, as records of this target. Returns whether nothing more is
+/// to be looked for: something was reported, or memory ran out.
+fn tell_found(rt: &HostRuntime, target: &str, hint: Hint) -> bool {
     match hint {
         Ok(Some(text)) => {
-            let line = text.as_str();
-            let _ = rt.eprintln(format_args!("{front}{line}"));
+            let lines = text.as_str();
+            info!(Messages(rt); target: target, "{lines}");
             drop(text);
             true
         }
@@ -200,7 +202,7 @@ fn tell_found(rt: &HostRuntime, front: &str, hint: Hint) -> bool {
     }
 }
 
-/// A line after a fault.
+/// Reports a line after a fault.
 pub fn tell_hint(rt: &HostRuntime, hint: &str) {
-    let _ = rt.eprintln(format_args!("  {hint}"));
+    info!(Messages(rt); target: HINT, "{hint}");
 }

@@ -1,11 +1,13 @@
 //! Standard input, where it may be a person at a terminal: what is read whole says so before it is
 //! read, and who asks a session for help is told its lines. What is read is handed through as it
 //! is.
+use log::info;
+use rc_streams::messages::{MESSAGE, Messages};
 use std::io::{self, IsTerminal, Read, Stdin};
 
 /// What a session's lines are.
 const LINES: &str =
-    "undorc: end the session with ^D; its lines are change, undo, redo, live, journal and more";
+    "end the session with ^D; its lines are change, undo, redo, live, journal and more";
 
 /// Standard input, and what is still to be said of it. What is read whole is kept, where there is
 /// memory for all of it.
@@ -49,9 +51,10 @@ impl<'a> Typed<'a> {
     /// Says what is read from a terminal.
     fn announce(&self, what: &str) {
         if self.is_terminal {
-            let _ = self.rt.eprintln(format_args!(
-                "undorc: reading {what} from the terminal; end it with ^D"
-            ));
+            info!(
+                Messages(self.rt); target: MESSAGE,
+                "reading {what} from the terminal; end it with ^D"
+            );
         }
     }
 }
@@ -67,7 +70,7 @@ impl Read for Typed<'_> {
                 self.is_short = true;
             }
             if self.helps && asks_for_help(&buf[..*count]) {
-                let _ = self.rt.eprintln(LINES);
+                info!(Messages(self.rt); target: MESSAGE, "{LINES}");
             }
         }
         outcome

@@ -1,5 +1,5 @@
 //! Words that name services.
-ghost use Rattle.std.specs.Prelude.{◌≡◌, ◌<◌, length, map, slice_get, Some, Contains, IfOk, IfErr, IfSome, IfNone};
+ghost use Rattle.std.specs.Prelude.{◌≡◌, ◌<◌, length, map, IfOk, IfErr};
 ghost use Rattle.rc_model.specs.Names.{Holds};
 ghost use Rattle.rc_queries.specs.declared.named.NamedFault.TheVariants.{Memory};
 ghost use Rattle.rc_queries.specs.Named.{IsNamed, AreNamed, IsNamedFault, word_lines};
@@ -7,7 +7,6 @@ ghost use Rattle.rc_queries.specs.Named.{IsNamed, AreNamed, IsNamedFault, word_l
 use rc_names::Names;
 use rc_set::{NoMem, Set};
 use std::alloc::{AllocError, Global};
-use std::str;
 
 /// Why words are no set of services.
 #[derive(Clone, Copy)]
@@ -51,22 +50,10 @@ pub(crate) fn named_set<'a>(
 {
     let mut set = Set::empty(alloc, names.len())?;
     for word in words {
-        match find(names, word) {
+        match names.find_bytes(word) {
             Some(id) => set.insert(id),
             None => return Err(NamedFault::Unknown(word)),
         };
     }
     Ok(set)
-}
-
-/// The id of a name that is given as bytes. Bytes that are no text are no name.
-fn find(names: &Names, word: &[u8]) -> Option<u16>
-    ensures found { IfSome result (λ id. slice_get names.now id ≡ Some word.now) }
-    ensures missing { IfNone result (Contains names.now word.now → ⊥) }
-{
-    let _known = names.len();
-    match str::from_utf8(word) {
-        Ok(text) => names.find(text),
-        Err(_) => None,
-    }
 }

@@ -28,28 +28,39 @@ use rc_streams::ending::{FAILED, REFUSED, fail, write_answer};
 use rc_streams::{Failure, MAX_INPUT, Noted, tell};
 use std::alloc::{AllocError, Global};
 use std::io::{Read, Write};
+use thiserror::Error;
 
 /// Why there is no plan to print.
-#[derive(Clone, Copy)]
+#[derive(Clone, Copy, PartialEq, Eq, Debug, Error)]
 pub enum PlanFault<'a> {
     /// At this offset begins the first line of the database text that has not the form due there.
+    #[error("a line has not the form that is due, at byte {0}")]
     Bad(usize),
     /// The database text is of another version.
+    #[error("another version")]
     Version,
     /// Names do not ascend.
+    #[error("names do not ascend")]
     NotSorted,
     /// A service needs itself along a path.
+    #[error("services need each other in a circle")]
     Cyclic,
     /// There are more than 4,096 services, or as many bundles.
+    #[error("more than 4,096 services or bundles")]
     TooMany,
     /// What is needed is no service, or not one that fits.
+    #[error("a name of no service that may stand there")]
     Dangling,
     /// A word names nothing.
+    #[error("no service or bundle is named {}", .0.escape_ascii())]
     Unknown(&'a [u8]),
     /// What is up lacks something that it needs.
+    #[error("what is up lacks something that it needs")]
     NotClosed,
     /// Only a change upwards prunes.
+    #[error("only a change upwards prunes")]
     PruneNeedsUp,
+    #[error("out of memory")]
     Memory,
 }
 

@@ -9,6 +9,7 @@ use crate::noted::{Noted, read_some};
 use std::alloc::{AllocError, Global};
 use std::io;
 use std::io::{ErrorKind, Read, Write};
+use thiserror::Error;
 
 /// The bytes that an input may have at most.
 pub const MAX_INPUT: usize = 16_777_216;
@@ -17,15 +18,19 @@ pub const MAX_INPUT: usize = 16_777_216;
 const MAX_PIECE: usize = 8_192;
 
 /// Why a command ends without an answer although nothing is refused.
-#[derive(Clone, Copy)]
+#[derive(Clone, Copy, PartialEq, Eq, Debug, Error)]
 pub enum Failure {
     /// The input has more than `MAX_INPUT` bytes.
+    #[error("more than 16,777,216 bytes of input")]
     TooLong,
     /// A read failed.
+    #[error("the input can't be read")]
     Read,
     /// A write failed, took nothing, or was interrupted.
+    #[error("the output can't be written")]
     Write,
     /// There was no memory.
+    #[error("out of memory")]
     Memory,
 }
 

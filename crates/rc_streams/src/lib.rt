@@ -1,14 +1,16 @@
 //! A whole input under a bound, and lines of one; an answer written whole; readers and writers
-//! whose failures are noted; files that are replaced whole, and one that is locked; and how a
-//! command ends.
+//! whose failures are noted; files that are read whole or replaced whole, and one that is locked;
+//! messages on standard error; and how a command ends.
 #![tactic(auto)]
 
 pub mod ending;
 mod input;
 mod lines;
 pub mod live_lock;
+pub mod messages;
 mod noted;
 pub mod replaced_file;
+pub mod whole_file;
 pub mod writing;
 
 pub use crate::input::{Failure, MAX_INPUT, failure_word, read_all, tell};

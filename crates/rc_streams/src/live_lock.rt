@@ -4,19 +4,16 @@
 use crate::replaced_file::{beside, place};
 use std::fs::{self, File, TryLockError};
 use std::io::{self, ErrorKind};
+use thiserror::Error;
 
 /// Why a lock was not taken.
-#[derive(Drop)]
+#[derive(Debug, Drop, Error)]
 pub enum LockFault {
     /// Another program has it.
+    #[error("another program has the lock")]
     Busy,
-    Failed(io::Error),
-}
-
-impl From<io::Error> for LockFault {
-    fn from(error: io::Error) -> LockFault {
-        LockFault::Failed(error)
-    }
+    #[error(transparent)]
+    Failed(#[from] io::Error),
 }
 
 /// A lock, held until it is dropped, or the program ends, in whatever way. Programs that it starts
