@@ -10,7 +10,7 @@ use Rattle.rc_asked.specs.Asked.{ask_in}
 use Rattle.rc_asked.specs.DbAsked.{AsksIn, DbAsk}
 use Rattle.rc_asked.specs.OnceAsked.{AsksWhatIn, HasNoEvents, OnceAsk, OnceSaying, Said, WantsDryRedo, WantsDryUndo, once_command, once_saying_of}
 use Rattle.rc_asked.specs.SessionAsked.{AsksSessionIn, IsBoundIn, IsCrewIn, SessionAsk}
-use Rattle.rc_asked.specs.Task.{AsksEntered, AsksNamed, AsksNoTask, AsksTask, AsksTaskIn, HasBound, HasWorkers, IsEventless, OfCompile, OfDb, OfOnce, OfPlan, OfReplay, OfSession, OfUpdate, OfVersion, TaskAsk, command_of, task_ask_of}
+use Rattle.rc_asked.specs.Task.{AsksEntered, AsksNamed, AsksNoTask, AsksTask, AsksTaskIn, IsEventless, OfCompile, OfDb, OfOnce, OfPlan, OfReplay, OfSession, OfUpdate, OfVersion, TaskAsk, command_of, task_ask_of}
 use Rattle.rc_asked.specs.UpdateAsked.{AsksUpdateIn, UpdateAsk}
 use Rattle.rc_asked.specs.declared.task.Task.{Task}
 use Rattle.rc_asked.specs.declared.task.Task.TheVariants as task
@@ -45,37 +45,7 @@ pub entered_back : (words : List Text) (entered : Option (Text × List Row)) (as
 entered_back words entered ask same asks =
     (asks.0, named_back (command_of ask) entered asks.0 (sym (same (command_of ask)) ∙ asks.1), asks.2)
 
--- a session that is asked has workers
-workers_in : (given : Option Text) (workers : ℕ) → IsCrewIn given workers → (1 ≤ workers) × (workers ≤ 64)
-workers_in None workers is = (omega arith, omega arith)
-workers_in (Some text) workers is = (is.2, is.3)
-
-pub asked_workers : (entered : Option (Text × List Row)) (t : Task) → AsksEntered entered (task_ask_of t) → HasWorkers t
-asked_workers entered (task.Compile request) asks = tt
-asked_workers entered (task.Db request file) asks = tt
-asked_workers entered (task.Plan request file) asks = tt
-asked_workers entered (task.Replay file) asks = tt
-asked_workers entered (task.Session request file) asks = workers_in (first_of (codes "workers") asks.0) request.workers asks.2.0.workers
-asked_workers entered (task.Once request file) asks = workers_in (first_of (codes "workers") asks.0) request.session.workers asks.2.0.1.workers
-asked_workers entered (task.Update request file) asks = workers_in (first_of (codes "workers") asks.0) request.session.workers asks.2.0.session.workers
-asked_workers entered task.Version asks = tt
-
--- and a bound
-bound_in : (given : Option Text) (bound : ℕ) → IsBoundIn given bound → 3 ≤ bound
-bound_in None bound is = omega arith
-bound_in (Some text) bound is = is.2
-
-pub asked_bound : (entered : Option (Text × List Row)) (t : Task) → AsksEntered entered (task_ask_of t) → HasBound t
-asked_bound entered (task.Compile request) asks = tt
-asked_bound entered (task.Db request file) asks = tt
-asked_bound entered (task.Plan request file) asks = tt
-asked_bound entered (task.Replay file) asks = tt
-asked_bound entered (task.Session request file) asks = bound_in (first_of (codes "bound") asks.0) request.bound asks.2.0.bound
-asked_bound entered (task.Once request file) asks = bound_in (first_of (codes "bound") asks.0) request.session.bound asks.2.0.1.bound
-asked_bound entered (task.Update request file) asks = bound_in (first_of (codes "bound") asks.0) request.session.bound asks.2.0.session.bound
-asked_bound entered task.Version asks = tt
-
--- and brings no events
+-- a session of one line that is asked brings no events
 what_no_events : (rows : List Row) (what : OnceSaying) → AsksWhatIn rows what → HasNoEvents what
 what_no_events rows (Said SaysNothing) asks = tt
 what_no_events rows (Said SaysWrong) asks = tt

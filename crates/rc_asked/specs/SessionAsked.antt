@@ -5,7 +5,7 @@ use Rattle.clap.specs.Words.{Row, Text, first_of}
 use Rattle.rc_asked.specs.Making.{making_ask_of}
 use Rattle.rc_asked.specs.Programs.{MakesIn, MakingAsk}
 use Rattle.rc_command.specs.Words.{is_on, rows_for}
-use Rattle.rc_asked.specs.declared.session_words.SessionRequest.{SessionRequest}
+use Rattle.rc_asked.specs.declared.session_request.SessionRequest.{SessionRequest}
 
 -- what is asked of a session: how many workers it has, how transitions are made, whether each is
 -- told, how many states a new one has at most, the file that it goes on with and is kept in, if one

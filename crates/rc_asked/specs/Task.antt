@@ -1,5 +1,5 @@
 -- What the words ask, of whichever command.
-use Rattle.std.specs.Prelude.{◌≡◌, ◌≤◌, List, Option, Some, codes, option_map}
+use Rattle.std.specs.Prelude.{◌≡◌, ◌≤◌, List, Option, None, Some, codes, option_map}
 use Rattle.clap.specs.Words.{Row, Text, first_of}
 use Rattle.rc_model.specs.Plan.{Ask}
 use Rattle.rc_select.specs.Ask.{ask_of}
@@ -81,21 +81,26 @@ task_ask_of (task.Update request file) =
     OfUpdate (update_ask_of request) (option_map (λ f. f.now) file)
 task_ask_of task.Version = OfVersion
 
--- a session has a bound on how many states there are, of at least 3
-abbrev pub HasBound : Task → Type 0
-HasBound (task.Session request file) = 3 ≤ request.bound
-HasBound (task.Once request file) = 3 ≤ request.session.bound
-HasBound (task.Update request file) = 3 ≤ request.session.bound
-HasBound other = Unit {0}
+-- what is named, or where nothing is the usual
+abbrev pub first_named : {A : Type 0} → (named usual : Option A) → Option A
+first_named (Some file) usual = Some file
+first_named None usual = usual
 
--- a session has workers, 64 at most
-abbrev pub HasWorkers : Task → Type 0
-HasWorkers (task.Session request file) = (1 ≤ request.workers) × (request.workers ≤ 64)
-HasWorkers (task.Once request file) =
-    (1 ≤ request.session.workers) × (request.session.workers ≤ 64)
-HasWorkers (task.Update request file) =
-    (1 ≤ request.session.workers) × (request.session.workers ≤ 64)
-HasWorkers other = Unit {0}
+-- the same, with these files where none is named
+abbrev pub session_by : (live : Option Text) → SessionAsk → SessionAsk
+session_by live ask = record ask { live = first_named ask.live live }
+
+abbrev pub task_by : (base live : Option Text) → TaskAsk → TaskAsk
+task_by base live (OfCompile ask) = OfCompile ask
+task_by base live (OfDb ask file) = OfDb ask (first_named file base)
+task_by base live (OfPlan ask file) = OfPlan ask (first_named file base)
+task_by base live (OfReplay file) = OfReplay (first_named file base)
+task_by base live (OfSession ask file) = OfSession (session_by live ask) (first_named file base)
+task_by base live (OfOnce ask file) =
+    OfOnce (record ask { session = session_by live ask.session }) (first_named file base)
+task_by base live (OfUpdate ask file) =
+    OfUpdate (record ask { session = session_by live ask.session }) (first_named file base)
+task_by base live OfVersion = OfVersion
 
 -- a session of one line brings no events
 abbrev pub IsEventless : Task → Type 0

@@ -8,19 +8,21 @@ ghost use Rattle.rc_asked.specs.declared.asked.WordsFault.TheVariants.{Memory};
 
 use crate::matched::{command_in, matches_in};
 use crate::texts::words_in;
-use clap::{ArgMatches, Error};
+use clap::{ArgMatches, Error as ClapError};
 use rc_command::is_on;
 use rc_select::{Mode, Request};
 use rc_streams::ending::{WRONG_LINE, fail};
 use rc_streams::{Failure, tell};
 use std::alloc::{AllocError, Global};
+use std::fmt;
 use std::io::Write;
+use thiserror::Error;
 
 /// Why words ask nothing of a command.
-#[derive(Drop)]
+#[derive(Debug, Drop, Error)]
 pub enum WordsFault {
     /// `clap` finds a fault in them, or they ask for help.
-    Found(Error),
+    Found(ClapError),
     /// They name another command.
     OtherCommand,
     /// They name more than one way.
@@ -115,61 +117,48 @@ pub fn tell_words<F: Write>(faults: &mut F, fault: &WordsFault) -> u8
         (fault_line (failure_text Failure.Memory)) }
 {
     match fault {
+        WordsFault::Memory => fail(faults, Failure::Memory),
         WordsFault::Found(error) => {
             write_usage(error, faults);
             WRONG_LINE
         }
-        WordsFault::OtherCommand => {
-            tell(faults, b"another command is named");
+        other => {
+            tell(faults, words_of(other).as_bytes());
             WRONG_LINE
         }
-        WordsFault::Ways => {
-            tell(faults, b"-u, -d and -D exclude each other");
-            WRONG_LINE
-        }
+    }
+}
+
+// What is told of a fault, but for one that `clap` finds.
+fn words_of(fault: &WordsFault) -> &'static str {
+    match fault {
+        WordsFault::Found(_) => "the command line is wrong",
+        WordsFault::OtherCommand => "another command is named",
+        WordsFault::Ways => "-u, -d and -D exclude each other",
         WordsFault::Query => {
-            tell(
-                faults,
-                b"db has no such query, or it takes other words; `undorc db --help` lists the queries",
-            );
-            WRONG_LINE
+            "db has no such query, or it takes other words; `undorc db --help` lists the queries"
         }
-        WordsFault::Live => {
-            tell(faults, b"-l of db goes with the query dot alone");
-            WRONG_LINE
+        WordsFault::Live => "-l of db goes with the query dot alone",
+        WordsFault::Files => "update wants -b and -l, or UNDORC_DB and UNDORC_LIVE, and -B",
+        WordsFault::Workers => "-w wants a number from 1 to 64",
+        WordsFault::Bound => "-n wants a number from 3 to 4294967295",
+        WordsFault::Limit => "-t and -T want a number from 0 to 4294967295",
+        WordsFault::List => "-x wants `none`, or `up:NAME` and `down:NAME` joined by commas",
+        WordsFault::Memory => "out of memory",
+    }
+}
+
+impl fmt::Display for WordsFault {
+    fn fmt<W: fmt::Write>(&self, f: &mut fmt::Formatter<W>) -> fmt::Result {
+        match self {
+            WordsFault::Found(error) => write!(f, "{error}"),
+            fault => f.write_str(words_of(fault)),
         }
-        WordsFault::Files => {
-            tell(
-                faults,
-                b"update wants -b and -l, or UNDORC_DB and UNDORC_LIVE, and -B",
-            );
-            WRONG_LINE
-        }
-        WordsFault::Workers => {
-            tell(faults, b"-w wants a number from 1 to 64");
-            WRONG_LINE
-        }
-        WordsFault::Bound => {
-            tell(faults, b"-n wants a number from 3 to 4294967295");
-            WRONG_LINE
-        }
-        WordsFault::Limit => {
-            tell(faults, b"-t and -T want a number from 0 to 4294967295");
-            WRONG_LINE
-        }
-        WordsFault::List => {
-            tell(
-                faults,
-                b"-x wants `none`, or `up:NAME` and `down:NAME` joined by commas",
-            );
-            WRONG_LINE
-        }
-        WordsFault::Memory => fail(faults, Failure::Memory),
     }
 }
 
 // Writes what `clap` has to say to the user, which ends in a newline. A writer that fails is
 // ignored.
-fn write_usage<F: Write>(error: &Error, faults: &mut F) {
+fn write_usage<F: Write>(error: &ClapError, faults: &mut F) {
     let _ = write!(faults, "{error}");
 }

@@ -1,5 +1,5 @@
 //! What the words ask of a session of one line.
-ghost use Rattle.std.specs.Prelude.{◌≡◌, ◌≢◌, codes, IfErr, IfOk};
+ghost use Rattle.std.specs.Prelude.{◌≡◌, ◌≢◌, codes, option_map, IfErr, IfOk};
 ghost use Rattle.clap.specs.Words.{found_of, rows_of};
 ghost use Rattle.rc_asked.specs.OnceAsked.{AsksOnceIn, AsksWhat, AsksWhatIn, OnceAsk, OnceSaying};
 ghost use Rattle.rc_asked.specs.OnceAsked.{once_ask_of, once_command, once_saying_of};
@@ -7,7 +7,8 @@ ghost use Rattle.rc_asked.specs.declared.asked.WordsFault.TheVariants.{Memory};
 
 use crate::asked::{WordsFault, plan_in};
 use crate::limits::limit_of;
-use crate::session_words::{SessionRequest, session_in};
+use crate::session_request::SessionRequest;
+use crate::session_words::session_in;
 use clap::ArgMatches;
 use rc_command::is_on;
 use rc_script::SessionLine;
@@ -32,6 +33,23 @@ pub struct OnceRequest<'a> {
     pub once: Once,
     /// What is asked of the session.
     pub session: SessionRequest<'a>,
+}
+
+impl<'a> OnceRequest<'a> {
+    /// The same with another file of the session.
+    pub fn with_live(self, live: Option<&'a str>) -> OnceRequest<'a>
+        ensures { once_ask_of result ≡ record (once_ask_of self.entry) {
+          session = record (once_ask_of self.entry).session {
+            live = option_map (λ file. file.now) live.entry;
+          };
+        } }
+    {
+        let OnceRequest { once, session } = self;
+        OnceRequest {
+            once,
+            session: session.with_live(live),
+        }
+    }
 }
 
 /// What the matches of the command of this name ask of a session of one line.

@@ -1,12 +1,13 @@
 //! What the words ask of `session`.
-ghost use Rattle.std.specs.Prelude.{◌≢◌, ℕ, map, option_map, string_bytes, IfErr, IfNone, IfOk, IfSome};
+ghost use Rattle.std.specs.Prelude.{◌≢◌, ◌≤◌, ℕ, map, option_map, string_bytes, IfErr, IfNone, IfOk, IfSome};
 ghost use Rattle.clap.specs.Words.{found_of, rows_of};
 ghost use Rattle.rc_asked.specs.SessionAsked.{AsksNoSession, AsksSession, AsksSessionIn, IsBoundIn, IsCrewIn, SessionAsk, SpellsBound, SpellsCrew, session_ask_of};
 ghost use Rattle.rc_asked.specs.declared.asked.WordsFault.TheVariants.{Memory};
 
 use crate::asked::WordsFault;
 use crate::matched::{command_in, matches_in};
-use crate::program_words::{Making, making_in};
+use crate::program_words::making_in;
+use crate::session_request::SessionRequest;
 use crate::texts::text_in;
 use clap::ArgMatches;
 use rc_command::is_on;
@@ -21,23 +22,6 @@ const MAX_WORKERS: u8 = 64;
 
 /// The least number that a session may have as the most of its states.
 const LEAST_BOUND: u32 = 3;
-
-/// What the words ask of `session`.
-#[derive(Drop)]
-pub struct SessionRequest<'a> {
-    /// How many transitions are made at once.
-    pub workers: u8,
-    /// How they are made.
-    pub making: Making<'a>,
-    /// Whether each transition is told.
-    pub tells: bool,
-    /// How many states a new session has at most.
-    pub bound: u32,
-    /// The file that the session goes on with, and is kept in.
-    pub live: Option<&'a str>,
-    /// Whether that file is waited for where another program holds it.
-    pub waits: bool,
-}
 
 /// What the words ask of `session`. The first word is the program's own name.
 pub fn session_asked<'a>(
@@ -102,6 +86,7 @@ fn workers_of(given: Option<&str>) -> Option<u8>
         IsCrewIn (option_map (λ text. text.now) given.entry) workers) }
     ensures none { IfNone result ((workers : ℕ) →
         IsCrewIn (option_map (λ text. text.now) given.entry) workers → ⊥) }
+    ensures crew { IfSome result (λ workers. (1 ≤ workers) × (workers ≤ 64)) }
 {
     match given {
         Some(text) => crew_of(text),
@@ -132,6 +117,7 @@ fn bound_of(given: Option<&str>) -> Option<u32>
         IsBoundIn (option_map (λ text. text.now) given.entry) bound) }
     ensures none { IfNone result ((bound : ℕ) →
         IsBoundIn (option_map (λ text. text.now) given.entry) bound → ⊥) }
+    ensures least { IfSome result (λ bound. 3 ≤ bound) }
 {
     match given {
         Some(text) => most_of(text),

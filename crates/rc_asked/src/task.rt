@@ -1,9 +1,9 @@
 //! The words of the command line, read once.
-ghost use Rattle.std.specs.Prelude.{◌≡◌, ◌≢◌, Option, codes, map, string_bytes, IfErr, IfOk};
+ghost use Rattle.std.specs.Prelude.{◌≡◌, ◌≢◌, Option, codes, map, option_map, string_bytes, IfErr, IfOk};
 ghost use Rattle.clap.specs.Words.{Text, found_of, rows_of, subcommand_rows_of};
 ghost use Rattle.rc_asked.specs.OnceAsked.{OnceAsk};
-ghost use Rattle.rc_asked.specs.Task.{AsksEntered, AsksNamed, AsksNoTask, AsksTask, HasBound, HasWorkers, IsEventless};
-ghost use Rattle.rc_asked.specs.Task.{OfOnce, TaskAsk, task_ask_of};
+ghost use Rattle.rc_asked.specs.Task.{AsksEntered, AsksNamed, AsksNoTask, AsksTask, IsEventless};
+ghost use Rattle.rc_asked.specs.Task.{OfOnce, TaskAsk, first_named, task_ask_of, task_by};
 ghost use Rattle.rc_asked.specs.declared.asked.WordsFault.TheVariants.{Memory};
 
 use crate::asked::{WordsFault, plan_in};
@@ -11,7 +11,8 @@ use crate::compile_words::{CompileRequest, compile_in};
 use crate::db_words::{DbRequest, db_in};
 use crate::matched::matches_in;
 use crate::once_words::{OnceRequest, once_in};
-use crate::session_words::{SessionRequest, session_in};
+use crate::session_request::SessionRequest;
+use crate::session_words::session_in;
 use crate::texts::text_in;
 use crate::update_words::{UpdateRequest, update_in};
 use clap::ArgMatches;
@@ -40,12 +41,51 @@ pub enum Task<'a> {
     Version,
 }
 
+impl<'a> Task<'a> {
+    /// The same, with these files of `-b` and `-l` where the words name none.
+    pub fn with_usual(self, base: Option<&'a str>, live: Option<&'a str>) -> Task<'a>
+        ensures asked { task_ask_of result ≡ task_by (option_map (λ file. file.now) base.entry)
+            (option_map (λ file. file.now) live.entry) (task_ask_of self.entry) }
+        ensures eventless { IsEventless self.entry → IsEventless result }
+    {
+        match self {
+            Task::Compile(request) => Task::Compile(request),
+            Task::Db(request, file) => Task::Db(request, named_or(file, base)),
+            Task::Plan(request, file) => Task::Plan(request, named_or(file, base)),
+            Task::Replay(file) => Task::Replay(named_or(file, base)),
+            Task::Session(request, file) => {
+                let live = named_or(request.live, live);
+                Task::Session(request.with_live(live), named_or(file, base))
+            }
+            Task::Once(request, file) => {
+                let live = named_or(request.session.live, live);
+                Task::Once(request.with_live(live), named_or(file, base))
+            }
+            Task::Update(request, file) => {
+                let live = named_or(request.session.live, live);
+                Task::Update(request.with_live(live), named_or(file, base))
+            }
+            Task::Version => Task::Version,
+        }
+    }
+}
+
+// The file that is named, or where none is the usual one.
+fn named_or<'a>(named: Option<&'a str>, usual: Option<&'a str>) -> Option<&'a str>
+    ensures { option_map (λ file. file.now) result
+        ≡ first_named (option_map (λ file. file.now) named.entry)
+        (option_map (λ file. file.now) usual.entry) }
+{
+    match named {
+        Some(file) => Some(file),
+        None => usual,
+    }
+}
+
 /// What the words ask. The first word is the program's own name.
 pub fn task_of<'a>(alloc: Global, words: &'a [String]) -> Result<Task<'a>, WordsFault>
     ensures asked { IfOk result (λ task.
         AsksTask (map string_bytes words.entry.now) (task_ask_of task)) }
-    ensures workers { IfOk result HasWorkers }
-    ensures bound { IfOk result HasBound }
     ensures eventless { IfOk result IsEventless }
     ensures wrong { IfErr result (λ fault.
         fault ≢ Memory → AsksNoTask (map string_bytes words.entry.now)) }

@@ -7,6 +7,7 @@ ghost use Rattle.rc_asked.specs.Reading.{listed_of};
 
 use rc_graph::Way;
 use std::alloc::{AllocError, Global};
+use thiserror::Error;
 
 /// A transition as it is named: which way the service of this name goes.
 #[derive(Clone, Copy)]
@@ -16,10 +17,12 @@ pub struct Transition<'a> {
 }
 
 /// Why a text is no list of transitions.
-#[derive(Clone, Copy, PartialEq, Eq, Debug)]
+#[derive(Clone, Copy, PartialEq, Eq, Debug, Error)]
 pub enum ListFault {
     /// It has not the form of one.
+    #[error("no list of transitions")]
     Form,
+    #[error("out of memory")]
     Memory,
 }
 

@@ -1,11 +1,12 @@
 //! What the words ask of `update`.
-ghost use Rattle.std.specs.Prelude.{◌≢◌, IfErr, IfOk};
+ghost use Rattle.std.specs.Prelude.{◌≡◌, ◌≢◌, option_map, IfErr, IfOk};
 ghost use Rattle.clap.specs.Words.{found_of, rows_of};
 ghost use Rattle.rc_asked.specs.UpdateAsked.{AsksUpdateIn, UpdateAsk, update_ask_of};
 ghost use Rattle.rc_asked.specs.declared.asked.WordsFault.TheVariants.{Memory};
 
 use crate::asked::WordsFault;
-use crate::session_words::{SessionRequest, session_in};
+use crate::session_request::SessionRequest;
+use crate::session_words::session_in;
 use clap::ArgMatches;
 use rc_command::is_on;
 use std::alloc::Global;
@@ -19,6 +20,24 @@ pub struct UpdateRequest<'a> {
     pub new: &'a str,
     /// Whether it is shown, and not done.
     pub dry: bool,
+}
+
+impl<'a> UpdateRequest<'a> {
+    /// The same with another file of what is live.
+    pub fn with_live(self, live: Option<&'a str>) -> UpdateRequest<'a>
+        ensures { update_ask_of result ≡ record (update_ask_of self.entry) {
+          session = record (update_ask_of self.entry).session {
+            live = option_map (λ file. file.now) live.entry;
+          };
+        } }
+    {
+        let UpdateRequest { session, new, dry } = self;
+        UpdateRequest {
+            session: session.with_live(live),
+            new,
+            dry,
+        }
+    }
 }
 
 /// What the matches of `update` ask.

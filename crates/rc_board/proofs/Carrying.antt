@@ -1,4 +1,4 @@
-use Rattle.std.proofs.Common.{◌≡◌, ◌∙◌, ◌≤◌, inr, ℕ, Bool, false, List, [], Option, Result, Ok, Err, IfErr, slice_index_or, ap, sym, subst, arith}
+use Rattle.std.proofs.Common.{◌≡◌, ◌∙◌, ℕ, Bool, false, List, [], Option, Result, Ok, Err, IfErr, ap, sym, subst}
 use Rattle.rc_graph.specs.declared.Way.{Way}
 use Rattle.rc_model.specs.Plan.{PlanSets}
 use Rattle.rc_model.specs.declared.Outcome.{Outcome}
@@ -16,7 +16,8 @@ use Rattle.rc_session.proofs.Excluding.{task_not_own}
 use Rattle.rc_board.specs.declared.fault.Fault.{Fault}
 use Rattle.rc_board.specs.declared.fault.Fault.TheVariants.{Workers, NoThread, Strange, Refused}
 use Rattle.rc_board.specs.Crew.{IsCrew}
-use Rattle.rc_board.specs.Made.{AreMade}
+use Rattle.rc_board.specs.Made.{AreMade, AreMadeInTime, AreTimely}
+use Rattle.rc_board.proofs.Making.{made_at_all, made_timely}
 use Rattle.rc_board.specs.Halting.{IsHaltOf}
 use Rattle.rc_board.specs.Working.{IsCarriedOut, IsFault, CanBegin}
 
@@ -30,7 +31,7 @@ task_opening d line (Delete words force) start plan deadline task = absurd task
 
 -- a run that was made, and a command that was completed with it
 pub carried : (workers start : ℕ) (Answers : ℕ → Way → Outcome → Type 0) (Gives : ℕ → Type 0) (h new : Holding) (command : Command) (task : Task) (run : RunSoFar) (told : Reported) → IsCrew workers → h.spoiled ≡ false → IsBegun h command start task → Gives start →
-    IsSettled (course_of h.database.needs task.plan task.deadline) run.events → AreMade workers Answers Gives task.plan.opening run.events → DoesByRun h.database h.line (with_events command run.events) told new.line → new ≡ with_line h new.line →
+    IsSettled (course_of h.database.needs task.plan task.deadline) run.events → AreMadeInTime workers Answers Gives task.deadline task.plan.opening run.events → DoesByRun h.database h.line (with_events command run.events) told new.line → new ≡ with_line h new.line →
     (((s : ℕ) → IsPlanned (course_of h.database.needs task.plan task.deadline) s → ⊥) → run.events ≡ []) → IsCarriedOut workers Answers Gives (with_line h h.line) command told new
 carried workers start Answers Gives h new command task run told crew whole begun given settled made runs same idle =
     let c : Course = course_of h.database.needs task.plan task.deadline in
@@ -47,7 +48,10 @@ carried workers start Answers Gives h new command task run told crew whole begun
       settled = subst (λ (es : List Event). IsSettled c es) (sym trace) settled;
       idle = λ none. trace ∙ idle none;
       made = subst (λ (es : List Event). AreMade workers Answers Gives h.line.current.live es) (sym trace)
-          (subst (λ (set : List Bool). AreMade workers Answers Gives set run.events) up made);
+          (subst (λ (set : List Bool). AreMade workers Answers Gives set run.events) up
+          (made_at_all workers Answers Gives task.deadline task.plan.opening run.events made));
+      timely = subst (λ (es : List Event). AreTimely Gives task.deadline es) (sym trace)
+          (made_timely workers Answers Gives task.deadline task.plan.opening run.events made);
       runs = subst (λ (es : List Event). DoesByRun h.database h.line (with_events command es) told new.line) (sym trace) runs;
       session = same;
     }

@@ -8,7 +8,7 @@ use Rattle.rc_model.specs.declared.Outcome.{Outcome}
 use Rattle.rc_model.specs.declared.Event.{Event}
 use Rattle.rc_model.specs.declared.Event.TheVariants.{Take, Done, Stop}
 use Rattle.rc_board.specs.declared.note.Note.{Note}
-use Rattle.rc_board.specs.Made.{worker_of, IsSaid, AreMade}
+use Rattle.rc_board.specs.Made.{worker_of, IsSaidInTime, AreMadeInTime}
 use Rattle.rc_board.specs.Pads.{Written, own, events_on, way_of, IsSaidWith, AreSaid}
 use Rattle.rc_board.specs.Interleaving.{IsOfCrew, AreInterleaved}
 
@@ -39,43 +39,44 @@ all_from_own P n (e ∷ es) a h =
     (all_from_own P n es (All-tail (IsOfCrew n) e es a)
     (λ v low high. own_tail P v e es (h v low high)))
 
-module _ (Answers : ℕ → Way → Outcome → Type 0) (Gives : ℕ → Type 0) (up : List Bool) where
+module _ (Answers : ℕ → Way → Outcome → Type 0) (Gives : ℕ → Type 0) (deadline : Option ℕ)
+    (up : List Bool) where
   -- an event whose way is that of its service
-  said_so : (e : Event) → IsSaidWith Answers Gives e (way_of up e) → IsSaid Answers Gives up e
-  said_so (Take w s) said = tt
+  said_so : (e : Event) → IsSaidWith Answers Gives deadline e (way_of up e) → IsSaidInTime Answers Gives deadline up e
+  said_so (Take w s) said = said
   said_so (Done w s o) said = said
   said_so (Stop w m) said = said
 
-  note_said : (x : Note) → IsSaidWith Answers Gives x.event x.way → x.way ≡ way_of up x.event
-      → IsSaid Answers Gives up x.event
+  note_said : (x : Note) → IsSaidWith Answers Gives deadline x.event x.way → x.way ≡ way_of up x.event
+      → IsSaidInTime Answers Gives deadline up x.event
   note_said x said is =
-      said_so x.event (subst (λ (way : Option Way). IsSaidWith Answers Gives x.event way) is said)
+      said_so x.event (subst (λ (way : Option Way). IsSaidWith Answers Gives deadline x.event way) is said)
 
-  pad_said : (xs : List Note) → AreSaid Answers Gives xs
-      → All (λ (x : Note). x.way ≡ way_of up x.event) xs → All (IsSaid Answers Gives up) (events_on xs)
+  pad_said : (xs : List Note) → AreSaid Answers Gives deadline xs
+      → All (λ (x : Note). x.way ≡ way_of up x.event) xs → All (IsSaidInTime Answers Gives deadline up) (events_on xs)
   pad_said xs said ways =
-      All-map (IsSaid Answers Gives up) (λ (x : Note). x.event) xs
+      All-map (IsSaidInTime Answers Gives deadline up) (λ (x : Note). x.event) xs
       (λ k d low. note_said (get_or xs k d) (said k d low) (ways k d low))
 
   -- the events of a worker, from its pad
   own_said : (pads : List Written) (es : List Event) (k : ℕ) → k < length pads
-      → AreInterleaved up pads es → All (λ (p : Written). AreSaid Answers Gives p.notes) pads
-      → All (IsSaid Answers Gives up) (own (k + 1) es)
+      → AreInterleaved up pads es → All (λ (p : Written). AreSaid Answers Gives deadline p.notes) pads
+      → All (IsSaidInTime Answers Gives deadline up) (own (k + 1) es)
   own_said pads es k low joined said =
       let none : Written = record { notes = []; room = 0 } in
-      subst (λ (xs : List Event). All (IsSaid Answers Gives up) xs) (sym (joined.each k none low))
+      subst (λ (xs : List Event). All (IsSaidInTime Answers Gives deadline up) xs) (sym (joined.each k none low))
       (pad_said (get_or pads k none).notes (said k none low) (joined.ways k none low))
 
   -- an interleaving of pads that tell what the gate may say was made with it
   pub joined_made : (pads : List Written) (es : List Event) → AreInterleaved up pads es
-      → All (λ (p : Written). AreSaid Answers Gives p.notes) pads
-      → AreMade (length pads) Answers Gives up es
+      → All (λ (p : Written). AreSaid Answers Gives deadline p.notes) pads
+      → AreMadeInTime (length pads) Answers Gives deadline up es
   joined_made pads es joined said = record {
     numbers = λ k d low. (joined.numbers k d low).1;
-    said = all_from_own (IsSaid Answers Gives up) (length pads) es joined.numbers
+    said = all_from_own (IsSaidInTime Answers Gives deadline up) (length pads) es joined.numbers
         (λ w low high.
         let within : w - 1 < length pads = omega arith in
         let back : (w - 1) + 1 ≡ w = omega arith in
-        subst (λ (v : ℕ). All (IsSaid Answers Gives up) (own v es)) back
+        subst (λ (v : ℕ). All (IsSaidInTime Answers Gives deadline up) (own v es)) back
         (own_said pads es (w - 1) within joined said));
   }

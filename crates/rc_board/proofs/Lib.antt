@@ -4,3 +4,4 @@ mod Joining
 mod Lasting
 mod Making
 mod Placing
+mod Timing

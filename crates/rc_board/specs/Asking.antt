@@ -1,7 +1,9 @@
-use Rattle.std.specs.Prelude.{◌≡◌, ◌⊎◌, ℕ, Option, Some, None}
+use Rattle.std.specs.Prelude.{◌≡◌, ◌⊎◌, ℕ, Some, None}
 use Rattle.rc_graph.specs.declared.Way.{Way}
 use Rattle.rc_model.specs.declared.Outcome.{Outcome}
 use Rattle.rc_model.specs.declared.Event.TheVariants.{Take, Done, Stop}
+use Rattle.rc_board.specs.declared.time.Time.{Time}
+use Rattle.rc_board.specs.declared.time.Time.TheVariants.{Late, Early}
 use Rattle.rc_board.specs.declared.worker.Asked.{Asked}
 use Rattle.rc_board.specs.declared.worker.Asked.TheVariants.{Job, Again, Stopped, Over}
 use Rattle.rc_board.specs.declared.worker.Made.{Made}
@@ -17,11 +19,13 @@ abbrev pub NotesEnd : Written → ℕ → Made → Written → Type 0
 NotesEnd old w made new =
     (new ≡ with_note old (Done w made.service made.outcome) (Some made.way)) ⊎ (new ≡ old)
 
--- what a worker has written down after it asked for a job, late or not: its take, where it was
+-- what a worker has written down after it asked for a job: its take, where it was early and was
 -- given one, or its stop at the moment that was late
-abbrev pub NotesAsked : Written → ℕ → Option ℕ → Asked → Written → Type 0
-NotesAsked old w late (Job job) new = new ≡ with_note old (Take w job.service) (Some job.way)
-NotesAsked old w late Again new = new ≡ old
-NotesAsked old w (Some moment) Stopped new = new ≡ with_note old (Stop w moment) None
-NotesAsked old w None Stopped new = ⊥
-NotesAsked old w late Over new = new ≡ old
+abbrev pub NotesAsked : Written → ℕ → Time → Asked → Written → Type 0
+NotesAsked old w (Late moment) (Job job) new = ⊥
+NotesAsked old w (Early leave) (Job job) new =
+    new ≡ with_note old (Take w job.service) (Some job.way)
+NotesAsked old w time Again new = new ≡ old
+NotesAsked old w (Late moment) Stopped new = new ≡ with_note old (Stop w moment) None
+NotesAsked old w (Early leave) Stopped new = ⊥
+NotesAsked old w time Over new = new ≡ old

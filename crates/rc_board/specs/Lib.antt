@@ -6,4 +6,5 @@ pub mod Made
 pub mod Pads
 pub mod Reading
 pub mod Sight
+pub mod Timing
 pub mod Working

@@ -8,7 +8,7 @@ use Rattle.rc_model.specs.declared.Event.TheVariants.{Take, Done, Stop}
 use Rattle.rc_core.specs.declared.took.Took.{Took}
 use Rattle.rc_core.specs.declared.took.Took.TheVariants as took
 use Rattle.rc_board.specs.declared.note.Note.{Note}
-use Rattle.rc_board.specs.Made.{worker_of, way_from}
+use Rattle.rc_board.specs.Made.{worker_of, way_from, IsInTime}
 
 -- a pad: what its worker has written down, and for how much more there is room
 pub record Written : Type 0 where
@@ -36,17 +36,19 @@ abbrev pub own : ℕ → List Event → List Event
 own w events = filter (λ event. worker_of event == w) events
 
 -- what is written down tells of a gate what it may say: an outcome that it may answer for the
--- service and the way written beside it, or a moment that it may give
-abbrev pub IsSaidWith : (ℕ → Way → Outcome → Type 0) → (ℕ → Type 0) → Event → Option Way → Type 0
-IsSaidWith Answers Gives (Take w s) way = Unit {0}
-IsSaidWith Answers Gives (Done w s o) (Some way) = Answers s way o
-IsSaidWith Answers Gives (Done w s o) None = ⊥
-IsSaidWith Answers Gives (Stop w m) way = Gives m
+-- service and the way written beside it, or a moment that it may give; and a service is taken in
+-- time
+abbrev pub IsSaidWith : (ℕ → Way → Outcome → Type 0) → (ℕ → Type 0) → Option ℕ → Event
+    → Option Way → Type 0
+IsSaidWith Answers Gives deadline (Take w s) way = IsInTime Gives deadline
+IsSaidWith Answers Gives deadline (Done w s o) (Some way) = Answers s way o
+IsSaidWith Answers Gives deadline (Done w s o) None = ⊥
+IsSaidWith Answers Gives deadline (Stop w m) way = Gives m
 
 -- all on a pad does
-abbrev pub AreSaid : (ℕ → Way → Outcome → Type 0) → (ℕ → Type 0) → List Note → Type 0
-AreSaid Answers Gives notes =
-    All (λ (note : Note). IsSaidWith Answers Gives note.event note.way) notes
+abbrev pub AreSaid : (ℕ → Way → Outcome → Type 0) → (ℕ → Type 0) → Option ℕ → List Note → Type 0
+AreSaid Answers Gives deadline notes =
+    All (λ (note : Note). IsSaidWith Answers Gives deadline note.event note.way) notes
 
 -- the way of an event where this is up at first; a stop has none
 abbrev pub way_of : List Bool → Event → Option Way

@@ -10,14 +10,14 @@ use Rattle.rc_model.specs.Session.{Command, Reported, IsTask, DoesByRun, IsOwnFa
 use Rattle.rc_session.specs.Commands.{with_events}
 use Rattle.rc_session.specs.Holding.{Holding, IsHindrance, with_line}
 use Rattle.rc_board.specs.declared.fault.Fault.{Fault}
-use Rattle.rc_board.specs.declared.fault.Fault.TheVariants.{Workers, NoThread, Strange, Refused}
+use Rattle.rc_board.specs.declared.fault.Fault.TheVariants.{Workers, Strange, Refused}
 use Rattle.rc_board.specs.Crew.{IsCrew}
-use Rattle.rc_board.specs.Made.{AreMade}
+use Rattle.rc_board.specs.Made.{AreMade, AreTimely}
 
 -- a command was carried out by workers with a gate: it was begun at a moment that the
 -- gate may give; the events that are told are a settled run of its task from then on,
--- none where nothing is to move, and the workers made them with the gate; and the session
--- did the command with these events
+-- none where nothing is to move, and the workers made them with the gate, and took each service
+-- before the deadline of this task; and the session did the command with these events
 pub record IsCarriedOut (workers : ℕ) (Answers : ℕ → Way → Outcome → Type 0) (Gives : ℕ → Type 0)
     (old : Holding) (command : Command) (told : Reported) (new : Holding) : Type 0 where
   pub crew : IsCrew workers
@@ -31,6 +31,7 @@ pub record IsCarriedOut (workers : ℕ) (Answers : ℕ → Way → Outcome → T
   pub idle : ((s : ℕ) → IsPlanned (course_of old.database.needs plan deadline) s → ⊥) →
       told.trace ≡ []
   pub made : AreMade workers Answers Gives old.line.current.live told.trace
+  pub timely : AreTimely Gives deadline told.trace
   pub runs : DoesByRun old.database old.line (with_events command told.trace) told new.line
   pub session : new ≡ with_line old new.line
 

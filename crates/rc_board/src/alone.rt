@@ -3,14 +3,14 @@
 ghost use Rattle.std.specs.Prelude.{◌≡◌, ◌<◌, ◌≤◌, ◌+◌, ◌*◌, [], length, IsTrue, IfOk};
 ghost use Rattle.rc_model.specs.Run.{IsSettled};
 ghost use Rattle.rc_model.specs.Beside.{planned_count};
-ghost use Rattle.rc_board.specs.Made.{AreMade, way_from};
+ghost use Rattle.rc_board.specs.Made.{AreMadeInTime, way_from};
 
 use crate::crew::glance_of;
 use crate::gate::Gate;
 use crate::glance::Glance;
 use crate::play::Halt;
+use crate::time::{Time, time_of};
 use crate::watch::Watch;
-use crate::worker::late_moment;
 use rc_core::{Ended, Job, Run, Took};
 use std::alloc::Global;
 
@@ -22,11 +22,13 @@ pub(crate) fn played_alone<G: Gate, W: Watch>(
     gate: &G,
     watch: &W,
 ) -> Result<Ended, Halt>
+    requires deadline { deadline ≡ run.course.deadline }
     requires fresh { run.events ≡ [] }
     ensures course { IfOk result (λ ended. ended.course ≡ run.course) }
     ensures settled { IfOk result (λ ended. IsSettled run.course ended.events) }
     ensures made { IfOk result
-        (λ ended. AreMade 1 (G.answers gate.now) (G.gives gate.now) run.course.up ended.events) }
+        (λ ended. AreMadeInTime 1 (G.answers gate.now) (G.gives gate.now) run.course.deadline
+        run.course.up ended.events) }
 {
     let Ok(mut glance) = glance_of(alloc, &run, watch.wants_looks()) else {
         drop(run);
@@ -49,9 +51,12 @@ fn made_alone<G: Gate, W: Watch>(
     watch: &W,
     glance: &mut Option<Glance>,
 ) -> Run
-    requires made { AreMade 1 (G.answers gate.now) (G.gives gate.now) run.course.up run.events }
+    requires deadline { deadline ≡ run.course.deadline }
+    requires made { AreMadeInTime 1 (G.answers gate.now) (G.gives gate.now) run.course.deadline
+        run.course.up run.events }
     ensures course { result.course ≡ run.course }
-    ensures made { AreMade 1 (G.answers gate.now) (G.gives gate.now) run.course.up result.events }
+    ensures made { AreMadeInTime 1 (G.answers gate.now) (G.gives gate.now) run.course.deadline
+        run.course.up result.events }
 {
     let mut run = run;
     while turn(&mut run, deadline, gate, watch, glance) {}
@@ -66,22 +71,27 @@ fn turn<G: Gate, W: Watch>(
     watch: &W,
     glance: &mut Option<Glance>,
 ) -> bool
-    requires made { AreMade 1 (G.answers gate.now) (G.gives gate.now)
-        run.old.course.up run.old.events }
+    requires deadline { deadline ≡ run.old.course.deadline }
+    requires made { AreMadeInTime 1 (G.answers gate.now) (G.gives gate.now)
+        run.old.course.deadline run.old.course.up run.old.events }
     ensures course { run.new.course ≡ run.old.course }
-    ensures made { AreMade 1 (G.answers gate.now) (G.gives gate.now)
-        run.new.course.up run.new.events }
+    ensures made { AreMadeInTime 1 (G.answers gate.now) (G.gives gate.now)
+        run.new.course.deadline run.new.course.up run.new.events }
     ensures more { IsTrue result → length run.old.events < length run.new.events }
     ensures bound { IsTrue result → length run.new.events
         ≤ 2 * planned_count run.new.course + 1 }
 {
     // What the trace tells of the course is what the way of a job stands on.
     let _ = run.trace();
-    if let Some(moment) = late_moment(gate, deadline) {
-        if run.stop(1, moment).is_ok() {
-            show(run, watch, glance);
+    match time_of(gate, deadline) {
+        Time::Late(moment) => {
+            if run.stop(1, moment).is_ok() {
+                show(run, watch, glance);
+            }
+            return false;
         }
-        return false;
+        // It is given up by the take that follows.
+        Time::Early(_) => {}
     }
     let Ok(Took::Job(job)) = run.take(1) else {
         return false;
@@ -95,11 +105,11 @@ fn turn<G: Gate, W: Watch>(
 /// Has the gate make the transition of a job, and tells the run how it ended.
 fn transit<G: Gate>(run: &mut Run, gate: &G, job: Job)
     requires way { job.way ≡ way_from run.old.course.up job.service }
-    requires made { AreMade 1 (G.answers gate.now) (G.gives gate.now)
-        run.old.course.up run.old.events }
+    requires made { AreMadeInTime 1 (G.answers gate.now) (G.gives gate.now)
+        run.old.course.deadline run.old.course.up run.old.events }
     ensures course { run.new.course ≡ run.old.course }
-    ensures made { AreMade 1 (G.answers gate.now) (G.gives gate.now)
-        run.new.course.up run.new.events }
+    ensures made { AreMadeInTime 1 (G.answers gate.now) (G.gives gate.now)
+        run.new.course.deadline run.new.course.up run.new.events }
     ensures more { length run.old.events ≤ length run.new.events }
     ensures bound { length run.new.events ≤ 2 * planned_count run.new.course + 1 }
 {

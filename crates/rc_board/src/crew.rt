@@ -33,20 +33,25 @@ pub(crate) struct Tools {
     pub(crate) glance: Option<Glance>,
 }
 
-/// What a worker promises of the pad that it hands back: all on it is what the gate may say.
+/// What a worker promises of the pad that it hands back: all on it is what the gate may say, and
+/// each take is before the deadline.
 struct Said<'a, G> {
     gate: &'a G,
+    deadline: Option<u64>,
 }
 
 impl<'a, G> Drop for Said<'a, G> {
     fn drop(self) {
-        let Said { gate: _ } = self;
+        let Said {
+            gate: _,
+            deadline: _,
+        } = self;
     }
 }
 
 impl<'a, G: Gate> Promise<Pad> for Said<'a, G> {
     ghost kept_by = { λ said pad.
-        AreSaid (G.answers said.gate.now) (G.gives said.gate.now) pad.notes };
+        AreSaid (G.answers said.gate.now) (G.gives said.gate.now) said.deadline pad.notes };
 }
 
 /// The tools of each worker, with room for all that it may write down and see.
@@ -95,7 +100,7 @@ pub(crate) fn run_crew<G: Gate, W: Watch, R: Threads + Wait + Sync>(
     requires tools { All (λ (tools : _). tools.pad.notes ≡ []) all.items }
     requires none { (pads.items ≡ []) × (vec_len pads ≡ 0) × (workers ≤ vec_capacity pads) }
     ensures said { IfSome result (λ pads. All (λ (pad : Written).
-        AreSaid (G.answers gate.now) (G.gives gate.now) pad.notes) pads.items) }
+        AreSaid (G.answers gate.now) (G.gives gate.now) shared.now.deadline pad.notes) pads.items) }
     ensures count { IfSome result (λ pads. vec_len pads ≡ workers) }
 {
     thread::scope(
@@ -105,7 +110,9 @@ pub(crate) fn run_crew<G: Gate, W: Watch, R: Threads + Wait + Sync>(
             requires { (1 ≤ workers) × All (λ (tools : _). tools.pad.notes ≡ []) all.items
                 × ((pads.items ≡ []) × (vec_len pads ≡ 0) × (workers ≤ vec_capacity pads)) }
             ensures { IfSome result (λ pads. All (λ (pad : Written).
-                AreSaid (G.answers gate.entry.now) (G.gives gate.entry.now) pad.notes) pads.items
+                AreSaid (G.answers gate.entry.now) (G.gives gate.entry.now)
+                shared.entry.now.deadline
+                pad.notes) pads.items
                 × (vec_len pads ≡ workers)) }
         {
             let mut all = all;
@@ -135,10 +142,12 @@ fn start_rest<'s, E, G: Gate, W: Watch, R: Threads + Wait + Sync>(
     requires some { 1 ≤ worker }
     requires tools { All (λ (tools : _). tools.pad.notes ≡ []) rest.old.items }
     requires said { All (λ (pad : Written).
-        AreSaid (G.answers gate.now) (G.gives gate.now) pad.notes) pads.old.items }
+        AreSaid (G.answers gate.now) (G.gives gate.now)
+        shared.now.deadline pad.notes) pads.old.items }
     requires room { vec_len pads.old + worker ≤ vec_capacity pads.old }
     ensures said { All (λ (pad : Written).
-        AreSaid (G.answers gate.now) (G.gives gate.now) pad.notes) pads.new.items }
+        AreSaid (G.answers gate.now) (G.gives gate.now)
+        shared.now.deadline pad.notes) pads.new.items }
     ensures bound { vec_len pads.new ≤ vec_len pads.old + worker }
     ensures all { IsTrue result → vec_len pads.new ≡ vec_len pads.old + worker }
     ensures capacity { vec_capacity pads.new ≡ vec_capacity pads.old }
@@ -172,13 +181,20 @@ fn started<'s, E, G: Gate, W: Watch, R: Threads + Wait + Sync>(
     tools: Tools,
 ) -> Option<PromisedHandle<Pad, Said<'s, G>>>
     requires { tools.pad.notes ≡ [] }
-    ensures { IfSome result (λ child. child.promise.gate.now ≡ gate.entry.now) }
+    ensures gate { IfSome result (λ child. child.promise.gate.now ≡ gate.entry.now) }
+    ensures deadline { IfSome result
+        (λ child. child.promise.deadline ≡ shared.entry.now.deadline) }
 {
     let body = move || -> Pad
         requires { tools.pad.notes ≡ [] }
-        ensures { AreSaid (G.answers gate.entry.now) (G.gives gate.entry.now) result.notes }
+        ensures { AreSaid (G.answers gate.entry.now) (G.gives gate.entry.now)
+            shared.entry.now.deadline result.notes }
     { work(rt, gate, watch, shared, worker, tools) };
-    scope.spawn_with(Said { gate }, body).ok()
+    let said = Said {
+        gate,
+        deadline: shared.deadline,
+    };
+    scope.spawn_with(said, body).ok()
 }
 
 /// Opens the start, or gives it up.

@@ -15,6 +15,7 @@ mod made;
 mod note;
 mod pad;
 mod play;
+mod time;
 mod watch;
 mod worker;
 

@@ -5,7 +5,7 @@ ghost use Rattle.rc_model.specs.Run.{IsPlanned, course_of, IsSettled};
 ghost use Rattle.rc_model.specs.Beside.{IsCourse, planned_count};
 ghost use Rattle.rc_board.specs.Crew.{IsCrew};
 ghost use Rattle.rc_board.specs.Halting.{MayHalt};
-ghost use Rattle.rc_board.specs.Made.{AreMade};
+ghost use Rattle.rc_board.specs.Made.{AreMadeInTime};
 
 use crate::alone::played_alone;
 use crate::board::Board;
@@ -61,7 +61,8 @@ pub(crate) fn played<R: Threads + Wait + Sync, G: Gate, W: Watch>(
     ensures settled { IfOk result
         (λ ended. IsSettled (course_of graph.now plan.now deadline) ended.events) }
     ensures made { IfOk result (λ ended.
-        AreMade workers (G.answers gate.now) (G.gives gate.now) plan.now.opening ended.events) }
+        AreMadeInTime workers (G.answers gate.now) (G.gives gate.now) deadline plan.now.opening
+        ended.events) }
     ensures idle { IfOk result (λ ended.
         ((s : ℕ) → IsPlanned (course_of graph.now plan.now deadline) s → ⊥) → ended.events ≡ []) }
     ensures halt { IfErr result (MayHalt (course_of graph.now plan.now deadline)) }
@@ -145,7 +146,8 @@ fn worked<R: Threads + Wait + Sync, G: Gate, W: Watch>(
     ensures settled { IfOk result
         (λ ended. IsSettled (course_of graph.now plan.now deadline) ended.events) }
     ensures made { IfOk result (λ ended.
-        AreMade workers (G.answers gate.now) (G.gives gate.now) plan.now.opening ended.events) }
+        AreMadeInTime workers (G.answers gate.now) (G.gives gate.now) deadline plan.now.opening
+        ended.events) }
     ensures halt { IfErr result (MayHalt (course_of graph.now plan.now deadline)) }
 {
     let shared = Shared {

@@ -15,6 +15,7 @@ use crate::gate::Gate;
 use crate::glance::Glance;
 use crate::laws::{hold_done, hold_look, hold_stop, hold_take};
 use crate::pad::Pad;
+use crate::time::{Time, time_of};
 use crate::watch::Watch;
 use rc_core::{Job, Outcome, Took};
 use rc_graph::Way;
@@ -49,7 +50,7 @@ pub(crate) fn work<G: Gate, W: Watch, R: Wait>(
     tools: Tools,
 ) -> Pad
     requires { tools.pad.notes ≡ [] }
-    ensures { AreSaid (G.answers gate.now) (G.gives gate.now) result.notes }
+    ensures { AreSaid (G.answers gate.now) (G.gives gate.now) shared.now.deadline result.notes }
 {
     let Tools { pad, glance } = tools;
     let mut pad = pad;
@@ -98,8 +99,8 @@ fn turn<G: Gate, W: Watch, R: Wait>(
     glance: &mut Option<Glance>,
     held: &mut Option<Job>,
 ) -> bool
-    requires { AreSaid (G.answers gate.now) (G.gives gate.now) pad.old.notes }
-    ensures { AreSaid (G.answers gate.now) (G.gives gate.now) pad.new.notes }
+    requires { AreSaid (G.answers gate.now) (G.gives gate.now) shared.now.deadline pad.old.notes }
+    ensures { AreSaid (G.answers gate.now) (G.gives gate.now) shared.now.deadline pad.new.notes }
 {
     let made = make(gate, held.take());
     let untold = tell_seen(rt, gate, watch, shared, worker, pad, glance, made);
@@ -146,9 +147,11 @@ fn tell_seen<G: Gate, W: Watch, R: Wait>(
     made: Option<Made>,
 ) -> Option<Made>
     requires made { IfSome made (IsAnswered (G.answers gate.now)) }
-    requires said { AreSaid (G.answers gate.now) (G.gives gate.now) pad.old.notes }
+    requires said { AreSaid (G.answers gate.now) (G.gives gate.now)
+        shared.now.deadline pad.old.notes }
     ensures untold { IfSome result (IsAnswered (G.answers gate.now)) }
-    ensures said { AreSaid (G.answers gate.now) (G.gives gate.now) pad.new.notes }
+    ensures said { AreSaid (G.answers gate.now) (G.gives gate.now)
+        shared.now.deadline pad.new.notes }
 {
     if glance.is_none() {
         return made;
@@ -174,15 +177,17 @@ fn ask<G: Gate, R: Wait>(
     untold: Option<Made>,
 ) -> Asked
     requires made { IfSome untold (IsAnswered (G.answers gate.now)) }
-    requires said { AreSaid (G.answers gate.now) (G.gives gate.now) pad.old.notes }
-    ensures said { AreSaid (G.answers gate.now) (G.gives gate.now) pad.new.notes }
+    requires said { AreSaid (G.answers gate.now) (G.gives gate.now)
+        shared.now.deadline pad.old.notes }
+    ensures said { AreSaid (G.answers gate.now) (G.gives gate.now)
+        shared.now.deadline pad.new.notes }
 {
-    let late = late_moment(gate, shared.deadline);
+    let time = time_of(gate, shared.deadline);
     let mut guard = shared.board.lock(rt);
     if let Some(made) = untold {
         tell(&mut guard, pad, worker, made);
     }
-    let asked = next_on(&mut guard, pad, worker, late);
+    let asked = next_on(&mut guard, pad, worker, time);
     let_go(rt, shared, guard, &asked);
     asked
 }
@@ -202,19 +207,6 @@ fn let_go<R: Wait>(rt: &R, shared: &Shared, guard: MutexGuard<Board>, asked: &As
     }
 }
 
-/// The moment that it is, where it has reached the deadline.
-pub(crate) fn late_moment<G: Gate>(gate: &G, deadline: Option<u64>) -> Option<u64>
-    ensures { IfSome result (G.gives gate.now) }
-{
-    let deadline = deadline?;
-    let moment = gate.now();
-    if deadline <= moment {
-        Some(moment)
-    } else {
-        None
-    }
-}
-
 /// Tells the board how a transition ended.
 fn tell(board: &mut Board, pad: &mut Pad, worker: u8, made: Made)
     ensures { NotesEnd pad.old worker made pad.new }
@@ -225,23 +217,23 @@ fn tell(board: &mut Board, pad: &mut Pad, worker: u8, made: Made)
     let _ = hold_done(board, pad, worker, made.service, made.way, made.outcome);
 }
 
-/// Stops the run at a moment, or asks for a job where there is none.
-fn next_on(board: &mut Board, pad: &mut Pad, worker: u8, late: Option<u64>) -> Asked
-    ensures { NotesAsked pad.old worker late result pad.new }
+/// Stops the run where it is late, else asks for a job, and gives the leave up for it.
+fn next_on(board: &mut Board, pad: &mut Pad, worker: u8, time: Time) -> Asked
+    ensures { NotesAsked pad.old worker time result pad.new }
 {
     if pad.room() < 2 {
         return Asked::Over;
     }
-    if let Some(moment) = late {
-        return match hold_stop(board, pad, worker, moment) {
+    match time {
+        Time::Late(moment) => match hold_stop(board, pad, worker, moment) {
             Ok(()) => Asked::Stopped,
             Err(_) => Asked::Over,
-        };
-    }
-    match hold_take(board, pad, worker) {
-        Ok(Took::Job(job)) => Asked::Job(job),
-        Ok(Took::Wait) => Asked::Again,
-        Ok(Took::Settled) | Err(_) => Asked::Over,
+        },
+        Time::Early(_) => match hold_take(board, pad, worker) {
+            Ok(Took::Job(job)) => Asked::Job(job),
+            Ok(Took::Wait) => Asked::Again,
+            Ok(Took::Settled) | Err(_) => Asked::Over,
+        },
     }
 }
 

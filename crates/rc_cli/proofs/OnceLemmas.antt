@@ -36,17 +36,19 @@ use Rattle.rc_asked.specs.Programs.{ByPrograms, ByTable, MakingAsk, listed_in}
 use Rattle.rc_asked.specs.SessionAsked.{SessionAsk}
 use Rattle.rc_base.specs.Base.{IsTextFault, Spells}
 use Rattle.rc_base.specs.Opening.{Reads}
-use Rattle.rc_sessions.specs.Filing.{BeginsWith, CannotKeep, Filing, IsLeft, IsLeftOrFirst, IsUnread, filing_of}
-use Rattle.rc_sessions.specs.Finding.{AreFound, IsFirstUnknown, IsGateFault}
+use Rattle.rc_sessions.specs.Filing.{BeginsWith, CannotKeep, Filing, IsLeft, IsLeftOrFirst, file_named, filing_of}
+use Rattle.rc_sessions.specs.Finding.{AreFound}
 use Rattle.rc_sessions.specs.Serving.{IsOfFile, session_on}
 use Rattle.rc_sessions.specs.Storing.{HoldsText}
-use Rattle.rc_sessions.specs.SessionFaults.{AreAllFound, IsBeginFault, IsGateFailing, IsRefusal, IsRefusedBy, IsTextFailing, IsToldAs, reading_fault}
-use Rattle.rc_sessions.specs.declared.failing.GateFault.{GateFault}
-use Rattle.rc_sessions.specs.declared.failing.GateFault.TheVariants as gate
+use Rattle.rc_sessions.specs.SessionFaults.{AreAllFound, IsFileFault, IsRefusal, IsRefusedBy, IsTextFailing, IsToldAs, reading_fault}
 use Rattle.rc_sessions.specs.declared.keeping.LiveFile.{LiveFile}
 use Rattle.rc_sessions.specs.declared.session_fault.SessionFault.{SessionFault}
 use Rattle.rc_sessions.specs.declared.session_fault.SessionFault.TheVariants.{OfText, Unknown, OfLive, Failed}
-use Rattle.rc_sessions.proofs.SessionLemmas.{fault_wider, not_begun, of_file}
+use Rattle.rc_runner.specs.Gates.{gate_answers, gate_gives}
+use Rattle.rc_runner.specs.declared.session_gate.SessionGate.{SessionGate}
+use Rattle.rc_runner.specs.declared.session_gate.SessionGate.TheVariants as made
+use Rattle.rc_sessions.specs.Gating.{IsGateFor, IsGateless}
+use Rattle.rc_sessions.proofs.SessionLemmas.{begin_fault, fault_wider, not_begun, of_file, stands}
 use Rattle.rc_cli.specs.Once.{AnswersOnce, DoesBy, EndsOnce, HoldsOnce, IsCommand, KeepsOnce, RunsOnce, ServesOnce}
 use Rattle.rc_cli.specs.OnceEnds.{EndsGatedOnce, EndsOnceBy, EndsOnceOn, FailsOnce, StopsFrom, StopsLine, StopsServing, WantsWorkOnce}
 
@@ -291,14 +293,30 @@ from_as : (fault : ServeFault) (filing : Filing) (P Q : EndsIn) (d : Database) (
 from_as fault filing P Q d what written gained on (start, begins, stops) =
     (start, begins, line_as fault (λ of line. KeepsOnce filing of what line) P Q d start what written gained on stops)
 
+-- the gate that is made as it is asked makes transitions so
+pub does_gate : {R L : Type 0} (of d : Database) (workers : ℕ) (making : MakingAsk) (gate : SessionGate R L) (ending : Ending) (here : Line) (command : Command) (text : List ℕ) (new : Line) → IsGateFor of making gate
+    → IsDoneAs workers (gate_answers gate) (gate_gives gate) ending d here command text new → DoesBy of workers making ending d here command text new
+does_gate of d workers (ByTable listed) (made.Table table) ending here command text new is done = by_table of d workers listed table ending here command text new is.0 is.1 done
+does_gate of d workers (ByTable listed) (made.Shell shell) ending here command text new is done = absurd is
+does_gate of d workers (ByPrograms runner controller limit) (made.Table table) ending here command text new is done = absurd is
+does_gate of d workers (ByPrograms runner controller limit) (made.Shell shell) ending here command text new is done =
+    by_programs of d workers runner controller limit shell ending here command text new is done
+
+-- and each name that is to fail is a service's
+pub found_gate : {R L : Type 0} (d : Database) (making : MakingAsk) (gate : SessionGate R L) → IsGateFor d making gate → AreAllFound d (listed_in making)
+found_gate d (ByTable listed) (made.Table table) is = (table.failing, is.0)
+found_gate d (ByTable listed) (made.Shell shell) is = absurd is
+found_gate d (ByPrograms runner controller limit) (made.Table table) is = absurd is
+found_gate d (ByPrograms runner controller limit) (made.Shell shell) is = ([], tt)
+
 -- why there is no gate ends the command
-pub gate_once : (fault : GateFault) (told : SessionFault) (filing : Filing) (d : Database) (workers : ℕ) (names : List (List ℕ)) (listed : List Listed) (what : OnceSaying) (written : Option (List ℕ)) (reader writer keeper : Type 0)
-    → IsLeft filing → IsGateFailing fault told → names ≡ d.names → IsGateFault names listed fault → EndsOnceOn told filing d workers (ByTable listed) what written written reader writer keeper
-gate_once (gate.Unknown word) told filing d workers names listed what written reader writer keeper left is same wrong =
-    let first : IsFirstUnknown d.names listed word.now = subst (λ (ns : List (List ℕ)). IsFirstUnknown ns listed word.now) same wrong in
-    subst (λ (f : SessionFault). EndsOnceOn f filing d workers (ByTable listed) what written written reader writer keeper) (sym is) (first, refl, left)
-gate_once gate.Memory told filing d workers names listed what written reader writer keeper left is same wrong =
-    subst (λ (f : SessionFault). EndsOnceOn f filing d workers (ByTable listed) what written written reader writer keeper) (sym is) (tt, inl (tt, refl, inl left))
+pub gate_once : (told : SessionFault) (filing : Filing) (d : Database) (workers : ℕ) (making : MakingAsk) (what : OnceSaying) (written : Option (List ℕ)) (reader writer keeper : Type 0)
+    → IsLeft filing → IsGateless d making told → EndsOnceOn told filing d workers making what written written reader writer keeper
+gate_once (OfText fault) filing d workers making what written reader writer keeper left is = absurd is
+gate_once (Unknown word) filing d workers making what written reader writer keeper left is = (is, refl, left)
+gate_once (OfLive fault) filing d workers making what written reader writer keeper left is = absurd is
+gate_once (Failed fault) filing d workers making what written reader writer keeper left is =
+    subst (λ (f : ServeFault). EndsOnceOn (Failed f) filing d workers making what written written reader writer keeper) (sym is) (tt, inl (tt, refl, inl left))
 
 -- past a gate it ends as with how transitions are made
 pub gated_on : (fault : SessionFault) (filing : Filing) (P : EndsIn) (d : Database) (workers : ℕ) (making : MakingAsk) (what : OnceSaying) (written gained : Option (List ℕ)) (reader writer keeper : Type 0) → AreAllFound d (listed_in making)
@@ -315,23 +333,14 @@ gated_on (Failed fault) filing P d workers making what written gained reader wri
   ],
 )
 
-pub file_fault : (ask : SessionAsk) (file : LiveFile) (reader writer failed : Type 0) (f : ServeFault) → IsOfFile f → ((f ≡ Io) → (ask.live ≢ None) × IsUnread file) → IsServeFault reader writer (CannotKeep ask file failed) f
-file_fault ask file reader writer failed Read u io = absurd u
-file_fault ask file reader writer failed Write u io = absurd u
-file_fault ask file reader writer failed TooLong u io = absurd u
-file_fault ask file reader writer failed Memory u io = tt
-file_fault ask file reader writer failed NoThread u io = absurd u
-file_fault ask file reader writer failed Strange u io = absurd u
-file_fault ask file reader writer failed Workers u io = absurd u
-file_fault ask file reader writer failed Io u io = let both = io refl in (both.0, inl both.1)
-
 -- why a session does not begin ends it
 pub begin_once : (fault : SessionFault) (ask : SessionAsk) (file : LiveFile) (held : Option (List ℕ)) (As : EndsIn) (d : Database) (what : OnceSaying) (written : Option (List ℕ)) (reader writer failed : Type 0)
-    → IsBeginFault ask file d fault → EndsGatedOnce fault (filing_of ask file held held) As d what written written reader writer (CannotKeep ask file failed)
+    → IsFileFault (file_named ask.live file) d fault → EndsGatedOnce fault (filing_of ask file held held) As d what written written reader writer (CannotKeep ask file failed)
 begin_once (OfText fault) ask file held As d what written reader writer failed is = absurd is
 begin_once (Unknown word) ask file held As d what written reader writer failed is = absurd is
 begin_once (OfLive fault) ask file held As d what written reader writer failed is = (is, refl, refl)
-begin_once (Failed fault) ask file held As d what written reader writer failed is = (file_fault ask file reader writer failed fault is.0 is.1, inl (is.0, refl, inl refl))
+begin_once (Failed fault) ask file held As d what written reader writer failed is =
+    let of = begin_fault ask file fault reader writer failed is in (of.1, inl (of.0, refl, inl refl))
 
 -- a fault where one line was served ends it
 pub stops_gated : (fault : ServeFault) (filing : Filing) (As : EndsIn) (d : Database) (what : OnceSaying) (written gained : Option (List ℕ)) (old : Holding) (reader writer keeper : Type 0)
@@ -364,7 +373,8 @@ ends_with (OfLive fault) base ask file was is d input rest io reader more writer
 ends_with (Failed fault) base ask file was is d input rest io reader more writer keeper f reads spelled end = (
   fault_wider fault reader writer keeper more writer keeper f (λ w. w) (λ k. k) end.0,
   elim end.1 [
-    | inl un ↦ inl (not_begun fault base d (filing_of ask.session file was is) io un)
+    | inl un ↦ inl (not_begun fault base d (filing_of ask.session file was is) io
+        (stands base io.input io.left d input rest reads spelled) un)
     | inr stops ↦ inr (record { database = d; input = input; rest = rest; reads = reads; spelled = spelled; found = stops.0; stops = stops.1 })
   ],
 )
@@ -396,13 +406,7 @@ failure_once (Unknown word) told base ask file was is io reader writer keeper sa
 failure_once (OfLive fault) told base ask file was is io reader writer keeper same end =
     memory_once told base ask file was is io reader writer keeper same end.1 end.2
 
--- all names are found at the gate of a table, whatever the result
-pub found_in : (d : Database) (names : List (List ℕ)) (listed : List Listed) (table : Table) → names ≡ d.names → AreFound names listed table.failing → AreAllFound d listed
-found_in d names listed table same found = (table.failing, subst (λ (ns : List (List ℕ)). AreFound ns listed table.failing) same found)
-
-pub found_at : (d : Database) (names : List (List ℕ)) (listed : List Listed) (table : Table) → names ≡ d.names → AreFound names listed table.failing → AreFound d.names listed table.failing
-found_at d names listed table same found = subst (λ (ns : List (List ℕ)). AreFound ns listed table.failing) same found
-
+-- what holds whatever the result
 pub found_ok : {A E : Type 0} (result : Result A E) (P : Type 0) → P → OnOk result P
 found_ok (Ok a) P p = p
 found_ok (Err e) P p = tt

@@ -25,10 +25,8 @@ use Rattle.rc_asked.specs.Programs.{ByTable, MakingAsk}
 use Rattle.rc_base.specs.Base.{IsTextFault, Spells}
 use Rattle.rc_dbtext.specs.declared.fault.TextFault.{TextFault}
 use Rattle.rc_dbtext.specs.declared.fault.TextFault.TheVariants as text
-use Rattle.rc_sessions.specs.declared.failing.GateFault.{GateFault}
-use Rattle.rc_sessions.specs.declared.failing.GateFault.TheVariants as gate
-use Rattle.rc_sessions.specs.Filing.{BeginsBy, CannotKeep, text_named}
-use Rattle.rc_sessions.specs.SessionFaults.{IsBeginFault, IsGateFailing, IsTextFailing}
+use Rattle.rc_sessions.specs.Filing.{BeginsBy, CannotKeep, file_named}
+use Rattle.rc_sessions.specs.SessionFaults.{IsFileFault, IsTextFailing}
 use Rattle.rc_sessions.specs.declared.session_fault.SessionFault.{SessionFault}
 use Rattle.rc_sessions.specs.declared.session_fault.SessionFault.TheVariants.{OfText, Unknown, OfLive, Failed}
 use Rattle.rc_sessions.specs.Serving.{session_on}
@@ -36,9 +34,11 @@ use Rattle.rc_sessions.specs.declared.keeping.LiveFile.{LiveFile}
 use Rattle.rc_cli.specs.Once.{DoesBy, HoldsOnce, ServesOnce}
 use Rattle.rc_cli.specs.OnceEnds.{StopsServing}
 use Rattle.rc_cli.specs.Updating.{EndsBoth, EndsUpdate, IsUpdate, Parts, ServesBoth, carried_line, ending_behind, listed_by, listed_on, lowering, making_on, raising, session_with, step_by}
-use Rattle.rc_cli.specs.UpdateEnds.{AnswersUpdate, AreFoundInBoth, EndsGatedUpdate, EndsUpdateBy, EndsUpdateOn, FailsUpdate, IsGatesFault, IsTextRefused, RunsUpdate, StopsBoth, StopsUpdate}
-use Rattle.rc_sessions.proofs.SessionLemmas.{fault_wider}
-use Rattle.rc_cli.proofs.OnceLemmas.{file_fault, line_as, once_on}
+use Rattle.rc_cli.specs.UpdateEnds.{AnswersUpdate, AreFoundInBoth, AreGateless, EndsGatedUpdate, EndsUpdateBy, EndsUpdateOn, FailsUpdate, IsTextRefused, RunsUpdate, StopsBoth, StopsUpdate}
+use Rattle.rc_sessions.proofs.SessionLemmas.{begin_fault, fault_wider}
+use Rattle.rc_cli.proofs.OnceLemmas.{found_gate, line_as, once_on}
+use Rattle.rc_runner.specs.declared.session_gate.SessionGate.{SessionGate}
+use Rattle.rc_sessions.specs.Gating.{IsGateFor, IsGateless}
 
 -- a step brings no events
 pub step_eventless : (dry : Bool) (ask : Ask) → HasNoEvents (Said (step_by dry ask))
@@ -53,8 +53,8 @@ pub stands_closed : (session : Holding) (d : Database) (line : Line) → session
 stands_closed session d line is = (ap (λ (h : Holding). h.begun) is, ap (λ (h : Holding). h.spoiled) is)
 
 -- and so does one from where a session begins
-pub begun_closed : (session : Holding) (d : Database) (bound : ℕ) (text : Option (List ℕ)) → ((start : Line) × BeginsBy d bound text start × (session ≡ session_on d start)) → (session.begun ≡ false) × (session.spoiled ≡ false)
-begun_closed session d bound text (start, begins, is) = stands_closed session d start is
+pub begun_closed : (session : Holding) (d : Database) (bound : ℕ) (file : LiveFile) → ((start : Line) × BeginsBy d bound file start × (session ≡ session_on d start)) → (session.begun ≡ false) × (session.spoiled ≡ false)
+begun_closed session d bound file (start, begins, is) = stands_closed session d start is
 
 -- the bound of a line is that of what it is kept in, and three at least
 pub journal_bound : (journal : Journal) (line : Line) (begun : Bool) (bound : ℕ) → journal ≡ record { line = line; is_open = begun } → bound ≡ journal.line.bound → bound ≡ line.bound
@@ -219,43 +219,48 @@ gated_update (Failed fault) ask making file was is P P2 old new written gained w
 
 -- an update from where the session of the old database begins
 pub runs_from : (ending : Ending) (ask : UpdateAsk) (file : LiveFile) (was is : Option (List ℕ)) (As At : EndsIn) (old new : Database) (written gained : Option (List ℕ)) (from : Holding)
-    → ((start : Line) × BeginsBy old ask.session.bound (text_named ask.session.live file) start × (from ≡ session_on old start))
+    → ((start : Line) × BeginsBy old ask.session.bound (file_named ask.session.live file) start × (from ≡ session_on old start))
     → EndsUpdate ending ask.session.live was is As At ask.dry written gained from new → RunsUpdate ending ask file was is As At old new written gained
 runs_from ending ask file was is As At old new written gained from (start, begins, is_from) ends =
     (start, begins, subst (λ (h : Holding). EndsUpdate ending ask.session.live was is As At ask.dry written gained h new) is_from ends)
 
 pub stops_from : (fault : ServeFault) (ask : UpdateAsk) (file : LiveFile) (was is : Option (List ℕ)) (As At : EndsIn) (old new : Database) (written gained : Option (List ℕ)) (from : Holding)
-    → ((start : Line) × BeginsBy old ask.session.bound (text_named ask.session.live file) start × (from ≡ session_on old start))
+    → ((start : Line) × BeginsBy old ask.session.bound (file_named ask.session.live file) start × (from ≡ session_on old start))
     → StopsUpdate fault ask.session.live was is As At ask.dry written gained from new → FailsUpdate fault ask file was is As At old new written gained
 stops_from fault ask file was is As At old new written gained from (start, begins, is_from) stops =
     inr (start, begins, subst (λ (h : Holding). StopsUpdate fault ask.session.live was is As At ask.dry written gained h new) is_from stops)
 
 -- why the session of the old database does not begin ends it
 pub begin_update : (fault : SessionFault) (ask : UpdateAsk) (file : LiveFile) (held : Option (List ℕ)) (As At : EndsIn) (old new : Database) (written : Option (List ℕ)) (writer failed : Type 0)
-    → IsBeginFault ask.session file old fault → EndsGatedUpdate fault ask file held held As At old new written written writer (CannotKeep ask.session file failed)
+    → IsFileFault (file_named ask.session.live file) old fault → EndsGatedUpdate fault ask file held held As At old new written written writer (CannotKeep ask.session file failed)
 begin_update (OfText fault) ask file held As At old new written writer failed is = absurd is
 begin_update (Unknown word) ask file held As At old new written writer failed is = absurd is
 begin_update (OfLive fault) ask file held As At old new written writer failed is = (is, refl, refl)
 begin_update (Failed fault) ask file held As At old new written writer failed is =
-    (file_fault ask.session file ⊥ writer failed fault is.0 is.1, inl (is.0, refl, refl))
+    let of = begin_fault ask.session file fault ⊥ writer failed is in (of.1, inl (of.0, refl, refl))
 
--- out of memory before anything is done ends it
-pub short_update : (told : SessionFault) (ask : UpdateAsk) (making : MakingAsk) (file : LiveFile) (held : Option (List ℕ)) (old new : Database) (written : Option (List ℕ)) (writer keeper : Type 0)
-    → told ≡ Failed Memory → EndsUpdateOn told ask making file held held old new written written writer keeper
-short_update told ask making file held old new written writer keeper is =
-    subst (λ (f : SessionFault). EndsUpdateOn f ask making file held held old new written written writer keeper) (sym is) (tt, inl (tt, refl, refl))
+-- why there is no gate of the first step, or of the second one, is why there are not both
+pub first_gateless : (fault : SessionFault) (old new : Database) (making : MakingAsk) → IsGateless old (making_on Lower making) fault → AreGateless old new making fault
+first_gateless (OfText fault) old new making is = absurd is
+first_gateless (Unknown word) old new making is = inl is
+first_gateless (OfLive fault) old new making is = absurd is
+first_gateless (Failed fault) old new making is = is
 
--- why there are no gates ends it
-pub gates_update : (fault : GateFault) (told : SessionFault) (ask : UpdateAsk) (listed : List Listed) (file : LiveFile) (held : Option (List ℕ)) (old new : Database) (names others : List (List ℕ)) (written : Option (List ℕ)) (writer keeper : Type 0)
-    → names ≡ old.names → others ≡ new.names → IsGateFailing fault told → IsGatesFault names others listed fault
-    → EndsUpdateOn told ask (ByTable listed) file held held old new written written writer keeper
-gates_update (gate.Unknown word) told ask listed file held old new names others written writer keeper same also is wrong =
-    let there : IsGatesFault old.names new.names listed (gate.Unknown word) =
-    subst (λ (ns : List (List ℕ)). IsGatesFault ns new.names listed (gate.Unknown word)) same
-    (subst (λ (os : List (List ℕ)). IsGatesFault names os listed (gate.Unknown word)) also wrong) in
-    subst (λ (f : SessionFault). EndsUpdateOn f ask (ByTable listed) file held held old new written written writer keeper) (sym is) (there, refl, refl)
-gates_update gate.Memory told ask listed file held old new names others written writer keeper same also is wrong =
-    short_update told ask (ByTable listed) file held old new written writer keeper is
+pub second_gateless : {R L : Type 0} (fault : SessionFault) (old new : Database) (making : MakingAsk) (gate : SessionGate R L) → IsGateFor old (making_on Lower making) gate
+    → IsGateless new (making_on Raise making) fault → AreGateless old new making fault
+second_gateless (OfText fault) old new making gate made is = absurd is
+second_gateless (Unknown word) old new making gate made is = inr (found_gate old (making_on Lower making) gate made, is)
+second_gateless (OfLive fault) old new making gate made is = absurd is
+second_gateless (Failed fault) old new making gate made is = is
+
+-- and it ends the update
+pub gates_update : (told : SessionFault) (ask : UpdateAsk) (making : MakingAsk) (file : LiveFile) (held : Option (List ℕ)) (old new : Database) (written : Option (List ℕ)) (writer keeper : Type 0)
+    → AreGateless old new making told → EndsUpdateOn told ask making file held held old new written written writer keeper
+gates_update (OfText fault) ask making file held old new written writer keeper is = absurd is
+gates_update (Unknown word) ask making file held old new written writer keeper is = (is, refl, refl)
+gates_update (OfLive fault) ask making file held old new written writer keeper is = absurd is
+gates_update (Failed fault) ask making file held old new written writer keeper is =
+    subst (λ (f : ServeFault). EndsUpdateOn (Failed f) ask making file held held old new written written writer keeper) (sym is) (tt, inl (tt, refl, refl))
 
 -- what an update from one database to another comes to is what the texts come to that they have
 pub answers_update : {E : Type 0} (result : Result Ending E) (old new : List ℕ) (ask : UpdateAsk) (file : LiveFile) (was is written gained : Option (List ℕ)) (from to : Database)

@@ -86,7 +86,7 @@ abbrev pub EndsGatedOnce : SessionFault → Filing → EndsIn → Database → O
 EndsGatedOnce (OfText fault) filing As d what written gained reader writer keeper = ⊥
 EndsGatedOnce (Unknown word) filing As d what written gained reader writer keeper = ⊥
 EndsGatedOnce (OfLive fault) filing As d what written gained reader writer keeper =
-    IsFileRefused d filing.text fault × (gained ≡ written) × IsLeft filing
+    IsFileRefused d filing.file fault × (gained ≡ written) × IsLeft filing
 EndsGatedOnce (Failed fault) filing As d what written gained reader writer keeper =
     IsServeFault reader writer keeper fault
     × ((IsOfFile fault × (gained ≡ written) × IsLeftOrFirst d filing)
@@ -100,7 +100,7 @@ EndsOnceOn (OfText fault) filing d workers making what written gained reader wri
 EndsOnceOn (Unknown word) filing d workers making what written gained reader writer keeper =
     IsFirstUnknown d.names (listed_in making) word.now × (gained ≡ written) × IsLeft filing
 EndsOnceOn (OfLive fault) filing d workers making what written gained reader writer keeper =
-    (AreAllFound d (listed_in making) × IsFileRefused d filing.text fault)
+    (AreAllFound d (listed_in making) × IsFileRefused d filing.file fault)
     × (gained ≡ written) × IsLeft filing
 EndsOnceOn (Failed fault) filing d workers making what written gained reader writer keeper =
     IsServeFault reader writer keeper fault

@@ -20,10 +20,8 @@ use Rattle.rc_asked.specs.OnceAsked.{OnceSaying}
 use Rattle.rc_asked.specs.Programs.{MakingAsk, listed_in}
 use Rattle.rc_asked.specs.UpdateAsked.{UpdateAsk}
 use Rattle.rc_base.specs.Base.{IsTextFault, Spells}
-use Rattle.rc_sessions.specs.Filing.{BeginsBy, IsFileRefused, text_named}
-use Rattle.rc_sessions.specs.Finding.{AreFound, IsFirstUnknown}
-use Rattle.rc_sessions.specs.declared.failing.GateFault.{GateFault}
-use Rattle.rc_sessions.specs.declared.failing.GateFault.TheVariants as gate
+use Rattle.rc_sessions.specs.Filing.{BeginsBy, IsFileRefused, file_named}
+use Rattle.rc_sessions.specs.Finding.{IsFirstUnknown}
 use Rattle.rc_sessions.specs.Serving.{IsOfFile, session_on}
 use Rattle.rc_sessions.specs.SessionFaults.{AreAllFound, IsRefusal, IsToldAs, serve_word, session_fault_text}
 use Rattle.rc_sessions.specs.declared.keeping.LiveFile.{LiveFile}
@@ -70,7 +68,7 @@ StopsUpdate fault path was is As At dry written gained from new =
 abbrev pub RunsUpdate : Ending → UpdateAsk → LiveFile → (was is : Option (List ℕ)) →
     (As At : EndsIn) → (old new : Database) → (written gained : Option (List ℕ)) → Type 0
 RunsUpdate ending ask file was is As At old new written gained = (start : Line)
-    × BeginsBy old ask.session.bound (text_named ask.session.live file) start
+    × BeginsBy old ask.session.bound (file_named ask.session.live file) start
     × EndsUpdate ending ask.session.live was is As At ask.dry written gained
     (session_on old start) new
 
@@ -79,7 +77,7 @@ abbrev pub FailsUpdate : ServeFault → UpdateAsk → LiveFile → (was is : Opt
     (As At : EndsIn) → (old new : Database) → (written gained : Option (List ℕ)) → Type 0
 FailsUpdate fault ask file was is As At old new written gained =
     (IsOfFile fault × (gained ≡ written) × (is ≡ was))
-    ⊎ ((start : Line) × BeginsBy old ask.session.bound (text_named ask.session.live file) start
+    ⊎ ((start : Line) × BeginsBy old ask.session.bound (file_named ask.session.live file) start
     × StopsUpdate fault ask.session.live was is As At ask.dry written gained
     (session_on old start) new)
 
@@ -90,7 +88,7 @@ abbrev pub EndsGatedUpdate : SessionFault → UpdateAsk → LiveFile → (was is
 EndsGatedUpdate (OfText fault) ask file was is As At old new written gained writer keeper = ⊥
 EndsGatedUpdate (Unknown word) ask file was is As At old new written gained writer keeper = ⊥
 EndsGatedUpdate (OfLive fault) ask file was is As At old new written gained writer keeper =
-    IsFileRefused old (text_named ask.session.live file) fault
+    IsFileRefused old (file_named ask.session.live file) fault
     × (gained ≡ written) × (is ≡ was)
 EndsGatedUpdate (Failed fault) ask file was is As At old new written gained writer keeper =
     IsServeFault ⊥ writer keeper fault
@@ -102,21 +100,18 @@ abbrev pub AreFoundInBoth : (old new : Database) → MakingAsk → Type 0
 AreFoundInBoth old new making = AreAllFound old (listed_in (making_on Lower making))
     × AreAllFound new (listed_in (making_on Raise making))
 
--- why there are no gates of both steps: the first name that is to fail and is no service's, those
--- of the way down first, or out of memory
-abbrev pub IsGatesFault : (old new : List (List ℕ)) → List Listed → GateFault → Type 0
-IsGatesFault old new listed (gate.Unknown word) =
-    IsFirstUnknown old (listed_on Lower listed) word.now
-    ⊎ (((table : List (ℕ × Way)) × AreFound old (listed_on Lower listed) table)
-    × IsFirstUnknown new (listed_on Raise listed) word.now)
-IsGatesFault old new listed gate.Memory = Unit {0}
-
 -- the first name that is to fail and is no service's, those of the way down first
 abbrev pub IsUnknownInBoth : (old new : Database) → MakingAsk → List ℕ → Type 0
 IsUnknownInBoth old new making word =
     IsFirstUnknown old.names (listed_in (making_on Lower making)) word
     ⊎ (AreAllFound old (listed_in (making_on Lower making))
     × IsFirstUnknown new.names (listed_in (making_on Raise making)) word)
+
+-- why there are no gates of both steps: such a name, or out of memory
+abbrev pub AreGateless : (old new : Database) → MakingAsk → SessionFault → Type 0
+AreGateless old new making (Unknown word) = IsUnknownInBoth old new making word.now
+AreGateless old new making (Failed fault) = fault ≡ Memory
+AreGateless old new making other = ⊥
 
 -- the same where transitions are made so: refused also for a name that is to fail, and for its
 -- file only after that
@@ -128,7 +123,7 @@ EndsUpdateOn (Unknown word) ask making file was is old new written gained writer
     IsUnknownInBoth old new making word.now × (gained ≡ written) × (is ≡ was)
 EndsUpdateOn (OfLive fault) ask making file was is old new written gained writer keeper =
     (AreFoundInBoth old new making
-    × IsFileRefused old (text_named ask.session.live file) fault)
+    × IsFileRefused old (file_named ask.session.live file) fault)
     × (gained ≡ written) × (is ≡ was)
 EndsUpdateOn (Failed fault) ask making file was is old new written gained writer keeper =
     IsServeFault ⊥ writer keeper fault

@@ -15,13 +15,15 @@ ghost use Rattle.rc_cli.specs.Once.{AnswersOnce};
 ghost use Rattle.rc_cli.specs.OnceEnds.{EndsOnceBy, TellsFault};
 
 use crate::serving::run_on;
+use log::Log;
 use rc_asked::OnceRequest;
 use rc_base::database_of;
 use rc_serve::Ending;
-use rc_sessions::{LiveFile, SessionFault, Store, TextKeeper, reading_fault, tell_session_fault};
+use rc_sessions::{
+    Host, LiveFile, SessionFault, Store, TextKeeper, reading_fault, tell_session_fault,
+};
 use rc_streams::ending::{DONE, REFUSED};
 use rc_streams::{MAX_INPUT, Noted, read_all};
-use std::alloc::Global;
 use std::io::{Read, Write};
 use std::sync::Wait;
 use std::thread::Threads;
@@ -40,10 +42,15 @@ const HINDERED: u8 = 2;
 /// `live` is what stood in the file of `-l`, where one is named: the session goes on with its text.
 /// `keeper` keeps a change, an undo and a redo there, first of all where the session begins. What
 /// only shows something leaves it alone.
-pub fn once_as_asked<T: Threads + Wait + Sync, R: Read, W: Write, F: Write, S: Store>(
-    rt: &T,
-    host: &HostRuntime,
-    alloc: Global,
+pub fn once_as_asked<
+    T: Threads + Wait + Sync,
+    R: Read,
+    W: Write,
+    F: Write,
+    S: Store,
+    L: Log + Sync,
+>(
+    host: &Host<'_, T, L>,
     request: &OnceRequest<'_>,
     base: Option<&[u8]>,
     live: LiveFile<'_>,
@@ -52,8 +59,6 @@ pub fn once_as_asked<T: Threads + Wait + Sync, R: Read, W: Write, F: Write, S: S
     writer: &mut Noted<W>,
     faults: &mut F,
 ) -> u8
-    requires crew { IsCrew request.now.session.workers }
-    requires bound { 3 ≤ request.now.session.bound }
     requires eventless { HasNoEvents (once_ask_of request.now).what }
     requires reader { HasFailed reader.old → ⊥ }
     requires writer { HasFailed writer.old → ⊥ }
@@ -103,9 +108,9 @@ pub fn once_as_asked<T: Threads + Wait + Sync, R: Read, W: Write, F: Write, S: S
     ensures taken { ConsumesAtMost (R.remaining (inner_of reader.old))
         (R.remaining (inner_of reader.new)) (MAX_INPUT + 1) }
 {
-    match run_asked(rt, host, alloc, request, base, live, keeper, reader, writer) {
+    match run_asked(host, request, base, live, keeper, reader, writer) {
         Ok(ending) => status_of(ending),
-        Err(fault) => tell_session_fault(alloc, faults, fault),
+        Err(fault) => tell_session_fault(host.alloc, faults, fault),
     }
 }
 
@@ -124,10 +129,8 @@ pub(crate) fn status_of(ending: Ending) -> u8
 }
 
 // Runs what is asked.
-fn run_asked<'a, T: Threads + Wait + Sync, R: Read, W: Write, S: Store>(
-    rt: &T,
-    host: &HostRuntime,
-    alloc: Global,
+fn run_asked<'a, T: Threads + Wait + Sync, R: Read, W: Write, S: Store, L: Log + Sync>(
+    host: &Host<'_, T, L>,
     request: &OnceRequest<'a>,
     base: Option<&[u8]>,
     live: LiveFile<'_>,
@@ -135,8 +138,6 @@ fn run_asked<'a, T: Threads + Wait + Sync, R: Read, W: Write, S: Store>(
     reader: &mut Noted<R>,
     writer: &mut Noted<W>,
 ) -> Result<Ending, SessionFault<'a>>
-    requires crew { IsCrew request.now.session.workers }
-    requires bound { 3 ≤ request.now.session.bound }
     requires eventless { HasNoEvents (once_ask_of request.now).what }
     requires reader { HasFailed reader.old → ⊥ }
     requires writer { HasFailed writer.old → ⊥ }
@@ -155,18 +156,14 @@ fn run_asked<'a, T: Threads + Wait + Sync, R: Read, W: Write, S: Store>(
         (R.remaining (inner_of reader.new)) (MAX_INPUT + 1) }
 {
     match base {
-        Some(bytes) => run_on_base(
-            rt, host, alloc, request, bytes, live, keeper, reader, writer,
-        ),
-        None => run_on_input(rt, host, alloc, request, live, keeper, reader, writer),
+        Some(bytes) => run_on_base(host, request, bytes, live, keeper, reader, writer),
+        None => run_on_input(host, request, live, keeper, reader, writer),
     }
 }
 
 // Runs it on the database of a text of its own. Nothing is read.
-fn run_on_base<'a, T: Threads + Wait + Sync, R: Read, W: Write, S: Store>(
-    rt: &T,
-    host: &HostRuntime,
-    alloc: Global,
+fn run_on_base<'a, T: Threads + Wait + Sync, R: Read, W: Write, S: Store, L: Log + Sync>(
+    host: &Host<'_, T, L>,
     request: &OnceRequest<'a>,
     base: &[u8],
     live: LiveFile<'_>,
@@ -174,8 +171,6 @@ fn run_on_base<'a, T: Threads + Wait + Sync, R: Read, W: Write, S: Store>(
     _reader: &mut Noted<R>,
     writer: &mut Noted<W>,
 ) -> Result<Ending, SessionFault<'a>>
-    requires crew { IsCrew request.now.session.workers }
-    requires bound { 3 ≤ request.now.session.bound }
     requires eventless { HasNoEvents (once_ask_of request.now).what }
     requires writer { HasFailed writer.old → ⊥ }
     ensures done { IfOk result (λ ending. AnswersOnce ending (Some base.now)
@@ -192,23 +187,19 @@ fn run_on_base<'a, T: Threads + Wait + Sync, R: Read, W: Write, S: Store>(
     ensures taken { ConsumesAtMost (R.remaining (inner_of _reader.old))
         (R.remaining (inner_of _reader.new)) (MAX_INPUT + 1) }
 {
-    let (db, _none) = database_of(alloc, Some(base), &[])?;
-    run_on(rt, host, alloc, db, request, live, keeper, writer)
+    let (db, _none) = database_of(host.alloc, Some(base), &[])?;
+    run_on(host, db, request, live, keeper, writer)
 }
 
 // Runs it on the database at the beginning of the input. What is after that is not looked at.
-fn run_on_input<'a, T: Threads + Wait + Sync, R: Read, W: Write, S: Store>(
-    rt: &T,
-    host: &HostRuntime,
-    alloc: Global,
+fn run_on_input<'a, T: Threads + Wait + Sync, R: Read, W: Write, S: Store, L: Log + Sync>(
+    host: &Host<'_, T, L>,
     request: &OnceRequest<'a>,
     live: LiveFile<'_>,
     keeper: &mut TextKeeper<S>,
     reader: &mut Noted<R>,
     writer: &mut Noted<W>,
 ) -> Result<Ending, SessionFault<'a>>
-    requires crew { IsCrew request.now.session.workers }
-    requires bound { 3 ≤ request.now.session.bound }
     requires eventless { HasNoEvents (once_ask_of request.now).what }
     requires reader { HasFailed reader.old → ⊥ }
     requires writer { HasFailed writer.old → ⊥ }
@@ -226,10 +217,10 @@ fn run_on_input<'a, T: Threads + Wait + Sync, R: Read, W: Write, S: Store>(
     ensures taken { ConsumesAtMost (R.remaining (inner_of reader.old))
         (R.remaining (inner_of reader.new)) (MAX_INPUT + 1) }
 {
-    let input = match read_all(alloc, reader) {
+    let input = match read_all(host.alloc, reader) {
         Ok(input) => input,
         Err(failure) => return Err(SessionFault::Failed(reading_fault(failure))),
     };
-    let (db, _rest) = database_of(alloc, None, &input)?;
-    run_on(rt, host, alloc, db, request, live, keeper, writer)
+    let (db, _rest) = database_of(host.alloc, None, &input)?;
+    run_on(host, db, request, live, keeper, writer)
 }

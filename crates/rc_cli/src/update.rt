@@ -11,11 +11,11 @@ ghost use Rattle.rc_cli.specs.UpdateEnds.{AnswersUpdate, EndsUpdateBy, TellsUpda
 
 use crate::once::status_of;
 use crate::updating::update_on;
+use log::Log;
 use rc_asked::UpdateRequest;
 use rc_base::database_of;
 use rc_serve::{Ending, Noted};
-use rc_sessions::{LiveFile, SessionFault, Store, TextKeeper, tell_session_fault};
-use std::alloc::Global;
+use rc_sessions::{Host, LiveFile, SessionFault, Store, TextKeeper, tell_session_fault};
 use std::io::Write;
 use std::sync::Wait;
 use std::thread::Threads;
@@ -33,10 +33,8 @@ use std::thread::Threads;
 /// done, and not before. Where they are only shown, nothing is moved and nothing is kept.
 ///
 /// `live` is what stood in that file. The writer must not have failed before.
-pub fn update_as_asked<T: Threads + Wait + Sync, W: Write, F: Write, S: Store>(
-    rt: &T,
-    host: &HostRuntime,
-    alloc: Global,
+pub fn update_as_asked<T: Threads + Wait + Sync, W: Write, F: Write, S: Store, L: Log + Sync>(
+    host: &Host<'_, T, L>,
     request: &UpdateRequest<'_>,
     old: &[u8],
     new: &[u8],
@@ -45,8 +43,6 @@ pub fn update_as_asked<T: Threads + Wait + Sync, W: Write, F: Write, S: Store>(
     writer: &mut Noted<W>,
     faults: &mut F,
 ) -> u8
-    requires crew { IsCrew request.now.session.workers }
-    requires bound { 3 ≤ request.now.session.bound }
     requires writer { HasFailed writer.old → ⊥ }
     ensures statuses { (result ≡ 0) ⊎ (result ≡ 1) ⊎ (result ≡ 2) ⊎ (result ≡ 111) }
 
@@ -89,17 +85,15 @@ pub fn update_as_asked<T: Threads + Wait + Sync, W: Write, F: Write, S: Store>(
         (S.failed (store_of keeper.new)))
         (F.contents faults.old) (F.contents faults.new) }
 {
-    match update_asked(rt, host, alloc, request, old, new, live, keeper, writer) {
+    match update_asked(host, request, old, new, live, keeper, writer) {
         Ok(ending) => status_of(ending),
-        Err(fault) => tell_session_fault(alloc, faults, fault),
+        Err(fault) => tell_session_fault(host.alloc, faults, fault),
     }
 }
 
 // Carries it out on the databases of the texts.
-fn update_asked<'a, T: Threads + Wait + Sync, W: Write, S: Store>(
-    rt: &T,
-    host: &HostRuntime,
-    alloc: Global,
+fn update_asked<'a, T: Threads + Wait + Sync, W: Write, S: Store, L: Log + Sync>(
+    host: &Host<'_, T, L>,
     request: &UpdateRequest<'a>,
     old: &[u8],
     new: &[u8],
@@ -107,8 +101,6 @@ fn update_asked<'a, T: Threads + Wait + Sync, W: Write, S: Store>(
     keeper: &mut TextKeeper<S>,
     writer: &mut Noted<W>,
 ) -> Result<Ending, SessionFault<'a>>
-    requires crew { IsCrew request.now.session.workers }
-    requires bound { 3 ≤ request.now.session.bound }
     requires writer { HasFailed writer.old → ⊥ }
     ensures done { IfOk result (λ ending. AnswersUpdate ending old.now new.now
         (update_ask_of request.now) live.entry
@@ -121,12 +113,12 @@ fn update_asked<'a, T: Threads + Wait + Sync, W: Write, S: Store>(
         (HasFailed writer.new) (CannotKeep (session_ask_of request.now.session) live.entry
         (S.failed (store_of keeper.new)))) }
 {
-    let from = match database_of(alloc, Some(old), &[]) {
+    let from = match database_of(host.alloc, Some(old), &[]) {
         Ok((from, _none)) => from,
         Err(fault) => return Err(SessionFault::from(fault)),
     };
-    match database_of(alloc, Some(new), &[]) {
-        Ok((to, _none)) => update_on(rt, host, alloc, from, to, request, live, keeper, writer),
+    match database_of(host.alloc, Some(new), &[]) {
+        Ok((to, _none)) => update_on(host, from, to, request, live, keeper, writer),
         Err(fault) => {
             drop(from);
             Err(SessionFault::from(fault))

@@ -7,38 +7,34 @@ ghost use Rattle.rc_model.specs.Names.{Has};
 ghost use Rattle.rc_board.specs.Crew.{IsCrew};
 ghost use Rattle.rc_streams.specs.Noting.{HasFailed, inner_of};
 ghost use Rattle.rc_script.specs.Says.{saying_of};
-ghost use Rattle.rc_runner.specs.Failing.{outcome_in};
 ghost use Rattle.rc_serve.specs.Ending.{IsDoneAs};
 ghost use Rattle.rc_serve.specs.Faults.{IsServeFault};
 ghost use Rattle.rc_asked.specs.Making.{making_ask_of};
 ghost use Rattle.rc_asked.specs.OnceAsked.{HasNoEvents, Said};
-ghost use Rattle.rc_asked.specs.Programs.{ByPrograms, ByTable, listed_in};
 ghost use Rattle.rc_asked.specs.Reading.{listed_of};
 ghost use Rattle.rc_asked.specs.SessionAsked.{session_ask_of};
 ghost use Rattle.rc_asked.specs.UpdateAsked.{update_ask_of};
 ghost use Rattle.rc_sessions.specs.Filing.{CannotKeep};
-ghost use Rattle.rc_sessions.specs.Finding.{AreFound, IsGateFault};
+ghost use Rattle.rc_sessions.specs.Gating.{IsGateFor, IsGateless};
 ghost use Rattle.rc_sessions.specs.Serving.{session_on};
 ghost use Rattle.rc_sessions.specs.Storing.{store_of};
 ghost use Rattle.rc_cli.specs.Once.{DoesBy};
 ghost use Rattle.rc_cli.specs.Updating.{EndsBoth, EndsUpdate, carried_line, ending_behind, listed_by, listed_on, making_on, step_ask, step_by};
-ghost use Rattle.rc_cli.specs.UpdateEnds.{AreFoundInBoth, EndsGatedUpdate, EndsUpdateOn, IsGatesFault, RunsUpdate, StopsBoth, StopsUpdate};
+ghost use Rattle.rc_cli.specs.UpdateEnds.{AreFoundInBoth, AreGateless, EndsGatedUpdate, EndsUpdateOn, RunsUpdate, StopsBoth, StopsUpdate};
 
 use crate::serving::line_once;
-use rc_asked::{Making, Programs, SessionRequest, Transition, UpdateRequest};
+use log::Log;
+use rc_asked::{Making, SessionRequest, Transition, UpdateRequest};
 use rc_board::Gate;
 use rc_db::Db;
 use rc_graph::Way;
 use rc_line::Line;
-use rc_names::Names;
-use rc_runner::{TableGate, Telling};
+use rc_runner::{SessionGate, Telling};
 use rc_script::SessionLine;
 use rc_select::{Mode, Request, carry};
 use rc_serve::{Ending, ServeFault};
 use rc_session::{Session, Step};
-use rc_sessions::{
-    GateFault, LiveFile, SessionFault, Store, TextKeeper, begin, gate_by_programs, gate_of,
-};
+use rc_sessions::{Host, LiveFile, SessionFault, Store, TextKeeper, begin, gate_for};
 use rc_set::{NoMem, Set};
 use rc_streams::Noted;
 use std::alloc::{AllocError, Global};
@@ -48,10 +44,8 @@ use std::thread::Threads;
 
 /// Carries what is live over from a database to another. Programs are started by `host`, which also
 /// tells what is to be told of them.
-pub(crate) fn update_on<'a, T: Threads + Wait + Sync, W: Write, S: Store>(
-    rt: &T,
-    host: &HostRuntime,
-    alloc: Global,
+pub(crate) fn update_on<'a, T: Threads + Wait + Sync, W: Write, S: Store, L: Log + Sync>(
+    host: &Host<'_, T, L>,
     old: Db,
     new: Db,
     request: &UpdateRequest<'a>,
@@ -59,8 +53,6 @@ pub(crate) fn update_on<'a, T: Threads + Wait + Sync, W: Write, S: Store>(
     keeper: &mut TextKeeper<S>,
     writer: &mut Noted<W>,
 ) -> Result<Ending, SessionFault<'a>>
-    requires crew { IsCrew request.now.session.workers }
-    requires bound { 3 ≤ request.now.session.bound }
     requires writer { HasFailed writer.old → ⊥ }
     ensures found { OnOk result (AreFoundInBoth old new
         (making_ask_of request.now.session.making)) }
@@ -78,80 +70,46 @@ pub(crate) fn update_on<'a, T: Threads + Wait + Sync, W: Write, S: Store>(
         (HasFailed writer.new) (CannotKeep (session_ask_of request.now.session) live.entry
         (S.failed (store_of keeper.new)))) }
 {
-    match &request.session.making {
-        Making::Table(failing) => update_by_table(
-            rt, host, alloc, old, new, failing, request, live, keeper, writer,
-        ),
-        Making::Programs(programs) => update_by_programs(
-            rt, host, alloc, old, new, programs, request, live, keeper, writer,
-        ),
-    }
-}
-
-// The same where nothing is started, and listed transitions fail: those of the way down are of the
-// old database, and those of the way up of the new one.
-fn update_by_table<'a, T: Threads + Wait + Sync, W: Write, S: Store>(
-    rt: &T,
-    host: &HostRuntime,
-    alloc: Global,
-    old: Db,
-    new: Db,
-    failing: &[Transition<'a>],
-    request: &UpdateRequest<'_>,
-    live: LiveFile<'_>,
-    keeper: &mut TextKeeper<S>,
-    writer: &mut Noted<W>,
-) -> Result<Ending, SessionFault<'a>>
-    requires crew { IsCrew request.now.session.workers }
-    requires bound { 3 ≤ request.now.session.bound }
-    requires writer { HasFailed writer.old → ⊥ }
-    ensures found { OnOk result (AreFoundInBoth old new (ByTable (map listed_of failing.now))) }
-    ensures done { IfOk result (λ ending. RunsUpdate ending (update_ask_of request.now) live.entry
-        (S.holds (store_of keeper.old)) (S.holds (store_of keeper.new))
-        (DoesBy old request.now.session.workers
-        (making_on Lower (ByTable (map listed_of failing.now))))
-        (DoesBy new request.now.session.workers
-        (making_on Raise (ByTable (map listed_of failing.now))))
-        old new (W.contents (inner_of writer.old)) (W.contents (inner_of writer.new))) }
-    ensures ended { IfErr result (λ fault. EndsUpdateOn fault (update_ask_of request.now)
-        (ByTable (map listed_of failing.now)) live.entry
-        (S.holds (store_of keeper.old)) (S.holds (store_of keeper.new))
-        old new (W.contents (inner_of writer.old)) (W.contents (inner_of writer.new))
-        (HasFailed writer.new) (CannotKeep (session_ask_of request.now.session) live.entry
-        (S.failed (store_of keeper.new)))) }
-{
-    let gates = match gates_of(alloc, old.names(), new.names(), failing) {
+    let asked = &request.session;
+    let gates = match gates_of(host, &old, &new, &asked.making, asked.tells) {
         Ok(gates) => gates,
         Err(fault) => {
             drop((old, new));
-            return Err(SessionFault::from(fault));
+            return Err(fault);
         }
     };
-    let ended = update_told(
-        rt, host, alloc, old, new, &gates.0, &gates.1, request, live, keeper, writer,
+    let ended = update_gated(
+        host, old, new, &gates.0, &gates.1, request, live, keeper, writer,
     );
     drop(gates);
     ended
 }
 
-// The gates of both steps, by the names of both databases.
-fn gates_of<'a>(
-    alloc: Global,
-    old: &Names,
-    new: &Names,
-    failing: &[Transition<'a>],
-) -> Result<(TableGate, TableGate), GateFault<'a>>
-    ensures found { IfOk result (λ gates.
-        AreFound old.now (listed_on Lower (map listed_of failing.now)) gates.0.failing
-        × AreFound new.now (listed_on Raise (map listed_of failing.now)) gates.1.failing) }
-    ensures clock { IfOk result (λ gates. (gates.0.moments ≡ []) × (gates.1.moments ≡ [])) }
-    ensures fault { IfErr result (IsGatesFault old.now new.now (map listed_of failing.now)) }
+// The gates of both steps. Transitions that are listed as failing on the way down are of the old
+// database, and those on the way up of the new one.
+fn gates_of<'h, 'a, T, L: Log + Sync>(
+    host: &Host<'h, T, L>,
+    old: &Db,
+    new: &Db,
+    making: &Making<'a>,
+    tells: bool,
+) -> Result<
+    (
+        Telling<'h, L, SessionGate<'h, HostRuntime, L>>,
+        Telling<'h, L, SessionGate<'h, HostRuntime, L>>,
+    ),
+    SessionFault<'a>,
+>
+    ensures made { IfOk result (λ gates.
+        IsGateFor old.now (making_on Lower (making_ask_of making.now)) gates.0
+        × IsGateFor new.now (making_on Raise (making_ask_of making.now)) gates.1) }
+    ensures fault { IfErr result (AreGateless old.now new.now (making_ask_of making.now)) }
 {
-    let gate = match gate_on(alloc, old, failing, Way::Lower) {
+    let gate = match gate_on(host, old, making, tells, Way::Lower) {
         Ok(gate) => gate,
         Err(fault) => return Err(fault),
     };
-    match gate_on(alloc, new, failing, Way::Raise) {
+    match gate_on(host, new, making, tells, Way::Raise) {
         Ok(other) => Ok((gate, other)),
         Err(fault) => {
             drop(gate);
@@ -161,22 +119,29 @@ fn gates_of<'a>(
 }
 
 // The gate of one step.
-fn gate_on<'a>(
-    alloc: Global,
-    names: &Names,
-    failing: &[Transition<'a>],
+fn gate_on<'h, 'a, T, L: Log + Sync>(
+    host: &Host<'h, T, L>,
+    db: &Db,
+    making: &Making<'a>,
+    tells: bool,
     way: Way,
-) -> Result<TableGate, GateFault<'a>>
-    ensures found { IfOk result (λ gate.
-        AreFound names.now (listed_on way (map listed_of failing.now)) gate.failing) }
-    ensures clock { IfOk result (λ gate. gate.moments ≡ []) }
-    ensures fault { IfErr result (IsGateFault names.now
-        (listed_on way (map listed_of failing.now))) }
+) -> Result<Telling<'h, L, SessionGate<'h, HostRuntime, L>>, SessionFault<'a>>
+    ensures made { IfOk result (λ gate.
+        IsGateFor db.now (making_on way (making_ask_of making.now)) gate) }
+    ensures fault { IfErr result (IsGateless db.now (making_on way (making_ask_of making.now))) }
 {
-    let Ok(failing) = failing_on(alloc, failing, way) else {
-        return Err(GateFault::Memory);
-    };
-    gate_of(alloc, names, &failing)
+    match making {
+        Making::Table(failing) => {
+            let Ok(those) = failing_on(host.alloc, failing, way) else {
+                return Err(SessionFault::Failed(ServeFault::Memory));
+            };
+            let those = Making::Table(those);
+            let gate = gate_for(host, db, &those, tells);
+            drop(those);
+            gate
+        }
+        Making::Programs(_) => gate_for(host, db, making, tells),
+    }
 }
 
 // Those of one way.
@@ -211,108 +176,9 @@ fn push_on<'a>(
     Ok(())
 }
 
-// The same where transitions are made by programs.
-fn update_by_programs<'a, T: Threads + Wait + Sync, W: Write, S: Store>(
-    rt: &T,
-    host: &HostRuntime,
-    alloc: Global,
-    old: Db,
-    new: Db,
-    programs: &Programs,
-    request: &UpdateRequest<'_>,
-    live: LiveFile<'_>,
-    keeper: &mut TextKeeper<S>,
-    writer: &mut Noted<W>,
-) -> Result<Ending, SessionFault<'a>>
-    requires crew { IsCrew request.now.session.workers }
-    requires bound { 3 ≤ request.now.session.bound }
-    requires writer { HasFailed writer.old → ⊥ }
-    ensures found { OnOk result (AreFoundInBoth old new
-        (ByPrograms (map string_bytes programs.now.runner.items)
-        (map string_bytes programs.now.controller.items) programs.now.limit)) }
-    ensures done { IfOk result (λ ending. RunsUpdate ending (update_ask_of request.now) live.entry
-        (S.holds (store_of keeper.old)) (S.holds (store_of keeper.new))
-        (DoesBy old request.now.session.workers
-        (making_on Lower (ByPrograms (map string_bytes programs.now.runner.items)
-        (map string_bytes programs.now.controller.items) programs.now.limit)))
-        (DoesBy new request.now.session.workers
-        (making_on Raise (ByPrograms (map string_bytes programs.now.runner.items)
-        (map string_bytes programs.now.controller.items) programs.now.limit)))
-        old new (W.contents (inner_of writer.old)) (W.contents (inner_of writer.new))) }
-    ensures ended { IfErr result (λ fault. EndsUpdateOn fault (update_ask_of request.now)
-        (ByPrograms (map string_bytes programs.now.runner.items)
-        (map string_bytes programs.now.controller.items) programs.now.limit) live.entry
-        (S.holds (store_of keeper.old)) (S.holds (store_of keeper.new))
-        old new (W.contents (inner_of writer.old)) (W.contents (inner_of writer.new))
-        (HasFailed writer.new) (CannotKeep (session_ask_of request.now.session) live.entry
-        (S.failed (store_of keeper.new)))) }
-{
-    let tells = request.session.tells;
-    let Ok(gate) = gate_by_programs(host, alloc, &old, programs, tells) else {
-        drop((old, new));
-        return Err(SessionFault::Failed(ServeFault::Memory));
-    };
-    let Ok(other) = gate_by_programs(host, alloc, &new, programs, tells) else {
-        drop((old, new, gate));
-        return Err(SessionFault::Failed(ServeFault::Memory));
-    };
-    let ended = update_told(
-        rt, host, alloc, old, new, &gate, &other, request, live, keeper, writer,
-    );
-    drop((gate, other));
-    ended
-}
-
-// Carries it over past two gates of which it is told what they do, where that is asked.
-fn update_told<'a, T: Threads + Wait + Sync, W: Write, G: Gate, H: Gate, S: Store>(
-    rt: &T,
-    host: &HostRuntime,
-    alloc: Global,
-    old: Db,
-    new: Db,
-    gate: &G,
-    other: &H,
-    request: &UpdateRequest<'_>,
-    live: LiveFile<'_>,
-    keeper: &mut TextKeeper<S>,
-    writer: &mut Noted<W>,
-) -> Result<Ending, SessionFault<'a>>
-    requires crew { IsCrew request.now.session.workers }
-    requires bound { 3 ≤ request.now.session.bound }
-    requires writer { HasFailed writer.old → ⊥ }
-    ensures done { IfOk result (λ ending. RunsUpdate ending (update_ask_of request.now) live.entry
-        (S.holds (store_of keeper.old)) (S.holds (store_of keeper.new))
-        (IsDoneAs request.now.session.workers (G.answers gate.now) (G.gives gate.now))
-        (IsDoneAs request.now.session.workers (H.answers other.now) (H.gives other.now))
-        old new (W.contents (inner_of writer.old)) (W.contents (inner_of writer.new))) }
-    ensures ended { IfErr result (λ fault. EndsGatedUpdate fault (update_ask_of request.now)
-        live.entry (S.holds (store_of keeper.old)) (S.holds (store_of keeper.new))
-        (IsDoneAs request.now.session.workers (G.answers gate.now) (G.gives gate.now))
-        (IsDoneAs request.now.session.workers (H.answers other.now) (H.gives other.now))
-        old new (W.contents (inner_of writer.old)) (W.contents (inner_of writer.new))
-        (HasFailed writer.new) (CannotKeep (session_ask_of request.now.session) live.entry
-        (S.failed (store_of keeper.new)))) }
-{
-    let tells = request.session.tells;
-    let Ok(first) = Telling::new(host, alloc, &old, tells, gate) else {
-        drop((old, new));
-        return Err(SessionFault::Failed(ServeFault::Memory));
-    };
-    let Ok(second) = Telling::new(host, alloc, &new, tells, other) else {
-        drop((old, new, first));
-        return Err(SessionFault::Failed(ServeFault::Memory));
-    };
-    let ended = update_gated(
-        rt, alloc, old, new, &first, &second, request, live, keeper, writer,
-    );
-    drop((first, second));
-    ended
-}
-
 // Carries it over past two gates, from where the session of the old database begins.
-fn update_gated<'a, T: Threads + Wait + Sync, W: Write, G: Gate, H: Gate, S: Store>(
-    rt: &T,
-    alloc: Global,
+fn update_gated<'a, T: Threads + Wait + Sync, W: Write, G: Gate, H: Gate, S: Store, L>(
+    host: &Host<'_, T, L>,
     old: Db,
     new: Db,
     gate: &G,
@@ -322,8 +188,6 @@ fn update_gated<'a, T: Threads + Wait + Sync, W: Write, G: Gate, H: Gate, S: Sto
     keeper: &mut TextKeeper<S>,
     writer: &mut Noted<W>,
 ) -> Result<Ending, SessionFault<'a>>
-    requires crew { IsCrew request.now.session.workers }
-    requires bound { 3 ≤ request.now.session.bound }
     requires writer { HasFailed writer.old → ⊥ }
     ensures done { IfOk result (λ ending. RunsUpdate ending (update_ask_of request.now) live.entry
         (S.holds (store_of keeper.old)) (S.holds (store_of keeper.new))
@@ -338,16 +202,14 @@ fn update_gated<'a, T: Threads + Wait + Sync, W: Write, G: Gate, H: Gate, S: Sto
         (HasFailed writer.new) (CannotKeep (session_ask_of request.now.session) live.entry
         (S.failed (store_of keeper.new)))) }
 {
-    let mut from = match begin(alloc, old, &request.session, live) {
+    let mut from = match begin(host.alloc, old, &request.session, live) {
         Ok(from) => from,
         Err(fault) => {
             drop(new);
             return Err(fault);
         }
     };
-    let ended = update_from(
-        rt, alloc, &mut from, new, gate, other, request, keeper, writer,
-    );
+    let ended = update_from(host, &mut from, new, gate, other, request, keeper, writer);
     drop(from);
     match ended {
         Ok(ending) => Ok(ending),
@@ -356,9 +218,8 @@ fn update_gated<'a, T: Threads + Wait + Sync, W: Write, G: Gate, H: Gate, S: Sto
 }
 
 // Carries over what is live in a session.
-fn update_from<T: Threads + Wait + Sync, W: Write, G: Gate, H: Gate, S: Store>(
-    rt: &T,
-    alloc: Global,
+fn update_from<T: Threads + Wait + Sync, W: Write, G: Gate, H: Gate, S: Store, L>(
+    host: &Host<'_, T, L>,
     from: &mut Session,
     new: Db,
     gate: &G,
@@ -367,7 +228,6 @@ fn update_from<T: Threads + Wait + Sync, W: Write, G: Gate, H: Gate, S: Store>(
     keeper: &mut TextKeeper<S>,
     writer: &mut Noted<W>,
 ) -> Result<Ending, ServeFault>
-    requires crew { IsCrew request.now.session.workers }
     requires closed { from.old.begun ≡ false }
     requires whole { from.old.spoiled ≡ false }
     requires writer { HasFailed writer.old → ⊥ }
@@ -389,16 +249,16 @@ fn update_from<T: Threads + Wait + Sync, W: Write, G: Gate, H: Gate, S: Store>(
         (((session_ask_of request.now.session).live ≢ None) × S.failed (store_of keeper.new))) }
 {
     let bound = from.journal().bound();
-    let update = match carry(alloc, from.db(), &new, from.live()) {
+    let update = match carry(host.alloc, from.db(), &new, from.live()) {
         Ok(update) => update,
         Err(_) => {
             drop(new);
             return Err(ServeFault::Memory);
         }
     };
-    let lowering = step_line(alloc, request.dry, Mode::DownAll, update.lower);
-    let raising = step_line(alloc, request.dry, Mode::Up, update.raise);
-    let mut to = match session_of(alloc, new, update.kept, bound) {
+    let lowering = step_line(host.alloc, request.dry, Mode::DownAll, update.lower);
+    let raising = step_line(host.alloc, request.dry, Mode::Up, update.raise);
+    let mut to = match session_of(host.alloc, new, update.kept, bound) {
         Ok(to) => to,
         Err(_) => {
             drop((lowering, raising));
@@ -407,7 +267,7 @@ fn update_from<T: Threads + Wait + Sync, W: Write, G: Gate, H: Gate, S: Store>(
     };
     let asked = &request.session;
     let ended = serve_both(
-        rt, alloc, from, &mut to, gate, other, asked, &lowering, &raising, keeper, writer,
+        host, from, &mut to, gate, other, asked, &lowering, &raising, keeper, writer,
     );
     drop((to, lowering, raising));
     ended
@@ -445,9 +305,8 @@ fn step_line(alloc: Global, dry: bool, mode: Mode, names: Vec<String>) -> Sessio
 }
 
 // Serves the line of the first step and, where all of it is done, that of the second one.
-fn serve_both<T: Threads + Wait + Sync, W: Write, G: Gate, H: Gate, S: Store>(
-    rt: &T,
-    alloc: Global,
+fn serve_both<T: Threads + Wait + Sync, W: Write, G: Gate, H: Gate, S: Store, L>(
+    host: &Host<'_, T, L>,
     from: &mut Session,
     to: &mut Session,
     gate: &G,
@@ -458,7 +317,6 @@ fn serve_both<T: Threads + Wait + Sync, W: Write, G: Gate, H: Gate, S: Store>(
     keeper: &mut TextKeeper<S>,
     writer: &mut Noted<W>,
 ) -> Result<Ending, ServeFault>
-    requires crew { IsCrew request.now.workers }
     requires from { (from.old.begun ≡ false) × (from.old.spoiled ≡ false) }
     requires to { (to.old.begun ≡ false) × (to.old.spoiled ≡ false) }
     requires lowering { HasNoEvents (Said (saying_of lowering.now)) }
@@ -481,9 +339,9 @@ fn serve_both<T: Threads + Wait + Sync, W: Write, G: Gate, H: Gate, S: Store>(
     ensures fault { IfErr result (IsServeFault ⊥ (HasFailed writer.new)
         (((session_ask_of request.now).live ≢ None) × S.failed (store_of keeper.new))) }
 {
-    match line_once(rt, alloc, from, gate, request, lowering, keeper, writer) {
+    match line_once(host, from, gate, request, lowering, keeper, writer) {
         Ok(Ending::Done) => {
-            match line_once(rt, alloc, to, other, request, raising, keeper, writer) {
+            match line_once(host, to, other, request, raising, keeper, writer) {
                 Ok(raised) => Ok(behind(raised)),
                 Err(fault) => Err(fault),
             }

@@ -1,16 +1,33 @@
-//! Lines that tell what comes to services, while it does.
+//! What comes to services, and the text of the message that tells it.
+
+ghost use Rattle.std.specs.Prelude.{◌≡◌, IfOk, string_bytes};
+ghost use Rattle.rc_runner.specs.Progress.{event_text, gap_text, level_of, line_text, moment_text, zeros_text};
 
 use crate::task::word_towards;
+use log::Level;
 use rc_core::Outcome;
 use rc_graph::Way;
+use std::alloc::{AllocError, Global};
 use std::fmt;
 
 /// What comes to a service on its way.
-#[derive(Drop)]
+#[derive(Clone, Copy)]
 pub(crate) enum Event {
     /// A program is started.
     Started,
     Ended(Outcome),
+}
+
+impl Event {
+    /// A transition that did not succeed is a warning.
+    pub(crate) fn level(&self) -> Level
+        ensures { result ≡ level_of self.now }
+    {
+        match self {
+            Event::Started | Event::Ended(Outcome::Ok) => Level::Info,
+            Event::Ended(_) => Level::Warn,
+        }
+    }
 }
 
 impl fmt::Display for Event {
@@ -25,11 +42,82 @@ impl fmt::Display for Event {
     }
 }
 
-/// Tells what came to a service at a moment, in milliseconds, by a line in one write. One that
-/// can't be written is dropped.
-pub(crate) fn tell<E: Eprint>(to: &E, moment: u64, way: Way, name: &str, event: Event) {
+/// The message that tells what came to a service at a moment, in milliseconds.
+pub(crate) fn line_of(
+    alloc: Global,
+    moment: u64,
+    way: Way,
+    name: &str,
+    event: Event,
+) -> Result<String, AllocError>
+    ensures { IfOk result
+        (λ line. string_bytes line ≡ line_text moment way name.now event) }
+{
+    let mut line = moment_of(alloc, moment)?;
+    line.push_str(" s  ")?;
+    line.push_str(word_towards(way))?;
+    line.push_str(" ")?;
+    line.push_str(name)?;
+    line.push_str(": ")?;
+    let what = words_of(alloc, event)?;
+    line.push_str(what.as_str())?;
+    drop(what);
+    Ok(line)
+}
+
+/// How a message begins: with a moment in milliseconds, told in seconds.
+fn moment_of(alloc: Global, moment: u64) -> Result<String, AllocError>
+    ensures { IfOk result (λ text. string_bytes text ≡ moment_text moment) }
+{
     let seconds = moment / 1000;
     let rest = moment % 1000;
-    let way = word_towards(way);
-    let _ = eprintln!(to; "undorc: {seconds:>4}.{rest:03} s  {way} {name}: {event}");
+    let mut text = String::from_str(alloc, gap_before(seconds))?;
+    let number = format!(in alloc; "{seconds}.")?;
+    text.push_str(number.as_str())?;
+    text.push_str(zeros_before(rest))?;
+    let number = format!(in alloc; "{rest}")?;
+    text.push_str(number.as_str())?;
+    Ok(text)
+}
+
+/// What comes to a service, in words.
+fn words_of(alloc: Global, event: Event) -> Result<String, AllocError>
+    ensures { IfOk result (λ words. string_bytes words ≡ event_text event) }
+{
+    match event {
+        Event::Started => String::from_str(alloc, "started"),
+        Event::Ended(Outcome::Ok) => String::from_str(alloc, "ok"),
+        Event::Ended(Outcome::Failed(status)) => format!(in alloc; "failed {status}"),
+        Event::Ended(Outcome::TimedOut) => String::from_str(alloc, "timed out"),
+        Event::Ended(Outcome::NotStarted) => String::from_str(alloc, "not started"),
+    }
+}
+
+/// The blanks before so many seconds, which take four places at least.
+fn gap_before(seconds: u64) -> &'static str
+    ensures { result.now ≡ gap_text seconds }
+{
+    if seconds / 10 == 0 {
+        return "   ";
+    }
+    if seconds / 100 == 0 {
+        return "  ";
+    }
+    if seconds / 1000 == 0 {
+        return " ";
+    }
+    ""
+}
+
+/// The zeros before so many milliseconds, which take three places at least.
+fn zeros_before(rest: u64) -> &'static str
+    ensures { result.now ≡ zeros_text rest }
+{
+    if rest / 10 == 0 {
+        return "00";
+    }
+    if rest / 100 == 0 {
+        return "0";
+    }
+    ""
 }

@@ -1,22 +1,27 @@
 //! A gate that starts programs.
 
-ghost use Rattle.std.specs.Prelude.{◌≡◌, ◌∷◌, [], IfOk, IfSome, map, string_bytes, option_map};
+ghost use Rattle.std.specs.Prelude.{◌≡◌, IfOk, OnErr, map, string_bytes, option_map, slice_get};
 ghost use Rattle.rc_db.specs.Service.{limit_of};
-ghost use Rattle.rc_runner.specs.Shell.{IsTold, Runs, MayAnswer, MayCall, MayEnd, MayMove, MayRun, limit_or, scripts_of, seconds_of, text_of, word_of};
+ghost use Rattle.rc_runner.specs.Orders.{IsControl, IsMoveFor, IsMoveOf, IsTextRun};
+ghost use Rattle.rc_runner.specs.Shell.{MayAnswer, MayCall, MayEnd, MayMove, MayRun, limit_or, scripts_of, seconds_of, text_of};
 
 use crate::copy::{names_of, services_of, words_of};
-use crate::progress::{Event, tell};
-use crate::start::{add_two, command_of, end_of, millis_since, start};
-use crate::task::{Task, tell_task, word_towards};
+use crate::messages::tell;
+use crate::order::{Move, Order, call_to_move, call_to_run};
+use crate::progress::Event;
+use crate::start::{end_of, millis_since, start};
+use crate::task::Task;
+use log::{Level, Log, log_enabled};
 use rc_board::Gate;
 use rc_core::{Job, Outcome};
 use rc_db::{Db, NoMem, Service};
 use rc_graph::Way;
 use rc_names::Kind;
+use rc_streams::messages::MESSAGE;
 use std::alloc::{AllocError, Global};
 use std::io::Stderr;
 use std::marker::Model;
-use std::process::{Command, Processes};
+use std::process::Processes;
 use std::time::{Clock, Instant};
 
 /// A gate that starts a program for each transition: a runner is handed a oneshot's text, and a
@@ -27,7 +32,7 @@ use std::time::{Clock, Instant};
 /// leaves behind is not. A limit is rounded up to whole seconds; where it is reached the program is
 /// asked to end, by TERM, and is made to, by KILL, where it has not after five seconds more.
 #[derive(Drop)]
-pub struct ShellGate<'a, R> {
+pub struct ShellGate<'a, R, L> {
     rt: &'a R,
     alloc: Global,
     /// When it was made, where the clock could be read.
@@ -38,11 +43,13 @@ pub struct ShellGate<'a, R> {
     controller: Vec<String>,
     /// The limit of services without one of their own, in milliseconds; 0 for none.
     limit: u32,
-    /// Where it is told that programs are started, and what they write goes, if anywhere.
+    /// What is told of programs that are started.
+    log: &'a L,
+    /// Where what they write goes, if anywhere.
     errors: Option<Stderr>,
 }
 
-impl<'a, R> Model for ShellGate<'a, R> {
+impl<'a, R, L> Model for ShellGate<'a, R, L> {
     ghost use Rattle.std.specs.Prelude.{map, string_bytes};
     ghost use Rattle.rc_runner.specs.Shell.{Scripts};
 
@@ -57,18 +64,19 @@ impl<'a, R> Model for ShellGate<'a, R> {
     } };
 }
 
-impl<'a, R: Processes + Clock> ShellGate<'a, R> {
+impl<'a, R: Processes + Clock, L: Log> ShellGate<'a, R, L> {
     /// A gate for the services of a database, with the words of a runner and of a controller, and
     /// the limit in milliseconds of services without one of their own. Without a word there is no
-    /// such program, and 0 is no limit.
+    /// such program, and 0 is no limit. The log is told of each program that it is started.
     pub fn new(
         rt: &'a R,
+        log: &'a L,
         alloc: Global,
         db: &Db,
         runner: &[String],
         controller: &[String],
         limit: u32,
-    ) -> Result<ShellGate<'a, R>, NoMem>
+    ) -> Result<ShellGate<'a, R, L>, NoMem>
         ensures { IfOk result (λ gate. gate ≡ scripts_of db.now
             (map string_bytes runner.now) (map string_bytes controller.now) limit) }
     {
@@ -78,6 +86,7 @@ impl<'a, R: Processes + Clock> ShellGate<'a, R> {
         let controller = words_of(alloc, controller)?;
         Ok(ShellGate {
             rt,
+            log,
             alloc,
             start: Instant::now(rt).ok(),
             names,
@@ -89,9 +98,8 @@ impl<'a, R: Processes + Clock> ShellGate<'a, R> {
         })
     }
 
-    /// The same gate, which tells there of each program that it is started, and lets it write
-    /// there.
-    pub fn with_errors(mut self, errors: Stderr) -> ShellGate<'a, R>
+    /// The same gate, which lets each program write there.
+    pub fn with_errors(mut self, errors: Stderr) -> ShellGate<'a, R, L>
         ensures { result ≡ self.entry }
     {
         self.errors = Some(errors);
@@ -102,74 +110,89 @@ impl<'a, R: Processes + Clock> ShellGate<'a, R> {
     fn make(&self, service: u16, way: Way) -> Outcome
         ensures { MayAnswer self.now service way result }
     {
-        match self.services.get(service as usize) {
-            Some(facts) => self.move_one(service, facts, way),
-            None => Outcome::NotStarted,
+        match self.move_for(service, way) {
+            Ok(Move::Known(outcome)) => outcome,
+            Ok(Move::Start(order)) => self.carry_out(order),
+            Err(_) => Outcome::NotStarted,
         }
     }
 
-    /// Makes the transition of a service of which this is said.
-    fn move_one(&self, service: u16, facts: &Service, way: Way) -> Outcome
-        ensures { MayMove self.now facts.now.kind facts.now way result }
+    /// What is to be done for the transition of a service.
+    fn move_for(&self, service: u16, way: Way) -> Result<Move<'_>, AllocError>
+        ensures exact { IfOk result (IsMoveFor self.now service way) }
+        ensures unmade { OnErr result (MayAnswer self.now service way Outcome.NotStarted) }
+    {
+        match self.services.get(service as usize) {
+            Some(facts) => self.move_of(service, facts, way),
+            None => Ok(Move::Known(Outcome::NotStarted)),
+        }
+    }
+
+    /// What is to be done for the transition of a service of which this is said.
+    fn move_of(&self, service: u16, facts: &Service, way: Way) -> Result<Move<'_>, AllocError>
+        ensures exact { IfOk result (IsMoveOf self.now (slice_get self.now.names service)
+            facts.now.kind facts.now way) }
+        ensures unmade { OnErr result
+            (MayMove self.now facts.now.kind facts.now way Outcome.NotStarted) }
     {
         let limit = limit_unless(limit_towards(facts, way), self.limit);
         match facts.kind {
             Kind::Oneshot => self.run_text(service, text_towards(facts, way), way, limit),
             Kind::Longrun => self.control(service, way, limit),
-            Kind::Bundle => Outcome::NotStarted,
+            Kind::Bundle => Ok(Move::Known(Outcome::NotStarted)),
         }
     }
 
-    /// Has the runner run a text.
-    fn run_text(&self, service: u16, text: &Option<String>, way: Way, limit: u32) -> Outcome
-        ensures { MayRun self.now.runner (option_map string_bytes text.now) limit result }
+    /// The runner is to run a text.
+    fn run_text(
+        &self,
+        service: u16,
+        text: &Option<String>,
+        way: Way,
+        limit: u32,
+    ) -> Result<Move<'_>, AllocError>
+        ensures exact { IfOk result (IsTextRun self.now.runner
+            (option_map string_bytes text.now) (slice_get self.now.names service) way limit) }
+        ensures unmade { OnErr result (MayRun self.now.runner
+            (option_map string_bytes text.now) limit Outcome.NotStarted) }
     {
         let Some(text) = text else {
-            return Outcome::Ok;
+            return Ok(Move::Known(Outcome::Ok));
         };
-        if self.runner.is_empty() {
-            return Outcome::NotStarted;
-        }
         let Some(name) = self.names.get(service as usize) else {
-            return Outcome::NotStarted;
+            return Ok(Move::Known(Outcome::NotStarted));
         };
         let task = Task {
             name: name.as_str(),
             way,
             limit,
         };
-        match self.command_to_run(text, &task) {
-            Ok(Some(command)) => self.run_command(command, &task),
-            Ok(None) | Err(_) => Outcome::NotStarted,
-        }
+        call_to_run(self.alloc, &self.runner, text.as_str(), task)
     }
 
-    /// Has the controller move a longrun.
-    fn control(&self, service: u16, way: Way, limit: u32) -> Outcome
-        ensures { MayCall self.now.controller limit result }
+    /// The controller is to move a longrun.
+    fn control(&self, service: u16, way: Way, limit: u32) -> Result<Move<'_>, AllocError>
+        ensures exact { IfOk result (IsControl self.now.controller
+            (slice_get self.now.names service) way limit) }
+        ensures unmade { OnErr result (MayCall self.now.controller limit Outcome.NotStarted) }
     {
-        if self.controller.is_empty() {
-            return Outcome::NotStarted;
-        }
         let Some(name) = self.names.get(service as usize) else {
-            return Outcome::NotStarted;
+            return Ok(Move::Known(Outcome::NotStarted));
         };
         let task = Task {
             name: name.as_str(),
             way,
             limit,
         };
-        match self.command_to_move(&task) {
-            Ok(Some(command)) => self.run_command(command, &task),
-            Ok(None) | Err(_) => Outcome::NotStarted,
-        }
+        call_to_move(self.alloc, &self.controller, task)
     }
 
     /// Tells that a program is started, starts it, and waits for it under the limit of its task.
-    fn run_command(&self, command: Command, task: &Task<'_>) -> Outcome
-        ensures { MayEnd (seconds_of task.now.limit) result }
+    fn carry_out(&self, order: Order<'_>) -> Outcome
+        ensures { MayEnd (seconds_of order.entry.task.limit) result }
     {
-        self.tell_start(task);
+        let (command, task) = order.into_parts();
+        self.tell_start(&task);
         let Some(mut child) = start(self.rt, command, self.errors) else {
             return Outcome::NotStarted;
         };
@@ -178,56 +201,15 @@ impl<'a, R: Processes + Clock> ShellGate<'a, R> {
 
     /// Tells that a program is started, before it can write anything.
     fn tell_start(&self, task: &Task<'_>) {
-        if let Some(errors) = self.errors {
+        if log_enabled!(self.log; target: MESSAGE, Level::Info) {
             let moment = millis_since(self.rt, self.start).unwrap_or(0);
-            tell(&errors, moment, task.way, task.name, Event::Started);
+            let event = Event::Started;
+            tell(self.log, self.alloc, moment, task.way, task.name, event);
         }
-    }
-
-    /// The runner, with a text as its last argument, told what it is to do.
-    fn command_to_run(&self, text: &String, task: &Task<'_>) -> Result<Option<Command>, AllocError>
-        ensures runs { IfOk result (λ made.
-            IfSome made (Runs self.now.runner (string_bytes text.now ∷ []))) }
-        ensures told { IfOk result (λ made.
-            IfSome made (IsTold task.now.name.now task.now.way task.now.limit)) }
-    {
-        let Some(mut command) = command_of(self.alloc, &self.runner)? else {
-            return Ok(None);
-        };
-        let Ok(_) = command.arg(text.as_str()) else {
-            drop(command);
-            return Err(AllocError);
-        };
-        let Ok(()) = tell_task(self.alloc, &mut command, task) else {
-            drop(command);
-            return Err(AllocError);
-        };
-        Ok(Some(command))
-    }
-
-    /// The controller, with the way and the name as its last two arguments, told what it is to do.
-    fn command_to_move(&self, task: &Task<'_>) -> Result<Option<Command>, AllocError>
-        ensures runs { IfOk result (λ made. IfSome made
-            (Runs self.now.controller (word_of task.now.way ∷ task.now.name.now ∷ []))) }
-        ensures told { IfOk result (λ made.
-            IfSome made (IsTold task.now.name.now task.now.way task.now.limit)) }
-    {
-        let Some(mut command) = command_of(self.alloc, &self.controller)? else {
-            return Ok(None);
-        };
-        let Ok(()) = add_two(&mut command, word_towards(task.way), task.name) else {
-            drop(command);
-            return Err(AllocError);
-        };
-        let Ok(()) = tell_task(self.alloc, &mut command, task) else {
-            drop(command);
-            return Err(AllocError);
-        };
-        Ok(Some(command))
     }
 }
 
-impl<'a, R: Processes + Clock + Sync> Gate for ShellGate<'a, R> {
+impl<'a, R: Processes + Clock + Sync, L: Log + Sync> Gate for ShellGate<'a, R, L> {
     ghost use Rattle.rc_runner.specs.Shell.{MayAnswer};
 
     ghost answers = { λ gate service way outcome. MayAnswer gate service way outcome };

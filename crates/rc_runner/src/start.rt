@@ -1,7 +1,8 @@
 //! Programs that are started, waited for, and ended where they take too long.
 
-ghost use Rattle.std.specs.Prelude.{◌≡◌, ◌≢◌, ◌++◌, ◌∷◌, [], map, string_bytes, pos, IfOk, IfSome, OnOk, Ok, None};
-ghost use Rattle.std.specs.Process.{command_program, command_args};
+ghost use Rattle.std.specs.Prelude.{◌≡◌, ◌≤◌, ◌↔◌, ◌++◌, ◌∷◌, [], map, string_bytes, unwrap_or, IsTrue, IfOk, IfSome, OnOk, Ok, None};
+ghost use Rattle.std.specs.Process.{command_program, command_args, child_status};
+ghost use Rattle.rc_runner.specs.Ended.{CountsAs, IsEndOf, IsWaited, outcome_of};
 ghost use Rattle.rc_runner.specs.Shell.{Runs, MayEnd};
 
 use rc_core::Outcome;
@@ -91,7 +92,8 @@ pub(crate) fn end_of<R: Processes + Clock, P: OpenProcess + Drop>(
     child: &mut Child<P>,
     seconds: u64,
 ) -> Outcome
-    ensures { MayEnd seconds result }
+    ensures told { IsEndOf seconds (child_status child.new) result }
+    ensures may { MayEnd seconds result }
 {
     if seconds == 0 {
         return match child.wait() {
@@ -111,31 +113,43 @@ pub(crate) fn end_of<R: Processes + Clock, P: OpenProcess + Drop>(
 
 /// How a status counts.
 fn told(status: ExitStatus, seconds: u64) -> Outcome
-    ensures { MayEnd seconds result }
+    ensures counts { CountsAs seconds status result }
+    ensures may { MayEnd seconds result }
 {
-    match status.code() {
-        Some(0) => Outcome::Ok,
-        Some(code) => failed(code, seconds),
-        None => Outcome::Failed(255),
+    let Some(code) = status.code() else {
+        return Outcome::Failed(255);
+    };
+    match u8::try_from(code) {
+        Ok(code) => counted(code, seconds),
+        Err(_) => Outcome::Failed(255),
     }
 }
 
-/// How a status other than 0 counts.
-fn failed(code: i32, seconds: u64) -> Outcome
-    requires { code ≢ pos 0 }
-    ensures { MayEnd seconds result }
+/// How an exit code counts.
+fn counted(code: u8, seconds: u64) -> Outcome
+    ensures exact { result ≡ outcome_of seconds code }
+    ensures may { MayEnd seconds result }
 {
-    match code {
-        124 if seconds > 0 => Outcome::TimedOut,
-        126 | 127 if seconds > 0 => Outcome::NotStarted,
-        1..=254 => Outcome::Failed(code as u8),
-        _ => Outcome::Failed(255),
+    if code == 0 {
+        return Outcome::Ok;
     }
+    if seconds == 0 {
+        return Outcome::Failed(code);
+    }
+    if code == 124 {
+        return Outcome::TimedOut;
+    }
+    if code == 126 || code == 127 {
+        return Outcome::NotStarted;
+    }
+    Outcome::Failed(code)
 }
 
 /// Waits for a program, at most so many milliseconds. Where the clock can't be read the pauses are
 /// counted.
-fn wait_for<R: Clock, P: OpenProcess + Drop>(rt: &R, child: &mut Child<P>, limit: u64) -> Waited {
+fn wait_for<R: Clock, P: OpenProcess + Drop>(rt: &R, child: &mut Child<P>, limit: u64) -> Waited
+    ensures { IsWaited (child_status child.new) result }
+{
     let start = Instant::now(rt).ok();
     let mut paused: u64 = 0;
     for round in 0..u64::MAX {
@@ -144,7 +158,7 @@ fn wait_for<R: Clock, P: OpenProcess + Drop>(rt: &R, child: &mut Child<P>, limit
             Ok(None) => {}
             Err(_) => return Waited::Lost,
         }
-        if limit <= millis_since(rt, start).unwrap_or(paused) {
+        if is_over(limit, millis_since(rt, start), paused) {
             break;
         }
         let pause = pause_of(round);
@@ -152,6 +166,13 @@ fn wait_for<R: Clock, P: OpenProcess + Drop>(rt: &R, child: &mut Child<P>, limit
         paused = paused.saturating_add(pause);
     }
     Waited::Running
+}
+
+/// Whether so many milliseconds are over, by the clock, or by the pauses where it can't be read.
+fn is_over(limit: u64, past: Option<u64>, paused: u64) -> bool
+    ensures { IsTrue result ↔ limit ≤ unwrap_or past paused }
+{
+    limit <= past.unwrap_or(paused)
 }
 
 /// How long the pause of a round is, in milliseconds. So a program that ends soon is found soon.

@@ -3,59 +3,72 @@
 ghost use Rattle.std.specs.Prelude.{◌≡◌, IfOk};
 
 use crate::copy::names_of;
-use crate::progress::{Event, tell};
+use crate::messages::tell;
+use crate::progress::Event;
+use log::{Level, Log, log_enabled};
 use rc_board::Gate;
 use rc_core::{Job, Outcome};
 use rc_db::{Db, NoMem};
 use rc_graph::Way;
+use rc_streams::messages::MESSAGE;
 use std::alloc::Global;
 use std::marker::Model;
 
-/// A gate that answers as another does, and tells each outcome by a line on standard error: the
-/// moment by the clock of that gate, the way, the name of the service, and how its transition
-/// ended.
+/// A gate that answers as another does, and tells a log of each outcome: the moment by the clock of
+/// that gate, the way, the name of the service, and how its transition ended.
 #[derive(Drop)]
-pub struct Telling<'a, R, G> {
-    rt: &'a R,
+pub struct Telling<'a, L, G> {
+    log: &'a L,
+    alloc: Global,
     /// The names of the services whose outcomes are told: all, or none.
     names: Vec<String>,
-    inner: &'a G,
+    inner: G,
 }
 
-impl<'a, R, G> Model for Telling<'a, R, G> {
+impl<'a, L, G> Model for Telling<'a, L, G> {
     ghost Value = { G };
 
-    ghost view = { λ t. t.inner.now };
+    ghost view = { λ t. t.inner };
 }
 
-impl<'a, R: Eprint, G> Telling<'a, R, G> {
-    /// A gate over this one, which tells nothing where it is not to.
-    pub fn new(
-        rt: &'a R,
-        alloc: Global,
-        db: &Db,
-        tells: bool,
-        inner: &'a G,
-    ) -> Result<Telling<'a, R, G>, NoMem>
-        ensures { IfOk result (λ telling. telling ≡ inner.entry.now) }
+impl<'a, L: Log, G: Drop> Telling<'a, L, G> {
+    /// A gate over this one, which keeps no names where the log takes no outcomes.
+    pub fn new(log: &'a L, alloc: Global, db: &Db, inner: G) -> Result<Telling<'a, L, G>, NoMem>
+        ensures { IfOk result (λ telling. telling ≡ inner) }
     {
-        let names = if tells {
-            names_of(alloc, db)?
-        } else {
-            Vec::new(alloc)
-        };
-        Ok(Telling { rt, names, inner })
+        if !log_enabled!(log; target: MESSAGE, Level::Warn) {
+            let names = Vec::new(alloc);
+            return Ok(Telling {
+                log,
+                alloc,
+                names,
+                inner,
+            });
+        }
+        match names_of(alloc, db) {
+            Ok(names) => Ok(Telling {
+                log,
+                alloc,
+                names,
+                inner,
+            }),
+            Err(fault) => {
+                drop(inner);
+                Err(fault)
+            }
+        }
     }
 
     /// Tells how the transition of a service ended at a moment.
     fn tell_end(&self, moment: u64, service: u16, way: Way, outcome: Outcome) {
         if let Some(name) = self.names.get(service as usize) {
-            tell(self.rt, moment, way, name.as_str(), Event::Ended(outcome));
+            let event = Event::Ended(outcome);
+            tell(self.log, self.alloc, moment, way, name.as_str(), event);
         }
     }
 }
 
-impl<'a, R: Eprint + Sync, G: Gate> Gate for Telling<'a, R, G> {
+impl<'a, L: Log + Sync, G: Gate + Drop> Gate for Telling<'a, L, G> {
     ghost answers = { λ gate service way outcome. G.answers gate service way outcome };
 
     ghost gives = { λ gate moment. G.gives gate moment };

@@ -1,6 +1,7 @@
 -- How a session of the program ends.
 use Rattle.std.proofs.Common.{◌≡◌, ◌≢◌, ◌∙◌, ◌⊎◌, ◌↔◌, ℕ, Bool, true, false, if◌then◌else◌, Contains, List, [], Option, None, Some, option_map, Result, Ok, Err, IfErr, OnOk, inl, inr, ap, arith, refl, sym, subst}
 use Rattle.std.specs.Result.{IsErrAnd}
+use Rattle.std.proofs.lemmas.Result.{IfErr-weaker}
 use Rattle.clap.specs.Words.{Text, Text as Path}
 use Rattle.rc_graph.specs.declared.Way.{Way}
 use Rattle.rc_model.specs.Run.{is_success}
@@ -13,6 +14,10 @@ use Rattle.rc_runner.specs.Failing.{Table, fails_in, outcome_in}
 use Rattle.rc_runner.specs.Moments.{IsMomentOf}
 use Rattle.rc_runner.specs.Shell.{MayAnswer, Scripts, scripts_of}
 use Rattle.rc_sessions.specs.Finding.{AreFound, IsFirstUnknown, IsGateFault}
+use Rattle.rc_sessions.specs.Gating.{IsGateFor, IsGateless}
+use Rattle.rc_runner.specs.Gates.{gate_answers, gate_gives}
+use Rattle.rc_runner.specs.declared.session_gate.SessionGate.{SessionGate}
+use Rattle.rc_runner.specs.declared.session_gate.SessionGate.TheVariants as made
 use Rattle.rc_asked.specs.Listed.{Listed}
 use Rattle.rc_sessions.specs.declared.failing.GateFault.{GateFault}
 use Rattle.rc_sessions.specs.declared.failing.GateFault.TheVariants as gate
@@ -23,8 +28,9 @@ use Rattle.rc_streams.specs.Input.{AppendsFront, IsCause, fault_line}
 use Rattle.rc_streams.specs.declared.input.Failure.{Failure}
 use Rattle.rc_streams.specs.declared.input.Failure.TheVariants as failure
 use Rattle.rc_serve.specs.Faults.{IsServeFault}
-use Rattle.rc_serve.specs.Keeping.{IsKeptAt, IsKeptUp, IsOfKeeping, Keeping, ServesFrontKept}
+use Rattle.rc_serve.specs.Keeping.{IsKeptAt, IsKeptUp, IsOfKeeping, Keeping, ServesFrontKept, of_keeping}
 use Rattle.rc_serve.specs.declared.keeper.KeepFault.{KeepFault}
+use Rattle.rc_serve.specs.declared.keeper.KeepFault.TheVariants as keep
 use Rattle.rc_serve.specs.Playing.{PlaysInput}
 use Rattle.rc_serve.specs.Meeting.{Doing, IsDoneBy}
 use Rattle.rc_serve.specs.SessionText.{FailsExactly, IsDoneFailing, IsTimeless}
@@ -35,15 +41,16 @@ use Rattle.rc_livetext.specs.LiveFaults.{IsLiveFault}
 use Rattle.rc_livetext.specs.declared.fault.LiveFault.{LiveFault}
 use Rattle.rc_livetext.specs.declared.fault.LiveFault.TheVariants as live
 use Rattle.rc_model.specs.Line.{Line}
-use Rattle.rc_sessions.specs.Filing.{BeginsWith, CannotKeep, Filing, Holds, HoldsBy, IsLeft, IsLeftOrFirst, IsUnread, filing_of}
+use Rattle.rc_sessions.specs.Filing.{BeginsWith, CannotKeep, FailsToBegin, Filing, Holds, HoldsBy, IsLeft, IsLeftOrFirst, IsUnread, file_named, filing_of}
 use Rattle.rc_sessions.specs.Storing.{HoldsText}
 use Rattle.rc_sessions.specs.declared.keeping.LiveFile.{LiveFile}
+use Rattle.rc_sessions.specs.declared.keeping.LiveFile.TheVariants.{Missing, Text as Stood, Unread}
 use Rattle.rc_sessions.specs.Serving.{IsOfFile, KeepsAt, RunsFor, RunsGated, RunsOn, Serves, ServesUpTo, Serving, StopsUpTo, session_on}
 use Rattle.rc_base.specs.Opening.{Reads}
 use Rattle.rc_sessions.specs.Session.{Runs}
-use Rattle.rc_asked.specs.Programs.{ByPrograms, ByTable}
+use Rattle.rc_asked.specs.Programs.{ByPrograms, ByTable, MakingAsk}
 use Rattle.rc_asked.specs.SessionAsked.{SessionAsk}
-use Rattle.rc_sessions.specs.SessionFaults.{EndsBy, EndsGated, EndsOn, IsBeginFault, IsGateFailing, IsLiveFailing, IsNotBegun, IsRefusal, IsRefusedBy, IsTextFailing, IsTextFaultOf, IsToldAs, IsUnserved, reading_fault, serve_word}
+use Rattle.rc_sessions.specs.SessionFaults.{EndsBy, EndsGated, EndsOn, IsFileFault, IsGateFailing, IsLiveFailing, IsNotBegun, IsRefusal, IsRefusedBy, IsTextFailing, IsTextFaultOf, IsToldAs, IsUnserved, StandsIn, reading_fault, serve_word}
 use Rattle.rc_sessions.specs.declared.session_fault.SessionFault.{SessionFault}
 use Rattle.rc_sessions.specs.declared.session_fault.SessionFault.TheVariants.{OfText, Unknown, OfLive, Failed}
 
@@ -94,41 +101,78 @@ untouched input written = record {
   gained = written;
 }
 
--- the first name that is no service's ends the session on a database
-pub gate_ends : (fault : GateFault) (told : SessionFault) (filing : Filing) (d : Database) (workers : ℕ) (names : List (List ℕ)) (listed : List Listed) (input written : Option (List ℕ)) (reader writer keeper : Type 0)
-    → IsLeft filing → IsGateFailing fault told → names ≡ d.names → IsGateFault names listed fault
-    → EndsOn told filing d workers (ByTable listed) (untouched input written) reader writer keeper
-gate_ends (gate.Unknown word) told filing d workers names listed input written reader writer keeper left is same wrong =
-    let first : IsFirstUnknown d.names listed word.now = subst (λ (ns : List (List ℕ)). IsFirstUnknown ns listed word.now) same wrong in
-    subst (λ (f : SessionFault). EndsOn f filing d workers (ByTable listed) (untouched input written) reader writer keeper) (sym is) (first, refl, refl, left)
-gate_ends gate.Memory told filing d workers names listed input written reader writer keeper left is same wrong =
-    subst (λ (f : SessionFault). EndsOn f filing d workers (ByTable listed) (untouched input written) reader writer keeper) (sym is) (tt, inl (tt, refl, inl left))
+-- why there is no gate ends the session on a database
+pub gate_ends : (told : SessionFault) (filing : Filing) (d : Database) (workers : ℕ) (making : MakingAsk) (input written : Option (List ℕ)) (reader writer keeper : Type 0)
+    → IsLeft filing → IsGateless d making told → EndsOn told filing d workers making (untouched input written) reader writer keeper
+gate_ends (OfText fault) filing d workers making input written reader writer keeper left is = absurd is
+gate_ends (Unknown word) filing d workers making input written reader writer keeper left is = (is, refl, refl, left)
+gate_ends (OfLive fault) filing d workers making input written reader writer keeper left is = absurd is
+gate_ends (Failed fault) filing d workers making input written reader writer keeper left is =
+    subst (λ (f : ServeFault). EndsOn (Failed f) filing d workers making (untouched input written) reader writer keeper) (sym is) (tt, inl (tt, refl, inl left))
+
+-- a fault of the list is why there is none
+pub gateless : (names : List (List ℕ)) (d : Database) (listed : List Listed) (fault : GateFault) (told : SessionFault) → names ≡ d.names → IsGateFailing fault told → IsGateFault names listed fault
+    → IsGateless d (ByTable listed) told
+gateless names d listed (gate.Unknown word) told same is wrong =
+    subst (λ (f : SessionFault). IsGateless d (ByTable listed) f) (sym is) (subst (λ (ns : List (List ℕ)). IsFirstUnknown ns listed word.now) same wrong)
+gateless names d listed gate.Memory told same is wrong =
+    subst (λ (f : SessionFault). IsGateless d (ByTable listed) f) (sym is) refl
+
+-- a fault for which a session does not begin is one of a file, and of reading it only where it is
+-- named and could not be read
+short_of_file : (fault : ServeFault) (P : Type 0) → fault ≡ Memory → IsOfFile fault × ((fault ≡ Io) → P)
+short_of_file fault P is = (subst IsOfFile (sym is) tt, λ io. let bad : Memory ≡ Io = sym is ∙ io in cc)
+
+unread_of_file : (unread : KeepFault) → IsOfFile (of_keeping unread)
+unread_of_file keep.Io = tt
+unread_of_file keep.Memory = tt
+
+fails_of_file : (path : Option Path) (file : LiveFile) (fault : ServeFault) → FailsToBegin (file_named path file) fault
+    → IsOfFile fault × ((fault ≡ Io) → (path ≢ None) × IsUnread file)
+fails_of_file None file fault is = short_of_file fault _ is
+fails_of_file (Some path) Missing fault is = short_of_file fault _ is
+fails_of_file (Some path) (Stood bytes) fault is = short_of_file fault _ is
+fails_of_file (Some path) (Unread unread) fault is =
+    (subst IsOfFile (sym is) (unread_of_file unread), λ io. ((λ none. let bad : Some path ≡ None = none in cc), tt))
+
+file_fault : (ask : SessionAsk) (file : LiveFile) (fault : ServeFault) (reader writer failed : Type 0)
+    → IsOfFile fault → ((fault ≡ Io) → (ask.live ≢ None) × IsUnread file) → IsServeFault reader writer (CannotKeep ask file failed) fault
+file_fault ask file Read reader writer failed of io = absurd of
+file_fault ask file Write reader writer failed of io = absurd of
+file_fault ask file TooLong reader writer failed of io = absurd of
+file_fault ask file Memory reader writer failed of io = tt
+file_fault ask file NoThread reader writer failed of io = absurd of
+file_fault ask file Strange reader writer failed of io = absurd of
+file_fault ask file Workers reader writer failed of io = absurd of
+file_fault ask file Io reader writer failed of io = let both = io refl in (both.0, inl both.1)
+
+pub begin_fault : (ask : SessionAsk) (file : LiveFile) (fault : ServeFault) (reader writer failed : Type 0) → FailsToBegin (file_named ask.live file) fault
+    → IsOfFile fault × IsServeFault reader writer (CannotKeep ask file failed) fault
+begin_fault ask file fault reader writer failed is =
+    let of = fails_of_file ask.live file fault is in (of.0, file_fault ask file fault reader writer failed of.0 of.1)
 
 -- why a session does not begin ends it
 pub begin_ends : (fault : SessionFault) (ask : SessionAsk) (file : LiveFile) (held : Option (List ℕ)) (Done : Doing) (d : Database) (input written : Option (List ℕ)) (reader writer failed : Type 0)
-    → IsBeginFault ask file d fault
+    → IsFileFault (file_named ask.live file) d fault
     → EndsGated fault (filing_of ask file held held) Done d (untouched input written) reader writer (CannotKeep ask file failed)
 begin_ends (OfText fault) ask file held Done d input written reader writer failed is = absurd is
 begin_ends (Unknown word) ask file held Done d input written reader writer failed is = absurd is
 begin_ends (OfLive fault) ask file held Done d input written reader writer failed is = (is, refl, refl, refl)
 begin_ends (Failed fault) ask file held Done d input written reader writer failed is =
-    (unbegun_fault fault ask file reader writer failed is.0 is.1, inl (is.0, refl, inl refl))
-  where
-    unbegun_fault : (f : ServeFault) (a : SessionAsk) (at : LiveFile) (r w bad : Type 0)
-        → IsOfFile f → ((f ≡ Io) → (a.live ≢ None) × IsUnread at) → IsServeFault r w (CannotKeep a at bad) f
-    unbegun_fault Read a at r w bad u io = absurd u
-    unbegun_fault Write a at r w bad u io = absurd u
-    unbegun_fault TooLong a at r w bad u io = absurd u
-    unbegun_fault Memory a at r w bad u io = tt
-    unbegun_fault NoThread a at r w bad u io = absurd u
-    unbegun_fault Strange a at r w bad u io = absurd u
-    unbegun_fault Workers a at r w bad u io = absurd u
-    unbegun_fault Io a at r w bad u io = let both = io refl in (both.0, inl both.1)
+    let of = begin_fault ask file fault reader writer failed is in (of.1, inl (of.0, refl, inl refl))
+
+-- a database that was read of a base or an input stands there
+pub stands : (base remaining after : Option (List ℕ)) (d : Database) (input rest : List ℕ)
+    → Reads base remaining after input → Spells base input d rest → StandsIn base remaining after d
+stands (Some base) remaining after d input rest reads spelled = (spelled.0, spelled.1, spelled.2, refl)
+stands None remaining after d input rest reads spelled = (input, rest, reads, spelled)
 
 -- a session that is not served on a database is not begun, whatever the base
 pub not_begun : (fault : ServeFault) (base : Option (List ℕ)) (d : Database) (filing : Filing) (io : Exchange)
+    → StandsIn base io.input io.left d
     → IsOfFile fault × (io.gained ≡ io.written) × IsLeftOrFirst d filing → IsNotBegun fault base filing io
-not_begun fault base d filing io is = (unbegun fault base io.input is.0, is.1, inr (d, is.2))
+not_begun fault base d filing io stands is =
+    (unbegun fault base io.input is.0, is.1, inr (d, stands, is.2))
 
 -- a session on the database of a base is one of the base and the input
 pub ends_on_base : (fault : SessionFault) (bytes : List ℕ) (d : Database) (ask : SessionAsk) (file : LiveFile) (was is : Option (List ℕ)) (io : Exchange) (reader writer keeper : Type 0)
@@ -142,7 +186,7 @@ ends_on_base (OfLive fault) bytes d ask file was is io reader writer keeper spel
 ends_on_base (Failed fault) bytes d ask file was is io reader writer keeper spelled end = (
   end.0,
   elim end.1 [
-    | inl un ↦ inl (not_begun fault (Some bytes) d (filing_of ask file was is) io un)
+    | inl un ↦ inl (not_begun fault (Some bytes) d (filing_of ask file was is) io spelled un)
     | inr run ↦ inr (record { database = d; input = io.input; left = io.left; opened = (spelled, refl, refl); run = run })
   ],
 )
@@ -172,7 +216,7 @@ ends_on_input (OfLive fault) all rest d ask file was is io left reader writer ke
 ends_on_input (Failed fault) all rest d ask file was is io left reader writer keeper reads spelled end = (
   fault_wider fault reader writer keeper (Unit {0}) writer keeper (λ _. tt) (λ w. w) (λ k. k) end.0,
   elim end.1 [
-    | inl un ↦ inl (not_begun fault None d (filing_of ask file was is) io un)
+    | inl un ↦ inl (not_begun fault None d (filing_of ask file was is) io (all, rest, reads, spelled) un)
     | inr run ↦ inr (runs_on_input (ServesUpTo fault) all rest d ask file was is io left reads spelled run)
   ],
 )
@@ -393,6 +437,32 @@ ends_scripts (OfLive fault) filing d workers runner controller limit gate io rea
     ((([], tt), end.0), end.1, end.2, end.3)
 ends_scripts (Failed fault) filing d workers runner controller limit gate io reader writer keeper is end =
     (end.0, elim end.1 [ inl un ↦ inl un | inr run ↦ inr (runs_scripts (ServesUpTo fault) filing d workers runner controller limit gate io is run) ])
+
+-- past the gate that makes transitions as it is asked a session is served so
+module _ {R L : Type 0} (filing : Filing) (d : Database) (workers : ℕ) (input : Option (List ℕ)) (io : Exchange) where
+  pub runs_gate : (Served : Serving) (making : MakingAsk) (gate : SessionGate R L) → IsGateFor d making gate
+      → ((fails : ℕ → Way → Bool) → FailsExactly (gate_answers gate) fails → IsTimeless (gate_gives gate) input → RunsGated Served filing (IsDoneFailing fails) d io)
+      → RunsGated Served filing (IsDoneBy workers (gate_answers gate) (gate_gives gate)) d io
+      → RunsFor Served filing d workers making io
+  runs_gate Served (ByTable listed) (made.Table table) is failing by =
+      runs_found Served filing d listed table.failing io is.0
+      (failing (fails_in table.failing) (table_exact table.failing) (clock_timeless table.moments input is.1))
+  runs_gate Served (ByTable listed) (made.Shell shell) is failing by = absurd is
+  runs_gate Served (ByPrograms runner controller limit) (made.Table table) is failing by = absurd is
+  runs_gate Served (ByPrograms runner controller limit) (made.Shell shell) is failing by =
+      runs_scripts Served filing d workers runner controller limit shell io is by
+
+  pub ends_gate : (fault : SessionFault) (making : MakingAsk) (gate : SessionGate R L) (reader writer keeper : Type 0) → IsGateFor d making gate
+      → ((fails : ℕ → Way → Bool) → FailsExactly (gate_answers gate) fails → IsTimeless (gate_gives gate) input → EndsGated fault filing (IsDoneFailing fails) d io reader writer keeper)
+      → EndsGated fault filing (IsDoneBy workers (gate_answers gate) (gate_gives gate)) d io reader writer keeper
+      → EndsOn fault filing d workers making io reader writer keeper
+  ends_gate fault (ByTable listed) (made.Table table) reader writer keeper is failing by =
+      ends_found fault filing d workers listed table.failing io reader writer keeper is.0
+      (failing (fails_in table.failing) (table_exact table.failing) (clock_timeless table.moments input is.1))
+  ends_gate fault (ByTable listed) (made.Shell shell) reader writer keeper is failing by = absurd is
+  ends_gate fault (ByPrograms runner controller limit) (made.Table table) reader writer keeper is failing by = absurd is
+  ends_gate fault (ByPrograms runner controller limit) (made.Shell shell) reader writer keeper is failing by =
+      ends_scripts fault filing d workers runner controller limit shell io reader writer keeper is by
 
 -- a failed read is told as that
 pub told_read : {A : Type 0} (result : Result A SessionFault) (fault : SessionFault) (status : ℕ) (Refused : Type 0) (old new : Option (List ℕ)) → result ≡ Err (Failed Read) → result ≡ Err fault → (status ≡ 1) ⊎ (status ≡ 111) → (status ≡ 1 → IsRefusal fault × Refused)

@@ -9,30 +9,27 @@ use Rattle.rc_livetext.specs.Spelling.{Spells, spelling}
 use Rattle.rc_livetext.specs.LiveFaults.{IsLiveFault}
 use Rattle.rc_livetext.specs.declared.fault.LiveFault.{LiveFault}
 use Rattle.rc_livetext.specs.declared.fault.LiveFault.TheVariants as live
+use Rattle.rc_serve.specs.declared.fault.ServeFault.{ServeFault}
+use Rattle.rc_serve.specs.declared.fault.ServeFault.TheVariants.{Memory}
+use Rattle.rc_serve.specs.Keeping.{of_keeping}
 use Rattle.rc_asked.specs.SessionAsked.{SessionAsk}
 use Rattle.rc_sessions.specs.declared.keeping.LiveFile.{LiveFile}
 use Rattle.rc_sessions.specs.declared.keeping.LiveFile.TheVariants.{Missing, Text, Unread}
 
 -- how many states a fresh session has at most; the file that is named, if one is,
--- and the text that stood in it; and what the store of that file held before and
+-- and what stood in it; and what the store of that file held before and
 -- holds in the end, where that is known
 pub record Filing : Type 0 where
   pub bound : ℕ
   pub path : Option Path
-  pub text : Option (List ℕ)
+  pub file : LiveFile
   pub was : Option (List ℕ)
   pub is : Option (List ℕ)
 
--- the text that stood in a file
-abbrev pub text_in : LiveFile → Option (List ℕ)
-text_in Missing = None
-text_in (Text bytes) = Some bytes.now
-text_in (Unread fault) = None
-
--- the text that stood in the file, where one is named
-abbrev pub text_named : Option Path → LiveFile → Option (List ℕ)
-text_named None file = None
-text_named (Some path) file = text_in file
+-- what stood in the file that is named; where none is, nothing did
+abbrev pub file_named : Option Path → LiveFile → LiveFile
+file_named None file = Missing
+file_named (Some path) file = file
 
 -- what is asked of where a session begins, with what stood in the file, and
 -- with what its store held and holds
@@ -40,19 +37,21 @@ abbrev pub filing_of : SessionAsk → LiveFile → (was is : Option (List ℕ)) 
 filing_of ask file was is = record {
   bound = ask.bound;
   path = ask.live;
-  text = text_named ask.live file;
+  file = file_named ask.live file;
   was = was;
   is = is;
 }
 
--- the line of states that a session begins with: the database's own with this bound; or, where
--- there is a text, a line of the database that the text is of
-abbrev pub BeginsBy : Database → (bound : ℕ) → Option (List ℕ) → Line → Type 0
-BeginsBy d bound None line = line ≡ first_line d bound
-BeginsBy d bound (Some bytes) line = IsLineOf d line × Spells d bytes line
+-- the line of states that a session begins with: where there is no file the database's own with
+-- this bound; where there is a text, a line of the database that the text is of; and where the
+-- file could not be read, none
+abbrev pub BeginsBy : Database → (bound : ℕ) → LiveFile → Line → Type 0
+BeginsBy d bound Missing line = line ≡ first_line d bound
+BeginsBy d bound (Text bytes) line = IsLineOf d line × Spells d bytes.now line
+BeginsBy d bound (Unread fault) line = ⊥
 
 abbrev pub BeginsWith : Database → Filing → Line → Type 0
-BeginsWith d filing line = BeginsBy d filing.bound filing.text line
+BeginsWith d filing line = BeginsBy d filing.bound filing.file line
 
 -- the store holds the text of this line, so far as it is known what it holds; where no
 -- file is named it is left alone
@@ -73,9 +72,17 @@ IsLeftOrFirst d filing = IsLeft filing
     ⊎ ((start : Line) × BeginsWith d filing start × Holds filing d start)
 
 -- a text that stands in the file is refused
-abbrev pub IsFileRefused : Database → Option (List ℕ) → LiveFault → Type 0
-IsFileRefused d text fault = (bytes : List ℕ) × (text ≡ Some bytes)
-    × (fault ≢ live.Memory) × IsLiveFault d bytes fault
+abbrev pub IsFileRefused : Database → LiveFile → LiveFault → Type 0
+IsFileRefused d Missing fault = ⊥
+IsFileRefused d (Text bytes) fault = (fault ≢ live.Memory) × IsLiveFault d bytes.now fault
+IsFileRefused d (Unread unread) fault = ⊥
+
+-- why a session does not begin where this stood in its file, but for a text that is refused: it
+-- could not be read, and that very fault comes; or out of memory
+abbrev pub FailsToBegin : LiveFile → ServeFault → Type 0
+FailsToBegin Missing fault = fault ≡ Memory
+FailsToBegin (Text bytes) fault = fault ≡ Memory
+FailsToBegin (Unread unread) fault = fault ≡ of_keeping unread
 
 -- a file could not be read
 abbrev pub IsUnread : LiveFile → Type 0

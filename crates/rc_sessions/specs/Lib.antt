@@ -1,6 +1,8 @@
+pub mod Deciding
 pub mod Filing
+pub mod Finding
+pub mod Gating
 pub mod Serving
 pub mod Session
 pub mod SessionFaults
-pub mod Finding
 pub mod Storing

@@ -1,5 +1,5 @@
 -- When `session` refuses or fails, and how it tells that.
-use Rattle.std.specs.Prelude.{◌≡◌, ◌≢◌, ◌⊎◌, ℕ, List, Option, codes, ◌<◌, None, IfSome, length}
+use Rattle.std.specs.Prelude.{◌≡◌, ◌≢◌, ◌⊎◌, ℕ, List, [], Option, codes, ◌<◌, None, Some, IfSome, length}
 use Rattle.rc_graph.specs.declared.Way.{Way}
 use Rattle.rc_livetext.specs.LiveFaults.{IsLiveFault}
 use Rattle.rc_livetext.specs.declared.fault.LiveFault.{LiveFault}
@@ -8,7 +8,7 @@ use Rattle.clap.specs.Words.{Text}
 use Rattle.rc_model.specs.Database.{Database}
 use Rattle.rc_dbtext.specs.declared.fault.TextFault.{TextFault}
 use Rattle.rc_dbtext.specs.declared.fault.TextFault.TheVariants as text
-use Rattle.rc_sessions.specs.Filing.{CannotKeep, Filing, IsFileRefused, IsLeft, IsLeftOrFirst, IsUnread, filing_of, text_in, text_named}
+use Rattle.rc_sessions.specs.Filing.{CannotKeep, FailsToBegin, Filing, IsFileRefused, IsLeft, IsLeftOrFirst, filing_of}
 use Rattle.rc_sessions.specs.Finding.{AreFound, IsFirstUnknown}
 use Rattle.rc_sessions.specs.declared.keeping.LiveFile.{LiveFile}
 use Rattle.rc_sessions.specs.declared.failing.GateFault.{GateFault}
@@ -54,7 +54,7 @@ IsSessionRefused (Unknown word) ask filing base input = (d : Database) × (rest 
     × Spells base input d rest × IsFirstUnknown d.names (listed_in ask.making) word.now
 IsSessionRefused (OfLive fault) ask filing base input = (d : Database) × (rest : List ℕ)
     × Spells base input d rest × AreAllFound d (listed_in ask.making)
-    × IsFileRefused d filing.text fault
+    × IsFileRefused d filing.file fault
 IsSessionRefused (Failed fault) ask filing base input = ⊥
 
 -- a failure to read the whole input, as a fault of serving
@@ -82,18 +82,12 @@ IsTextFaultOf d bytes (OfLive fault) = (fault ≢ live.Memory) × IsLiveFault d 
 IsTextFaultOf d bytes (Failed fault) = fault ≡ Memory
 IsTextFaultOf d bytes other = ⊥
 
--- why it does not go on with a file: that could not be read, or the text that stands in it
+-- why it does not begin where this stood in its file: the text there is refused, the file could
+-- not be read, or out of memory
 abbrev pub IsFileFault : LiveFile → Database → SessionFault → Type 0
-IsFileFault file d (OfLive fault) = IsFileRefused d (text_in file) fault
-IsFileFault file d (Failed fault) = IsOfFile fault × ((fault ≡ Io) → IsUnread file)
+IsFileFault file d (OfLive fault) = IsFileRefused d file fault
+IsFileFault file d (Failed fault) = FailsToBegin file fault
 IsFileFault file d other = ⊥
-
--- why it does not begin as it is asked to: where a file is named, for that file
-abbrev pub IsBeginFault : SessionAsk → LiveFile → Database → SessionFault → Type 0
-IsBeginFault ask file d (OfLive fault) = IsFileRefused d (text_named ask.live file) fault
-IsBeginFault ask file d (Failed fault) = IsOfFile fault
-    × ((fault ≡ Io) → (ask.live ≢ None) × IsUnread file)
-IsBeginFault ask file d other = ⊥
 
 -- how a session on a database ends before its input, whose commands are done so: refused for its
 -- file, with nothing read and nothing written; or by a fault of serving with a prefix of its input
@@ -103,7 +97,7 @@ abbrev pub EndsGated : SessionFault → Filing → Doing → Database → Exchan
 EndsGated (OfText fault) filing Done d io reader writer keeper = ⊥
 EndsGated (Unknown word) filing Done d io reader writer keeper = ⊥
 EndsGated (OfLive fault) filing Done d io reader writer keeper =
-    IsFileRefused d filing.text fault × (io.left ≡ io.input) × (io.gained ≡ io.written)
+    IsFileRefused d filing.file fault × (io.left ≡ io.input) × (io.gained ≡ io.written)
     × IsLeft filing
 EndsGated (Failed fault) filing Done d io reader writer keeper =
     IsServeFault reader writer keeper fault
@@ -119,7 +113,7 @@ EndsOn (Unknown word) filing d workers making io reader writer keeper =
     IsFirstUnknown d.names (listed_in making) word.now
     × (io.left ≡ io.input) × (io.gained ≡ io.written) × IsLeft filing
 EndsOn (OfLive fault) filing d workers making io reader writer keeper =
-    (AreAllFound d (listed_in making) × IsFileRefused d filing.text fault)
+    (AreAllFound d (listed_in making) × IsFileRefused d filing.file fault)
     × (io.left ≡ io.input) × (io.gained ≡ io.written) × IsLeft filing
 EndsOn (Failed fault) filing d workers making io reader writer keeper =
     IsServeFault reader writer keeper fault
@@ -132,11 +126,19 @@ abbrev pub IsRefusedBy : SessionFault → Option (List ℕ) → SessionAsk → F
 IsRefusedBy fault base ask filing remaining after = (input : List ℕ)
     × Reads base remaining after input × IsSessionRefused fault ask filing base input
 
+-- the text of a database is the base, or without one stands at the beginning of the input, which
+-- was read whole
+abbrev pub StandsIn : Option (List ℕ) → (remaining after : Option (List ℕ)) → Database → Type 0
+StandsIn (Some base) remaining after d = Spells (Some base) [] d []
+StandsIn None remaining after d = (all : List ℕ) × (rest : List ℕ)
+    × Reads None remaining after all × Spells None all d rest
+
 -- a session was not begun: nothing was written, and its store was left alone or holds the text of
--- the line with which a session on some database begins
+-- the line with which a session on the database of the base or the input begins
 abbrev pub IsNotBegun : ServeFault → Option (List ℕ) → Filing → Exchange → Type 0
 IsNotBegun fault base filing io = IsUnserved fault base io.input
-    × (io.gained ≡ io.written) × (IsLeft filing ⊎ ((d : Database) × IsLeftOrFirst d filing))
+    × (io.gained ≡ io.written)
+    × (IsLeft filing ⊎ ((d : Database) × StandsIn base io.input io.left d × IsLeftOrFirst d filing))
 
 -- the same of a session whose database is looked for first
 abbrev pub EndsBy : SessionFault → Option (List ℕ) → SessionAsk → LiveFile →

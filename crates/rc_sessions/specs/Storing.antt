@@ -3,7 +3,12 @@ use Rattle.std.specs.Prelude.{◌≡◌, ℕ, List, Option, IfSome}
 use Rattle.rc_model.specs.Database.{Database}
 use Rattle.rc_model.specs.Line.{Line}
 use Rattle.rc_livetext.specs.Spelling.{spelling}
+use Rattle.rc_sessions.specs.declared.keeping.KeptText.{KeptText}
 use Rattle.rc_sessions.specs.declared.keeping.TextKeeper.{TextKeeper}
+
+-- the bytes of a text that is to be kept
+abbrev pub kept_bytes : KeptText → List ℕ
+kept_bytes text = text.bytes.now
 
 -- the store of a keeper of texts
 abbrev pub store_of : {S : Type 0} → TextKeeper S → S

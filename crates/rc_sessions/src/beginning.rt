@@ -2,9 +2,9 @@
 ghost use Rattle.std.specs.Prelude.{◌≡◌, ◌≤◌, IfErr, IfOk};
 ghost use Rattle.rc_session.specs.Holding.{first_line};
 ghost use Rattle.rc_asked.specs.SessionAsked.{session_ask_of};
-ghost use Rattle.rc_sessions.specs.Filing.{BeginsBy, text_in, text_named};
+ghost use Rattle.rc_sessions.specs.Filing.{BeginsBy, file_named};
 ghost use Rattle.rc_sessions.specs.Serving.{session_on};
-ghost use Rattle.rc_sessions.specs.SessionFaults.{IsBeginFault, IsFileFault, IsTextFaultOf};
+ghost use Rattle.rc_sessions.specs.SessionFaults.{IsFileFault, IsTextFaultOf};
 ghost use Rattle.rc_sessions.specs.declared.session_fault.SessionFault.TheVariants.{Failed};
 ghost use Rattle.rc_serve.specs.declared.fault.ServeFault.TheVariants.{Memory};
 ghost use Rattle.rc_model.specs.Line.{Line};
@@ -27,11 +27,11 @@ pub fn begin<'a>(
     request: &SessionRequest<'_>,
     live: LiveFile<'_>,
 ) -> Result<Session, SessionFault<'a>>
-    requires bound { 3 ≤ request.now.bound }
     ensures begun { IfOk result (λ session. (start : Line) × BeginsBy db request.now.bound
-        (text_named (session_ask_of request.now).live live.entry) start
+        (file_named (session_ask_of request.now).live live.entry) start
         × (session ≡ session_on db start)) }
-    ensures fault { IfErr result (IsBeginFault (session_ask_of request.now) live.entry db) }
+    ensures fault { IfErr result (IsFileFault
+        (file_named (session_ask_of request.now).live live.entry) db) }
 {
     match request.live {
         None => fresh(alloc, db, request.bound),
@@ -48,7 +48,7 @@ fn go_on<'a>(
 ) -> Result<Session, SessionFault<'a>>
     requires bound { 3 ≤ bound }
     ensures begun { IfOk result (λ session. (start : Line)
-        × BeginsBy db bound (text_in live.entry) start × (session ≡ session_on db start)) }
+        × BeginsBy db bound live.entry start × (session ≡ session_on db start)) }
     ensures fault { IfErr result (IsFileFault live.entry db) }
 {
     match live {

@@ -1,6 +1,6 @@
 //! The gate at which listed transitions fail, found by the names of their services.
 
-ghost use Rattle.std.specs.Prelude.{◌≡◌, ◌++◌, ◌∷◌, [], map, slice_get, Some, Contains, IfOk, OnOk, IfErr, IfSome, IfNone};
+ghost use Rattle.std.specs.Prelude.{◌≡◌, ◌++◌, ◌∷◌, [], map, IfOk, OnOk, IfErr};
 ghost use Rattle.rc_asked.specs.Reading.{listed_of};
 ghost use Rattle.rc_sessions.specs.Finding.{AreFound, IsGateFault};
 
@@ -9,13 +9,15 @@ use rc_graph::Way;
 use rc_names::Names;
 use rc_runner::{StepClock, TableGate};
 use std::alloc::{AllocError, Global};
-use std::str;
+use thiserror::Error;
 
 /// Why there is no gate.
-#[derive(Clone, Copy)]
+#[derive(Clone, Copy, PartialEq, Eq, Debug, Error)]
 pub enum GateFault<'a> {
     /// The first name that is no service's.
+    #[error("no service is named {}", .0.escape_ascii())]
     Unknown(&'a [u8]),
+    #[error("out of memory")]
     Memory,
 }
 
@@ -43,7 +45,7 @@ pub fn gate_of<'a>(
 {
     let mut failing = Vec::new(alloc);
     for one in listed {
-        match find(names, one.name) {
+        match names.find_bytes(one.name) {
             Some(service) => add(&mut failing, service, one.way)?,
             None => return Err(GateFault::Unknown(one.name)),
         }
@@ -56,16 +58,4 @@ fn add(failing: &mut Vec<(u16, Way)>, service: u16, way: Way) -> Result<(), Allo
     ensures { OnOk result (failing.new.items ≡ failing.old.items ++ (service, way) ∷ []) }
 {
     Ok(failing.push((service, way))?)
-}
-
-/// The id of a name that is given as bytes. Bytes that are no text are no name.
-fn find(names: &Names, word: &[u8]) -> Option<u16>
-    ensures found { IfSome result (λ id. slice_get names.now id ≡ Some word.now) }
-    ensures missing { IfNone result (Contains names.now word.now → ⊥) }
-{
-    let _known = names.len();
-    match str::from_utf8(word) {
-        Ok(text) => names.find(text),
-        Err(_) => None,
-    }
 }

@@ -2,7 +2,7 @@
 ghost use Rattle.std.specs.Prelude.{◌≡◌, ◌⊎◌, ℕ, false, List, Option, IfSome, IfErr, IsSome, OnErr, OnOk};
 ghost use Rattle.rc_livetext.specs.Spelling.{spelling};
 ghost use Rattle.rc_serve.specs.declared.keeper.KeepFault.TheVariants.{Io};
-ghost use Rattle.rc_sessions.specs.Storing.{HoldsText, store_of};
+ghost use Rattle.rc_sessions.specs.Storing.{HoldsText, kept_bytes, store_of};
 
 use rc_livetext::write_live;
 use rc_serve::{KeepFault, Keeper};
@@ -20,21 +20,38 @@ pub enum LiveFile<'a> {
     Unread(KeepFault),
 }
 
+/// The text of a session, as it is to be kept. A keeper makes it, and nothing else can.
+#[derive(Drop)]
+pub struct KeptText<'a> {
+    bytes: &'a [u8],
+}
+
+impl<'a> KeptText<'a> {
+    /// Its bytes.
+    pub fn bytes(&self) -> &'a [u8]
+        ensures { result.now ≡ kept_bytes self.now }
+    {
+        self.bytes
+    }
+}
+
 /// Where the text of a session is kept.
 pub trait Store {
+    ghost use Rattle.rc_sessions.specs.Storing.{kept_bytes};
+
     /// The bytes that stand there. None: nobody can say, as of a file.
     ghost holds: { Self → Option (List ℕ) };
 
     /// Whether it has failed.
     ghost failed: { Self → Type 0 };
 
-    /// Puts these bytes in the place of what stands there. Where that fails, what stood there
-    /// does, or the bytes do. A store of which that can be said stays one.
-    fn replace(&mut self, bytes: &[u8]) -> Result<(), KeepFault>
-        ensures put { OnOk result (IfSome (holds self.new) (λ held. held ≡ bytes.now)) }
+    /// Puts this text in the place of what stands there. Where that fails, what stood there does, or
+    /// the text does. A store of which that can be said stays one.
+    fn replace(&mut self, text: KeptText<'_>) -> Result<(), KeepFault>
+        ensures put { OnOk result (IfSome (holds self.new) (λ held. held ≡ kept_bytes text.entry)) }
         ensures known { IsSome (holds self.old) → IsSome (holds self.new) }
         ensures left { OnErr result ((holds self.new ≡ holds self.old)
-            ⊎ IfSome (holds self.new) (λ held. held ≡ bytes.now)) }
+            ⊎ IfSome (holds self.new) (λ held. held ≡ kept_bytes text.entry)) }
         ensures io { IfErr result (λ fault. fault ≡ KeepFault.Io → failed self.new) };
 }
 
@@ -74,7 +91,7 @@ impl<S: Store> Keeper for TextKeeper<S> {
         let Ok(text) = write_live(alloc, session) else {
             return Err(KeepFault::Memory);
         };
-        let kept = self.store.replace(&text);
+        let kept = self.store.replace(KeptText { bytes: &text });
         drop(text);
         kept
     }

@@ -3,15 +3,21 @@
 #![tactic(auto)]
 
 mod beginning;
+mod deciding;
 mod failing;
+mod gates;
+mod host;
 mod keeping;
+mod live_store;
 mod serving;
 mod session;
 mod session_fault;
 
 pub use crate::beginning::begin;
-pub use crate::failing::{GateFault, gate_of};
-pub use crate::keeping::{LiveFile, Store, TextKeeper};
-pub use crate::serving::gate_by_programs;
+pub use crate::deciding::{live_file, log_for, moves};
+pub use crate::gates::gate_for;
+pub use crate::host::Host;
+pub use crate::keeping::{KeptText, LiveFile, Store, TextKeeper};
+pub use crate::live_store::LiveStore;
 pub use crate::session::{reading_fault, session_as_asked, session_run};
 pub use crate::session_fault::{SessionFault, tell_session_fault};

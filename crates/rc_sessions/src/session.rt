@@ -14,15 +14,16 @@ ghost use Rattle.rc_sessions.specs.declared.session_fault.SessionFault.TheVarian
 ghost use Rattle.rc_sessions.specs.Storing.{store_of};
 ghost use Rattle.rc_serve.specs.declared.fault.ServeFault.TheVariants.{Read as Unread};
 
+use crate::host::Host;
 use crate::keeping::{LiveFile, Store, TextKeeper};
 use crate::serving::run_on;
 use crate::session_fault::{SessionFault, tell_session_fault};
+use log::Log;
 use rc_asked::{SessionRequest, session_asked, tell_words};
 use rc_base::database_of;
 use rc_serve::ServeFault;
 use rc_streams::ending::DONE;
 use rc_streams::{Failure, MAX_INPUT, Noted, read_all};
-use std::alloc::Global;
 use std::io::{Read, Write};
 use std::sync::Wait;
 use std::thread::Threads;
@@ -37,10 +38,8 @@ use std::thread::Threads;
 /// `live` is what stood in the file of `-l`, where the words name one: the session goes on with its
 /// text. `keeper` keeps the session there, from before its first line on, and each line before it
 /// is answered.
-pub fn session_run<T: Threads + Wait + Sync, R: Read, W: Write, F: Write, S: Store>(
-    rt: &T,
-    host: &HostRuntime,
-    alloc: Global,
+pub fn session_run<T: Threads + Wait + Sync, R: Read, W: Write, F: Write, S: Store, L: Log + Sync>(
+    host: &Host<'_, T, L>,
     words: &[String],
     base: Option<&[u8]>,
     live: LiveFile<'_>,
@@ -101,20 +100,23 @@ pub fn session_run<T: Threads + Wait + Sync, R: Read, W: Write, F: Write, S: Sto
     ensures taken { ConsumesAtMost (R.remaining (inner_of reader.old))
         (R.remaining (inner_of reader.new)) (MAX_INPUT + 1) }
 {
-    match session_asked(alloc, words) {
-        Ok(request) => session_as_asked(
-            rt, host, alloc, &request, base, live, keeper, reader, writer, faults,
-        ),
+    match session_asked(host.alloc, words) {
+        Ok(request) => session_as_asked(host, &request, base, live, keeper, reader, writer, faults),
         Err(fault) => tell_words(faults, &fault),
     }
 }
 
 /// Runs `undorc session` for what is asked, as `session_run` does for words, and answers the
 /// status.
-pub fn session_as_asked<T: Threads + Wait + Sync, R: Read, W: Write, F: Write, S: Store>(
-    rt: &T,
-    host: &HostRuntime,
-    alloc: Global,
+pub fn session_as_asked<
+    T: Threads + Wait + Sync,
+    R: Read,
+    W: Write,
+    F: Write,
+    S: Store,
+    L: Log + Sync,
+>(
+    host: &Host<'_, T, L>,
     request: &SessionRequest<'_>,
     base: Option<&[u8]>,
     live: LiveFile<'_>,
@@ -123,8 +125,6 @@ pub fn session_as_asked<T: Threads + Wait + Sync, R: Read, W: Write, F: Write, S
     writer: &mut Noted<W>,
     faults: &mut F,
 ) -> u8
-    requires crew { IsCrew request.now.workers }
-    requires bound { 3 ≤ request.now.bound }
     requires reader { HasFailed reader.old → ⊥ }
     requires writer { HasFailed writer.old → ⊥ }
     ensures statuses { (result ≡ 0) ⊎ (result ≡ 1) ⊎ (result ≡ 111) }
@@ -170,17 +170,15 @@ pub fn session_as_asked<T: Threads + Wait + Sync, R: Read, W: Write, F: Write, S
     ensures taken { ConsumesAtMost (R.remaining (inner_of reader.old))
         (R.remaining (inner_of reader.new)) (MAX_INPUT + 1) }
 {
-    match run_asked(rt, host, alloc, request, base, live, keeper, reader, writer) {
+    match run_asked(host, request, base, live, keeper, reader, writer) {
         Ok(()) => DONE,
-        Err(fault) => tell_session_fault(alloc, faults, fault),
+        Err(fault) => tell_session_fault(host.alloc, faults, fault),
     }
 }
 
 // Runs what is asked.
-fn run_asked<'a, T: Threads + Wait + Sync, R: Read, W: Write, S: Store>(
-    rt: &T,
-    host: &HostRuntime,
-    alloc: Global,
+fn run_asked<'a, T: Threads + Wait + Sync, R: Read, W: Write, S: Store, L: Log + Sync>(
+    host: &Host<'_, T, L>,
     request: &SessionRequest<'a>,
     base: Option<&[u8]>,
     live: LiveFile<'_>,
@@ -188,8 +186,6 @@ fn run_asked<'a, T: Threads + Wait + Sync, R: Read, W: Write, S: Store>(
     reader: &mut Noted<R>,
     writer: &mut Noted<W>,
 ) -> Result<(), SessionFault<'a>>
-    requires crew { IsCrew request.now.workers }
-    requires bound { 3 ≤ request.now.bound }
     requires reader { HasFailed reader.old → ⊥ }
     requires writer { HasFailed writer.old → ⊥ }
     ensures done { OnOk result (Runs Serves (bytes_of base.entry)
@@ -207,18 +203,14 @@ fn run_asked<'a, T: Threads + Wait + Sync, R: Read, W: Write, S: Store>(
         (R.remaining (inner_of reader.new)) (MAX_INPUT + 1) }
 {
     match base {
-        Some(bytes) => run_on_base(
-            rt, host, alloc, request, bytes, live, keeper, reader, writer,
-        ),
-        None => run_on_input(rt, host, alloc, request, live, keeper, reader, writer),
+        Some(bytes) => run_on_base(host, request, bytes, live, keeper, reader, writer),
+        None => run_on_input(host, request, live, keeper, reader, writer),
     }
 }
 
 // Runs a session on the database of a text of its own.
-fn run_on_base<'a, T: Threads + Wait + Sync, R: Read, W: Write, S: Store>(
-    rt: &T,
-    host: &HostRuntime,
-    alloc: Global,
+fn run_on_base<'a, T: Threads + Wait + Sync, R: Read, W: Write, S: Store, L: Log + Sync>(
+    host: &Host<'_, T, L>,
     request: &SessionRequest<'a>,
     base: &[u8],
     live: LiveFile<'_>,
@@ -226,8 +218,6 @@ fn run_on_base<'a, T: Threads + Wait + Sync, R: Read, W: Write, S: Store>(
     reader: &mut Noted<R>,
     writer: &mut Noted<W>,
 ) -> Result<(), SessionFault<'a>>
-    requires crew { IsCrew request.now.workers }
-    requires bound { 3 ≤ request.now.bound }
     requires reader { HasFailed reader.old → ⊥ }
     requires writer { HasFailed writer.old → ⊥ }
     ensures done { OnOk result (Runs Serves (Some base.now) (session_ask_of request.now) live.entry
@@ -243,23 +233,19 @@ fn run_on_base<'a, T: Threads + Wait + Sync, R: Read, W: Write, S: Store>(
     ensures taken { ConsumesAtMost (R.remaining (inner_of reader.old))
         (R.remaining (inner_of reader.new)) (MAX_INPUT + 1) }
 {
-    let (db, _none) = database_of(alloc, Some(base), &[])?;
-    run_on(rt, host, alloc, db, request, live, keeper, reader, writer)
+    let (db, _none) = database_of(host.alloc, Some(base), &[])?;
+    run_on(host, db, request, live, keeper, reader, writer)
 }
 
 // Runs a session on the database at the beginning of the input, and on the lines after it.
-fn run_on_input<'a, T: Threads + Wait + Sync, R: Read, W: Write, S: Store>(
-    rt: &T,
-    host: &HostRuntime,
-    alloc: Global,
+fn run_on_input<'a, T: Threads + Wait + Sync, R: Read, W: Write, S: Store, L: Log + Sync>(
+    host: &Host<'_, T, L>,
     request: &SessionRequest<'a>,
     live: LiveFile<'_>,
     keeper: &mut TextKeeper<S>,
     reader: &mut Noted<R>,
     writer: &mut Noted<W>,
 ) -> Result<(), SessionFault<'a>>
-    requires crew { IsCrew request.now.workers }
-    requires bound { 3 ≤ request.now.bound }
     requires reader { HasFailed reader.old → ⊥ }
     requires writer { HasFailed writer.old → ⊥ }
     ensures done { OnOk result (Runs Serves None (session_ask_of request.now) live.entry
@@ -275,15 +261,13 @@ fn run_on_input<'a, T: Threads + Wait + Sync, R: Read, W: Write, S: Store>(
     ensures taken { ConsumesAtMost (R.remaining (inner_of reader.old))
         (R.remaining (inner_of reader.new)) (MAX_INPUT + 1) }
 {
-    let input = match read_all(alloc, reader) {
+    let input = match read_all(host.alloc, reader) {
         Ok(input) => input,
         Err(failure) => return Err(SessionFault::Failed(reading_fault(failure))),
     };
-    let (db, lines) = database_of(alloc, None, &input)?;
+    let (db, lines) = database_of(host.alloc, None, &input)?;
     run_on(
-        rt,
         host,
-        alloc,
         db,
         request,
         live,

@@ -16,17 +16,22 @@ use rc_streams::ending::{FAILED, REFUSED};
 use rc_streams::tell;
 use std::alloc::{AllocError, Global};
 use std::io::Write;
+use thiserror::Error;
 
 /// Why a session ends before its input does, or is not begun.
-#[derive(Clone, Copy)]
+#[derive(Clone, Copy, PartialEq, Eq, Debug, Error)]
 pub enum SessionFault<'a> {
     /// The database text is none.
+    #[error(transparent)]
     OfText(TextFault),
     /// This name is to fail, and is no service's.
+    #[error("no service is named {}", .0.escape_ascii())]
     Unknown(&'a [u8]),
     /// The file's text is none of a session on the database.
+    #[error(transparent)]
     OfLive(LiveFault),
     /// A device, memory or a thread failed.
+    #[error(transparent)]
     Failed(ServeFault),
 }
 

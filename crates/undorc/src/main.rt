@@ -1,18 +1,23 @@
 //! `undorc`: hands the process's words, files and streams to the library.
 #![tactic(auto)]
 
-mod live_store;
+ghost use Rattle.std.specs.Prelude.{IfOk};
+ghost use Rattle.rc_asked.specs.Task.{IsEventless};
+
 mod own_name;
 mod sessions;
 mod updates;
 mod usual;
 
 use crate::own_name::OwnName;
-use crate::sessions::{once, session};
+use crate::sessions::serve;
 use crate::updates::update;
 use crate::usual::{Usual, usual_at};
-use rc_asked::{Task, task_of, tell_words};
+use log::error;
+use rc_asked::{Task, WordsFault, task_of, tell_words};
 use rc_console::{compile, db, plan, replay, tell_failure};
+use rc_streams::messages::{MESSAGE, Messages};
+use std::alloc::Global;
 use std::env;
 use std::io::{self, ErrorKind};
 use std::process::ExitCode;
@@ -39,31 +44,43 @@ fn words(rt: &HostRuntime) -> io::Result<Vec<String>> {
     Ok(words.collect(rt.alloc())?)
 }
 
-/// Does what the words ask, and answers the status. `threads` is the runtime, too: what starts
-/// threads or waits takes it by this bound.
-fn run<'a, T: Threads + Wait + Sync>(
-    rt: &'a HostRuntime,
+/// Does what the words ask, with the files of the environment where they name none, and answers the
+/// status. `threads` is the runtime, too: what starts threads or waits takes it by this bound.
+fn run<T: Threads + Wait + Sync>(
+    rt: &HostRuntime,
     threads: &T,
-    words: &'a [String],
-    usual: &'a Usual,
+    words: &[String],
+    usual: &Usual,
 ) -> u8 {
-    match task_of(rt.alloc(), words) {
+    match task_by(rt.alloc(), words, usual) {
         Ok(Task::Compile(request)) => compile(rt, &request),
-        Ok(Task::Db(request, file)) => db(rt, &request, usual.base_or(file)),
-        Ok(Task::Plan(request, file)) => plan(rt, &request, usual.base_or(file)),
-        Ok(Task::Replay(file)) => replay(rt, usual.base_or(file)),
-        Ok(Task::Session(request, file)) => session(rt, threads, request, file, usual),
-        Ok(Task::Once(request, file)) => once(rt, threads, request, file, usual),
-        Ok(Task::Update(request, file)) => update(rt, threads, request, file, usual),
+        Ok(Task::Db(request, file)) => db(rt, &request, file),
+        Ok(Task::Plan(request, file)) => plan(rt, &request, file),
+        Ok(Task::Replay(file)) => replay(rt, file),
+        Ok(Task::Session(request, file)) => serve(rt, threads, &request, None, file),
+        Ok(Task::Once(request, file)) => {
+            serve(rt, threads, &request.session, Some(&request), file)
+        }
+        Ok(Task::Update(request, file)) => update(rt, threads, &request, file),
         Ok(Task::Version) => version(rt),
         Err(fault) => tell_words(&mut rt.stderr(), &fault),
+    }
+}
+
+/// What the words ask, with these files where they name none.
+fn task_by<'a>(alloc: Global, words: &'a [String], usual: &'a Usual) -> Result<Task<'a>, WordsFault>
+    ensures { IfOk result IsEventless }
+{
+    match task_of(alloc, words) {
+        Ok(task) => Ok(task.with_usual(usual.base(), usual.live())),
+        Err(fault) => Err(fault),
     }
 }
 
 /// Prints which version this is.
 fn version(rt: &HostRuntime) -> u8 {
     if rt.println(VERSION).is_err() {
-        return tell_failure(rt, "undorc: Write");
+        return tell_failure(rt, "Write");
     }
     0
 }
@@ -71,8 +88,8 @@ fn version(rt: &HostRuntime) -> u8 {
 /// Tells why words could not be read, and answers the status.
 fn tell(rt: &HostRuntime, what: &str, error: &io::Error) -> u8 {
     if error.kind() == ErrorKind::InvalidData {
-        let _ = rt.eprintln(format_args!("undorc: {what} is not UTF-8"));
+        error!(Messages(rt); target: MESSAGE, "{what} is not UTF-8");
         return WRONG_LINE;
     }
-    tell_failure(rt, "undorc: Memory")
+    tell_failure(rt, "Memory")
 }

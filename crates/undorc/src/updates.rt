@@ -1,57 +1,27 @@
 //! `update`: what is live is carried over to another database, and kept in the file of `-l`.
-ghost use Rattle.std.specs.Prelude.{◌≤◌};
-ghost use Rattle.rc_board.specs.Crew.{IsCrew};
 
-use crate::live_store::LiveStore;
-use crate::sessions::{live_file, lock_at, tell_lock};
-use crate::usual::Usual;
+use crate::sessions::tell_lock;
 use rc_asked::{UpdateRequest, WordsFault, tell_words};
 use rc_cli::update_as_asked;
 use rc_console::{Seen, Told, ToldErrors, behind_session, live_at, tell_file};
 use rc_names::NoMem;
-use rc_sessions::TextKeeper;
-use rc_streams::Noted;
+use rc_sessions::{Host, LiveStore, TextKeeper, live_file, log_for};
+use rc_streams::{Noted, whole_file};
+use std::io;
 use std::sync::Wait;
 use std::thread::Threads;
-use std::{fs, io};
 
 /// Carries out an update, or shows it, and answers the status.
-pub fn update<'a, T: Threads + Wait + Sync>(
-    rt: &'a HostRuntime,
-    threads: &T,
-    request: UpdateRequest<'a>,
-    file: Option<&'a str>,
-    usual: &'a Usual,
-) -> u8
-    requires crew { IsCrew request.session.workers }
-    requires bound { 3 ≤ request.session.bound }
-{
-    let named = usual.live_or(request.session.live);
-    let (Some(file), Some(live)) = (usual.base_or(file), named) else {
-        return tell_words(&mut rt.stderr(), &WordsFault::Files);
-    };
-    let mut session = request.session;
-    session.live = named;
-    let request = UpdateRequest {
-        session,
-        new: request.new,
-        dry: request.dry,
-    };
-    update_at(rt, threads, &request, file, live)
-}
-
-/// The same with the file of the old database, and that of what is live.
-fn update_at<T: Threads + Wait + Sync>(
+pub fn update<T: Threads + Wait + Sync>(
     rt: &HostRuntime,
     threads: &T,
     request: &UpdateRequest<'_>,
-    file: &str,
-    live: &str,
-) -> u8
-    requires crew { IsCrew request.now.session.workers }
-    requires bound { 3 ≤ request.now.session.bound }
-{
-    match fs::read(rt, file) {
+    file: Option<&str>,
+) -> u8 {
+    let (Some(file), Some(live)) = (file, request.session.live) else {
+        return tell_words(&mut rt.stderr(), &WordsFault::Files);
+    };
+    match whole_file::read(rt, file) {
         Ok(old) => {
             let status = update_from(rt, threads, request, file, &old, live);
             drop(old);
@@ -69,11 +39,8 @@ fn update_from<T: Threads + Wait + Sync>(
     file: &str,
     old: &[u8],
     live: &str,
-) -> u8
-    requires crew { IsCrew request.now.session.workers }
-    requires bound { 3 ≤ request.now.session.bound }
-{
-    match fs::read(rt, request.new) {
+) -> u8 {
+    match whole_file::read(rt, request.new) {
         Ok(new) => {
             let status = update_between(rt, threads, request, file, old, &new, live);
             drop(new);
@@ -92,17 +59,12 @@ fn update_between<T: Threads + Wait + Sync>(
     old: &[u8],
     new: &[u8],
     live: &str,
-) -> u8
-    requires crew { IsCrew request.now.session.workers }
-    requires bound { 3 ≤ request.now.session.bound }
-{
-    let kept = if request.dry { None } else { Some(live) };
-    match lock_at(rt, kept, request.session.waits) {
-        Ok(lock) => {
+) -> u8 {
+    match LiveStore::open(rt, Some(live), !request.dry, request.session.waits) {
+        Ok(store) => {
             let text = live_at(rt, Some(live));
             let mut told = Told::new(rt.alloc(), rt.stderr());
-            let status = updated(rt, threads, request, old, new, &text, live, &mut told);
-            drop(lock);
+            let status = updated(rt, threads, request, old, new, &text, store, &mut told);
             if let Ok(seen) = seen_of(rt, file, old, request.new, new) {
                 behind_session(rt, Some(live), &text, &seen, &told);
             }
@@ -122,21 +84,22 @@ fn updated<T: Threads + Wait + Sync>(
     old: &[u8],
     new: &[u8],
     text: &io::Result<Option<Vec<u8>>>,
-    live: &str,
+    store: LiveStore<'_>,
     told: &mut ToldErrors,
-) -> u8
-    requires crew { IsCrew request.now.session.workers }
-    requires bound { 3 ≤ request.now.session.bound }
-{
-    update_as_asked(
+) -> u8 {
+    let host = Host {
         threads,
-        rt,
-        rt.alloc(),
+        runtime: rt,
+        log: &log_for(rt, &request.session),
+        alloc: rt.alloc(),
+    };
+    update_as_asked(
+        &host,
         request,
         old,
         new,
         live_file(text),
-        &mut TextKeeper::new(LiveStore::new(rt, live)),
+        &mut TextKeeper::new(store),
         &mut Noted::new(rt.stdout()),
         told,
     )

@@ -11,20 +11,14 @@ pub struct Usual {
 }
 
 impl Usual {
-    /// The file of `-b` that is named, or the environment's.
-    pub fn base_or<'a>(&'a self, named: Option<&'a str>) -> Option<&'a str> {
-        match named {
-            Some(file) => Some(file),
-            None => self.base.as_deref(),
-        }
+    /// The file of `-b`, if one is named.
+    pub fn base(&self) -> Option<&str> {
+        self.base.as_deref()
     }
 
-    /// The file of `-l` that is named, or the environment's.
-    pub fn live_or<'a>(&'a self, named: Option<&'a str>) -> Option<&'a str> {
-        match named {
-            Some(file) => Some(file),
-            None => self.live.as_deref(),
-        }
+    /// The file of `-l`, if one is named.
+    pub fn live(&self) -> Option<&str> {
+        self.live.as_deref()
     }
 }
 

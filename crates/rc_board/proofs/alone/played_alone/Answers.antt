@@ -2,7 +2,7 @@ use Rattle.std.proofs.Common.{◌∙◌, List, refl, ap, sym, subst}
 use Rattle.rc_model.specs.declared.Event.{Event}
 use Rattle.rc_model.specs.Run.{Course, IsSettled}
 use Rattle.rc_core.specs.Settled.{RunSoFar}
-use Rattle.rc_board.specs.Made.{AreMade}
+use Rattle.rc_board.specs.Made.{AreMadeInTime}
 use Rattle.rc_board.proofs.Making.{made_none}
 use Rattle.rc_board.proofs.alone.played_alone.Goals as goal
 
@@ -13,8 +13,8 @@ pub made_alone-run-requires-clause-made : goal.made_alone-run-requires-clause-ma
 made_alone-run-requires-clause-made g c κs within =
     let answers = g.G.Gate.answers c.args.gate.now in
     let gives = g.G.Gate.gives c.args.gate.now in
-    subst (λ (events : List Event). AreMade 1 answers gives c.args.run.course.up events)
-    (sym c.requires.fresh) (made_none answers gives c.args.run.course.up 1)
+    subst (λ (events : List Event). AreMadeInTime 1 answers gives c.args.run.course.deadline c.args.run.course.up events)
+    (sym c.requires.fresh) (made_none answers gives c.args.run.course.deadline c.args.run.course.up 1)
 
 pub finish-requires : goal.finish-requires
 finish-requires g c = c.if-not-settled.ensures.0 refl
@@ -33,5 +33,5 @@ pub returns-clause-made : goal.returns-clause-made
 returns-clause-made g c =
     let answers = g.G.Gate.answers c.args.gate.now in
     let gives = g.G.Gate.gives c.args.gate.now in
-    subst (λ (r : RunSoFar). AreMade 1 answers gives c.args.run.course.up r.events)
+    subst (λ (r : RunSoFar). AreMadeInTime 1 answers gives c.args.run.course.deadline c.args.run.course.up r.events)
     (sym c.finish.ensures.run) c.made_alone-run.ensures.made

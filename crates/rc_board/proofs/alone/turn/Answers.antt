@@ -1,11 +1,12 @@
-use Rattle.std.proofs.Common.{◌≡◌, ◌∙◌, ◌+◌, length, ap, sym, subst, arith, rules}
+use Rattle.std.proofs.Common.{◌≡◌, ◌∙◌, ℕ, Option, length, ap, sym, subst, arith, rules}
 use Rattle.std.proofs.lemmas.List.{length_push}
 use Rattle.rc_model.specs.declared.Event.TheVariants.{Take}
 use Rattle.rc_core.specs.declared.took.Took.{Took}
 use Rattle.rc_core.specs.declared.took.Took.TheVariants as took
 use Rattle.rc_core.specs.Settled.{RunSoFar}
 use Rattle.rc_core.specs.Taking.{IsAnswered}
-use Rattle.rc_board.specs.Made.{way_from}
+use Rattle.rc_board.specs.Made.{IsInTime, way_from}
+use Rattle.rc_board.proofs.Timing.{in_time, given_late}
 use Rattle.rc_board.proofs.Making.{way_is, goes_on_stop, goes_on_take}
 use Rattle.rc_board.proofs.alone.turn.Goals as goal
 
@@ -22,14 +23,15 @@ transit-requires-clause-way g c κs within =
 pub transit-requires-clause-made : goal.transit-requires-clause-made
 transit-requires-clause-made g c κs within =
     let on = goes_on_take (g.G.Gate.answers c.args.gate.now) (g.G.Gate.gives c.args.gate.now)
-    c.args.run.now c.take.new.self c.requires.made c.take.result c.take.ensures.answer
+    c.args.run.now c.take.new.self c.requires.made c.take.result (subst (λ (d : Option ℕ). IsInTime (g.G.Gate.gives c.args.gate.now) d) c.requires.deadline
+    (in_time (g.G.Gate.gives c.args.gate.now) c.args.deadline c.in-Early.field-0.moment c.in-Early.ensures)) c.take.ensures.answer
     c.take.ensures.same in
     on.1
 
 pub returns-then-is_ok : goal.returns-then-is_ok
 returns-then-is_ok g c =
     let on = goes_on_stop (g.G.Gate.answers c.args.gate.now) (g.G.Gate.gives c.args.gate.now)
-    c.args.run.now c.stop.new.self c.requires.made c.stop.result c.in-Some.moment c.in-Some.ensures
+    c.args.run.now c.stop.new.self c.requires.made c.stop.result c.in-Late.moment (given_late _ c.args.deadline c.in-Late.moment c.in-Late.ensures)
     c.stop.ensures.made c.stop.ensures.same in
     record {
       course = on.0;
@@ -41,7 +43,7 @@ returns-then-is_ok g c =
 pub returns-else-is_ok : goal.returns-else-is_ok
 returns-else-is_ok g c =
     let on = goes_on_stop (g.G.Gate.answers c.args.gate.now) (g.G.Gate.gives c.args.gate.now)
-    c.args.run.now c.stop.new.self c.requires.made c.stop.result c.in-Some.moment c.in-Some.ensures
+    c.args.run.now c.stop.new.self c.requires.made c.stop.result c.in-Late.moment (given_late _ c.args.deadline c.in-Late.moment c.in-Late.ensures)
     c.stop.ensures.made c.stop.ensures.same in
     record {
       course = on.0;
@@ -50,10 +52,11 @@ returns-else-is_ok g c =
       bound = search rules;
     }
 
-pub returns-in_default-take : goal.returns-in_default-take
-returns-in_default-take g c =
+pub returns-in_default : goal.returns-in_default
+returns-in_default g c =
     let on = goes_on_take (g.G.Gate.answers c.args.gate.now) (g.G.Gate.gives c.args.gate.now)
-    c.args.run.now c.take.new.self c.requires.made c.take.result c.take.ensures.answer
+    c.args.run.now c.take.new.self c.requires.made c.take.result (subst (λ (d : Option ℕ). IsInTime (g.G.Gate.gives c.args.gate.now) d) c.requires.deadline
+    (in_time (g.G.Gate.gives c.args.gate.now) c.args.deadline c.in-Early.field-0.moment c.in-Early.ensures)) c.take.ensures.answer
     c.take.ensures.same in
     record {
       course = on.0;
@@ -62,10 +65,11 @@ returns-in_default-take g c =
       bound = search rules;
     }
 
-pub returns-in_default-take-2 : goal.returns-in_default-take-2
-returns-in_default-take-2 g c =
+pub returns-in_default-2 : goal.returns-in_default-2
+returns-in_default-2 g c =
     let on = goes_on_take (g.G.Gate.answers c.args.gate.now) (g.G.Gate.gives c.args.gate.now)
-    c.args.run.now c.take.new.self c.requires.made c.take.result c.take.ensures.answer
+    c.args.run.now c.take.new.self c.requires.made c.take.result (subst (λ (d : Option ℕ). IsInTime (g.G.Gate.gives c.args.gate.now) d) c.requires.deadline
+    (in_time (g.G.Gate.gives c.args.gate.now) c.args.deadline c.in-Early.field-0.moment c.in-Early.ensures)) c.take.ensures.answer
     c.take.ensures.same in
     record {
       course = on.0;
@@ -77,7 +81,8 @@ returns-in_default-take-2 g c =
 pub returns-clause-course : goal.returns-clause-course
 returns-clause-course g c =
     let on = goes_on_take (g.G.Gate.answers c.args.gate.now) (g.G.Gate.gives c.args.gate.now)
-    c.args.run.now c.take.new.self c.requires.made c.take.result c.take.ensures.answer
+    c.args.run.now c.take.new.self c.requires.made c.take.result (subst (λ (d : Option ℕ). IsInTime (g.G.Gate.gives c.args.gate.now) d) c.requires.deadline
+    (in_time (g.G.Gate.gives c.args.gate.now) c.args.deadline c.in-Early.field-0.moment c.in-Early.ensures)) c.take.ensures.answer
     c.take.ensures.same in
     c.transit.ensures.course ∙ on.0
 

@@ -1,4 +1,4 @@
-use Rattle.std.proofs.Common.{◌≡◌, ◌≢◌, ◌∙◌, ◌+◌, ◌-◌, ◌<◌, ◌≤◌, ℕ, List, [], Some, vec_len, vec_capacity, ap, subst, sym, arith}
+use Rattle.std.proofs.Common.{◌≡◌, ◌≢◌, ◌∙◌, ◌+◌, ◌-◌, ◌<◌, ◌≤◌, ℕ, List, [], Option, Some, vec_len, vec_capacity, ap, subst, sym, arith}
 use Rattle.std.specs.List.{All}
 use Rattle.std.proofs.lemmas.List.Elements.{All-push, All-pop}
 use Rattle.rc_board.specs.declared.crew.Tools.{Tools}
@@ -49,7 +49,8 @@ push_reserved-requires g t c =
 pub returns-then-worker-eq1-clause-said : goal.returns-then-worker-eq1-clause-said
 returns-then-worker-eq1-clause-said g t c =
     let said : (Written → Type 0) =
-    λ pad. AreSaid (g.G.Gate.answers c.args.gate.now) (g.G.Gate.gives c.args.gate.now) pad.notes in
+    λ pad. AreSaid (g.G.Gate.answers c.args.gate.now) (g.G.Gate.gives c.args.gate.now)
+    c.args.shared.now.deadline pad.notes in
     subst (λ (pads : List Written). All said pads) (sym c.push_reserved.ensures.items)
     (All-push said c.args.pads.now.items c.work.result c.requires.said c.work.ensures)
 
@@ -98,10 +99,16 @@ push_reserved-requires-2 g t c =
 pub returns-clause-said : goal.returns-clause-said
 returns-clause-said g t c =
     let said : (Written → Type 0) =
-    λ pad. AreSaid (g.G.Gate.answers c.args.gate.now) (g.G.Gate.gives c.args.gate.now) pad.notes in
+    λ pad. AreSaid (g.G.Gate.answers c.args.gate.now) (g.G.Gate.gives c.args.gate.now)
+    c.args.shared.now.deadline pad.notes in
     let there : said c.join.result =
-    subst (λ gate. AreSaid (g.G.Gate.answers gate) (g.G.Gate.gives gate) c.join.result.notes)
-    c.in-Some-started.ensures c.join.ensures in
+    subst (λ gate. AreSaid (g.G.Gate.answers gate) (g.G.Gate.gives gate) c.args.shared.now.deadline
+    c.join.result.notes)
+    c.in-Some-started.ensures.gate
+    (subst (λ (deadline : Option ℕ). AreSaid
+    (g.G.Gate.answers c.in-Some-started.child.promise.gate.now)
+    (g.G.Gate.gives c.in-Some-started.child.promise.gate.now) deadline c.join.result.notes)
+    c.in-Some-started.ensures.deadline c.join.ensures) in
     subst (λ (pads : List Written). All said pads) (sym c.push_reserved-2.ensures.items)
     (All-push said c.start_rest-all.new.pads.items c.join.result c.start_rest-all.ensures.said there)
 

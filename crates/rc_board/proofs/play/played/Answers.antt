@@ -1,9 +1,9 @@
 use Rattle.std.proofs.Common.{◌≡◌, ◌∙◌, ◌<◌, ◌≤◌, ℕ, [], IfOk, ap, sym, subst, rules}
 use Rattle.std.proofs.Math.Nat.{min-le_left}
-use Rattle.rc_model.specs.Run.{Course, IsPlanned, course_of, IsSettled}
+use Rattle.rc_model.specs.Run.{IsPlanned, course_of, IsSettled}
 use Rattle.rc_model.specs.Beside.{planned_count}
 use Rattle.rc_core.specs.Settled.{RunSoFar}
-use Rattle.rc_board.specs.Made.{AreMade}
+use Rattle.rc_board.specs.Made.{AreMadeInTime}
 use Rattle.rc_board.proofs.Counting.{idle_settled, none_planned, one_planned, few_planned, ok_always}
 use Rattle.rc_board.proofs.Making.{made_none, ok_by_more, may_halt}
 use Rattle.rc_board.proofs.play.played.Goals as goal
@@ -61,7 +61,7 @@ returns-in-Ok-clause-made g c =
     subst (λ (n : ℕ). n ≤ c.args.workers) (sym c.crew_for-crew.ensures.fewer)
     (min-le_left c.args.workers c.planned-planned.result) in
     ok_by_more (g.G.Gate.answers c.args.gate.now) (g.G.Gate.gives c.args.gate.now)
-    c.args.plan.now.opening c.crew_for-crew.result c.args.workers c.worked.result fewer
+    c.args.deadline c.args.plan.now.opening c.crew_for-crew.result c.args.workers c.worked.result fewer
     c.worked.ensures.made
 
 pub returns-then-planned-eq0-clause-course : goal.returns-then-planned-eq0-clause-course
@@ -82,9 +82,10 @@ pub returns-then-planned-eq0-clause-made : goal.returns-then-planned-eq0-clause-
 returns-then-planned-eq0-clause-made g c =
     let answers = g.G.Gate.answers c.args.gate.now in
     let gives = g.G.Gate.gives c.args.gate.now in
-    subst (λ (r : RunSoFar). AreMade c.args.workers answers gives c.args.plan.now.opening r.events)
+    subst (λ (r : RunSoFar). AreMadeInTime c.args.workers answers gives c.args.deadline
+    c.args.plan.now.opening r.events)
     (sym (c.finish.ensures.run ∙ c.in_ok-run.ensures))
-    (made_none answers gives c.args.plan.now.opening c.args.workers)
+    (made_none answers gives c.args.deadline c.args.plan.now.opening c.args.workers)
 
 pub returns-then-planned-eq0-clause-idle : goal.returns-then-planned-eq0-clause-idle
 returns-then-planned-eq0-clause-idle g c none =
@@ -104,10 +105,10 @@ pub returns-then-crew-eq1-clause-made : goal.returns-then-crew-eq1-clause-made
 returns-then-crew-eq1-clause-made g c =
     let answers = g.G.Gate.answers c.args.gate.now in
     let gives = g.G.Gate.gives c.args.gate.now in
-    ok_by_more answers gives c.args.plan.now.opening 1 c.args.workers c.played_alone.result
+    ok_by_more answers gives c.args.deadline c.args.plan.now.opening 1 c.args.workers c.played_alone.result
     c.requires.crew.0
     (subst (λ (r : RunSoFar). IfOk c.played_alone.result
-    (λ ended. AreMade 1 answers gives r.course.up ended.events))
+    (λ ended. AreMadeInTime 1 answers gives r.course.deadline r.course.up ended.events))
     c.in_ok-run.ensures c.played_alone.ensures.made)
 
 pub room_for-requires-clause-fresh : goal.room_for-requires-clause-fresh

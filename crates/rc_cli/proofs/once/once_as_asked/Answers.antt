@@ -27,12 +27,6 @@ returns-in-Err-clause-failed g c told =
     let holds = failure_once c.in-Err.fault line.0 (bytes_of c.args.base) (once_ask_of c.args.request.now) c.args.live (g.S.Store.holds (store_of c.args.keeper.now)) (g.S.Store.holds (store_of c.run_asked.new.keeper)) (exchanged g.R.Read.remaining g.W.Write.contents c.args.reader.now c.run_asked.new.reader c.args.writer.now c.run_asked.new.writer) _ _ _ line.1 c.in-Err.ensures.ended in
     (line.0, holds.0, line.2, holds.1)
 
-pub run_asked-requires-clause-crew : goal.run_asked-requires-clause-crew
-run_asked-requires-clause-crew g c κs within = c.requires.crew
-
-pub run_asked-requires-clause-bound : goal.run_asked-requires-clause-bound
-run_asked-requires-clause-bound g c κs within = c.requires.bound
-
 pub run_asked-requires-clause-eventless : goal.run_asked-requires-clause-eventless
 run_asked-requires-clause-eventless g c κs within = c.requires.eventless
 

@@ -59,12 +59,6 @@ returns-in_err-db-clause-ended g c =
 pub returns-in_err-db-clause-taken : goal.returns-in_err-db-clause-taken
 returns-in_err-db-clause-taken g c = c.read_all.ensures.taken
 
-pub run_on-requires-clause-crew : goal.run_on-requires-clause-crew
-run_on-requires-clause-crew g c κs within = c.requires.crew
-
-pub run_on-requires-clause-bound : goal.run_on-requires-clause-bound
-run_on-requires-clause-bound g c κs within = c.requires.bound
-
 pub run_on-requires-clause-eventless : goal.run_on-requires-clause-eventless
 run_on-requires-clause-eventless g c κs within = c.requires.eventless
 

@@ -21,12 +21,6 @@ returns-in-Err-clause-failed g c told =
     let line = c.tell_session_fault.ensures.failed told in
     (c.in-Err.fault, line.0, line.1, c.in-Err.ensures.ended, line.2)
 
-pub update_asked-requires-clause-crew : goal.update_asked-requires-clause-crew
-update_asked-requires-clause-crew g c κs within = c.requires.crew
-
-pub update_asked-requires-clause-bound : goal.update_asked-requires-clause-bound
-update_asked-requires-clause-bound g c κs within = c.requires.bound
-
 pub update_asked-requires-clause-writer : goal.update_asked-requires-clause-writer
 update_asked-requires-clause-writer g c κs within = c.requires.writer
 

@@ -22,12 +22,6 @@ returns-in-Err-clause-ended g c =
     text_update c.args.old.now c.args.new.now (update_ask_of c.args.request.now) c.args.live (g.S.Store.holds (store_of c.args.keeper.now)) (g.W.Write.contents (inner_of c.args.writer.now))
     (HasFailed c.args.writer.now) (CannotKeep (session_ask_of c.args.request.now.session) c.args.live (g.S.Store.failed (store_of c.args.keeper.now))) c.in-Err.fault c.from.result c.from.ensures (inl c.in-Err.ensures.fault)
 
-pub update_on-requires-clause-crew : goal.update_on-requires-clause-crew
-update_on-requires-clause-crew g c κs within = c.requires.crew
-
-pub update_on-requires-clause-bound : goal.update_on-requires-clause-bound
-update_on-requires-clause-bound g c κs within = c.requires.bound
-
 pub update_on-requires-clause-writer : goal.update_on-requires-clause-writer
 update_on-requires-clause-writer g c κs within = c.requires.writer
 

@@ -8,9 +8,6 @@ use Rattle.rc_sessions.specs.Storing.{store_of}
 use Rattle.rc_cli.proofs.UpdateLemmas.{both_ended, both_stopped, first_hindered, first_refused}
 use Rattle.rc_cli.proofs.updating.serve_both.Goals as goal
 
-pub line_once-requires-clause-crew : goal.line_once-requires-clause-crew
-line_once-requires-clause-crew g c κs within = c.requires.crew
-
 pub line_once-requires-clause-closed : goal.line_once-requires-clause-closed
 line_once-requires-clause-closed g c κs within = c.requires.from.0
 
@@ -22,9 +19,6 @@ line_once-requires-clause-eventless g c κs within = c.requires.lowering
 
 pub line_once-requires-clause-writer : goal.line_once-requires-clause-writer
 line_once-requires-clause-writer g c κs within = c.requires.writer
-
-pub line_once-requires-in-Ok-Done-clause-crew : goal.line_once-requires-in-Ok-Done-clause-crew
-line_once-requires-in-Ok-Done-clause-crew g c κs within = c.requires.crew
 
 pub line_once-requires-in-Ok-Done-clause-closed : goal.line_once-requires-in-Ok-Done-clause-closed
 line_once-requires-in-Ok-Done-clause-closed g c κs within = c.requires.to.0

@@ -68,9 +68,6 @@ session_of-requires-clause-bound g c =
     line_bound c.args.from.now.line c.bound-bound.result (c.journal.ensures.states).is_line
     (journal_bound c.journal.result.now c.args.from.now.line c.args.from.now.begun c.bound-bound.result c.journal.ensures.journal c.bound-bound.ensures)
 
-pub serve_both-ended-requires-clause-crew : goal.serve_both-ended-requires-clause-crew
-serve_both-ended-requires-clause-crew g c κs within = c.requires.crew
-
 pub serve_both-ended-requires-clause-from : goal.serve_both-ended-requires-clause-from
 serve_both-ended-requires-clause-from g c κs within = (c.requires.closed, c.requires.whole)
 

@@ -83,12 +83,6 @@ returns-in_err-db-clause-ended g c =
 pub returns-in_err-db-clause-taken : goal.returns-in_err-db-clause-taken
 returns-in_err-db-clause-taken g c = c.read_all.ensures.taken
 
-pub run_on-requires-clause-crew : goal.run_on-requires-clause-crew
-run_on-requires-clause-crew g c κs within = c.requires.crew
-
-pub run_on-requires-clause-bound : goal.run_on-requires-clause-bound
-run_on-requires-clause-bound g c κs within = c.requires.bound
-
 pub run_on-requires-clause-reader : goal.run_on-requires-clause-reader
 run_on-requires-clause-reader g c κs within failed = never_failed c.new.result.failed c.new.ensures.sound failed
 

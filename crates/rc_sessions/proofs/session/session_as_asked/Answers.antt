@@ -45,12 +45,6 @@ returns-in-Err-clause-cause g c failed =
     (c.run_asked.ensures.told failed) c.in-Err.is
     c.tell_session_fault.ensures.statuses c.tell_session_fault.ensures.refused c.tell_session_fault.ensures.failed
 
-pub run_asked-requires-clause-crew : goal.run_asked-requires-clause-crew
-run_asked-requires-clause-crew g c κs within = c.requires.crew
-
-pub run_asked-requires-clause-bound : goal.run_asked-requires-clause-bound
-run_asked-requires-clause-bound g c κs within = c.requires.bound
-
 pub run_asked-requires-clause-reader : goal.run_asked-requires-clause-reader
 run_asked-requires-clause-reader g c κs within = c.requires.reader
 

@@ -1,0 +1,38 @@
+//! What time it is to a run, as its gate and its deadline tell.
+
+ghost use Rattle.rc_board.specs.Timing.{IsTimeOf};
+
+use crate::gate::Gate;
+
+/// The leave to take one service. It is made by asking the gate for the moment, is given up where a
+/// service is taken, and can't be copied: so the gate is asked before each take.
+#[derive(Drop)]
+pub(crate) struct Leave {
+    /// The moment that it was, where there is a deadline.
+    moment: Option<u64>,
+}
+
+/// Whether a run is to be stopped.
+#[derive(Drop)]
+pub(crate) enum Time {
+    /// The moment that it is has reached the deadline.
+    Late(u64),
+    Early(Leave),
+}
+
+/// The time to a deadline. Without one the gate is not asked.
+pub(crate) fn time_of<G: Gate>(gate: &G, deadline: Option<u64>) -> Time
+    ensures { IsTimeOf (G.gives gate.now) deadline result }
+{
+    let Some(deadline) = deadline else {
+        return Time::Early(Leave { moment: None });
+    };
+    let moment = gate.now();
+    if deadline <= moment {
+        Time::Late(moment)
+    } else {
+        Time::Early(Leave {
+            moment: Some(moment),
+        })
+    }
+}

@@ -1,0 +1,7 @@
+use Rattle.rc_asked.specs.Making.{making_ask_of}
+use Rattle.rc_cli.proofs.UpdateLemmas.{second_gateless}
+use Rattle.rc_cli.proofs.updating.gates_of.Goals as goal
+
+pub returns-in-Err-gate_on-clause-fault : goal.returns-in-Err-gate_on-clause-fault
+returns-in-Err-gate_on-clause-fault g c =
+    second_gateless c.in-Err-gate_on.fault c.args.old.now c.args.new.now (making_ask_of c.args.making.now) c.in-Ok.gate c.in-Ok.ensures.made c.in-Err-gate_on.ensures.fault

@@ -1,0 +1,33 @@
+//! Messages that tell what comes to services, while it does, as records of a log.
+
+use crate::progress::{Event, line_of};
+use crate::task::word_towards;
+use log::{Log, log};
+use rc_graph::Way;
+use rc_streams::messages::MESSAGE;
+use std::alloc::Global;
+
+/// Tells a log what came to a service at a moment, in milliseconds. Where there is no memory for the
+/// text of `line_of`, the log formats the same.
+pub(crate) fn tell<L: Log>(
+    log: &L,
+    alloc: Global,
+    moment: u64,
+    way: Way,
+    name: &str,
+    event: Event,
+) {
+    let level = event.level();
+    match line_of(alloc, moment, way, name, event) {
+        Ok(line) => {
+            log!(log; target: MESSAGE, level, "{line}");
+            drop(line);
+        }
+        Err(_) => {
+            let seconds = moment / 1000;
+            let rest = moment % 1000;
+            let way = word_towards(way);
+            log!(log; target: MESSAGE, level, "{seconds:>4}.{rest:03} s  {way} {name}: {event}");
+        }
+    }
+}

@@ -1,0 +1,27 @@
+-- What the program decides of the files and of the messages of a session.
+use Rattle.std.specs.Prelude.{◌≡◌, ℕ, Bool, true, false, List, Option, None, Some}
+use Rattle.log.specs.declared.level.LevelFilter.{LevelFilter}
+use Rattle.log.specs.declared.level.LevelFilter.TheVariants.{Info, Off}
+use Rattle.rc_script.specs.Says.{SaysStep}
+use Rattle.rc_asked.specs.OnceAsked.{OnceSaying, Said}
+use Rattle.rc_sessions.specs.declared.keeping.LiveFile.{LiveFile}
+use Rattle.rc_sessions.specs.declared.keeping.LiveFile.TheVariants.{Missing, Text, Unread}
+
+-- a session is to do something: one of many lines, or one whose line says a command
+abbrev pub Moves : Option OnceSaying → Type 0
+Moves None = Unit {0}
+Moves (Some (Said (SaysStep command))) = Unit {0}
+Moves (Some other) = ⊥
+
+-- what was read of a file: that there is none, or this text
+abbrev pub IsFound : Option (List ℕ) → LiveFile → Type 0
+IsFound found (Unread fault) = ⊥
+IsFound None Missing = Unit {0}
+IsFound None (Text bytes) = ⊥
+IsFound (Some held) Missing = ⊥
+IsFound (Some held) (Text bytes) = bytes.now ≡ held
+
+-- up to which level messages are written: that of each transition, or none
+abbrev pub level_by : (tells : Bool) → LevelFilter
+level_by true = Info
+level_by false = Off
