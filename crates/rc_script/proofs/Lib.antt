@@ -1,6 +1,8 @@
 mod Digits
 mod EventWords
 mod Fronts
+mod Lined
+mod OneScript
 mod Places
 mod Reading
 mod Sayings

@@ -4,3 +4,4 @@ pub mod Says
 pub mod Numbers
 pub mod Events
 pub mod Script
+pub mod RunLines

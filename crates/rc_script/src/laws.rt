@@ -3,6 +3,9 @@
 ghost use Rattle.std.specs.Prelude.{◌≡◌, ℕ, List, []};
 ghost use Rattle.rc_model.specs.Session.{Command, events_of};
 ghost use Rattle.rc_script.specs.Says.{Saying, SaysStep, Says};
+ghost use Rattle.rc_script.specs.Script.{IsScript, IsScriptFault};
+ghost use Rattle.rc_script.specs.declared.script.ScriptFault.{ScriptFault};
+ghost use Rattle.rc_script.specs.declared.script.ScriptFault.TheVariants.{Memory};
 
 /// A line says one thing.
 pub fn lines_say_one_thing()
@@ -13,4 +16,13 @@ pub fn lines_say_one_thing()
 pub fn lines_give_no_events()
     ensures { (line : List ℕ) (command : Command) → Says line (SaysStep command) →
         events_of command ≡ [] }
+{}
+
+/// A script gives one list of commands, and is refused as out of memory alone.
+pub fn scripts_give_one_list()
+    ensures value { (names : List (List ℕ)) (text : List ℕ) (a b : List Command) →
+        IsScript names text a → IsScript names text b → a ≡ b }
+    ensures fault { (names : List (List ℕ)) (text : List ℕ) (commands : List Command)
+        (fault : ScriptFault) → IsScript names text commands →
+        IsScriptFault names text fault → fault ≡ Memory }
 {}

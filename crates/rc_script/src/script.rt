@@ -78,7 +78,7 @@ fn add_line(alloc: Global, names: &Names, steps: &mut Vec<Step>, line: &[u8]) ->
 }
 
 /// The event of a line that is no session line.
-fn event_of(alloc: Global, names: &Names, line: &[u8]) -> Result<Option<Event>, NoMem>
+pub(crate) fn event_of(alloc: Global, names: &Names, line: &[u8]) -> Result<Option<Event>, NoMem>
     ensures { IfOk result (λ event. IsItemSaying names.now line.now SaysWrong (event_item event)) }
 {
     let words = words_of(alloc, line)?;

@@ -3,7 +3,7 @@
 //! memory, and a graph of as many services as there may be. Whether lists of events are taken, and
 //! who asks is answered, exactly where a plain program says so. Drawn changes, each carried out in
 //! many orders, and drawn databases, each written and read back, and once more after edits of
-//! bytes.
+//! bytes. And changes that were cut short, entered from their run logs.
 #![tactic(auto)]
 
 mod compare;
@@ -14,6 +14,7 @@ mod joining;
 mod legality;
 mod names;
 mod plain;
+mod recovered;
 mod schedules;
 mod sets;
 mod steps;
@@ -24,6 +25,7 @@ mod wide;
 use crate::joining::show_joined;
 use crate::legality::show_legality;
 use crate::names::{show_names, show_words};
+use crate::recovered::show_recovered;
 use crate::schedules::show_schedules;
 use crate::sets::show_sets;
 use crate::trees::show_trees;
@@ -37,6 +39,7 @@ fn main(rt: HostRuntime) -> Result<(), Fail> {
     show_sets(&rt)?;
     show_joined(&rt)?;
     show_trees(&rt)?;
+    show_recovered(&rt)?;
     show_wide(&rt)?;
     show_legality(&rt)?;
     show_schedules(&rt)?;

@@ -1,0 +1,46 @@
+//! Laws of what is entered of a run that was cut short, each the contract of a function that does
+//! nothing.
+ghost use Rattle.std.specs.Prelude.{◌≡◌, ◌≤◌, ◌↔◌, ◌++◌, ◌∷◌, [], ℕ, List, Some, All};
+ghost use Rattle.rc_model.specs.declared.Event.{Event};
+ghost use Rattle.rc_model.specs.declared.Refusal.{Refusal};
+ghost use Rattle.rc_model.specs.Database.{Database};
+ghost use Rattle.rc_model.specs.Headline.{HasRun};
+ghost use Rattle.rc_model.specs.Line.{Line};
+ghost use Rattle.rc_model.specs.Run.{Course, IsLive, IsRun, IsSettled, IsStopped, NoneHeld};
+ghost use Rattle.rc_model.specs.Session.{Command, IsRunFault};
+ghost use Rattle.rc_recovery.specs.Ends.{IsEndOf, last_stop, with_ends};
+ghost use Rattle.rc_recovery.specs.Recovering.{IsCutShort, called_off};
+
+/// A run that was cut short and not stopped is settled by the ends of what was under way and a stop,
+/// where it has a deadline.
+pub fn cut_runs_are_settled()
+    ensures stopped { (c : Course) (logged : List Event) (d : ℕ) → IsRun c logged →
+        (IsStopped logged → ⊥) → c.deadline ≡ Some d → d ≤ 18446744073709551615 →
+        IsSettled c (with_ends logged ++ last_stop ∷ []) }
+    ensures run { (c : Course) (logged : List Event) → IsRun c logged →
+        IsRun c (with_ends logged) × NoneHeld (with_ends logged) }
+{}
+
+/// All that was logged is kept, in its order, and nothing is added but the ends of what was under
+/// way.
+pub fn what_was_logged_is_kept()
+    ensures { (logged : List Event) → (rest : List Event) × (with_ends logged ≡ logged ++ rest)
+        × All (IsEndOf logged) rest }
+{}
+
+/// Live after it is what was up or on its way down when the run was cut short: what was seen to come
+/// up and was not seen to go down.
+pub fn what_is_known_to_be_up_is_live()
+    ensures ends { (c : Course) (logged : List Event) (s : ℕ) →
+        IsLive c (with_ends logged) s ↔ IsLive c logged s }
+    ensures stop { (c : Course) (logged : List Event) (s : ℕ) →
+        IsLive c (with_ends logged ++ last_stop ∷ []) s ↔ IsLive c logged s }
+{}
+
+/// What was logged of a run is never refused for its events: with the ends of what was under way and
+/// a stop it is a settled run of its command.
+pub fn cut_commands_are_entered()
+    ensures { (d : Database) (line : Line) (command : Command) (refusal : Refusal) →
+        HasRun command → IsCutShort d line command →
+        IsRunFault d line (called_off command) refusal → ⊥ }
+{}

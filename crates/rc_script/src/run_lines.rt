@@ -1,0 +1,171 @@
+//! The lines of a run log: a step as a session line, and an event as a line of a script. Each line
+//! is read back before it is returned, so it says what it was made of.
+ghost use Rattle.std.specs.Prelude.{◌≡◌, ◌++◌, ◌∷◌, [], IfOk, IfSome, IsTrue, Contains, map, string_bytes};
+ghost use Rattle.rc_select.specs.Ask.{ask_of};
+ghost use Rattle.rc_session.specs.Commands.{command_of};
+ghost use Rattle.rc_script.specs.RunLines.{IsEventLine, IsStepLine, least_limited};
+ghost use Rattle.rc_script.specs.Says.{Says, SaysStep};
+ghost use Rattle.rc_script.specs.Script.{Happens, IsItem};
+
+use crate::line::{SessionLine, read_line};
+use crate::script::event_of;
+use rc_core::{Event, Outcome};
+use rc_names::{Names, NoMem};
+use rc_select::{Mode, Request};
+use rc_session::Step;
+use std::alloc::Global;
+
+/// A step as a session line, with the least limit that there is and without events; a newline ends
+/// it. None: the step is an edit, or has a word that no line can have.
+pub fn step_line(alloc: Global, step: &Step) -> Result<Option<String>, NoMem>
+    ensures { IfOk result (λ line. IfSome line (λ text.
+        IsStepLine (command_of step.now) (string_bytes text))) }
+{
+    let line = match step {
+        Step::Change(request, _) => change_line(alloc, request)?,
+        Step::Undo(..) => String::from_str(alloc, "-t 1 undo")?,
+        Step::Redo(..) => String::from_str(alloc, "-t 1 redo")?,
+        Step::Add(..) | Step::Delete(..) => return Ok(None),
+    };
+    if says_step(alloc, line.as_bytes(), step)? {
+        ended(line)
+    } else {
+        Ok(None)
+    }
+}
+
+/// A change as a session line, without its newline.
+fn change_line(alloc: Global, request: &Request) -> Result<String, NoMem> {
+    let way = match request.mode {
+        Mode::Up => "-u",
+        Mode::Down => "-d",
+        Mode::DownAll => "-D",
+    };
+    let prune = if request.prune { "p" } else { "" };
+    let all = if request.all { "a" } else { "" };
+    let mut line = format!(in alloc; "-t 1 {way}{prune}{all} change")?;
+    for name in &request.names {
+        line.push_str(" ")?;
+        line.push_str(name.as_str())?;
+    }
+    Ok(line)
+}
+
+/// Whether a line has no newline, and says this step under the least limit.
+fn says_step(alloc: Global, line: &[u8], step: &Step) -> Result<bool, NoMem>
+    ensures { IfOk result (λ says. IsTrue says → (Contains line.now 10 → ⊥)
+        × Says line.now (SaysStep (least_limited (command_of step.now)))) }
+{
+    if line.contains(&b'\n') {
+        return Ok(false);
+    }
+    match read_line(alloc, line)? {
+        SessionLine::Step(read) => Ok(is_least_limited(step, &read)),
+        _ => Ok(false),
+    }
+}
+
+/// Whether the second step is the first one under the least limit, without events.
+fn is_least_limited(step: &Step, read: &Step) -> bool
+    ensures { IsTrue result → command_of read.now ≡ least_limited (command_of step.now) }
+{
+    match (step, read) {
+        (Step::Change(asked, _), Step::Change(read, events)) => {
+            events.is_empty() && is_limited(asked, read)
+        }
+        (Step::Undo(..), Step::Undo(limit, events)) => events.is_empty() && *limit == 1,
+        (Step::Redo(..), Step::Redo(limit, events)) => events.is_empty() && *limit == 1,
+        _ => false,
+    }
+}
+
+/// Whether the second request is the first one under the least limit.
+fn is_limited(asked: &Request, read: &Request) -> bool
+    ensures { IsTrue result → ask_of read.now ≡ record (ask_of asked.now) { limit = 1 } }
+{
+    if !are_same(&asked.names, &read.names) || read.limit != 1 {
+        return false;
+    }
+    read.mode == asked.mode && read.prune == asked.prune && read.all == asked.all
+}
+
+/// Whether two lists of names are one.
+fn are_same(names: &[String], others: &[String]) -> bool
+    ensures { IsTrue result → map string_bytes others.now ≡ map string_bytes names.now }
+{
+    names == others
+}
+
+/// An event as a line of a script, of the services of these names; a newline ends it. None: no line
+/// says it, since the service has no name.
+pub fn event_line(alloc: Global, names: &Names, event: Event) -> Result<Option<String>, NoMem>
+    ensures { IfOk result (λ line. IfSome line (λ text.
+        IsEventLine names.now event (string_bytes text))) }
+{
+    let line = plain_line(alloc, names, event)?;
+    if tells_event(alloc, names, line.as_bytes(), event)? {
+        ended(line)
+    } else {
+        Ok(None)
+    }
+}
+
+/// An event as a line of a script, without its newline.
+fn plain_line(alloc: Global, names: &Names, event: Event) -> Result<String, NoMem> {
+    match event {
+        Event::Take(worker, service) => {
+            let name = name_of(names, service);
+            format!(in alloc; "take {worker} {name}")
+        }
+        Event::Done(worker, service, outcome) => {
+            done_line(alloc, worker, name_of(names, service), outcome)
+        }
+        Event::Stop(worker, moment) => format!(in alloc; "stop {worker} {moment}"),
+    }
+}
+
+/// How a transition ended, as a line of a script without its newline.
+fn done_line(alloc: Global, worker: u8, name: &str, outcome: Outcome) -> Result<String, NoMem> {
+    match outcome {
+        Outcome::Ok => format!(in alloc; "done {worker} {name} ok"),
+        Outcome::Failed(status) => format!(in alloc; "done {worker} {name} failed {status}"),
+        Outcome::TimedOut => format!(in alloc; "done {worker} {name} timeout"),
+        Outcome::NotStarted => format!(in alloc; "done {worker} {name} nostart"),
+    }
+}
+
+/// The name of a service, and nothing where it has none.
+fn name_of(names: &Names, service: u16) -> &str {
+    if service < names.len() {
+        names.name_of(service).text()
+    } else {
+        ""
+    }
+}
+
+/// Whether a line has no newline, and tells of this event.
+fn tells_event(alloc: Global, names: &Names, line: &[u8], event: Event) -> Result<bool, NoMem>
+    ensures { IfOk result (λ tells. IsTrue tells → (Contains line.now 10 → ⊥)
+        × IsItem names.now line.now (Happens event)) }
+{
+    if line.contains(&b'\n') {
+        return Ok(false);
+    }
+    let SessionLine::Wrong = read_line(alloc, line)? else {
+        return Ok(false);
+    };
+    match event_of(alloc, names, line)? {
+        Some(told) => Ok(told == event),
+        None => Ok(false),
+    }
+}
+
+/// The line with its newline.
+fn ended(line: String) -> Result<Option<String>, NoMem>
+    ensures { IfOk result (λ text. IfSome text (λ text.
+        string_bytes text ≡ string_bytes line ++ 10 ∷ [])) }
+{
+    let mut text = line;
+    text.push_str("\n")?;
+    Ok(Some(text))
+}
