@@ -40,7 +40,7 @@ at_once db check
 from=180
 printf 'root\n' > in
 at_once plan -b base -up site
-from=220
+from=210
 for words in 'list all' 'pipeline web' 'atomics site net' '-d dependencies root'; do
     # shellcheck disable=SC2086
     at_once db -b base $words

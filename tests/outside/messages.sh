@@ -201,6 +201,20 @@ wants '' ''
 judge 'a link is followed, and rights stay' 0
 cp whole db
 
+# It is written beside the file and renamed over it, so who has the file open, or a name of it, has the old one.
+ln db older
+expect 0 '' '' '' compile -o db services
+if [ "$(stat -c %i db)" = "$(stat -c %i older)" ]; then echo 'written in place' > out; fi
+wants '' ''
+judge 'compile -o writes no file in place' 0
+rm older
+(umask 022 && "$program" compile -o masked services)
+(umask 077 && "$program" compile -o private services)
+wants '644\n600\n' ''
+stat -c %a masked private > out
+judge 'the rights of new databases' 0
+rm masked private
+
 # A database that is none.
 helps 111 'undorc: Io\n' 'nowhere: no such file or directory' -- db -b nowhere check
 helps 111 'undorc: Io\n' 'services: is a directory' -- db -b services check

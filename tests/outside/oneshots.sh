@@ -17,14 +17,16 @@ alike() {
     judge "undorc $* -x $list, as a session of one line" "$status"
 }
 
-# shows STATUS OUTPUT WORDS..: a command that only shows something ends so, and the file is left alone
+# shows STATUS OUTPUT WORDS..: a command that only shows something ends so, and the file is left alone: the bytes, and
+# the file itself, which is not replaced by one like it
 shows() {
     status=$1 output=$2
     shift 2
     cp live live.before
+    number=$(stat -c %i live)
     expect "$status" "$output" '' '' "$@" -b base -l live
     passed=$((passed + 1))
-    if ! cmp -s live live.before || [ -e live.new ]; then
+    if ! cmp -s live live.before || [ "$(stat -c %i live)" != "$number" ] || [ -e live.new ]; then
         passed=$((passed - 1))
         failed=$((failed + 1))
         echo "FAILED: undorc $*: the file was written"
@@ -80,6 +82,23 @@ expect 2 'raised first\nuntried second\nok\n' '' '' change second -t 100 -b slow
 expect 0 'raised second\nok\n' '' '' change second -t 60000 -b slow.db -l slow.live
 expect 0 'live first second\nok\n' '' '' live -b slow.db -l slow.live
 
+# An undo, a redo and a change that lowers have the limit of a change, with one worker and with four.
+echo 'sleep 0.3' > slow/second/down
+echo 'true' > slow/first/down
+"$program" compile slow > slow.db
+rest='lowered second\nuntried first\nok\n'
+for workers in 1 4; do
+    rm slow.live
+    expect 0 'raised first second\nok\n' '' '' change second -w "$workers" -b slow.db -l slow.live
+    expect 2 "$rest" '' '' undo -t 100 -w "$workers" -b slow.db -l slow.live
+    expect 0 'raised second\nok\n' '' '' change second -w "$workers" -b slow.db -l slow.live
+    expect 2 "$rest" '' '' change -d first -t 100 -w "$workers" -b slow.db -l slow.live
+    expect 0 'raised second\nok\n' '' '' change second -w "$workers" -b slow.db -l slow.live
+    expect 0 'lowered first second\nok\n' '' '' change -d first -w "$workers" -b slow.db -l slow.live
+    expect 0 'raised first second\nok\n' '' '' undo -w "$workers" -b slow.db -l slow.live
+    expect 2 "$rest" '' '' redo -t 100 -w "$workers" -b slow.db -l slow.live
+done
+
 # A script that fails, and one that is blocked by it.
 mkdir -p broken/first broken/second
 echo oneshot | tee broken/first/type > broken/second/type
@@ -112,6 +131,26 @@ expect 1 '' 'undorc: Unknown nobody\n' '' change net -b base -x up:nobody -l liv
 expect 111 '' 'undorc: Io\n' '' change net -b base -x none -l nowhere/live
 expect 0 'live\nok\n' '' '' live -b base -l nowhere/live
 expect 0 'raise net root\nok\n' '' '' change -n net -b base -l nowhere/live
+
+# A look makes no file where there is none, and no lock.
+expect 0 'live\nok\n' '' '' live -b base -l looked
+expect 0 'at 0 of 1\nok\n' '' '' journal -b base -l looked
+expect 0 'raise net root\nok\n' '' '' change -n net -b base -l looked
+expect 1 'refused NothingToUndo\n' '' '' undo -n -b base -l looked
+expect 1 'refused NothingToRedo\n' '' '' redo -n -b base -l looked
+passed=$((passed + 1))
+for file in looked*; do
+    [ ! -e "$file" ] || { passed=$((passed - 1)); failed=$((failed + 1)); echo "FAILED: a look made $file"; }
+done
+
+# A new file has the rights that the caller's mask leaves.
+(umask 022 && "$program" change net -b base -x none -l masked > /dev/null)
+(umask 077 && "$program" change net -b base -x none -l private > /dev/null)
+wants '644\n600\n' ''
+stat -c %a masked private > out
+: > err
+echo 0 > status
+judge 'the rights of new files of sessions' 0
 mkdir -p kept.new
 cp live kept
 touch kept.new/held

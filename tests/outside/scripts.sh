@@ -126,6 +126,22 @@ oneshot loop 'while :; do :; done'
 limit loop 1
 tells 'failed loop\nok\nrefused NothingToUndo\n' 'up loop: started\nup loop: timed out\n' 'change loop\nundo\n'
 
+# A runner that can't be started, and no controller: on the sample nothing comes up.
+printf '%b' "$sample" > base
+expect 0 'failed log root\nblocked db net web\nok\n' '' '-u change site\n' session -b base -r /nonexistent
+rm base
+
+# The limit of a line: what is under way when it is reached ends, and nothing more is tried.
+begin_tree
+oneshot first 'sleep 0.3'
+down first 'sleep 0.3'
+oneshot second 'sleep 0.3' first
+down second 'sleep 0.3'
+for workers in 1 4; do
+    session 'raised first\nuntried second\nok\nlowered first\nok\nraised first second\nok\nlowered second\nuntried first\nok\nraised second\nok\n' '' \
+        '-t 100 change second\nundo\nchange second\n-t 100 undo\n-t 60000 change second\n' -w "$workers"
+done
+
 # A child that a script leaves behind is not waited for, though it holds the script's output.
 begin_tree
 oneshot leaves 'sleep 50 & echo $! > child; exit 0'

@@ -49,6 +49,32 @@ cp made bare
 "$program" compile tree > made
 holds 'the limit of -T is not in the database' cmp -s made bare
 
+# A limit is kept: a script with a limit of a second is ended before another one, which takes six, and not only
+# where that has ended.
+begin_tree
+oneshot long 'sleep 60'
+limit long 1
+oneshot six 'sleep 6'
+"$program" compile tree > made
+echo 'change long six' > in
+"$program" session -b made -v -w 2 < in > out 2> left
+timeless left
+grep -v started left > ends
+mv ends left
+printf '%s\n' 'up long: timed out' 'up six: ok' > left.wanted
+same 'a limit of a second is reached before six seconds are over'
+
+# The times of -v are those at which scripts begin and end: a script that sleeps for 0.3 s ends 0.3 s after it began.
+begin_tree
+oneshot naps 'sleep 0.3'
+"$program" compile tree > made
+echo 'change naps' > in
+"$program" session -b made -v < in > out 2> told
+sed -n 's/^undorc: *\([0-9]*\.[0-9]*\) s  up naps: \([a-z]*\)$/\1 \2/p' told |
+    awk '{ at[$2] = $1 } END { print (at["ok"] - at["started"] >= 0.3 ? "so long" : "too short") }' > left
+echo 'so long' > left.wanted
+same 'the times of a script that sleeps'
+
 # What is told of a script is told while it happens: that it is started before it ends, and before what it writes.
 begin_tree
 oneshot first 'echo from first; while [ ! -e go ]; do sleep 0.05; done'
@@ -97,16 +123,16 @@ same 'lines of 64 workers'
 # child that holds a script's streams is not waited for.
 begin_tree
 oneshot writes 'head -c 50000000 /dev/zero; head -c 50000000 /dev/zero >&2'
-oneshot leaves 'sleep 20 & echo $! > child'
+oneshot leaves 'sleep 300 & echo $! > child'
 oneshot reads 'wc -c'
 "$program" compile tree > made
 echo 'change leaves reads writes' > in
 wants 'raised leaves reads writes\nok\n' ''
-started=$(date +%s)
 echo 0 > status
 "$program" session -b made -v < in 2> told > out || echo $? > status
 : > err
 judge 'a session whose scripts write 100 MB' 0
+holds 'a child that is left is not waited for, with -v' kill "$(cat child)"
 tr -cd '\0' < told | wc -c > left
 tr -d '\0' < told | grep -c '^0$' >> left
 printf '100000000\n1\n' > left.wanted
@@ -115,8 +141,7 @@ rm told
 "$program" session -b made < in > out 2>&1 || true
 printf 'raised leaves reads writes\nok\n' > out.wanted
 judge 'a session whose scripts write 100 MB to nobody' 0
-holds 'a child that is left is not waited for' test "$(($(date +%s) - started))" -lt 15
-kill "$(cat child)"
+holds 'a child that is left is not waited for' kill "$(cat child)"
 
 # With a standard error that is closed or full the same is answered, and scripts write to nowhere or in vain.
 begin_tree

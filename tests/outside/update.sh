@@ -210,10 +210,11 @@ kept ' a d e' "$all"
 rm -f nothing
 expect 0 'ok\nok\n' '' '' update -b old -B new -l nothing
 expect 0 'live\nok\n' '' '' live -b new -l nothing
-rm -f nothing
+rm -f nothing nothing.lock
 expect 0 'ok\nok\n' '' '' update -n -b old -B new -l nothing
-[ ! -e nothing ] || cp nothing live
-same 'update -n makes no file' live live
+find . -name 'nothing*' > made
+: > none
+same 'update -n makes no file' none made
 
 # The bound of the old line is that of the new one.
 rm -f live
