@@ -51,7 +51,7 @@ start() {
     done
     # Its root and its /proc come a moment later.
     turn=0
-    until inside test -d /etc/undorc/services -a -d /proc/1 2> /dev/null; do
+    until inside test -d /etc/undorc/services -a ! -d /old -a -d /proc/1 2> /dev/null; do
         sleep 0.1
         turn=$((turn + 1))
         [ "$turn" -le 50 ] || return 0

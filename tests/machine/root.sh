@@ -23,9 +23,9 @@ done
 ln -s /proc/self/fd dev/fd
 pivot_root . old
 cd /
-# `umount` needs /proc; the first process mounts its own.
+# `umount` needs /proc; the first process mounts its own. A test that looks in may hold this one.
 mount -t proc proc proc
 umount -l /old
-umount /proc
+umount -l /proc
 rmdir old
 exec "$@"
