@@ -129,7 +129,7 @@ pub fn tell_words<F: Write>(faults: &mut F, fault: &WordsFault) -> u8
     }
 }
 
-// What is told of a fault, but for one that `clap` finds.
+// The words for each fault except one that `clap` finds.
 fn words_of(fault: &WordsFault) -> &'static str {
     match fault {
         WordsFault::Found(_) => "the command line is wrong",

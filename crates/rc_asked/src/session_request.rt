@@ -10,7 +10,7 @@ pub struct SessionRequest<'a> {
     pub workers: u8,
     /// How they are made.
     pub making: Making<'a>,
-    /// Whether each transition is told.
+    /// Whether to report each transition.
     pub tells: bool,
     /// How many states a new session has at most.
     pub bound: u32,

@@ -23,7 +23,7 @@ pub struct UpdateRequest<'a> {
 }
 
 impl<'a> UpdateRequest<'a> {
-    /// The same with another file of what is live.
+    /// The same request with another state file.
     pub fn with_live(self, live: Option<&'a str>) -> UpdateRequest<'a>
         ensures { update_ask_of result ≡ record (update_ask_of self.entry) {
           session = record (update_ask_of self.entry).session {

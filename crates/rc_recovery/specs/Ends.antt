@@ -30,4 +30,5 @@ last_stop = Stop 1 18446744073709551615
 
 -- an event that ends, as failed, what was under way after these
 abbrev pub IsEndOf : List Event → Event → Type 0
-IsEndOf logged event = (w : ℕ) × (s : ℕ) × IsHeldBy logged w s × (event ≡ Done w s outcome.NotStarted)
+IsEndOf logged event =
+    (w : ℕ) × (s : ℕ) × IsHeldBy logged w s × (event ≡ Done w s outcome.NotStarted)

@@ -1,5 +1,4 @@
-//! Laws of what is entered of a run that was cut short, each the contract of a function that does
-//! nothing.
+//! Laws about a run that was cut short. Each is the contract of an empty function.
 ghost use Rattle.std.specs.Prelude.{◌≡◌, ◌≤◌, ◌↔◌, ◌++◌, ◌∷◌, [], ℕ, List, Some, All};
 ghost use Rattle.rc_model.specs.declared.Event.{Event};
 ghost use Rattle.rc_model.specs.declared.Refusal.{Refusal};
@@ -11,8 +10,8 @@ ghost use Rattle.rc_model.specs.Session.{Command, IsRunFault};
 ghost use Rattle.rc_recovery.specs.Ends.{IsEndOf, last_stop, with_ends};
 ghost use Rattle.rc_recovery.specs.Recovering.{IsCutShort, called_off};
 
-/// A run that was cut short and not stopped is settled by the ends of what was under way and a stop,
-/// where it has a deadline.
+/// The ends of what was under way and a stop settle a run that was cut short, if it has a deadline
+/// and was not stopped.
 pub fn cut_runs_are_settled()
     ensures stopped { (c : Course) (logged : List Event) (d : ℕ) → IsRun c logged →
         (IsStopped logged → ⊥) → c.deadline ≡ Some d → d ≤ 18446744073709551615 →
@@ -28,8 +27,8 @@ pub fn what_was_logged_is_kept()
         × All (IsEndOf logged) rest }
 {}
 
-/// Live after it is what was up or on its way down when the run was cut short: what was seen to come
-/// up and was not seen to go down.
+/// A service is live after it if it was up or on its way down when the run was cut short: it was
+/// seen to come up, and was not seen to go down.
 pub fn what_is_known_to_be_up_is_live()
     ensures ends { (c : Course) (logged : List Event) (s : ℕ) →
         IsLive c (with_ends logged) s ↔ IsLive c logged s }
@@ -37,8 +36,8 @@ pub fn what_is_known_to_be_up_is_live()
         IsLive c (with_ends logged ++ last_stop ∷ []) s ↔ IsLive c logged s }
 {}
 
-/// What was logged of a run is never refused for its events: with the ends of what was under way and
-/// a stop it is a settled run of its command.
+/// A session never refuses the logged events of a run: with the ends of what was under way and a
+/// stop they are a settled run of their command.
 pub fn cut_commands_are_entered()
     ensures { (d : Database) (line : Line) (command : Command) (refusal : Refusal) →
         HasRun command → IsCutShort d line command →

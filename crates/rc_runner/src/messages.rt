@@ -7,8 +7,8 @@ use rc_graph::Way;
 use rc_streams::messages::MESSAGE;
 use std::alloc::Global;
 
-/// Tells a log what came to a service at a moment, in milliseconds. Where there is no memory for the
-/// text of `line_of`, the log formats the same.
+/// Logs what came to a service at a moment, in milliseconds. If memory runs out for the text of
+/// `line_of`, the log formats the same text.
 pub(crate) fn tell<L: Log>(
     log: &L,
     alloc: Global,

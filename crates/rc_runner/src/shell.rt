@@ -43,7 +43,7 @@ pub struct ShellGate<'a, R, L> {
     controller: Vec<String>,
     /// The limit of services without one of their own, in milliseconds; 0 for none.
     limit: u32,
-    /// What is told of programs that are started.
+    /// The log that gets a record for each program that starts.
     log: &'a L,
     /// Where what they write goes, if anywhere.
     errors: Option<Stderr>,
@@ -67,7 +67,7 @@ impl<'a, R, L> Model for ShellGate<'a, R, L> {
 impl<'a, R: Processes + Clock, L: Log> ShellGate<'a, R, L> {
     /// A gate for the services of a database, with the words of a runner and of a controller, and
     /// the limit in milliseconds of services without one of their own. Without a word there is no
-    /// such program, and 0 is no limit. The log is told of each program that it is started.
+    /// such program, and 0 is no limit. The gate logs each start.
     pub fn new(
         rt: &'a R,
         log: &'a L,

@@ -56,7 +56,7 @@ fn quiet_gate<'h, 'a, T, L: Log + Sync>(
     }
 }
 
-// The gate of these programs. Where transitions are told, so is what the programs write.
+// The gate that runs these programs. What they write is shown where transitions are reported.
 fn shell_gate<'h, T, L: Log + Sync>(
     host: &Host<'h, T, L>,
     db: &Db,
