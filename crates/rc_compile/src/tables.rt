@@ -86,11 +86,8 @@ fn add_name(alloc: Global, names: &mut Names, name: &Name) -> Result<bool, NoMem
         fits ≡ false → IsFull names.old (λ other. other ≡ name.now)) }
 {
     let count = names.len();
-    if names.find(name.text()).is_some() {
-        return Ok(true);
-    }
     if count >= MAX_NAMES {
-        return Ok(false);
+        return Ok(names.find(name.text()).is_some());
     }
     names.add(name.copy(alloc)?)?;
     Ok(true)

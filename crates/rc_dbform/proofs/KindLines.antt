@@ -1,11 +1,9 @@
 -- The kinds of lines: the words of each are words, and each is read once.
-use Rattle.std.proofs.Common.{◌≡◌, ◌∙◌, ℕ, ◌<◌, ◌≤◌, ◌^◌, Bool, true, false, List, [], ◌∷◌, ◌++◌, length, get_or, map, drop, All, Option, Some, None, IfSome, zero, suc, arith, refl, sym, ap, subst}
+use Rattle.std.proofs.Common.{◌≡◌, ◌∙◌, ℕ, ◌<◌, ◌≤◌, ◌^◌, Bool, true, false, List, [], ◌∷◌, ◌++◌, length, get_or, drop, All, Option, Some, None, IfSome, zero, suc, arith, refl, sym, ap, subst}
 use Rattle.std.proofs.lemmas.Bool.{false≢true}
 use Rattle.std.proofs.lemmas.Fmt.{decimal_injective}
-use Rattle.std.proofs.lemmas.List.{length-map}
 use Rattle.std.proofs.lemmas.Str.{IsUtf8-from_ascii}
 use Rattle.std.proofs.lemmas.Str.Ascii.{IsAscii-from_all}
-use denote.Ref.{Bor}
 use Rattle.std.specs.Prelude.{codes}
 use Rattle.std.specs.Fmt.{decimal}
 use Rattle.rc_model.specs.declared.Kind.{Kind}
@@ -246,11 +244,6 @@ is_bundle word name ws members named is same each = (
   record { name = subst IsName (sym named) is; members = each },
   sym (ap (λ (n : List ℕ). codes "bundle" ∷ n ∷ members) named ∙ ap (λ (ms : List (List ℕ)). codes "bundle" ∷ word ∷ ms) same),
 )
-
--- no first line of a service where not five words follow
-pub no_head : (ws : List (List ℕ)) (others : List (Bor (List ℕ))) → ws ≡ codes "service" ∷ map (λ (w : Bor (List ℕ)). w.now) others → (length others ≡ 5 → ⊥) → IsOfNoWords IsHead OfService ws
-no_head ws others are other value is same =
-    other (sym (length-map others (λ (w : Bor (List ℕ)). w.now)) ∙ ap (λ (l : List (List ℕ)). length (drop 1 l)) (sym are ∙ same))
 
 -- a text for the way down is neither missing nor here
 pub no_down : (long rest : List ℕ) → (long ≡ codes "-" → ⊥) → ((text tail : List ℕ) → IsScript text → long ≡ decimal (length text) → rest ≡ text_behind (OfUp text) ++ tail → ⊥)

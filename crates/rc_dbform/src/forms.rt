@@ -60,10 +60,10 @@ pub fn read_form<'a>(alloc: Global, bytes: &'a [u8]) -> Result<(DbForm<'a>, &'a 
     ensures ok { IfOk result (λ read. IsRead IsDbText db_lines bytes.now read.0 read.1.now) }
     ensures fault { IfErr result (IsRefused IsDbText db_lines bytes.now) }
 {
-    let first = first_line(alloc, bytes)?;
+    let first = first_line(bytes)?;
     let (services, rest) = all_services(alloc, first)?;
     let (bundles, rest) = all_bundles(alloc, rest)?;
-    let last = last_line(alloc, rest)?;
+    let last = last_line(rest)?;
     Ok((DbForm { services, bundles }, last))
 }
 
@@ -77,7 +77,7 @@ fn all_services<'a>(
     ensures fault { IfErr result (IsRefused (AreFew IsServiceText)
         (count_and_lines ServiceCount service_lines) bytes.now) }
 {
-    let (count, rest) = count_line(alloc, bytes, "services")?;
+    let (count, rest) = count_line(bytes, "services")?;
     let (services, rest) = services_of(alloc, rest, count)?;
     Ok((services, rest))
 }
@@ -92,7 +92,7 @@ fn all_bundles<'a>(
     ensures fault { IfErr result (IsRefused (AreFew IsBundleText)
         (count_and_lines BundleCount bundle_lines) bytes.now) }
 {
-    let (count, rest) = count_line(alloc, bytes, "bundles")?;
+    let (count, rest) = count_line(bytes, "bundles")?;
     let (bundles, rest) = bundles_of(alloc, rest, count)?;
     Ok((bundles, rest))
 }
@@ -149,47 +149,43 @@ fn service_of<'a>(alloc: Global, bytes: &'a [u8]) -> Result<(ServiceForm<'a>, &'
         IsRead IsServiceText service_lines bytes.now read.0 read.1.now) }
     ensures fault { IfErr result (IsRefused IsServiceText service_lines bytes.now) }
 {
-    let (head, rest) = head_line(alloc, bytes)?;
+    let (head, rest) = head_line(bytes)?;
     let (needs, rest) = needs_line(alloc, rest)?;
-    let (body, rest) = body_of(alloc, rest, head.kind())?;
+    let (body, rest) = body_of(rest, head.kind())?;
     Ok((ServiceForm { head, needs, body }, rest))
 }
 
 // What follows the needs of a service of this kind, and what follows that.
-fn body_of<'a>(
-    alloc: Global,
-    bytes: &'a [u8],
-    kind: Kind,
-) -> Result<(BodyForm<'a>, &'a [u8]), FormFault>
+fn body_of(bytes: &[u8], kind: Kind) -> Result<(BodyForm<'_>, &[u8]), FormFault>
     requires { (kind ≡ kinds.Bundle) → ⊥ }
     ensures ok { IfOk result (λ read. IsRead (IsBody kind) body_lines bytes.now
         (body_text read.0) read.1.now) }
     ensures fault { IfErr result (IsRefused (IsBody kind) body_lines bytes.now) }
 {
     match kind {
-        Kind::Oneshot => oneshot_of(alloc, bytes),
-        Kind::Longrun => longrun_of(alloc, bytes),
+        Kind::Oneshot => oneshot_of(bytes),
+        Kind::Longrun => longrun_of(bytes),
         Kind::Bundle => unreachable!(),
     }
 }
 
 // What follows the needs of a oneshot, and what follows that.
-fn oneshot_of<'a>(alloc: Global, bytes: &'a [u8]) -> Result<(BodyForm<'a>, &'a [u8]), FormFault>
+fn oneshot_of(bytes: &[u8]) -> Result<(BodyForm<'_>, &[u8]), FormFault>
     ensures ok { IfOk result (λ read. IsRead (IsBody kinds.Oneshot) body_lines bytes.now
         (body_text read.0) read.1.now) }
     ensures fault { IfErr result (IsRefused (IsBody kinds.Oneshot) body_lines bytes.now) }
 {
-    let (up, rest) = up_line(alloc, bytes)?;
-    let (down, rest) = down_line(alloc, rest)?;
+    let (up, rest) = up_line(bytes)?;
+    let (down, rest) = down_line(rest)?;
     Ok((BodyForm::Oneshot(up, down), rest))
 }
 
 // What follows the needs of a longrun, and what follows that.
-fn longrun_of<'a>(alloc: Global, bytes: &'a [u8]) -> Result<(BodyForm<'a>, &'a [u8]), FormFault>
+fn longrun_of(bytes: &[u8]) -> Result<(BodyForm<'_>, &[u8]), FormFault>
     ensures ok { IfOk result (λ read. IsRead (IsBody kinds.Longrun) body_lines bytes.now
         (body_text read.0) read.1.now) }
     ensures fault { IfErr result (IsRefused (IsBody kinds.Longrun) body_lines bytes.now) }
 {
-    let (producer_for, rest) = producer_line(alloc, bytes)?;
+    let (producer_for, rest) = producer_line(bytes)?;
     Ok((BodyForm::Longrun(producer_for), rest))
 }

@@ -1,5 +1,5 @@
 //! The lines of a database text, a function for each kind of line.
-ghost use Rattle.std.specs.Prelude.{◌≡◌, ◌≤◌, ℕ, List, [], ◌∷◌, ◌++◌, map, All, IfOk, IfErr, IfSome, MatchOption, codes, length, Bool};
+ghost use Rattle.std.specs.Prelude.{◌≡◌, ◌≤◌, ℕ, List, [], ◌∷◌, ◌++◌, All, IfOk, IfErr, IfSome, MatchOption, codes, length, Bool};
 ghost use Rattle.std.specs.Fmt.{decimal};
 ghost use Rattle.std.specs.Option.{option_map};
 ghost use Rattle.rc_model.specs.Names.{IsName};
@@ -14,7 +14,9 @@ use crate::fault::FormFault;
 use crate::words::{MAX_TEXT, number_line, text_of, words_of};
 use rc_db::NoMem;
 use rc_names::Kind;
-use rc_textform::{BundleForm, NameWord, argument, arguments, is, names_of, number_of, value_of};
+use rc_textform::{
+    BundleForm, NameWord, Words, argument, arguments, is, names_of, number_of, value_of,
+};
 use std::alloc::Global;
 use std::marker::Model;
 
@@ -57,12 +59,12 @@ impl<'a> Head<'a> {
 }
 
 /// What follows the first line.
-pub(crate) fn first_line(alloc: Global, bytes: &[u8]) -> Result<&[u8], FormFault>
+pub(crate) fn first_line(bytes: &[u8]) -> Result<&[u8], FormFault>
     ensures ok { IfOk result (λ rest. bytes.now ≡ spell First ++ rest.now) }
     ensures fault { IfErr result (λ fault.
         IsRefused (λ (u : Unit {0}). Unit {0}) (one (λ _. First)) bytes.now fault) }
 {
-    let (number, rest) = number_line(alloc, bytes, "undorc-db")?;
+    let (number, rest) = number_line(bytes, "undorc-db")?;
     if is(number, "1") {
         Ok(rest)
     } else {
@@ -71,17 +73,13 @@ pub(crate) fn first_line(alloc: Global, bytes: &[u8]) -> Result<&[u8], FormFault
 }
 
 /// A count after its word, and what follows that line.
-pub(crate) fn count_line<'a>(
-    alloc: Global,
-    bytes: &'a [u8],
-    word: &str,
-) -> Result<(u32, &'a [u8]), FormFault>
+pub(crate) fn count_line<'a>(bytes: &'a [u8], word: &str) -> Result<(u32, &'a [u8]), FormFault>
     requires { IsPlain word.now }
     ensures ok { IfOk result (λ read. (read.0 ≤ 4096)
         × (bytes.now ≡ line_of_words (word.now ∷ decimal read.0 ∷ []) ++ read.1.now)) }
     ensures fault { IfErr result (IsNoCount word.now bytes.now) }
 {
-    let (number, rest) = number_line(alloc, bytes, word)?;
+    let (number, rest) = number_line(bytes, word)?;
     match value_of(number, MAX_COUNT) {
         Some(count) => Ok((count, rest)),
         None => Err(FormFault::TooMany),
@@ -89,15 +87,12 @@ pub(crate) fn count_line<'a>(
 }
 
 /// The first line of a service, and what follows it.
-pub(crate) fn head_line<'a>(
-    alloc: Global,
-    bytes: &'a [u8],
-) -> Result<(Head<'a>, &'a [u8]), FormFault>
+pub(crate) fn head_line(bytes: &[u8]) -> Result<(Head<'_>, &[u8]), FormFault>
     ensures ok { IfOk result (λ read. IsRead IsHead (one OfService) bytes.now read.0 read.1.now) }
     ensures fault { IfErr result (IsRefused IsHead (one OfService) bytes.now) }
 {
-    let (words, rest) = words_of(alloc, bytes)?;
-    match head_of(words.as_slice()) {
+    let (words, rest) = words_of(bytes)?;
+    match head_of(words) {
         Some(head) => Ok((head, rest)),
         None => Err(FormFault::Bad(bytes.len())),
     }
@@ -112,8 +107,8 @@ pub(crate) fn needs_line<'a>(
         (one OfNeeds) bytes.now read.0.items read.1.now) }
     ensures fault { IfErr result (IsRefused (All IsName) (one OfNeeds) bytes.now) }
 {
-    let (words, rest) = words_of(alloc, bytes)?;
-    match needs_of(alloc, words.as_slice()) {
+    let (words, rest) = words_of(bytes)?;
+    match needs_of(alloc, words) {
         Ok(Some(needs)) => Ok((needs, rest)),
         Ok(None) => Err(FormFault::Bad(bytes.len())),
         Err(_) => Err(FormFault::Memory),
@@ -121,16 +116,13 @@ pub(crate) fn needs_line<'a>(
 }
 
 /// What a longrun feeds, and what follows that line.
-pub(crate) fn producer_line<'a>(
-    alloc: Global,
-    bytes: &'a [u8],
-) -> Result<(Option<NameWord<'a>>, &'a [u8]), FormFault>
+pub(crate) fn producer_line(bytes: &[u8]) -> Result<(Option<NameWord<'_>>, &[u8]), FormFault>
     ensures ok { IfOk result (λ read. IsRead (λ p. IfSome p IsName)
         (one OfProducer) bytes.now read.0 read.1.now) }
     ensures fault { IfErr result (IsRefused (λ p. IfSome p IsName) (one OfProducer) bytes.now) }
 {
-    let (words, rest) = words_of(alloc, bytes)?;
-    match producer_of(words.as_slice()) {
+    let (words, rest) = words_of(bytes)?;
+    match producer_of(words) {
         Some(producer_for) => Ok((producer_for, rest)),
         None => Err(FormFault::Bad(bytes.len())),
     }
@@ -145,8 +137,8 @@ pub(crate) fn bundle_line<'a>(
         (one OfBundle) bytes.now read.0 read.1.now) }
     ensures fault { IfErr result (IsRefused IsBundleText (one OfBundle) bytes.now) }
 {
-    let (words, rest) = words_of(alloc, bytes)?;
-    match bundle_of(alloc, words.as_slice()) {
+    let (words, rest) = words_of(bytes)?;
+    match bundle_of(alloc, words) {
         Ok(Some(bundle)) => Ok((bundle, rest)),
         Ok(None) => Err(FormFault::Bad(bytes.len())),
         Err(_) => Err(FormFault::Memory),
@@ -154,30 +146,29 @@ pub(crate) fn bundle_line<'a>(
 }
 
 /// What follows the last line.
-pub(crate) fn last_line(alloc: Global, bytes: &[u8]) -> Result<&[u8], FormFault>
+pub(crate) fn last_line(bytes: &[u8]) -> Result<&[u8], FormFault>
     ensures ok { IfOk result (λ rest. bytes.now ≡ spell Last ++ rest.now) }
     ensures fault { IfErr result (λ fault.
         IsRefused (λ (u : Unit {0}). Unit {0}) (one (λ _. Last)) bytes.now fault) }
 {
-    let (words, rest) = words_of(alloc, bytes)?;
-    let Some(others) = arguments(words.as_slice(), "end") else {
+    let (words, rest) = words_of(bytes)?;
+    let Some(mut others) = arguments(words, "end") else {
         return Err(FormFault::Bad(bytes.len()));
     };
-    if others.is_empty() {
-        Ok(rest)
-    } else {
-        Err(FormFault::Bad(bytes.len()))
+    match others.next_word() {
+        Some(_) => Err(FormFault::Bad(bytes.len())),
+        None => Ok(rest),
     }
 }
 
 /// The text of a oneshot for the way up, and what follows it.
-pub(crate) fn up_line<'a>(alloc: Global, bytes: &'a [u8]) -> Result<(&'a str, &'a [u8]), FormFault>
+pub(crate) fn up_line(bytes: &[u8]) -> Result<(&str, &[u8]), FormFault>
     ensures ok { IfOk result (λ read. IsRead IsScript (one OfUp) bytes.now
         read.0.now read.1.now) }
     ensures fault { IfErr result (IsRefused IsScript (one OfUp) bytes.now) }
 {
-    let (words, rest) = words_of(alloc, bytes)?;
-    let Some(long) = argument(words.as_slice(), "up") else {
+    let (words, rest) = words_of(bytes)?;
+    let Some(long) = argument(words, "up") else {
         return Err(FormFault::Bad(bytes.len()));
     };
     match text_after(long, rest) {
@@ -187,16 +178,13 @@ pub(crate) fn up_line<'a>(alloc: Global, bytes: &'a [u8]) -> Result<(&'a str, &'
 }
 
 /// The text of a oneshot for the way down, if it has one, and what follows it.
-pub(crate) fn down_line<'a>(
-    alloc: Global,
-    bytes: &'a [u8],
-) -> Result<(Option<&'a str>, &'a [u8]), FormFault>
+pub(crate) fn down_line(bytes: &[u8]) -> Result<(Option<&str>, &[u8]), FormFault>
     ensures ok { IfOk result (λ read. IsRead (λ t. IfSome t IsScript) (one OfDown) bytes.now
         (option_map (λ text. text.now) read.0) read.1.now) }
     ensures fault { IfErr result (IsRefused (λ t. IfSome t IsScript) (one OfDown) bytes.now) }
 {
-    let (words, rest) = words_of(alloc, bytes)?;
-    let Some(long) = argument(words.as_slice(), "down") else {
+    let (words, rest) = words_of(bytes)?;
+    let Some(long) = argument(words, "down") else {
         return Err(FormFault::Bad(bytes.len()));
     };
     if is(long, "-") {
@@ -227,10 +215,10 @@ fn text_after<'a>(long: &str, bytes: &'a [u8]) -> Option<(&'a str, &'a [u8])>
 }
 
 // The needs that the words of a line give.
-fn needs_of<'a>(alloc: Global, words: &[&'a str]) -> Result<Option<Vec<NameWord<'a>>>, NoMem>
+fn needs_of<'a>(alloc: Global, words: Words<'a>) -> Result<Option<Vec<NameWord<'a>>>, NoMem>
     ensures { IfOk result (λ needs. MatchOption needs
-        (IsOfNoWords (All IsName) OfNeeds (map (λ word. word.now) words.now))
-        (λ needs. IsOfWords (All IsName) OfNeeds (map (λ word. word.now) words.now) needs.items)) }
+        (IsOfNoWords (All IsName) OfNeeds words.entry)
+        (λ needs. IsOfWords (All IsName) OfNeeds words.entry needs.items)) }
 {
     match arguments(words, "needs") {
         Some(names) => names_of(alloc, names),
@@ -239,16 +227,16 @@ fn needs_of<'a>(alloc: Global, words: &[&'a str]) -> Result<Option<Vec<NameWord<
 }
 
 // The bundle that the words of a line give.
-fn bundle_of<'a>(alloc: Global, words: &[&'a str]) -> Result<Option<BundleForm<'a>>, NoMem>
+fn bundle_of<'a>(alloc: Global, words: Words<'a>) -> Result<Option<BundleForm<'a>>, NoMem>
     ensures { IfOk result (λ bundle. MatchOption bundle
-        (IsOfNoWords IsBundleText OfBundle (map (λ word. word.now) words.now))
-        (IsOfWords IsBundleText OfBundle (map (λ word. word.now) words.now))) }
+        (IsOfNoWords IsBundleText OfBundle words.entry)
+        (IsOfWords IsBundleText OfBundle words.entry)) }
 {
-    let Some(others) = arguments(words, "bundle") else {
+    let Some(mut others) = arguments(words, "bundle") else {
         return Ok(None);
     };
-    match others.split_first() {
-        Some((name, members)) => bundle_from(alloc, name, members),
+    match others.next_word() {
+        Some(name) => bundle_from(alloc, name, others),
         None => Ok(None),
     }
 }
@@ -257,13 +245,13 @@ fn bundle_of<'a>(alloc: Global, words: &[&'a str]) -> Result<Option<BundleForm<'
 fn bundle_from<'a>(
     alloc: Global,
     name: &'a str,
-    members: &[&'a str],
+    members: Words<'a>,
 ) -> Result<Option<BundleForm<'a>>, NoMem>
     ensures { IfOk result (λ bundle. MatchOption bundle
         (IsOfNoWords IsBundleText OfBundle
-        (codes "bundle" ∷ name.now ∷ map (λ word. word.now) members.now))
+        (codes "bundle" ∷ name.now ∷ members.entry))
         (IsOfWords IsBundleText OfBundle
-        (codes "bundle" ∷ name.now ∷ map (λ word. word.now) members.now))) }
+        (codes "bundle" ∷ name.now ∷ members.entry))) }
 {
     let Some(name) = NameWord::read(name) else {
         return Ok(None);
@@ -275,10 +263,10 @@ fn bundle_from<'a>(
 }
 
 // What a longrun feeds, by the words of a line.
-fn producer_of<'a>(words: &[&'a str]) -> Option<Option<NameWord<'a>>>
+fn producer_of<'a>(words: Words<'a>) -> Option<Option<NameWord<'a>>>
     ensures { MatchOption result
-        (IsOfNoWords (λ p. IfSome p IsName) OfProducer (map (λ word. word.now) words.now))
-        (IsOfWords (λ p. IfSome p IsName) OfProducer (map (λ word. word.now) words.now)) }
+        (IsOfNoWords (λ p. IfSome p IsName) OfProducer words.entry)
+        (IsOfWords (λ p. IfSome p IsName) OfProducer words.entry) }
 {
     let word = argument(words, "producer")?;
     if is(word, "-") {
@@ -291,17 +279,25 @@ fn producer_of<'a>(words: &[&'a str]) -> Option<Option<NameWord<'a>>>
 }
 
 // What the words of a service's first line say.
-fn head_of<'a>(words: &[&'a str]) -> Option<Head<'a>>
-    ensures { MatchOption result
-        (IsOfNoWords IsHead OfService (map (λ word. word.now) words.now))
-        (IsOfWords IsHead OfService (map (λ word. word.now) words.now)) }
+fn head_of<'a>(words: Words<'a>) -> Option<Head<'a>>
+    ensures { MatchOption result (IsOfNoWords IsHead OfService words.entry)
+        (IsOfWords IsHead OfService words.entry) }
 {
-    let Some(others) = arguments(words, "service") else {
+    let Some(mut others) = arguments(words, "service") else {
         return None;
     };
-    match others {
-        [name, kind, flag, up, down] => head_from(name, kind, flag, up, down),
-        _ => None,
+    let Some(name) = others.next_word() else {
+        return None;
+    };
+    let (Some(kind), Some(flag)) = (others.next_word(), others.next_word()) else {
+        return None;
+    };
+    let (Some(up), Some(down)) = (others.next_word(), others.next_word()) else {
+        return None;
+    };
+    match others.next_word() {
+        Some(_) => None,
+        None => head_from(name, kind, flag, up, down),
     }
 }
 

@@ -1,5 +1,5 @@
 //! The words and texts of lines, and where they are missing.
-ghost use Rattle.std.specs.Prelude.{◌≡◌, ℕ, List, [], ◌∷◌, ◌++◌, length, map};
+ghost use Rattle.std.specs.Prelude.{◌≡◌, ℕ, List, [], ◌∷◌, ◌++◌, length};
 ghost use Rattle.std.specs.Prelude.{IfOk, IfErr, MatchOption};
 ghost use Rattle.rc_db.specs.Service.{IsScript};
 ghost use Rattle.rc_dbform.specs.Text.{line_of_words};
@@ -7,42 +7,32 @@ ghost use Rattle.rc_dbform.specs.Reading.{IsNumber, IsNoNumber};
 ghost use Rattle.rc_dbform.specs.Words.{BeginsWith, IsPlain, IsNoLine};
 
 use crate::fault::FormFault;
-use std::alloc::Global;
+use rc_textform::Words;
 
 /// The most bytes of a oneshot's text.
 pub(crate) const MAX_TEXT: u32 = 65_536;
 
 /// The words of the line at the beginning, and what follows it.
-pub(crate) fn words_of<'a>(
-    alloc: Global,
-    bytes: &'a [u8],
-) -> Result<(Vec<&'a str>, &'a [u8]), FormFault>
-    ensures ok { IfOk result (λ read.
-        BeginsWith bytes.now (map (λ word. word.now) read.0.items) read.1.now) }
+pub(crate) fn words_of(bytes: &[u8]) -> Result<(Words<'_>, &[u8]), FormFault>
+    ensures ok { IfOk result (λ read. BeginsWith bytes.now read.0 read.1.now) }
     ensures fault { IfErr result (λ fault. IsNoLine bytes.now fault) }
 {
-    match rc_textform::words_of(alloc, bytes) {
-        Ok(Some((words, rest))) => Ok((words, rest)),
-        Ok(None) => Err(FormFault::Bad(bytes.len())),
-        Err(_) => Err(FormFault::Memory),
+    match rc_textform::words_of(bytes) {
+        Some((words, rest)) => Ok((words, rest)),
+        None => Err(FormFault::Bad(bytes.len())),
     }
 }
 
 /// The number after this word in a line of the two at the beginning, and what follows that line.
-pub(crate) fn number_line<'a>(
-    alloc: Global,
-    bytes: &'a [u8],
-    word: &str,
-) -> Result<(&'a str, &'a [u8]), FormFault>
+pub(crate) fn number_line<'a>(bytes: &'a [u8], word: &str) -> Result<(&'a str, &'a [u8]), FormFault>
     requires { IsPlain word.now }
     ensures ok { IfOk result (λ read. IsNumber read.0.now
         × (bytes.now ≡ line_of_words (word.now ∷ read.0.now ∷ []) ++ read.1.now)) }
     ensures fault { IfErr result (IsNoNumber word.now bytes.now) }
 {
-    match rc_textform::number_line(alloc, bytes, word) {
-        Ok(Some((number, rest))) => Ok((number, rest)),
-        Ok(None) => Err(FormFault::Bad(bytes.len())),
-        Err(_) => Err(FormFault::Memory),
+    match rc_textform::number_line(bytes, word) {
+        Some((number, rest)) => Ok((number, rest)),
+        None => Err(FormFault::Bad(bytes.len())),
     }
 }
 

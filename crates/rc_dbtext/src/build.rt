@@ -108,8 +108,8 @@ pub(crate) fn graph_of(draft: Draft) -> Result<Option<Graph>, NoMem>
     }
 }
 
-/// The id of a text that is among the names. It is looked for at this place first.
-pub(crate) fn id_of(text: &NameWord<'_>, names: &Names, place: u16) -> u16
+// The id of a text that is among the names. It is looked for at this place first.
+fn id_of(text: &NameWord<'_>, names: &Names, place: u16) -> u16
     requires { Contains names.now text.now }
     ensures found { slice_get names.now result ≡ Some text.now }
     ensures names { AreNames names.now }

@@ -1,11 +1,10 @@
 //! The bundles of a database, made of what a text says.
-ghost use Rattle.std.specs.Prelude.{◌≡◌, ◌<◌, ◌≤◌, ◌++◌, ◌∷◌, [], Bool, List, length, map, All, Contains, IfOk, OnOk};
+ghost use Rattle.std.specs.Prelude.{◌≡◌, ◌<◌, ◌≤◌, ◌++◌, ◌∷◌, [], Bool, List, length, map, All, Contains, IfOk, IfSome, IfNone, OnOk};
 ghost use Rattle.rc_model.specs.Names.{IsBefore, IsInByteOrder};
 ghost use Rattle.rc_model.specs.Database.{HaveBound, names_of};
 ghost use Rattle.rc_dbtext.specs.Meaning.{bundle_names};
 ghost use Rattle.rc_dbtext.specs.Spelling.{bundle_text, members, name_at};
 
-use crate::build::id_of;
 use rc_db::laws::tables_are_their_values;
 use rc_db::{NoMem, Table};
 use rc_dbform::BundleForm;
@@ -55,19 +54,38 @@ fn add_bundle(
     Ok(())
 }
 
-/// The set of services with these names, which are all names and ascend.
-pub fn set_of(alloc: Global, texts: &[NameWord<'_>], names: &Names) -> Result<Set, NoMem>
+// The set of services with these names, which are all names and ascend.
+fn set_of(alloc: Global, texts: &[NameWord<'_>], names: &Names) -> Result<Set, NoMem>
     requires sorted { IsInByteOrder texts.now }
     requires known { All (Contains names.now) texts.now }
     ensures bound { IfOk result (λ set. length set ≡ length names.now) }
     ensures members { IfOk result (λ set. map (name_at names.now) (members set) ≡ texts.now) }
 {
+    match known_set(alloc, texts, names)? {
+        Some(set) => Ok(set),
+        None => unreachable!(),
+    }
+}
+
+/// The set of services with these names, which ascend, or nothing where one is no service's. Each
+/// is looked for after the one before.
+pub fn known_set(alloc: Global, texts: &[NameWord<'_>], names: &Names) -> Result<Option<Set>, NoMem>
+    requires { IsInByteOrder texts.now }
+    ensures unknown { IfOk result (λ set. IfNone set (All (Contains names.now) texts.now → ⊥)) }
+    ensures known { IfOk result (λ set. IfSome set (λ _. All (Contains names.now) texts.now)) }
+    ensures bound { IfOk result (λ set. IfSome set (λ set. length set ≡ length names.now)) }
+    ensures members { IfOk result (λ set. IfSome set (λ set.
+        map (name_at names.now) (members set) ≡ texts.now)) }
+{
     let mut set = Set::empty(alloc, names.len())?;
     let mut next = 0;
     for text in texts {
-        let id = id_of(text, names, next);
+        let Some(id) = names.find_near(text.text(), next) else {
+            drop(set);
+            return Ok(None);
+        };
         set.insert(id);
         next = id + 1;
     }
-    Ok(set)
+    Ok(Some(set))
 }

@@ -85,8 +85,8 @@ fn is_of_longrun(service: &ServiceForm<'_>) -> bool
     service.head.kind() == Kind::Longrun
 }
 
-/// Whether all are among the names, each looked for after the one before.
-pub fn are_known(texts: &[NameWord<'_>], names: &Names) -> bool
+// Whether all are among the names, each looked for after the one before.
+fn are_known(texts: &[NameWord<'_>], names: &Names) -> bool
     ensures { IsTrue result ↔ AreKnown names.now texts.now }
 {
     // The names are few.

@@ -11,8 +11,8 @@ mod read;
 mod sorted;
 mod write;
 
-pub use crate::bundles::{set_of, table_of};
-pub use crate::complete::{are_known, bundles_are_complete};
+pub use crate::bundles::{known_set, table_of};
+pub use crate::complete::bundles_are_complete;
 pub use crate::fault::TextFault;
 pub use crate::lines::{push_bundle, push_line, push_set, push_word};
 pub use crate::read::{read_db, read_db_front};

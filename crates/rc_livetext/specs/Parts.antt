@@ -9,16 +9,12 @@ use Rattle.rc_line.specs.State.{states_of}
 use Rattle.rc_livetext.specs.Text.{LiveText, StateText}
 use Rattle.rc_livetext.specs.declared.fault.LiveFault.{LiveFault}
 use Rattle.rc_livetext.specs.declared.fault.LiveFault.TheVariants.{NotClosed, SameState, OverBound}
-use Rattle.rc_livetext.specs.Meaning.{IsFirstNot, IsKnownState, most_states}
+use Rattle.rc_livetext.specs.Meaning.{IsFirstNot, most_states}
 use Rattle.rc_livetext.specs.Spelling.{state_text, text_of, old_text_of, usual_bound}
 
 -- states as a text gives them
 abbrev pub state_texts : List (List ℕ) → List (List Bool × Bundles) → List StateText
 state_texts names held = map (state_text names) (states_of held)
-
--- what a state names stands for what it may
-unfoldable pub IsKnownHere : List (List ℕ) → StateText → Type 0
-IsKnownHere names s = IsKnownState names s
 
 -- the sets of the state have this bound
 pub record IsWithin (bound : ℕ) (s : State) : Type 0 where

@@ -22,7 +22,7 @@ pub(crate) fn head<'a>(
         × (bytes.now ≡ spells spell (head_lines read.0.items read.1) ++ read.2.now)) }
     ensures fault { IfErr result (IsRefused bytes.now) }
 {
-    let (bounded, rest) = first_line(alloc, bytes)?;
+    let (bounded, rest) = first_line(bytes)?;
     let (services, rest) = services_line(alloc, rest)?;
     if !bounded {
         return Ok((services, None, rest));
@@ -32,14 +32,11 @@ pub(crate) fn head<'a>(
 }
 
 // Whether the text has a bound, and what follows its first line.
-fn first_line(alloc: Global, bytes: &[u8]) -> Result<(bool, &[u8]), FormFault>
+fn first_line(bytes: &[u8]) -> Result<(bool, &[u8]), FormFault>
     ensures ok { IfOk result (λ read. bytes.now ≡ spell (text.First read.0) ++ read.1.now) }
     ensures fault { IfErr result (IsRefused bytes.now) }
 {
-    let Ok(read) = number_line(alloc, bytes, "undorc-live") else {
-        return Err(FormFault::Memory);
-    };
-    let Some((number, rest)) = read else {
+    let Some((number, rest)) = number_line(bytes, "undorc-live") else {
         return Err(FormFault::Bad(bytes.len()));
     };
     match version_of(number) {

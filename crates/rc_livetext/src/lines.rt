@@ -1,5 +1,5 @@
 //! The lines of a live text, each by what it says, wherever it stands.
-ghost use Rattle.std.specs.Prelude.{◌≡◌, ◌↔◌, ℕ, List, [], ◌∷◌, ◌++◌, Bool, map, codes};
+ghost use Rattle.std.specs.Prelude.{◌≡◌, ◌↔◌, ℕ, List, [], ◌∷◌, ◌++◌, Bool, codes};
 ghost use Rattle.std.specs.Prelude.{IfOk, MatchOption};
 ghost use Rattle.std.specs.Fmt.{decimal};
 ghost use Rattle.rc_livetext.specs.Text as text;
@@ -7,7 +7,7 @@ ghost use Rattle.rc_livetext.specs.Text.{AreAscending, IsBound, version_word, sp
 ghost use Rattle.rc_livetext.specs.Saying.{IsSaid, Says, SaysNone};
 ghost use Rattle.rc_livetext.specs.FormText.{line_text};
 
-use rc_textform::{BundleForm, NameWord, ascend, is, names_of, number_of, words_of};
+use rc_textform::{BundleForm, NameWord, Words, ascend, is, names_of, number_of, words_of};
 use std::alloc::{AllocError, Global};
 
 /// A line by what it says.
@@ -31,22 +31,22 @@ pub(crate) fn line_of<'a>(
         (λ read. IsSaid (line_text read.0)
         × (bytes.now ≡ spell (line_text read.0) ++ read.1.now))) }
 {
-    let Some((words, rest)) = words_of(alloc, bytes)? else {
+    let Some((words, rest)) = words_of(bytes) else {
         return Ok(None);
     };
-    match said(alloc, words.as_slice())? {
+    match said(alloc, words)? {
         Some(line) => Ok(Some((line, rest))),
         None => Ok(None),
     }
 }
 
 // The line of these words, if they are one's.
-fn said<'a>(alloc: Global, words: &[&'a str]) -> Result<Option<LineForm<'a>>, AllocError>
+fn said<'a>(alloc: Global, words: Words<'a>) -> Result<Option<LineForm<'a>>, AllocError>
     ensures { IfOk result (λ line. MatchOption line
-        (SaysNone (map (λ word. word.now) words.now))
-        (λ line. Says (map (λ word. word.now) words.now) (line_text line))) }
+        (SaysNone words.entry) (λ line. Says words.entry (line_text line))) }
 {
-    let Some((first, others)) = words.split_first() else {
+    let mut others = words;
+    let Some(first) = others.next_word() else {
         return Ok(None);
     };
     if is(first, "now") {
@@ -66,11 +66,11 @@ fn said<'a>(alloc: Global, words: &[&'a str]) -> Result<Option<LineForm<'a>>, Al
 fn said_state<'a>(
     alloc: Global,
     current: bool,
-    others: &[&'a str],
+    others: Words<'a>,
 ) -> Result<Option<LineForm<'a>>, AllocError>
     ensures { IfOk result (λ line. MatchOption line
-        (SaysNone (text.state_word current ∷ map (λ word. word.now) others.now))
-        (λ line. Says (text.state_word current ∷ map (λ word. word.now) others.now)
+        (SaysNone (text.state_word current ∷ others.entry))
+        (λ line. Says (text.state_word current ∷ others.entry)
         (line_text line))) }
 {
     match ascending(alloc, others)? {
@@ -80,10 +80,10 @@ fn said_state<'a>(
 }
 
 // The line of services that has these names.
-fn said_services<'a>(alloc: Global, others: &[&'a str]) -> Result<Option<LineForm<'a>>, AllocError>
+fn said_services<'a>(alloc: Global, others: Words<'a>) -> Result<Option<LineForm<'a>>, AllocError>
     ensures { IfOk result (λ line. MatchOption line
-        (SaysNone (codes "services" ∷ map (λ word. word.now) others.now))
-        (λ line. Says (codes "services" ∷ map (λ word. word.now) others.now) (line_text line))) }
+        (SaysNone (codes "services" ∷ others.entry))
+        (λ line. Says (codes "services" ∷ others.entry) (line_text line))) }
 {
     match ascending(alloc, others)? {
         Some(names) => Ok(Some(LineForm::Services(names))),
@@ -92,12 +92,13 @@ fn said_services<'a>(alloc: Global, others: &[&'a str]) -> Result<Option<LineFor
 }
 
 // The line of a bundle that has these words.
-fn said_bundle<'a>(alloc: Global, others: &[&'a str]) -> Result<Option<LineForm<'a>>, AllocError>
+fn said_bundle<'a>(alloc: Global, others: Words<'a>) -> Result<Option<LineForm<'a>>, AllocError>
     ensures { IfOk result (λ line. MatchOption line
-        (SaysNone (codes "bundle" ∷ map (λ word. word.now) others.now))
-        (λ line. Says (codes "bundle" ∷ map (λ word. word.now) others.now) (line_text line))) }
+        (SaysNone (codes "bundle" ∷ others.entry))
+        (λ line. Says (codes "bundle" ∷ others.entry) (line_text line))) }
 {
-    let Some((name, members)) = others.split_first() else {
+    let mut members = others;
+    let Some(name) = members.next_word() else {
         return Ok(None);
     };
     let Some(name) = NameWord::read(name) else {
@@ -110,24 +111,37 @@ fn said_bundle<'a>(alloc: Global, others: &[&'a str]) -> Result<Option<LineForm<
 }
 
 // The line of a first word and others, without names.
-fn said_plainly<'a>(first: &str, others: &[&str]) -> Option<LineForm<'a>>
+fn said_plainly<'a>(first: &str, others: Words<'_>) -> Option<LineForm<'a>>
     requires now { first.now ≡ codes "now" → ⊥ }
     requires up { first.now ≡ codes "up" → ⊥ }
     requires bundle { first.now ≡ codes "bundle" → ⊥ }
     requires services { first.now ≡ codes "services" → ⊥ }
-    ensures { MatchOption result (SaysNone (first.now ∷ map (λ word. word.now) others.now))
-        (λ line. Says (first.now ∷ map (λ word. word.now) others.now) (line_text line)) }
+    ensures { MatchOption result (SaysNone (first.now ∷ others.entry))
+        (λ line. Says (first.now ∷ others.entry) (line_text line)) }
 {
-    match others {
-        [] => {
-            if is(first, "end") {
-                Some(LineForm::Last)
-            } else {
-                None
-            }
-        }
-        [other] => said_of_two(first, other),
-        _ => None,
+    let mut left = others;
+    let Some(other) = left.next_word() else {
+        return said_alone(first);
+    };
+    match left.next_word() {
+        Some(_) => None,
+        None => said_of_two(first, other),
+    }
+}
+
+// The line of one word, without names.
+fn said_alone<'a>(first: &str) -> Option<LineForm<'a>>
+    requires now { first.now ≡ codes "now" → ⊥ }
+    requires up { first.now ≡ codes "up" → ⊥ }
+    requires bundle { first.now ≡ codes "bundle" → ⊥ }
+    requires services { first.now ≡ codes "services" → ⊥ }
+    ensures { MatchOption result (SaysNone (first.now ∷ []))
+        (λ line. Says (first.now ∷ []) (line_text line)) }
+{
+    if is(first, "end") {
+        Some(LineForm::Last)
+    } else {
+        None
     }
 }
 
@@ -176,11 +190,10 @@ pub(crate) fn version_of(word: &str) -> Option<bool>
 }
 
 // The words as names that ascend, if they are such.
-fn ascending<'a>(alloc: Global, words: &[&'a str]) -> Result<Option<Vec<NameWord<'a>>>, AllocError>
+fn ascending<'a>(alloc: Global, words: Words<'a>) -> Result<Option<Vec<NameWord<'a>>>, AllocError>
     ensures { IfOk result (λ names. MatchOption names
-        (AreAscending (map (λ word. word.now) words.now) → ⊥)
-        (λ names. (names.items ≡ map (λ word. word.now) words.now)
-        × AreAscending (map (λ word. word.now) words.now))) }
+        (AreAscending words.entry → ⊥)
+        (λ names. (names.items ≡ words.entry) × AreAscending words.entry)) }
 {
     let Some(names) = names_of(alloc, words)? else {
         return Ok(None);

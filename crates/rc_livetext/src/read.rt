@@ -6,18 +6,20 @@ ghost use Rattle.rc_model.specs.Session.{IsLineOf};
 ghost use Rattle.rc_livetext.specs.Text.{IsLiveText};
 ghost use Rattle.rc_livetext.specs.Refusals.{BeginsWith, IsRefused};
 ghost use Rattle.rc_livetext.specs.Meaning.{PassesNames, all_states};
-ghost use Rattle.rc_livetext.specs.Parts.{IsTextOf};
+ghost use Rattle.rc_livetext.specs.Parts.{IsTextOf, IsWithin, state_texts};
+ghost use Rattle.rc_line.specs.State.{states_of};
 ghost use Rattle.rc_livetext.specs.Spelling.{Spells};
 ghost use Rattle.rc_livetext.specs.LiveFaults.{IsLiveFault, IsMeaningFault};
 
 use crate::fault::LiveFault;
 use crate::form_fault::FormFault;
 use crate::forms::{LiveForm, read_form};
-use crate::known::{are_services, states_are_known};
+use crate::known::are_services;
 use crate::making::bound_of_line;
 use crate::states::states_in;
-use rc_db::Db;
+use rc_db::{Db, Table};
 use rc_line::Line;
+use rc_set::Set;
 use std::alloc::Global;
 
 /// The line whose text the bytes are, and how many states it has.
@@ -80,23 +82,30 @@ fn line_of(alloc: Global, form: &LiveForm<'_>, db: &Db) -> Result<Line, LiveFaul
     if !are_services(form.services.as_slice(), names) {
         return Err(LiveFault::OtherDb);
     }
-    if !states_are_known(form, names) {
-        return Err(LiveFault::Unknown);
+    match states_in(alloc, form, names) {
+        Ok(Some(held)) => joined(alloc, form, db, held),
+        Ok(None) => Err(LiveFault::Unknown),
+        Err(_) => Err(LiveFault::Memory),
     }
-    joined(alloc, form, db)
 }
 
-// The line of a text whose names are those of the database.
-fn joined(alloc: Global, form: &LiveForm<'_>, db: &Db) -> Result<Line, LiveFault>
+// The line of the states of a text whose names are those of the database.
+fn joined(
+    alloc: Global,
+    form: &LiveForm<'_>,
+    db: &Db,
+    held: Vec<(Set, Table)>,
+) -> Result<Line, LiveFault>
     requires text { IsLiveText form.now }
     requires names { PassesNames db.now form.now }
+    requires says { state_texts db.now.names held.items ≡ all_states form.now }
+    requires sets { All (IsWithin (length db.now.names)) (states_of held.items) }
     ensures text { IfOk result (λ line. IsTextOf db.now form.now line.line form.now.bound) }
     ensures line { IfOk result (λ line. IsLineOf db.now line.line × (line.is_open ≡ false)) }
     ensures fault { IfErr result (IsMeaningFault db.now form.now) }
 {
-    let Ok(held) = states_in(alloc, form, db.names()) else {
-        return Err(LiveFault::Memory);
-    };
+    // The names tell that it is a database.
+    let _names = db.names();
     let bound = match bound_of_line(held.as_slice(), form.bound, db.graph()) {
         Ok(bound) => bound,
         Err(fault) => {

@@ -1,5 +1,6 @@
 //! The states of a line, made of what a text says.
-ghost use Rattle.std.specs.Prelude.{◌≡◌, ◌++◌, ◌∷◌, [], length, map, All, IfOk, OnOk};
+ghost use Rattle.std.specs.Prelude.{◌≡◌, ◌↔◌, ◌++◌, ◌∷◌, [], length, All, IsTrue};
+ghost use Rattle.std.specs.Prelude.{IfOk, IfSome, IfNone};
 ghost use Rattle.rc_line.specs.State.{states_of};
 ghost use Rattle.rc_livetext.specs.Text.{IsLiveText, IsStateText};
 ghost use Rattle.rc_livetext.specs.Meaning.{IsKnownState, all_states};
@@ -9,26 +10,35 @@ ghost use Rattle.rc_livetext.specs.Spelling.{state_text};
 use crate::form_states::StateForm;
 use crate::forms::LiveForm;
 use rc_db::{NoMem, Table};
-use rc_dbtext::{set_of, table_of};
+use rc_dbtext::{bundles_are_complete, known_set, table_of};
 use rc_names::Names;
 use rc_set::Set;
 use std::alloc::{AllocError, Global};
 
-/// The states that a text says, from the oldest to the newest.
+/// The states that a text says, from the oldest to the newest, or nothing where a state names what
+/// it may not.
 pub(crate) fn states_in(
     alloc: Global,
     form: &LiveForm<'_>,
     names: &Names,
-) -> Result<Vec<(Set, Table)>, NoMem>
-    requires text { IsLiveText form.now }
-    requires known { All (IsKnownState names.now) (all_states form.now) }
-    ensures says { IfOk result (λ held. state_texts names.now held.items ≡ all_states form.now) }
+) -> Result<Option<Vec<(Set, Table)>>, NoMem>
+    requires { IsLiveText form.now }
+    ensures unknown { IfOk result (λ held.
+        IfNone held (All (IsKnownState names.now) (all_states form.now) → ⊥)) }
+    ensures known { IfOk result (λ held.
+        IfSome held (λ _. All (IsKnownState names.now) (all_states form.now))) }
+    ensures says { IfOk result (λ held.
+        IfSome held (λ held. state_texts names.now held.items ≡ all_states form.now)) }
     ensures sets { IfOk result (λ held.
-        All (IsWithin (length names.now)) (states_of held.items)) }
+        IfSome held (λ held. All (IsWithin (length names.now)) (states_of held.items))) }
 {
     let mut held = Vec::new(alloc);
     match push_all(alloc, &mut held, form, names) {
-        Ok(()) => Ok(held),
+        Ok(true) => Ok(Some(held)),
+        Ok(false) => {
+            drop(held);
+            Ok(None)
+        }
         Err(_) => {
             drop(held);
             Err(AllocError)
@@ -36,77 +46,101 @@ pub(crate) fn states_in(
     }
 }
 
-// The states of a text after others.
+// The states of a text after others. False: one of them names what it may not.
 fn push_all(
     alloc: Global,
     held: &mut Vec<(Set, Table)>,
     form: &LiveForm<'_>,
     names: &Names,
-) -> Result<(), NoMem>
+) -> Result<bool, NoMem>
     requires text { IsLiveText form.now }
-    requires known { All (IsKnownState names.now) (all_states form.now) }
     requires sets { All (IsWithin (length names.now)) (states_of held.old.items) }
-    ensures says { OnOk result (state_texts names.now held.new.items
+    ensures known { IfOk result (λ known.
+        IsTrue known ↔ All (IsKnownState names.now) (all_states form.now)) }
+    ensures says { IfOk result (λ known. IsTrue known → state_texts names.now held.new.items
         ≡ state_texts names.now held.old.items ++ all_states form.now) }
-    ensures sets { OnOk result (All (IsWithin (length names.now)) (states_of held.new.items)) }
+    ensures sets { IfOk result (λ known.
+        IsTrue known → All (IsWithin (length names.now)) (states_of held.new.items)) }
 {
-    push_states(alloc, held, form.before.as_slice(), names)?;
-    push_state(alloc, held, &form.current, names)?;
+    if !push_states(alloc, held, form.before.as_slice(), names)? {
+        return Ok(false);
+    }
+    if !push_state(alloc, held, &form.current, names)? {
+        return Ok(false);
+    }
     push_states(alloc, held, form.after.as_slice(), names)
 }
 
-// Some states after others.
+// Some states after others. False: one of them names what it may not.
 fn push_states(
     alloc: Global,
     held: &mut Vec<(Set, Table)>,
     forms: &[StateForm<'_>],
     names: &Names,
-) -> Result<(), NoMem>
+) -> Result<bool, NoMem>
     requires text { All IsStateText forms.now }
-    requires known { All (IsKnownState names.now) forms.now }
     requires sets { All (IsWithin (length names.now)) (states_of held.old.items) }
-    ensures says { OnOk result (state_texts names.now held.new.items
+    ensures known { IfOk result (λ known. IsTrue known ↔ All (IsKnownState names.now) forms.now) }
+    ensures says { IfOk result (λ known. IsTrue known → state_texts names.now held.new.items
         ≡ state_texts names.now held.old.items ++ forms.now) }
-    ensures sets { OnOk result (All (IsWithin (length names.now)) (states_of held.new.items)) }
+    ensures sets { IfOk result (λ known.
+        IsTrue known → All (IsWithin (length names.now)) (states_of held.new.items)) }
 {
     for form in forms {
-        push_state(alloc, held, form, names)?;
+        if !push_state(alloc, held, form, names)? {
+            return Ok(false);
+        }
     }
-    Ok(())
+    Ok(true)
 }
 
-// A state after others.
+// A state after others. False: it names what it may not.
 fn push_state(
     alloc: Global,
     held: &mut Vec<(Set, Table)>,
     form: &StateForm<'_>,
     names: &Names,
-) -> Result<(), NoMem>
+) -> Result<bool, NoMem>
     requires text { IsStateText form.now }
-    requires known { IsKnownState names.now form.now }
     requires sets { All (IsWithin (length names.now)) (states_of held.old.items) }
-    ensures says { OnOk result (state_texts names.now held.new.items
+    ensures known { IfOk result (λ known. IsTrue known ↔ IsKnownState names.now form.now) }
+    ensures says { IfOk result (λ known. IsTrue known → state_texts names.now held.new.items
         ≡ state_texts names.now held.old.items ++ form.now ∷ []) }
-    ensures sets { OnOk result (All (IsWithin (length names.now)) (states_of held.new.items)) }
+    ensures sets { IfOk result (λ known.
+        IsTrue known → All (IsWithin (length names.now)) (states_of held.new.items)) }
 {
-    let state = state_in(alloc, form, names)?;
+    let Some(state) = state_in(alloc, form, names)? else {
+        return Ok(false);
+    };
     held.push(state)?;
-    Ok(())
+    Ok(true)
 }
 
-// The live set and the table that a text says of a state.
-fn state_in(alloc: Global, form: &StateForm<'_>, names: &Names) -> Result<(Set, Table), NoMem>
-    requires text { IsStateText form.now }
-    requires known { IsKnownState names.now form.now }
-    ensures says { IfOk result (λ s.
-        state_text names.now (record { live = s.0; table = s.1 }) ≡ form.now) }
-    ensures sets { IfOk result (λ s.
-        IsWithin (length names.now) (record { live = s.0; table = s.1 })) }
+// The live set and the table that a text says of a state, or nothing where it names what it may
+// not.
+fn state_in(
+    alloc: Global,
+    form: &StateForm<'_>,
+    names: &Names,
+) -> Result<Option<(Set, Table)>, NoMem>
+    requires { IsStateText form.now }
+    ensures unknown { IfOk result (λ s. IfNone s (IsKnownState names.now form.now → ⊥)) }
+    ensures known { IfOk result (λ s. IfSome s (λ _. IsKnownState names.now form.now)) }
+    ensures says { IfOk result (λ s. IfSome s (λ s.
+        state_text names.now (record { live = s.0; table = s.1 }) ≡ form.now)) }
+    ensures sets { IfOk result (λ s. IfSome s (λ s.
+        IsWithin (length names.now) (record { live = s.0; table = s.1 }))) }
 {
-    let live = set_of(alloc, form.live.as_slice(), names)?;
+    let Some(live) = known_set(alloc, form.live.as_slice(), names)? else {
+        return Ok(None);
+    };
+    if !bundles_are_complete(form.bundles.as_slice(), names) {
+        drop(live);
+        return Ok(None);
+    }
     let Ok(table) = table_of(alloc, form.bundles.as_slice(), names) else {
         drop(live);
         return Err(AllocError);
     };
-    Ok((live, table))
+    Ok(Some((live, table)))
 }

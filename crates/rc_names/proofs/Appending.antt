@@ -28,14 +28,19 @@ module _ {K : Type 0} (bytes : K → List ℕ) where
     pub names : AreNames new
     pub is : new ≡ old ++ name ∷ []
 
-  -- what an insert of a name that comes last leaves
-  pub last_after : (old new : List (K × List ℕ)) (key : K) (name : List ℕ)
-      → map bytes (keys_of old) ≡ values_of old → AreNames (values_of old)
-      → length (values_of old) < 4096 → IsName name → bytes key ≡ name
-      → All (λ other. IsBefore other name) (values_of old)
+  -- what an insert of a name that comes last leaves of a table that shows these names
+  pub last_after : (old new : List (K × List ℕ)) (key : K) (names : List (List ℕ)) (name : List ℕ)
+      → values_of old ≡ names → map bytes (keys_of old) ≡ values_of old
+      → AreNames (values_of old) → length names < 4096 → IsName name → bytes key ≡ name
+      → All (λ other. IsBefore other name) names
       → new ≡ insert_entry (λ x y. bytes_eq (bytes x) (bytes y)) old key name
-      → HasLast (keys_of new) (values_of old) name (values_of new)
-  last_after old new key name seen held room good shows last entries =
+      → HasLast (keys_of new) names name (values_of new)
+  last_after old new key names name view seen held few good shows all_before entries =
+      let Few : List (List ℕ) → Type 0 = λ texts. length texts < 4096 in
+      let Last : List (List ℕ) → Type 0 = λ texts. All (λ other. IsBefore other name) texts in
+      let room : length (values_of old) < 4096 = subst Few (sym view) few in
+      let last : All (λ other. IsBefore other name) (values_of old) =
+      subst Last (sym view) all_before in
       let long : length (keys_of old) ≡ length old = length-map old (λ e. e.0) in
       let fresh : Contains (values_of old) name → ⊥ = λ there. not_before_itself name
       (All-contains (λ other. IsBefore other name) (values_of old) name last there) in
@@ -54,5 +59,5 @@ module _ {K : Type 0} (bytes : K → List ℕ) where
       record {
         shown = texts ∙ sym values;
         names = subst AreNames (sym values) (names_pushed (values_of old) name held room good last);
-        is = values;
+        is = values ∙ ap (λ (texts : List (List ℕ)). texts ++ name ∷ []) view;
       }

@@ -1,5 +1,6 @@
-use Rattle.std.specs.Prelude.{◌≡◌, ◌≢◌, ◌<◌, ◌≤◌, ℕ, List, [], ◌∷◌, ◌++◌, length, All, slice_index}
-use Rattle.std.specs.List.{join_with_byte}
+use Rattle.std.specs.Prelude.{◌≡◌, ◌≢◌, ◌<◌, ◌≤◌, ◌==◌, ℕ, List, [], ◌∷◌, ◌++◌, length, All, slice_index}
+use Rattle.std.specs.Prelude.{Option, None, Some}
+use Rattle.std.specs.List.{join_with_byte, slice_split}
 
 -- words with one space between them, and a newline
 abbrev pub line_of_words : List (List ℕ) → List ℕ
@@ -13,6 +14,11 @@ IsPlain word = All (λ byte. (byte ≢ 32) × (byte ≢ 10)) word
 pub record ArePlain (words : List (List ℕ)) : Type 0 where
   pub some : 0 < length words
   pub each : All IsPlain words
+
+-- the words of the line that is left, where there is one
+abbrev pub words_left : Option (List ℕ) → List (List ℕ)
+words_left None = []
+words_left (Some line) = slice_split (λ byte. byte == 32) line
 
 -- the words of a line stand in front of the rest
 abbrev pub BeginsWith : List ℕ → List (List ℕ) → List ℕ → Type 0

@@ -4,11 +4,13 @@
 #![tactic(auto)]
 
 pub mod laws;
+mod line_words;
 mod lines;
 mod name_word;
 mod order;
 mod words;
 
+pub use crate::line_words::Words;
 pub use crate::lines::{BundleForm, argument, arguments, number_line};
 pub use crate::name_word::{NameWord, names_of};
 pub use crate::order::{ascend, is_before};

@@ -1,7 +1,8 @@
 //! Names as words of the text that they stand in.
-ghost use Rattle.std.specs.Prelude.{◌≡◌, List, map, All, IfOk, MatchOption};
+ghost use Rattle.std.specs.Prelude.{◌≡◌, All, IfOk, MatchOption};
 ghost use Rattle.rc_model.specs.Names.{IsName};
 
+use crate::line_words::Words;
 use rc_names::{Name, is_name};
 use std::alloc::{AllocError, Global};
 use std::marker::Model;
@@ -55,14 +56,14 @@ impl<'a> NameWord<'a> {
 /// The words as names, if each is one.
 pub fn names_of<'a>(
     alloc: Global,
-    words: &[&'a str],
+    words: Words<'a>,
 ) -> Result<Option<Vec<NameWord<'a>>>, AllocError>
-    ensures { IfOk result (λ names. MatchOption names
-        (All IsName (map (λ word. word.now) words.now) → ⊥)
-        (λ names. (names.items ≡ map (λ word. word.now) words.now) × All IsName names.items)) }
+    ensures { IfOk result (λ names. MatchOption names (All IsName words.entry → ⊥)
+        (λ names. (names.items ≡ words.entry) × All IsName names.items)) }
 {
-    let mut names = Vec::with_capacity(alloc, words.len())?;
-    for word in words {
+    let mut left = words;
+    let mut names = Vec::with_capacity(alloc, left.count())?;
+    while let Some(word) = left.next_word() {
         match NameWord::read(word) {
             Some(name) => names.push(name)?,
             None => return Ok(None),

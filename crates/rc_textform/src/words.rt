@@ -1,39 +1,29 @@
 //! The words of lines, and what they may be: names and numbers.
-ghost use Rattle.std.specs.Prelude.{◌≡◌, ◌≢◌, ◌<◌, ◌≤◌, ◌==◌, ◌↔◌};
-ghost use Rattle.std.specs.Prelude.{ℕ, List, [], ◌∷◌, ◌++◌, length, map, All};
-ghost use Rattle.std.specs.Prelude.{IfOk, IsTrue, IfSome, IfNone, MatchOption};
+ghost use Rattle.std.specs.Prelude.{◌≡◌, ◌≢◌, ◌<◌, ◌≤◌, ◌↔◌};
+ghost use Rattle.std.specs.Prelude.{ℕ, List, ◌∷◌, ◌++◌, All};
+ghost use Rattle.std.specs.Prelude.{IsTrue, IfSome, IfNone, MatchOption};
 ghost use Rattle.std.specs.Fmt.{decimal};
-ghost use Rattle.std.specs.List.{slice_split};
 ghost use Rattle.std.specs.Str.{IsUtf8};
 ghost use Rattle.std.specs.Str.Parse.{digits_value};
 ghost use Rattle.rc_textform.specs.Words.{BeginsWith, IsNumber, line_of_words};
 
+use crate::line_words::Words;
 use memchr::memchr;
-use std::alloc::{AllocError, Global};
-
-// Room for the words of most lines.
-const MANY_WORDS: usize = 8;
 
 /// The words of the line at the beginning, and what follows it. None: no whole line of text stands
 /// there.
-pub fn words_of<'a>(
-    alloc: Global,
-    bytes: &'a [u8],
-) -> Result<Option<(Vec<&'a str>, &'a [u8])>, AllocError>
-    ensures { IfOk result (λ read. MatchOption read
+pub fn words_of(bytes: &[u8]) -> Option<(Words<'_>, &[u8])>
+    ensures { MatchOption result
         ((words : List (List ℕ)) (rest : List ℕ) → All IsUtf8 words
         → bytes.now ≡ line_of_words words ++ rest → ⊥)
-        (λ read. BeginsWith bytes.now (map (λ word. word.now) read.0.items) read.1.now)) }
+        (λ read. BeginsWith bytes.now read.0 read.1.now) }
 {
     let Some((line, rest)) = cut(bytes) else {
-        return Ok(None);
+        return None;
     };
     match str::from_utf8(line) {
-        Ok(line) => {
-            let words = split(alloc, line)?;
-            Ok(Some((words, rest)))
-        }
-        Err(_) => Ok(None),
+        Ok(line) => Some((Words::of(line), rest)),
+        Err(_) => None,
     }
 }
 
@@ -45,16 +35,6 @@ fn cut(bytes: &[u8]) -> Option<(&[u8], &[u8])>
 {
     let end = memchr(b'\n', bytes)?;
     Some((&bytes[..end], &bytes[end + 1..]))
-}
-
-// The pieces of a line between its spaces.
-fn split(alloc: Global, line: &str) -> Result<Vec<&str>, AllocError>
-    ensures { IfOk result (λ words. map (λ word. word.now) words.items
-        ≡ slice_split (λ byte. byte == 32) line.now) }
-{
-    let mut words = Vec::with_capacity(alloc, MANY_WORDS)?;
-    words.extend(line.split(' '))?;
-    Ok(words)
 }
 
 /// Whether a word is this one.

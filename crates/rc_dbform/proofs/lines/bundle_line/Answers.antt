@@ -11,5 +11,5 @@ returns-in_err-words-clause-fault c =
 
 pub returns-in-Ok-None-clause-fault : goal.returns-in-Ok-None-clause-fault
 returns-in-Ok-None-clause-fault c =
-    let none = rw (c.in-Ok-None.field-0-is, c.as_slice.ensures.value) at c.in-Ok-None.ensures in
+    let none = rw c.in-Ok-None.field-0-is at c.in-Ok-None.ensures in
     other_line IsBundleText OfBundle bundle_kind c.args.bytes.now c.in_ok-words.rest.now _ c.in_ok-words.ensures.ok (λ value tail is same behind. none value is same)

@@ -14,12 +14,12 @@ returns-in_err-words-clause-fault c =
 
 pub returns-in_default-clause-fault : goal.returns-in_default-clause-fault
 returns-in_default-clause-fault c =
-    let none = rw c.as_slice.ensures.value at c.in_default.ensures in
+    let none = c.in_default.ensures in
     other_line IsScript OfUp up_kind c.args.bytes.now c.in_ok-words.rest.now _ c.in_ok-words.ensures.ok (λ value tail is same behind. none (decimal (length value)) same)
 
-pub returns-clause-fault : goal.returns-clause-fault
-returns-clause-fault c =
+pub returns-in-None-clause-fault : goal.returns-in-None-clause-fault
+returns-in-None-clause-fault c =
     let none = c.in-None.ensures in
-    let long = rw c.as_slice.ensures.value at c.in-Some.ensures in
+    let long = c.in-Some.ensures in
     other_line IsScript OfUp up_kind c.args.bytes.now c.in_ok-words.rest.now _ c.in_ok-words.ensures.ok
     (λ value tail is same behind. none value tail is (ap (λ (l : List (List ℕ)). get_or l 1 []) (sym long ∙ same)) behind)

@@ -16,8 +16,8 @@ returns-in-Err c = λ words rest each same.
     c.in-Err.ensures.cases.0
     (front_text c.in-Some.line.now c.in-Some.rest.now rest words each cut.1 (sym cut.0 ∙ same))
 
-pub returns-in_ok-words-in-Ok : goal.returns-in_ok-words-in-Ok
-returns-in_ok-words-in-Ok c =
+pub returns-in-Ok : goal.returns-in-Ok
+returns-in-Ok c =
     let cut = c.in-Some.ensures.line in
     let line : List ℕ = c.in-Some.line.now in
     let pieces : List (List ℕ) = slice_split (λ byte. byte == 32) line in
@@ -25,6 +25,5 @@ returns-in_ok-words-in-Ok c =
     cut.0 ∙ sym (append_assoc line (10 ∷ []) c.in-Some.rest.now)
     ∙ ap (λ (l : List ℕ). l ++ 10 ∷ [] ++ c.in-Some.rest.now)
     (sym (join_with_byte-slice_split 32 line)) in
-    let words = c.in_ok-words-in-Ok.ensures
-    ∙ ap (slice_split (λ byte. byte == 32)) c.in-Ok.ensures.cases.0 in
+    let words = c.of.ensures ∙ ap (slice_split (λ byte. byte == 32)) c.in-Ok.ensures.cases.0 in
     rw words (split_plain line cut.1, whole)
