@@ -1,3 +1,6 @@
 mod Ending
 mod Refused
 mod Refusing
+mod Reordering
+mod Swaps
+mod Unstopped

@@ -4,7 +4,7 @@ use Rattle.rc_model.specs.declared.Refusal.{Refusal}
 use Rattle.rc_model.specs.declared.Refusal.TheVariants.{Memory}
 use Rattle.rc_model.specs.Database.{Database}
 use Rattle.rc_model.specs.Line.{Line}
-use Rattle.rc_model.specs.Session.{Command, Reported}
+use Rattle.rc_model.specs.Session.{Command, IsLineOf, Reported}
 use Rattle.rc_session.specs.Holding.{Holding}
 use Rattle.rc_livetext.specs.Spelling.{Spells}
 use Rattle.rc_recovery.specs.Recovering.{Enters, Recovers}
@@ -25,16 +25,18 @@ recovers_on old command report new fresh recovers =
 
 -- a refusal other than for memory is one of the command
 pub refused_in : (old : Holding) (command : Command) (r : Refusal) (new : Holding) (text : List ℕ)
-    → r ≢ Memory → old ≡ session_on old.database old.line → Spells old.database text old.line
+    → r ≢ Memory → old ≡ session_on old.database old.line → IsLineOf old.database old.line
+    → Spells old.database text old.line
     → Recovers old command (Err r) new → IsRefusedIn old.database text command
-refused_in old command r new text other fresh spells (inl enters) =
+refused_in old command r new text other fresh line_of spells (inl enters) =
     let same : Holding → Type 0 = λ n. Enters old command (Err r) n in
     let on : Holding → Type 0 = λ h. Enters h command (Err r) h in (
       old.line,
+      line_of,
       spells,
       (r, other, subst on fresh (subst same (enters_nothing old command r new enters) enters)),
     )
-refused_in old command r new text other fresh spells (inr memory) =
+refused_in old command r new text other fresh line_of spells (inr memory) =
     absurd (other (let e = memory.0 in cc))
 
 -- what a session promises of each text of its line is promised of this one

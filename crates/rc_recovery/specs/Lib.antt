@@ -1,3 +1,4 @@
 pub mod Ends
 pub mod Recovering
+pub mod Reordered
 pub mod RunLog

@@ -4,7 +4,7 @@ use Rattle.rc_model.specs.declared.Refusal.{Refusal}
 use Rattle.rc_model.specs.declared.Refusal.TheVariants as refusal
 use Rattle.rc_model.specs.Database.{Database}
 use Rattle.rc_model.specs.Line.{Line}
-use Rattle.rc_model.specs.Session.{Command, Reported, events_of}
+use Rattle.rc_model.specs.Session.{Command, IsLineOf, Reported, events_of}
 use Rattle.rc_session.specs.Holding.{Holding}
 use Rattle.rc_livetext.specs.Spelling.{Spells, spelling}
 use Rattle.rc_livetext.specs.LiveFaults.{IsLiveFault}
@@ -51,6 +51,7 @@ session_on d line = record { database = d; line = line; begun = false; spoiled =
 pub record IsEnteredAs (d : Database) (text : List ℕ) (command : Command)
     (entered told : List ℕ) : Type 0 where
   pub line : Line
+  pub line_of : IsLineOf d line
   pub spells : Spells d text line
   pub report : Reported
   pub new : Holding
@@ -65,7 +66,7 @@ EntersOne d text commands entered told = (command : Command) × (commands ≡ co
 
 -- the session of a text refuses the command
 abbrev pub IsRefusedIn : Database → List ℕ → Command → Type 0
-IsRefusedIn d text command = (line : Line) × Spells d text line
+IsRefusedIn d text command = (line : Line) × IsLineOf d line × Spells d text line
     × ((refused : Refusal) × (refused ≢ refusal.Memory)
     × Enters (session_on d line) command (Err refused) (session_on d line))
 

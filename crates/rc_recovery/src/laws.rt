@@ -9,6 +9,7 @@ ghost use Rattle.rc_model.specs.Run.{Course, IsLive, IsRun, IsSettled, IsStopped
 ghost use Rattle.rc_model.specs.Session.{Command, IsRunFault};
 ghost use Rattle.rc_recovery.specs.Ends.{IsEndOf, last_stop, with_ends};
 ghost use Rattle.rc_recovery.specs.Recovering.{IsCutShort, called_off};
+ghost use Rattle.rc_recovery.specs.Reordered.{AreReordered, without_stops};
 
 /// The ends of what was under way and a stop settle a run that was cut short, if it has a deadline
 /// and was not stopped.
@@ -42,4 +43,23 @@ pub fn cut_commands_are_entered()
     ensures { (d : Database) (line : Line) (command : Command) (refusal : Refusal) →
         HasRun command → IsCutShort d line command →
         IsRunFault d line (called_off command) refusal → ⊥ }
+{}
+
+/// Several workers log their events, each its own in their order: a take after it was made, and an
+/// end before it counts. Whatever the order of a log then is, its events are a run, and leave the
+/// same services live.
+pub fn logs_may_be_reordered()
+    ensures run { (c : Course) (steps : List (List Event)) (old new : List Event) →
+        AreReordered steps old new → IsRun c old → IsRun c new }
+    ensures live { (c : Course) (steps : List (List Event)) (old new : List Event) →
+        AreReordered steps old new → IsRun c old → (s : ℕ) → IsLive c new s ↔ IsLive c old s }
+{}
+
+/// The events of a run without its stop are a run that was not stopped, and leave the same
+/// services live. So a stop needs no line in a log.
+pub fn stops_need_no_line()
+    ensures run { (c : Course) (events : List Event) → IsRun c events →
+        IsRun c (without_stops events) × (IsStopped (without_stops events) → ⊥) }
+    ensures live { (c : Course) (events : List Event) (s : ℕ) →
+        IsLive c (without_stops events) s ↔ IsLive c events s }
 {}

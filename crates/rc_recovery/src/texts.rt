@@ -1,7 +1,7 @@
 //! Recovery from the texts of the two files, the file of a session and its run log, to a new text.
 ghost use Rattle.std.specs.Prelude.{◌≡◌, ◌≢◌, ◌++◌, ℕ, List, [], map, IfNone, IfOk, IfSome, IsErrOf, IsFalse, IsTrue, MatchBool, MatchOption};
 ghost use Rattle.rc_model.specs.Headline.{HasRun};
-ghost use Rattle.rc_model.specs.Session.{events_of};
+ghost use Rattle.rc_model.specs.Session.{IsLineOf, events_of};
 ghost use Rattle.rc_livetext.specs.Spelling.{Spells};
 ghost use Rattle.rc_session.specs.Commands.{command_of};
 ghost use Rattle.rc_recovery.specs.RunLog.{AreLines, AreNone, AreUnfit, EntersOne, HasNothing, IsEntered, IsEnteredAs, IsOther, IsRefusedIn, IsUnfit, IsUnfitFor, session_on};
@@ -184,6 +184,7 @@ fn fault_of(fault: LiveFault) -> RecoverFault
 /// Enters a step in a session, and reports it.
 fn entered_in(alloc: Global, session: &mut Session, step: &Step) -> Result<Recovered, RecoverFault>
     requires fresh { session.old ≡ session_on session.old.database session.old.line }
+    requires line { IsLineOf session.old.database session.old.line }
     requires run { HasRun (command_of step.now) }
     ensures entered { IfOk result (λ one. (text : List ℕ) →
         Spells session.old.database text session.old.line → IsEnteredAs session.old.database text

@@ -3,10 +3,12 @@
 //! memory, and a graph of as many services as there may be. Whether lists of events are taken, and
 //! who asks is answered, exactly where a plain program says so. Drawn changes, each carried out in
 //! many orders, and drawn databases, each written and read back, and once more after edits of
-//! bytes. And changes that were cut short, entered from their run logs.
+//! bytes. Changes that were cut short, entered from their run logs; and one that is cut short at
+//! each byte that it writes.
 #![tactic(auto)]
 
 mod compare;
+mod crashed;
 mod device;
 mod drawn;
 mod edits;
@@ -22,6 +24,7 @@ mod trees;
 mod tried;
 mod wide;
 
+use crate::crashed::show_crashed;
 use crate::joining::show_joined;
 use crate::legality::show_legality;
 use crate::names::{show_names, show_words};
@@ -40,6 +43,7 @@ fn main(rt: HostRuntime) -> Result<(), Fail> {
     show_joined(&rt)?;
     show_trees(&rt)?;
     show_recovered(&rt)?;
+    show_crashed(&rt)?;
     show_wide(&rt)?;
     show_legality(&rt)?;
     show_schedules(&rt)?;

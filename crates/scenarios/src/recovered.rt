@@ -15,7 +15,7 @@ use std::str;
 use std::test::Fail;
 
 /// What is shown, the events that were logged, and what stands of one more line.
-type Row<'a> = (&'a str, &'a [Event], &'a str);
+pub(crate) type Row<'a> = (&'a str, &'a [Event], &'a str);
 
 const ROOT_UP: [Event; 2] = [Event::Take(1, ROOT), Event::Done(1, ROOT, Outcome::Ok)];
 
@@ -33,7 +33,7 @@ const LOG_UP_TOO: [Event; 5] = [
     Event::Done(2, LOG, Outcome::Ok),
 ];
 
-const ALL_UP: [Event; 10] = [
+pub(crate) const ALL_UP: [Event; 10] = [
     Event::Take(1, LOG),
     Event::Take(2, ROOT),
     Event::Done(2, ROOT, Outcome::Ok),
@@ -76,7 +76,7 @@ fn show_row(rt: &(impl Print + AllocGlobal), row: &Row) -> Result<(), Fail> {
 }
 
 /// The text of a session on the sample in which nothing is live.
-fn first_text(alloc: Global) -> Result<Vec<u8>, Fail> {
+pub(crate) fn first_text(alloc: Global) -> Result<Vec<u8>, Fail> {
     let session = Session::new(alloc, sample(alloc)?)?;
     let text = write_live(alloc, &session);
     drop(session);
@@ -84,7 +84,7 @@ fn first_text(alloc: Global) -> Result<Vec<u8>, Fail> {
 }
 
 /// The run log of a change that raises the bundle of the sample.
-fn log_of(alloc: Global, text: &[u8], row: &Row) -> Result<Vec<u8>, Fail> {
+pub(crate) fn log_of(alloc: Global, text: &[u8], row: &Row) -> Result<Vec<u8>, Fail> {
     let db = sample(alloc)?;
     let mut log = Vec::from_slice(alloc, text)?;
     if let Some(line) = step_line(alloc, &raise_site(alloc)?)? {
@@ -100,7 +100,7 @@ fn log_of(alloc: Global, text: &[u8], row: &Row) -> Result<Vec<u8>, Fail> {
     Ok(log)
 }
 
-fn raise_site(alloc: Global) -> Result<Step, Fail> {
+pub(crate) fn raise_site(alloc: Global) -> Result<Step, Fail> {
     let mut names = Vec::new(alloc);
     names.push(String::from_str(alloc, "site")?)?;
     let request = Request {
@@ -117,8 +117,13 @@ fn raise_site(alloc: Global) -> Result<Step, Fail> {
 fn show_entered(rt: &(impl Print + AllocGlobal), made: &Recovered) -> Result<(), Fail> {
     let report = str::from_utf8(&made.report).unwrap_or("no text");
     print!(rt; "{report}")?;
+    show_journal(rt, &made.text)
+}
+
+/// The journal of a text.
+pub(crate) fn show_journal(rt: &(impl Print + AllocGlobal), text: &[u8]) -> Result<(), Fail> {
     let db = sample(rt.alloc())?;
-    match read_live(rt.alloc(), &made.text, &db) {
+    match read_live(rt.alloc(), text, &db) {
         Ok((line, _)) => {
             let journal = journal_text(rt.alloc(), &db, &line)?;
             let journal = str::from_utf8(&journal).unwrap_or("no text");

@@ -6,6 +6,7 @@ use Rattle.rc_recovery.proofs.texts.entered_in.Goals as goal
 pub returns-in_ok-text-in-Ok-clause-entered : goal.returns-in_ok-text-in-Ok-clause-entered
 returns-in_ok-text-in-Ok-clause-entered c = λ text spells. record {
   line = c.args.session.now.line;
+  line_of = c.requires.line;
   spells = spells;
   report = told_of c.in-Ok.done;
   new = c.recover.new.session;
@@ -23,6 +24,6 @@ returns-in-Err c = record {
   entered = tt;
   refused = λ is text spells.
       refused_in c.args.session.now (command_of c.args.step.now) c.in-Err.refusal
-      c.recover.new.session text (c.fault_by.ensures (let e = is in cc)) c.requires.fresh spells
-      c.in-Err.ensures;
+      c.recover.new.session text (c.fault_by.ensures (let e = is in cc)) c.requires.fresh
+      c.requires.line spells c.in-Err.ensures;
 }

@@ -1,0 +1,12 @@
+mod Bytes
+mod Known
+mod Reading
+mod Cut
+mod Entered
+mod Resting
+mod Held
+mod Crashing
+mod Alike
+mod Possible
+mod Files
+mod Order

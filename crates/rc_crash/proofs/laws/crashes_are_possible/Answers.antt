@@ -1,0 +1,21 @@
+use Rattle.std.proofs.Common.{[]}
+use Rattle.rc_model.specs.declared.Event.TheVariants.{Take}
+use Rattle.rc_crash.proofs.Possible.{held, lowered, one_service, possible, raised, the_command, the_files, the_text}
+use Rattle.rc_crash.proofs.Resting.{files}
+use Rattle.rc_crash.proofs.laws.crashes_are_possible.Goals as goal
+
+pub returns : goal.returns
+returns c = (
+  one_service,
+  lowered,
+  raised,
+  the_command,
+  files the_text [],
+  the_files,
+  Take 1 0,
+  possible (record {
+    one = c.scripts_give_one_list.ensures.value;
+    right = c.scripts_give_one_list.ensures.fault;
+  }),
+  held,
+)

@@ -1,0 +1,187 @@
+//! A change that is cut short at each byte that it writes, and recoveries that are cut short too:
+//! what the next command finds each time.
+
+ghost use Rattle.std.specs.Prelude.{◌≡◌};
+
+use crate::recovered::{ALL_UP, first_text, log_of, raise_site, show_journal};
+use rc_crash::{FilesFault, recover_files};
+use rc_files::{FileFault, TwoFiles, begin_log, replace_and_empty};
+use rc_livetext::write_live;
+use rc_script::event_line;
+use rc_session::{Session, Step};
+use samples::sample;
+use std::alloc::Global;
+use std::test::Fail;
+
+/// Two files in memory. A byte that is appended, a replacement and an emptying each take one of
+/// their steps; where no step is left, the call fails there, as if the program was killed.
+#[derive(Drop)]
+struct MemoryFiles {
+    alloc: Global,
+    file: Vec<u8>,
+    log: Vec<u8>,
+    steps: usize,
+}
+
+impl TwoFiles for MemoryFiles {
+    ghost holds = { λ f. record { file = f.file.items; log = f.log.items } };
+
+    ghost left = { λ f g. g ≡ record { file = f.file.items; log = f.log.items } };
+
+    fn read_file(&self, alloc: Global) -> Result<Vec<u8>, FileFault> {
+        match Vec::from_slice(alloc, &self.file) {
+            Ok(bytes) => Ok(bytes),
+            Err(_) => Err(FileFault::Memory),
+        }
+    }
+
+    fn read_log(&self, alloc: Global) -> Result<Vec<u8>, FileFault> {
+        match Vec::from_slice(alloc, &self.log) {
+            Ok(bytes) => Ok(bytes),
+            Err(_) => Err(FileFault::Memory),
+        }
+    }
+
+    fn append_log(&mut self, bytes: &[u8]) -> Result<(), FileFault> {
+        let whole = bytes.len() <= self.steps;
+        let count = if whole { bytes.len() } else { self.steps };
+        if self.log.extend_from_slice(&bytes[..count]).is_err() {
+            return Err(FileFault::Memory);
+        }
+        self.steps -= count;
+        if whole { Ok(()) } else { Err(FileFault::Io) }
+    }
+
+    fn replace_file(&mut self, text: &[u8]) -> Result<(), FileFault> {
+        if self.steps == 0 {
+            return Err(FileFault::Io);
+        }
+        let Ok(text) = Vec::from_slice(self.alloc, text) else {
+            return Err(FileFault::Memory);
+        };
+        self.steps -= 1;
+        self.file = text;
+        Ok(())
+    }
+
+    fn empty_log(&mut self) -> Result<(), FileFault> {
+        if self.steps == 0 {
+            return Err(FileFault::Io);
+        }
+        self.steps -= 1;
+        self.log.clear();
+        Ok(())
+    }
+}
+
+/// What a change logs, and the texts of its session before and after it.
+#[derive(Drop)]
+struct Logged {
+    old: Vec<u8>,
+    head: Vec<u8>,
+    lines: Vec<String>,
+    new: Vec<u8>,
+}
+
+/// Shows from which step on the text in the end is another, and its journal.
+pub(crate) fn show_crashed(rt: &(impl Print + AllocGlobal)) -> Result<(), Fail> {
+    let alloc = rt.alloc();
+    let change = logged_change(alloc)?;
+    let mut before = Vec::new(alloc);
+    for steps in 0..MOST_STEPS {
+        let (text, whole) = text_in_the_end(alloc, &change, steps)?;
+        if text != before {
+            println!(rt; "cut short from step {steps} on:")?;
+            show_journal(rt, &text)?;
+        }
+        if !is_one_text(alloc, &change, steps, &text)? {
+            println!(rt; "another text after recoveries that were cut short")?;
+        }
+        before = text;
+        if whole {
+            return Ok(println!(rt; "whole at step {steps}")?);
+        }
+    }
+    Ok(println!(rt; "never whole")?)
+}
+
+/// More steps than a change of the sample takes.
+const MOST_STEPS: usize = 10_000;
+
+/// A change that raises the bundle of the sample, all of which comes up.
+fn logged_change(alloc: Global) -> Result<Logged, Fail> {
+    let old = first_text(alloc)?;
+    let head = log_of(alloc, &old, &("", &[], ""))?;
+    let mut lines = Vec::new(alloc);
+    let db = sample(alloc)?;
+    for event in &ALL_UP {
+        if let Some(line) = event_line(alloc, db.names(), *event)? {
+            lines.push(line)?;
+        }
+    }
+    let mut session = Session::new(alloc, db)?;
+    if let Step::Change(request, _) = &raise_site(alloc)? {
+        let _ = session.change_by(alloc, request, &ALL_UP);
+    }
+    let new = write_live(alloc, &session)?;
+    drop(session);
+    Ok(Logged {
+        old,
+        head,
+        lines,
+        new,
+    })
+}
+
+/// Carries a change out.
+fn carry_out(files: &mut MemoryFiles, change: &Logged) -> Result<(), FileFault> {
+    begin_log(files, &change.head)?;
+    for line in &change.lines {
+        files.append_log(line.as_bytes())?;
+    }
+    replace_and_empty(files, &change.new)
+}
+
+/// The files that a change leaves after so many steps, and whether it was whole then.
+fn cut_short(alloc: Global, change: &Logged, steps: usize) -> Result<(MemoryFiles, bool), Fail> {
+    let mut files = MemoryFiles {
+        alloc,
+        file: Vec::from_slice(alloc, &change.old)?,
+        log: Vec::new(alloc),
+        steps,
+    };
+    let whole = carry_out(&mut files, change).is_ok();
+    Ok((files, whole))
+}
+
+/// Recovers within so many steps, or is cut short.
+fn recover(alloc: Global, files: &mut MemoryFiles, steps: usize) -> Result<(), Fail> {
+    files.steps = steps;
+    match recover_files(alloc, sample(alloc)?, files) {
+        Ok(_) | Err(FilesFault::Io) => Ok(()),
+        Err(fault) => Err(Fail::new(fault)),
+    }
+}
+
+/// The text that the next command finds where a change was cut short after so many steps.
+fn text_in_the_end(alloc: Global, change: &Logged, steps: usize) -> Result<(Vec<u8>, bool), Fail> {
+    let (mut files, whole) = cut_short(alloc, change, steps)?;
+    recover(alloc, &mut files, WHOLE_RECOVERY)?;
+    let MemoryFiles { file, .. } = files;
+    Ok((file, whole))
+}
+
+/// The steps of a recovery: the file is replaced, and the log is emptied.
+const WHOLE_RECOVERY: usize = 2;
+
+/// Whether it finds this text also after recoveries that were cut short.
+fn is_one_text(alloc: Global, change: &Logged, steps: usize, text: &[u8]) -> Result<bool, Fail> {
+    let (mut files, _) = cut_short(alloc, change, steps)?;
+    for given in 0..WHOLE_RECOVERY {
+        recover(alloc, &mut files, given)?;
+    }
+    recover(alloc, &mut files, WHOLE_RECOVERY)?;
+    let same = files.file.as_slice() == text;
+    drop(files);
+    Ok(same)
+}
