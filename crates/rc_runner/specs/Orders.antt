@@ -1,5 +1,6 @@
 -- What is to be done for a transition, before anything is started.
-use Rattle.std.specs.Prelude.{◌≡◌, ◌≢◌, ◌∷◌, ℕ, List, [], Option, Some, None, slice_get}
+use Rattle.std.specs.Prelude.{◌≡◌, ◌≢◌, ◌==◌, ◌∷◌, ℕ, List, [], Option, Some, None, codes, if◌then◌else◌, slice_get}
+use Rattle.std.specs.declared.process.command.Command.{Command}
 use Rattle.rc_model.specs.declared.Kind.{Kind}
 use Rattle.rc_model.specs.declared.Kind.TheVariants.{Oneshot, Longrun, Bundle}
 use Rattle.rc_graph.specs.declared.Way.{Way}
@@ -11,11 +12,20 @@ use Rattle.rc_runner.specs.declared.order.Move.{Move}
 use Rattle.rc_runner.specs.declared.order.Move.TheVariants.{Known, Start}
 use Rattle.rc_runner.specs.Shell.{Scripts, Runs, IsTold, MayEnd, text_of, limit_for, seconds_of, word_of}
 
+-- the words by which a program is started under a limit: one that has a limit leads a session of its
+-- own, so that all that it starts can be ended
+abbrev pub led : (limit : ℕ) → List (List ℕ) → List (List ℕ)
+led limit words = if limit == 0 then words else codes "setsid" ∷ words
+
+-- a command of these words, of which there are some, under a limit
+abbrev pub IsCommandOf : {A : Type 0} → (limit : ℕ) → List (List ℕ) → Command A → Type 0
+IsCommandOf limit words command = (words ≢ []) × Runs (led limit words) [] command
+
 -- a program that is to be started: these words and further ones after them, told of this service,
 -- way and limit, and to be waited for under this limit
 pub record IsOrder (words more : List (List ℕ)) (name : List ℕ) (way : Way) (limit : ℕ)
     (order : Order) : Type 0 where
-  pub runs : Runs words more order.command
+  pub runs : Runs (led limit words) more order.command
   pub told : IsTold name way limit order.command
   pub name_is : order.task.name.now ≡ name
   pub way_is : order.task.way ≡ way

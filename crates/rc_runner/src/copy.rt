@@ -3,6 +3,7 @@
 ghost use Rattle.std.specs.Prelude.{◌≡◌, IfOk, map, string_bytes, option_map};
 
 use rc_db::{Db, NoMem, Service};
+use rc_names::Names;
 use std::alloc::Global;
 
 /// A copy of what is said of each service.
@@ -24,6 +25,15 @@ pub(crate) fn names_of(alloc: Global, db: &Db) -> Result<Vec<String>, NoMem>
     let mut made = Vec::with_capacity(alloc, names.len() as usize)?;
     for id in 0..names.len() {
         made.push(String::from_str(alloc, names.name_of(id).text())?)?;
+    }
+    Ok(made)
+}
+
+/// A copy of a table of names.
+pub(crate) fn table_of(alloc: Global, names: &Names) -> Result<Names, NoMem> {
+    let mut made = Names::new(alloc);
+    for id in 0..names.len() {
+        made.add(names.name_of(id).copy(alloc)?)?;
     }
     Ok(made)
 }

@@ -4,7 +4,7 @@ ghost use Rattle.std.specs.Prelude.{◌≡◌, ◌∷◌, [], IfOk, map, string_
 ghost use Rattle.rc_runner.specs.Shell.{word_of};
 ghost use Rattle.rc_runner.specs.Orders.{IsCall};
 
-use crate::start::{add_two, command_of};
+use crate::start::{add_two, command_under};
 use crate::task::{Task, tell_task, word_towards};
 use rc_core::Outcome;
 use std::alloc::{AllocError, Global};
@@ -46,7 +46,7 @@ pub(crate) fn call_to_run<'a>(
     ensures { IfOk result (IsCall (map string_bytes runner.now) (text.now ∷ []) task.entry.name.now
         task.entry.way task.entry.limit) }
 {
-    let Some(mut command) = command_of(alloc, runner)? else {
+    let Some(mut command) = command_under(alloc, runner, task.limit)? else {
         return Ok(Move::Known(Outcome::NotStarted));
     };
     let Ok(_) = command.arg(text) else {
@@ -70,7 +70,7 @@ pub(crate) fn call_to_move<'a>(
         (word_of task.entry.way ∷ task.entry.name.now ∷ []) task.entry.name.now
         task.entry.way task.entry.limit) }
 {
-    let Some(mut command) = command_of(alloc, controller)? else {
+    let Some(mut command) = command_under(alloc, controller, task.limit)? else {
         return Ok(Move::Known(Outcome::NotStarted));
     };
     let Ok(()) = add_two(&mut command, word_towards(task.way), task.name) else {

@@ -5,6 +5,7 @@ use crate::table::TableGate;
 use log::Log;
 use rc_board::Gate;
 use rc_core::{Job, Outcome};
+use rc_session::{Session, Step};
 use std::process::Processes;
 use std::time::Clock;
 
@@ -33,6 +34,20 @@ impl<'a, R: Processes + Clock + Sync, L: Log + Sync> Gate for SessionGate<'a, R,
         match self {
             SessionGate::Table(table) => table.now(),
             SessionGate::Shell(shell) => shell.now(),
+        }
+    }
+
+    fn begin(&self, session: &Session, step: &Step) {
+        match self {
+            SessionGate::Table(table) => table.begin(session, step),
+            SessionGate::Shell(shell) => shell.begin(session, step),
+        }
+    }
+
+    fn end(&self) {
+        match self {
+            SessionGate::Table(table) => table.end(),
+            SessionGate::Shell(shell) => shell.end(),
         }
     }
 }

@@ -9,15 +9,19 @@ use crate::copy::{names_of, services_of, words_of};
 use crate::messages::tell;
 use crate::order::{Move, Order, call_to_move, call_to_run};
 use crate::progress::Event;
+use crate::run_log::RunLog;
 use crate::start::{end_of, millis_since, start};
 use crate::task::Task;
 use log::{Level, Log, log_enabled};
 use rc_board::Gate;
-use rc_core::{Job, Outcome};
+use rc_core::{Event as RunEvent, Job, Outcome};
 use rc_db::{Db, NoMem, Service};
 use rc_graph::Way;
 use rc_names::Kind;
+use rc_session::{Session, Step};
 use rc_streams::messages::MESSAGE;
+use rc_streams::run_file::RunFile;
+use rc_streams::stop_file::StopFile;
 use std::alloc::{AllocError, Global};
 use std::io::Stderr;
 use std::marker::Model;
@@ -47,6 +51,10 @@ pub struct ShellGate<'a, R, L> {
     log: &'a L,
     /// Where what they write goes, if anywhere.
     errors: Option<Stderr>,
+    /// Where its runs are logged, if anywhere.
+    run_log: Option<RunLog<'a>>,
+    /// What calls its runs off, if anything may.
+    stop_file: Option<&'a StopFile>,
 }
 
 impl<'a, R, L> Model for ShellGate<'a, R, L> {
@@ -95,6 +103,8 @@ impl<'a, R: Processes + Clock, L: Log> ShellGate<'a, R, L> {
             controller,
             limit,
             errors: None,
+            run_log: None,
+            stop_file: None,
         })
     }
 
@@ -106,13 +116,47 @@ impl<'a, R: Processes + Clock, L: Log> ShellGate<'a, R, L> {
         self
     }
 
-    /// Makes the transition of a service.
-    fn make(&self, service: u16, way: Way) -> Outcome
+    /// The same gate, which logs in this file each event of a run of the database: a take before
+    /// its program is started, and an end before it counts. What can't be logged is not started.
+    pub fn with_run_log(mut self, file: &'a RunFile, db: &Db) -> Result<ShellGate<'a, R, L>, NoMem>
+        ensures { IfOk result (λ gate. gate ≡ self.entry) }
+    {
+        match RunLog::new(self.alloc, file, db) {
+            Ok(run_log) => {
+                self.run_log = Some(run_log);
+                Ok(self)
+            }
+            Err(fault) => {
+                drop(self);
+                Err(fault)
+            }
+        }
+    }
+
+    /// The same gate, whose runs are called off by this file: its clock stands at the last moment
+    /// from then on.
+    pub fn with_stop_file(mut self, file: &'a StopFile) -> ShellGate<'a, R, L>
+        ensures { result ≡ self.entry }
+    {
+        self.stop_file = Some(file);
+        self
+    }
+
+    /// Logs an event where runs are logged. False: it could not be logged.
+    fn log_event(&self, event: RunEvent) -> bool {
+        match &self.run_log {
+            Some(run_log) => run_log.log(event),
+            None => true,
+        }
+    }
+
+    /// Makes the transition of a service. What was not logged is not started.
+    fn make(&self, service: u16, way: Way, is_logged: bool) -> Outcome
         ensures { MayAnswer self.now service way result }
     {
         match self.move_for(service, way) {
             Ok(Move::Known(outcome)) => outcome,
-            Ok(Move::Start(order)) => self.carry_out(order),
+            Ok(Move::Start(order)) => self.carry_out(order, is_logged),
             Err(_) => Outcome::NotStarted,
         }
     }
@@ -188,10 +232,14 @@ impl<'a, R: Processes + Clock, L: Log> ShellGate<'a, R, L> {
     }
 
     /// Tells that a program is started, starts it, and waits for it under the limit of its task.
-    fn carry_out(&self, order: Order<'_>) -> Outcome
+    fn carry_out(&self, order: Order<'_>, is_logged: bool) -> Outcome
         ensures { MayEnd (seconds_of order.entry.task.limit) result }
     {
         let (command, task) = order.into_parts();
+        if !is_logged {
+            drop(command);
+            return Outcome::NotStarted;
+        }
         self.tell_start(&task);
         let Some(mut child) = start(self.rt, command, self.errors) else {
             return Outcome::NotStarted;
@@ -218,12 +266,35 @@ impl<'a, R: Processes + Clock + Sync, L: Log + Sync> Gate for ShellGate<'a, R, L
     ghost gives = { λ gate moment. Unit {0} };
 
     fn run(&self, job: Job) -> Outcome {
-        self.make(job.service(), job.way())
+        let worker = job.worker();
+        let service = job.service();
+        let is_logged = self.log_event(RunEvent::Take(worker, service));
+        let outcome = self.make(service, job.way(), is_logged);
+        self.log_event(RunEvent::Done(worker, service, outcome));
+        outcome
     }
 
-    /// Milliseconds since the gate was made, 0 where the clock can't be read.
+    /// Milliseconds since the gate was made, 0 where the clock can't be read; and where the run is
+    /// called off the last moment that there is, at which each limit is over.
     fn now(&self) -> u64 {
+        if let Some(file) = self.stop_file {
+            if file.is_called_off() {
+                return u64::MAX;
+            }
+        }
         millis_since(self.rt, self.start).unwrap_or(0)
+    }
+
+    fn begin(&self, session: &Session, step: &Step) {
+        if let Some(run_log) = &self.run_log {
+            run_log.begin(session, step);
+        }
+    }
+
+    fn end(&self) {
+        if let Some(run_log) = &self.run_log {
+            run_log.end();
+        }
     }
 }
 

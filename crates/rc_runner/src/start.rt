@@ -3,7 +3,8 @@
 ghost use Rattle.std.specs.Prelude.{◌≡◌, ◌≤◌, ◌↔◌, ◌++◌, ◌∷◌, [], map, string_bytes, unwrap_or, IsTrue, IfOk, IfSome, OnOk, Ok, None};
 ghost use Rattle.std.specs.Process.{command_program, command_args, child_status};
 ghost use Rattle.rc_runner.specs.Ended.{CountsAs, IsEndOf, IsWaited, outcome_of};
-ghost use Rattle.rc_runner.specs.Shell.{Runs, MayEnd};
+ghost use Rattle.rc_runner.specs.Orders.{IsCommandOf};
+ghost use Rattle.rc_runner.specs.Shell.{MayEnd};
 
 use rc_core::Outcome;
 use std::alloc::{AllocError, Global};
@@ -16,6 +17,20 @@ use std::{io, thread};
 /// How long a program that was asked to end may take to do so, in milliseconds.
 const GRACE: u64 = 5000;
 
+/// The texts by which a shell asks the session of a program to end, ends it, and ends what is left
+/// of it five seconds after the program. Their name is the number of the program.
+const ASK: &str = "kill -TERM \"-$0\"";
+
+const END: &str = "kill -KILL \"-$0\"";
+
+const END_REST: &str =
+    "n=0; while [ $n -lt 50 ] && kill -0 \"-$0\"; do sleep 0.1; n=$((n+1)); done; kill -KILL \"-$0\"";
+
+/// How long the first pause of who waits for a program is, and the longest, in microseconds.
+const FIRST_PAUSE: u64 = 50;
+
+const LONGEST_PAUSE: u64 = 10_000;
+
 /// What is known of a program when a time is over.
 enum Waited {
     Ended(ExitStatus),
@@ -24,9 +39,29 @@ enum Waited {
     Lost,
 }
 
+/// The command of these words under a limit, 0 for none. Under a limit it leads a session of its
+/// own, so that all that it starts can be ended. None: there is no word.
+pub(crate) fn command_under(
+    alloc: Global,
+    words: &[String],
+    limit: u32,
+) -> Result<Option<Command>, AllocError>
+    ensures some { IfOk result (λ made. IfSome made
+        (IsCommandOf limit (map string_bytes words.now))) }
+    ensures none { result ≡ Ok None → words.now ≡ [] }
+{
+    if limit == 0 || words.is_empty() {
+        return command_of(alloc, words);
+    }
+    let mut command = Command::new(alloc, "setsid")?;
+    add_words(&mut command, words)?;
+    Ok(Some(command))
+}
+
 /// The command of these words. None: there is no word.
-pub(crate) fn command_of(alloc: Global, words: &[String]) -> Result<Option<Command>, AllocError>
-    ensures some { IfOk result (λ made. IfSome made (Runs (map string_bytes words.now) [])) }
+fn command_of(alloc: Global, words: &[String]) -> Result<Option<Command>, AllocError>
+    ensures some { IfOk result (λ made. IfSome made
+        (IsCommandOf 0 (map string_bytes words.now))) }
     ensures none { result ≡ Ok None → words.now ≡ [] }
 {
     let Some((program, rest)) = words.split_first() else {
@@ -152,18 +187,19 @@ fn wait_for<R: Clock, P: OpenProcess + Drop>(rt: &R, child: &mut Child<P>, limit
 {
     let start = Instant::now(rt).ok();
     let mut paused: u64 = 0;
-    for round in 0..u64::MAX {
+    let mut pause = FIRST_PAUSE;
+    for _ in 0..u64::MAX {
         match child.try_wait() {
             Ok(Some(status)) => return Waited::Ended(status),
             Ok(None) => {}
             Err(_) => return Waited::Lost,
         }
-        if is_over(limit, millis_since(rt, start), paused) {
+        if is_over(limit, millis_since(rt, start), paused / 1000) {
             break;
         }
-        let pause = pause_of(round);
-        thread::sleep(rt, Duration::from_millis(pause));
+        thread::sleep(rt, Duration::from_micros(pause));
         paused = paused.saturating_add(pause);
+        pause = longer(pause);
     }
     Waited::Running
 }
@@ -175,9 +211,10 @@ fn is_over(limit: u64, past: Option<u64>, paused: u64) -> bool
     limit <= past.unwrap_or(paused)
 }
 
-/// How long the pause of a round is, in milliseconds. So a program that ends soon is found soon.
-fn pause_of(round: u64) -> u64 {
-    if round < 50 { 1 } else { 10 }
+/// The pause after one, in microseconds: twice as long, so that a program that ends soon is found
+/// soon, and one that does not costs little.
+fn longer(pause: u64) -> u64 {
+    pause.saturating_mul(2).min(LONGEST_PAUSE)
 }
 
 /// The milliseconds since a moment. None: the clock can't be read, or could not.
@@ -186,24 +223,30 @@ pub(crate) fn millis_since<R: Clock>(rt: &R, start: Option<Instant>) -> Option<u
     Some(u64::try_from(past.as_millis()).unwrap_or(u64::MAX))
 }
 
-/// Ends a program: it is asked to, and made to where it does not in time or can't be asked.
+/// Ends a program and all of its session: they are asked to end, and made to where they do not in
+/// time or can't be asked.
 fn end<R: Processes + Clock, P: OpenProcess + Drop>(rt: &R, alloc: Global, child: &mut Child<P>) {
-    if ask_to_end(rt, alloc, child.id()).is_ok() {
+    let leader = child.id();
+    if signal(rt, alloc, ASK, leader).is_ok() {
         match wait_for(rt, child, GRACE) {
-            Waited::Ended(_) | Waited::Lost => return,
+            Waited::Ended(_) | Waited::Lost => {
+                let _ = signal(rt, alloc, END_REST, leader);
+                return;
+            }
             Waited::Running => {}
         }
     }
+    let _ = signal(rt, alloc, END, leader);
     if child.kill().is_ok() {
         let _ = child.wait();
     }
 }
 
-/// Sends TERM to a program that was started and not yet waited for, so that its number is no
-/// other's.
-fn ask_to_end<R: Processes>(rt: &R, alloc: Global, id: u32) -> io::Result<ExitStatus> {
+/// Has a shell send a signal to the session of a program, by this text. While the program is not
+/// waited for, or something of its session goes on, its number is no other's.
+fn signal<R: Processes>(rt: &R, alloc: Global, text: &str, leader: u32) -> io::Result<ExitStatus> {
     let mut command = Command::new(alloc, "/bin/sh")?;
-    let Ok(()) = add_kill(alloc, &mut command, id) else {
+    let Ok(()) = add_text(alloc, &mut command, text, leader) else {
         drop(command);
         return Err(io::Error::from(AllocError));
     };
@@ -212,10 +255,15 @@ fn ask_to_end<R: Processes>(rt: &R, alloc: Global, id: u32) -> io::Result<ExitSt
     ended
 }
 
-/// Appends the words by which a shell sends TERM to the program of this number.
-fn add_kill(alloc: Global, command: &mut Command, id: u32) -> Result<(), AllocError> {
-    add_two(command, "-c", "kill -TERM \"$0\"")?;
-    let number = format!(in alloc; "{id}")?;
+/// Appends the words by which a shell runs a text, whose name is this number.
+fn add_text(
+    alloc: Global,
+    command: &mut Command,
+    text: &str,
+    leader: u32,
+) -> Result<(), AllocError> {
+    let number = format!(in alloc; "{leader}")?;
+    add_two(command, "-c", text)?;
     command.arg(number.as_str())?;
     Ok(())
 }

@@ -10,6 +10,7 @@ use rc_board::Gate;
 use rc_core::{Job, Outcome};
 use rc_db::{Db, NoMem};
 use rc_graph::Way;
+use rc_session::{Session, Step};
 use rc_streams::messages::MESSAGE;
 use std::alloc::Global;
 use std::marker::Model;
@@ -85,5 +86,13 @@ impl<'a, L: Log + Sync, G: Gate + Drop> Gate for Telling<'a, L, G> {
 
     fn now(&self) -> u64 {
         self.inner.now()
+    }
+
+    fn begin(&self, session: &Session, step: &Step) {
+        self.inner.begin(session, step);
+    }
+
+    fn end(&self) {
+        self.inner.end();
     }
 }

@@ -134,14 +134,27 @@ fn kept_answer<T: Threads + Wait + Sync, K: Keeper, G: Gate>(
     let Ok((live, table)) = current(alloc, session) else {
         return Err(ServeFault::Memory);
     };
+    gate.begin(session, step);
     let answer = step_answer(rt, alloc, session, gate, workers, step);
     let _ = session.journal();
     if is_current(session, &live, &table) {
+        end_unaltered(gate, &answer);
         return answer;
     }
     match keeper.keep(alloc, session) {
-        Ok(()) => answer,
+        Ok(()) => {
+            gate.end();
+            answer
+        }
         Err(fault) => Err(ServeFault::from(fault)),
+    }
+}
+
+/// Tells a gate that a step is over which altered nothing. After a fault it is not told: services
+/// may have moved.
+fn end_unaltered<G: Gate>(gate: &G, answer: &Result<Answer, ServeFault>) {
+    if answer.is_ok() {
+        gate.end();
     }
 }
 

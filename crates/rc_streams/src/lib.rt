@@ -1,8 +1,10 @@
 //! A whole input under a bound, and lines of one; an answer written whole; readers and writers
-//! whose failures are noted; files that are read whole or replaced whole, and one that is locked;
-//! messages on standard error; and how a command ends.
+//! whose failures are noted; files that are read whole or replaced whole, one that is locked, and
+//! those by which a run is logged and called off; messages on standard error; and how a command
+//! ends.
 #![tactic(auto)]
 
+mod beside_file;
 pub mod ending;
 mod input;
 mod lines;
@@ -10,6 +12,8 @@ pub mod live_lock;
 pub mod messages;
 mod noted;
 pub mod replaced_file;
+pub mod run_file;
+pub mod stop_file;
 pub mod whole_file;
 pub mod writing;
 

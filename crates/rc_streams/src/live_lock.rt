@@ -1,10 +1,25 @@
 //! The lock of the file in which a session is kept, so that one program at a time goes on with it.
 //! It is a lock on a file beside it, which is made where it is missing, and stays.
 
-use crate::replaced_file::{beside, place};
+use crate::beside_file::path_beside;
+use crate::messages::{MESSAGE, Messages};
+use crate::replaced_file::check_plain;
+use crate::stop_file::is_signal_waiting;
+use log::info;
 use std::fs::{self, File, TryLockError};
 use std::io::{self, ErrorKind};
+use std::thread;
+use std::time::Duration;
 use thiserror::Error;
+
+/// What stands behind the path of a session's file in that of its lock.
+const ENDING: &str = ".lock";
+
+/// How long a program that waits for a lock pauses before it tries again, in milliseconds.
+const PAUSE: u64 = 10;
+
+/// After so many pauses it tells what it waits for.
+const ROUNDS_BEFORE_WORD: u64 = 100;
 
 /// Why a lock was not taken.
 #[derive(Debug, Drop, Error)]
@@ -30,7 +45,12 @@ impl LiveLock {
         let Some(file) = lock_file(rt, path)? else {
             return Ok(None);
         };
-        match lock(&file, waits) {
+        let locked = if waits {
+            wait_for(rt, &file, path)
+        } else {
+            lock(&file)
+        };
+        match locked {
             Ok(()) => Ok(Some(LiveLock { file })),
             Err(fault) => {
                 drop(file);
@@ -40,16 +60,55 @@ impl LiveLock {
     }
 }
 
-/// Locks a file, or waits until it can be.
-fn lock(file: &File, waits: bool) -> Result<(), LockFault> {
-    if waits {
-        return Ok(file.lock()?);
-    }
+/// Whether a program goes on with the session of this file. Where none does, the lock is taken for
+/// a moment.
+pub fn is_held(rt: &HostRuntime, path: &str) -> io::Result<bool> {
+    let beside = path_beside(rt, path, ENDING)?;
+    let held = is_locked(rt, beside.as_str());
+    drop(beside);
+    held
+}
+
+/// Whether the file of a lock is locked. One that is missing is not.
+fn is_locked(rt: &HostRuntime, path: &str) -> io::Result<bool> {
+    check_plain(rt, path)?;
+    let file = match File::open(rt, path) {
+        Ok(file) => file,
+        Err(error) if error.kind() == ErrorKind::NotFound => return Ok(false),
+        Err(error) => return Err(error),
+    };
+    let held = match lock(&file) {
+        Ok(()) => Ok(false),
+        Err(LockFault::Busy) => Ok(true),
+        Err(LockFault::Failed(error)) => Err(error),
+    };
+    drop(file);
+    held
+}
+
+/// Locks a file.
+fn lock(file: &File) -> Result<(), LockFault> {
     match file.try_lock() {
         Ok(()) => Ok(()),
         Err(TryLockError::WouldBlock) => Err(LockFault::Busy),
         Err(TryLockError::Error(error)) => Err(LockFault::Failed(error)),
     }
+}
+
+/// Waits until a file can be locked, or a signal waits that calls this program off. Tells after a
+/// second what is waited for.
+fn wait_for(rt: &HostRuntime, file: &File, path: &str) -> Result<(), LockFault> {
+    for round in 0..u64::MAX {
+        match lock(file) {
+            Err(LockFault::Busy) if !is_signal_waiting(rt) => {}
+            locked => return locked,
+        }
+        if round == ROUNDS_BEFORE_WORD {
+            info!(Messages(rt); target: MESSAGE, "waits for the command that has {path}");
+        }
+        thread::sleep(rt, Duration::from_millis(PAUSE));
+    }
+    Err(LockFault::Busy)
 }
 
 /// The file that is locked for this one. None: what stands there is no plain file.
@@ -63,25 +122,16 @@ fn lock_file(rt: &HostRuntime, path: &str) -> io::Result<Option<File>> {
         Err(error) if error.kind() == ErrorKind::NotFound => {}
         Err(error) => return Err(error),
     }
-    let place = place(rt, path)?;
-    let beside = beside(rt, &place, ".lock");
-    drop(place);
-    let beside = beside?;
+    let beside = path_beside(rt, path, ENDING)?;
     let file = open_lock(rt, beside.as_str());
     drop(beside);
     Ok(Some(file?))
 }
 
-/// Opens the file that is locked, and makes it where it is missing. A link is not followed, and a
-/// pipe not waited for: what stands there is a plain file. It is no stream of the program, also
-/// where one of those was closed: its number is above theirs.
+/// Opens the file that is locked, and makes it where it is missing. It is no stream of the program,
+/// also where one of those was closed: its number is above theirs.
 fn open_lock(rt: &HostRuntime, path: &str) -> io::Result<File> {
-    match fs::symlink_metadata(rt, path) {
-        Ok(found) if !found.is_file() => return Err(io::Error::from(ErrorKind::InvalidInput)),
-        Ok(_) => {}
-        Err(error) if error.kind() == ErrorKind::NotFound => {}
-        Err(error) => return Err(error),
-    }
+    check_plain(rt, path)?;
     let opened = open_or_make(rt, path)?;
     let file = opened.try_clone();
     drop(opened);

@@ -4,6 +4,9 @@ use std::fs::{self, File, OpenFile, Permissions};
 use std::io::{self, ErrorKind, Write};
 use std::path::PathBuf;
 
+/// How many bytes a disk must have room for before anything is done.
+const ROOM: usize = 4096;
+
 /// The most links that are followed from a path to a file.
 const MAX_LINKS: usize = 40;
 
@@ -24,6 +27,35 @@ pub fn replace(rt: &HostRuntime, path: &str, bytes: &[u8]) -> io::Result<()> {
             Err(error)
         }
     }
+}
+
+/// Finds out whether the file at a path can be replaced: the file beside it is made, with some bytes,
+/// and removed.
+pub fn probe(rt: &HostRuntime, path: &str) -> io::Result<()> {
+    let place = place(rt, path)?;
+    let beside = beside(rt, &place, ".new");
+    drop(place);
+    let beside = beside?;
+    let made = make_anew(rt, beside.as_str());
+    let cleared = clear(rt, beside.as_str());
+    drop(beside);
+    made?;
+    cleared
+}
+
+/// Makes a file of some bytes in place of what stands there.
+fn make_anew(rt: &HostRuntime, path: &str) -> io::Result<()> {
+    clear(rt, path)?;
+    let file = File::create_new(rt, path)?;
+    let written = write_room(&file);
+    drop(file);
+    written
+}
+
+/// Writes as many bytes as a disk must have room for before anything is done.
+pub(crate) fn write_room(file: &File) -> io::Result<()> {
+    let mut out = file;
+    out.write_all(&[b'\n'; ROOM])
 }
 
 /// Writes into what stands there.
@@ -78,6 +110,17 @@ pub(crate) fn place(rt: &HostRuntime, path: &str) -> io::Result<PathBuf> {
     }
 }
 
+/// Fails where something else than a plain file stands. A link is not followed, and a pipe not
+/// waited for.
+pub(crate) fn check_plain(rt: &HostRuntime, path: &str) -> io::Result<()> {
+    match fs::symlink_metadata(rt, path) {
+        Ok(found) if !found.is_file() => Err(io::Error::from(ErrorKind::InvalidInput)),
+        Ok(_) => Ok(()),
+        Err(error) if error.kind() == ErrorKind::NotFound => Ok(()),
+        Err(error) => Err(error),
+    }
+}
+
 /// Follows the links at a place.
 fn follow_all(rt: &HostRuntime, place: &mut PathBuf) -> io::Result<()> {
     for _ in 0..MAX_LINKS {
@@ -112,7 +155,7 @@ fn is_link(rt: &HostRuntime, path: &PathBuf) -> io::Result<bool> {
 }
 
 /// Removes a file, if it is there.
-fn clear(rt: &HostRuntime, path: &str) -> io::Result<()> {
+pub(crate) fn clear(rt: &HostRuntime, path: &str) -> io::Result<()> {
     match fs::remove_file(rt, path) {
         Ok(()) => Ok(()),
         Err(error) => {

@@ -1,0 +1,84 @@
+//! What a gate logs of a run while it is under way, so that a command that is cut short is not
+//! forgotten.
+ghost use Rattle.std.specs.Prelude.{◌≡◌, false};
+
+use crate::copy::table_of;
+use rc_core::Event;
+use rc_db::{Db, NoMem};
+use rc_livetext::write_live;
+use rc_names::Names;
+use rc_script::{event_line, step_line};
+use rc_session::{Session, Step};
+use rc_streams::run_file::RunFile;
+use std::alloc::Global;
+
+/// The log of a run: the text of the session from which it began, its step, and a line for each
+/// event. So it is the text of a session, and a script after it.
+#[derive(Drop)]
+pub(crate) struct RunLog<'a> {
+    alloc: Global,
+    file: &'a RunFile,
+    names: Names,
+}
+
+impl<'a> RunLog<'a> {
+    /// Logs in this file the runs of a database.
+    pub(crate) fn new(alloc: Global, file: &'a RunFile, db: &Db) -> Result<RunLog<'a>, NoMem> {
+        let names = table_of(alloc, db.names())?;
+        Ok(RunLog { alloc, file, names })
+    }
+
+    /// Begins the log of a step from where a session stands. An edit has no run, and no log.
+    pub(crate) fn begin(&self, session: &Session, step: &Step)
+        requires { session.now.begun ≡ false }
+    {
+        if let Ok(Some(head)) = head_of(self.alloc, session, step) {
+            self.file.begin(&head);
+            drop(head);
+        }
+    }
+
+    /// Logs an event, and returns whether it was logged.
+    pub(crate) fn log(&self, event: Event) -> bool {
+        match event_line(self.alloc, &self.names, event) {
+            Ok(Some(line)) => {
+                let logged = self.file.append(line.as_bytes());
+                drop(line);
+                logged
+            }
+            Ok(None) | Err(_) => false,
+        }
+    }
+
+    /// Empties the log of a run that is over.
+    pub(crate) fn end(&self) {
+        self.file.clear();
+    }
+}
+
+/// The text of a session, and the line of a step. None: the step has no run.
+fn head_of(alloc: Global, session: &Session, step: &Step) -> Result<Option<Vec<u8>>, NoMem>
+    requires { session.now.begun ≡ false }
+{
+    let Some(line) = step_line(alloc, step)? else {
+        return Ok(None);
+    };
+    match write_live(alloc, session) {
+        Ok(text) => {
+            let head = joined(text, line.as_bytes());
+            drop(line);
+            Ok(Some(head?))
+        }
+        Err(fault) => {
+            drop(line);
+            Err(fault)
+        }
+    }
+}
+
+/// A text, and bytes behind it.
+fn joined(text: Vec<u8>, bytes: &[u8]) -> Result<Vec<u8>, NoMem> {
+    let mut joined = text;
+    joined.extend_from_slice(bytes)?;
+    Ok(joined)
+}
