@@ -10,7 +10,7 @@ use Rattle.rc_asked.specs.Asked.{ask_in}
 use Rattle.rc_asked.specs.DbAsked.{AsksIn, DbAsk}
 use Rattle.rc_asked.specs.OnceAsked.{AsksWhatIn, HasNoEvents, OnceAsk, OnceSaying, Said, WantsDryRedo, WantsDryUndo, once_command, once_saying_of}
 use Rattle.rc_asked.specs.SessionAsked.{AsksSessionIn, IsBoundIn, IsCrewIn, SessionAsk}
-use Rattle.rc_asked.specs.Task.{AsksEntered, AsksNamed, AsksNoTask, AsksTask, AsksTaskIn, IsEventless, OfCompile, OfDb, OfOnce, OfPlan, OfReplay, OfSession, OfUpdate, OfVersion, TaskAsk, command_of, task_ask_of}
+use Rattle.rc_asked.specs.Task.{AsksEntered, AsksNamed, AsksNoTask, AsksTask, AsksTaskIn, IsEventless, OfCompile, OfDb, OfOnce, OfPlan, OfReplay, OfSession, OfStop, OfUpdate, OfVersion, TaskAsk, command_of, task_ask_of}
 use Rattle.rc_asked.specs.UpdateAsked.{AsksUpdateIn, UpdateAsk}
 use Rattle.rc_asked.specs.declared.task.Task.{Task}
 use Rattle.rc_asked.specs.declared.task.Task.TheVariants as task
@@ -111,6 +111,7 @@ db_none rows none (OfReplay file) asks = apart (codes "db") (codes "replay") ref
 db_none rows none (OfSession ask file) asks = apart (codes "db") (codes "session") refl asks.0
 db_none rows none (OfOnce ask file) asks = once_apart (codes "db") refl refl refl refl refl refl ask.what asks.0
 db_none rows none (OfUpdate ask file) asks = apart (codes "db") (codes "update") refl asks.0
+db_none rows none (OfStop file) asks = apart (codes "db") (codes "stop") refl asks.0
 db_none rows none OfVersion asks = apart (codes "db") (codes "version") refl asks.0
 
 pub plan_none : (rows : List Row) → ask_in rows ≡ None → (ask : TaskAsk) → AsksNamed (codes "plan") rows ask → ⊥
@@ -121,6 +122,7 @@ plan_none rows none (OfReplay file) asks = apart (codes "plan") (codes "replay")
 plan_none rows none (OfSession ask file) asks = apart (codes "plan") (codes "session") refl asks.0
 plan_none rows none (OfOnce ask file) asks = once_apart (codes "plan") refl refl refl refl refl refl ask.what asks.0
 plan_none rows none (OfUpdate ask file) asks = apart (codes "plan") (codes "update") refl asks.0
+plan_none rows none (OfStop file) asks = apart (codes "plan") (codes "stop") refl asks.0
 plan_none rows none OfVersion asks = apart (codes "plan") (codes "version") refl asks.0
 
 pub session_none : (rows : List Row) → ((ask : SessionAsk) → AsksSessionIn rows ask → ⊥) → (ask : TaskAsk) → AsksNamed (codes "session") rows ask → ⊥
@@ -131,6 +133,7 @@ session_none rows none (OfReplay file) asks = apart (codes "session") (codes "re
 session_none rows none (OfSession ask file) asks = none ask asks.1.0
 session_none rows none (OfOnce ask file) asks = once_apart (codes "session") refl refl refl refl refl refl ask.what asks.0
 session_none rows none (OfUpdate ask file) asks = apart (codes "session") (codes "update") refl asks.0
+session_none rows none (OfStop file) asks = apart (codes "session") (codes "stop") refl asks.0
 session_none rows none OfVersion asks = apart (codes "session") (codes "version") refl asks.0
 
 pub update_none : (rows : List Row) → ((ask : UpdateAsk) → AsksUpdateIn rows ask → ⊥) → (ask : TaskAsk) → AsksNamed (codes "update") rows ask → ⊥
@@ -141,18 +144,21 @@ update_none rows none (OfReplay file) asks = apart (codes "update") (codes "repl
 update_none rows none (OfSession ask file) asks = apart (codes "update") (codes "session") refl asks.0
 update_none rows none (OfOnce ask file) asks = once_apart (codes "update") refl refl refl refl refl refl ask.what asks.0
 update_none rows none (OfUpdate ask file) asks = none ask asks.1.0
+update_none rows none (OfStop file) asks = apart (codes "update") (codes "stop") refl asks.0
 update_none rows none OfVersion asks = apart (codes "update") (codes "version") refl asks.0
 
 -- matches that ask for no session of one line ask nothing, where their command has none of the other names
 pub others_none : (name : Text) (rows : List Row) → (name ≡ codes "compile" → ⊥) → (name ≡ codes "db" → ⊥)
-    → (name ≡ codes "plan" → ⊥) → (name ≡ codes "replay" → ⊥) → (name ≡ codes "session" → ⊥) → (name ≡ codes "update" → ⊥) → (name ≡ codes "version" → ⊥)
+    → (name ≡ codes "plan" → ⊥) → (name ≡ codes "replay" → ⊥) → (name ≡ codes "session" → ⊥) → (name ≡ codes "update" → ⊥)
+    → (name ≡ codes "stop" → ⊥) → (name ≡ codes "version" → ⊥)
     → ((ask : OnceAsk) (file : Option Text) → AsksNamed name rows (OfOnce ask file) → ⊥)
     → (ask : TaskAsk) → AsksNamed name rows ask → ⊥
-others_none name rows compile db plan replay session update version none (OfCompile ask) asks = compile asks.0
-others_none name rows compile db plan replay session update version none (OfDb ask file) asks = db asks.0
-others_none name rows compile db plan replay session update version none (OfPlan ask file) asks = plan asks.0
-others_none name rows compile db plan replay session update version none (OfReplay file) asks = replay asks.0
-others_none name rows compile db plan replay session update version none (OfSession ask file) asks = session asks.0
-others_none name rows compile db plan replay session update version none (OfOnce ask file) asks = none ask file asks
-others_none name rows compile db plan replay session update version none (OfUpdate ask file) asks = update asks.0
-others_none name rows compile db plan replay session update version none OfVersion asks = version asks.0
+others_none name rows compile db plan replay session update stop version none (OfCompile ask) asks = compile asks.0
+others_none name rows compile db plan replay session update stop version none (OfDb ask file) asks = db asks.0
+others_none name rows compile db plan replay session update stop version none (OfPlan ask file) asks = plan asks.0
+others_none name rows compile db plan replay session update stop version none (OfReplay file) asks = replay asks.0
+others_none name rows compile db plan replay session update stop version none (OfSession ask file) asks = session asks.0
+others_none name rows compile db plan replay session update stop version none (OfOnce ask file) asks = none ask file asks
+others_none name rows compile db plan replay session update stop version none (OfUpdate ask file) asks = update asks.0
+others_none name rows compile db plan replay session update stop version none (OfStop file) asks = stop asks.0
+others_none name rows compile db plan replay session update stop version none OfVersion asks = version asks.0

@@ -12,3 +12,9 @@ SpellsLimit text limit = IsNumeral 10 (without_leading_plus text)
 abbrev pub IsLimitIn : Option Text → ℕ → Type 0
 IsLimitIn None limit = limit ≡ 0
 IsLimitIn (Some text) limit = SpellsLimit text limit
+
+-- the limit of a run that is given, and the greatest that there is where none is, so that the run
+-- can be called off
+abbrev pub IsRunLimitIn : Option Text → ℕ → Type 0
+IsRunLimitIn None limit = limit ≡ 4294967295
+IsRunLimitIn (Some text) limit = SpellsLimit text limit

@@ -13,7 +13,7 @@ use Rattle.rc_asked.specs.UpdateAsked.{AsksUpdateIn, UpdateAsk, update_ask_of}
 use Rattle.rc_asked.specs.declared.task.Task.{Task}
 use Rattle.rc_asked.specs.declared.task.Task.TheVariants as task
 
--- what is asked of a command, and but for `compile` and `version` the file of `-b`, if one is named
+-- what is asked of a command, and the file of `-b` or, of `stop`, that of `-l`, if one is named
 pub data TaskAsk : Type 0 where
   OfCompile : CompileAsk → TaskAsk
   OfDb : DbAsk → Option Text → TaskAsk
@@ -22,6 +22,7 @@ pub data TaskAsk : Type 0 where
   OfSession : SessionAsk → Option Text → TaskAsk
   OfOnce : OnceAsk → Option Text → TaskAsk
   OfUpdate : UpdateAsk → Option Text → TaskAsk
+  OfStop : Option Text → TaskAsk
   OfVersion : TaskAsk
 
 -- the command that is asked
@@ -33,6 +34,7 @@ command_of (OfReplay file) = codes "replay"
 command_of (OfSession ask file) = codes "session"
 command_of (OfOnce ask file) = once_command ask.what
 command_of (OfUpdate ask file) = codes "update"
+command_of (OfStop file) = codes "stop"
 command_of OfVersion = codes "version"
 
 -- the file of `-b` in the matches of a command
@@ -48,6 +50,7 @@ AsksTaskIn rows (OfReplay file) = file ≡ file_in rows
 AsksTaskIn rows (OfSession ask file) = AsksSessionIn rows ask × (file ≡ file_in rows)
 AsksTaskIn rows (OfOnce ask file) = AsksOnceIn rows ask × (file ≡ file_in rows)
 AsksTaskIn rows (OfUpdate ask file) = AsksUpdateIn rows ask × (file ≡ file_in rows)
+AsksTaskIn rows (OfStop file) = file ≡ first_of (codes "live") rows
 AsksTaskIn rows OfVersion = Unit {0}
 
 -- the matches of the command of this name ask this
@@ -79,6 +82,7 @@ task_ask_of (task.Session request file) =
 task_ask_of (task.Once request file) = OfOnce (once_ask_of request) (option_map (λ f. f.now) file)
 task_ask_of (task.Update request file) =
     OfUpdate (update_ask_of request) (option_map (λ f. f.now) file)
+task_ask_of (task.Stop file) = OfStop (option_map (λ f. f.now) file)
 task_ask_of task.Version = OfVersion
 
 -- what is named, or where nothing is the usual
@@ -100,6 +104,7 @@ task_by base live (OfOnce ask file) =
     OfOnce (record ask { session = session_by live ask.session }) (first_named file base)
 task_by base live (OfUpdate ask file) =
     OfUpdate (record ask { session = session_by live ask.session }) (first_named file base)
+task_by base live (OfStop file) = OfStop (first_named file live)
 task_by base live OfVersion = OfVersion
 
 -- a session of one line brings no events

@@ -33,6 +33,8 @@ pub enum WordsFault {
     Live,
     /// They name no file that an update wants.
     Files,
+    /// They name no file of the session whose command is to be called off.
+    Session,
     /// Their number of workers is none from 1 to 64.
     Workers,
     /// Their bound on how many states there are is none of at least 3.
@@ -140,6 +142,7 @@ fn words_of(fault: &WordsFault) -> &'static str {
         }
         WordsFault::Live => "-l of db goes with the query dot alone",
         WordsFault::Files => "update wants -b and -l, or UNDORC_DB and UNDORC_LIVE, and -B",
+        WordsFault::Session => "stop wants -l, or UNDORC_LIVE",
         WordsFault::Workers => "-w wants a number from 1 to 64",
         WordsFault::Bound => "-n wants a number from 3 to 4294967295",
         WordsFault::Limit => "-t and -T want a number from 0 to 4294967295",

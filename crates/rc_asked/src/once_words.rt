@@ -6,7 +6,7 @@ ghost use Rattle.rc_asked.specs.OnceAsked.{once_ask_of, once_command, once_sayin
 ghost use Rattle.rc_asked.specs.declared.asked.WordsFault.TheVariants.{Memory};
 
 use crate::asked::{WordsFault, plan_in};
-use crate::limits::limit_of;
+use crate::limits::run_limit_of;
 use crate::session_request::SessionRequest;
 use crate::session_words::session_in;
 use clap::ArgMatches;
@@ -94,7 +94,7 @@ fn change_in(alloc: Global, matches: &ArgMatches<'_>) -> Result<Once, WordsFault
     ensures wrong { IfErr result (λ fault. fault ≢ Memory → (what : OnceSaying) →
         AsksWhat (codes "change") (rows_of (found_of matches.now)) what → ⊥) }
 {
-    let Some(limit) = limit_of(matches.get_str("limit")) else {
+    let Some(limit) = run_limit_of(matches.get_str("limit")) else {
         return Err(WordsFault::Limit);
     };
     let mut request = plan_in(alloc, matches)?;
@@ -113,7 +113,7 @@ fn undo_in(alloc: Global, matches: &ArgMatches<'_>) -> Result<Once, WordsFault>
     ensures wrong { IfErr result (λ fault. fault ≢ Memory → (what : OnceSaying) →
         AsksWhat (codes "undo") (rows_of (found_of matches.now)) what → ⊥) }
 {
-    let Some(limit) = limit_of(matches.get_str("limit")) else {
+    let Some(limit) = run_limit_of(matches.get_str("limit")) else {
         return Err(WordsFault::Limit);
     };
     if is_on(matches, "dry") {
@@ -130,7 +130,7 @@ fn redo_in(alloc: Global, matches: &ArgMatches<'_>) -> Result<Once, WordsFault>
     ensures wrong { IfErr result (λ fault. fault ≢ Memory → (what : OnceSaying) →
         AsksWhat (codes "redo") (rows_of (found_of matches.now)) what → ⊥) }
 {
-    let Some(limit) = limit_of(matches.get_str("limit")) else {
+    let Some(limit) = run_limit_of(matches.get_str("limit")) else {
         return Err(WordsFault::Limit);
     };
     if is_on(matches, "dry") {

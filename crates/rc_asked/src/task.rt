@@ -20,7 +20,8 @@ use rc_command::entered;
 use rc_select::Request;
 use std::alloc::Global;
 
-/// What the words ask of a command, and the file of `-b`, where they name one.
+/// What the words ask of a command, and the file of `-b` or, of `stop`, that of `-l`, where they name
+/// one.
 #[derive(Drop)]
 pub enum Task<'a> {
     /// The database that these source directories define.
@@ -37,6 +38,8 @@ pub enum Task<'a> {
     Once(OnceRequest<'a>, Option<&'a str>),
     /// What is live, carried over from the database of `-b` to another.
     Update(UpdateRequest<'a>, Option<&'a str>),
+    /// That the command which goes on with the session of this file is called off.
+    Stop(Option<&'a str>),
     /// Which version this is.
     Version,
 }
@@ -65,6 +68,7 @@ impl<'a> Task<'a> {
                 let live = named_or(request.session.live, live);
                 Task::Update(request.with_live(live), named_or(file, base))
             }
+            Task::Stop(file) => Task::Stop(named_or(file, live)),
             Task::Version => Task::Version,
         }
     }
@@ -132,6 +136,7 @@ fn task_named<'a>(
         "replay" => Ok(Task::Replay(text_in(matches, "base"))),
         "session" => session_task(alloc, matches),
         "update" => update_task(alloc, matches),
+        "stop" => Ok(Task::Stop(text_in(matches, "live"))),
         "version" => Ok(Task::Version),
         _ => once_task(alloc, name, matches),
     }

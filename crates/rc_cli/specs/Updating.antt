@@ -38,10 +38,10 @@ abbrev pub making_on : Way → MakingAsk → MakingAsk
 making_on way (ByTable failing) = ByTable (listed_on way failing)
 making_on way (ByPrograms runner controller limit) = ByPrograms runner controller limit
 
--- what the change of these names asks: no limit, and nothing beyond the names
+-- what the change of these names asks: the greatest limit, and nothing beyond the names
 abbrev pub step_ask : Mode → List (List ℕ) → Ask
 step_ask mode names =
-    record { mode = mode; prune = false; all = false; words = names; limit = 0 }
+    record { mode = mode; prune = false; all = false; words = names; limit = 4294967295 }
 
 -- the change of these names, or where it is only shown its plan
 abbrev pub step_by : (dry : Bool) → Ask → Saying

@@ -287,7 +287,8 @@ fn session_of(alloc: Global, db: Db, live: Set, bound: u32) -> Result<Session, N
     Session::resume(db, Line::with_bound(alloc, live, table, bound))
 }
 
-// The line of a step: the change of these names or, where it is only shown, its plan.
+// The line of a step: the change of these names or, where it is only shown, its plan. It has the
+// greatest limit that there is, so that it can be called off.
 fn step_line(alloc: Global, dry: bool, mode: Mode, names: Vec<String>) -> SessionLine
     ensures says { saying_of result ≡ step_by dry (step_ask mode (map string_bytes names.items)) }
 {
@@ -296,7 +297,7 @@ fn step_line(alloc: Global, dry: bool, mode: Mode, names: Vec<String>) -> Sessio
         prune: false,
         all: false,
         names,
-        limit: 0,
+        limit: u32::MAX,
     };
     if dry {
         return SessionLine::Dry(request);

@@ -162,7 +162,7 @@ const LIMIT: ToldArg = Valued(
     "limit",
     't',
     "MS",
-    "Begin no transition once so many milliseconds are over",
+    "Begin no transition once so many milliseconds are over; with 0 it can't be called off",
 );
 
 const NEW: ToldArg = Needed(
@@ -197,8 +197,15 @@ const UPDATE: [ToldArg; 11] = [
 
 const SHOW: [ToldArg; 3] = [BASE, LIVE, WAIT];
 
+const STOP: [ToldArg; 1] = [Valued(
+    "live",
+    'l',
+    "FILE",
+    "Call off the command that goes on with the session in this file",
+)];
+
 /// The commands.
-pub(crate) const COMMANDS: [ToldCommand; 12] = [
+pub(crate) const COMMANDS: [ToldCommand; 13] = [
     ToldCommand {
         name: "compile",
         about: "Makes the database that source directories define",
@@ -253,6 +260,11 @@ pub(crate) const COMMANDS: [ToldCommand; 12] = [
         name: "journal",
         about: "Prints what the changes raised and lowered, and which of them are undone",
         args: &SHOW,
+    },
+    ToldCommand {
+        name: "stop",
+        about: "Has the command that is under way begin nothing more; what it began ends",
+        args: &STOP,
     },
     ToldCommand {
         name: "version",

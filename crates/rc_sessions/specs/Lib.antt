@@ -2,6 +2,7 @@ pub mod Deciding
 pub mod Filing
 pub mod Finding
 pub mod Gating
+pub mod Recovering
 pub mod Serving
 pub mod Session
 pub mod SessionFaults

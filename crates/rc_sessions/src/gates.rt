@@ -56,7 +56,8 @@ fn quiet_gate<'h, 'a, T, L: Log + Sync>(
     }
 }
 
-// The gate that runs these programs. What they write is shown where transitions are reported.
+// The gate that runs these programs. What they write is shown where transitions are reported, and
+// what is done is logged where there is a file for it.
 fn shell_gate<'h, T, L: Log + Sync>(
     host: &Host<'h, T, L>,
     db: &Db,
@@ -76,8 +77,15 @@ fn shell_gate<'h, T, L: Log + Sync>(
         &programs.controller,
         programs.limit,
     )?;
-    if tells {
-        return Ok(gate.with_errors(host.runtime.stderr()));
+    let gate = if tells {
+        gate.with_errors(host.runtime.stderr())
+    } else {
+        gate
+    };
+    match host.run_files {
+        Some(files) => gate
+            .with_stop_file(&files.stop)
+            .with_run_log(&files.log, db),
+        None => Ok(gate),
     }
-    Ok(gate)
 }

@@ -1,12 +1,47 @@
 //! What a session runs on.
+use rc_streams::run_file::{self, RunFile};
+use rc_streams::stop_file::{self, StopFile};
 use std::alloc::Global;
+use std::io;
 
 /// What a session runs on: the threads of its workers, the runtime that starts programs, the log
-/// that takes messages, and memory.
+/// that takes messages, the files of its runs, if it has any, and memory.
 #[derive(Drop)]
 pub struct Host<'h, T, L> {
     pub threads: &'h T,
     pub runtime: &'h HostRuntime,
     pub log: &'h L,
+    pub run_files: Option<&'h RunFiles>,
     pub alloc: Global,
+}
+
+/// The files beside that of a session by which its runs are logged and called off. They are there
+/// while a command runs, and after one that was cut short.
+#[derive(Drop)]
+pub struct RunFiles {
+    pub log: RunFile,
+    pub stop: StopFile,
+}
+
+impl RunFiles {
+    /// The files beside that of this path.
+    pub(crate) fn open(rt: &HostRuntime, path: &str) -> io::Result<RunFiles> {
+        let log = RunFile::open(rt, path)?;
+        match StopFile::open(rt, path) {
+            Ok(stop) => Ok(RunFiles { log, stop }),
+            Err(error) => {
+                drop(log);
+                Err(error)
+            }
+        }
+    }
+
+    /// Removes them, but for the log of a run of which the session may not know. The lock of the
+    /// session is still held.
+    pub fn remove(&self, rt: &HostRuntime, path: &str) {
+        let _ = stop_file::remove(rt, path);
+        if !self.log.has_run() {
+            let _ = run_file::remove(rt, path);
+        }
+    }
 }

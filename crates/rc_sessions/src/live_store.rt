@@ -1,11 +1,15 @@
-//! The file in which a session is kept, and its lock. Its text is replaced whole.
+//! The file in which a session is kept, and its lock. Its text is replaced whole. A text that
+//! stands there already is not written again: that it could be is found out by a file beside it.
 ghost use Rattle.std.specs.Prelude.{◌≡◌, true, None};
 
 use crate::deciding::{keep_fault, locked};
+use crate::host::RunFiles;
 use crate::keeping::{KeptText, Store};
+use rc_asked::Making;
 use rc_serve::KeepFault;
 use rc_streams::live_lock::{LiveLock, LockFault};
-use rc_streams::replaced_file::replace;
+use rc_streams::replaced_file::{probe, replace};
+use std::io;
 
 /// A file by its path, which may lead through links, and to nothing yet; its lock, which is held
 /// until the store is dropped; and whether it could not be written.
@@ -14,6 +18,8 @@ pub struct LiveStore<'a> {
     rt: &'a HostRuntime,
     path: &'a str,
     lock: Option<LiveLock>,
+    /// The text that stands there, where that was read since it was locked.
+    text: Option<&'a [u8]>,
     failed: bool,
 }
 
@@ -34,8 +40,51 @@ impl<'a> LiveStore<'a> {
             rt,
             path: live.unwrap_or(""),
             lock,
+            text: None,
             failed: false,
         })
+    }
+
+    /// The same store, in whose file this text was found since it was locked.
+    pub fn with_text(self, text: Option<&'a [u8]>) -> LiveStore<'a> {
+        let LiveStore {
+            rt,
+            path,
+            lock,
+            text: _,
+            failed,
+        } = self;
+        LiveStore {
+            rt,
+            path,
+            lock,
+            text,
+            failed,
+        }
+    }
+
+    /// Whether this text stands there already.
+    fn has(&self, bytes: &[u8]) -> bool {
+        match self.text {
+            Some(text) => text == bytes,
+            None => false,
+        }
+    }
+
+    /// Whether the file is locked.
+    pub fn is_locked(&self) -> bool {
+        self.lock.is_some()
+    }
+
+    /// Makes the files of the runs of a session that is to start programs: those beside the file of
+    /// `-l`, where that is locked.
+    pub fn run_files(&self, making: &Making<'_>) -> io::Result<Option<RunFiles>> {
+        match making {
+            Making::Programs(_) if self.is_locked() => Ok(Some(RunFiles::open(
+                self.rt, self.path,
+            )?)),
+            _ => Ok(None),
+        }
     }
 }
 
@@ -45,7 +94,13 @@ impl Store for LiveStore<'_> {
     ghost failed = { λ s. s.failed ≡ true };
 
     fn replace(&mut self, text: KeptText<'_>) -> Result<(), KeepFault> {
-        match replace(self.rt, self.path, text.bytes()) {
+        let put = if self.has(text.bytes()) {
+            probe(self.rt, self.path)
+        } else {
+            self.text = None;
+            replace(self.rt, self.path, text.bytes())
+        };
+        match put {
             Ok(()) => Ok(()),
             Err(error) => {
                 self.failed = true;

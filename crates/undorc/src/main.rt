@@ -4,13 +4,16 @@
 ghost use Rattle.std.specs.Prelude.{IfOk};
 ghost use Rattle.rc_asked.specs.Task.{IsEventless};
 
+mod live_files;
 mod own_name;
 mod sessions;
+mod stopping;
 mod updates;
 mod usual;
 
 use crate::own_name::OwnName;
 use crate::sessions::serve;
+use crate::stopping::stop;
 use crate::updates::update;
 use crate::usual::{Usual, usual_at};
 use log::error;
@@ -62,6 +65,7 @@ fn run<T: Threads + Wait + Sync>(
             serve(rt, threads, &request.session, Some(&request), file)
         }
         Ok(Task::Update(request, file)) => update(rt, threads, &request, file),
+        Ok(Task::Stop(file)) => stop(rt, file),
         Ok(Task::Version) => version(rt),
         Err(fault) => tell_words(&mut rt.stderr(), &fault),
     }

@@ -2,16 +2,17 @@
 ghost use Rattle.std.specs.Prelude.{IfSome};
 ghost use Rattle.rc_asked.specs.OnceAsked.{HasNoEvents, once_ask_of};
 
+use crate::live_files::{self, Bases, LiveFiles, close, tell_left};
 use log::Log;
 use rc_asked::{OnceRequest, SessionRequest};
 use rc_cli::once_as_asked;
 use rc_console::{
-    Answers, Seen, Told, ToldErrors, Typed, base_at, behind_session, live_at, tell_failure,
-    tell_file,
+    Answers, Seen, Told, ToldErrors, Typed, base_at, behind_session, live_at, tell_file,
 };
-use rc_sessions::{Host, LiveStore, TextKeeper, live_file, log_for, moves, session_as_asked};
+use rc_sessions::{
+    Host, LiveStore, RunFiles, TextKeeper, live_file, log_for, moves, session_as_asked,
+};
 use rc_streams::Noted;
-use rc_streams::live_lock::LockFault;
 use std::io;
 use std::sync::Wait;
 use std::thread::Threads;
@@ -23,8 +24,17 @@ struct Base<'a> {
     bytes: Option<&'a [u8]>,
 }
 
-/// Runs a session, of the one line where that is given, and answers the status. The file of `-l` is
-/// locked before it is read.
+impl<'a> Base<'a> {
+    /// The database, for what a command that was cut short has moved.
+    fn known(&self) -> Bases<'a> {
+        Bases {
+            first: self.bytes,
+            other: None,
+        }
+    }
+}
+
+/// Runs a session, of the one line where that is given, and answers the status.
 pub fn serve<T: Threads + Wait + Sync>(
     rt: &HostRuntime,
     threads: &T,
@@ -34,37 +44,63 @@ pub fn serve<T: Threads + Wait + Sync>(
 ) -> u8
     requires once { IfSome once (λ one. HasNoEvents (once_ask_of one.now).what) }
 {
-    let base = match base_at(rt, file) {
-        Ok(base) => base,
-        Err(error) => return tell_file(rt, file.unwrap_or(""), &error),
-    };
+    match base_at(rt, file) {
+        Ok(base) => {
+            let read = Base {
+                file,
+                bytes: base.as_deref(),
+            };
+            let status = serve_by(rt, threads, request, once, read);
+            drop(base);
+            status
+        }
+        Err(error) => tell_file(rt, file.unwrap_or(""), &error),
+    }
+}
+
+/// The same with what was read of the file of `-b`. The file of `-l` is locked before it is read.
+fn serve_by<T: Threads + Wait + Sync>(
+    rt: &HostRuntime,
+    threads: &T,
+    request: &SessionRequest<'_>,
+    once: Option<&OnceRequest<'_>>,
+    base: Base<'_>,
+) -> u8
+    requires once { IfSome once (λ one. HasNoEvents (once_ask_of one.now).what) }
+{
     let line = match once {
         Some(one) => Some(&one.once),
         None => None,
     };
-    let store = match LiveStore::open(rt, request.live, moves(line), request.waits) {
-        Ok(store) => store,
-        Err(fault) => {
-            drop(base);
-            return tell_lock(rt, request.live, &fault);
+    match live_files::open(rt, request, moves(line), base.known()) {
+        Ok(LiveFiles { store, run_files }) => {
+            let log = log_for(rt, request);
+            let host = host_of(rt, threads, &log, run_files.as_ref());
+            let status = serve_on(&host, request, once, base, store);
+            drop(run_files);
+            status
         }
-    };
-    let host = Host {
-        threads,
-        runtime: rt,
-        log: &log_for(rt, request),
-        alloc: rt.alloc(),
-    };
-    let read = Base {
-        file,
-        bytes: base.as_deref(),
-    };
-    let status = serve_on(&host, request, once, read, store);
-    drop(base);
-    status
+        Err(status) => status,
+    }
 }
 
-/// The same with what was read of the file of `-b`, and the file of `-l`.
+/// What a session of the program runs on.
+pub fn host_of<'h, T, L>(
+    rt: &'h HostRuntime,
+    threads: &'h T,
+    log: &'h L,
+    run_files: Option<&'h RunFiles>,
+) -> Host<'h, T, L> {
+    Host {
+        threads,
+        runtime: rt,
+        log,
+        run_files,
+        alloc: rt.alloc(),
+    }
+}
+
+/// The same with the file of `-l`.
 fn serve_on<T: Threads + Wait + Sync, L: Log + Sync>(
     host: &Host<'_, T, L>,
     request: &SessionRequest<'_>,
@@ -79,7 +115,7 @@ fn serve_on<T: Threads + Wait + Sync, L: Log + Sync>(
     let mut typed = Typed::new(rt, reads(base.file, once));
     let mut answers = Answers::new(rt, base.bytes);
     let mut told = Told::new(rt.alloc(), rt.stderr());
-    let mut keeper = TextKeeper::new(store);
+    let mut keeper = TextKeeper::new(store.with_text(found_in(&text)));
     let mut reader = Noted::new(&mut typed);
     let mut writer = Noted::new(&mut answers);
     let live = live_file(&text);
@@ -105,13 +141,23 @@ fn serve_on<T: Threads + Wait + Sync, L: Log + Sync>(
             &mut told,
         ),
     };
+    close(rt, request.live, host.run_files);
     drop(keeper);
     let seen = Seen::new(base.file, base.bytes, typed.kept());
     tell_behind(rt, request.live, &text, &seen, &answers, &told);
+    tell_left(rt, request.live, base.known(), host.run_files);
     drop((told, text));
     drop(answers);
     drop(typed);
     status
+}
+
+/// The text that was found in the file of `-l`.
+pub fn found_in(text: &io::Result<Option<Vec<u8>>>) -> Option<&[u8]> {
+    match text {
+        Ok(Some(bytes)) => Some(bytes),
+        _ => None,
+    }
 }
 
 /// What is read whole, as a person at a terminal is told.
@@ -138,12 +184,4 @@ fn tell_behind(
         answers.tell_all(database);
     }
     behind_session(rt, live, text, seen, told);
-}
-
-/// Tells why the file of `-l` was not locked, and answers the status.
-pub fn tell_lock(rt: &HostRuntime, file: Option<&str>, fault: &LockFault) -> u8 {
-    match fault {
-        LockFault::Busy => tell_failure(rt, "Busy"),
-        LockFault::Failed(error) => tell_file(rt, file.unwrap_or(""), error),
-    }
 }

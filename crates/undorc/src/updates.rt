@@ -1,13 +1,14 @@
 //! `update`: what is live is carried over to another database, and kept in the file of `-l`.
 
-use crate::sessions::tell_lock;
+use crate::live_files::{self, Bases, LiveFiles, close, tell_left};
+use crate::sessions::{found_in, host_of};
+use log::Log;
 use rc_asked::{UpdateRequest, WordsFault, tell_words};
 use rc_cli::update_as_asked;
-use rc_console::{Seen, Told, ToldErrors, behind_session, live_at, tell_file};
+use rc_console::{Seen, Told, behind_session, live_at, tell_file};
 use rc_names::NoMem;
 use rc_sessions::{Host, LiveStore, TextKeeper, live_file, log_for};
 use rc_streams::{Noted, whole_file};
-use std::io;
 use std::sync::Wait;
 use std::thread::Threads;
 
@@ -18,12 +19,12 @@ pub fn update<T: Threads + Wait + Sync>(
     request: &UpdateRequest<'_>,
     file: Option<&str>,
 ) -> u8 {
-    let (Some(file), Some(live)) = (file, request.session.live) else {
+    let (Some(file), Some(_)) = (file, request.session.live) else {
         return tell_words(&mut rt.stderr(), &WordsFault::Files);
     };
     match whole_file::read(rt, file) {
         Ok(old) => {
-            let status = update_from(rt, threads, request, file, &old, live);
+            let status = update_from(rt, threads, request, file, &old);
             drop(old);
             status
         }
@@ -38,11 +39,10 @@ fn update_from<T: Threads + Wait + Sync>(
     request: &UpdateRequest<'_>,
     file: &str,
     old: &[u8],
-    live: &str,
 ) -> u8 {
     match whole_file::read(rt, request.new) {
         Ok(new) => {
-            let status = update_between(rt, threads, request, file, old, &new, live);
+            let status = update_between(rt, threads, request, file, old, &new);
             drop(new);
             status
         }
@@ -50,7 +50,7 @@ fn update_from<T: Threads + Wait + Sync>(
     }
 }
 
-/// The same with both databases.
+/// The same with both databases. The file of `-l` is locked before it is read.
 fn update_between<T: Threads + Wait + Sync>(
     rt: &HostRuntime,
     threads: &T,
@@ -58,51 +58,59 @@ fn update_between<T: Threads + Wait + Sync>(
     file: &str,
     old: &[u8],
     new: &[u8],
-    live: &str,
 ) -> u8 {
-    match LiveStore::open(rt, Some(live), !request.dry, request.session.waits) {
-        Ok(store) => {
-            let text = live_at(rt, Some(live));
-            let mut told = Told::new(rt.alloc(), rt.stderr());
-            let status = updated(rt, threads, request, old, new, &text, store, &mut told);
-            if let Ok(seen) = seen_of(rt, file, old, request.new, new) {
-                behind_session(rt, Some(live), &text, &seen, &told);
-            }
-            drop(told);
-            drop(text);
+    match live_files::open(rt, &request.session, !request.dry, both(old, new)) {
+        Ok(LiveFiles { store, run_files }) => {
+            let log = log_for(rt, &request.session);
+            let host = host_of(rt, threads, &log, run_files.as_ref());
+            let status = updated(&host, request, file, old, new, store);
+            drop(run_files);
             status
         }
-        Err(fault) => tell_lock(rt, Some(live), &fault),
+        Err(status) => status,
     }
 }
 
-/// Carries out an update, and answers the status.
-fn updated<T: Threads + Wait + Sync>(
-    rt: &HostRuntime,
-    threads: &T,
+/// Carries out an update, or shows it, and answers the status.
+fn updated<T: Threads + Wait + Sync, L: Log + Sync>(
+    host: &Host<'_, T, L>,
     request: &UpdateRequest<'_>,
+    file: &str,
     old: &[u8],
     new: &[u8],
-    text: &io::Result<Option<Vec<u8>>>,
     store: LiveStore<'_>,
-    told: &mut ToldErrors,
 ) -> u8 {
-    let host = Host {
-        threads,
-        runtime: rt,
-        log: &log_for(rt, &request.session),
-        alloc: rt.alloc(),
-    };
-    update_as_asked(
-        &host,
+    let rt = host.runtime;
+    let live = request.session.live;
+    let text = live_at(rt, live);
+    let mut told = Told::new(rt.alloc(), rt.stderr());
+    let mut keeper = TextKeeper::new(store.with_text(found_in(&text)));
+    let status = update_as_asked(
+        host,
         request,
         old,
         new,
-        live_file(text),
-        &mut TextKeeper::new(store),
+        live_file(&text),
+        &mut keeper,
         &mut Noted::new(rt.stdout()),
-        told,
-    )
+        &mut told,
+    );
+    close(rt, live, host.run_files);
+    drop(keeper);
+    if let Ok(seen) = seen_of(rt, file, old, request.new, new) {
+        behind_session(rt, live, &text, &seen, &told);
+    }
+    tell_left(rt, live, both(old, new), host.run_files);
+    drop((told, text));
+    status
+}
+
+/// Both databases, for what a command that was cut short has moved.
+fn both<'a>(old: &'a [u8], new: &'a [u8]) -> Bases<'a> {
+    Bases {
+        first: Some(old),
+        other: Some(new),
+    }
 }
 
 /// The database of which a fault may be: the old one, and where that is right the new one.

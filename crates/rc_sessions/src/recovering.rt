@@ -1,0 +1,98 @@
+//! A recovery of the two files of a session, by the text of a database.
+ghost use Rattle.std.specs.Prelude.{◌≡◌, ◌≢◌, ℕ, List, IfNone, IfOk, IfSome, IsErrOf};
+ghost use Rattle.rc_recovery.specs.RunLog.{IsEntered};
+ghost use Rattle.rc_files.specs.Files.{Files};
+ghost use Rattle.rc_sessions.specs.Recovering.{IsOn, Leaves, LeavesCut, LeavesNothing, LeavesUnfit};
+
+use rc_base::database_of;
+use rc_crash::{FilesFault, recover_files};
+use rc_dbtext::TextFault;
+use rc_files::TwoFiles;
+use rc_recovery::{Recovered, recover_text};
+use std::alloc::Global;
+use thiserror::Error;
+
+/// Why what a command has moved is not entered.
+#[derive(Clone, Copy, PartialEq, Eq, Debug, Error)]
+pub enum Unrecovered {
+    /// The text is none of a database. Nothing was looked at.
+    #[error("the database can't be read")]
+    Database,
+    /// The log is none of a run of this database from where the session stands. It is left.
+    #[error("the run log does not fit the session or the database")]
+    Log,
+    #[error("out of memory")]
+    Memory,
+    /// A file could not be read or written. The next recovery is as good as this one.
+    #[error("a file could not be read or written")]
+    Io,
+}
+
+impl From<FilesFault> for Unrecovered {
+    ghost use Rattle.rc_crash.specs.declared.recovering.FilesFault.TheVariants as from;
+    ghost use Rattle.rc_sessions.specs.declared.recovering.Unrecovered.TheVariants as to;
+
+    ghost from_gives = { λ fault given. given ≡ to.Log → fault ≡ from.Log };
+
+    fn from(fault: FilesFault) -> Unrecovered {
+        match fault {
+            FilesFault::Log => Unrecovered::Log,
+            FilesFault::Memory => Unrecovered::Memory,
+            FilesFault::Io => Unrecovered::Io,
+        }
+    }
+}
+
+/// Enters what the run log of a session leaves, by the text of a database, and empties the log. The
+/// result is the report, or `None` where there is nothing to enter. What a recovery that is cut
+/// short leaves is recovered by the next one, to the same text.
+pub fn recover_by<F: TwoFiles>(
+    alloc: Global,
+    base: &[u8],
+    files: &mut F,
+) -> Result<Option<Vec<u8>>, Unrecovered>
+    requires opened { (g : Files) → F.left files.old g → g ≡ F.holds files.old }
+    ensures entered { IfOk result (λ made. IfSome made (λ report.
+        Leaves base.now (F.holds files.old) (F.holds files.new) report.items)) }
+    ensures nothing { IfOk result (λ made. IfNone made (
+        LeavesNothing base.now (F.holds files.old) (F.holds files.new))) }
+    ensures unfit { IsErrOf result Unrecovered.Log →
+        LeavesUnfit base.now (F.holds files.old) (F.holds files.new) }
+    ensures crash { (g : Files) → F.left files.new g → LeavesCut base.now (F.holds files.old) g }
+{
+    let db = match database_of(alloc, Some(base), &[]) {
+        Ok((db, _none)) => db,
+        Err(fault) => return Err(unread(fault)),
+    };
+    match recover_files(alloc, db, files) {
+        Ok(made) => Ok(made),
+        Err(fault) => Err(Unrecovered::from(fault)),
+    }
+}
+
+/// The report of what a recovery would enter of the bytes of the two files, if anything.
+pub fn left_report(alloc: Global, base: &[u8], file: &[u8], log: &[u8]) -> Option<Vec<u8>>
+    ensures { IfSome result (λ report. IsOn base.now
+        (λ d. (entered : List ℕ) × IsEntered d file.now log.now entered report.items)) }
+{
+    let Ok((db, _none)) = database_of(alloc, Some(base), &[]) else {
+        return None;
+    };
+    match recover_text(alloc, db, file, log) {
+        Ok(Some(Recovered { text, report })) => {
+            drop(text);
+            Some(report)
+        }
+        _ => None,
+    }
+}
+
+// Why a database is not read.
+fn unread(fault: TextFault) -> Unrecovered
+    ensures { result ≢ Unrecovered.Log }
+{
+    match fault {
+        TextFault::Memory => Unrecovered::Memory,
+        _ => Unrecovered::Database,
+    }
+}

@@ -1,0 +1,27 @@
+//! `stop`: the command that goes on with a session is called off.
+
+use log::info;
+use rc_asked::{WordsFault, tell_words};
+use rc_console::tell_file;
+use rc_streams::ending::{DONE, REFUSED};
+use rc_streams::messages::{MESSAGE, Messages};
+use rc_streams::{live_lock, stop_file};
+
+/// Calls off the command that goes on with the session in this file, and answers the status: 0
+/// where it is told, 1 where none is under way.
+pub fn stop(rt: &HostRuntime, file: Option<&str>) -> u8 {
+    let Some(path) = file else {
+        return tell_words(&mut rt.stderr(), &WordsFault::Session);
+    };
+    match live_lock::is_held(rt, path) {
+        Ok(true) => match stop_file::call_off(rt, path) {
+            Ok(()) => DONE,
+            Err(error) => tell_file(rt, path, &error),
+        },
+        Ok(false) => {
+            info!(Messages(rt); target: MESSAGE, "no command is under way on {path}");
+            REFUSED
+        }
+        Err(error) => tell_file(rt, path, &error),
+    }
+}
