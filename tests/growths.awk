@@ -1,7 +1,8 @@
 # What a run of scenarios_memory is to write where growths are refused, beside what it wrote. Read are, in
 # this order, tests/growths.txt, what is written where nothing is refused, and the run. way: GROWTHS, this
 # growth `n` of each call and all that follow; GROWTH, this one alone, where a vector may have asked for
-# less and all goes on; THREAD, this start of a thread. It prints the lines that are wrong.
+# less and all goes on, but not where the call has no other growth; THREAD, this start of a thread. It
+# prints the lines that are wrong.
 # A vector that can't be made as short as what it holds stays as long as it is.
 # A thread's start takes memory too, and more where none has ended before: where that is refused the call
 # is out of threads.
@@ -26,6 +27,7 @@ function is_refused(line,    calls, numbers, many, i, name, pair) {
         threads = pair[2] + 0
         shrinks = numbers[i] ~ /, the last to shrink$/
         over = (way == "THREAD" ? threads : pair[1]) - n
+        only = pair[1] == 1
         if (over >= 0) {
             before = before name
             return 1
@@ -38,7 +40,7 @@ function is_refused(line,    calls, numbers, many, i, name, pair) {
 
 function is_right(line, text,    refused) {
     refused = is_refused(line)
-    if (text == whole[line] && (!refused || way == "GROWTH" || shrinks && over == 0)) return 1
+    if (text == whole[line] && (!refused || way == "GROWTH" && !only || shrinks && over == 0)) return 1
     if (text == before ": out of memory, as before") return refused && way != "THREAD"
     if (text == before ": out of threads, as before")
         return threads > 0 && (refused || (way != "THREAD" && over >= -2 * threads))

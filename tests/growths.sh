@@ -2,7 +2,7 @@
 # The calls of the built program scenarios_memory with each growth refused in turn, and each start of a
 # thread: tests/growths.sh PROGRAM. tests/growths.txt names each call with the number of its growths, and
 # of the threads that it starts. A call of which one is refused tells that, and all is as before; where the
-# last is to shrink a vector, that stays as it is and all goes on. The last line is 'N passed, M failed', and
+# last is to shrink a vector, that stays as it is and all goes on. The last line is 'N passed, M failed, K skipped', and
 # the status is 0 where none failed.
 set -eu
 here=$(realpath "$(dirname "$0")")

@@ -8,7 +8,7 @@ use crate::workers::{by_workers, within};
 use rc_board::Fault;
 use rc_session::{Refusal, Session, Step};
 use rc_set::NoMem;
-use samples_memory::{is_of_states, is_stepped_on, is_value};
+use samples_memory::{Query, is_answer, is_of_states, is_stepped_on, is_value};
 use std::alloc::{AllocGlobal, Global};
 use std::io::Print;
 use std::sync::Wait;
@@ -91,6 +91,7 @@ fn stepped(
         How::By => by_events(rt.alloc(), session, step),
         How::Edit => edited(rt.alloc(), session, step),
         How::Dry => planned(rt.alloc(), session, step),
+        How::Ask(query) => asked(rt.alloc(), session, query, step),
         _ => Err(Refusal::Strange),
     }
 }
@@ -142,6 +143,14 @@ fn edited(alloc: Global, session: &mut Session, step: &Step) -> Result<(), Refus
         Step::Redo(..) => session.redo_edit(alloc),
         _ => Err(Refusal::Strange),
     }
+}
+
+/// A query by the names of a change.
+fn asked(alloc: Global, session: &Session, query: Query, step: &Step) -> Result<(), Refusal> {
+    let Step::Change(request, _) = step else {
+        return Err(Refusal::Strange);
+    };
+    answered(is_answer(alloc, session.db(), query, &request.names))
 }
 
 pub(crate) fn planned(alloc: Global, session: &Session, step: &Step) -> Result<(), Refusal> {

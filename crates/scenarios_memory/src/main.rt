@@ -18,7 +18,9 @@ use rc_livetext::write_live;
 use rc_session::{Session, Step};
 use rc_set::NoMem;
 use samples::sample;
-use samples_memory::{show_came, show_edit, show_line, show_own, show_table};
+use samples_memory::{
+    show_begun, show_came, show_edit, show_line, show_opening, show_own, show_table,
+};
 use std::alloc::{AllocGlobal, Global};
 use std::io;
 use std::io::Print;
@@ -35,6 +37,10 @@ fn main(rt: HostRuntime) -> Result<(), Fail> {
 
 /// The row's call on a session over the sample.
 fn show_row<R: Print + AllocGlobal + Threads + Wait + Sync>(rt: &R, row: &Row) -> Result<(), Fail> {
+    if let How::Session(bound) = row.2 {
+        let db = sample(rt.alloc())?;
+        return Ok(show_begun(rt, row.0, db, bound)?);
+    }
     let mut session = session_of_sample(rt.alloc())?;
     let shown = show_on(rt, &mut session, row);
     drop(session);
@@ -63,6 +69,7 @@ fn show_on<R: Print + AllocGlobal + Threads + Wait + Sync>(
         How::Table => show_table(rt, session.db(), what, steps.first()),
         How::Own(given) => show_own(rt, what, *given),
         How::Line => show_edit(rt, session.journal(), what),
+        How::Opening(opening) => show_opening(rt, session.journal(), what, *opening),
         _ => show_call(rt, session, what, *how, &steps),
     };
     drop(steps);

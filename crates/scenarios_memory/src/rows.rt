@@ -1,16 +1,19 @@
 //! The calls: the name of each, what was done before it, how it is made and by which steps.
 
 use crate::rows::How::{
-    Abandon, By, Complete, Dry, Edit, Line, Of, Own, Play, Spoil, States, StepOn, Stop, Table,
-    Within, Workers,
+    Abandon, Ask, By, Complete, Dry, Edit, Line, Of, Opening, Own, Play, Session, Spoil, States,
+    StepOn, Stop, Table, Within, Workers,
 };
 use crate::steps::Act::{Add, Delete};
 use crate::steps::{Act, BACK, LIMITED, ON, REDO, UNDO, UP};
-use samples_memory::Given;
+use samples_memory::Query::{
+    self, AllDependencies, Atomics, Contents, Dependencies, List, Pipeline, Script, Selected,
+};
 use samples_memory::Value::{
     self, DownOf, EditBetween, EditCopy, GraphShare, LineCopy, LineState, NameCopy, NameRead,
     PadNew, PlanBetween, PlanUp, ReadLive, SetCopy, SetEmpty, SetIds, TableCopy, UpOf, WriteLive,
 };
+use samples_memory::{Given, Opening as OpenTo};
 
 #[derive(Clone, Copy)]
 pub(crate) enum How {
@@ -28,6 +31,8 @@ pub(crate) enum How {
     Edit,
     /// As a plan alone.
     Dry,
+    /// A query by the step's names.
+    Ask(Query),
     /// On a copy of the database's bundles.
     Table,
     /// All steps, one after the other.
@@ -44,13 +49,17 @@ pub(crate) enum How {
     StepOn,
     /// On a copy of the session's line.
     Line,
+    /// On such a copy, which is opened and given up.
+    Opening(OpenTo),
+    /// A session of its own, with at most so many states, 0 for the usual number.
+    Session(u32),
     /// On a value of its own.
     Own(Given),
 }
 
 pub(crate) type Row = (&'static str, &'static [Act], How, &'static [Act]);
 
-pub(crate) static ROWS: [Row; 57] = [
+pub(crate) static ROWS: [Row; 70] = [
     (
         "Set::empty, and insert, remove, contains, join, without, same, len, is_empty and bound",
         &[UP],
@@ -77,6 +86,23 @@ pub(crate) static ROWS: [Row; 57] = [
     ("two states", &[Add], States, &[]),
     ("Line::state", &[UP, Add], StepOn, &[]),
     ("Line::open_edit", &[], Line, &[]),
+    ("Line::open_undo", &[UP, Add], Opening(OpenTo::Undo), &[]),
+    (
+        "Line::open_redo",
+        &[UP, Add, BACK],
+        Opening(OpenTo::Redo),
+        &[],
+    ),
+    ("Db::list", &[], Ask(List), &[UP]),
+    ("Db::contents", &[], Ask(Contents), &[UP]),
+    ("Db::script", &[], Ask(Script), &[UP]),
+    ("Db::pipeline", &[], Ask(Pipeline), &[UP]),
+    ("Db::atomics", &[], Ask(Atomics), &[UP]),
+    ("Db::dependencies", &[], Ask(Dependencies), &[UP]),
+    ("Db::all_dependencies", &[], Ask(AllDependencies), &[UP]),
+    ("Db::selected", &[], Ask(Selected), &[UP]),
+    ("Session::new", &[], Session(0), &[]),
+    ("Session::with_bound", &[], Session(3), &[]),
     ("write_live", &[UP, Add], Of(WriteLive), &[]),
     ("read_live", &[UP, Add], Of(ReadLive), &[]),
     ("rc_bundle::add", &[], Table, &[Add]),
@@ -105,6 +131,7 @@ pub(crate) static ROWS: [Row; 57] = [
     ("change by 1", &[], Workers(1), &[UP]),
     ("undo by 1", &[UP], Workers(1), &[UNDO]),
     ("redo by 1", &[UP, UNDO], Workers(1), &[REDO]),
+    ("change by 2", &[], Workers(2), &[UP]),
     ("change by 3", &[], Workers(3), &[UP]),
     ("undo by 3", &[UP], Workers(3), &[UNDO]),
     ("redo by 3", &[UP, UNDO], Workers(3), &[REDO]),
