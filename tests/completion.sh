@@ -70,7 +70,7 @@ for shell in bash fish; do
     if command -v "$shell" > /dev/null; then
         shells="$shells $shell"
     else
-        echo "skipped: completion in $shell, which is missing (the package $shell)"
+        skip "completion in $shell, which is missing (the package $shell)"
     fi
 done
 
@@ -118,7 +118,7 @@ if command -v zsh > /dev/null; then
     cp queries wanted
     equals 'zsh, the queries'
 else
-    echo 'skipped: completion in zsh, which is missing (the package zsh)'
+    skip 'completion in zsh, which is missing (the package zsh)'
 fi
 
 echo 'names'

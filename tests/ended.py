@@ -13,6 +13,8 @@ from collections import Counter
 
 PROGRESS = re.compile(r"undorc: +[0-9]+\.[0-9]+ s  ((up|down) ([a-z]): (started|ok|not started))\Z")
 HELP = re.compile(r"  (nothing is named|options stand) ")
+# What is told of a run log, beside a fault or alone.
+LOG = re.compile(r"undorc: (the next command enters what was moved|\S+\.run can't be written: .*)\Z")
 MAY_BE_DONE = ("undorc: Memory", "undorc: Io", "undorc: Write")
 
 
@@ -30,7 +32,7 @@ def told_of(text):
         if progress:
             if progress[4] == "not started":
                 failing.append((progress[3], progress[2] + ":" + progress[3]))
-        elif HELP.match(line):
+        elif HELP.match(line) or LOG.match(line):
             continue
         elif not fault.startswith("undorc: ") or not line.startswith("  "):
             fault += line + "\n"

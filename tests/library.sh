@@ -3,10 +3,14 @@
 samples=$(realpath "$here/../docs/samples")
 room=$(mktemp -d)
 trap 'rm -rf "$room"' EXIT
+trap 'exit 143' TERM
 cd "$room"
 passed=0
 failed=0
+skipped=0
 patience=30
+# shellcheck source=tally.sh
+. "$here/tally.sh"
 
 # Texts are written as printf's %b reads them, each on one line.
 sample=$(sed 's/$/\\n/' "$samples/sample.txt" | tr -d '\n')
@@ -202,8 +206,16 @@ three_scripts() {
     rm -r tree
 }
 
-# The last line, and the status.
-tally() {
-    echo "$passed passed, $failed failed"
-    [ "$failed" -eq 0 ] && [ "$passed" -gt 0 ]
+# skip WHAT: a row, or rows of one kind, that can't be run here; `.ci/run` lets none through
+skip() {
+    skipped=$((skipped + 1))
+    echo "skipped: $1"
+}
+
+# may_be_nobody WHAT: whether the program can be run as another user; where it can't, WHAT is skipped
+may_be_nobody() {
+    if [ "$(id -u)" -ne 0 ] || ! command -v setpriv > /dev/null; then
+        skip "$1, which takes root and setpriv (the package util-linux)"
+        return 1
+    fi
 }

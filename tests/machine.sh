@@ -2,7 +2,7 @@
 # Runs the scripts of contrib/machine on whole machines: tests/machine.sh PROGRAM [CASE..]. A
 # machine has its own processes, mounts and network, and a root of its own over that of the host
 # (tests/machine/root.sh), in which s6 or runit is the first process. The last line is
-# 'N passed, M failed', and the status is 0 where none failed.
+# 'N passed, M failed, K skipped', and the status is 0 where none failed.
 #
 # It needs root, and says `skipped` without it, and where a tool is missing. All runs in namespaces
 # that end with this script, and after eight minutes.
@@ -17,7 +17,7 @@ limit=480
 # skip WHY COUNT: says so, and that nothing failed
 skip() {
     echo "skipped: $2 machines under s6 and runit, since $1"
-    echo '0 passed, 0 failed'
+    echo "0 passed, 0 failed, $2 skipped"
     exit 0
 }
 
@@ -35,20 +35,13 @@ inner() {
     wait
     passed=0
     failed=0
+    skipped=$UNDORC_SKIPPED
+    # shellcheck source=tally.sh
+    . "$tests/tally.sh"
     for said in "$room"/*.said; do
-        line=$(tail -n 1 "$said")
-        good=$(echo "$line" | sed -n 's/^\([0-9]*\) passed, [0-9]* failed$/\1/p')
-        bad=$(echo "$line" | sed -n 's/^[0-9]* passed, \([0-9]*\) failed$/\1/p')
-        if [ -z "$good" ]; then
-            bad=1
-            echo 'FAILED: it did not run to its end' >> "$said"
-        fi
-        [ "$bad" -eq 0 ] || sed "s/^/$(basename "$said" .said): /" "$said"
-        passed=$((passed + ${good:-0}))
-        failed=$((failed + bad))
+        adds "$said" || sed "s/^/$(basename "$said" .said): /" "$said"
     done
-    echo "$passed passed, $failed failed"
-    [ "$failed" -eq 0 ]
+    tally
 }
 if [ -n "${UNDORC_ROOM:-}" ]; then
     status=0
@@ -63,12 +56,14 @@ for tool in unshare nsenter pivot_root mountpoint flock pgrep execlineb s6-log b
     command -v "$tool" > /dev/null || skip "$tool is missing" "$count"
 done
 supervisors=
+missing=0
 for supervisor in s6 runit; do
     # shellcheck source=supervised/s6.sh
     . "$tests/supervised/$supervisor.sh"
     if there; then
         supervisors="$supervisors $supervisor"
     else
+        missing=$((missing + $#))
         echo "skipped: $# machines, since the Debian package $supervisor is not installed"
     fi
 done
@@ -97,7 +92,7 @@ if ! unshare --mount sh -ec '
 fi
 # What ends `unshare` ends all processes in its namespaces.
 # shellcheck disable=SC2086
-UNDORC_ROOM=$room UNDORC_SUPERVISORS=$supervisors timeout -k 2 "$limit" \
+UNDORC_ROOM=$room UNDORC_SUPERVISORS=$supervisors UNDORC_SKIPPED=$missing timeout -k 2 "$limit" \
     unshare --mount --pid --fork --kill-child --mount-proc sh "$0" "$program" $cases &
 running=$!
 status=0

@@ -1,7 +1,7 @@
 #!/bin/sh
 # Compares the man pages and the completion with the program, and the documents with the sources: tests/pages.sh PROGRAM.
 # What must stand there is taken from the help texts of the program, from docs/FORMATS.md, from crates.txt and from the
-# sources. The last line is 'N passed, M failed', and the status is 0 where none failed.
+# sources. The last line is 'N passed, M failed, K skipped', and the status is 0 where none failed.
 set -eu
 here=$(realpath "$(dirname "$0")")
 program=$(realpath "$1")
@@ -161,7 +161,7 @@ if command -v mandoc > /dev/null; then
     (cd "$pages" && mandoc -T lint -W all ./*.[15]) > out 2> err || echo $? > status
     judge 'mandoc -T lint' 0
 else
-    echo 'skipped: mandoc is missing (the package mandoc)'
+    skip 'mandoc is missing (the package mandoc)'
 fi
 
 . "$here/completion.sh"

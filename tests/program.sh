@@ -1,30 +1,36 @@
 #!/bin/sh
-# Runs the built program from outside: tests/program.sh PROGRAM. The rows of text come first, then what is no plain run, as
-# shell, a file a topic. The last line is 'N passed, M failed', and the status is 0 where none failed.
+# Runs the built program from outside: tests/program.sh PROGRAM [TOPIC..]. The topic `rows` is the rows of text; others
+# are what is no plain run, as shell, a file a topic: `compile`, and those of tests/outside. Without a topic all are run.
+# The last line is 'N passed, M failed, K skipped', and the status is 0 where none failed.
 set -eu
 here=$(realpath "$(dirname "$0")")
 program=$(realpath "$1")
+shift
+[ $# -gt 0 ] || set -- rows words inputs bounds pictures messages sessions scripts schedules starting live order \
+    locking recovery oneshots update readme devices keeping memory held drawn compile
+topics=$*
 . "$here/library.sh"
 
-sh "$here/rows.sh" "$program" > said 2>&1 || echo $? > bad
-line=$(tail -n 1 said)
-case $line in
-    [0-9]*' passed, '*' failed')
-        sed '$d' said
-        passed=${line%% *}
-        failed=${line#*, }
-        failed=${failed% failed}
-        ;;
-    *) cat said ;;
-esac
-if [ -e bad ] && [ "$failed" -eq 0 ]; then
-    failed=1
-    echo 'FAILED: the rows of text were not run to their end'
-fi
+# rows_of_text: all of them; a failed one says for itself why
+rows_of_text() {
+    bad=0
+    sh "$here/rows.sh" "$program" > said 2>&1 || bad=$?
+    adds said || bad=0
+    grep -v '^[0-9]* passed, ' said || true
+    if [ "$bad" -ne 0 ]; then
+        failed=$((failed + 1))
+        echo "FAILED: the rows of text ended with status $bad"
+    fi
+}
 
-for topic in words inputs bounds pictures messages sessions scripts starting live locking oneshots update readme devices keeping memory held drawn; do
-    # shellcheck source=/dev/null
-    . "$here/outside/$topic.sh"
+for topic in $topics; do
+    case $topic in
+        rows) rows_of_text ;;
+        compile) . "$here/compile.sh" ;;
+        *)
+            # shellcheck source=/dev/null
+            . "$here/outside/$topic.sh"
+            ;;
+    esac
 done
-. "$here/compile.sh"
 tally

@@ -7,7 +7,7 @@ The words are those of the program, which reads the file `in`. The names, beside
              last run is that in which so many growths, or starts of threads, have not come any more
     from     how many growths before the first that is refused are left out
     device   a variable of tests/devices.c. The run N has in it
-    does     these words and N - 1, and the last runs are four that end well one after the other
+    does     these words and N - 1, and the last runs are ten that end well one after the other
     least    how many runs there are at least
     runs     how many there are, where that is known
     file     each run is a session that is kept in a file of its own, `link`: behind a link
@@ -122,13 +122,13 @@ class Run:
                     ask(self.options["program"], ["session", "-b", "base", "-l", path], "")
         self.live = read(self.kept)
         for path in places:
-            taken(path)
-            taken(path + ".lock")
+            for ending in ("", ".lock", ".run", ".stop"):
+                taken(path + ending)
 
     def is_last(self, well):
         """Whether no run is to come after it; `well` is how many ended well before it."""
         if not self.options["way"]:
-            return well >= 3 and self.is_well()
+            return well >= 9 and self.is_well()
         grown = self.grown[self.options["way"] == "THREAD":]
         return not grown or int(self.options["from"]) + self.number > grown[0]
 

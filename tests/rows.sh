@@ -1,6 +1,6 @@
 #!/bin/sh
 # Runs rows of text on the built program: tests/rows.sh PROGRAM [TOPIC..]. A topic is a file tests/rows/TOPIC.rows; without
-# one, all are run. The last line is 'N passed, M failed', and the status is 0 where none failed.
+# one, all are run. The last line is 'N passed, M failed, K skipped', and the status is 0 where none failed.
 #
 # A row reads like a terminal session. Rows are separated by empty lines; each line begins with a mark and a space:
 #
@@ -13,9 +13,10 @@
 #   ! LINE       a line that it writes to standard error
 #   !! TEXT      a text in a line that stands behind a fault, to help, and begins with two spaces
 #   = N          the status with which it ends, where that is not 0
-#   @ WORDS      in place of $: a session with these words on the database that `<< NAME` in front of it gives, in three
-#                ways: with the database in front of its lines; with -b NAME -w 64; and with -b NAME -w 1 through two
-#                pipes, where the answer to a line, the > after it, is read before the next line is written
+#   @ WORDS      in place of $: a session with these words on the database that `<< NAME` in front of it gives, in four
+#                ways: with the database in front of its lines; with -b NAME -w 64; with -b NAME -w 2; and with -b NAME
+#                -w 1 through two pipes, where the answer to a line, the > after it, is read before the next line is
+#                written
 #   : PATH TEXT  a file of this text and of the input lines below, or a folder, where PATH ends in /; it is there for the
 #                row, or for all rows that follow where it stands in a paragraph without a title
 #   ## REMARK    a remark
@@ -48,12 +49,12 @@ translate() {
     }
     function close_run() {
         if (words == "") return
-        written(three ? own : common own, "in")
+        written(piped ? own : common own, "in")
         written(wanted, "out.wanted")
         written(told, "err.wanted")
         written(helped, "behind")
         place = quoted(topic ":" begun ": " title)
-        if (three) print "talk() {\n:\n" talk "}\nsession " place " " quoted(words) " " quoted(front)
+        if (piped) print "talk() {\n:\n" talk "}\nsession " place " " quoted(words) " " quoted(front)
         else print "run " place " " status + 0 " " quoted(words)
         words = own = ""
     }
@@ -78,10 +79,10 @@ translate() {
         words = rest
         begun = NR
         runs++
-        three = (mark == "@")
+        piped = (mark == "@")
         wanted = told = helped = talk = status = ""
-        if (three && (front == "" || common != "cat " quoted(front) " || lacks\n" || words !~ /^session /))
-            amiss("a session in three ways on no database")
+        if (piped && (front == "" || common != "cat " quoted(front) " || lacks\n" || words !~ /^session /))
+            amiss("a session in four ways on no database")
     }
 
     $0 == "" { close_row(); next }
@@ -97,14 +98,14 @@ translate() {
         next
     }
     mark == "$" || mark == "@" { begin_run(); next }
-    mark == "<" { gives(prints(rest)); if (three) talk = talk "tell " quoted(rest) "\n"; unheard = 1; next }
-    mark == "<<" && !(three && words != "") { if (common == "") front = rest; gives("cat " quoted(rest) " || lacks\n"); next }
-    mark == "|" && !(three && words != "") { gives("sh -c " quoted(rest) " || lacks\n"); next }
+    mark == "<" { gives(prints(rest)); if (piped) talk = talk "tell " quoted(rest) "\n"; unheard = 1; next }
+    mark == "<<" && !(piped && words != "") { if (common == "") front = rest; gives("cat " quoted(rest) " || lacks\n"); next }
+    mark == "|" && !(piped && words != "") { gives("sh -c " quoted(rest) " || lacks\n"); next }
     words == "" { amiss("no mark, or a line in front of its run: " $0); next }
-    mark == ">" { wanted = wanted prints(rest); if (three && unheard) talk = talk "hear\n"; unheard = 0; next }
-    mark == "!" && !three { told = told prints(rest); next }
-    mark == "!!" && !three && rest != "" { helped = helped prints(rest); next }
-    mark == "=" && !three && status == "" && rest ~ /^[1-9][0-9]*$/ && rest + 0 < 256 { status = rest; next }
+    mark == ">" { wanted = wanted prints(rest); if (piped && unheard) talk = talk "hear\n"; unheard = 0; next }
+    mark == "!" && !piped { told = told prints(rest); next }
+    mark == "!!" && !piped && rest != "" { helped = helped prints(rest); next }
+    mark == "=" && !piped && status == "" && rest ~ /^[1-9][0-9]*$/ && rest + 0 < 256 { status = rest; next }
     { amiss("no mark, or a line that has no place here: " $0) }
     END { close_row(); if (!rows) amiss("no rows"); print "whole=" quoted(topic) }' "$2"
 }
@@ -160,6 +161,7 @@ session() {
     run "$1" 0 "$2"
     mv lines in
     run "$1" 0 "$2 -b $3 -w 64"
+    run "$1" 0 "$2 -b $3 -w 2"
     eval "begins ${2#session} -b $3 -w 1"
     talk
     ends "$1 (\$ $2 -b $3 -w 1, through pipes)" 0

@@ -1,11 +1,12 @@
 #!/bin/sh
 # Looks through all scripts of the repository by shellcheck, as `.shellcheckrc` at the top has it, and through those that
-# are whole programs without what is let through there for files that others read. The last line is 'N passed, M failed'.
+# are whole programs without what is let through there for files that others read. The last line is
+# 'N passed, M failed, K skipped'.
 set -eu
 cd "$(dirname "$0")/.."
 if ! command -v shellcheck > /dev/null; then
     echo 'skipped: the Debian package shellcheck is not installed'
-    echo '0 passed, 0 failed'
+    echo '0 passed, 0 failed, 1 skipped'
     exit 0
 fi
 room=$(mktemp -d)
@@ -40,5 +41,5 @@ look() {
 }
 look "$room/parts"
 look "$room/whole" --norc -x -P SCRIPTDIR -e SC2016
-echo "$passed passed, $failed failed"
+echo "$passed passed, $failed failed, 0 skipped"
 [ "$failed" -eq 0 ]

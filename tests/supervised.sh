@@ -1,6 +1,7 @@
 #!/bin/sh
 # Runs the built program under real supervisors, with the scripts of contrib: tests/supervised.sh PROGRAM. The last line is
-# 'N passed, M failed', and the status is 0 where none failed. A supervisor that is not there is told as skipped.
+# 'N passed, M failed, K skipped', and the status is 0 where none failed. Machines whose supervisor is
+# not installed are skipped.
 #
 # A machine is a supervisor in a folder of its own, with services that are made for it (tests/supervised/machine.sh). They
 # run side by side: of each supervisor one whose controller is called by itself, one that is set up as its README says, and
@@ -24,14 +25,16 @@ trap 'exit 143' TERM HUP
 
 passed=0
 failed=0
-skipped=
+skipped=0
+# shellcheck source=tally.sh
+. "$here/tally.sh"
 names=
 for supervisor in s6 runit; do
     # shellcheck source=supervised/s6.sh
     . "$here/supervised/$supervisor.sh"
     if ! there; then
-        skipped="${skipped}skipped: the Debian package $supervisor is not installed
-"
+        skipped=$((skipped + 1))
+        echo "skipped: all machines under $supervisor, since this package is not installed"
         continue
     fi
     kinds='controllers 1 4 64'
@@ -50,17 +53,6 @@ names="$names lint"
 wait
 machines=
 for name in $names; do
-    line=$(tail -n 1 "$room/$name")
-    good=$(echo "$line" | sed -n 's/^\([0-9]*\) passed, [0-9]* failed$/\1/p')
-    bad=$(echo "$line" | sed -n 's/^[0-9]* passed, \([0-9]*\) failed$/\1/p')
-    if [ -z "$good" ]; then
-        bad=1
-        echo 'FAILED: it was not run to its end' >> "$room/$name"
-    fi
-    [ "$bad" -eq 0 ] || sed "s/^/$name: /" "$room/$name"
-    passed=$((passed + ${good:-0}))
-    failed=$((failed + bad))
+    adds "$room/$name" || sed "s/^/$name: /" "$room/$name"
 done
-printf '%s' "$skipped"
-echo "$passed passed, $failed failed"
-[ "$failed" -eq 0 ]
+tally

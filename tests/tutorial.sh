@@ -2,16 +2,16 @@
 # Follows docs/TUTORIAL.md and docs/S6RC.md word by word, each in an empty folder, with what `make install` copies:
 # tests/tutorial.sh PROGRAM. Each answer is compared with what stands there, but for times and
 # process numbers; lines with a time that stand together may come in another order. The last line
-# is 'N passed, M failed', and the status is 0 where none failed.
+# is 'N passed, M failed, K skipped', and the status is 0 where none failed.
 set -eu
 here=$(realpath "$(dirname "$0")")
 program=$(realpath "$1")
 top=$(realpath "$here/..")
 . "$here/library.sh"
 if ! command -v s6-svscan > /dev/null || ! command -v execlineb > /dev/null; then
-    echo 'skipped: the tutorials, since s6 or execline is missing (the packages s6 and execline)'
-    echo '0 passed, 0 failed'
-    exit 0
+    skip 'the tutorials, since s6 or execline is missing (the packages s6 and execline)'
+    tally
+    exit
 fi
 
 # Ends what was started: all that stands below the folders, by its process number.

@@ -1,6 +1,6 @@
 #!/bin/sh
 # case.sh PROGRAM SUPERVISOR CASE ROOM: one case of tests/machine.sh. The last line is
-# 'N passed, M failed', and the status is 0 where none failed.
+# 'N passed, M failed, K skipped', and the status is 0 where none failed.
 set -u
 tests=$(realpath "$(dirname "$0")/..")
 program=$1

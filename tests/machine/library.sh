@@ -171,6 +171,6 @@ step() {
 # tally: the last line, and the status
 tally() {
     stop
-    echo "$passed passed, $failed failed"
+    echo "$passed passed, $failed failed, 0 skipped"
     [ "$failed" -eq 0 ] && [ "$passed" -gt 0 ]
 }

@@ -72,7 +72,7 @@ rm full over
 
 # The file of a session is a link to a file that somebody else owns, in a folder of theirs: it is left
 # alone. This row runs the program as nobody, where the script runs as root.
-if [ "$(id -u)" -eq 0 ]; then
+if may_be_nobody 'a session in a file of somebody else'; then
     mkdir theirs ours
     cp "$program" undorc
     chmod 755 . theirs undorc
@@ -109,7 +109,7 @@ for named in live db; do
     judge "a link to another file where undorc $* writes beside its file" 0
 done
 rm live db precious
-if [ "$(id -u)" -eq 0 ] && command -v setpriv > /dev/null; then
+if may_be_nobody 'files of somebody else'; then
     cp base secret
     chmod 600 secret
     ln -s secret hidden
@@ -134,13 +134,13 @@ if [ "$(id -u)" -eq 0 ] && command -v setpriv > /dev/null; then
     cmp -s common/db before || echo 'the file was written' >> err
     wants '' 'undorc: Io\n'
     judge 'the file of somebody else in a folder that all may write' 111
-else
-    echo 'not as root, or without setpriv: the rows of files of somebody else are left out'
 fi
 
 # What a script is given: three streams and no other file, whatever undorc has open, and the environment
 # of undorc with the three variables that are told it.
-if [ -e /proc/self/fd ]; then
+if [ ! -e /proc/self/fd ]; then
+    skip 'what is open to a script, which takes /proc'
+else
     mkdir -p tells/one
     echo oneshot > tells/one/type
     printf '%s\n' 'ls -l /proc/self/fd > files' "tr '\\0' '\\n' < /proc/\$\$/environ > environment" > tells/one/up

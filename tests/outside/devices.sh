@@ -156,7 +156,7 @@ cp whole whole.none
 : > text.none.0
 size=$(wc -c < some)
 for word in good cut; do
-    refusing device=READS "does=piece 7 $word" "runs=$(((size + 6) / 7 + 5))" faults=Read read=7 \
+    refusing device=READS "does=piece 7 $word" "runs=$(((size + 6) / 7 + 11))" faults=Read read=7 \
         -- session -b base -x down:log -w 3
     refusing device=WRITES "does=piece 16 $word" "least=$(($(wc -c < whole) / 16))" faults=Write written=16 \
         -- session -b base -x down:log -w 3

@@ -15,10 +15,12 @@ while read -r line; do
     next=$((end + ${#line} + 1))
     for length in $(seq "$end" $((next - 1))); do
         head -c "$length" base > in
-        "$program" plan < in > out 2> err || true
-        [ "$(cat out && firsts err)" = "undorc: Bad $at" ] || cut=$((cut + 1))
-        "$program" db -b in check > out 2> err || true
-        [ "$(cat out && firsts err)" = "undorc: Bad $at" ] || cut=$((cut + 1))
+        for words in plan 'db -b in check'; do
+            ended=0
+            # shellcheck disable=SC2086
+            "$program" $words < in > out 2> err || ended=$?
+            [ "$ended $(cat out && firsts err)" = "1 undorc: Bad $at" ] || cut=$((cut + 1))
+        done
     done
     end=$next
 done < base

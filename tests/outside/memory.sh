@@ -40,7 +40,7 @@ at_once db check
 from=180
 printf 'root\n' > in
 at_once plan -b base -up site
-from=210
+from=190
 for words in 'list all' 'pipeline web' 'atomics site net' '-d dependencies root'; do
     # shellcheck disable=SC2086
     at_once db -b base $words
@@ -100,7 +100,7 @@ at_fault compile tree
 entry d bundle contents nosuch
 at_fault compile tree
 rm -r tree
-from=220
+from=190
 at_fault db -b base contents web
 at_fault db -b base script roof
 from=140
@@ -167,6 +167,14 @@ sort -u said > out
 echo 0 > status
 wants "$ample$no_thread" ''
 judge 'a session of scripts, with each start of a thread refused' 0
+
+# A session within a bound of its own, whose line is full before its last edit.
+rm text.* whole.*
+: > in
+begins_at session -b base -n 3
+printf '%s\n' 'add both a c' 'delete both' 'add both b' undo > in
+expects none
+each 200 "$ample$memory" 'answers kept fresh' session -b base -n 3
 
 # One-shot commands on a file: as a session of the one line, or, of those that only show something and
 # have no line, as what they write where nothing is refused, with the file left alone.

@@ -295,7 +295,7 @@ helps 111 'undorc: Io\n' 'services: is a directory' -- live -b db -l services
 helps 111 'undorc: Io\n' 'nowhere/live: no such file or directory' -- change web -b db -x none -l nowhere/live
 
 # Who has no right to read.
-if [ "$(id -u)" -eq 0 ] && command -v setpriv > /dev/null; then
+if may_be_nobody 'a file without the right to read'; then
     newcomer
     chmod 0 services/disk/up
     chmod 755 .. .

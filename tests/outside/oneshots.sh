@@ -1,5 +1,7 @@
 # One-shot commands: how they end, that they answer and keep what a session of the same line does, and that
 # what only shows something writes nothing. tests/program.sh reads this file.
+# shellcheck source=../trees.sh
+. "$here/trees.sh"
 mkdir oneshots
 cd oneshots
 printf '%b' "$sample" > base
@@ -202,7 +204,7 @@ unaltered() {
 # A directory that may not be written: a look needs no right to.
 mkdir shut
 cp live shut
-if [ "$(id -u)" -eq 0 ] && command -v setpriv > /dev/null; then
+if may_be_nobody 'a directory that may not be written'; then
     chmod 755 .. . shut
     chmod 644 base shut/live
     cp "$program" undorc
@@ -230,7 +232,9 @@ judge 'a one-shot command whose file may have no bytes' 0
 unaltered 'a file that may have no bytes' 'live
 live.lock'
 rm shut/live.lock
-if [ "$(id -u)" -eq 0 ] && mount -t tmpfs -o size=16k none shut 2> /dev/null; then
+if [ "$(id -u)" -ne 0 ] || ! mount -t tmpfs -o size=16k none shut 2> /dev/null; then
+    skip 'a full disk, which takes root and the right to mount'
+else
     cp live shut
     cat /dev/zero > shut/zeros 2> /dev/null || true
     expect 111 '' 'undorc: Io\n' '' change site -b base -x none -l shut/live

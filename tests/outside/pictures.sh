@@ -48,7 +48,7 @@ if command -v dot > /dev/null; then
     : > err.wanted
     judge 'graphviz shows each name as it is' 0
 else
-    echo 'skipped: no picture is drawn, since graphviz is not there'
+    skip 'no picture is drawn, since dot is missing (the package graphviz)'
 fi
 cd ..
 rm -r pictures

@@ -1,76 +1,6 @@
 # Sessions that start real scripts. tests/program.sh reads this file.
-
-# begin_tree: no definitions yet. oneshot NAME TEXT [NEED..], longrun NAME [NEED..]: one more. down NAME
-# TEXT, limit NAME MILLISECONDS: more of one.
-begin_tree() {
-    rm -rf tree
-    mkdir tree
-}
-definition() {
-    mkdir "tree/$2"
-    echo "$1" > "tree/$2/type"
-    file=tree/$2/dependencies
-    shift 2
-    for need; do echo "$need"; done > "$file"
-}
-oneshot() {
-    name=$1 text=$2
-    shift 2
-    definition oneshot "$name" "$@"
-    printf '%s\n' "$text" > "tree/$name/up"
-}
-longrun() {
-    definition longrun "$@"
-    : > "tree/$1/run"
-}
-down() {
-    printf '%s\n' "$2" > "tree/$1/down"
-}
-limit() {
-    echo "$2" > "tree/$1/timeout-up"
-    echo "$2" > "tree/$1/timeout-down"
-}
-
-# session ANSWERS TOLD LINES WORDS..: a session on these definitions
-session() {
-    writes=$1 tells=$2 reads=$3
-    shift 3
-    "$program" compile tree > made
-    expect 0 "$writes" "$tells" "$reads" session -b made "$@"
-}
-
-# tells ANSWERS EVENTS LINES WORDS..: such a session with -v, and what it tells but for the times
-tells() {
-    wants "$1" "$2"
-    printf '%b' "$3" > in
-    shift 3
-    "$program" compile tree > made
-    runs session -b made -v "$@"
-    timeless err
-    judge "undorc session -b made -v $*" 0
-}
-
-# same WHAT: what a script left, in the files `left` and `left.wanted`
-same() {
-    passed=$((passed + 1))
-    if ! cmp -s left left.wanted; then
-        passed=$((passed - 1))
-        failed=$((failed + 1))
-        echo "FAILED: $1:"
-        diff -a -u left.wanted left | sed -e 1,2d -e 40q || true
-    fi
-}
-# holds WHAT TEST..: a test of the shell
-holds() {
-    what=$1
-    shift
-    passed=$((passed + 1))
-    if ! "$@"; then
-        passed=$((passed - 1))
-        failed=$((failed + 1))
-        echo "FAILED: $what"
-    fi
-}
+# shellcheck source=../trees.sh
+. "$here/trees.sh"
 
 # How a script ends, and what -v tells of it. Each is a change of its own.
 begin_tree
@@ -110,7 +40,7 @@ done
 # Limits, rounded up to seconds. At one a script is asked to end, and some seconds later it is ended.
 begin_tree
 oneshot loop 'while :; do :; done'
-oneshot sleeper 'sleep 60; true'
+oneshot sleeper 'sleep 10; true'
 oneshot tidy "trap 'echo undone > tidied; exit 0' TERM; while :; do sleep 0.1; done"
 oneshot deaf "echo \$\$ > deaf; trap '' TERM; while :; do sleep 0.1; done"
 for name in loop sleeper tidy; do limit $name 1; done
@@ -120,6 +50,21 @@ for workers in 1 64; do
     session 'failed deaf loop sleeper tidy\nok\n' '' 'change deaf loop sleeper tidy\n' -w "$workers"
     holds "a script that is asked to end may tidy up, by $workers" test -s tidied
     holds "a script that ignores it is ended, by $workers" sh -c '! kill -0 "$(cat deaf)" 2> /dev/null'
+done
+# A limit ends what a script has started, too, also where that ignores TERM and the script does not.
+begin_tree
+oneshot nested 'sleep 61 & echo $! > inner; sleep 62 & wait'
+oneshot stubborn "sh -c 'trap \"\" TERM; echo \$\$ > ignoring; while :; do sleep 0.1; done' & wait"
+for name in nested stubborn; do limit $name 1; done
+# gone FILE: the process of this number has ended, though nobody may have waited for it
+gone() {
+    case $(ps -o stat= -p "$(cat "$1")") in '' | Z*) ;; *) return 1 ;; esac
+}
+for workers in 1 2; do
+    rm -f inner ignoring
+    session 'failed nested stubborn\nok\n' '' 'change nested stubborn\n' -w "$workers"
+    holds "a limit ends what a script has started, by $workers" gone inner
+    holds "also what ignores TERM, by $workers" gone ignoring
 done
 begin_tree
 oneshot loop 'while :; do :; done'

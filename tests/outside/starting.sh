@@ -1,5 +1,7 @@
 # What scripts are told and how long they may take, what they write, and what is told of them while they run.
-# tests/program.sh reads this file; the functions that make definitions and compare stand in scripts.sh.
+# tests/program.sh reads this file.
+# shellcheck source=../trees.sh
+. "$here/trees.sh"
 
 # What a script is told in its environment, whatever stood there before: its service, its way, and its limit, its own or
 # that of -T.
@@ -31,7 +33,7 @@ same 'what a script is told without -T'
 
 # The limit of -T is that of services without one of their own on that way, and of no others; it is rounded up to seconds.
 begin_tree
-oneshot free 'sleep 60'
+oneshot free 'exec sleep 60'
 oneshot deaf "echo \$\$ > deaf; trap '' TERM; while :; do sleep 0.1; done"
 oneshot own 'sleep 2'
 echo 9000 > tree/own/timeout-up
@@ -39,7 +41,7 @@ oneshot half true
 down half 'sleep 2'
 echo 9000 > tree/half/timeout-down
 oneshot late true
-down late 'sleep 60'
+down late 'exec sleep 60'
 echo 9000 > tree/late/timeout-up
 rm -f deaf
 session 'raised half late own\nfailed deaf free\nok\nlowered half own\nfailed late\nok\n' '' \
@@ -52,7 +54,7 @@ holds 'the limit of -T is not in the database' cmp -s made bare
 # A limit is kept: a script with a limit of a second is ended before another one, which takes six, and not only
 # where that has ended.
 begin_tree
-oneshot long 'sleep 60'
+oneshot long 'exec sleep 60'
 limit long 1
 oneshot six 'sleep 6'
 "$program" compile tree > made

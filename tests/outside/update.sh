@@ -335,7 +335,7 @@ compiled other
 until [ -e other.live ]; do sleep 0.05; done
 cp other.live other.before
 expect 111 '' 'undorc: Busy\n' '' update -b other -B new -l other.live -x none
-expect 0 'ok\nok\n' '' '' update -b other -B new -l other.live -n
+expect 0 'ok\nok\n' 'undorc: a command is under way\n' '' update -b other -B new -l other.live -n
 same 'what an update that is hindered leaves' other.before other.live
 { "$program" update -b other -B new -l other.live -W > waited.out 2> waited.err; echo $? > waited; } &
 echo > gate

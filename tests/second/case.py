@@ -1,16 +1,22 @@
 """A case: what one run of the program is given."""
 
 
+LOOKS = ("live", "journal")
+ONE_SHOTS = ("change", "undo", "redo") + LOOKS
+
+
 class Case:
     def __init__(self, word):
         self.word = word
         self.base = None
+        self.other = None
         self.in_front = False
         self.own = b""
         self.down = False
         self.query = b""
         self.words = []
         self.ask = None
+        self.dry = False
         self.failing = []
         self.keeps = False
         self.kept = None
@@ -21,11 +27,18 @@ class Case:
     def input(self):
         return self.base + self.own if self.in_front else self.own
 
+    @property
+    def locks(self):
+        """Whether the lock of the file of -l is taken."""
+        moves = self.word in ("session", "change", "undo", "redo", "update") and not self.dry
+        return moves and self.keeps
+
     def files(self, kept):
         """What lies in the folder in the end."""
         names = [b"in", b"out", b"err"] + [b"tree%d" % k for k in range(len(self.trees))]
         names += [] if self.base is None or self.in_front else [b"base"]
-        names += [b"kept.lock"] if self.word == "session" and self.keeps else []
+        names += [] if self.other is None else [b"other"]
+        names += [b"kept.lock"] if self.locks else []
         return sorted(names + ([] if kept is None else [b"kept"]))
 
     def arguments(self):
@@ -39,11 +52,21 @@ class Case:
             words += [b"-l", b"kept"] if self.keeps else []
             return words + [b"-d"] * self.down + [self.query] + self.words
         if self.word == "plan":
-            ask = self.ask
-            return words + [b"-" + ask.way.encode()] + [b"-p"] * ask.prune + [b"-a"] * ask.everything + ask.words
-        if self.word == "session":
+            return words + self.asked()
+        if self.word == "replay":
+            return words
+        if self.word not in LOOKS:
             listed = b",".join(way + b":" + name for way, name in self.failing)
             words += [b"-x", listed or b"none"]
-            words += [b"-l", b"kept"] if self.keeps else []
-            words += [b"-n", b"%d" % self.bound] if self.bound else []
-        return words
+        words += [b"-l", b"kept"] if self.keeps else []
+        words += [b"-n", b"%d" % self.bound] if self.bound else []
+        words += [b"-n"] if self.dry else []
+        words += [b"-B", b"other"] if self.word == "update" else []
+        return words + (self.asked() if self.word == "change" else [])
+
+    def asked(self):
+        """The options and names of a change."""
+        ask = self.ask
+        words = [b"-" + ask.way.encode()] + [b"-p"] * ask.prune + [b"-a"] * ask.everything
+        words += [b"-t", b"%d" % ask.limit] if ask.limit else []
+        return words + ask.words

@@ -175,6 +175,18 @@ def edit(base, line, command):
     return b"ok\n"
 
 
+def first_missing(base, failing):
+    """Each transition of a list is one of a service."""
+    for _, name in failing:
+        if name not in base.services:
+            raise Refusal("Unknown", name)
+
+
+def has_failed(answer):
+    """Whether an answer says that something was not done."""
+    return any(line.split(b" ")[0] in (b"failed", b"blocked", b"untried") for line in answer.split(b"\n"))
+
+
 def value(members):
     return b"none" if members is None else b"[" + b",".join(sorted(members)) + b"]"
 

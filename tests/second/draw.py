@@ -3,7 +3,7 @@
 import copy
 
 import plans
-from case import Case
+from case import LOOKS, Case
 from commands import do, read_command, task_of
 from database import Database, Service, text_of
 from forms import Refusal
@@ -385,10 +385,13 @@ class Drawer:
         case.own = self.ended(lines)
         if self.one_in(12):
             case.own = self.mutated(case.own)
+        case.ask = self.ask(base)
+        return case
+
+    def ask(self, base):
         fit = lambda w: w and w[:1] != b"-" and b"\0" not in w and w != b"\xff"
         words = [w for w in self.words(base, 4) if fit(w)]
-        case.ask = plans.Ask(self.pick("uudD"), self.one_in(4), self.one_in(5), 0, words)
-        return case
+        return plans.Ask(self.pick("uudD"), self.one_in(4), self.one_in(5), 0, words)
 
     def replay(self):
         case = Case("replay")
@@ -408,12 +411,76 @@ class Drawer:
         case.keeps = self.one_in(2)
         case.bound = self.pick([None, 3, 4, 5, 9])
         if case.keeps and self.one_in(2):
-            line = self.drawn_line(base, case.bound or OLD_BOUND)
-            case.kept = live_text_of(base, line)
-            if self.one_in(3):
-                case.kept = self.older(case.kept, line.bound)
-            if self.one_in(3):
-                case.kept = self.mutated(case.kept)
+            case.kept = self.kept(base, case.bound or OLD_BOUND, 3)
+        return case
+
+    def kept(self, base, bound, odds):
+        """The text of a session, in form mostly."""
+        line = self.drawn_line(base, bound)
+        text = live_text_of(base, line)
+        if self.one_in(3):
+            text = self.older(text, line.bound)
+        return self.mutated(text) if self.one_in(odds) else text
+
+    def one_shot(self):
+        case = Case(self.pick(["change", "change", "change", "undo", "undo", "redo", "live", "journal"]))
+        base = self.on_base(case)
+        case.keeps = not self.one_in(6)
+        if case.keeps and not self.one_in(6):
+            case.kept = self.kept(base, self.pick([3, 4, OLD_BOUND]), 12)
+        case.own = self.pick([b"", b"", b"live\n", b"\xff"]) if case.in_front else b""
+        if case.word in LOOKS:
+            return case
+        case.dry = self.one_in(3)
+        case.failing = self.failing(base)
+        if case.word == "change":
+            ask = self.ask(base)
+            case.ask = plans.Ask(ask.way, ask.prune, ask.everything, self.pick([0, 0, 7]), ask.words)
+        return case
+
+    def next_base(self, base):
+        """The database after some work on its services and bundles."""
+        new = Database()
+        names = list(base.services) + self.random.sample(NAMES, self.pick([0, 0, 1, 2]))
+        for name in dict.fromkeys(n for n in names if not self.one_in(8)):
+            service = copy.deepcopy(base.services.get(name)) or Service(b"longrun", False, 0, 0)
+            service.needs = [n for n in service.needs if n in new.services]
+            if self.one_in(6):
+                service.needs = sorted(set(service.needs) ^ set(self.some(list(new.services))))
+            if service.producer not in service.needs or new.services[service.producer].kind != b"longrun":
+                service.producer = None
+            if self.one_in(8):
+                self.alter(service)
+            new.services[name] = service
+        for name, members in base.bundles.items():
+            if name not in new.services and not self.one_in(5):
+                new.bundles[name] = frozenset(m for m in members if m in new.services)
+        return new
+
+    def alter(self, service):
+        """Something else is said of a service, perhaps."""
+        drawn = self.random.randrange(4)
+        if drawn == 0:
+            service.essential = not service.essential
+        elif drawn == 1:
+            service.up_limit = self.pick(LIMITS)
+        elif drawn == 2:
+            service.down_limit = self.pick(LIMITS)
+        else:
+            service.kind, service.producer = b"oneshot", None
+            service.up, service.down = self.pick(TEXTS), self.pick(TEXTS + [None])
+
+    def update(self):
+        case = Case("update")
+        base = self.on_base(case)
+        case.in_front, case.keeps, case.dry = False, True, self.one_in(4)
+        new = self.next_base(base)
+        if self.one_in(12):
+            self.wrong_base(new)
+        case.other = self.mutated(text_of(new)) if self.one_in(12) else text_of(new)
+        if not self.one_in(8):
+            case.kept = self.kept(base, self.pick([3, 4, OLD_BOUND]), 12)
+        case.failing = self.some(self.failing(base) + self.failing(new), 2)
         return case
 
     def older(self, text, bound):
@@ -442,4 +509,5 @@ class Drawer:
 
     def case(self):
         kinds = [self.db, self.plan, self.replay, self.session, self.session, self.compile]
+        kinds += [self.one_shot, self.update]
         return self.pick(kinds)()

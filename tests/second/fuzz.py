@@ -64,6 +64,8 @@ class Bench:
             plant(b"tree%d" % place, tree)
         if case.base is not None and not case.in_front:
             write(b"base", case.base)
+        if case.other is not None:
+            write(b"other", case.other)
         if case.kept is not None:
             write(b"kept", case.kept)
         write(b"in", case.input)
@@ -120,7 +122,7 @@ def difference(bench, case):
 def show(seed, case, lines):
     print(f"FAILED: seed {seed}: undorc {b' '.join(case.arguments())!r}")
     parts = [("input", case.input), ("base", None if case.in_front else case.base)]
-    parts += [("kept", case.kept)] + [(f"tree{k}", t) for k, t in enumerate(case.trees)]
+    parts += [("other", case.other), ("kept", case.kept)] + [(f"tree{k}", t) for k, t in enumerate(case.trees)]
     for name, text in parts:
         if text is not None:
             print(f"  {name}: {text!r}")

@@ -129,6 +129,13 @@ def read(base, text):
     return Line(states, cursor, bound)
 
 
+def begun(base, text, bound):
+    """The line of a text, or a new one where there is none."""
+    if text is not None:
+        return read(base, text)
+    return Line([State((), base.bundles)], 0, bound or OLD_BOUND)
+
+
 def text_of(base, line):
     out = [b" ".join([b"undorc-live 2\nservices"] + sorted(base.services))]
     out.append(b"bound %d" % line.bound)

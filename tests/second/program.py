@@ -10,7 +10,9 @@ import plans
 import queries
 import replay
 import sources
-from commands import do, fail_by_list, is_silent, read_command
+import updates
+from case import ONE_SHOTS
+from commands import Command, do, fail_by_list, first_missing, has_failed, is_silent, read_command, task_of
 from forms import Failure, Refusal
 
 LONGEST_LINE = 65536
@@ -52,18 +54,15 @@ def read_live(base, text):
     return some
 
 
-def session_line(base, case):
-    if case.kept is not None:
-        return live.read(base, case.kept)
-    return live.Line([live.State((), base.bundles)], 0, case.bound or live.OLD_BOUND)
+def begun(case):
+    """The database, the rest of the input, and the line with which a session begins."""
+    base, text = base_and_input(case)
+    first_missing(base, case.failing)
+    return base, text, live.begun(base, case.kept, case.bound)
 
 
 def session(case, answer):
-    base, text = base_and_input(case)
-    for _, name in case.failing:
-        if name not in base.services:
-            raise Refusal("Unknown", name)
-    line = session_line(base, case)
+    base, text, line = begun(case)
     keeps = lambda: live.text_of(base, line) if case.keeps else None
     answer.kept = keeps()
     for words in lines_of(text):
@@ -80,12 +79,40 @@ def session(case, answer):
         answer.kept = keeps()
 
 
+def one_shot(case, answer):
+    """A session of one line; what only shows something leaves the file alone."""
+    base, _, line = begun(case)
+    command = Command(case.word.encode(), ask=case.ask)
+    if case.locks:
+        answer.kept = live.text_of(base, line)
+    try:
+        if case.dry and case.word == "change":
+            command.word = b"dry"
+        if case.dry and case.word != "change":
+            answer.out = plans.told(task_of(base, line, command)[0]) + b"ok\n"
+        else:
+            answer.out = do(base, line, command, fail_by_list(case.failing))
+    except Refusal as refusal:
+        answer.out = b"refused " + refusal.text + b"\n"
+        answer.status = 1
+    if case.locks:
+        answer.kept = live.text_of(base, line)
+    if has_failed(answer.out):
+        answer.status = 2
+
+
 def run_of(case, answer):
     if case.word == "compile":
         answer.out = database.text_of(sources.compile_trees(case.trees))
         return
     if case.word == "session":
         session(case, answer)
+        return
+    if case.word in ONE_SHOTS:
+        one_shot(case, answer)
+        return
+    if case.word == "update":
+        updates.update(case, answer)
         return
     base, text = base_and_input(case)
     if case.word == "db" and case.query == b"dot":

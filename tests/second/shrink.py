@@ -74,6 +74,9 @@ def smaller(case):
     if case.base is not None:
         for text in smaller_bases(case.base):
             yield with_part(case, "base", text)
+    if case.other is not None:
+        for text in smaller_bases(case.other):
+            yield with_part(case, "other", text)
     if case.kept is not None:
         for text in parts_of_lines(case.kept):
             yield with_part(case, "kept", text)
@@ -106,4 +109,5 @@ def size(case):
     kept = len(case.kept) + 1 if case.kept is not None else 0
     flags = (case.bound is not None) + case.keeps
     words = sum(len(w) + 1 for w in case.words) + sum(len(n) + 1 for _, n in case.failing)
-    return len(case.base or b"") + len(case.own) + kept + flags + words + len(repr(case.trees))
+    bases = len(case.base or b"") + len(case.other or b"")
+    return bases + len(case.own) + kept + flags + words + len(repr(case.trees))

@@ -1,5 +1,5 @@
 #!/bin/sh
-# What contrib/lint says of source directories: lint.sh PROGRAM. The last line is 'N passed, M failed'.
+# What contrib/lint says of source directories: lint.sh PROGRAM. The last line is 'N passed, M failed, K skipped'.
 set -eu
 here=$(realpath "$(dirname "$0")/..")
 program=$(realpath "$1")

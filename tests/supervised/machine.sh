@@ -1,6 +1,6 @@
 #!/bin/sh
 # One machine of tests/supervised.sh: machine.sh PROGRAM SUPERVISOR KIND, where KIND is `controllers`, `readme`, or
-# how many transitions are made at once. The last line is 'N passed, M failed'.
+# how many transitions are made at once. The last line is 'N passed, M failed, K skipped'.
 set -eu
 here=$(realpath "$(dirname "$0")/..")
 program=$(realpath "$1")

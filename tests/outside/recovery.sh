@@ -1,0 +1,399 @@
+# A command that is cut short: its run log, and what the next command enters of it; and one that is called off.
+# tests/program.sh reads this file.
+# shellcheck source=../trees.sh
+. "$here/trees.sh"
+mkdir recovery
+cd recovery
+
+# Two services that come up at once, `slow`, which needs them and waits for the file `go`, and one above that.
+begin_tree
+oneshot a 'echo up a >> ran'
+down a 'echo down a >> ran'
+oneshot b 'echo up b >> ran'
+oneshot slow 'echo begun > begun; until [ -e go ]; do sleep 0.02; done; echo up slow >> ran' a b
+oneshot top 'echo up top >> ran' slow
+"$program" compile tree > base
+begin_tree
+oneshot other 'true'
+"$program" compile tree > foreign
+
+# shown FILE..: the files as what was written, judged
+shown() {
+    cat "$@" > out
+    : > err
+    echo 0 > status
+}
+# until_begun: waits until `slow` has begun
+until_begun() {
+    for turn in $(seq 250); do
+        [ ! -s begun ] || return 0
+        sleep 0.02
+    done
+    echo 'slow did not begin' >> err
+}
+# cut SIGNAL WORDS..: a command that this signal ends while `slow` is under way
+cut() {
+    rm -f begun go
+    signal=$1
+    shift
+    env --default-signal=INT --default-signal=QUIT "$program" "$@" -b base -l live < /dev/null > cut.out 2> cut.err &
+    killed=$!
+    until_begun
+    kill "-$signal" "$killed"
+    wait "$killed" 2> /dev/null || true
+    : > go
+}
+# moved WHAT LINES: what the scripts did
+moved() {
+    wants "$2" ''
+    shown ran
+    judge "$1" 0
+}
+
+for signal in KILL TERM INT HUP QUIT; do
+    rm -f live ran
+    cut "$signal" change -w 1 b top
+    # The log is the text of the session, the step under the least limit, and the events.
+    sed '1,/^end$/d' live.run > log
+    wants '-t 1 -u change b top\ntake 1 a\ndone 1 a ok\ntake 1 b\ndone 1 b ok\ntake 1 slow\n' ''
+    shown log
+    judge "the run log of a change that $signal ends" 0
+    # Who only looks is told, and finds FILE as it was.
+    expect 0 'live\nok\n' 'undorc: a command was cut short: the next one enters what it has moved\n' '' live -b base -l live
+    # The next command enters it first, and then does its own.
+    expect 0 'at 1 of 2\n0 +a +b\nok\n' 'undorc: Recovered\n' 'journal\n' session -b base -l live -x none
+    expect 0 'live a b\nok\n' '' '' live -b base -l live
+    wants '' ''
+    find . -name 'live.*' ! -name live.lock > out
+    : > err
+    echo 0 > status
+    judge 'a log that was entered is gone' 0
+    # An undo takes back exactly that.
+    expect 0 'lowered a b\nok\n' '' '' undo -w 1 -b base -l live
+done
+
+# What is reported: the lines of a report, each behind two spaces.
+rm -f live ran
+cut KILL change -w 1 b top
+echo 0 > status
+"$program" change -b base -l live < /dev/null > out 2> told || echo $? > status
+cp told err
+printf 'undorc: Recovered\n  raised a b\n  failed slow\n  blocked top\n' > told.wanted
+cmp -s told told.wanted || cat told >> out
+wants 'ok\n' 'undorc: Recovered\n'
+judge 'a recovery reports what was moved' 0
+# The same command again completes.
+: > ran
+expect 0 'raised slow top\nok\n' '' '' change -w 1 b top -b base -l live
+moved 'the same command again' 'up slow\nup top\n'
+
+# A run that was cut short before all was tried counts as stopped.
+rm -f live ran
+cut KILL change -w 1 top
+printf 'ok\n' > out.wanted
+sed '1,/^end$/d' live.run | sed '/^take 1 slow$/d' > log
+sed '/^end$/q' live.run > text
+cat text log > live.run
+expect 0 'ok\n' 'undorc: Recovered\n' '' change -b base -l live
+expect 0 'at 1 of 2\n0 +a +b\nok\n' '' '' journal -b base -l live
+
+# Each front of a log gives the state before, or one of what its whole lines say.
+rm -f live ran
+cut KILL change -w 1 b top
+cp live.run whole
+cp live before
+size=$(stat -c %s whole)
+front=$(stat -c %s before)
+: > states
+for bytes in $(seq "$front" "$size"); do
+    cp before live
+    head -c "$bytes" whole > live.run
+    "$program" change -b base -l live < /dev/null > said 2>&1 || cat said >> states
+    "$program" live -b base -l live | head -n 1 >> states
+done
+wants 'live\nlive a\nlive a b\n' ''
+uniq states > out
+: > err
+echo 0 > status
+judge 'each front of a run log' 0
+for bytes in 1 20 "$((front - 1))"; do
+    cp before live
+    head -c "$bytes" whole > live.run
+    expect 0 'ok\n' '' '' change -b base -l live
+done
+
+# A log of another text is removed, and never entered later.
+cp before live
+cp whole live.run
+"$program" change a -x none -b base -l other < /dev/null > /dev/null
+cp other live
+expect 0 'live a\nok\n' '' 'live\n' session -b base -l live -x none
+expect 0 'live\nok\n' '' 'live\n' session -b base -l fresh -x none
+cp before live
+expect 0 'live\nok\n' '' 'live\n' session -b base -l live -x none
+
+# A log that fits no database that is named, or none that can be, is left, and nothing is done.
+cp before live
+cp whole live.run
+cp whole kept
+expect 111 '' 'undorc: Unrecovered\n' 'live\n' session -b foreign -l live -x none
+expect 111 '' 'undorc: Unrecovered\n' "$(sed 's/$/\\n/' base | tr -d '\n')live\n" session -l live -x none
+holds 'a log that does not fit is left' cmp -s live.run kept
+head -n 3 base > wrong
+expect 1 '' "undorc: Bad $(stat -c %s wrong)\n" 'live\n' session -b wrong -l live -x none
+wants '' ''
+shown live.run
+cp kept out.wanted
+judge 'a log that was not entered stays' 0
+printf 'take 1 nobody\n' >> live.run
+expect 111 '' 'undorc: Unrecovered\n' 'live\n' session -b base -l live -x none
+rm live.run
+expect 0 'live\nok\n' '' 'live\n' session -b base -l live -x none
+
+# A log that can't be read or made is told before anything moves.
+for what in 'mkdir live.run' 'mkfifo live.run' 'ln -s elsewhere live.run' 'mkdir live.stop'; do
+    rm -f live ran
+    $what
+    expect 111 '' 'undorc: Io\n' '' change a -b base -l live
+    expect 111 '' 'undorc: Io\n' 'change a\n' session -b base -l live
+    rm -rf live.run live.stop
+done
+holds 'nothing was started without a log' test ! -e ran
+# Where programs are not started there is no log.
+rm -f live
+expect 0 'raised a\nok\n' '' '' change a -x none -b base -l live
+holds 'no log where nothing is started' test ! -e live.run
+
+# A session begins a log with each line, and removes it at its end.
+rm -f live ran go begun
+begins -b base -l live -w 1
+tell 'change a'
+hear
+[ ! -s live.run ] || echo 'the log of a line that is over' >> out
+tell 'change top'
+until_begun
+sed '1,/^end$/d' live.run >> out
+pkill -KILL -f ' session -b base -l live -w 1$'
+exec 3>&-
+cat <&4 >> out
+exec 4<&-
+wait
+: > go
+: > err
+echo 0 > status
+wants 'raised a\nok\n-t 1 -u change top\ntake 1 b\ndone 1 b ok\ntake 1 slow\n' ''
+judge 'the third line of a session that is killed' 0
+expect 0 'at 2 of 3\n0 +a\n1 +b\nok\n' 'undorc: Recovered\n' 'journal\n' session -b base -l live -x none
+
+# An undo and a redo, too.
+rm -f live ran go begun
+: > go
+"$program" change top -b base -l live < /dev/null > /dev/null
+"$program" undo -b base -l live < /dev/null > /dev/null
+cut KILL redo -w 1
+expect 0 'at 1 of 3\n0 +a +b\n1 +slow +top\nok\n' 'undorc: Recovered\n' 'journal\n' session -b base -l live -x none
+
+# Both halves of an update.
+begin_tree
+oneshot a 'echo new a >> ran'
+oneshot b 'echo up b >> ran'
+oneshot slow 'echo begun > begun; until [ -e go ]; do sleep 0.02; done; echo up slow >> ran' a
+oneshot top 'echo up top >> ran' slow
+down slow 'echo begun > begun; until [ -e go ]; do sleep 0.02; done; echo down slow >> ran'
+"$program" compile tree > next
+half() {
+    rm -f live ran begun go
+    : > go
+    "$program" change a slow -b "$1" -l live < /dev/null > /dev/null
+    rm -f go begun
+    "$program" update -b "$1" -B "$2" -w 1 -l live < /dev/null > cut.out 2> cut.err &
+    killed=$!
+    until_begun
+    kill -KILL "$killed"
+    wait "$killed" 2> /dev/null || true
+    : > go
+}
+half next base
+expect 0 'at 1 of 2\n0 +a +slow\nok\n' 'undorc: Recovered\n' 'journal\n' session -b next -l live -x none
+half base next
+expect 0 'live a b\nok\n' 'undorc: Recovered\n' 'live\n' session -b next -l live -x none
+# An update that is given again enters it by the old database, or by the new one.
+half next base
+expect 0 'lowered a slow\nok\nraised a b slow\nok\n' 'undorc: Recovered\n' '' update -b next -B base -l live
+half base next
+"$program" update -b base -B next -l live < /dev/null > said 2> told || true
+grep -cx 'undorc: Recovered' told > out
+: > err
+echo 0 > status
+wants '1\n' ''
+judge 'an update after one whose second half was cut short' 0
+
+# A command is called off: what is under way ends, and nothing more begins.
+rm -f live ran go begun
+"$program" change -w 1 top -b base -l live < /dev/null > out 2> err &
+called=$!
+until_begun
+expect 0 'live\nok\n' 'undorc: a command is under way\n' '' live -b base -l live
+expect 0 '' '' '' stop -l live
+: > go
+echo 0 > status
+wait "$called" || echo $? > status
+expect 0 'live a b slow\nok\n' '' '' live -b base -l live
+moved 'what a command moved that was called off' 'up a\nup b\nup slow\n'
+expect 1 '' 'undorc: no command is under way on live\n' '' stop -l live
+expect 1 '' 'undorc: no command is under way on nowhere\n' '' stop -l nowhere
+holds 'stop makes no lock' test ! -e nowhere.lock
+wrong stop
+says 'stop wants -l, or UNDORC_LIVE'
+wrong stop -l live more
+# What was called off is not in the next command.
+expect 0 'raised top\nok\n' '' '' change top -b base -l live
+
+# The status is 2, and the answer names what was not tried; TERM and INT do the same where they are blocked.
+for signal in stop TERM INT HUP; do
+    rm -f live ran go begun
+    echo 0 > status
+    if [ "$signal" = stop ]; then
+        "$program" change -w 1 top -b base -l live < /dev/null > out 2> err &
+    else
+        env --block-signal="$signal" "$program" change -w 1 top -b base -l live < /dev/null > out 2> err &
+    fi
+    called=$!
+    until_begun
+    if [ "$signal" = stop ]; then UNDORC_LIVE=live "$program" stop; else kill "-$signal" "$called"; fi
+    : > go
+    wait "$called" || echo $? > status
+    wants 'raised a b slow\nuntried top\nok\n' ''
+    judge "a change that is called off by $signal" 2
+done
+
+# ^C at a terminal goes to the scripts, too. It ends the program, and the next command recovers it; under `orderly` the
+# program ends in order.
+cat > press.py <<'END'
+import os, pty, sys, time
+
+child, terminal = pty.fork()
+if child == 0:
+    os.execvp(sys.argv[1], sys.argv[1:])
+while not os.path.exists("begun") or os.path.getsize("begun") == 0:
+    time.sleep(0.02)
+os.write(terminal, b"\x03")
+try:
+    while os.read(terminal, 4096):
+        pass
+except OSError:
+    pass
+print(os.waitstatus_to_exitcode(os.waitpid(child, 0)[1]))
+END
+rm -f live ran go begun
+python3 press.py "$program" change -w 1 b top -b base -l live > out
+wants '-2\n' ''
+: > err
+echo 0 > status
+judge '^C at a terminal ends a change' 0
+expect 0 'at 1 of 2\n0 +a +b\nok\n' 'undorc: Recovered\n' 'journal\n' session -b base -l live -x none
+rm -f live ran go begun
+UNDORC_PROGRAM=$program python3 press.py "$here/../contrib/orderly" change -w 1 b top -b base -l live > out
+wants '2\n' ''
+: > err
+echo 0 > status
+judge '^C at a terminal under orderly' 0
+expect 0 'at 1 of 2\n0 +a +b\nok\n' '' 'journal\n' session -b base -l live -x none
+
+# Where env can't block signals, orderly calls the command off by `undorc stop`.
+mkdir plain
+ln -s "$(command -v false)" plain/env
+rm -f live ran go begun
+echo 0 > status
+PATH=$PWD/plain:$PATH UNDORC_PROGRAM=$program sh "$here/../contrib/orderly" change -w 1 top -b base -l live < /dev/null > out 2> err &
+called=$!
+until_begun
+kill -TERM "$called"
+until [ -s live.stop ]; do sleep 0.02; done
+: > go
+wait "$called" || echo $? > status
+wants 'raised a b slow\nuntried top\nok\n' ''
+judge 'orderly where env blocks nothing' 2
+
+# A limit of 0 is none, and such a command can't be called off.
+rm -f live ran go begun
+echo 0 > status
+"$program" change -t 0 -w 1 top -b base -l live < /dev/null > out 2> err &
+called=$!
+until_begun
+"$program" stop -l live
+: > go
+wait "$called" || echo $? > status
+wants 'raised a b slow top\nok\n' ''
+judge 'a change without a limit goes on' 0
+
+# A command that waits for another tells so after a second, and ends by a signal.
+rm -f live ran go begun
+"$program" change -w 1 slow -b base -l live < /dev/null > cut.out 2> cut.err &
+called=$!
+until_begun
+echo 0 > status
+env --block-signal=INT "$program" change b -W -b base -l live < /dev/null > out 2> err &
+waiting=$!
+sleep 1.5
+kill -INT "$waiting"
+wait "$waiting" || echo $? > status
+wants '' 'undorc: waits for the command that has live\nundorc: Busy\n'
+judge 'a command that waits for another is called off' 111
+: > go
+wait "$called"
+
+# A log that can grow no more: what it does not hold is not started.
+begin_tree
+mkdir tree/all
+echo bundle > tree/all/type
+for number in $(seq 24); do
+    name=service-of-a-name-of-some-length-no-$number
+    oneshot "$name" 'echo up >> ran'
+    echo "$name" >> tree/all/contents
+done
+"$program" compile tree > long
+rm -f live ran
+echo 0 > status
+env --ignore-signal=XFSZ prlimit --fsize=4096 "$program" change -w 1 all -b long -l live < /dev/null > answer 2> err || echo $? > status
+sed -n '/^undorc:/p' err > out
+sed 's/ .*//' answer >> out
+"$program" live -b long -l live < /dev/null | sed -n '1s/^live //p' | wc -w > up
+wc -l < ran >> up
+uniq up | wc -l >> out
+: > err
+wants "undorc: live.run can't be written: what could not be logged was not started\nraised\nfailed\nok\n1\n" ''
+judge 'a log that can grow no more' 2
+
+# A disk that fills in the midst: the command says what it moved, and the next one enters it.
+if [ "$(id -u)" -eq 0 ] && unshare -m true 2> /dev/null; then
+    cat > full.sh <<'END'
+mount -t tmpfs -o size=64k tmpfs disk
+"$1" change -w 1 b top -b base -l disk/live > out 2> err || echo $? > status
+cp disk/live.run full.run
+rm disk/filler
+"$1" journal -b base -l disk/live > seen 2>&1
+"$1" change -b base -l disk/live > after 2> told
+"$1" journal -b base -l disk/live >> after
+END
+    rm -f ran go begun
+    mkdir disk
+    # The script that is under way fills the disk, so that the file can't be replaced.
+    begin_tree
+    oneshot a 'echo up a >> ran'
+    oneshot b 'echo up b >> ran'
+    oneshot slow 'head -c 65536 /dev/zero > disk/filler 2> /dev/null; true' a
+    oneshot top 'echo up top >> ran' slow
+    "$program" compile tree > base
+    echo 0 > status
+    unshare -m sh full.sh "$program" < /dev/null > /dev/null 2>&1
+    sed -n '/^undorc: the next/,$p' err > out
+    cat after told >> out
+    firsts err > err.firsts
+    grep -v '^undorc: the next\|^undorc: disk/live.run can' err.firsts > err
+    wants 'undorc: the next command enters what was moved\n  raised a b slow top\nok\nat 1 of 2\n0 +a +b +slow +top\nok\nundorc: Recovered\n  raised a b slow top\n' 'undorc: Io\n'
+    judge 'a disk that fills in the midst of a change' 111
+else
+    skip 'a disk that fills in the midst of a change, which takes root and unshare'
+fi
+cd ..
