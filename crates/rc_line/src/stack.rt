@@ -67,6 +67,16 @@ pub(crate) fn fit(done: &mut VecDeque<Entry>, undone: &mut VecDeque<Entry>, boun
     }
 }
 
+/// Returns the room that the nearest entry does not use: a closing takes no memory, so it leaves its
+/// entry with all the room that the opening made.
+fn trim(stack: &mut VecDeque<Entry>)
+    ensures { stack.new.items ≡ stack.old.items }
+{
+    if let Some(entry) = stack.pop_back() {
+        stack.push_back_reserved(entry.trimmed());
+    }
+}
+
 /// Makes room for one more entry in both stacks.
 pub(crate) fn make_room(
     done: &mut VecDeque<Entry>,
@@ -78,6 +88,8 @@ pub(crate) fn make_room(
     ensures undone_room { OnOk result (HasSpare (deque_capacity undone.new)
         (deque_len undone.new)) }
 {
+    trim(done);
+    trim(undone);
     done.reserve(1)?;
     undone.reserve(1)?;
     Ok(())
