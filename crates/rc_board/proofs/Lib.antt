@@ -4,4 +4,5 @@ mod Joining
 mod Lasting
 mod Making
 mod Placing
+mod Saying
 mod Timing

@@ -1,11 +1,12 @@
 //! What one worker does, from its start to the end of the run.
 //!
-//! A worker tells how its transition ended and asks for the next one in one hold of the board. Of
-//! those that wait one is woken at each take, and all when a worker leaves. So where a service may
-//! be taken some worker is awake and will ask for it: one that takes wakes the next, and one that
-//! ends asks again. A worker leaves when nothing will be taken any more.
+//! Each event is made in a hold of the board of its own. A worker asks for a job, has the gate make
+//! the transition, reports how it ended, and asks again. Of those that wait one is woken at each
+//! take, and all when a worker leaves. So where a service may be taken some worker is awake and
+//! will ask for it: one that takes wakes the next, and one that ends asks again. A worker leaves
+//! when nothing will be taken any more.
 
-ghost use Rattle.std.specs.Prelude.{◌≡◌, [], IfSome};
+ghost use Rattle.std.specs.Prelude.{◌≡◌, []};
 ghost use Rattle.rc_board.specs.Asking.{NotesAsked, NotesEnd, IsAnswered};
 ghost use Rattle.rc_board.specs.Pads.{AreSaid};
 
@@ -58,18 +59,8 @@ pub(crate) fn work<G: Gate, W: Watch, R: Wait>(
     if !await_start(rt, shared) {
         return pad;
     }
-    let mut held = None;
     for _ in rt.forever() {
-        if !turn(
-            rt,
-            gate,
-            watch,
-            shared,
-            worker,
-            &mut pad,
-            &mut glance,
-            &mut held,
-        ) {
+        if !turn(rt, gate, watch, shared, worker, &mut pad, &mut glance) {
             break;
         }
     }
@@ -87,8 +78,8 @@ fn await_start<R: Wait>(rt: &R, shared: &Shared) -> bool {
     guard.start() == Start::Opened
 }
 
-/// Makes the transition that it holds, if it does, and asks for the next one, or waits until there
-/// may be one. False: there is nothing more to do for this worker.
+/// Asks for a job, and makes it, or waits until there may be one. False: there is nothing more to do
+/// for this worker.
 fn turn<G: Gate, W: Watch, R: Wait>(
     rt: &R,
     gate: &G,
@@ -97,16 +88,14 @@ fn turn<G: Gate, W: Watch, R: Wait>(
     worker: u8,
     pad: &mut Pad,
     glance: &mut Option<Glance>,
-    held: &mut Option<Job>,
 ) -> bool
     requires { AreSaid (G.answers gate.now) (G.gives gate.now) shared.now.deadline pad.old.notes }
     ensures { AreSaid (G.answers gate.now) (G.gives gate.now) shared.now.deadline pad.new.notes }
 {
-    let made = make(gate, held.take());
-    let untold = tell_seen(rt, gate, watch, shared, worker, pad, glance, made);
-    match ask(rt, gate, shared, worker, pad, untold) {
+    match ask(rt, gate, shared, worker, pad) {
         Asked::Job(job) => {
-            *held = Some(job);
+            show(rt, shared, worker, pad, glance, watch);
+            transit(rt, gate, shared, worker, pad, job);
             show(rt, shared, worker, pad, glance, watch);
             true
         }
@@ -119,74 +108,57 @@ fn turn<G: Gate, W: Watch, R: Wait>(
     }
 }
 
-/// Has the gate make the transition of a job, with nothing locked.
-fn make<G: Gate>(gate: &G, job: Option<Job>) -> Option<Made>
-    ensures { IfSome result (IsAnswered (G.answers gate.now)) }
+/// Has the gate make the transition of a job, and reports to the board how it ended.
+fn transit<G: Gate, R: Wait>(rt: &R, gate: &G, shared: &Shared, worker: u8, pad: &mut Pad, job: Job)
+    requires { AreSaid (G.answers gate.now) (G.gives gate.now) shared.now.deadline pad.old.notes }
+    ensures { AreSaid (G.answers gate.now) (G.gives gate.now) shared.now.deadline pad.new.notes }
 {
-    let job = job?;
+    let made = make(gate, job);
+    tell(rt, shared, worker, pad, made);
+}
+
+/// Has the gate make the transition of a job, with nothing locked.
+fn make<G: Gate>(gate: &G, job: Job) -> Made
+    ensures { IsAnswered (G.answers gate.now) result }
+{
     let service = job.service();
     let way = job.way();
     let outcome = gate.run(job);
-    Some(Made {
+    Made {
         service,
         way,
         outcome,
-    })
+    }
 }
 
-/// Where looks are wanted, tells how a transition ended by a hold of its own, since each event is
-/// followed by a look. What it did not tell it hands back.
-fn tell_seen<G: Gate, W: Watch, R: Wait>(
-    rt: &R,
-    gate: &G,
-    watch: &W,
-    shared: &Shared,
-    worker: u8,
-    pad: &mut Pad,
-    glance: &mut Option<Glance>,
-    made: Option<Made>,
-) -> Option<Made>
-    requires made { IfSome made (IsAnswered (G.answers gate.now)) }
-    requires said { AreSaid (G.answers gate.now) (G.gives gate.now)
-        shared.now.deadline pad.old.notes }
-    ensures untold { IfSome result (IsAnswered (G.answers gate.now)) }
-    ensures said { AreSaid (G.answers gate.now) (G.gives gate.now)
-        shared.now.deadline pad.new.notes }
+/// Reports to the board how a transition ended, in a hold of its own. It wakes nobody, since this
+/// worker asks for the next job after it.
+fn tell<R: Wait>(rt: &R, shared: &Shared, worker: u8, pad: &mut Pad, made: Made)
+    ensures { NotesEnd pad.old worker made pad.new }
 {
-    if glance.is_none() {
-        return made;
+    if pad.room() == 0 {
+        return;
     }
-    if let Some(made) = made {
-        let mut guard = shared.board.lock(rt);
-        tell(&mut guard, pad, worker, made);
-        drop(guard);
-        shared.changed.notify_one();
-        show(rt, shared, worker, pad, glance, watch);
-    }
-    None
+    let mut guard = shared.board.lock(rt);
+    let _ = hold_done(
+        &mut guard,
+        pad,
+        worker,
+        made.service,
+        made.way,
+        made.outcome,
+    );
+    drop(guard);
 }
 
-/// Tells what is untold, and stops the run if it is time, else asks for a job. Where there is none
+/// Stops the run if it is time, else asks for a job, in a hold of its own. Where there is no job
 /// yet, it waits for a change.
-fn ask<G: Gate, R: Wait>(
-    rt: &R,
-    gate: &G,
-    shared: &Shared,
-    worker: u8,
-    pad: &mut Pad,
-    untold: Option<Made>,
-) -> Asked
-    requires made { IfSome untold (IsAnswered (G.answers gate.now)) }
-    requires said { AreSaid (G.answers gate.now) (G.gives gate.now)
-        shared.now.deadline pad.old.notes }
-    ensures said { AreSaid (G.answers gate.now) (G.gives gate.now)
-        shared.now.deadline pad.new.notes }
+fn ask<G: Gate, R: Wait>(rt: &R, gate: &G, shared: &Shared, worker: u8, pad: &mut Pad) -> Asked
+    requires { AreSaid (G.answers gate.now) (G.gives gate.now) shared.now.deadline pad.old.notes }
+    ensures { AreSaid (G.answers gate.now) (G.gives gate.now) shared.now.deadline pad.new.notes }
 {
     let time = time_of(gate, shared.deadline);
     let mut guard = shared.board.lock(rt);
-    if let Some(made) = untold {
-        tell(&mut guard, pad, worker, made);
-    }
     let asked = next_on(&mut guard, pad, worker, time);
     let_go(rt, shared, guard, &asked);
     asked
@@ -207,21 +179,11 @@ fn let_go<R: Wait>(rt: &R, shared: &Shared, guard: MutexGuard<Board>, asked: &As
     }
 }
 
-/// Tells the board how a transition ended.
-fn tell(board: &mut Board, pad: &mut Pad, worker: u8, made: Made)
-    ensures { NotesEnd pad.old worker made pad.new }
-{
-    if pad.room() == 0 {
-        return;
-    }
-    let _ = hold_done(board, pad, worker, made.service, made.way, made.outcome);
-}
-
 /// Stops the run where it is late, else asks for a job, and gives the leave up for it.
 fn next_on(board: &mut Board, pad: &mut Pad, worker: u8, time: Time) -> Asked
     ensures { NotesAsked pad.old worker time result pad.new }
 {
-    if pad.room() < 2 {
+    if pad.room() == 0 {
         return Asked::Over;
     }
     match time {
@@ -249,6 +211,8 @@ fn show<R: Wait, W: Watch>(
     let Some(glance) = glance else {
         return;
     };
+    // A look may take its time, so one that waits may go on.
+    shared.changed.notify_one();
     let guard = shared.board.lock(rt);
     let fits = hold_look(&guard, pad, worker, glance);
     drop(guard);
