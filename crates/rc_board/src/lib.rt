@@ -2,7 +2,6 @@
 //! from one board under a lock, have a gate make the transitions, and show each event to a watch.
 #![tactic(auto)]
 
-mod alone;
 mod board;
 mod commands;
 mod crew;

@@ -1,4 +1,4 @@
-use Rattle.std.proofs.Common.{◌≡◌, [], IfOk, IfErr, refl, subst}
+use Rattle.std.proofs.Common.{[], IfOk, IfErr, refl, subst}
 use Rattle.rc_model.specs.Run.{course_of}
 use Rattle.rc_model.specs.Session.{Redo}
 use Rattle.rc_session.specs.Report.{told_of}
