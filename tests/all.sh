@@ -67,6 +67,7 @@ first() {
         within 900 sh tests/growths.sh crates/scenarios_memory/out/scenarios_memory
     fi
     within 300 sh tests/shells.sh
+    within 60 sh tests/codes.sh
 }
 
 # What Rattle's own compiler built, and drawn cases on the first program, which take as long.
