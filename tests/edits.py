@@ -357,8 +357,8 @@ def errors_in(said):
     return lines or ["it ended with nothing said"]
 
 
-def open_goal(copy, function, said):
-    """The first open goal of the function's own, or why there is none, and whether there is one."""
+def open_goal(copy, function, said, goal):
+    """An open goal of the function's own, or why there is none, and whether there is one: the named one, or the first."""
     verdict = verdict_of(copy, function, said)
     if verdict is None:
         return False, f"no proof was tried: {errors_in(said)[0]}"
@@ -368,7 +368,7 @@ def open_goal(copy, function, said):
         attempts = copy.attempts.get(function, [])
         lines = own_errors(copy, function, said)
         failed = [it for it in attempts if any(f"error: `{it}`" in line for line in lines)]
-        for line in lines:
+        for line in sorted(lines, key=lambda it: f"error: `{goal}`" not in it):
             if attempts and failed == attempts or not any(f"error: `{it}`" in line for it in attempts):
                 return True, line
     return False, f"no goal of {function}'s own is open: it is {verdict}"
@@ -444,7 +444,7 @@ class Trial:
         left = []
         for copy in copies:
             for edit, function in zip(copy.edits, copy.functions):
-                is_open, what = open_goal(copy, function, said)
+                is_open, what = open_goal(copy, function, said, edit.goal)
                 if is_open:
                     self.refused(edit, what)
                 elif verdict_of(copy, function, said) is not None or len(copies) == 1:
@@ -476,7 +476,7 @@ class Trial:
         copy.make()
         copy.takes(edit)
         said = check(self.crates, [copy], self.room / f"alone_{number}", False)
-        is_open, what = open_goal(copy, edit.function, said)
+        is_open, what = open_goal(copy, edit.function, said, edit.goal)
         if is_open:
             self.refused(edit, what)
         else:
