@@ -16,4 +16,4 @@ pub use crate::draw::{Change, Draw, drawn_graph};
 pub use crate::graphs::{DB, LOG, NEEDS, NET, ROOT, WEB, graph_of, has_ids, set_of, widest_fan};
 pub use crate::plain::{End, end_of};
 pub use crate::same::is_same;
-pub use crate::work::{carry_out, run_between};
+pub use crate::work::{carry_out, run_between, settles};

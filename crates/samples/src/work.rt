@@ -1,6 +1,7 @@
 //! Several workers who carry a change out, in a drawn order.
 
-ghost use Rattle.std.specs.Prelude.{◌≡◌, length};
+ghost use Rattle.std.specs.Prelude.{◌≡◌, true, length};
+ghost use Rattle.rc_model.specs.Run.{IsSettled};
 
 use crate::draw::{Change, Draw};
 use crate::graphs::set_of;
@@ -127,5 +128,28 @@ fn outcome_of(fails: &[u16], service: u16) -> Outcome {
         Outcome::Failed(1)
     } else {
         Outcome::Ok
+    }
+}
+
+/// Takes one service after the other, and ends it well. Whether nothing is left to do then.
+pub fn settles(run: &mut Run) -> bool
+    ensures course { run.new.course ≡ run.old.course }
+    ensures settled { result ≡ true → IsSettled run.new.course run.new.events }
+{
+    for _ in 0..TURNS {
+        if !go_on(run) {
+            break;
+        }
+    }
+    run.settled()
+}
+
+/// Takes a service and ends it well. Whether there was one.
+fn go_on(run: &mut Run) -> bool
+    ensures { run.new.course ≡ run.old.course }
+{
+    match run.take(1) {
+        Ok(Took::Job(job)) => run.done(1, job.service(), Outcome::Ok).is_ok(),
+        _ => false,
     }
 }

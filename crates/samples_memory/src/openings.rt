@@ -1,11 +1,13 @@
 //! Openings of a line that are given up.
 
-ghost use Rattle.std.specs.Prelude.{◌≡◌, false};
+ghost use Rattle.std.specs.Prelude.{◌≡◌, false, length, IfOk, IfSome};
 
 use crate::told::{fault_of, go_on_to, show_came, show_same};
+use rc_graph::Graph;
 use rc_line::Line;
-use rc_set::NoMem;
-use std::alloc::{AllocError, AllocGlobal};
+use rc_select::{Plan, between};
+use rc_set::{NoMem, Set};
+use std::alloc::{AllocError, AllocGlobal, Global};
 use std::io;
 use std::io::Print;
 
@@ -59,4 +61,75 @@ fn stands_with(one: &Line, other: &Line) -> bool {
         && one.live().bound() == other.live().bound()
         && one.live().same(other.live())
         && one.table().same(other.table())
+}
+
+/// Opens a copy of a line to a change that lowers all, and closes that.
+pub fn show_change(
+    rt: &(impl Print + AllocGlobal),
+    graph: &Graph,
+    line: &Line,
+    what: &str,
+) -> io::Result<()>
+    requires { line.now.is_open ≡ false }
+{
+    let mut copied = line.copy(rt.alloc())?;
+    let shown = show_lowered(rt, graph, &mut copied, what);
+    drop(copied);
+    shown
+}
+
+fn show_lowered(
+    rt: &(impl Print + AllocGlobal),
+    graph: &Graph,
+    copied: &mut Line,
+    what: &str,
+) -> io::Result<()>
+    requires { copied.old.is_open ≡ false }
+{
+    let (states, live) = (copied.states(), copied.live().len());
+    let none = Set::empty(rt.alloc(), copied.live().bound())?;
+    let plan = plan_to(rt.alloc(), graph, copied.live(), &none);
+    let _ = print!(rt; "{what}: ");
+    let came = match plan {
+        Ok(Some(plan)) => lowered(rt, copied, &plan, &none),
+        _ => Err(AllocError),
+    };
+    drop(none);
+    show_came(rt, fault_of(came))?;
+    let is_same = copied.states() == states && copied.live().len() == live;
+    show_same(rt, is_same && !copied.is_open())
+}
+
+/// The plan from some services to others, where none of them lacks what it needs.
+fn plan_to(alloc: Global, graph: &Graph, from: &Set, to: &Set) -> Result<Option<Plan>, NoMem>
+    ensures { IfOk result (λ found. IfSome found (λ plan. length plan.opening ≡ length from.now)) }
+{
+    if from.bound() != graph.len() || to.bound() != graph.len() {
+        return Ok(None);
+    }
+    if !graph.closed(from) || !graph.closed(to) {
+        return Ok(None);
+    }
+    Ok(Some(between(alloc, graph, from, to)?))
+}
+
+/// Opens a line to a plan, and closes it where none is live.
+fn lowered(
+    rt: &(impl Print + AllocGlobal),
+    line: &mut Line,
+    plan: &Plan,
+    none: &Set,
+) -> Result<(), NoMem>
+    requires closed { line.old.is_open ≡ false }
+    requires plan { length plan.now.opening ≡ length line.old.line.current.live }
+    requires none { length none.now ≡ length line.old.line.current.live }
+{
+    match line.open_new(rt.alloc(), plan) {
+        Ok(opening) => {
+            go_on_to(rt, "close");
+            line.close(opening, none);
+            Ok(())
+        }
+        Err(_) => Err(AllocError),
+    }
 }

@@ -2,7 +2,8 @@
 
 use rc_db::{Db, QueryFault, Which};
 use rc_graph::Way;
-use rc_set::NoMem;
+use rc_select::{PlanFault, Request, plan};
+use rc_set::{NoMem, Set};
 use std::alloc::{AllocError, Global};
 
 /// What is asked of the database.
@@ -74,6 +75,19 @@ fn is_selected(alloc: Global, db: &Db, words: &[String]) -> Result<bool, NoMem> 
     match db.selected(alloc, db.table(), words) {
         Ok(set) => Ok(set.len() == 1 && set.bound() == 5 && set.contains(4)),
         Err(QueryFault::Memory) => Err(AllocError),
+        Err(_) => Ok(false),
+    }
+}
+
+/// Whether what is up stays as it is by a request.
+pub fn is_planned(alloc: Global, db: &Db, up: &Set, request: &Request) -> Result<bool, NoMem> {
+    let graph = db.graph();
+    if up.bound() != graph.len() || up.bound() != db.names().len() || !graph.closed(up) {
+        return Ok(false);
+    }
+    match plan(alloc, db, db.table(), up, request) {
+        Ok(plan) => Ok(plan.raise().is_empty() && plan.lower().is_empty()),
+        Err(PlanFault::Memory) => Err(AllocError),
         Err(_) => Ok(false),
     }
 }

@@ -1,10 +1,15 @@
 //! Sessions that begin.
 
+ghost use Rattle.std.specs.Prelude.{◌≡◌, false, IfOk};
+ghost use Rattle.rc_model.specs.Session.{IsLineOf};
+
 use crate::told::{fault_of, show_came, show_same};
 use rc_db::Db;
+use rc_line::Line;
+use rc_livetext::{read_live, write_live};
 use rc_session::Session;
 use rc_set::NoMem;
-use std::alloc::{AllocGlobal, Global};
+use std::alloc::{AllocError, AllocGlobal, Global};
 use std::io;
 use std::io::Print;
 
@@ -42,4 +47,52 @@ fn begun(alloc: Global, db: Db, bound: u32) -> Result<bool, NoMem> {
 fn is_fresh(session: &Session, bound: u32) -> bool {
     let journal = session.journal();
     journal.states() == 1 && journal.bound() == bound && session.live().is_empty()
+}
+
+/// Goes on over a database with the line of a session over one that is the same.
+pub fn show_resumed(
+    rt: &(impl Print + AllocGlobal),
+    what: &str,
+    db: Db,
+    session: &Session,
+) -> io::Result<()>
+    requires { session.now.begun ≡ false }
+{
+    match line_of(rt.alloc(), session, &db) {
+        Ok(line) => {
+            let _ = print!(rt; "{what}: ");
+            let came = resumed(db, line);
+            show_came(rt, fault_of(came))?;
+            show_same(rt, true)
+        }
+        Err(short) => {
+            drop(db);
+            Err(io::Error::from(short))
+        }
+    }
+}
+
+/// The line of a session, for a database.
+fn line_of(alloc: Global, session: &Session, db: &Db) -> Result<Line, NoMem>
+    requires { session.now.begun ≡ false }
+    ensures { IfOk result (λ line. IsLineOf db.now line.line × (line.is_open ≡ false)) }
+{
+    let text = write_live(alloc, session)?;
+    let read = read_live(alloc, &text, db);
+    drop(text);
+    match read {
+        Ok((line, _)) => Ok(line),
+        Err(_) => Err(AllocError),
+    }
+}
+
+/// A session that goes on with a line has its states.
+fn resumed(db: Db, line: Line) -> Result<(), NoMem>
+    requires { IsLineOf db line.line × (line.is_open ≡ false) }
+{
+    let states = line.states();
+    let session = Session::resume(db, line)?;
+    let is_right = session.journal().states() == states;
+    drop(session);
+    if is_right { Ok(()) } else { Err(AllocError) }
 }
