@@ -15,7 +15,8 @@ part == 2 { whole[FNR] = $0; lines = FNR }
 
 # Sets `before`, what is written of a line before the first call that is refused, with its name, and
 # `threads`, how many that starts; `over`, by how many growths it is before its end; and `shrinks`, whether
-# the last of them is to shrink. 0: none is refused.
+# the last of them is to shrink; `answers`, how many of the last are for the answer to what is done by then.
+# 0: none is refused.
 function is_refused(line,    calls, numbers, many, i, name, pair) {
     many = split(whole[line], calls, "; ")
     split(counts[line], numbers, "; ")
@@ -26,6 +27,9 @@ function is_refused(line,    calls, numbers, many, i, name, pair) {
         split(substr(numbers[i], length(name) + 3), pair, " ")
         threads = pair[2] + 0
         shrinks = numbers[i] ~ /, the last to shrink$/
+        answers = 0
+        if (match(numbers[i], /, the last [0-9]+ for its answer$/))
+            answers = substr(numbers[i], RSTART + length(", the last ")) + 0
         over = (way == "THREAD" ? threads : pair[1]) - n
         only = pair[1] == 1
         if (over >= 0) {
@@ -38,8 +42,13 @@ function is_refused(line,    calls, numbers, many, i, name, pair) {
     return 0
 }
 
-function is_right(line, text,    refused) {
+function is_right(line, text,    refused, ended) {
     refused = is_refused(line)
+    if (refused && way != "THREAD" && over < answers) {
+        ended = substr(whole[line], length(before) + 1)
+        sub(/^: done/, ": out of memory", ended)
+        return text == before ended
+    }
     if (text == whole[line] && (!refused || way == "GROWTH" && !only || shrinks && over == 0)) return 1
     if (text == before ": out of memory, as before") return refused && way != "THREAD"
     if (text == before ": out of threads, as before")

@@ -9,18 +9,15 @@ ghost use Rattle.rc_model.specs.Beside.{TargetOf};
 ghost use Rattle.rc_session.specs.Commands.{command_of};
 
 use crate::calls::{by_events, planned};
-use rc_core::{Ended, Event, Outcome, Run, Standing, Took};
+use rc_core::{Ended, Event, Outcome, Run, Standing};
 use rc_graph::Graph;
 use rc_select::Plan;
 use rc_session::{Refusal, Session, Step};
 use rc_set::NoMem;
-use samples::{ROOT, run_between};
+use samples::{ROOT, run_between, settles};
 use samples_memory::go_on_to;
 use std::alloc::{AllocError, AllocGlobal, Global};
 use std::io::Print;
-
-/// More turns than an undo asks for.
-const TURNS: u16 = 20;
 
 /// Begins the run of a step, and gives it up.
 pub(crate) fn abandoned(
@@ -125,19 +122,6 @@ fn ended(
     Err(AllocError)
 }
 
-/// Takes one service after the other, and ends it well. Whether nothing is left to do then.
-fn settles(run: &mut Run) -> bool
-    ensures course { run.new.course ≡ run.old.course }
-    ensures settled { result ≡ true → IsSettled run.new.course run.new.events }
-{
-    for _ in 0..TURNS {
-        if !go_on(run) {
-            break;
-        }
-    }
-    run.settled()
-}
-
 /// Whether a run is that of a plan, and nothing has happened yet.
 fn is_new(run: &Run, graph: &Graph, plan: &Plan, deadline: Option<u64>) -> bool {
     run.is_of(graph, plan, deadline)
@@ -187,14 +171,4 @@ fn is_down(run: &Run, service: u16) -> bool {
 fn comes_up(run: &mut Run, service: u16) -> bool {
     run.step(Event::Take(1, service)).is_ok()
         && run.step(Event::Done(1, service, Outcome::Ok)).is_ok()
-}
-
-/// Takes a service and ends it well. Whether there was one.
-fn go_on(run: &mut Run) -> bool
-    ensures { run.new.course ≡ run.old.course }
-{
-    match run.take(1) {
-        Ok(Took::Job(job)) => run.done(1, job.service(), Outcome::Ok).is_ok(),
-        _ => false,
-    }
 }

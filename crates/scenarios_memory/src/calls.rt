@@ -4,11 +4,15 @@ ghost use Rattle.std.specs.Prelude.{◌≡◌, false};
 
 use crate::begun::{abandoned, completed, is_stopped};
 use crate::rows::How;
+use crate::serving::{is_gate, is_locked, served};
 use crate::workers::{by_workers, within};
 use rc_board::Fault;
 use rc_session::{Refusal, Session, Step};
 use rc_set::NoMem;
-use samples_memory::{Query, is_answer, is_of_states, is_stepped_on, is_value};
+use samples_memory::{
+    is_answer, is_from_folder, is_from_memory, is_made, is_of_states, is_planned, is_stepped_on,
+    is_value,
+};
 use std::alloc::{AllocGlobal, Global};
 use std::io::Print;
 use std::sync::Wait;
@@ -17,6 +21,7 @@ use std::thread::Threads;
 /// Makes a call on a session that has this text. A wrong answer is told as a strange one.
 pub(crate) fn made<R: Print + AllocGlobal + Threads + Wait + Sync>(
     rt: &R,
+    host: &HostRuntime,
     session: &mut Session,
     how: How,
     steps: &[Step],
@@ -28,7 +33,8 @@ pub(crate) fn made<R: Print + AllocGlobal + Threads + Wait + Sync>(
     match how {
         How::Workers(workers) => by_workers(rt, session, workers, steps.first()),
         How::Within => within(rt, session, steps.first()),
-        _ => match told(rt, session, how, steps, text) {
+        How::Serve(workers) => served(rt, session, workers),
+        _ => match told(host, session, how, steps, text) {
             Ok(()) => Ok(()),
             Err(refusal) => Err(Fault::Refused(refusal)),
         },
@@ -36,7 +42,7 @@ pub(crate) fn made<R: Print + AllocGlobal + Threads + Wait + Sync>(
 }
 
 fn told(
-    rt: &(impl Print + AllocGlobal),
+    rt: &HostRuntime,
     session: &mut Session,
     how: How,
     steps: &[Step],
@@ -49,6 +55,7 @@ fn told(
         How::Of(_) | How::Stop | How::States | How::StepOn => {
             answered(is_right(rt, session, how, text))
         }
+        How::Make(_) | How::Memory | How::Folder | How::Lock => answered(is_own(rt, session, how)),
         How::Play => played(rt.alloc(), session, steps),
         _ => match steps.first() {
             Some(step) => stepped(rt, session, how, step),
@@ -74,13 +81,18 @@ fn is_right(
     }
 }
 
+/// Whether values that a call makes of its own are right.
+fn is_own(rt: &HostRuntime, session: &Session, how: How) -> Result<bool, NoMem> {
+    match how {
+        How::Make(made) => is_made(rt, session.db(), made),
+        How::Memory => is_from_memory(rt),
+        How::Lock => is_locked(rt),
+        _ => is_from_folder(rt, "tree"),
+    }
+}
+
 /// A call by one step.
-fn stepped(
-    rt: &(impl Print + AllocGlobal),
-    session: &mut Session,
-    how: How,
-    step: &Step,
-) -> Result<(), Refusal>
+fn stepped(rt: &HostRuntime, session: &mut Session, how: How, step: &Step) -> Result<(), Refusal>
     requires { session.old.begun ≡ false }
     ensures { session.new.begun ≡ false }
 {
@@ -91,7 +103,7 @@ fn stepped(
         How::By => by_events(rt.alloc(), session, step),
         How::Edit => edited(rt.alloc(), session, step),
         How::Dry => planned(rt.alloc(), session, step),
-        How::Ask(query) => asked(rt.alloc(), session, query, step),
+        How::Ask(_) | How::Plan | How::Shell => asked(rt, session, how, step),
         _ => Err(Refusal::Strange),
     }
 }
@@ -145,12 +157,17 @@ fn edited(alloc: Global, session: &mut Session, step: &Step) -> Result<(), Refus
     }
 }
 
-/// A query by the names of a change.
-fn asked(alloc: Global, session: &Session, query: Query, step: &Step) -> Result<(), Refusal> {
+/// A call by the request of a change, or by its names.
+fn asked(rt: &HostRuntime, session: &Session, how: How, step: &Step) -> Result<(), Refusal> {
     let Step::Change(request, _) = step else {
         return Err(Refusal::Strange);
     };
-    answered(is_answer(alloc, session.db(), query, &request.names))
+    let (alloc, db) = (rt.alloc(), session.db());
+    answered(match how {
+        How::Ask(query) => is_answer(alloc, db, query, &request.names),
+        How::Plan => is_planned(alloc, db, session.live(), request),
+        _ => is_gate(rt, db, &request.names),
+    })
 }
 
 pub(crate) fn planned(alloc: Global, session: &Session, step: &Step) -> Result<(), Refusal> {

@@ -8,18 +8,21 @@ ghost use Rattle.std.specs.Prelude.{◌≡◌, false, IfOk};
 mod begun;
 mod calls;
 mod rows;
+mod serving;
 mod steps;
 mod workers;
 
 use crate::calls::made;
 use crate::rows::{How, ROWS, Row};
 use crate::steps::{Act, steps_of};
+use rc_db::Db;
 use rc_livetext::write_live;
 use rc_session::{Session, Step};
 use rc_set::NoMem;
 use samples::sample;
 use samples_memory::{
-    show_begun, show_came, show_edit, show_line, show_opening, show_own, show_table,
+    show_begun, show_came, show_change, show_edit, show_line, show_opening, show_own, show_resumed,
+    show_table, show_tree,
 };
 use std::alloc::{AllocGlobal, Global};
 use std::io;
@@ -30,19 +33,29 @@ use std::thread::Threads;
 
 fn main(rt: HostRuntime) -> Result<(), Fail> {
     for row in &ROWS {
-        show_row(&rt, row)?;
+        show_row(&rt, &rt, row)?;
     }
     Ok(())
 }
 
 /// The row's call on a session over the sample.
-fn show_row<R: Print + AllocGlobal + Threads + Wait + Sync>(rt: &R, row: &Row) -> Result<(), Fail> {
+fn show_row<R: Print + AllocGlobal + Threads + Wait + Sync>(
+    rt: &R,
+    host: &HostRuntime,
+    row: &Row,
+) -> Result<(), Fail> {
     if let How::Session(bound) = row.2 {
         let db = sample(rt.alloc())?;
         return Ok(show_begun(rt, row.0, db, bound)?);
     }
     let mut session = session_of_sample(rt.alloc())?;
-    let shown = show_on(rt, &mut session, row);
+    if let How::Resume = row.2 {
+        let db = sample(rt.alloc());
+        let shown = show_goes_on(rt, &mut session, row, db);
+        drop(session);
+        return shown;
+    }
+    let shown = show_on(rt, host, &mut session, row);
     drop(session);
     Ok(shown?)
 }
@@ -54,9 +67,29 @@ fn session_of_sample(alloc: Global) -> Result<Session, Fail>
     Ok(Session::new(alloc, db)?)
 }
 
+/// Plays the steps before the call, and goes on over a database with the session's line.
+fn show_goes_on(
+    rt: &(impl Print + AllocGlobal),
+    session: &mut Session,
+    row: &Row,
+    db: Result<Db, Fail>,
+) -> Result<(), Fail>
+    requires { session.old.begun ≡ false }
+{
+    let db = db?;
+    match set_up(rt.alloc(), session, row.1) {
+        Ok(()) => Ok(show_resumed(rt, row.0, db, session)?),
+        Err(short) => {
+            drop(db);
+            Err(Fail::from(short))
+        }
+    }
+}
+
 /// Plays the steps before the call, and makes it.
 fn show_on<R: Print + AllocGlobal + Threads + Wait + Sync>(
     rt: &R,
+    host: &HostRuntime,
     session: &mut Session,
     row: &Row,
 ) -> io::Result<()>
@@ -68,9 +101,11 @@ fn show_on<R: Print + AllocGlobal + Threads + Wait + Sync>(
     let shown = match how {
         How::Table => show_table(rt, session.db(), what, steps.first()),
         How::Own(given) => show_own(rt, what, *given),
+        How::Alter(altering) => show_tree(rt, what, *altering),
+        How::Change => show_change(rt, session.db().graph(), session.journal(), what),
         How::Line => show_edit(rt, session.journal(), what),
         How::Opening(opening) => show_opening(rt, session.journal(), what, *opening),
-        _ => show_call(rt, session, what, *how, &steps),
+        _ => show_call(rt, host, session, what, *how, &steps),
     };
     drop(steps);
     shown
@@ -92,6 +127,7 @@ fn set_up(alloc: Global, session: &mut Session, acts: &[Act]) -> Result<(), NoMe
 /// The call, what it came to, and whether the session is as it was.
 fn show_call<R: Print + AllocGlobal + Threads + Wait + Sync>(
     rt: &R,
+    host: &HostRuntime,
     session: &mut Session,
     what: &str,
     how: How,
@@ -101,7 +137,7 @@ fn show_call<R: Print + AllocGlobal + Threads + Wait + Sync>(
 {
     let text = write_live(rt.alloc(), session)?;
     print!(rt; "{what}: ")?;
-    let came = made(rt, session, how, steps, &text);
+    let came = made(rt, host, session, how, steps, &text);
     show_came(rt, came)?;
     show_session(rt, session, &text)
 }

@@ -1,8 +1,9 @@
 //! The calls: the name of each, what was done before it, how it is made and by which steps.
 
 use crate::rows::How::{
-    Abandon, Ask, By, Complete, Dry, Edit, Line, Of, Opening, Own, Play, Session, Spoil, States,
-    StepOn, Stop, Table, Within, Workers,
+    Abandon, Alter, Ask, By, Change, Complete, Dry, Edit, Folder, Line, Lock, Make, Memory, Of,
+    Opening, Own, Plan, Play, Resume, Serve, Session, Shell, Spoil, States, StepOn, Stop, Table,
+    Within, Workers,
 };
 use crate::steps::Act::{Add, Delete};
 use crate::steps::{Act, BACK, LIMITED, ON, REDO, UNDO, UP};
@@ -13,7 +14,7 @@ use samples_memory::Value::{
     self, DownOf, EditBetween, EditCopy, GraphShare, LineCopy, LineState, NameCopy, NameRead,
     PadNew, PlanBetween, PlanUp, ReadLive, SetCopy, SetEmpty, SetIds, TableCopy, UpOf, WriteLive,
 };
-use samples_memory::{Given, Opening as OpenTo};
+use samples_memory::{Altering, Given, Made, Opening as OpenTo};
 
 #[derive(Clone, Copy)]
 pub(crate) enum How {
@@ -53,13 +54,33 @@ pub(crate) enum How {
     Opening(OpenTo),
     /// A session of its own, with at most so many states, 0 for the usual number.
     Session(u32),
+    /// One that goes on with the session's line.
+    Resume,
     /// On a value of its own.
     Own(Given),
+    /// Values that are made one after the other.
+    Make(Made),
+    /// On a tree in memory, which is altered.
+    Alter(Altering),
+    /// On a tree in memory, which is read and compiled.
+    Memory,
+    /// On the tree of a directory, likewise.
+    Folder,
+    /// As a plan that stands on the database alone.
+    Plan,
+    /// On a copy of the session's line, which is opened to a change and closed.
+    Change,
+    /// As the line of a session, by so many workers.
+    Serve(u8),
+    /// A gate that starts programs.
+    Shell,
+    /// The lock of a file in which a session is kept.
+    Lock,
 }
 
 pub(crate) type Row = (&'static str, &'static [Act], How, &'static [Act]);
 
-pub(crate) static ROWS: [Row; 70] = [
+pub(crate) static ROWS: [Row; 86] = [
     (
         "Set::empty, and insert, remove, contains, join, without, same, len, is_empty and bound",
         &[UP],
@@ -71,6 +92,8 @@ pub(crate) static ROWS: [Row; 70] = [
     ("Name::read", &[], Of(NameRead), &[]),
     ("Name::copy", &[], Of(NameCopy), &[]),
     ("Names::add", &[], Own(Given::Names), &[]),
+    ("Draft::new", &[], Make(Made::Chain), &[]),
+    ("Draft::new", &[], Make(Made::Circle), &[]),
     ("Draft::need", &[], Own(Given::Draft), &[]),
     ("Graph::share", &[], Of(GraphShare), &[]),
     ("Graph::up_of", &[UP], Of(UpOf), &[]),
@@ -81,10 +104,12 @@ pub(crate) static ROWS: [Row; 70] = [
     ("Edit::copy", &[UP, Add], Of(EditCopy), &[]),
     ("rc_select::between", &[UP], Of(PlanBetween), &[]),
     ("rc_select::plan_up", &[], Of(PlanUp), &[]),
+    ("rc_select::plan", &[UP], Plan, &[UP]),
     ("Line::copy", &[UP, Add, BACK], Of(LineCopy), &[]),
     ("Line::state", &[UP, Add], Of(LineState), &[]),
     ("two states", &[Add], States, &[]),
     ("Line::state", &[UP, Add], StepOn, &[]),
+    ("Line::open_new", &[UP], Change, &[]),
     ("Line::open_edit", &[], Line, &[]),
     ("Line::open_undo", &[UP, Add], Opening(OpenTo::Undo), &[]),
     (
@@ -103,6 +128,18 @@ pub(crate) static ROWS: [Row; 70] = [
     ("Db::selected", &[], Ask(Selected), &[UP]),
     ("Session::new", &[], Session(0), &[]),
     ("Session::with_bound", &[], Session(3), &[]),
+    ("Session::resume", &[UP, Add], Resume, &[]),
+    ("MemoryTree::folder", &[], Alter(Altering::Folder), &[]),
+    ("MemoryTree::put", &[], Alter(Altering::Put), &[]),
+    (
+        "MemoryTree::put of a file that is there",
+        &[],
+        Alter(Altering::PutAgain),
+        &[],
+    ),
+    ("a tree in memory", &[], Memory, &[]),
+    ("FolderTree::open", &[], Folder, &[]),
+    ("write_db", &[], Make(Made::Text), &[]),
     ("write_live", &[UP, Add], Of(WriteLive), &[]),
     ("read_live", &[UP, Add], Of(ReadLive), &[]),
     ("rc_bundle::add", &[], Table, &[Add]),
@@ -140,4 +177,9 @@ pub(crate) static ROWS: [Row; 70] = [
     ("change by 65", &[], Workers(65), &[UP]),
     ("a clock", &[], Within, &[LIMITED]),
     ("a clock", &[UP], Within, &[LIMITED]),
+    ("ShellGate::new", &[], Shell, &[UP]),
+    ("LiveLock::take", &[], Lock, &[]),
+    ("serve of a change by 1", &[], Serve(1), &[]),
+    ("serve of a change by 3", &[], Serve(3), &[]),
+    ("serve by 0", &[], Serve(0), &[]),
 ];
