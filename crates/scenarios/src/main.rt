@@ -8,6 +8,7 @@
 #![tactic(auto)]
 
 mod compare;
+mod completed;
 mod crashed;
 mod device;
 mod drawn;
@@ -20,10 +21,13 @@ mod recovered;
 mod schedules;
 mod sets;
 mod steps;
+mod tables;
 mod trees;
 mod tried;
+mod waiting;
 mod wide;
 
+use crate::completed::show_completed;
 use crate::crashed::show_crashed;
 use crate::joining::show_joined;
 use crate::legality::show_legality;
@@ -31,8 +35,10 @@ use crate::names::{show_names, show_words};
 use crate::recovered::show_recovered;
 use crate::schedules::show_schedules;
 use crate::sets::show_sets;
+use crate::tables::show_tables;
 use crate::trees::show_trees;
 use crate::tried::show_drawn;
+use crate::waiting::show_waiting;
 use crate::wide::show_wide;
 use std::test::Fail;
 
@@ -41,7 +47,10 @@ fn main(rt: HostRuntime) -> Result<(), Fail> {
     show_words(&rt)?;
     show_sets(&rt)?;
     show_joined(&rt)?;
+    show_tables(&rt)?;
     show_trees(&rt)?;
+    show_waiting(&rt)?;
+    show_completed(&rt)?;
     show_recovered(&rt)?;
     show_crashed(&rt)?;
     show_wide(&rt)?;

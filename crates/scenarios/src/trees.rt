@@ -22,47 +22,217 @@ const FILES: [File; 6] = [
     ("b", "up", "true"),
 ];
 
-/// What is shown, the files, and how each flush fails, if it does.
-static ROWS: [(&str, &[File], Option<ErrorKind>); 5] = [
-    ("two services", &FILES, None),
-    ("two services", &FILES, Some(ErrorKind::BrokenPipe)),
-    ("two services", &FILES, Some(ErrorKind::Interrupted)),
-    ("no files", &[], None),
-    ("an empty directory", &[("a", "", "")], None),
+/// Three oneshots.
+const ONESHOTS: [File; 6] = [
+    ("a", "type", "oneshot"),
+    ("a", "up", "true"),
+    ("b", "type", "oneshot"),
+    ("b", "up", "true"),
+    ("c", "type", "oneshot"),
+    ("c", "up", "true"),
+];
+
+/// Each of them needs the next, and the last the first.
+const CIRCLE: [File; 3] = [
+    ("a", "dependencies", "b"),
+    ("b", "dependencies", "c"),
+    ("c", "dependencies", "a"),
+];
+
+/// The first needs a bundle, which has another in it.
+const BUNDLES: [File; 5] = [
+    ("a", "dependencies", "g"),
+    ("g", "type", "bundle"),
+    ("g", "contents", "h\nb"),
+    ("h", "type", "bundle"),
+    ("h", "contents", "c"),
+];
+
+/// The same, and the last needs the first.
+const ROUND: [File; 6] = [
+    ("a", "dependencies", "g"),
+    ("c", "dependencies", "a"),
+    ("g", "type", "bundle"),
+    ("g", "contents", "h\nb"),
+    ("h", "type", "bundle"),
+    ("h", "contents", "c"),
+];
+
+/// Two bundles, each of which has the other in it.
+const RING: [File; 4] = [
+    ("x", "type", "bundle"),
+    ("x", "contents", "y"),
+    ("y", "type", "bundle"),
+    ("y", "contents", "x"),
+];
+
+/// A longrun that reads what one more is to write.
+const READER: [File; 3] = [
+    ("c", "type", "longrun"),
+    ("c", "run", ""),
+    ("p", "producer-for", "c"),
+];
+
+/// A pipe of three longruns, which has a name.
+const PIPE: [File; 12] = [
+    ("p", "type", "longrun"),
+    ("p", "run", ""),
+    ("p", "producer-for", "q"),
+    ("q", "type", "longrun"),
+    ("q", "run", ""),
+    ("q", "consumer-for", "p"),
+    ("q", "producer-for", "r"),
+    ("q", "pipeline-name", "mid"),
+    ("r", "type", "longrun"),
+    ("r", "run", ""),
+    ("r", "consumer-for", "q"),
+    ("r", "pipeline-name", "pipe"),
+];
+
+/// The sample.
+const SAMPLE: [File; 18] = [
+    ("root", "type", "oneshot"),
+    ("root", "flag-essential", ""),
+    ("root", "up", "true\n"),
+    ("net", "type", "oneshot"),
+    ("net", "dependencies", "root"),
+    ("net", "up", "true\n"),
+    ("net", "down", "true\n"),
+    ("db", "type", "longrun"),
+    ("db", "run", ""),
+    ("db", "dependencies", "net"),
+    ("log", "type", "longrun"),
+    ("log", "run", ""),
+    ("log", "consumer-for", "web"),
+    ("web", "type", "longrun"),
+    ("web", "run", ""),
+    ("web", "dependencies.d/db", ""),
+    ("web", "producer-for", "log"),
+    ("site", "type", "bundle"),
+];
+
+/// What is shown, the files, those that come in their place or beside them, and how each flush
+/// fails, if it does.
+type Row = (
+    &'static str,
+    &'static [File],
+    &'static [File],
+    Option<ErrorKind>,
+);
+
+static ROWS: [Row; 25] = [
+    ("two services", &FILES, &[], None),
+    ("two services", &FILES, &[], Some(ErrorKind::BrokenPipe)),
+    ("two services", &FILES, &[], Some(ErrorKind::Interrupted)),
+    ("no files", &[], &[], None),
+    ("an empty directory", &[("a", "", "")], &[], None),
+    ("a circle", &ONESHOTS, &CIRCLE, None),
+    (
+        "a circle of one",
+        &ONESHOTS,
+        &[("a", "dependencies", "a")],
+        None,
+    ),
+    ("two bundles in each other", &RING, &[], None),
+    ("an empty bundle", &[("nil", "type", "bundle")], &[], None),
+    (
+        "a longrun that is not named back",
+        &READER,
+        &[("p", "type", "longrun"), ("p", "run", "")],
+        None,
+    ),
+    (
+        "a oneshot that writes into a pipe",
+        &READER,
+        &[("p", "type", "oneshot"), ("p", "up", "")],
+        None,
+    ),
+    ("the sample", &SAMPLE, &[("site", "contents", "web")], None),
+    (
+        "the sample with a pipeline of a name",
+        &SAMPLE,
+        &[
+            ("site", "contents", "web"),
+            ("log", "pipeline-name", "weblog"),
+        ],
+        None,
+    ),
+    (
+        "a reserved name",
+        &[("s6rc-x", "type", "bundle")],
+        &[],
+        None,
+    ),
+    ("no type", &[("a", "up", "")], &[], None),
+    ("no up text", &[("a", "type", "oneshot")], &[], None),
+    (
+        "a limit with a unit",
+        &ONESHOTS,
+        &[("a", "timeout-up", "1s")],
+        None,
+    ),
+    (
+        "an unknown name",
+        &ONESHOTS,
+        &[("a", "dependencies", "d")],
+        None,
+    ),
+    ("a bundle in a bundle", &ONESHOTS, &BUNDLES, None),
+    ("the same in a circle", &ONESHOTS, &ROUND, None),
+    ("a pipe of three", &PIPE, &[], None),
+    (
+        "the same, of a name that is taken",
+        &PIPE,
+        &[("pipe", "type", "oneshot"), ("pipe", "up", "")],
+        None,
+    ),
+    (
+        "two newlines after a type",
+        &[("a", "type", "oneshot\n\n")],
+        &[],
+        None,
+    ),
+    (
+        "the greatest limit",
+        &ONESHOTS,
+        &[("a", "timeout-down", "4294967295")],
+        None,
+    ),
+    (
+        "a limit above it",
+        &ONESHOTS,
+        &[("a", "timeout-down", "4294967296")],
+        None,
+    ),
 ];
 
 /// Shows what is made of the files over writers whose flush does well or not, and of an empty
 /// directory.
 pub(crate) fn show_trees(rt: &(impl Print + AllocGlobal)) -> io::Result<()> {
-    for (what, files, failing) in &ROWS {
-        show_with(rt, what, files, *failing)?;
+    for row in &ROWS {
+        show_row(rt, row)?;
     }
     Ok(())
 }
 
-fn show_with(
-    rt: &(impl Print + AllocGlobal),
-    what: &str,
-    files: &[File],
-    failing: Option<ErrorKind>,
-) -> io::Result<()> {
+fn show_row(rt: &(impl Print + AllocGlobal), row: &Row) -> io::Result<()> {
     let mut trees = [MemoryTree::new(rt.alloc())];
-    let shown = show_filled(rt, what, &mut trees, files, failing);
+    let shown = show_filled(rt, &mut trees, row);
     drop(trees);
     shown
 }
 
 fn show_filled(
     rt: &(impl Print + AllocGlobal),
-    what: &str,
     trees: &mut [MemoryTree],
-    files: &[File],
-    failing: Option<ErrorKind>,
+    row: &Row,
 ) -> io::Result<()> {
+    let (what, files, more, failing) = row;
     for tree in &mut *trees {
         put_all(tree, files)?;
+        put_all(tree, more)?;
     }
-    let mut writer = Sink::new(rt.alloc(), failing);
+    let mut writer = Sink::new(rt.alloc(), *failing);
     let mut faults = Sink::new(rt.alloc(), None);
     let status = compiled(rt.alloc(), trees, &mut writer, &mut faults);
     let shown = show_line(rt, what, status, writer.text(), faults.text());
