@@ -1,3 +1,2 @@
-mod OnceLemmas
 mod UpdateLemmas
 mod SparingLemmas

@@ -1,44 +1,37 @@
 -- How the two steps of an update are served, and how it ends.
-use Rattle.std.proofs.Common.{All, ◌≡◌, ◌≢◌, ◌≤◌, ◌∙◌, ◌⊎◌, ◌++◌, ◌∷◌, ℕ, Bool, true, false, List, [], None, Option, Some, OnOk, Result, Ok, Err, IfErr, IfOk, inl, inr, ap, refl, sym, subst}
+use Rattle.std.proofs.Common.{All, ◌≡◌, ◌≤◌, ◌∙◌, ◌++◌, ◌∷◌, ℕ, Bool, true, false, List, [], None, Option, Result, Ok, Err, IfErr, IfOk, inl, inr, ap, refl, sym, subst}
 use Rattle.std.proofs.lemmas.List.Elements.{All-cons, All-nil}
 use Rattle.clap.specs.Words.{Text as Path}
 use Rattle.rc_graph.specs.declared.Way.{Way}
 use Rattle.rc_graph.specs.declared.Way.TheVariants.{Lower, Raise}
 use Rattle.rc_model.specs.Database.{Database}
 use Rattle.rc_model.specs.Line.{IsLine, Line, states, State}
-use Rattle.rc_model.specs.Session.{Command}
+use Rattle.rc_model.specs.Plan.{Ask}
 use Rattle.rc_session.specs.Holding.{Holding}
 use Rattle.rc_line.specs.Opening.{Journal}
 use Rattle.rc_script.specs.Says.{Saying}
+use Rattle.rc_runner.specs.Gates.{gate_answers, gate_gives}
+use Rattle.rc_runner.specs.declared.session_gate.SessionGate.{SessionGate}
 use Rattle.rc_serve.specs.declared.ending.Ending.{Ending}
 use Rattle.rc_serve.specs.declared.ending.Ending.TheVariants.{Done, Refused, Hindered}
 use Rattle.rc_serve.specs.declared.fault.ServeFault.{ServeFault}
-use Rattle.rc_serve.specs.declared.fault.ServeFault.TheVariants.{Memory}
-use Rattle.rc_serve.specs.Ending.{EndsIn}
-use Rattle.rc_serve.specs.Faults.{IsServeFault}
-use Rattle.rc_serve.specs.Keeping.{Keeping}
-use Rattle.rc_asked.specs.OnceAsked.{HasNoEvents, OnceSaying, Said}
-use Rattle.rc_asked.specs.UpdateAsked.{UpdateAsk}
-use Rattle.rc_model.specs.Plan.{Ask}
+use Rattle.rc_serve.specs.Ending.{EndsIn, IsDoneAs}
 use Rattle.rc_asked.specs.Listed.{Listed}
-use Rattle.rc_asked.specs.Programs.{ByTable, MakingAsk}
-use Rattle.rc_base.specs.Base.{IsTextFault, Spells}
-use Rattle.rc_dbtext.specs.declared.fault.TextFault.{TextFault}
-use Rattle.rc_dbtext.specs.declared.fault.TextFault.TheVariants as text
-use Rattle.rc_sessions.specs.Filing.{BeginsBy, CannotKeep, file_named}
-use Rattle.rc_sessions.specs.SessionFaults.{IsFileFault, IsTextFailing}
+use Rattle.rc_asked.specs.OnceAsked.{HasNoEvents, OnceSaying, Said}
+use Rattle.rc_asked.specs.Programs.{MakingAsk}
+use Rattle.rc_asked.specs.SessionAsked.{SessionAsk}
+use Rattle.rc_sessions.specs.Filing.{BeginsBy, file_named}
+use Rattle.rc_sessions.specs.Gating.{IsGateFor, IsGateless}
+use Rattle.rc_sessions.specs.Once.{ServesOnce, StopsServing}
+use Rattle.rc_sessions.specs.Services.{IsDoneFor}
+use Rattle.rc_sessions.specs.Serving.{session_on}
+use Rattle.rc_sessions.specs.SessionFaults.{IsFileFault}
+use Rattle.rc_sessions.specs.declared.keeping.LiveFile.{LiveFile}
 use Rattle.rc_sessions.specs.declared.session_fault.SessionFault.{SessionFault}
 use Rattle.rc_sessions.specs.declared.session_fault.SessionFault.TheVariants.{OfText, Unknown, OfLive, Failed}
-use Rattle.rc_sessions.specs.Serving.{session_on}
-use Rattle.rc_sessions.specs.declared.keeping.LiveFile.{LiveFile}
-use Rattle.rc_cli.specs.Once.{DoesBy, HoldsOnce, ServesOnce}
-use Rattle.rc_cli.specs.OnceEnds.{StopsServing}
-use Rattle.rc_cli.specs.Updating.{EndsBoth, EndsUpdate, IsUpdate, Parts, ServesBoth, carried_line, ending_behind, listed_by, listed_on, lowering, making_on, raising, session_with, step_by}
-use Rattle.rc_cli.specs.UpdateEnds.{AnswersUpdate, AreFoundInBoth, AreGateless, EndsGatedUpdate, EndsUpdateBy, EndsUpdateOn, FailsUpdate, IsTextRefused, RunsUpdate, StopsBoth, StopsUpdate}
-use Rattle.rc_sessions.proofs.SessionLemmas.{begin_fault, fault_wider}
-use Rattle.rc_cli.proofs.OnceLemmas.{found_gate, line_as, once_on}
-use Rattle.rc_runner.specs.declared.session_gate.SessionGate.{SessionGate}
-use Rattle.rc_sessions.specs.Gating.{IsGateFor, IsGateless}
+use Rattle.rc_sessions.proofs.LaunchLemmas.{past_found, past_gate}
+use Rattle.rc_cli.specs.Updating.{AreDoneFor, EndsBoth, EndsUpdate, IsUpdate, Parts, ServesBoth, carried_line, ending_behind, listed_by, listed_on, lowering, making_on, raising, session_with, step_by}
+use Rattle.rc_cli.specs.UpdateEnds.{AreFoundInBoth, AreGateless, IsUnreadyUpdate, StopsBoth, StopsUpdate}
 
 -- a step brings no events
 pub step_eventless : (dry : Bool) (ask : Ask) → HasNoEvents (Said (step_by dry ask))
@@ -83,12 +76,12 @@ module _ (path : Option Path) (was held is : Option (List ℕ)) (As At : EndsIn)
       (ends_behind raised (subst (λ (e : Ending). ServesOnce path was held As e what written shown from middle) done first) second)
 
   pub stops_behind : (fault : ServeFault) → ServesOnce path was held As Done what written shown from middle
-      → StopsServing fault (is ≡ held) (λ d line. HoldsOnce path held is d then line) At then shown gained to
+      → StopsServing fault path held is At then shown gained to
       → StopsBoth fault path was is As At what then written gained from to
   stops_behind fault first stops = inr (record { middle = middle; held = held; shown = shown; first = first; stops = stops })
 
   pub both_stopped : (fault : ServeFault) (told : Ending) → told ≡ Done → ServesOnce path was held As told what written shown from middle
-      → StopsServing fault (is ≡ held) (λ d line. HoldsOnce path held is d then line) At then shown gained to
+      → StopsServing fault path held is At then shown gained to
       → StopsBoth fault path was is As At what then written gained from to
   both_stopped fault told done first stops = stops_behind fault (subst (λ (e : Ending). ServesOnce path was held As e what written shown from middle) done first) stops
 
@@ -128,116 +121,43 @@ module _ (path : Option Path) (was is : Option (List ℕ)) (As At : EndsIn) (dry
         (subst (λ (t : OnceSaying). StopsBoth fault path was is As At what t written gained from to) second stops)),
   )
 
--- what one line comes to is the same by another word for how commands are done
-abbrev pub On : (P Q : EndsIn) → Type 0
-On P Q = (ending : Ending) (d : Database) (here : Line) (command : Command) (text : List ℕ) (new : Line) → P ending d here command text new → Q ending d here command text new
+-- why there are no gates, or no session begins, an update is not begun
+pub gates_unready : (fault : SessionFault) (ask : SessionAsk) (file : LiveFile) (old new : Database)
+    → AreGateless old new ask.making fault → IsUnreadyUpdate ask file old new fault
+gates_unready (OfText fault) ask file old new is = is
+gates_unready (Unknown word) ask file old new is = is
+gates_unready (OfLive fault) ask file old new is = absurd is
+gates_unready (Failed fault) ask file old new is = inl is
 
-serves_on : (P Q : EndsIn) (path : Option Path) (was is : Option (List ℕ)) (ending : Ending) (what : OnceSaying) (written gained : Option (List ℕ)) (old new : Holding) → On P Q
-    → ServesOnce path was is P ending what written gained old new → ServesOnce path was is Q ending what written gained old new
-serves_on P Q path was is ending what written gained old new on served = record {
-  text = served.text;
-  ends = once_on P Q ending old.database old.line what served.text new.line (λ command done. on ending old.database old.line command served.text new.line done) served.ends;
-  told = served.told;
-  arrives = served.arrives;
-  kept = served.kept;
-}
+pub begin_unready : (fault : SessionFault) (ask : SessionAsk) (file : LiveFile) (old new : Database)
+    → AreFoundInBoth old new ask.making → IsFileFault (file_named ask.live file) old fault
+    → IsUnreadyUpdate ask file old new fault
+begin_unready (OfText fault) ask file old new found is = is
+begin_unready (Unknown word) ask file old new found is = absurd is
+begin_unready (OfLive fault) ask file old new found is = (found, is)
+begin_unready (Failed fault) ask file old new found is = inr is
 
-stops_on : (P Q : EndsIn) (fault : ServeFault) (same : Type 0) (kept : Keeping) (what : OnceSaying) (written gained : Option (List ℕ)) (old : Holding) → On P Q
-    → StopsServing fault same kept P what written gained old → StopsServing fault same kept Q what written gained old
-stops_on P Q fault same kept what written gained old on (inl un) = inl un
-stops_on P Q fault same kept what written gained old on (inr stops) =
-    inr (line_as fault kept P Q old.database old.line what written gained (λ ending here command text new done. on ending old.database here command text new done) stops)
+-- what comes of both steps past their gates
+pub past_gates : {R L Q M : Type 0} (old new : Database) (workers : ℕ) (making : MakingAsk)
+    (gate : SessionGate R L) (other : SessionGate Q M) (Comes : EndsIn → EndsIn → Type 0)
+    → IsGateFor old (making_on Lower making) gate → IsGateFor new (making_on Raise making) other
+    → Comes (IsDoneAs workers (gate_answers gate) (gate_gives gate))
+    (IsDoneAs workers (gate_answers other) (gate_gives other))
+    → AreDoneFor old new workers making Comes
+past_gates old new workers making gate other Comes is also come =
+    past_gate old workers (making_on Lower making) gate None
+    (λ Does As. IsDoneFor new workers (making_on Raise making) (λ Do At. Comes As At)) is
+    (λ fails lets. past_gate new workers (making_on Raise making) other None
+    (λ Do At. Comes (IsDoneAs workers (gate_answers gate) (gate_gives gate)) At) also
+    (λ some let_some. come))
 
--- and so is what two lines come to, and an update
-module _ (P Q P2 Q2 : EndsIn) (path : Option Path) (was is : Option (List ℕ)) where
-  both_on : (ending : Ending) (what then : OnceSaying) (written gained : Option (List ℕ)) (from to : Holding) → On P Q → On P2 Q2
-      → ServesBoth path was is P P2 ending what then written gained from to → ServesBoth path was is Q Q2 ending what then written gained from to
-  both_on ending what then written gained from to on next served = record {
-    middle = served.middle;
-    after = served.after;
-    held = served.held;
-    shown = served.shown;
-    first = serves_on P Q path was served.held Done what written served.shown from served.middle on served.first;
-    second = serves_on P2 Q2 path served.held is ending then served.shown gained to served.after next served.second;
-  }
-
-  ends_on : (ending : Ending) (what then : OnceSaying) (written gained : Option (List ℕ)) (from to : Holding) → On P Q → On P2 Q2
-      → EndsBoth ending path was is P P2 what then written gained from to → EndsBoth ending path was is Q Q2 what then written gained from to
-  ends_on Done what then written gained from to on next ends = both_on Done what then written gained from to on next ends
-  ends_on Refused what then written gained from to on next (after, ends) = (after, serves_on P Q path was is Refused what written gained from after on ends)
-  ends_on Hindered what then written gained from to on next (inl (after, ends)) = inl (after, serves_on P Q path was is Hindered what written gained from after on ends)
-  ends_on Hindered what then written gained from to on next (inr (ending, never, ends)) = inr (ending, never, both_on ending what then written gained from to on next ends)
-
-  stops_both : (fault : ServeFault) (what then : OnceSaying) (written gained : Option (List ℕ)) (from to : Holding) → On P Q → On P2 Q2
-      → StopsBoth fault path was is P P2 what then written gained from to → StopsBoth fault path was is Q Q2 what then written gained from to
-  stops_both fault what then written gained from to on next (inl stops) =
-      inl (stops_on P Q fault (is ≡ was) (λ d line. HoldsOnce path was is d what line) what written gained from on stops)
-  stops_both fault what then written gained from to on next (inr second) = inr (record {
-    middle = second.middle;
-    held = second.held;
-    shown = second.shown;
-    first = serves_on P Q path was second.held Done what written second.shown from second.middle on second.first;
-    stops = stops_on P2 Q2 fault (is ≡ second.held) (λ d line. HoldsOnce path second.held is d then line) then second.shown gained to next second.stops;
-  })
-
-  update_on : (ending : Ending) (dry : Bool) (written gained : Option (List ℕ)) (from : Holding) (new : Database) → On P Q → On P2 Q2
-      → EndsUpdate ending path was is P P2 dry written gained from new → EndsUpdate ending path was is Q Q2 dry written gained from new
-  update_on ending dry written gained from new on next ends = record {
-    parts = ends.parts;
-    update = ends.update;
-    ends = ends_on ending (lowering dry ends.parts.lower) (raising dry ends.parts.raise) written gained from (session_with new ends.parts from) on next ends.ends;
-  }
-
-  stop_on : (fault : ServeFault) (dry : Bool) (written gained : Option (List ℕ)) (from : Holding) (new : Database) → On P Q → On P2 Q2
-      → StopsUpdate fault path was is P P2 dry written gained from new → StopsUpdate fault path was is Q Q2 dry written gained from new
-  stop_on fault dry written gained from new on next (inl short) = inl short
-  stop_on fault dry written gained from new on next (inr (parts, update, stops)) =
-      inr (parts, update, stops_both fault (lowering dry parts.lower) (raising dry parts.raise) written gained from (session_with new parts from) on next stops)
-
-module _ (P Q P2 Q2 : EndsIn) (ask : UpdateAsk) (file : LiveFile) (was is : Option (List ℕ)) (old new : Database) (written gained : Option (List ℕ)) where
-  pub runs_on : {E : Type 0} (result : Result Ending E) → On P Q → On P2 Q2
-      → IfOk result (λ ending. RunsUpdate ending ask file was is P P2 old new written gained) → IfOk result (λ ending. RunsUpdate ending ask file was is Q Q2 old new written gained)
-  runs_on (Ok ending) on next (start, begins, ends) = (start, begins, update_on P Q P2 Q2 ask.session.live was is ending ask.dry written gained (session_on old start) new on next ends)
-  runs_on (Err fault) on next runs = tt
-
-  fails_on : (fault : ServeFault) → On P Q → On P2 Q2
-      → FailsUpdate fault ask file was is P P2 old new written gained → FailsUpdate fault ask file was is Q Q2 old new written gained
-  fails_on fault on next (inl unread) = inl unread
-  fails_on fault on next (inr (start, begins, stops)) = inr (start, begins, stop_on P Q P2 Q2 ask.session.live was is fault ask.dry written gained (session_on old start) new on next stops)
-
--- past two gates it ends as with how transitions are made
-pub gated_update : (fault : SessionFault) (ask : UpdateAsk) (making : MakingAsk) (file : LiveFile) (was is : Option (List ℕ)) (P P2 : EndsIn) (old new : Database) (written gained : Option (List ℕ)) (writer keeper : Type 0)
-    → AreFoundInBoth old new making → On P (DoesBy old ask.session.workers (making_on Lower making)) → On P2 (DoesBy new ask.session.workers (making_on Raise making))
-    → EndsGatedUpdate fault ask file was is P P2 old new written gained writer keeper → EndsUpdateOn fault ask making file was is old new written gained writer keeper
-gated_update (OfText fault) ask making file was is P P2 old new written gained writer keeper found on next end = absurd end
-gated_update (Unknown word) ask making file was is P P2 old new written gained writer keeper found on next end = absurd end
-gated_update (OfLive fault) ask making file was is P P2 old new written gained writer keeper found on next end = ((found, end.0), end.1, end.2)
-gated_update (Failed fault) ask making file was is P P2 old new written gained writer keeper found on next end = (
-  end.0,
-  fails_on P (DoesBy old ask.session.workers (making_on Lower making)) P2 (DoesBy new ask.session.workers (making_on Raise making)) ask file was is old new written gained fault on next end.1,
-)
-
--- an update from where the session of the old database begins
-pub runs_from : (ending : Ending) (ask : UpdateAsk) (file : LiveFile) (was is : Option (List ℕ)) (As At : EndsIn) (old new : Database) (written gained : Option (List ℕ)) (from : Holding)
-    → ((start : Line) × BeginsBy old ask.session.bound (file_named ask.session.live file) start × (from ≡ session_on old start))
-    → EndsUpdate ending ask.session.live was is As At ask.dry written gained from new → RunsUpdate ending ask file was is As At old new written gained
-runs_from ending ask file was is As At old new written gained from (start, begins, is_from) ends =
-    (start, begins, subst (λ (h : Holding). EndsUpdate ending ask.session.live was is As At ask.dry written gained h new) is_from ends)
-
-pub stops_from : (fault : ServeFault) (ask : UpdateAsk) (file : LiveFile) (was is : Option (List ℕ)) (As At : EndsIn) (old new : Database) (written gained : Option (List ℕ)) (from : Holding)
-    → ((start : Line) × BeginsBy old ask.session.bound (file_named ask.session.live file) start × (from ≡ session_on old start))
-    → StopsUpdate fault ask.session.live was is As At ask.dry written gained from new → FailsUpdate fault ask file was is As At old new written gained
-stops_from fault ask file was is As At old new written gained from (start, begins, is_from) stops =
-    inr (start, begins, subst (λ (h : Holding). StopsUpdate fault ask.session.live was is As At ask.dry written gained h new) is_from stops)
-
--- why the session of the old database does not begin ends it
-pub begin_update : (fault : SessionFault) (ask : UpdateAsk) (file : LiveFile) (held : Option (List ℕ)) (As At : EndsIn) (old new : Database) (written : Option (List ℕ)) (writer failed : Type 0)
-    → IsFileFault (file_named ask.session.live file) old fault → EndsGatedUpdate fault ask file held held As At old new written written writer (CannotKeep ask.session file failed)
-begin_update (OfText fault) ask file held As At old new written writer failed is = absurd is
-begin_update (Unknown word) ask file held As At old new written writer failed is = absurd is
-begin_update (OfLive fault) ask file held As At old new written writer failed is = (is, refl, refl)
-begin_update (Failed fault) ask file held As At old new written writer failed is =
-    let of = begin_fault ask.session file fault ⊥ writer failed is in (of.1, inl (of.0, refl, refl))
+-- from where the session of the old database begins
+pub from_start : (old : Database) (bound : ℕ) (file : LiveFile) (from : Holding)
+    (Comes : Holding → Type 0)
+    → ((start : Line) × BeginsBy old bound file start × (from ≡ session_on old start))
+    → Comes from → (start : Line) × BeginsBy old bound file start × Comes (session_on old start)
+from_start old bound file from Comes (start, begins, is) come =
+    (start, begins, subst Comes is come)
 
 -- why there is no gate of the first step, or of the second one, is why there are not both
 pub first_gateless : (fault : SessionFault) (old new : Database) (making : MakingAsk) → IsGateless old (making_on Lower making) fault → AreGateless old new making fault
@@ -249,60 +169,9 @@ first_gateless (Failed fault) old new making is = is
 pub second_gateless : {R L : Type 0} (fault : SessionFault) (old new : Database) (making : MakingAsk) (gate : SessionGate R L) → IsGateFor old (making_on Lower making) gate
     → IsGateless new (making_on Raise making) fault → AreGateless old new making fault
 second_gateless (OfText fault) old new making gate made is = absurd is
-second_gateless (Unknown word) old new making gate made is = inr (found_gate old (making_on Lower making) gate made, is)
+second_gateless (Unknown word) old new making gate made is = inr (past_found old (making_on Lower making) gate made, is)
 second_gateless (OfLive fault) old new making gate made is = absurd is
 second_gateless (Failed fault) old new making gate made is = is
-
--- and it ends the update
-pub gates_update : (told : SessionFault) (ask : UpdateAsk) (making : MakingAsk) (file : LiveFile) (held : Option (List ℕ)) (old new : Database) (written : Option (List ℕ)) (writer keeper : Type 0)
-    → AreGateless old new making told → EndsUpdateOn told ask making file held held old new written written writer keeper
-gates_update (OfText fault) ask making file held old new written writer keeper is = absurd is
-gates_update (Unknown word) ask making file held old new written writer keeper is = (is, refl, refl)
-gates_update (OfLive fault) ask making file held old new written writer keeper is = absurd is
-gates_update (Failed fault) ask making file held old new written writer keeper is =
-    subst (λ (f : ServeFault). EndsUpdateOn (Failed f) ask making file held held old new written written writer keeper) (sym is) (tt, inl (tt, refl, refl))
-
--- what an update from one database to another comes to is what the texts come to that they have
-pub answers_update : {E : Type 0} (result : Result Ending E) (old new : List ℕ) (ask : UpdateAsk) (file : LiveFile) (was is written gained : Option (List ℕ)) (from to : Database)
-    → Spells (Some old) [] from [] → Spells (Some new) [] to [] → OnOk result (AreFoundInBoth from to ask.session.making)
-    → IfOk result (λ ending. RunsUpdate ending ask file was is (DoesBy from ask.session.workers (making_on Lower ask.session.making)) (DoesBy to ask.session.workers (making_on Raise ask.session.making)) from to written gained)
-    → IfOk result (λ ending. AnswersUpdate ending old new ask file was is written gained)
-answers_update (Ok ending) old new ask file was is written gained from to first second found run =
-    record { from = from; to = to; old_spelled = first; new_spelled = second; found = found; run = run }
-answers_update (Err fault) old new ask file was is written gained from to first second found run = tt
-
-pub ends_between : (fault : SessionFault) (old new : List ℕ) (ask : UpdateAsk) (file : LiveFile) (was is written gained : Option (List ℕ)) (writer keeper : Type 0) (from to : Database)
-    → Spells (Some old) [] from [] → Spells (Some new) [] to []
-    → EndsUpdateOn fault ask ask.session.making file was is from to written gained writer keeper
-    → EndsUpdateBy fault old new ask file was is written gained writer keeper
-ends_between (OfText fault) old new ask file was is written gained writer keeper from to first second end = absurd end
-ends_between (Unknown word) old new ask file was is written gained writer keeper from to first second end = (from, to, first, second, end)
-ends_between (OfLive fault) old new ask file was is written gained writer keeper from to first second end = (from, to, first, second, end)
-ends_between (Failed fault) old new ask file was is written gained writer keeper from to first second end = inr (from, to, first, second, end)
-
-pub fails_between : (result : Result Ending SessionFault) (old new : List ℕ) (ask : UpdateAsk) (file : LiveFile) (was is written gained : Option (List ℕ)) (writer keeper : Type 0) (from to : Database)
-    → Spells (Some old) [] from [] → Spells (Some new) [] to []
-    → IfErr result (λ fault. EndsUpdateOn fault ask ask.session.making file was is from to written gained writer keeper)
-    → IfErr result (λ fault. EndsUpdateBy fault old new ask file was is written gained writer keeper)
-fails_between (Ok ending) old new ask file was is written gained writer keeper from to first second end = tt
-fails_between (Err fault) old new ask file was is written gained writer keeper from to first second end =
-    ends_between fault old new ask file was is written gained writer keeper from to first second end
-
--- a text that is refused ends it
-module _ (old new : List ℕ) (ask : UpdateAsk) (file : LiveFile) (held written : Option (List ℕ)) (writer keeper : Type 0) where
-  refused_text : (fault : TextFault) (told : SessionFault) → told ≡ OfText fault → IsTextRefused old new fault → EndsUpdateBy told old new ask file held held written written writer keeper
-  refused_text fault told is wrong = subst (λ (f : SessionFault). EndsUpdateBy f old new ask file held held written written writer keeper) (sym is) (wrong, refl, refl)
-
-  pub text_update : (fault : TextFault) (told : SessionFault) → IsTextFailing fault told
-      → IsTextFault (Some old) [] fault ⊎ ((d : Database) × Spells (Some old) [] d [] × IsTextFault (Some new) [] fault)
-      → EndsUpdateBy told old new ask file held held written written writer keeper
-  text_update text.Memory told is wrong = subst (λ (f : SessionFault). EndsUpdateBy f old new ask file held held written written writer keeper) (sym is) (inl (refl, refl, refl))
-  text_update (text.Bad offset) told is wrong = refused_text (text.Bad offset) told is ((λ bad. cc), wrong)
-  text_update text.Version told is wrong = refused_text text.Version told is ((λ bad. cc), wrong)
-  text_update text.NotSorted told is wrong = refused_text text.NotSorted told is ((λ bad. cc), wrong)
-  text_update text.Cyclic told is wrong = refused_text text.Cyclic told is ((λ bad. cc), wrong)
-  text_update text.TooMany told is wrong = refused_text text.TooMany told is ((λ bad. cc), wrong)
-  text_update text.Dangling told is wrong = refused_text text.Dangling told is ((λ bad. cc), wrong)
 
 -- what is carried over, where the old database and what is live are known by other names
 pub update_is : (d old new : Database) (live up : List Bool) (parts : Parts) → d ≡ old → live ≡ up
@@ -317,11 +186,6 @@ with_bound new parts bound from to is same = is ∙ ap (λ (b : ℕ). session_on
 -- a line of one state
 pub one_state : (P : State → Type 0) (line : Line) (state : State) (bound : ℕ) → line ≡ record { before = []; current = state; after = []; bound = bound } → P state → All P (states line)
 one_state P line state bound is holds = subst (λ (l : Line). All P (states l)) (sym is) (All-cons P state [] holds (All-nil P))
-
--- that a fault comes of a device or a file is the same where more is said of it
-pub gated_fault : (ask : UpdateAsk) (file : LiveFile) (writer failed : Type 0) (fault : ServeFault) → IsServeFault ⊥ writer ((ask.session.live ≢ None) × failed) fault → IsServeFault ⊥ writer (CannotKeep ask.session file failed) fault
-gated_fault ask file writer failed fault wrong =
-    fault_wider fault ⊥ writer ((ask.session.live ≢ None) × failed) ⊥ writer (CannotKeep ask.session file failed) (λ r. r) (λ w. w) (λ k. (k.0, inr k.1)) wrong
 
 -- a transition in front of others, and more after
 listed_grown : (way other : Way) (one : Listed) (some more : List Listed) → listed_by way other one (some ++ more) ≡ listed_by way other one some ++ more

@@ -1,4 +1,2 @@
-pub mod Once
-pub mod OnceEnds
 pub mod Updating
 pub mod UpdateEnds

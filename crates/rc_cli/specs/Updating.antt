@@ -18,9 +18,10 @@ use Rattle.rc_serve.specs.Ending.{EndsIn}
 use Rattle.rc_asked.specs.Listed.{Listed}
 use Rattle.rc_asked.specs.OnceAsked.{OnceSaying, Said}
 use Rattle.rc_asked.specs.Programs.{ByPrograms, ByTable, MakingAsk}
+use Rattle.rc_sessions.specs.Once.{ServesOnce}
+use Rattle.rc_sessions.specs.Services.{IsDoneFor}
 use Rattle.rc_sessions.specs.Serving.{session_on}
 use Rattle.rc_select.specs.Carrying.{AreNamesOf, Carried, IsAlteredUp, StaysUp}
-use Rattle.rc_cli.specs.Once.{ServesOnce}
 
 -- of transitions that are listed those of one way
 abbrev pub listed_by : Way → Way → Listed → List Listed → List Listed
@@ -37,6 +38,15 @@ listed_on way (one ∷ more) = listed_by way one.way one (listed_on way more)
 abbrev pub making_on : Way → MakingAsk → MakingAsk
 making_on way (ByTable failing) = ByTable (listed_on way failing)
 making_on way (ByPrograms runner controller limit) = ByPrograms runner controller limit
+
+-- this holds where the commands of both steps are done as it is asked: those of the first one with
+-- what is listed of the ways down, by the old database, and those of the second one with what is
+-- listed of the ways up, by the new one
+abbrev pub AreDoneFor : (old new : Database) → (workers : ℕ) → MakingAsk
+    → (EndsIn → EndsIn → Type 0) → Type 0
+AreDoneFor old new workers making Comes =
+    IsDoneFor old workers (making_on Lower making) (λ Does As.
+    IsDoneFor new workers (making_on Raise making) (λ Do At. Comes As At))
 
 -- what the change of these names asks: the greatest limit, and nothing beyond the names
 abbrev pub step_ask : Mode → List (List ℕ) → Ask

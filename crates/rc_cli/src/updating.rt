@@ -1,10 +1,9 @@
 //! The two steps of an update: how their transitions are made, what they move, and that they are
 //! kept.
-ghost use Rattle.std.specs.Prelude.{◌≡◌, ◌≢◌, ◌≤◌, ◌<◌, ◌⊎◌, ◌^◌, ◌++◌, ◌∷◌, [], ℕ, List, None, Ok, false, length, map, string_bytes, IfErr, IfOk, OnOk};
+ghost use Rattle.std.specs.Prelude.{◌≡◌, ◌≢◌, ◌≤◌, ◌++◌, [], None, false, length, map, string_bytes, IfErr, IfOk, OnOk};
 ghost use Rattle.rc_graph.specs.declared.Way.TheVariants.{Lower, Raise};
 ghost use Rattle.rc_model.specs.Graph.{IsClosed};
 ghost use Rattle.rc_model.specs.Names.{Has};
-ghost use Rattle.rc_board.specs.Crew.{IsCrew};
 ghost use Rattle.rc_streams.specs.Noting.{HasFailed, inner_of};
 ghost use Rattle.rc_script.specs.Says.{saying_of};
 ghost use Rattle.rc_serve.specs.Ending.{IsDoneAs};
@@ -18,11 +17,9 @@ ghost use Rattle.rc_sessions.specs.Filing.{CannotKeep};
 ghost use Rattle.rc_sessions.specs.Gating.{IsGateFor, IsGateless};
 ghost use Rattle.rc_sessions.specs.Serving.{session_on};
 ghost use Rattle.rc_sessions.specs.Storing.{store_of};
-ghost use Rattle.rc_cli.specs.Once.{DoesBy};
-ghost use Rattle.rc_cli.specs.Updating.{EndsBoth, EndsUpdate, carried_line, ending_behind, listed_by, listed_on, making_on, step_ask, step_by};
-ghost use Rattle.rc_cli.specs.UpdateEnds.{AreFoundInBoth, AreGateless, EndsGatedUpdate, EndsUpdateOn, RunsUpdate, StopsBoth, StopsUpdate};
+ghost use Rattle.rc_cli.specs.Updating.{AreDoneFor, EndsBoth, EndsUpdate, carried_line, ending_behind, listed_by, listed_on, making_on, step_ask, step_by};
+ghost use Rattle.rc_cli.specs.UpdateEnds.{AreGateless, EndsUpdateOn, RunsUpdate, StopsBoth, StopsUpdate};
 
-use crate::serving::line_once;
 use log::Log;
 use rc_asked::{Making, SessionRequest, Transition, UpdateRequest};
 use rc_board::Gate;
@@ -34,55 +31,74 @@ use rc_script::SessionLine;
 use rc_select::{Mode, Request, carry};
 use rc_serve::{Ending, ServeFault};
 use rc_session::{Session, Step};
-use rc_sessions::{Host, LiveFile, SessionFault, Store, TextKeeper, begin, gate_for};
+use rc_sessions::{Host, LiveFile, Outputs, SessionFault, Store, begin, gate_for, line_once};
 use rc_set::{NoMem, Set};
-use rc_streams::Noted;
 use std::alloc::{AllocError, Global};
 use std::io::Write;
 use std::sync::Wait;
 use std::thread::Threads;
 
-/// Carries what is live over from a database to another. Programs are started by `host`, which also
-/// tells what is to be told of them.
+/// The gates of both steps.
+#[derive(Drop)]
+struct Gates<G> {
+    lowers: G,
+    raises: G,
+}
+
+/// What is ahead of an update: the session of the new database, and the lines of both steps.
+#[derive(Drop)]
+struct Ahead {
+    to: Session,
+    lowering: SessionLine,
+    raising: SessionLine,
+}
+
+/// Carries what is live over from a database to another: past the gates of both steps, from where
+/// the session of the old database begins. Programs are started by `host`.
 pub(crate) fn update_on<'a, T: Threads + Wait + Sync, W: Write, S: Store, L: Log + Sync>(
     host: &Host<'_, T, L>,
+    request: &UpdateRequest<'a>,
     old: Db,
     new: Db,
-    request: &UpdateRequest<'a>,
     live: LiveFile<'_>,
-    keeper: &mut TextKeeper<S>,
-    writer: &mut Noted<W>,
+    outputs: &mut Outputs<W, S>,
 ) -> Result<Ending, SessionFault<'a>>
-    requires writer { HasFailed writer.old → ⊥ }
-    ensures found { OnOk result (AreFoundInBoth old new
-        (making_ask_of request.now.session.making)) }
-    ensures done { IfOk result (λ ending. RunsUpdate ending (update_ask_of request.now) live.entry
-        (S.holds (store_of keeper.old)) (S.holds (store_of keeper.new))
-        (DoesBy old request.now.session.workers
-        (making_on Lower (making_ask_of request.now.session.making)))
-        (DoesBy new request.now.session.workers
-        (making_on Raise (making_ask_of request.now.session.making)))
-        old new (W.contents (inner_of writer.old)) (W.contents (inner_of writer.new))) }
-    ensures ended { IfErr result (λ fault. EndsUpdateOn fault (update_ask_of request.now)
-        (making_ask_of request.now.session.making) live.entry
-        (S.holds (store_of keeper.old)) (S.holds (store_of keeper.new))
-        old new (W.contents (inner_of writer.old)) (W.contents (inner_of writer.new))
-        (HasFailed writer.new) (CannotKeep (session_ask_of request.now.session) live.entry
-        (S.failed (store_of keeper.new)))) }
+    requires writer { HasFailed outputs.old.writer → ⊥ }
+    ensures done { IfOk result (λ ending. AreDoneFor old new request.now.session.workers
+        (making_ask_of request.now.session.making) (λ As At.
+        RunsUpdate ending (update_ask_of request.now) live.entry
+        (S.holds (store_of outputs.old.keeper)) (S.holds (store_of outputs.new.keeper)) As At
+        old new (W.contents (inner_of outputs.old.writer))
+        (W.contents (inner_of outputs.new.writer)))) }
+    ensures stopped { IfErr result (λ fault.
+        EndsUpdateOn fault (update_ask_of request.now) live.entry
+        (S.holds (store_of outputs.old.keeper)) (S.holds (store_of outputs.new.keeper))
+        old new (W.contents (inner_of outputs.old.writer))
+        (W.contents (inner_of outputs.new.writer))
+        (HasFailed outputs.new.writer) (CannotKeep (session_ask_of request.now.session) live.entry
+        (S.failed (store_of outputs.new.keeper)))) }
 {
     let asked = &request.session;
-    let gates = match gates_of(host, &old, &new, &asked.making, asked.tells) {
+    let gates = match gates_of(host, &old, &new, asked) {
         Ok(gates) => gates,
         Err(fault) => {
             drop((old, new));
             return Err(fault);
         }
     };
-    let ended = update_gated(
-        host, old, new, &gates.0, &gates.1, request, live, keeper, writer,
-    );
-    drop(gates);
-    ended
+    let mut from = match begin(host.alloc, old, asked, live) {
+        Ok(from) => from,
+        Err(fault) => {
+            drop((new, gates));
+            return Err(fault);
+        }
+    };
+    let ended = update_from(host, request, &mut from, new, &gates, outputs);
+    drop((from, gates));
+    match ended {
+        Ok(ending) => Ok(ending),
+        Err(fault) => Err(SessionFault::Failed(fault)),
+    }
 }
 
 // The gates of both steps. Transitions that are listed as failing on the way down are of the old
@@ -91,28 +107,21 @@ fn gates_of<'h, 'a, T, L: Log + Sync>(
     host: &Host<'h, T, L>,
     old: &Db,
     new: &Db,
-    making: &Making<'a>,
-    tells: bool,
-) -> Result<
-    (
-        Telling<'h, L, SessionGate<'h, HostRuntime, L>>,
-        Telling<'h, L, SessionGate<'h, HostRuntime, L>>,
-    ),
-    SessionFault<'a>,
->
+    asked: &SessionRequest<'a>,
+) -> Result<Gates<Telling<'h, L, SessionGate<'h, HostRuntime, L>>>, SessionFault<'a>>
     ensures made { IfOk result (λ gates.
-        IsGateFor old.now (making_on Lower (making_ask_of making.now)) gates.0
-        × IsGateFor new.now (making_on Raise (making_ask_of making.now)) gates.1) }
-    ensures fault { IfErr result (AreGateless old.now new.now (making_ask_of making.now)) }
+        IsGateFor old.now (making_on Lower (making_ask_of asked.now.making)) gates.lowers
+        × IsGateFor new.now (making_on Raise (making_ask_of asked.now.making)) gates.raises) }
+    ensures fault { IfErr result (AreGateless old.now new.now (making_ask_of asked.now.making)) }
 {
-    let gate = match gate_on(host, old, making, tells, Way::Lower) {
+    let lowers = match gate_on(host, old, &asked.making, asked.tells, Way::Lower) {
         Ok(gate) => gate,
         Err(fault) => return Err(fault),
     };
-    match gate_on(host, new, making, tells, Way::Raise) {
-        Ok(other) => Ok((gate, other)),
+    match gate_on(host, new, &asked.making, asked.tells, Way::Raise) {
+        Ok(raises) => Ok(Gates { lowers, raises }),
         Err(fault) => {
-            drop(gate);
+            drop(lowers);
             Err(fault)
         }
     }
@@ -176,77 +185,41 @@ fn push_on<'a>(
     Ok(())
 }
 
-// Carries it over past two gates, from where the session of the old database begins.
-fn update_gated<'a, T: Threads + Wait + Sync, W: Write, G: Gate, H: Gate, S: Store, L>(
-    host: &Host<'_, T, L>,
-    old: Db,
-    new: Db,
-    gate: &G,
-    other: &H,
-    request: &UpdateRequest<'_>,
-    live: LiveFile<'_>,
-    keeper: &mut TextKeeper<S>,
-    writer: &mut Noted<W>,
-) -> Result<Ending, SessionFault<'a>>
-    requires writer { HasFailed writer.old → ⊥ }
-    ensures done { IfOk result (λ ending. RunsUpdate ending (update_ask_of request.now) live.entry
-        (S.holds (store_of keeper.old)) (S.holds (store_of keeper.new))
-        (IsDoneAs request.now.session.workers (G.answers gate.now) (G.gives gate.now))
-        (IsDoneAs request.now.session.workers (H.answers other.now) (H.gives other.now))
-        old new (W.contents (inner_of writer.old)) (W.contents (inner_of writer.new))) }
-    ensures ended { IfErr result (λ fault. EndsGatedUpdate fault (update_ask_of request.now)
-        live.entry (S.holds (store_of keeper.old)) (S.holds (store_of keeper.new))
-        (IsDoneAs request.now.session.workers (G.answers gate.now) (G.gives gate.now))
-        (IsDoneAs request.now.session.workers (H.answers other.now) (H.gives other.now))
-        old new (W.contents (inner_of writer.old)) (W.contents (inner_of writer.new))
-        (HasFailed writer.new) (CannotKeep (session_ask_of request.now.session) live.entry
-        (S.failed (store_of keeper.new)))) }
-{
-    let mut from = match begin(host.alloc, old, &request.session, live) {
-        Ok(from) => from,
-        Err(fault) => {
-            drop(new);
-            return Err(fault);
-        }
-    };
-    let ended = update_from(host, &mut from, new, gate, other, request, keeper, writer);
-    drop(from);
-    match ended {
-        Ok(ending) => Ok(ending),
-        Err(fault) => Err(SessionFault::Failed(fault)),
-    }
-}
-
 // Carries over what is live in a session.
-fn update_from<T: Threads + Wait + Sync, W: Write, G: Gate, H: Gate, S: Store, L>(
+fn update_from<T: Threads + Wait + Sync, W: Write, G: Gate, S: Store, L>(
     host: &Host<'_, T, L>,
+    request: &UpdateRequest<'_>,
     from: &mut Session,
     new: Db,
-    gate: &G,
-    other: &H,
-    request: &UpdateRequest<'_>,
-    keeper: &mut TextKeeper<S>,
-    writer: &mut Noted<W>,
+    gates: &Gates<G>,
+    outputs: &mut Outputs<W, S>,
 ) -> Result<Ending, ServeFault>
     requires closed { from.old.begun ≡ false }
     requires whole { from.old.spoiled ≡ false }
-    requires writer { HasFailed writer.old → ⊥ }
+    requires writer { HasFailed outputs.old.writer → ⊥ }
     ensures done { IfOk result (λ ending.
         EndsUpdate ending (session_ask_of request.now.session).live
-        (S.holds (store_of keeper.old)) (S.holds (store_of keeper.new))
-        (IsDoneAs request.now.session.workers (G.answers gate.now) (G.gives gate.now))
-        (IsDoneAs request.now.session.workers (H.answers other.now) (H.gives other.now))
-        request.now.dry (W.contents (inner_of writer.old)) (W.contents (inner_of writer.new))
+        (S.holds (store_of outputs.old.keeper)) (S.holds (store_of outputs.new.keeper))
+        (IsDoneAs request.now.session.workers (G.answers gates.now.lowers)
+        (G.gives gates.now.lowers))
+        (IsDoneAs request.now.session.workers (G.answers gates.now.raises)
+        (G.gives gates.now.raises))
+        request.now.dry
+        (W.contents (inner_of outputs.old.writer)) (W.contents (inner_of outputs.new.writer))
         from.old new) }
     ensures stopped { IfErr result (λ fault.
         StopsUpdate fault (session_ask_of request.now.session).live
-        (S.holds (store_of keeper.old)) (S.holds (store_of keeper.new))
-        (IsDoneAs request.now.session.workers (G.answers gate.now) (G.gives gate.now))
-        (IsDoneAs request.now.session.workers (H.answers other.now) (H.gives other.now))
-        request.now.dry (W.contents (inner_of writer.old)) (W.contents (inner_of writer.new))
+        (S.holds (store_of outputs.old.keeper)) (S.holds (store_of outputs.new.keeper))
+        (IsDoneAs request.now.session.workers (G.answers gates.now.lowers)
+        (G.gives gates.now.lowers))
+        (IsDoneAs request.now.session.workers (G.answers gates.now.raises)
+        (G.gives gates.now.raises))
+        request.now.dry
+        (W.contents (inner_of outputs.old.writer)) (W.contents (inner_of outputs.new.writer))
         from.old new) }
-    ensures fault { IfErr result (IsServeFault ⊥ (HasFailed writer.new)
-        (((session_ask_of request.now.session).live ≢ None) × S.failed (store_of keeper.new))) }
+    ensures fault { IfErr result (IsServeFault ⊥ (HasFailed outputs.new.writer)
+        (((session_ask_of request.now.session).live ≢ None)
+        × S.failed (store_of outputs.new.keeper))) }
 {
     let bound = from.journal().bound();
     let update = match carry(host.alloc, from.db(), &new, from.live()) {
@@ -258,18 +231,20 @@ fn update_from<T: Threads + Wait + Sync, W: Write, G: Gate, H: Gate, S: Store, L
     };
     let lowering = step_line(host.alloc, request.dry, Mode::DownAll, update.lower);
     let raising = step_line(host.alloc, request.dry, Mode::Up, update.raise);
-    let mut to = match session_of(host.alloc, new, update.kept, bound) {
+    let to = match session_of(host.alloc, new, update.kept, bound) {
         Ok(to) => to,
         Err(_) => {
             drop((lowering, raising));
             return Err(ServeFault::Memory);
         }
     };
-    let asked = &request.session;
-    let ended = serve_both(
-        host, from, &mut to, gate, other, asked, &lowering, &raising, keeper, writer,
-    );
-    drop((to, lowering, raising));
+    let mut ahead = Ahead {
+        to,
+        lowering,
+        raising,
+    };
+    let ended = serve_both(host, &request.session, from, &mut ahead, gates, outputs);
+    drop(ahead);
     ended
 }
 
@@ -306,43 +281,40 @@ fn step_line(alloc: Global, dry: bool, mode: Mode, names: Vec<String>) -> Sessio
 }
 
 // Serves the line of the first step and, where all of it is done, that of the second one.
-fn serve_both<T: Threads + Wait + Sync, W: Write, G: Gate, H: Gate, S: Store, L>(
+fn serve_both<T: Threads + Wait + Sync, W: Write, G: Gate, S: Store, L>(
     host: &Host<'_, T, L>,
-    from: &mut Session,
-    to: &mut Session,
-    gate: &G,
-    other: &H,
     request: &SessionRequest<'_>,
-    lowering: &SessionLine,
-    raising: &SessionLine,
-    keeper: &mut TextKeeper<S>,
-    writer: &mut Noted<W>,
+    from: &mut Session,
+    ahead: &mut Ahead,
+    gates: &Gates<G>,
+    outputs: &mut Outputs<W, S>,
 ) -> Result<Ending, ServeFault>
     requires from { (from.old.begun ≡ false) × (from.old.spoiled ≡ false) }
-    requires to { (to.old.begun ≡ false) × (to.old.spoiled ≡ false) }
-    requires lowering { HasNoEvents (Said (saying_of lowering.now)) }
-    requires raising { HasNoEvents (Said (saying_of raising.now)) }
-    requires writer { HasFailed writer.old → ⊥ }
+    requires to { (ahead.old.to.begun ≡ false) × (ahead.old.to.spoiled ≡ false) }
+    requires lowering { HasNoEvents (Said (saying_of ahead.old.lowering)) }
+    requires raising { HasNoEvents (Said (saying_of ahead.old.raising)) }
+    requires writer { HasFailed outputs.old.writer → ⊥ }
     ensures done { IfOk result (λ ending. EndsBoth ending (session_ask_of request.now).live
-        (S.holds (store_of keeper.old)) (S.holds (store_of keeper.new))
-        (IsDoneAs request.now.workers (G.answers gate.now) (G.gives gate.now))
-        (IsDoneAs request.now.workers (H.answers other.now) (H.gives other.now))
-        (Said (saying_of lowering.now)) (Said (saying_of raising.now))
-        (W.contents (inner_of writer.old)) (W.contents (inner_of writer.new))
-        from.old to.old) }
+        (S.holds (store_of outputs.old.keeper)) (S.holds (store_of outputs.new.keeper))
+        (IsDoneAs request.now.workers (G.answers gates.now.lowers) (G.gives gates.now.lowers))
+        (IsDoneAs request.now.workers (G.answers gates.now.raises) (G.gives gates.now.raises))
+        (Said (saying_of ahead.old.lowering)) (Said (saying_of ahead.old.raising))
+        (W.contents (inner_of outputs.old.writer)) (W.contents (inner_of outputs.new.writer))
+        from.old ahead.old.to) }
     ensures stopped { IfErr result (λ fault. StopsBoth fault (session_ask_of request.now).live
-        (S.holds (store_of keeper.old)) (S.holds (store_of keeper.new))
-        (IsDoneAs request.now.workers (G.answers gate.now) (G.gives gate.now))
-        (IsDoneAs request.now.workers (H.answers other.now) (H.gives other.now))
-        (Said (saying_of lowering.now)) (Said (saying_of raising.now))
-        (W.contents (inner_of writer.old)) (W.contents (inner_of writer.new))
-        from.old to.old) }
-    ensures fault { IfErr result (IsServeFault ⊥ (HasFailed writer.new)
-        (((session_ask_of request.now).live ≢ None) × S.failed (store_of keeper.new))) }
+        (S.holds (store_of outputs.old.keeper)) (S.holds (store_of outputs.new.keeper))
+        (IsDoneAs request.now.workers (G.answers gates.now.lowers) (G.gives gates.now.lowers))
+        (IsDoneAs request.now.workers (G.answers gates.now.raises) (G.gives gates.now.raises))
+        (Said (saying_of ahead.old.lowering)) (Said (saying_of ahead.old.raising))
+        (W.contents (inner_of outputs.old.writer)) (W.contents (inner_of outputs.new.writer))
+        from.old ahead.old.to) }
+    ensures fault { IfErr result (IsServeFault ⊥ (HasFailed outputs.new.writer)
+        (((session_ask_of request.now).live ≢ None) × S.failed (store_of outputs.new.keeper))) }
 {
-    match line_once(host, from, gate, request, lowering, keeper, writer) {
+    match line_once(host, request, from, &gates.lowers, &ahead.lowering, outputs) {
         Ok(Ending::Done) => {
-            match line_once(host, to, other, request, raising, keeper, writer) {
+            let to = &mut ahead.to;
+            match line_once(host, request, to, &gates.raises, &ahead.raising, outputs) {
                 Ok(raised) => Ok(behind(raised)),
                 Err(fault) => Err(fault),
             }

@@ -1,2 +1,5 @@
-pub mod SessionLemmas
 mod Found
+pub mod LaunchLemmas
+mod OnceLemmas
+mod ServingLemmas
+pub mod SessionLemmas

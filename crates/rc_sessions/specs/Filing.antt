@@ -59,18 +59,6 @@ abbrev pub HoldsBy : Option Path → (was is : Option (List ℕ)) → Database �
 HoldsBy None was is d line = is ≡ was
 HoldsBy (Some path) was is d line = IfSome is (λ bytes. bytes ≡ spelling d line)
 
-abbrev pub Holds : Filing → Database → Line → Type 0
-Holds filing d line = HoldsBy filing.path filing.was filing.is d line
-
--- the store was left alone
-abbrev pub IsLeft : Filing → Type 0
-IsLeft filing = filing.is ≡ filing.was
-
--- the store was left alone, or holds the text of the line with which the session begins
-abbrev pub IsLeftOrFirst : Database → Filing → Type 0
-IsLeftOrFirst d filing = IsLeft filing
-    ⊎ ((start : Line) × BeginsWith d filing start × Holds filing d start)
-
 -- a text that stands in the file is refused
 abbrev pub IsFileRefused : Database → LiveFile → LiveFault → Type 0
 IsFileRefused d Missing fault = ⊥

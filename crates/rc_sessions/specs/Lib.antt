@@ -2,7 +2,10 @@ pub mod Deciding
 pub mod Filing
 pub mod Finding
 pub mod Gating
+pub mod Launching
+pub mod Once
 pub mod Recovering
+pub mod Services
 pub mod Serving
 pub mod Session
 pub mod SessionFaults

@@ -1,36 +1,36 @@
--- When `session` refuses or fails, and how it tells that.
-use Rattle.std.specs.Prelude.{◌≡◌, ◌≢◌, ◌⊎◌, ℕ, List, [], Option, codes, ◌<◌, None, Some, IfSome, length}
+-- When a session is refused or fails, and how it tells that.
+use Rattle.std.specs.Prelude.{◌≡◌, ◌≢◌, ◌⊎◌, ℕ, List, Option, codes, ◌<◌, None, IfSome, length}
 use Rattle.rc_graph.specs.declared.Way.{Way}
 use Rattle.rc_livetext.specs.LiveFaults.{IsLiveFault}
 use Rattle.rc_livetext.specs.declared.fault.LiveFault.{LiveFault}
 use Rattle.rc_livetext.specs.declared.fault.LiveFault.TheVariants as live
-use Rattle.clap.specs.Words.{Text}
 use Rattle.rc_model.specs.Database.{Database}
 use Rattle.rc_dbtext.specs.declared.fault.TextFault.{TextFault}
 use Rattle.rc_dbtext.specs.declared.fault.TextFault.TheVariants as text
-use Rattle.rc_sessions.specs.Filing.{CannotKeep, FailsToBegin, Filing, IsFileRefused, IsLeft, IsLeftOrFirst, filing_of}
-use Rattle.rc_sessions.specs.Finding.{AreFound, IsFirstUnknown}
-use Rattle.rc_sessions.specs.declared.keeping.LiveFile.{LiveFile}
-use Rattle.rc_sessions.specs.declared.failing.GateFault.{GateFault}
-use Rattle.rc_sessions.specs.declared.failing.GateFault.TheVariants as gate
-use Rattle.rc_serve.specs.Faults.{IsServeFault}
-use Rattle.rc_serve.specs.declared.fault.ServeFault.{ServeFault}
-use Rattle.rc_serve.specs.declared.fault.ServeFault.TheVariants.{Read, Write, TooLong, Memory, NoThread, Strange, Workers, Io}
 use Rattle.rc_streams.specs.declared.input.Failure.{Failure}
 use Rattle.rc_streams.specs.declared.input.Failure.TheVariants as failures
-use Rattle.rc_streams.specs.Exchange.{Exchange}
 use Rattle.rc_streams.specs.Input.{AppendsFront, fault_line}
 use Rattle.rc_base.specs.Base.{IsTextFault, Spells}
 use Rattle.rc_base.specs.Opening.{Reads}
 use Rattle.rc_base.specs.LiveFaultWord.{live_word}
 use Rattle.rc_base.specs.TextFaultWord.{text_word}
 use Rattle.rc_base.specs.UnknownWord.{unknown_word}
-use Rattle.rc_sessions.specs.Serving.{IsOfFile, RunsFor, RunsGated, ServesUpTo}
-use Rattle.rc_sessions.specs.Session.{Runs}
-use Rattle.rc_serve.specs.Meeting.{Doing}
+use Rattle.rc_serve.specs.Faults.{IsServeFault}
+use Rattle.rc_serve.specs.declared.ending.Ending.{Ending}
+use Rattle.rc_serve.specs.declared.ending.Ending.TheVariants.{Done, Refused, Hindered}
+use Rattle.rc_serve.specs.declared.fault.ServeFault.{ServeFault}
+use Rattle.rc_serve.specs.declared.fault.ServeFault.TheVariants.{Read, Write, TooLong, Memory, NoThread, Strange, Workers, Io}
 use Rattle.rc_asked.specs.Listed.{Listed}
-use Rattle.rc_asked.specs.Programs.{MakingAsk, listed_in}
-use Rattle.rc_asked.specs.SessionAsked.{AsksSession, SessionAsk}
+use Rattle.rc_asked.specs.Programs.{listed_in}
+use Rattle.rc_asked.specs.SessionAsked.{SessionAsk}
+use Rattle.rc_sessions.specs.Filing.{FailsToBegin, IsFileRefused, file_named}
+use Rattle.rc_sessions.specs.Finding.{AreFound, IsFirstUnknown}
+use Rattle.rc_sessions.specs.Services.{StopsFor}
+use Rattle.rc_sessions.specs.Session.{Asked, Dealing, IsUntouched, Runs, RunsOn}
+use Rattle.rc_sessions.specs.declared.failing.GateFault.{GateFault}
+use Rattle.rc_sessions.specs.declared.failing.GateFault.TheVariants as gate
+use Rattle.rc_sessions.specs.declared.keeping.LiveFile.{LiveFile}
+use Rattle.rc_sessions.specs.declared.service.Service.{Service}
 use Rattle.rc_sessions.specs.declared.session_fault.SessionFault.{SessionFault}
 use Rattle.rc_sessions.specs.declared.session_fault.SessionFault.TheVariants.{OfText, Unknown, OfLive, Failed}
 
@@ -47,15 +47,16 @@ AreAllFound d listed = (table : List (ℕ × Way)) × AreFound d.names listed ta
 
 -- when each refusal comes: those of the database text, then the first name that is to fail and is
 -- no service's, and then those of the text that stands in the file
-abbrev pub IsSessionRefused : SessionFault → SessionAsk → Filing → Option (List ℕ) → List ℕ → Type 0
-IsSessionRefused (OfText fault) ask filing base input =
+abbrev pub IsSessionRefused : SessionFault → SessionAsk → LiveFile → Option (List ℕ) → List ℕ
+    → Type 0
+IsSessionRefused (OfText fault) ask file base input =
     (fault ≢ text.Memory) × IsTextFault base input fault
-IsSessionRefused (Unknown word) ask filing base input = (d : Database) × (rest : List ℕ)
+IsSessionRefused (Unknown word) ask file base input = (d : Database) × (rest : List ℕ)
     × Spells base input d rest × IsFirstUnknown d.names (listed_in ask.making) word.now
-IsSessionRefused (OfLive fault) ask filing base input = (d : Database) × (rest : List ℕ)
+IsSessionRefused (OfLive fault) ask file base input = (d : Database) × (rest : List ℕ)
     × Spells base input d rest × AreAllFound d (listed_in ask.making)
-    × IsFileRefused d filing.file fault
-IsSessionRefused (Failed fault) ask filing base input = ⊥
+    × IsFileRefused d (file_named ask.live file) fault
+IsSessionRefused (Failed fault) ask file base input = ⊥
 
 -- a failure to read the whole input, as a fault of serving
 abbrev pub reading_fault : Failure → ServeFault
@@ -89,67 +90,52 @@ IsFileFault file d (OfLive fault) = IsFileRefused d file fault
 IsFileFault file d (Failed fault) = FailsToBegin file fault
 IsFileFault file d other = ⊥
 
--- how a session on a database ends before its input, whose commands are done so: refused for its
--- file, with nothing read and nothing written; or by a fault of serving with a prefix of its input
--- served, or before it is begun with nothing written
-abbrev pub EndsGated : SessionFault → Filing → Doing → Database → Exchange
-    → (reader writer keeper : Type 0) → Type 0
-EndsGated (OfText fault) filing Done d io reader writer keeper = ⊥
-EndsGated (Unknown word) filing Done d io reader writer keeper = ⊥
-EndsGated (OfLive fault) filing Done d io reader writer keeper =
-    IsFileRefused d filing.file fault × (io.left ≡ io.input) × (io.gained ≡ io.written)
-    × IsLeft filing
-EndsGated (Failed fault) filing Done d io reader writer keeper =
-    IsServeFault reader writer keeper fault
-    × ((IsOfFile fault × (io.gained ≡ io.written) × IsLeftOrFirst d filing)
-    ⊎ RunsGated (ServesUpTo fault) filing Done d io)
+-- why there is no database of a text: it is refused, or out of memory
+abbrev pub IsUnspelled : Option (List ℕ) → List ℕ → SessionFault → Type 0
+IsUnspelled base input (OfText fault) = (fault ≢ text.Memory) × IsTextFault base input fault
+IsUnspelled base input (Failed fault) = fault ≡ Memory
+IsUnspelled base input other = ⊥
 
--- the same where transitions are made so: refused also for the first name that is to fail and is no
--- service's, and for its file only after that
-abbrev pub EndsOn : SessionFault → Filing → Database → (workers : ℕ) → MakingAsk → Exchange
-    → (reader writer keeper : Type 0) → Type 0
-EndsOn (OfText fault) filing d workers making io reader writer keeper = ⊥
-EndsOn (Unknown word) filing d workers making io reader writer keeper =
-    IsFirstUnknown d.names (listed_in making) word.now
-    × (io.left ≡ io.input) × (io.gained ≡ io.written) × IsLeft filing
-EndsOn (OfLive fault) filing d workers making io reader writer keeper =
-    (AreAllFound d (listed_in making) × IsFileRefused d filing.file fault)
-    × (io.left ≡ io.input) × (io.gained ≡ io.written) × IsLeft filing
-EndsOn (Failed fault) filing d workers making io reader writer keeper =
-    IsServeFault reader writer keeper fault
-    × ((IsOfFile fault × (io.gained ≡ io.written) × IsLeftOrFirst d filing)
-    ⊎ RunsFor (ServesUpTo fault) filing d workers making io)
+-- why a session on a database is not begun: a name that is to fail is no service's; its file is
+-- refused, only after that; the file could not be read, or out of memory
+abbrev pub IsUnready : SessionAsk → LiveFile → Database → SessionFault → Type 0
+IsUnready ask file d (OfText fault) = ⊥
+IsUnready ask file d (Unknown word) = IsFirstUnknown d.names (listed_in ask.making) word.now
+IsUnready ask file d (OfLive fault) =
+    AreAllFound d (listed_in ask.making) × IsFileRefused d (file_named ask.live file) fault
+IsUnready ask file d (Failed fault) =
+    (fault ≡ Memory) ⊎ FailsToBegin (file_named ask.live file) fault
 
 -- a refusal holds
-abbrev pub IsRefusedBy : SessionFault → Option (List ℕ) → SessionAsk → Filing →
-    (remaining after : Option (List ℕ)) → Type 0
-IsRefusedBy fault base ask filing remaining after = (input : List ℕ)
-    × Reads base remaining after input × IsSessionRefused fault ask filing base input
+abbrev pub IsRefusedBy : SessionFault → Asked → (remaining after : Option (List ℕ)) → Type 0
+IsRefusedBy fault asked remaining after = (input : List ℕ)
+    × Reads asked.base remaining after input
+    × IsSessionRefused fault asked.ask asked.file asked.base input
 
--- the text of a database is the base, or without one stands at the beginning of the input, which
--- was read whole
-abbrev pub StandsIn : Option (List ℕ) → (remaining after : Option (List ℕ)) → Database → Type 0
-StandsIn (Some base) remaining after d = Spells (Some base) [] d []
-StandsIn None remaining after d = (all : List ℕ) × (rest : List ℕ)
-    × Reads None remaining after all × Spells None all d rest
+-- a session was not begun: nothing was written, and its store was left alone
+abbrev pub IsNotBegun : ServeFault → Option (List ℕ) → Dealing → Type 0
+IsNotBegun fault base deal = IsUnserved fault base deal.io.input
+    × (deal.io.gained ≡ deal.io.written) × (deal.is ≡ deal.was)
 
--- a session was not begun: nothing was written, and its store was left alone or holds the text of
--- the line with which a session on the database of the base or the input begins
-abbrev pub IsNotBegun : ServeFault → Option (List ℕ) → Filing → Exchange → Type 0
-IsNotBegun fault base filing io = IsUnserved fault base io.input
-    × (io.gained ≡ io.written)
-    × (IsLeft filing ⊎ ((d : Database) × StandsIn base io.input io.left d × IsLeftOrFirst d filing))
+-- how a session on a database ends that is not served to its end: not begun, with nothing read,
+-- nothing written and its store left alone; or by a fault, served up to it
+abbrev pub EndsOn : SessionFault → Service → Asked → Database → Dealing
+    → (reader writer keeper : Type 0) → Type 0
+EndsOn fault service asked d deal reader writer keeper =
+    (IsUnready asked.ask asked.file d fault × IsUntouched deal)
+    ⊎ ((why : ServeFault) × (fault ≡ Failed why) × IsServeFault reader writer keeper why
+    × RunsOn (StopsFor service why) asked d deal)
 
--- the same of a session whose database is looked for first
-abbrev pub EndsBy : SessionFault → Option (List ℕ) → SessionAsk → LiveFile →
-    (was is : Option (List ℕ)) → Exchange → (reader writer keeper : Type 0) → Type 0
-EndsBy (Failed fault) base ask file was is io reader writer keeper =
+-- how a session ends that is not served to its end: it is refused, with nothing written and its
+-- store left alone; or a fault came, before it was begun or where it was served
+abbrev pub EndsBy : SessionFault → Service → Asked → Dealing → (reader writer keeper : Type 0)
+    → Type 0
+EndsBy (Failed fault) service asked deal reader writer keeper =
     IsServeFault reader writer keeper fault
-    × (IsNotBegun fault base (filing_of ask file was is) io
-    ⊎ Runs (ServesUpTo fault) base ask file was is io)
-EndsBy fault base ask file was is io reader writer keeper =
-    IsRefusedBy fault base ask (filing_of ask file was is) io.input io.left
-    × (io.gained ≡ io.written) × (is ≡ was)
+    × (IsNotBegun fault asked.base deal ⊎ Runs (StopsFor service fault) asked deal)
+EndsBy fault service asked deal reader writer keeper =
+    IsRefusedBy fault asked deal.io.input deal.io.left
+    × (deal.io.gained ≡ deal.io.written) × (deal.is ≡ deal.was)
 
 -- a fault of the database text, as one of the session
 abbrev pub IsTextFailing : TextFault → SessionFault → Type 0
@@ -192,34 +178,25 @@ IsToldAs (Unknown word) told = told ≡ Memory
 IsToldAs (OfLive fault) told = told ≡ Memory
 IsToldAs (Failed fault) told = told ≡ fault
 
--- a refusal of what is asked holds, and a writer gains a prefix of the line that tells it
-abbrev pub TellsSessionRefusal : SessionAsk → Option (List ℕ) → LiveFile →
-    (was is : Option (List ℕ)) →
-    (remaining after old new : Option (List ℕ)) → Type 0
-TellsSessionRefusal ask base file was is remaining after old new = (fault : SessionFault)
-    × IsRefusedBy fault base ask (filing_of ask file was is) remaining after
-    × AppendsFront old new (fault_line (session_fault_text fault))
+-- how a fault is told: a refusal with status 1; a failure with 111, and as out of memory a refusal
+-- that could not be told. A writer gains a prefix of its line, or all of it
+abbrev pub IsTold : SessionFault → (status : ℕ) → (before after : Option (List ℕ)) → Type 0
+IsTold fault status before after =
+    ((status ≡ 1) × IsRefusal fault
+    × AppendsFront before after (fault_line (session_fault_text fault)))
+    ⊎ ((status ≡ 111) × (told : ServeFault) × IsToldAs fault told
+    × AppendsFront before after (fault_line (serve_word told)))
 
--- a fault of serving comes, and a writer gains a prefix of the line that tells it; the session was
--- not begun, or what serving comes to before that fault
-abbrev pub TellsSessionFault : SessionAsk → Option (List ℕ) → LiveFile → (was is : Option (List ℕ))
-    → Exchange → (reader writer failed : Type 0) → (old new : Option (List ℕ)) → Type 0
-TellsSessionFault ask base file was is io reader writer failed old new =
-    (fault : ServeFault) × IsServeFault reader writer (CannotKeep ask file failed) fault
-    × AppendsFront old new (fault_line (serve_word fault))
-    × (IsNotBegun fault base (filing_of ask file was is) io
-    ⊎ Runs (ServesUpTo fault) base ask file was is io)
+-- the status of a line that was answered
+abbrev pub status_of : Ending → ℕ
+status_of Done = 0
+status_of Refused = 1
+status_of Hindered = 2
 
--- a refusal of what the words ask holds, and a writer gains a prefix of the line that tells it
-abbrev pub TellsRefusal : List Text → Option (List ℕ) → LiveFile → (was is : Option (List ℕ)) →
-    (remaining after old new : Option (List ℕ)) → Type 0
-TellsRefusal words base file was is remaining after old new = (ask : SessionAsk)
-    × AsksSession words ask × TellsSessionRefusal ask base file was is remaining after old new
-
--- the words can't be read as out of memory; or a fault of what they ask is told
-abbrev pub TellsServeFault : List Text → Option (List ℕ) → LiveFile → (was is : Option (List ℕ))
-    → Exchange → (reader writer failed : Type 0) → (old new : Option (List ℕ)) → Type 0
-TellsServeFault words base file was is io reader writer failed old new =
-    (AppendsFront old new (fault_line (serve_word Memory)) × (io.gained ≡ io.written) × (is ≡ was))
-    ⊎ ((ask : SessionAsk) × AsksSession words ask
-    × TellsSessionFault ask base file was is io reader writer failed old new)
+-- the status and what is told by it: of how a command ended that was answered, with nothing told;
+-- or of the fault by which it ended
+abbrev pub EndsAs : (Answered : Ending → Type 0) → (Fails : SessionFault → Type 0) → (status : ℕ)
+    → (before after : Option (List ℕ)) → Type 0
+EndsAs Answered Fails status before after =
+    ((ending : Ending) × Answered ending × (status ≡ status_of ending) × (after ≡ before))
+    ⊎ ((fault : SessionFault) × Fails fault × IsTold fault status before after)

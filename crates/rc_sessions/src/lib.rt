@@ -1,5 +1,5 @@
-//! The command `session`: lines in, what each says done, and its answer out; and that it is kept in
-//! a file, from which the next one goes on.
+//! Sessions, of the lines of an input or of one line: what each line says done, and its answer out;
+//! and that they are kept in a file, from which the next one goes on.
 #![tactic(auto)]
 
 mod beginning;
@@ -9,8 +9,11 @@ mod gates;
 mod held_files;
 mod host;
 mod keeping;
+mod launching;
 mod live_store;
+mod one_line;
 mod recovering;
+mod service;
 mod serving;
 mod session;
 mod session_fault;
@@ -21,7 +24,10 @@ pub use crate::gates::gate_for;
 pub use crate::held_files::HeldFiles;
 pub use crate::host::{Host, RunFiles};
 pub use crate::keeping::{KeptText, LiveFile, Store, TextKeeper};
+pub use crate::launching::{launch, spelled, tell_ended};
 pub use crate::live_store::LiveStore;
+pub use crate::one_line::line_once;
 pub use crate::recovering::{Unrecovered, left_report, recover_by};
-pub use crate::session::{reading_fault, session_as_asked, session_run};
-pub use crate::session_fault::{SessionFault, tell_session_fault};
+pub use crate::service::{Devices, Outputs, Service};
+pub use crate::session::session_run;
+pub use crate::session_fault::SessionFault;

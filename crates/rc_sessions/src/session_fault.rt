@@ -1,9 +1,8 @@
 //! Why a session of the program ends, and how that is told.
-ghost use Rattle.std.specs.Prelude.{◌≡◌, ◌⊎◌, IfOk};
+ghost use Rattle.std.specs.Prelude.{◌≡◌, IfOk};
 ghost use Rattle.rc_streams.specs.Input.{AppendsFront, fault_line};
-ghost use Rattle.rc_sessions.specs.SessionFaults.{IsGateFailing, IsLiveFailing, IsRefusal, IsTextFailing, IsToldAs, serve_word, session_fault_text};
+ghost use Rattle.rc_sessions.specs.SessionFaults.{IsGateFailing, IsLiveFailing, IsRefusal, IsTextFailing, IsTold, serve_word, session_fault_text};
 ghost use Rattle.rc_sessions.specs.declared.session_fault.SessionFault.TheVariants.{Failed};
-ghost use Rattle.rc_serve.specs.declared.fault.ServeFault.{ServeFault as Failing};
 ghost use Rattle.rc_serve.specs.declared.fault.ServeFault.TheVariants.{Memory};
 
 use crate::failing::GateFault;
@@ -84,15 +83,13 @@ impl From<ServeFault> for SessionFault<'_> {
     }
 }
 
-/// Tells why a session ended, and answers the status.
-pub fn tell_session_fault<F: Write>(alloc: Global, faults: &mut F, fault: SessionFault<'_>) -> u8
-    ensures statuses { (result ≡ 1) ⊎ (result ≡ 111) }
-    ensures refused { result ≡ 1 → IsRefusal fault.entry
-        × AppendsFront (F.contents faults.old) (F.contents faults.new)
-        (fault_line (session_fault_text fault.entry)) }
-    ensures failed { result ≡ 111 → (told : Failing) × IsToldAs fault.entry told
-        × AppendsFront (F.contents faults.old) (F.contents faults.new)
-        (fault_line (serve_word told)) }
+/// Tells why a session ended, and returns the status.
+pub(crate) fn tell_session_fault<F: Write>(
+    alloc: Global,
+    faults: &mut F,
+    fault: SessionFault<'_>,
+) -> u8
+    ensures { IsTold fault.entry result (F.contents faults.old) (F.contents faults.new) }
 {
     match fault {
         SessionFault::Failed(failing) => fail_serving(faults, failing),
@@ -102,13 +99,10 @@ pub fn tell_session_fault<F: Write>(alloc: Global, faults: &mut F, fault: Sessio
     }
 }
 
-// Tells a refusal, or that there was no memory to tell it, and answers the status.
+// Tells a refusal, or that there was no memory to tell it, and returns the status.
 fn tell_refusal<F: Write>(alloc: Global, faults: &mut F, fault: SessionFault<'_>) -> u8
-    ensures statuses { (result ≡ 1) ⊎ (result ≡ 111) }
-    ensures refused { result ≡ 1 → AppendsFront (F.contents faults.old) (F.contents faults.new)
-        (fault_line (session_fault_text fault.entry)) }
-    ensures failed { result ≡ 111 → AppendsFront (F.contents faults.old) (F.contents faults.new)
-        (fault_line (serve_word Memory)) }
+    requires { IsRefusal fault }
+    ensures { IsTold fault.entry result (F.contents faults.old) (F.contents faults.new) }
 {
     match text_of(alloc, fault) {
         Ok(text) => {

@@ -19,6 +19,7 @@ use crate::usual::{Usual, usual_at};
 use log::error;
 use rc_asked::{Task, WordsFault, task_of, tell_words};
 use rc_console::{compile, db, plan, replay, tell_failure};
+use rc_sessions::Service;
 use rc_streams::messages::{MESSAGE, Messages};
 use std::alloc::Global;
 use std::env;
@@ -60,9 +61,15 @@ fn run<T: Threads + Wait + Sync>(
         Ok(Task::Db(request, file)) => db(rt, &request, file),
         Ok(Task::Plan(request, file)) => plan(rt, &request, file),
         Ok(Task::Replay(file)) => replay(rt, file),
-        Ok(Task::Session(request, file)) => serve(rt, threads, &request, None, file),
+        Ok(Task::Session(request, file)) => serve(rt, threads, &request, Service::Lines, file),
         Ok(Task::Once(request, file)) => {
-            serve(rt, threads, &request.session, Some(&request), file)
+            serve(
+                rt,
+                threads,
+                &request.session,
+                Service::Line(&request.once),
+                file,
+            )
         }
         Ok(Task::Update(request, file)) => update(rt, threads, &request, file),
         Ok(Task::Stop(file)) => stop(rt, file),

@@ -1,16 +1,15 @@
 //! Sessions, and sessions of one line, which go on with a file and are kept there.
-ghost use Rattle.std.specs.Prelude.{IfSome};
-ghost use Rattle.rc_asked.specs.OnceAsked.{HasNoEvents, once_ask_of};
+ghost use Rattle.rc_sessions.specs.Services.{IsEventless};
 
 use crate::live_files::{self, Bases, LiveFiles, close, tell_left};
 use log::Log;
-use rc_asked::{OnceRequest, SessionRequest};
-use rc_cli::once_as_asked;
+use rc_asked::{Once, SessionRequest};
 use rc_console::{
     Answers, Seen, Told, ToldErrors, Typed, base_at, behind_session, live_at, tell_file,
 };
 use rc_sessions::{
-    Host, LiveStore, RunFiles, TextKeeper, live_file, log_for, moves, session_as_asked,
+    Devices, Host, LiveStore, Outputs, RunFiles, Service, TextKeeper, launch, live_file, log_for,
+    moves,
 };
 use rc_streams::Noted;
 use std::io;
@@ -34,15 +33,15 @@ impl<'a> Base<'a> {
     }
 }
 
-/// Runs a session, of the one line where that is given, and answers the status.
+/// Runs a session, of lines or of one line, and returns the status.
 pub fn serve<T: Threads + Wait + Sync>(
     rt: &HostRuntime,
     threads: &T,
     request: &SessionRequest<'_>,
-    once: Option<&OnceRequest<'_>>,
+    service: Service<'_>,
     file: Option<&str>,
 ) -> u8
-    requires once { IfSome once (λ one. HasNoEvents (once_ask_of one.now).what) }
+    requires { IsEventless service }
 {
     match base_at(rt, file) {
         Ok(base) => {
@@ -50,7 +49,7 @@ pub fn serve<T: Threads + Wait + Sync>(
                 file,
                 bytes: base.as_deref(),
             };
-            let status = serve_by(rt, threads, request, once, read);
+            let status = serve_by(rt, threads, request, service, read);
             drop(base);
             status
         }
@@ -63,24 +62,28 @@ fn serve_by<T: Threads + Wait + Sync>(
     rt: &HostRuntime,
     threads: &T,
     request: &SessionRequest<'_>,
-    once: Option<&OnceRequest<'_>>,
+    service: Service<'_>,
     base: Base<'_>,
 ) -> u8
-    requires once { IfSome once (λ one. HasNoEvents (once_ask_of one.now).what) }
+    requires { IsEventless service }
 {
-    let line = match once {
-        Some(one) => Some(&one.once),
-        None => None,
-    };
-    match live_files::open(rt, request, moves(line), base.known()) {
+    match live_files::open(rt, request, moves(once_of(service)), base.known()) {
         Ok(LiveFiles { store, run_files }) => {
             let log = log_for(rt, request);
             let host = host_of(rt, threads, &log, run_files.as_ref());
-            let status = serve_on(&host, request, once, base, store);
+            let status = serve_on(&host, request, service, base, store);
             drop(run_files);
             status
         }
         Err(status) => status,
+    }
+}
+
+/// The one line that is served, if it is one.
+fn once_of<'a>(service: Service<'a>) -> Option<&'a Once> {
+    match service {
+        Service::Lines => None,
+        Service::Line(once) => Some(once),
     }
 }
 
@@ -104,51 +107,37 @@ pub fn host_of<'h, T, L>(
 fn serve_on<T: Threads + Wait + Sync, L: Log + Sync>(
     host: &Host<'_, T, L>,
     request: &SessionRequest<'_>,
-    once: Option<&OnceRequest<'_>>,
+    service: Service<'_>,
     base: Base<'_>,
     store: LiveStore<'_>,
 ) -> u8
-    requires once { IfSome once (λ one. HasNoEvents (once_ask_of one.now).what) }
+    requires { IsEventless service }
 {
     let rt = host.runtime;
     let text = live_at(rt, request.live);
-    let mut typed = Typed::new(rt, reads(base.file, once));
+    let mut typed = Typed::new(rt, reads(base.file, service));
     let mut answers = Answers::new(rt, base.bytes);
-    let mut told = Told::new(rt.alloc(), rt.stderr());
-    let mut keeper = TextKeeper::new(store.with_text(found_in(&text)));
-    let mut reader = Noted::new(&mut typed);
-    let mut writer = Noted::new(&mut answers);
-    let live = live_file(&text);
-    let status = match once {
-        None => session_as_asked(
-            host,
-            request,
-            base.bytes,
-            live,
-            &mut keeper,
-            &mut reader,
-            &mut writer,
-            &mut told,
-        ),
-        Some(one) => once_as_asked(
-            host,
-            one,
-            base.bytes,
-            live,
-            &mut keeper,
-            &mut reader,
-            &mut writer,
-            &mut told,
-        ),
+    let mut devices = Devices {
+        reader: Noted::new(&mut typed),
+        outputs: Outputs {
+            writer: Noted::new(&mut answers),
+            keeper: TextKeeper::new(store.with_text(found_in(&text))),
+        },
+        faults: Told::new(rt.alloc(), rt.stderr()),
     };
+    let live = live_file(&text);
+    let status = launch(host, request, service, base.bytes, live, &mut devices);
     close(rt, request.live, host.run_files);
-    drop(keeper);
+    let Devices {
+        reader: _,
+        outputs,
+        faults: told,
+    } = devices;
+    drop(outputs);
     let seen = Seen::new(base.file, base.bytes, typed.kept());
     tell_behind(rt, request.live, &text, &seen, &answers, &told);
     tell_left(rt, request.live, base.known(), host.run_files);
-    drop((told, text));
-    drop(answers);
-    drop(typed);
+    drop((told, text, answers, typed));
     status
 }
 
@@ -161,13 +150,13 @@ pub fn found_in(text: &io::Result<Option<Vec<u8>>>) -> Option<&[u8]> {
 }
 
 /// What is read whole, as a person at a terminal is told.
-fn reads(file: Option<&str>, once: Option<&OnceRequest<'_>>) -> Option<&'static str> {
+fn reads(file: Option<&str>, service: Service<'_>) -> Option<&'static str> {
     if file.is_some() {
         return None;
     }
-    match once {
-        Some(_) => Some("the database"),
-        None => Some("the database and the session's lines"),
+    match service {
+        Service::Line(_) => Some("the database"),
+        Service::Lines => Some("the database and the session's lines"),
     }
 }
 

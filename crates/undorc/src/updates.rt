@@ -7,7 +7,7 @@ use rc_asked::{UpdateRequest, WordsFault, tell_words};
 use rc_cli::update_as_asked;
 use rc_console::{Seen, Told, behind_session, live_at, tell_file};
 use rc_names::NoMem;
-use rc_sessions::{Host, LiveStore, TextKeeper, live_file, log_for};
+use rc_sessions::{Devices, Host, LiveStore, Outputs, TextKeeper, live_file, log_for};
 use rc_streams::{Noted, whole_file};
 use std::sync::Wait;
 use std::thread::Threads;
@@ -83,20 +83,22 @@ fn updated<T: Threads + Wait + Sync, L: Log + Sync>(
     let rt = host.runtime;
     let live = request.session.live;
     let text = live_at(rt, live);
-    let mut told = Told::new(rt.alloc(), rt.stderr());
-    let mut keeper = TextKeeper::new(store.with_text(found_in(&text)));
-    let status = update_as_asked(
-        host,
-        request,
-        old,
-        new,
-        live_file(&text),
-        &mut keeper,
-        &mut Noted::new(rt.stdout()),
-        &mut told,
-    );
+    let mut devices = Devices {
+        reader: Noted::new(()),
+        outputs: Outputs {
+            writer: Noted::new(rt.stdout()),
+            keeper: TextKeeper::new(store.with_text(found_in(&text))),
+        },
+        faults: Told::new(rt.alloc(), rt.stderr()),
+    };
+    let status = update_as_asked(host, request, old, new, live_file(&text), &mut devices);
     close(rt, live, host.run_files);
-    drop(keeper);
+    let Devices {
+        reader: _,
+        outputs,
+        faults: told,
+    } = devices;
+    drop(outputs);
     if let Ok(seen) = seen_of(rt, file, old, request.new, new) {
         behind_session(rt, live, &text, &seen, &told);
     }

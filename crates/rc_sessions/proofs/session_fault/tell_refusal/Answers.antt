@@ -1,9 +1,21 @@
-use Rattle.std.proofs.Common.{arith, inr}
+use Rattle.std.proofs.Common.{inr, refl}
+use Rattle.rc_serve.specs.declared.fault.ServeFault.TheVariants.{Memory}
+use Rattle.rc_sessions.specs.SessionFaults.{IsRefusal, IsToldAs}
+use Rattle.rc_sessions.specs.declared.session_fault.SessionFault.{SessionFault}
+use Rattle.rc_sessions.specs.declared.session_fault.SessionFault.TheVariants.{OfText, Unknown, OfLive, Failed}
 use Rattle.rc_sessions.proofs.session_fault.tell_refusal.Goals as goal
 
+-- a refusal that can't be told is told as out of memory
+told_memory : (fault : SessionFault) → IsRefusal fault → IsToldAs fault Memory
+told_memory (OfText fault) is = refl
+told_memory (Unknown word) is = refl
+told_memory (OfLive fault) is = refl
+told_memory (Failed fault) is = absurd is
+
 pub returns-in-Err : goal.returns-in-Err
-returns-in-Err g c = record {
-  statuses = inr c.fail_serving.ensures.status;
-  refused = λ one. let status = c.fail_serving.ensures.status in let no : ⊥ = omega arith in absurd no;
-  failed = λ _. c.fail_serving.ensures.told;
-}
+returns-in-Err g c = inr (
+  c.fail_serving.ensures.status,
+  Memory,
+  told_memory c.args.fault c.requires,
+  c.fail_serving.ensures.told,
+)

@@ -1,14 +1,20 @@
-use Rattle.std.proofs.Common.{refl, subst, sym}
-use Rattle.rc_serve.specs.declared.fault.ServeFault.TheVariants.{Memory}
-use Rattle.rc_sessions.specs.SessionFaults.{IsToldAs}
+use Rattle.std.proofs.Common.{inr, refl, subst, sym}
+use Rattle.rc_sessions.specs.SessionFaults.{IsRefusal, IsTold}
 use Rattle.rc_sessions.specs.declared.session_fault.SessionFault.{SessionFault}
 use Rattle.rc_sessions.proofs.session_fault.tell_session_fault.Goals as goal
 
-pub returns-in-OfText-clause-failed : goal.returns-in-OfText-clause-failed
-returns-in-OfText-clause-failed g c told = (Memory, subst (λ (f : SessionFault). IsToldAs f Memory) (sym c.in-OfText.is) refl, c.tell_refusal.ensures.failed told)
+pub returns-in-Failed : goal.returns-in-Failed
+returns-in-Failed g c =
+    subst (λ (f : SessionFault). IsTold f c.fail_serving.result
+    (g.F.Write.contents c.args.faults.now) (g.F.Write.contents c.fail_serving.new.faults))
+    (sym c.in-Failed.is)
+    (inr (c.fail_serving.ensures.status, c.in-Failed.failing, refl, c.fail_serving.ensures.told))
 
-pub returns-in-Unknown-clause-failed : goal.returns-in-Unknown-clause-failed
-returns-in-Unknown-clause-failed g c told = (Memory, subst (λ (f : SessionFault). IsToldAs f Memory) (sym c.in-Unknown.is) refl, c.tell_refusal-in-Unknown.ensures.failed told)
+pub tell_refusal-requires : goal.tell_refusal-requires
+tell_refusal-requires g c = subst IsRefusal (sym c.in-OfText.is) tt
 
-pub returns-in-OfLive-clause-failed : goal.returns-in-OfLive-clause-failed
-returns-in-OfLive-clause-failed g c told = (Memory, subst (λ (f : SessionFault). IsToldAs f Memory) (sym c.in-OfLive.is) refl, c.tell_refusal-in-OfLive.ensures.failed told)
+pub tell_refusal-requires-in-Unknown : goal.tell_refusal-requires-in-Unknown
+tell_refusal-requires-in-Unknown g c = subst IsRefusal (sym c.in-Unknown.is) tt
+
+pub tell_refusal-requires-in-OfLive : goal.tell_refusal-requires-in-OfLive
+tell_refusal-requires-in-OfLive g c = subst IsRefusal (sym c.in-OfLive.is) tt
