@@ -25,8 +25,6 @@ use std::alloc::Global;
 use std::env;
 use std::io::{self, ErrorKind};
 use std::process::ExitCode;
-use std::sync::Wait;
-use std::thread::Threads;
 
 /// A wrong command line.
 const WRONG_LINE: u8 = 100;
@@ -35,7 +33,21 @@ const VERSION: &str = "undorc 0.1.0";
 
 fn main(rt: HostRuntime) -> ExitCode {
     let status = match (words(&rt), usual_at(&rt)) {
-        (Ok(words), Ok(usual)) => run(&rt, &rt, &words, &usual),
+        (Ok(words), Ok(usual)) => match task_by(rt.alloc(), &words, &usual) {
+            Ok(Task::Compile(request)) => compile(&rt, &request),
+            Ok(Task::Db(request, file)) => db(&rt, &request, file),
+            Ok(Task::Plan(request, file)) => plan(&rt, &request, file),
+            Ok(Task::Replay(file)) => replay(&rt, file),
+            Ok(Task::Session(request, file)) => serve(&rt, &rt, &request, Service::Lines, file),
+            Ok(Task::Once(request, file)) => {
+                let service = Service::Line(&request.once);
+                serve(&rt, &rt, &request.session, service, file)
+            }
+            Ok(Task::Update(request, file)) => update(&rt, &rt, &request, file),
+            Ok(Task::Stop(file)) => stop(&rt, file),
+            Ok(Task::Version) => version(&rt),
+            Err(fault) => tell_words(&mut rt.stderr(), &fault),
+        },
         (Err(error), _) => tell(&rt, "a word of the command line", &error),
         (_, Err(error)) => tell(&rt, "UNDORC_DB or UNDORC_LIVE", &error),
     };
@@ -46,36 +58,6 @@ fn main(rt: HostRuntime) -> ExitCode {
 fn words(rt: &HostRuntime) -> io::Result<Vec<String>> {
     let words = env::args(&(OwnName::new(rt), rt.alloc()))?;
     Ok(words.collect(rt.alloc())?)
-}
-
-/// Does what the words ask, with the files of the environment where they name none, and answers the
-/// status. `threads` is the runtime, too: what starts threads or waits takes it by this bound.
-fn run<T: Threads + Wait + Sync>(
-    rt: &HostRuntime,
-    threads: &T,
-    words: &[String],
-    usual: &Usual,
-) -> u8 {
-    match task_by(rt.alloc(), words, usual) {
-        Ok(Task::Compile(request)) => compile(rt, &request),
-        Ok(Task::Db(request, file)) => db(rt, &request, file),
-        Ok(Task::Plan(request, file)) => plan(rt, &request, file),
-        Ok(Task::Replay(file)) => replay(rt, file),
-        Ok(Task::Session(request, file)) => serve(rt, threads, &request, Service::Lines, file),
-        Ok(Task::Once(request, file)) => {
-            serve(
-                rt,
-                threads,
-                &request.session,
-                Service::Line(&request.once),
-                file,
-            )
-        }
-        Ok(Task::Update(request, file)) => update(rt, threads, &request, file),
-        Ok(Task::Stop(file)) => stop(rt, file),
-        Ok(Task::Version) => version(rt),
-        Err(fault) => tell_words(&mut rt.stderr(), &fault),
-    }
 }
 
 /// What the words ask, with these files where they name none.

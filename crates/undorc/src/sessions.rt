@@ -1,39 +1,22 @@
 //! Sessions, and sessions of one line, which go on with a file and are kept there.
+ghost use Rattle.rc_streams.specs.Noting.{HasFailed};
 ghost use Rattle.rc_sessions.specs.Services.{IsEventless};
 
 use crate::live_files::{self, Bases, LiveFiles, close, tell_left};
-use log::Log;
 use rc_asked::{Once, SessionRequest};
 use rc_console::{
     Answers, Seen, Told, ToldErrors, Typed, base_at, behind_session, live_at, tell_file,
 };
 use rc_sessions::{
-    Devices, Host, LiveStore, Outputs, RunFiles, Service, TextKeeper, launch, live_file, log_for,
-    moves,
+    Devices, Host, Outputs, RunFiles, Service, Store, TextKeeper, launch, live_file, log_for, moves,
 };
 use rc_streams::Noted;
 use std::io;
 use std::sync::Wait;
 use std::thread::Threads;
 
-/// The file of `-b`, where one is named, and what was read of it.
-#[derive(Clone, Copy)]
-struct Base<'a> {
-    file: Option<&'a str>,
-    bytes: Option<&'a [u8]>,
-}
-
-impl<'a> Base<'a> {
-    /// The database, for what a command that was cut short has moved.
-    fn known(&self) -> Bases<'a> {
-        Bases {
-            first: self.bytes,
-            other: None,
-        }
-    }
-}
-
-/// Runs a session, of lines or of one line, and returns the status.
+/// Runs a session, of lines or of one line, and returns the status. The file of `-l` is locked
+/// before it is read.
 pub fn serve<T: Threads + Wait + Sync>(
     rt: &HostRuntime,
     threads: &T,
@@ -43,39 +26,58 @@ pub fn serve<T: Threads + Wait + Sync>(
 ) -> u8
     requires { IsEventless service }
 {
-    match base_at(rt, file) {
-        Ok(base) => {
-            let read = Base {
-                file,
-                bytes: base.as_deref(),
-            };
-            let status = serve_by(rt, threads, request, service, read);
-            drop(base);
-            status
-        }
-        Err(error) => tell_file(rt, file.unwrap_or(""), &error),
-    }
+    let base = match base_at(rt, file) {
+        Ok(base) => base,
+        Err(error) => return tell_file(rt, file.unwrap_or(""), &error),
+    };
+    let bases = Bases {
+        first: base.as_deref(),
+        other: None,
+    };
+    let files = live_files::open(rt, request, moves(once_of(service)), bases);
+    let LiveFiles { store, run_files } = match files {
+        Ok(files) => files,
+        Err(status) => return status,
+    };
+    let log = log_for(rt, request);
+    let host = host_of(rt, threads, &log, run_files.as_ref());
+    let text = live_at(rt, request.live);
+    let mut typed = Typed::new(rt, reads(file, service));
+    let mut answers = Answers::new(rt, bases.first);
+    let store = store.with_text(found_in(&text));
+    let mut devices = devices_of(rt, &mut typed, &mut answers, store);
+    let live = live_file(&text);
+    let status = launch(&host, request, service, bases.first, live, &mut devices);
+    close(rt, request.live, run_files.as_ref());
+    let Devices {
+        reader: _,
+        outputs,
+        faults: told,
+    } = devices;
+    drop(outputs);
+    let seen = Seen::new(file, bases.first, typed.kept());
+    tell_behind(rt, request.live, &text, &seen, &answers, &told);
+    tell_left(rt, request.live, bases, run_files.as_ref());
+    status
 }
 
-/// The same with what was read of the file of `-b`. The file of `-l` is locked before it is read.
-fn serve_by<T: Threads + Wait + Sync>(
+/// Devices that have not failed yet, with standard error for faults.
+pub fn devices_of<R, W, S: Store>(
     rt: &HostRuntime,
-    threads: &T,
-    request: &SessionRequest<'_>,
-    service: Service<'_>,
-    base: Base<'_>,
-) -> u8
-    requires { IsEventless service }
+    reader: R,
+    writer: W,
+    store: S,
+) -> Devices<R, W, ToldErrors, S>
+    ensures reader { HasFailed result.reader → ⊥ }
+    ensures writer { HasFailed result.outputs.writer → ⊥ }
 {
-    match live_files::open(rt, request, moves(once_of(service)), base.known()) {
-        Ok(LiveFiles { store, run_files }) => {
-            let log = log_for(rt, request);
-            let host = host_of(rt, threads, &log, run_files.as_ref());
-            let status = serve_on(&host, request, service, base, store);
-            drop(run_files);
-            status
-        }
-        Err(status) => status,
+    Devices {
+        reader: Noted::new(reader),
+        outputs: Outputs {
+            writer: Noted::new(writer),
+            keeper: TextKeeper::new(store),
+        },
+        faults: Told::new(rt.alloc(), rt.stderr()),
     }
 }
 
@@ -101,44 +103,6 @@ pub fn host_of<'h, T, L>(
         run_files,
         alloc: rt.alloc(),
     }
-}
-
-/// The same with the file of `-l`.
-fn serve_on<T: Threads + Wait + Sync, L: Log + Sync>(
-    host: &Host<'_, T, L>,
-    request: &SessionRequest<'_>,
-    service: Service<'_>,
-    base: Base<'_>,
-    store: LiveStore<'_>,
-) -> u8
-    requires { IsEventless service }
-{
-    let rt = host.runtime;
-    let text = live_at(rt, request.live);
-    let mut typed = Typed::new(rt, reads(base.file, service));
-    let mut answers = Answers::new(rt, base.bytes);
-    let mut devices = Devices {
-        reader: Noted::new(&mut typed),
-        outputs: Outputs {
-            writer: Noted::new(&mut answers),
-            keeper: TextKeeper::new(store.with_text(found_in(&text))),
-        },
-        faults: Told::new(rt.alloc(), rt.stderr()),
-    };
-    let live = live_file(&text);
-    let status = launch(host, request, service, base.bytes, live, &mut devices);
-    close(rt, request.live, host.run_files);
-    let Devices {
-        reader: _,
-        outputs,
-        faults: told,
-    } = devices;
-    drop(outputs);
-    let seen = Seen::new(base.file, base.bytes, typed.kept());
-    tell_behind(rt, request.live, &text, &seen, &answers, &told);
-    tell_left(rt, request.live, base.known(), host.run_files);
-    drop((told, text, answers, typed));
-    status
 }
 
 /// The text that was found in the file of `-l`.

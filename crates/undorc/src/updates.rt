@@ -1,14 +1,14 @@
 //! `update`: what is live is carried over to another database, and kept in the file of `-l`.
 
 use crate::live_files::{self, Bases, LiveFiles, close, tell_left};
-use crate::sessions::{found_in, host_of};
+use crate::sessions::{devices_of, found_in, host_of};
 use log::Log;
 use rc_asked::{UpdateRequest, WordsFault, tell_words};
 use rc_cli::update_as_asked;
-use rc_console::{Seen, Told, behind_session, live_at, tell_file};
+use rc_console::{Seen, behind_session, live_at, tell_file};
 use rc_names::NoMem;
-use rc_sessions::{Devices, Host, LiveStore, Outputs, TextKeeper, live_file, log_for};
-use rc_streams::{Noted, whole_file};
+use rc_sessions::{Devices, Host, LiveStore, live_file, log_for};
+use rc_streams::whole_file;
 use std::sync::Wait;
 use std::thread::Threads;
 
@@ -83,14 +83,8 @@ fn updated<T: Threads + Wait + Sync, L: Log + Sync>(
     let rt = host.runtime;
     let live = request.session.live;
     let text = live_at(rt, live);
-    let mut devices = Devices {
-        reader: Noted::new(()),
-        outputs: Outputs {
-            writer: Noted::new(rt.stdout()),
-            keeper: TextKeeper::new(store.with_text(found_in(&text))),
-        },
-        faults: Told::new(rt.alloc(), rt.stderr()),
-    };
+    let store = store.with_text(found_in(&text));
+    let mut devices = devices_of(rt, (), rt.stdout(), store);
     let status = update_as_asked(host, request, old, new, live_file(&text), &mut devices);
     close(rt, live, host.run_files);
     let Devices {
