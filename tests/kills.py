@@ -31,36 +31,38 @@ class Machine:
     def __init__(self, program, folder, draw):
         self.program, self.folder, self.draw = program, folder, draw
         self.names = [f"s{number:02}" for number in range(SERVICES)]
-        self.needs = {}
         self.bases = [self.path("one"), self.path("two")]
+        self.needs = {base: {} for base in self.bases}
         self.live_file = self.path("live")
-        for name in self.names:
-            earlier = [other for other in self.names if other < name]
-            self.needs[name] = draw.sample(earlier, min(len(earlier), draw.choice([0, 1, 1, 2, 3])))
+        for number, name in enumerate(self.names):
+            earlier = self.names[:number]
+            needs = draw.sample(earlier, min(number, draw.choice([0, 1, 1, 2, 3])))
+            others = needs[1:] or earlier[:1]
+            for base, needs in zip(self.bases, (needs, others if number % 5 == 0 else needs)):
+                self.needs[base][name] = needs
         self.base = self.bases[0]
         failing = set(draw.sample(self.names, 2))
-        for base, mark in zip(self.bases, "12"):
-            self.compile(base, mark, failing)
+        for base in self.bases:
+            self.compile(base, failing)
 
     def path(self, name):
         return os.path.join(self.folder, name)
 
-    def compile(self, base, mark, failing):
-        """A database; in the second one some scripts differ, so that an update moves them."""
-        tree = self.path(f"tree{mark}")
+    def compile(self, base, failing):
+        """A database; in the second one some services need others, so that an update moves them."""
+        tree = f"{base}.tree"
         for number, name in enumerate(self.names):
             entry = os.path.join(tree, name)
             os.makedirs(entry)
             with open(os.path.join(entry, "type"), "w") as file:
                 file.write("oneshot\n")
             with open(os.path.join(entry, "dependencies"), "w") as file:
-                file.write("".join(need + "\n" for need in self.needs[name]))
+                file.write("".join(need + "\n" for need in self.needs[base][name]))
             pause = (number * 7) % 9 + 1
-            other = f" # {mark}" if number % 5 == 0 else ""
             for way in ("up", "down"):
                 fails = "exit 1; " if name in failing and way == "up" else ""
                 with open(os.path.join(entry, way), "w") as file:
-                    file.write(f"sleep 0.0{pause}; {fails}echo {way} {name} >> {self.path('done')}{other}\n")
+                    file.write(f"sleep 0.0{pause}; {fails}echo {way} {name} >> {self.path('done')}\n")
         self.run("compile", "-o", base, tree)
 
     def environment(self):
@@ -172,7 +174,7 @@ def judge(machine, words, under_way):
     """What the file has now, beside what the scripts did."""
     up = machine.live()
     for name in up:
-        for need in machine.needs[name]:
+        for need in machine.needs[machine.base][name]:
             if need not in up:
                 raise Wrong(f"{name} is up without {need}")
     lost = (machine.done() ^ up) - under_way

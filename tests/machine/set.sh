@@ -128,7 +128,7 @@ step 'an update: a changed run, one that is gone, and one that is new' 'lowered 
 ok
 raised ntpd
 ok
-status 0' 'sed -i "2i # renewed" services/ntpd/run; echo 9000 > services/ntpd/timeout-up
+status 0' 'sed -i "2i # renewed" services/ntpd/run; echo swap >> services/ntpd/dependencies
     rm -r services/crond; sed -i /crond/d services/default/contents
     mkdir services/cups; cp services/acpid/type services/acpid/run services/cups/
     undorc compile -o new services; machine/manage update -B new'

@@ -18,7 +18,7 @@ status 0' 'undorc compile -o db services; machine/boot'
 step 'drift finds nothing' 'status 0' machine/drift
 script 'cd services
     sed -i s/v1/v2/ a/run b/run
-    echo 9000 > a/timeout-up
+    : > a/dependencies
     rm -r gone
     sed -i /gone/d default/contents
     mkdir new
@@ -93,7 +93,7 @@ is 'it finishes the first one' a,b,needy,new, \
     "$(script 'undorc db -b db list longruns | tr "\n" ,')"
 
 # An update that is sent TERM: undorc ends with it, and the same command goes on.
-script 'echo 3 > services/needy/notification-fd; echo 20001 > services/needy/timeout-up
+script 'echo 3 > services/needy/notification-fd; echo net > services/needy/dependencies
     undorc compile -o new services'
 is 'an update that is sent TERM ends, and undorc with it' ended "$(script '
     machine/manage update -B new > /run/x 2>&1 &
@@ -116,7 +116,7 @@ step 'boot with a daemon that ignores TERM' 'raised a deaf net
 ok
 status 0' 'undorc compile -o db services; machine/boot'
 step 'an update that can not lower it renames nothing' '1 there
-status 2' 'echo 5000 > services/deaf/timeout-up; echo 6000 > services/net/timeout-up
+status 2' ': > services/deaf/dependencies
     undorc compile -o new services
     machine/manage update -B new > /run/x; ended=$?
     echo $(grep -cx ok /run/x) $(test -e new && echo there); (exit $ended)'

@@ -211,7 +211,7 @@ each 20 "$ample$memory" 'answers kept scripts' session -b base -v -w 1
 # An update that lowers a service and raises it again. On file is one of the texts in turn: that before, by
 # the old database without the service, by the new one without it, and with it.
 rm text.* whole.*
-sed 's/^service b oneshot plain 0 0/service b oneshot plain 900 0/' base > new
+sed '/^service b /{n;s/^needs a$/needs/;}' base > new
 : > in
 for at in 0 1 1.then 2; do
     [ "$at" = 0 ] || cp text.none.0 live

@@ -88,21 +88,27 @@ all='at 0 of 1'
 cp old new
 carries '' '' '' ' a b c d e' "$all"
 
-# What is said of a service is altered: its way up, its way down, its limits, whether it is essential. What needs it goes
-# with it, what it needs does not.
+# Scripts, limits and the flag count from the next transition on: nothing moves.
 lines='down b\ndown c\nup b\nup c\n'
 back='at 1 of 2\n0 +b +c'
 for file in up down timeout-up timeout-down flag-essential; do
     old_tree
     case $file in
-        up | down) echo "echo $file b >> log; :" > "tree/b/$file" ;;
+        up | down) echo "echo $file b anew >> log" > "tree/b/$file" ;;
         *) echo 1000 > "tree/b/$file" ;;
     esac
     compiled new
-    carries ' b c' ' b c' "$lines" ' a b c d e' "$back"
+    carries '' '' '' ' a b c d e' "$all"
+    case $file in
+        down)
+            expect 0 'lowered b c\nok\n' '' '' change -D b -b new -l live
+            words='change -D behind an update'
+            moved 'down b anew\ndown c\n'
+            ;;
+    esac
 done
 
-# It needs more, less, or another.
+# A service needs more, less, or another. What needs it goes with it, what it needs does not.
 old_tree
 service b a d
 compiled new
@@ -181,11 +187,34 @@ judge 'the bundles behind an update are those of the new database' 0
 old_tree
 touch tree/a/flag-essential
 compiled old
-old_tree
+service a f
 compiled new
-carries ' a b c' ' a b c' 'down a\ndown b\ndown c\nup a\nup b\nup c\n' ' a b c d e' 'at 1 of 2\n0 +a +b +c'
+carries ' a b c' ' a b c f' 'down a\ndown b\ndown c\nup a\nup b\nup c\nup f\n' ' a b c d e f' 'at 1 of 2\n0 +a +b +c +f'
 old_tree
 compiled old
+
+# A longrun writes to another one, and needs what it needed.
+# writes_to NAME: longruns `first` and `other`, and `writer`, which needs both and writes to this one
+writes_to() {
+    old_tree
+    for name in first other writer; do
+        mkdir tree/$name
+        echo longrun > tree/$name/type
+        echo run > tree/$name/run
+    done
+    printf 'first\nother\n' > tree/writer/dependencies
+    echo "$1" > tree/writer/producer-for
+    echo writer > "tree/$1/consumer-for"
+}
+writes_to first
+compiled old.pipe
+writes_to other
+compiled new.pipe
+rm -f pipe.live
+expect 0 'raised first other writer\nok\n' '' '' change writer -b old.pipe -x none -l pipe.live
+expect 0 'ok\nok\n' '' '' update -n -b old.pipe -B old.pipe -l pipe.live
+expect 0 'lower writer\nok\nraise writer\nok\n' '' '' update -n -b old.pipe -B new.pipe -l pipe.live
+old_tree
 
 # A longrun in a oneshot's place, by the controller and the runner that are named.
 old_tree

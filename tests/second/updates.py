@@ -7,12 +7,11 @@ from plans import Ask, plan, told
 
 
 def is_altered(old, new, name):
-    """Whether the new database has no such service, or says something else of it."""
+    """Whether the new database has no such service, or one that can't go on in its place."""
     if name not in new.services:
         return True
-    one, other = old.services[name], new.services[name]
-    facts = lambda s: (s.kind, s.essential, s.up_limit, s.down_limit, s.up, s.down, sorted(s.needs))
-    return facts(one) != facts(other)
+    facts = lambda s: (s.kind, s.producer, sorted(s.needs))
+    return facts(old.services[name]) != facts(new.services[name])
 
 
 def carried(old, new, line, up):

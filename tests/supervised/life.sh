@@ -95,11 +95,23 @@ if [ "$supervisor" = s6 ]; then
     mv elsewhere scan/spare
 fi
 
-# An update moves what is altered and what needs it: the others are the processes that they were.
-# numbers: the process numbers of the longruns that are not altered
-numbers() { for name in app log slow spare; do number "$name"; done; }
-numbers > numbers.before
+# An update moves what needs something else, and what needs that: the others are the processes that they were.
+# numbers NAME..: the process numbers of these longruns
+numbers() { for name; do number "$name"; done; }
+# A limit and a script count from the next transition on.
+numbers app log slow spare web > numbers.before
 echo 30000 > services/web/timeout-up
+echo ': another' > services/net/up
+"$program" compile -o new services
+echo 0 > status
+: > err
+"$folder/manage" update -B "$room/new" > out 2> told || echo $? > status
+wants 'ok\nok\n' ''
+judges 'an update of a limit and a script' 0
+numbers app log slow spare web > numbers.after
+holds 'an update of a limit and a script moves nothing' cmp -s numbers.before numbers.after
+numbers app log slow spare > numbers.before
+echo spare >> services/web/dependencies
 "$program" compile -o new services
 "$folder/manage" update -B "$room/new" -n > out 2> err
 wants 'lower web\nok\nraise web\nok\n' ''
@@ -108,7 +120,7 @@ judges 'an update that is shown' 0
 "$folder/manage" update -B "$room/new" > out 2> told || echo $? > status
 wants 'lowered web\nok\nraised web\nok\n' ''
 judges 'an update' 0
-numbers > numbers.after
+numbers app log slow spare > numbers.after
 holds 'an update leaves the processes alone that it does not name' cmp -s numbers.before numbers.after
 does 0 'ok\n' "$folder/manage" change web
 

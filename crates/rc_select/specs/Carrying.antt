@@ -1,5 +1,5 @@
 -- What an update carries over from one database to another.
-use Rattle.std.specs.Prelude.{◌≡◌, ℕ, List, [], Some, map, slice_get, slice_index_or}
+use Rattle.std.specs.Prelude.{◌≡◌, ℕ, List, [], Option, Some, map, option_map, slice_get, slice_index_or}
 use Rattle.rc_model.specs.Graph.{DownFrom}
 use Rattle.rc_names.specs.Names.{ListsNames}
 use Rattle.rc_model.specs.Database.{Database, Service}
@@ -9,25 +9,26 @@ abbrev pub IsTwin : (old new : Database) → ℕ → ℕ → Type 0
 IsTwin old new s t = (name : List ℕ)
     × (slice_get old.names s ≡ Some name) × (slice_get new.names t ≡ Some name)
 
--- the same is said of two services: their kind, whether they are essential, limits and texts
-pub record SaysSame (a b : Service) : Type 0 where
+-- the name of a service, if there is one
+abbrev pub name_if : Database → Option ℕ → Option (List ℕ)
+name_if d service = option_map (λ t. slice_index_or d.names t []) service
+
+-- a service that is up may go on as another one: they are of one kind, and one name reads what they
+-- write. Limits, flags and scripts count from the next transition on, so nothing moves for them
+pub record IsAlike (old new : Database) (a b : Service) : Type 0 where
   pub kind : a.kind ≡ b.kind
-  pub essential : a.essential ≡ b.essential
-  pub limit_up : a.limit_up ≡ b.limit_up
-  pub limit_down : a.limit_down ≡ b.limit_down
-  pub text_up : a.text_up ≡ b.text_up
-  pub text_down : a.text_down ≡ b.text_down
+  pub reader : name_if old a.producer_for ≡ name_if new b.producer_for
 
 -- the names of what a service needs, in the order of names
 abbrev pub needed_names : Database → ℕ → List (List ℕ)
 needed_names d s = map (λ t. slice_index_or d.names t []) (slice_index_or d.needs s [])
 
--- the second service, of the new database, is the first one, of the old one, unaltered: one name,
--- the same is said of them, and they need the same names
+-- the second service, of the new database, is the first one, of the old one, unaltered: they have
+-- one name, are alike, and need the same names
 pub record IsSame (old new : Database) (s t : ℕ) : Type 0 where
   pub twin : IsTwin old new s t
-  pub said : (a b : Service) → slice_get old.services s ≡ Some a
-      → slice_get new.services t ≡ Some b → SaysSame a b
+  pub alike : (a b : Service) → slice_get old.services s ≡ Some a
+      → slice_get new.services t ≡ Some b → IsAlike old new a b
   pub needs : needed_names old s ≡ needed_names new t
 
 -- a service of the old database is in the new one, unaltered

@@ -1,7 +1,7 @@
-//! Whether a service of one database is in another as it was.
-ghost use Rattle.std.specs.Prelude.{◌≡◌, ◌<◌, ◌↔◌, ℕ, length, IfNone, IfSome, IsTrue, option_map, string_bytes};
+//! Whether a service of one database may go on as one of another.
+ghost use Rattle.std.specs.Prelude.{◌≡◌, ◌<◌, ◌↔◌, ℕ, length, IfNone, IfSome, IsTrue};
 ghost use Rattle.rc_model.specs.Database.{IsDatabase};
-ghost use Rattle.rc_select.specs.Carrying.{IsTwin, IsUnaltered, SaysSame, needed_names};
+ghost use Rattle.rc_select.specs.Carrying.{IsAlike, IsTwin, IsUnaltered, name_if, needed_names};
 
 use rc_db::{Db, Service};
 
@@ -11,6 +11,7 @@ pub(crate) fn twin(old: &Db, id: u16, new: &Db) -> Option<u16>
     ensures found { IfSome result (IsTwin old.now new.now id) }
     ensures missing { IfNone result ((t : ℕ) → IsTwin old.now new.now id t → ⊥) }
     ensures database { IsDatabase new.now }
+    ensures old_database { IsDatabase old.now }
 {
     new.names().find(old.names().name_of(id).text())
 }
@@ -22,30 +23,32 @@ pub(crate) fn is_unaltered(old: &Db, id: u16, new: &Db) -> bool
 {
     match twin(old, id, new) {
         Some(other) => {
-            says_same(old.service(id), new.service(other)) && needs_same(old, id, new, other)
+            let (a, b) = (old.service(id), new.service(other));
+            is_alike(old, a, new, b) && needs_same(old, id, new, other)
         }
         None => false,
     }
 }
 
-// Whether the same is said of two services.
-fn says_same(a: &Service, b: &Service) -> bool
-    ensures { IsTrue result ↔ SaysSame a.now b.now }
+// Whether two services are of one kind, and one name reads what they write.
+fn is_alike(old: &Db, a: &Service, new: &Db, b: &Service) -> bool
+    requires a { IfSome a.now.producer_for (λ t. t < length old.now.names) }
+    requires b { IfSome b.now.producer_for (λ t. t < length new.now.names) }
+    ensures { IsTrue result ↔ IsAlike old.now new.now a.now b.now }
 {
-    a.kind == b.kind
-        && a.essential == b.essential
-        && a.limit_up == b.limit_up
-        && a.limit_down == b.limit_down
-        && is_same_text(&a.text_up, &b.text_up)
-        && is_same_text(&a.text_down, &b.text_down)
+    a.kind == b.kind && has_one_name(old, a.producer_for, new, b.producer_for)
 }
 
-// Whether two texts, each of which may be missing, are one.
-fn is_same_text(a: &Option<String>, b: &Option<String>) -> bool
-    ensures { IsTrue result ↔ (option_map string_bytes a.now ≡ option_map string_bytes b.now) }
+// Whether two services have one name, or both are missing.
+fn has_one_name(old: &Db, service: Option<u16>, new: &Db, other: Option<u16>) -> bool
+    requires service { IfSome service (λ t. t < length old.now.names) }
+    requires other { IfSome other (λ t. t < length new.now.names) }
+    ensures { IsTrue result ↔ (name_if old.now service ≡ name_if new.now other) }
 {
-    match (a, b) {
-        (Some(a), Some(b)) => a.as_str() == b.as_str(),
+    match (service, other) {
+        (Some(id), Some(twin)) => {
+            old.names().name_of(id).text() == new.names().name_of(twin).text()
+        }
         (None, None) => true,
         _ => false,
     }
