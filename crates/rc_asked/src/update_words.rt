@@ -20,6 +20,9 @@ pub struct UpdateRequest<'a> {
     pub new: &'a str,
     /// Whether it is shown, and not done.
     pub dry: bool,
+    /// Whether it was begun before, and was cut short in its first step, which is the last entry of
+    /// its session. No words say so.
+    pub again: bool,
 }
 
 impl<'a> UpdateRequest<'a> {
@@ -31,11 +34,35 @@ impl<'a> UpdateRequest<'a> {
           };
         } }
     {
-        let UpdateRequest { session, new, dry } = self;
+        let UpdateRequest {
+            session,
+            new,
+            dry,
+            again,
+        } = self;
         UpdateRequest {
             session: session.with_live(live),
             new,
             dry,
+            again,
+        }
+    }
+
+    /// The same request, begun before or not.
+    pub fn with_again(self, again: bool) -> UpdateRequest<'a>
+        ensures { update_ask_of result ≡ record (update_ask_of self.entry) { again = again } }
+    {
+        let UpdateRequest {
+            session,
+            new,
+            dry,
+            again: _,
+        } = self;
+        UpdateRequest {
+            session,
+            new,
+            dry,
+            again,
         }
     }
 }
@@ -58,5 +85,6 @@ pub(crate) fn update_in<'a>(
         session,
         new,
         dry: is_on(matches, "dry"),
+        again: false,
     })
 }

@@ -1,2 +1,3 @@
 mod UpdateLemmas
 mod SparingLemmas
+mod WantedLemmas

@@ -15,7 +15,7 @@ use Rattle.rc_model.specs.declared.Mode.TheVariants.{DownAll, Up}
 use Rattle.rc_model.specs.Session.{IsLineOf}
 use Rattle.rc_session.proofs.States.{current_state}
 use Rattle.rc_select.specs.Carrying.{AreNamesOf, Carried, IsAlteredUp, StaysUp}
-use Rattle.rc_cli.specs.Updating.{IsUpdate, Parts, step_ask}
+use Rattle.rc_cli.specs.Updating.{IsUpdate, IsWantedUp, Parts, step_ask}
 
 -- the services that the names of services stand for are those services
 module _ (d : Database) (table : Bundles) (P IsUp : ℕ → Type 0) (mode : Mode) (names : List (List ℕ)) where
@@ -41,8 +41,8 @@ up_as needs P Q s each (inl member) = inl (each s member)
 up_as needs P Q s each (inr (t, member, path)) = inr (t, each t member, path)
 
 -- the first step
-module _ (old new : Database) (line : Line) (parts : Parts) (plan : PlanSets) where
-  altered_wanted : IsLineOf old line → IsUpdate old new line.current.live parts → (t : ℕ) → IsAlteredUp old new (Has line.current.live) t
+module _ (old new : Database) (again : Bool) (line : Line) (parts : Parts) (plan : PlanSets) where
+  altered_wanted : IsLineOf old line → IsUpdate old new again line parts → (t : ℕ) → IsAlteredUp old new (Has line.current.live) t
       → IsWanted old.names line.current.table (Has line.current.live) (step_ask DownAll parts.lower) t
   altered_wanted of update t altered =
       let low : t < length line.current.live = has_within line.current.live t altered.0 in
@@ -50,7 +50,7 @@ module _ (old new : Database) (line : Line) (parts : Parts) (plan : PlanSets) wh
       wanted_back old line.current.table (IsAlteredUp old new (Has line.current.live)) (Has line.current.live) DownAll parts.lower update.lower t _
       (slice_get-get_or old.names t [] (omega (arith, low, bound))) altered
 
-  pub lowers : IsDatabase old → IsLineOf old line → IsUpdate old new line.current.live parts
+  pub lowers : IsDatabase old → IsLineOf old line → IsUpdate old new again line parts
       → IsPlanOf old line.current.table line.current.live (step_ask DownAll parts.lower) plan
       → (s : ℕ) → Has plan.lower s ↔ (Has line.current.live s × (StaysUp old new (Has line.current.live) s → ⊥))
   lowers is of update planned s =
@@ -66,15 +66,15 @@ module _ (old new : Database) (line : Line) (parts : Parts) (plan : PlanSets) wh
   lowers_alone planned s has = let comes = (planned.raise s).0 has in comes.1 comes.0.0
 
 -- the second step
-module _ (old new : Database) (live : List Bool) (parts : Parts) (plan : PlanSets) where
-  carried_wanted : IsUpdate old new live parts → (t : ℕ) → Carried old new (Has live) t → IsWanted new.names new.table (Has parts.kept) (step_ask Up parts.raise) t
+module _ (old new : Database) (again : Bool) (line : Line) (parts : Parts) (plan : PlanSets) where
+  carried_wanted : IsUpdate old new again line parts → (t : ℕ) → Carried old new (IsWantedUp again line) t → IsWanted new.names new.table (Has parts.kept) (step_ask Up parts.raise) t
   carried_wanted update t (s, up, (name, at_old, at_new)) =
-      wanted_back new new.table (Carried old new (Has live)) (Has parts.kept) Up parts.raise update.raise t name at_new (s, up, (name, at_old, at_new))
+      wanted_back new new.table (Carried old new (IsWantedUp again line)) (Has parts.kept) Up parts.raise update.raise t name at_new (s, up, (name, at_old, at_new))
 
-  pub raises : IsDatabase new → IsUpdate old new live parts → IsPlanOf new new.table parts.kept (step_ask Up parts.raise) plan
-      → (s : ℕ) → Has plan.raise s ↔ (UpFrom new.needs (Carried old new (Has live)) s × (Has parts.kept s → ⊥))
+  pub raises : IsDatabase new → IsUpdate old new again line parts → IsPlanOf new new.table parts.kept (step_ask Up parts.raise) plan
+      → (s : ℕ) → Has plan.raise s ↔ (UpFrom new.needs (Carried old new (IsWantedUp again line)) s × (Has parts.kept s → ⊥))
   raises is update planned s =
-      let carried = Carried old new (Has live) in
+      let carried = Carried old new (IsWantedUp again line) in
       let wanted = IsWanted new.names new.table (Has parts.kept) (step_ask Up parts.raise) in (
         λ has. let comes = (planned.raise s).0 has in (
           elim comes.0 [

@@ -1,2 +1,3 @@
 pub mod Updating
 pub mod UpdateEnds
+pub mod Begun

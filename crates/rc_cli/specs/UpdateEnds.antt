@@ -49,11 +49,11 @@ IsShort fault was is written gained = (fault ≡ Memory) × (gained ≡ written)
 
 -- a fault came before the first step of an update, or where a step was served
 abbrev pub StopsUpdate : ServeFault → Option Path → (was is : Option (List ℕ)) →
-    (As At : EndsIn) → (dry : Bool) → (written gained : Option (List ℕ)) → Holding → Database
-    → Type 0
-StopsUpdate fault path was is As At dry written gained from new =
+    (As At : EndsIn) → (dry again : Bool) → (written gained : Option (List ℕ)) → Holding
+    → Database → Type 0
+StopsUpdate fault path was is As At dry again written gained from new =
     IsShort fault was is written gained
-    ⊎ ((parts : Parts) × IsUpdate from.database new from.line.current.live parts
+    ⊎ ((parts : Parts) × IsUpdate from.database new again from.line parts
     × StopsBoth fault path was is As At (lowering dry parts.lower) (raising dry parts.raise)
     written gained from (session_with new parts from))
 
@@ -62,7 +62,7 @@ abbrev pub RunsUpdate : Ending → UpdateAsk → LiveFile → (was is : Option (
     (As At : EndsIn) → (old new : Database) → (written gained : Option (List ℕ)) → Type 0
 RunsUpdate ending ask file was is As At old new written gained = (start : Line)
     × BeginsBy old ask.session.bound (file_named ask.session.live file) start
-    × EndsUpdate ending ask.session.live was is As At ask.dry written gained
+    × EndsUpdate ending ask.session.live was is As At ask.dry ask.again written gained
     (session_on old start) new
 
 -- each service that is to fail on its way down is one of the old database, and each that is to
@@ -104,7 +104,7 @@ EndsUpdateOn fault ask file was is old new written gained writer keeper =
     ⊎ ((why : ServeFault) × (fault ≡ Failed why) × IsServeFault ⊥ writer keeper why
     × AreDoneFor old new ask.session.workers ask.session.making (λ As At. (start : Line)
     × BeginsBy old ask.session.bound (file_named ask.session.live file) start
-    × StopsUpdate why ask.session.live was is As At ask.dry written gained
+    × StopsUpdate why ask.session.live was is As At ask.dry ask.again written gained
     (session_on old start) new))
 
 -- both texts are those of databases, each name that is to fail is a service's, and an update from

@@ -1,11 +1,12 @@
 -- The two steps of an update: one by the old database, and one by the new.
-use Rattle.std.specs.Prelude.{◌≡◌, ◌≢◌, ◌⊎◌, ◌∷◌, ℕ, Bool, List, [], Option, false, true, length}
+use Rattle.std.specs.Prelude.{◌≡◌, ◌≢◌, ◌⊎◌, ◌∷◌, ◌+◌, ℕ, Bool, List, [], Option, Some, false, true, length, map, slice_get}
+use Rattle.std.specs.String.{string_bytes}
 use Rattle.rc_graph.specs.declared.Way.{Way}
 use Rattle.rc_graph.specs.declared.Way.TheVariants.{Lower, Raise}
 use Rattle.clap.specs.Words.{Text as Path}
 use Rattle.rc_model.specs.Names.{Has, Holds}
 use Rattle.rc_model.specs.Database.{Database}
-use Rattle.rc_model.specs.Line.{Line}
+use Rattle.rc_model.specs.Line.{Line, State, cursor, states}
 use Rattle.rc_model.specs.Plan.{Ask}
 use Rattle.rc_model.specs.declared.Mode.{Mode}
 use Rattle.rc_model.specs.declared.Mode.TheVariants.{DownAll, Up}
@@ -22,6 +23,7 @@ use Rattle.rc_sessions.specs.Once.{ServesOnce}
 use Rattle.rc_sessions.specs.Services.{IsDoneFor}
 use Rattle.rc_sessions.specs.Serving.{session_on}
 use Rattle.rc_select.specs.Carrying.{AreNamesOf, Carried, IsAlteredUp, StaysUp}
+use Rattle.rc_select.specs.declared.carrying.Update.{Update}
 
 -- of transitions that are listed those of one way
 abbrev pub listed_by : Way → Way → Listed → List Listed → List Listed
@@ -82,13 +84,34 @@ pub record Parts : Type 0 where
   pub kept : List Bool
   pub raise : List (List ℕ)
 
--- what an update does where these services are live: what is altered or gone is lowered, what
--- neither is that nor needs it stays, and what is still there is raised
-pub record IsUpdate (old new : Database) (live : List Bool) (parts : Parts) : Type 0 where
-  pub lower : AreNamesOf old (IsAlteredUp old new (Has live)) parts.lower
-  pub kept : Holds parts.kept (Carried old new (StaysUp old new (Has live)))
-  pub bound : length parts.kept ≡ length new.names
-  pub raise : AreNamesOf new (Carried old new (Has live)) parts.raise
+-- the same of what the program has
+abbrev pub parts_of : Update → Parts
+parts_of update = record {
+  lower = map string_bytes update.lower.items;
+  kept = update.kept;
+  raise = map string_bytes update.raise.items;
+}
+
+-- the state before the current one
+abbrev pub IsBefore : Line → State → Type 0
+IsBefore line state = (place : ℕ) × (cursor line ≡ place + 1)
+    × (slice_get (states line) place ≡ Some state)
+
+-- what is to be up in the end of an update: what is live; and where it was begun before and was cut
+-- short in its first step, also what was live before that
+abbrev pub IsWantedUp : (again : Bool) → Line → ℕ → Type 0
+IsWantedUp false line s = Has line.current.live s
+IsWantedUp true line s = Has line.current.live s
+    ⊎ ((state : State) × IsBefore line state × Has state.live s)
+
+-- what an update does from where a line stands: what is live and altered or gone is lowered, what
+-- neither is that nor needs it stays, and what is wanted and still there is raised
+pub record IsUpdate (old new : Database) (again : Bool) (line : Line) (parts : Parts) : Type 0
+  where
+    pub lower : AreNamesOf old (IsAlteredUp old new (Has line.current.live)) parts.lower
+    pub kept : Holds parts.kept (Carried old new (StaysUp old new (Has line.current.live)))
+    pub bound : length parts.kept ≡ length new.names
+    pub raise : AreNamesOf new (Carried old new (IsWantedUp again line)) parts.raise
 
 -- one line was served, and then, where all of it was done, another one on another session
 pub record ServesBoth (path : Option Path) (was is : Option (List ℕ)) (As At : EndsIn)
@@ -126,9 +149,9 @@ session_with new parts from = session_on new (carried_line new parts.kept from.l
 
 -- an update from where a session stands ends so
 pub record EndsUpdate (ending : Ending) (path : Option Path) (was is : Option (List ℕ))
-    (As At : EndsIn) (dry : Bool) (written gained : Option (List ℕ)) (from : Holding)
+    (As At : EndsIn) (dry again : Bool) (written gained : Option (List ℕ)) (from : Holding)
     (new : Database) : Type 0 where
   pub parts : Parts
-  pub update : IsUpdate from.database new from.line.current.live parts
+  pub update : IsUpdate from.database new again from.line parts
   pub ends : EndsBoth ending path was is As At (lowering dry parts.lower)
       (raising dry parts.raise) written gained from (session_with new parts from)

@@ -8,32 +8,36 @@ ghost use Rattle.rc_model.specs.Plan.{IsPlanOf, PlanSets};
 ghost use Rattle.rc_model.specs.declared.Mode.TheVariants.{DownAll, Up};
 ghost use Rattle.rc_model.specs.Session.{IsLineOf};
 ghost use Rattle.rc_select.specs.Carrying.{Carried, StaysUp};
-ghost use Rattle.rc_cli.specs.Updating.{IsUpdate, Parts, step_ask};
+ghost use Rattle.rc_cli.specs.Updating.{IsUpdate, IsWantedUp, Parts, step_ask};
 
 /// The first step of an update lowers exactly what is live and does not stay, and moves nothing
 /// else: a service that is neither altered nor gone, and needs nothing that is, is never moved.
 pub fn lowering_spares_the_rest()
-    ensures lowers { (old new : Database) (line : Line) (parts : Parts) (plan : PlanSets) →
-        IsDatabase old → IsLineOf old line → IsUpdate old new line.current.live parts →
+    ensures lowers { (old new : Database) (again : Bool) (line : Line) (parts : Parts)
+        (plan : PlanSets) →
+        IsDatabase old → IsLineOf old line → IsUpdate old new again line parts →
         IsPlanOf old line.current.table line.current.live (step_ask DownAll parts.lower) plan →
         Holds plan.lower (λ s. Has line.current.live s
         × (StaysUp old new (Has line.current.live) s → ⊥)) }
-    ensures alone { (old new : Database) (line : Line) (parts : Parts) (plan : PlanSets) →
-        IsDatabase old → IsLineOf old line → IsUpdate old new line.current.live parts →
+    ensures alone { (old new : Database) (again : Bool) (line : Line) (parts : Parts)
+        (plan : PlanSets) →
+        IsDatabase old → IsLineOf old line → IsUpdate old new again line parts →
         IsPlanOf old line.current.table line.current.live (step_ask DownAll parts.lower) plan →
         (s : ℕ) → Has plan.raise s → ⊥ }
 {}
 
-/// The second step raises what was live and is still there, with all that it needs, so far as it
-/// did not stay live, and moves nothing else.
+/// The second step raises what is wanted and still there, with all that it needs, so far as it did
+/// not stay live, and moves nothing else.
 pub fn raising_spares_the_rest()
-    ensures raises { (old new : Database) (live : List Bool) (parts : Parts) (plan : PlanSets) →
-        IsDatabase new → IsUpdate old new live parts →
+    ensures raises { (old new : Database) (again : Bool) (line : Line) (parts : Parts)
+        (plan : PlanSets) →
+        IsDatabase new → IsUpdate old new again line parts →
         IsPlanOf new new.table parts.kept (step_ask Up parts.raise) plan →
-        Holds plan.raise (λ s. UpFrom new.needs (Carried old new (Has live)) s
+        Holds plan.raise (λ s. UpFrom new.needs (Carried old new (IsWantedUp again line)) s
         × (Has parts.kept s → ⊥)) }
-    ensures alone { (old new : Database) (live : List Bool) (parts : Parts) (plan : PlanSets) →
-        IsDatabase new → IsUpdate old new live parts →
+    ensures alone { (old new : Database) (again : Bool) (line : Line) (parts : Parts)
+        (plan : PlanSets) →
+        IsDatabase new → IsUpdate old new again line parts →
         IsPlanOf new new.table parts.kept (step_ask Up parts.raise) plan →
         (s : ℕ) → Has plan.lower s → ⊥ }
 {}

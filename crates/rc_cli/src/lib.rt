@@ -2,10 +2,13 @@
 //! two lines, each of a session of its own; and those of the crates below.
 #![tactic(auto)]
 
+mod begun;
 pub mod laws;
+mod moving;
 mod update;
 mod updating;
 
+pub use crate::begun::begins_update;
 pub use crate::update::update_as_asked;
 pub use rc_compiling::compile_run;
 pub use rc_queries::{db_run, plan_run, replay_run};

@@ -2,6 +2,10 @@
 //! kept.
 ghost use Rattle.std.specs.Prelude.{◌≡◌, ◌≢◌, ◌≤◌, ◌++◌, [], None, false, length, map, string_bytes, IfErr, IfOk, OnOk};
 ghost use Rattle.rc_graph.specs.declared.Way.TheVariants.{Lower, Raise};
+ghost use Rattle.rc_model.specs.declared.Mode.TheVariants.{DownAll};
+ghost use Rattle.rc_model.specs.Session.{Change};
+ghost use Rattle.rc_select.specs.Ask.{ask_of};
+ghost use Rattle.rc_session.specs.Commands.{command_of};
 ghost use Rattle.rc_model.specs.Graph.{IsClosed};
 ghost use Rattle.rc_model.specs.Names.{Has};
 ghost use Rattle.rc_streams.specs.Noting.{HasFailed, inner_of};
@@ -20,6 +24,7 @@ ghost use Rattle.rc_sessions.specs.Storing.{store_of};
 ghost use Rattle.rc_cli.specs.Updating.{AreDoneFor, EndsBoth, EndsUpdate, carried_line, ending_behind, listed_by, listed_on, making_on, step_ask, step_by};
 ghost use Rattle.rc_cli.specs.UpdateEnds.{AreGateless, EndsUpdateOn, RunsUpdate, StopsBoth, StopsUpdate};
 
+use crate::moving::update_of;
 use log::Log;
 use rc_asked::{Making, SessionRequest, Transition, UpdateRequest};
 use rc_board::Gate;
@@ -28,7 +33,7 @@ use rc_graph::Way;
 use rc_line::Line;
 use rc_runner::{SessionGate, Telling};
 use rc_script::SessionLine;
-use rc_select::{Mode, Request, carry};
+use rc_select::{Mode, Request};
 use rc_serve::{Ending, ServeFault};
 use rc_session::{Session, Step};
 use rc_sessions::{Host, LiveFile, Outputs, SessionFault, Store, begin, gate_for, line_once};
@@ -204,7 +209,7 @@ fn update_from<T: Threads + Wait + Sync, W: Write, G: Gate, S: Store, L>(
         (G.gives gates.now.lowers))
         (IsDoneAs request.now.session.workers (G.answers gates.now.raises)
         (G.gives gates.now.raises))
-        request.now.dry
+        request.now.dry request.now.again
         (W.contents (inner_of outputs.old.writer)) (W.contents (inner_of outputs.new.writer))
         from.old new) }
     ensures stopped { IfErr result (λ fault.
@@ -214,7 +219,7 @@ fn update_from<T: Threads + Wait + Sync, W: Write, G: Gate, S: Store, L>(
         (G.gives gates.now.lowers))
         (IsDoneAs request.now.session.workers (G.answers gates.now.raises)
         (G.gives gates.now.raises))
-        request.now.dry
+        request.now.dry request.now.again
         (W.contents (inner_of outputs.old.writer)) (W.contents (inner_of outputs.new.writer))
         from.old new) }
     ensures fault { IfErr result (IsServeFault ⊥ (HasFailed outputs.new.writer)
@@ -222,7 +227,7 @@ fn update_from<T: Threads + Wait + Sync, W: Write, G: Gate, S: Store, L>(
         × S.failed (store_of outputs.new.keeper))) }
 {
     let bound = from.journal().bound();
-    let update = match carry(host.alloc, from.db(), &new, from.live()) {
+    let update = match update_of(host.alloc, from, &new, request.again) {
         Ok(update) => update,
         Err(_) => {
             drop(new);
@@ -267,17 +272,31 @@ fn session_of(alloc: Global, db: Db, live: Set, bound: u32) -> Result<Session, N
 fn step_line(alloc: Global, dry: bool, mode: Mode, names: Vec<String>) -> SessionLine
     ensures says { saying_of result ≡ step_by dry (step_ask mode (map string_bytes names.items)) }
 {
-    let request = Request {
+    let request = step_request(mode, names);
+    if dry {
+        return SessionLine::Dry(request);
+    }
+    SessionLine::Step(Step::Change(request, Vec::new(alloc)))
+}
+
+// What a step asks.
+fn step_request(mode: Mode, names: Vec<String>) -> Request
+    ensures { ask_of result ≡ step_ask mode (map string_bytes names.items) }
+{
+    Request {
         mode,
         prune: false,
         all: false,
         names,
         limit: u32::MAX,
-    };
-    if dry {
-        return SessionLine::Dry(request);
     }
-    SessionLine::Step(Step::Change(request, Vec::new(alloc)))
+}
+
+/// The first step, which lowers these names.
+pub(crate) fn lowering_step(alloc: Global, names: Vec<String>) -> Step
+    ensures { command_of result ≡ Change (step_ask DownAll (map string_bytes names.items)) [] }
+{
+    Step::Change(step_request(Mode::DownAll, names), Vec::new(alloc))
 }
 
 // Serves the line of the first step and, where all of it is done, that of the second one.

@@ -16,7 +16,7 @@ use std::thread::Threads;
 pub fn update<T: Threads + Wait + Sync>(
     rt: &HostRuntime,
     threads: &T,
-    request: &UpdateRequest<'_>,
+    request: UpdateRequest<'_>,
     file: Option<&str>,
 ) -> u8 {
     let (Some(file), Some(_)) = (file, request.session.live) else {
@@ -36,7 +36,7 @@ pub fn update<T: Threads + Wait + Sync>(
 fn update_from<T: Threads + Wait + Sync>(
     rt: &HostRuntime,
     threads: &T,
-    request: &UpdateRequest<'_>,
+    request: UpdateRequest<'_>,
     file: &str,
     old: &[u8],
 ) -> u8 {
@@ -54,17 +54,24 @@ fn update_from<T: Threads + Wait + Sync>(
 fn update_between<T: Threads + Wait + Sync>(
     rt: &HostRuntime,
     threads: &T,
-    request: &UpdateRequest<'_>,
+    request: UpdateRequest<'_>,
     file: &str,
     old: &[u8],
     new: &[u8],
 ) -> u8 {
     match live_files::open(rt, &request.session, !request.dry, both(old, new)) {
-        Ok(LiveFiles { store, run_files }) => {
+        Ok(
+            LiveFiles {
+                store,
+                run_files,
+                again,
+            },
+        ) => {
+            let request = request.with_again(again);
             let log = log_for(rt, &request.session);
             let host = host_of(rt, threads, &log, run_files.as_ref());
-            let status = updated(&host, request, file, old, new, store);
-            drop(run_files);
+            let status = updated(&host, &request, file, old, new, store);
+            drop((run_files, request));
             status
         }
         Err(status) => status,

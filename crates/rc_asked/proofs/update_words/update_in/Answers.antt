@@ -1,4 +1,4 @@
-use Rattle.std.proofs.Common.{◌≡◌, ◌∙◌, None, Some, sym, codes}
+use Rattle.std.proofs.Common.{◌≡◌, ◌∙◌, None, Some, refl, sym, codes}
 use Rattle.clap.specs.Matches.{found_of}
 use Rattle.clap.proofs.WalkLemmas.{first_value-rows}
 use Rattle.rc_asked.proofs.update_words.update_in.Goals as goal
@@ -12,4 +12,5 @@ returns-clause-asked c = record {
   session = c.in_ok-session.ensures.asked;
   new = c.in-Some.ensures ∙ first_value-rows (found_of c.args.matches.now) (codes "new");
   dry = c.is_on.ensures;
+  again = refl;
 }

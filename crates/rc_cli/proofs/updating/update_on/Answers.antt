@@ -54,7 +54,7 @@ returns-in-Ok-ended-clause-done g c =
     (from_start c.args.old ask.session.bound (file_named ask.session.live c.args.live)
     c.in-Ok-begin.from
     (λ (h : Holding). EndsUpdate c.in-Ok-ended.ending ask.session.live was is As At ask.dry
-    written gained h c.args.new)
+    ask.again written gained h c.args.new)
     c.in-Ok-begin.ensures.begun c.in-Ok-ended.ensures.done)
 
 pub returns-in-Err-ended-clause-stopped : goal.returns-in-Err-ended-clause-stopped
@@ -78,7 +78,7 @@ returns-in-Err-ended-clause-stopped g c =
           (from_start c.args.old ask.session.bound (file_named ask.session.live c.args.live)
           c.in-Ok-begin.from
           (λ (h : Holding). StopsUpdate c.in-Err-ended.fault ask.session.live was is As At ask.dry
-          written gained h c.args.new)
+          ask.again written gained h c.args.new)
           c.in-Ok-begin.ensures.begun c.in-Err-ended.ensures.stopped),
     )
 

@@ -1,0 +1,73 @@
+//! What an update moves, from where the session of the old database stands.
+ghost use Rattle.std.specs.Prelude.{◌≡◌, false, true, length, map, string_bytes, IfOk};
+ghost use Rattle.rc_model.specs.Graph.{IsClosed};
+ghost use Rattle.rc_model.specs.Names.{Has, Holds};
+ghost use Rattle.rc_select.specs.Carrying.{AreNamesOf, Carried};
+ghost use Rattle.rc_cli.specs.Updating.{IsUpdate, IsWantedUp, parts_of};
+
+use rc_db::Db;
+use rc_select::{Update, carry};
+use rc_session::Session;
+use rc_set::{NoMem, Set};
+use std::alloc::Global;
+
+/// What an update moves, by what is live in a session of the old database. One that was begun
+/// before, and was cut short in its first step, also raises what that step has lowered.
+pub(crate) fn update_of(
+    alloc: Global,
+    from: &Session,
+    new: &Db,
+    again: bool,
+) -> Result<Update, NoMem>
+    requires { from.now.begun ≡ false }
+    ensures update { IfOk result (λ update. IsUpdate from.now.database new.now again
+        from.now.line (parts_of update)) }
+    ensures closed { IfOk result (λ update. IsClosed new.now.needs (Has update.kept)) }
+{
+    let update = carry(alloc, from.db(), new, from.journal().live())?;
+    if !again {
+        return Ok(update);
+    }
+    let raise = raise_of(alloc, from, new)?;
+    let Update {
+        lower,
+        kept,
+        raise: _,
+    } = update;
+    Ok(Update { lower, kept, raise })
+}
+
+// The names that an update raises which was begun before.
+fn raise_of(alloc: Global, from: &Session, new: &Db) -> Result<Vec<String>, NoMem>
+    requires { from.now.begun ≡ false }
+    ensures { IfOk result (λ raise. AreNamesOf new.now
+        (Carried from.now.database new.now (IsWantedUp true from.now.line))
+        (map string_bytes raise.items)) }
+{
+    let wanted = wanted_up(alloc, from)?;
+    let update = carry(alloc, from.db(), new, &wanted)?;
+    drop(wanted);
+    let Update { lower, kept, raise } = update;
+    drop((lower, kept));
+    Ok(raise)
+}
+
+// What is live, and what was in the state before.
+fn wanted_up(alloc: Global, from: &Session) -> Result<Set, NoMem>
+    requires { from.now.begun ≡ false }
+    ensures bound { IfOk result (λ up. length up ≡ length from.now.database.names) }
+    ensures closed { IfOk result (λ up. IsClosed from.now.database.needs (Has up)) }
+    ensures members { IfOk result (λ up. Holds up (IsWantedUp true from.now.line)) }
+{
+    let journal = from.journal();
+    let mut up = journal.live().copy(alloc)?;
+    let cursor = journal.cursor();
+    if cursor == 0 {
+        return Ok(up);
+    }
+    let (live, table) = journal.state(alloc, cursor - 1)?;
+    drop(table);
+    up.join(&live);
+    drop(live);
+    Ok(up)
+}
