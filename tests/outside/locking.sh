@@ -54,7 +54,7 @@ for how in session command; do
     for name in $names; do
         case $(cat "$name.status") in
             0) printf 'raised %s\nok\n' "$name" | cmp -s - "$name.out" && [ ! -s "$name.err" ] && grep -qx "$name" moved || echo "$name: done otherwise" ;;
-            111) [ ! -s "$name.out" ] && echo 'undorc: Busy' | cmp -s - "$name.err" && ! grep -qx "$name" moved || echo "$name: refused otherwise" ;;
+            111) [ ! -s "$name.out" ] && [ "$(firsts "$name.err")" = 'undorc: Busy' ] && ! grep -qx "$name" moved || echo "$name: refused otherwise" ;;
             *) echo "$name: status $(cat "$name.status")" ;;
         esac
     done > out
@@ -87,6 +87,21 @@ busy 'the same by links' again
 busy 'the same by links through a folder' way/other
 expect 111 '' 'undorc: Busy\n' '' change s2 -b base -x none -l live
 expect 111 '' 'undorc: Busy\n' '' undo -b base -x none -l live
+# Who has it is named.
+"$program" undo -b base -x none -l live < /dev/null > out 2> told || true
+grep -cx "  process $(cat live.lock) goes on with live" told > out
+tr '\0' ' ' < "/proc/$(cat live.lock)/cmdline" | grep -o 'session -b base -x none -l live' >> out
+wants '1\nsession -b base -x none -l live\n' ''
+: > err
+echo 0 > status
+judge 'who has the file is named' 0
+# A lock that others could open is its owner's alone from the next command on.
+chmod 666 other.lock 2> /dev/null || : > other.lock
+expect 0 'raised s2\nok\n' '' '' change s2 -b base -x none -l other
+stat -c %a other.lock > out
+wants '600\n' ''
+judge 'the rights of an older lock' 0
+rm -f other other.lock
 # Who only looks takes no lock: it finds what was answered last.
 expect 0 'live s1\nok\n' '' '' live -b base -l way/other
 expect 0 'at 1 of 2\n0 +s1\nok\n' '' '' journal -b base -l live
@@ -108,9 +123,9 @@ wait
 wants 'raised s1\nok\nraised s3\nok\nlive s1 s3\nok\n' ''
 cat heard waited > out
 judge 'a session that waits goes on from the end of the other' 0
-wants '0 live.lock\n' ''
-stat -c '%s %n' ./*.lock way/*.lock 2> /dev/null | sed 's|\./||' > out
-judge 'one lock, which is empty and stays' 0
+wants '600 live.lock\n' ''
+stat -c '%a %n' ./*.lock way/*.lock 2> /dev/null | sed 's|\./||' > out
+judge 'one lock, which is its owner'"'"'s alone and stays' 0
 
 # A link that leads nowhere yet has the lock of where it leads.
 rm -f live again
@@ -181,9 +196,10 @@ echo 0 > status
 : > err
 wants 'raised s1\nok\n' ''
 judge 'a kept session whose standard error is closed' 0
-wants '0 live.lock\n' ''
-stat -c '%s %n' live.lock > out
-judge 'nothing was written into the locked file' 0
+wants '1\n' ''
+grep -cxE '[0-9]+' live.lock > out
+[ "$(wc -l < live.lock)" -eq 1 ] || echo 'more than a process id' >> out
+judge 'the locked file has a process id and nothing else' 0
 
 # Whoever holds the lock: a look needs none, and a session is refused, or waits.
 if ! command -v flock > /dev/null; then

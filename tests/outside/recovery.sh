@@ -195,18 +195,21 @@ expect 0 'at 1 of 3\n0 +a +b\n1 +slow +top\nok\n' 'undorc: Recovered\n' 'journal
 
 # Both halves of an update.
 begin_tree
-oneshot a 'echo new a >> ran'
+oneshot a 'echo new a >> ran' b
 oneshot b 'echo up b >> ran'
 oneshot slow 'echo begun > begun; until [ -e go ]; do sleep 0.02; done; echo up slow >> ran' a
 oneshot top 'echo up top >> ran' slow
 down slow 'echo begun > begun; until [ -e go ]; do sleep 0.02; done; echo down slow >> ran'
 "$program" compile tree > next
+# half OLD NEW [NAME..]: an update that is killed while `slow` is under way, with these names up, too
 half() {
     rm -f live ran begun go
     : > go
-    "$program" change a slow -b "$1" -l live < /dev/null > /dev/null
+    old=$1 new=$2
+    shift 2
+    "$program" change a slow "$@" -b "$old" -l live < /dev/null > /dev/null
     rm -f go begun
-    "$program" update -b "$1" -B "$2" -w 1 -l live < /dev/null > cut.out 2> cut.err &
+    "$program" update -b "$old" -B "$new" -w 1 -l live < /dev/null > cut.out 2> cut.err &
     killed=$!
     until_begun
     kill -KILL "$killed"
@@ -214,12 +217,18 @@ half() {
     : > go
 }
 half next base
-expect 0 'at 1 of 2\n0 +a +slow\nok\n' 'undorc: Recovered\n' 'journal\n' session -b next -l live -x none
+expect 0 'at 1 of 2\n0 +a +b +slow\nok\n' 'undorc: Recovered\n' 'journal\n' session -b next -l live -x none
 half base next
 expect 0 'live a b\nok\n' 'undorc: Recovered\n' 'live\n' session -b next -l live -x none
 # An update that is given again enters it by the old database, or by the new one.
 half next base
-expect 0 'lowered a slow\nok\nraised a b slow\nok\n' 'undorc: Recovered\n' '' update -b next -B base -l live
+expect 0 'lowered a slow\nok\nraised a slow\nok\n' 'undorc: Recovered\n' '' update -b next -B base -l live
+# What its first half has lowered comes up, too, where the update is the very next command.
+half next base top
+expect 0 'lowered a slow\nok\nraised a slow top\nok\n' 'undorc: Recovered\n' '' update -b next -B base -l live
+half next base top
+expect 0 'ok\n' 'undorc: Recovered\n' '' change -b next -l live
+expect 0 'lowered a slow\nok\nraised a slow\nok\n' '' '' update -b next -B base -l live
 half base next
 "$program" update -b base -B next -l live < /dev/null > said 2> told || true
 grep -cx 'undorc: Recovered' told > out
@@ -302,14 +311,18 @@ expect 0 'at 1 of 2\n0 +a +b\nok\n' '' 'journal\n' session -b base -l live -x no
 
 # Where env can't block signals, orderly calls the command off by `undorc stop`.
 mkdir plain
-ln -s "$(command -v false)" plain/env
+printf '#!/bin/sh\nexit 1\n' > plain/env
+chmod 755 plain/env
 rm -f live ran go begun
 echo 0 > status
 PATH=$PWD/plain:$PATH UNDORC_PROGRAM=$program sh "$here/../contrib/orderly" change -w 1 top -b base -l live < /dev/null > out 2> err &
 called=$!
 until_begun
 kill -TERM "$called"
-until [ -s live.stop ]; do sleep 0.02; done
+for turn in $(seq 250); do
+    [ ! -s live.stop ] || break
+    sleep 0.02
+done
 : > go
 wait "$called" || echo $? > status
 wants 'raised a b slow\nuntried top\nok\n' ''

@@ -1,15 +1,17 @@
 //! The lock of the file in which a session is kept, so that one program at a time goes on with it.
-//! It is a lock on a file beside it, which is made where it is missing, and stays.
+//! It is a lock on a file beside it, which is made where it is missing, and stays. Its owner alone
+//! may open it, and it holds the process id of the program that locked it last.
 
 use crate::beside_file::path_beside;
 use crate::messages::{MESSAGE, Messages};
 use crate::replaced_file::check_plain;
 use crate::stop_file::is_signal_waiting;
 use log::info;
-use std::fs::{self, File, TryLockError};
-use std::io::{self, ErrorKind};
-use std::thread;
+use std::fs::{self, File, Permissions, TryLockError};
+use std::io::{self, ErrorKind, Write};
+use std::os::unix::fs::{FileExt, OpenOptionsExt, PermissionsExt};
 use std::time::Duration;
+use std::{process, thread};
 use thiserror::Error;
 
 /// What stands behind the path of a session's file in that of its lock.
@@ -21,12 +23,15 @@ const PAUSE: u64 = 10;
 /// After so many pauses it tells what it waits for.
 const ROUNDS_BEFORE_WORD: u64 = 100;
 
+/// The rights of a lock's file: its owner's alone. Who could open it could hold every command up.
+const RIGHTS: u32 = 0o600;
+
 /// Why a lock was not taken.
 #[derive(Debug, Drop, Error)]
 pub enum LockFault {
-    /// Another program has it.
+    /// Another program has it, of this process id where the file holds one.
     #[error("another program has the lock")]
-    Busy,
+    Busy(Option<u32>),
     #[error(transparent)]
     Failed(#[from] io::Error),
 }
@@ -51,7 +56,10 @@ impl LiveLock {
             lock(&file)
         };
         match locked {
-            Ok(()) => Ok(Some(LiveLock { file })),
+            Ok(()) => {
+                sign(rt, &file);
+                Ok(Some(LiveLock { file }))
+            }
             Err(fault) => {
                 drop(file);
                 Err(fault)
@@ -79,7 +87,7 @@ fn is_locked(rt: &HostRuntime, path: &str) -> io::Result<bool> {
     };
     let held = match lock(&file) {
         Ok(()) => Ok(false),
-        Err(LockFault::Busy) => Ok(true),
+        Err(LockFault::Busy(_)) => Ok(true),
         Err(LockFault::Failed(error)) => Err(error),
     };
     drop(file);
@@ -90,9 +98,28 @@ fn is_locked(rt: &HostRuntime, path: &str) -> io::Result<bool> {
 fn lock(file: &File) -> Result<(), LockFault> {
     match file.try_lock() {
         Ok(()) => Ok(()),
-        Err(TryLockError::WouldBlock) => Err(LockFault::Busy),
+        Err(TryLockError::WouldBlock) => Err(LockFault::Busy(owner_of(file))),
         Err(TryLockError::Error(error)) => Err(LockFault::Failed(error)),
     }
+}
+
+/// Writes this program's process id into the file of a lock that it has. Where that fails, no owner
+/// is known, and the lock is as good.
+fn sign(rt: &HostRuntime, file: &File) {
+    let id = process::id(rt.process());
+    if file.set_len(0).is_err() {
+        return;
+    }
+    let mut out = file;
+    let _ = write!(out, "{id}\n");
+}
+
+/// The process id in the file of a lock, if it holds one whole.
+fn owner_of(file: &File) -> Option<u32> {
+    let mut buffer = [0; 16];
+    let count = file.read_at(&mut buffer, 0).ok()?;
+    let text = str::from_utf8(&buffer[..count.min(16)]).ok()?;
+    text.strip_suffix('\n')?.parse().ok()
 }
 
 /// Waits until a file can be locked, or a signal waits that calls this program off. Tells after a
@@ -100,7 +127,7 @@ fn lock(file: &File) -> Result<(), LockFault> {
 fn wait_for(rt: &HostRuntime, file: &File, path: &str) -> Result<(), LockFault> {
     for round in 0..u64::MAX {
         match lock(file) {
-            Err(LockFault::Busy) if !is_signal_waiting(rt) => {}
+            Err(LockFault::Busy(_)) if !is_signal_waiting(rt) => {}
             locked => return locked,
         }
         if round == ROUNDS_BEFORE_WORD {
@@ -108,7 +135,7 @@ fn wait_for(rt: &HostRuntime, file: &File, path: &str) -> Result<(), LockFault> 
         }
         thread::sleep(rt, Duration::from_millis(PAUSE));
     }
-    Err(LockFault::Busy)
+    Err(LockFault::Busy(None))
 }
 
 /// The file that is locked for this one. None: what stands there is no plain file.
@@ -132,20 +159,11 @@ fn lock_file(rt: &HostRuntime, path: &str) -> io::Result<Option<File>> {
 /// also where one of those was closed: its number is above theirs.
 fn open_lock(rt: &HostRuntime, path: &str) -> io::Result<File> {
     check_plain(rt, path)?;
-    let opened = open_or_make(rt, path)?;
+    let mut options = File::options();
+    options.read(true).write(true).create(true).mode(RIGHTS);
+    let opened = options.open(rt, path)?;
+    let _ = opened.set_permissions(Permissions::from_mode(RIGHTS));
     let file = opened.try_clone();
     drop(opened);
     file
-}
-
-/// Opens a file, and makes it where it is missing.
-fn open_or_make(rt: &HostRuntime, path: &str) -> io::Result<File> {
-    match File::open(rt, path) {
-        Err(error) if error.kind() == ErrorKind::NotFound => {
-            let mut options = File::options();
-            options.write(true).create(true);
-            options.open(rt, path)
-        }
-        opened => opened,
-    }
 }

@@ -3,6 +3,7 @@
 
 use log::{info, warn};
 use rc_asked::SessionRequest;
+use rc_cli::begins_update;
 use rc_console::{live_at, tell_failure, tell_file};
 use rc_sessions::{HeldFiles, LiveStore, RunFiles, Unrecovered, left_report, recover_by};
 use rc_streams::live_lock::{self, LockFault};
@@ -23,6 +24,8 @@ pub struct Bases<'a> {
 pub struct LiveFiles<'a> {
     pub store: LiveStore<'a>,
     pub run_files: Option<RunFiles>,
+    /// Whether what was entered is the first step of an update between these databases.
+    pub again: bool,
 }
 
 /// Opens the file of `-l` for a session that is to do something, or only to show it. What a command
@@ -44,14 +47,22 @@ pub fn open<'a>(
         return Ok(LiveFiles {
             store,
             run_files: None,
+            again: false,
         });
     }
-    if let Err(status) = recover(rt, live, bases) {
-        drop(store);
-        return Err(status);
-    }
+    let again = match recover(rt, live, bases) {
+        Ok(again) => again,
+        Err(status) => {
+            drop(store);
+            return Err(status);
+        }
+    };
     match store.run_files(&request.making) {
-        Ok(run_files) => Ok(LiveFiles { store, run_files }),
+        Ok(run_files) => Ok(LiveFiles {
+            store,
+            run_files,
+            again,
+        }),
         Err(error) => {
             drop(store);
             Err(tell_log_fault(rt, live, &error))
@@ -112,24 +123,25 @@ fn tell_report(rt: &HostRuntime, report: &[u8]) {
     }
 }
 
-/// Enters what the run log of a session leaves, and removes what called its command off.
-fn recover(rt: &HostRuntime, path: &str, bases: Bases<'_>) -> Result<(), u8> {
+/// Enters what the run log of a session leaves, and removes what called its command off. Returns
+/// whether that was the first step of an update between these databases.
+fn recover(rt: &HostRuntime, path: &str, bases: Bases<'_>) -> Result<bool, u8> {
     match run_file::read(rt, path) {
         Ok(Some(log)) => {
             let _ = stop_file::remove(rt, path);
             if log.is_empty() {
                 drop(log);
-                return Ok(());
+                return Ok(false);
             }
             recover_log(rt, path, bases, log)
         }
-        Ok(None) => Ok(()),
+        Ok(None) => Ok(false),
         Err(error) => Err(tell_log_fault(rt, path, &error)),
     }
 }
 
 /// The same with the log.
-fn recover_log(rt: &HostRuntime, path: &str, bases: Bases<'_>, log: Vec<u8>) -> Result<(), u8> {
+fn recover_log(rt: &HostRuntime, path: &str, bases: Bases<'_>, log: Vec<u8>) -> Result<bool, u8> {
     match live_at(rt, Some(path)) {
         Ok(Some(text)) => recover_text(rt, path, bases, text, log),
         Ok(None) => {
@@ -151,21 +163,22 @@ fn recover_text(
     bases: Bases<'_>,
     text: Vec<u8>,
     log: Vec<u8>,
-) -> Result<(), u8> {
+) -> Result<bool, u8> {
     if !is_of(&text, &log) {
         drop((text, log));
         return forget(rt, path);
     }
+    let again = is_first_step(rt, bases, &text, &log);
     let mut files = HeldFiles::new(rt, path, text, log);
     let done = match recovered(rt, bases, &mut files) {
         Some(Ok(Some(report))) => {
             info!(Messages(rt); target: MESSAGE, "Recovered");
             tell_report(rt, &report);
             drop(report);
-            Ok(())
+            Ok(again)
         }
         // There was nothing to enter; or the command itself is refused.
-        Some(Ok(None)) | Some(Err(Unrecovered::Database)) => Ok(()),
+        Some(Ok(None)) | Some(Err(Unrecovered::Database)) => Ok(false),
         Some(Err(fault)) => Err(tell_unrecovered(rt, path, fault, &files)),
         None => Err(tell_unfit(
             rt,
@@ -175,6 +188,14 @@ fn recover_text(
     };
     drop(files);
     done
+}
+
+/// Whether a log is that of the first step of an update between these databases.
+fn is_first_step(rt: &HostRuntime, bases: Bases<'_>, text: &[u8], log: &[u8]) -> bool {
+    match (bases.first, bases.other) {
+        (Some(old), Some(new)) => begins_update(rt.alloc(), old, new, text, log),
+        _ => false,
+    }
 }
 
 /// Whether a log begins with the text of a session, and has more.
@@ -198,9 +219,9 @@ fn recovered(
 }
 
 /// Removes a log that leaves nothing to enter.
-fn forget(rt: &HostRuntime, path: &str) -> Result<(), u8> {
+fn forget(rt: &HostRuntime, path: &str) -> Result<bool, u8> {
     match run_file::remove(rt, path) {
-        Ok(()) => Ok(()),
+        Ok(()) => Ok(false),
         Err(error) => Err(tell_log_fault(rt, path, &error)),
     }
 }
@@ -227,7 +248,13 @@ fn tell_cut(rt: &HostRuntime, live: Option<&str>) {
 /// Tells why the file of `-l` was not locked, and answers the status.
 fn tell_lock(rt: &HostRuntime, path: &str, fault: &LockFault) -> u8 {
     match fault {
-        LockFault::Busy => tell_failure(rt, "Busy"),
+        LockFault::Busy(owner) => {
+            let status = tell_failure(rt, "Busy");
+            if let Some(owner) = owner {
+                info!(Messages(rt); target: HINT, "process {owner} goes on with {path}");
+            }
+            status
+        }
         LockFault::Failed(error) => tell_file(rt, path, error),
     }
 }

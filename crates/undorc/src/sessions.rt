@@ -35,7 +35,11 @@ pub fn serve<T: Threads + Wait + Sync>(
         other: None,
     };
     let files = live_files::open(rt, request, moves(once_of(service)), bases);
-    let LiveFiles { store, run_files } = match files {
+    let LiveFiles {
+        store,
+        run_files,
+        again: _,
+    } = match files {
         Ok(files) => files,
         Err(status) => return status,
     };
