@@ -160,7 +160,8 @@ _undorc_words() {
                 esac
             fi
             ;;
-        plan | change) _undorc_offer < <(_undorc_names all) ;;
+        plan | change | add) _undorc_offer < <(_undorc_names all) ;;
+        delete) _undorc_offer < <(_undorc_names bundles) ;;
         help) [[ ${#found[@]} -gt 0 ]] || _undorc_commands ;;
     esac
 }

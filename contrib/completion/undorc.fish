@@ -126,6 +126,7 @@ end
 complete -c undorc -f
 complete -c undorc -s h -l help -d 'Print help'
 __undorc_offers
-complete -c undorc -n '__undorc_is plan change' -a '(__undorc_names all)' -d 'Name'
+complete -c undorc -n '__undorc_is plan change add' -a '(__undorc_names all)' -d 'Name'
+complete -c undorc -n '__undorc_is delete' -a '(__undorc_names bundles)' -d 'Name'
 complete -c undorc -n '__undorc_is compile' -a '(__fish_complete_directories)' -d 'Source directory'
 complete -c undorc -n '__undorc_is db' -a '(__undorc_query)'

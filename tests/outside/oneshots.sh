@@ -13,7 +13,8 @@ alike() {
     status=$1 list=$2 line=$3
     shift 3
     cp live other
-    printf '%s\n' "$line" | "$program" session -b base -x "$list" -l other > out.wanted 2> err.wanted || true
+    printf '%s\n' "$line" | "$program" session -b base -x "$list" -l other > out.wanted 2> told || true
+    firsts told > err.wanted
     runs "$@" -b base -x "$list" -l live
     cmp -s live other || echo 'the files differ' >> err
     judge "undorc $* -x $list, as a session of one line" "$status"
@@ -67,6 +68,43 @@ shows 0 'at 2 of 5\n0 +net +root\n1 +log\n2 +db +web\n3 -db -log -web\nok\n' jou
 alike 0 none undo undo
 alike 0 none undo undo
 alike 1 none undo undo
+
+# Bundles are added and deleted, shown, and brought back.
+# edited STATUS LINE WORDS..: the command of these words ends so, and does what a session of one line does
+edited() {
+    status=$1 line=$2
+    shift 2
+    cp live other
+    printf '%s\n' "$line" | "$program" session -b base -l other > out.wanted 2> told || true
+    firsts told > err.wanted
+    runs "$@" -b base -l live
+    cmp -s live other || echo 'the files differ' >> err
+    judge "undorc $*, as a session of one line" "$status"
+}
+edited 0 'add mine net log' add mine net log
+shows 0 'bundle mine log net\nbundle site web\nok\n' bundles
+edited 1 'add mine web' add mine web
+edited 0 'add -f mine web' add -f mine web
+edited 0 'add -f mine' add mine -f
+edited 1 'add net web' add net web
+edited 1 'add other nobody' add other nobody
+edited 0 'delete mine' delete mine
+edited 1 'delete mine' delete mine
+edited 0 'delete -f mine site' delete -f mine site
+shows 0 'ok\n' bundles
+edited 0 undo undo
+shows 0 'bundle site web\nok\n' bundles
+edited 0 undo undo
+edited 0 'change mine' change mine -x none
+wrong add
+wrong add -f
+wrong delete
+wrong add 'a b' net
+says '^undorc: add wants a name first'
+wrong add '' net
+wrong add s6rc-mine net
+wrong bundles mine
+wrong add mine net -w 2
 
 # Essential services stay, and that is all that was planned.
 rm live

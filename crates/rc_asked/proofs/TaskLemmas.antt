@@ -52,8 +52,8 @@ what_no_events rows (Said SaysWrong) asks = tt
 what_no_events rows (Said (SaysStep (Change ask events))) asks = asks.1
 what_no_events rows (Said (SaysStep (Undo limit events))) asks = asks.1
 what_no_events rows (Said (SaysStep (Redo limit events))) asks = asks.1
-what_no_events rows (Said (SaysStep (Add name contents force))) asks = absurd asks
-what_no_events rows (Said (SaysStep (Delete words force))) asks = absurd asks
+what_no_events rows (Said (SaysStep (Add name contents force))) asks = refl
+what_no_events rows (Said (SaysStep (Delete words force))) asks = refl
 what_no_events rows (Said (SaysDry ask)) asks = tt
 what_no_events rows (Said SaysLive) asks = tt
 what_no_events rows (Said SaysBundles) asks = tt
@@ -86,21 +86,36 @@ apart name other no_test is = let yes : bytes_eq name other ≡ true = (bytes_eq
 -- a name is that of no command of one line
 pub once_apart : (name : Text) → bytes_eq name [] ≡ false → bytes_eq name (codes "change") ≡ false
     → bytes_eq name (codes "undo") ≡ false → bytes_eq name (codes "redo") ≡ false
-    → bytes_eq name (codes "live") ≡ false → bytes_eq name (codes "journal") ≡ false
+    → bytes_eq name (codes "add") ≡ false → bytes_eq name (codes "delete") ≡ false
+    → bytes_eq name (codes "live") ≡ false → bytes_eq name (codes "bundles") ≡ false
+    → bytes_eq name (codes "journal") ≡ false
     → (what : OnceSaying) → name ≡ once_command what → ⊥
-once_apart name none change undo redo live journal (Said SaysNothing) is = apart name [] none is
-once_apart name none change undo redo live journal (Said SaysWrong) is = apart name [] none is
-once_apart name none change undo redo live journal (Said (SaysStep (Change ask events))) is = apart name (codes "change") change is
-once_apart name none change undo redo live journal (Said (SaysStep (Undo limit events))) is = apart name (codes "undo") undo is
-once_apart name none change undo redo live journal (Said (SaysStep (Redo limit events))) is = apart name (codes "redo") redo is
-once_apart name none change undo redo live journal (Said (SaysStep (Add word contents force))) is = apart name [] none is
-once_apart name none change undo redo live journal (Said (SaysStep (Delete words force))) is = apart name [] none is
-once_apart name none change undo redo live journal (Said (SaysDry ask)) is = apart name (codes "change") change is
-once_apart name none change undo redo live journal (Said SaysLive) is = apart name (codes "live") live is
-once_apart name none change undo redo live journal (Said SaysBundles) is = apart name [] none is
-once_apart name none change undo redo live journal (Said SaysJournal) is = apart name (codes "journal") journal is
-once_apart name none change undo redo live journal WantsDryUndo is = apart name (codes "undo") undo is
-once_apart name none change undo redo live journal WantsDryRedo is = apart name (codes "redo") redo is
+once_apart name none change undo redo add delete live bundles journal (Said SaysNothing) is =
+    apart name [] none is
+once_apart name none change undo redo add delete live bundles journal (Said SaysWrong) is =
+    apart name [] none is
+once_apart name none change undo redo add delete live bundles journal (Said (SaysStep (Change ask events))) is =
+    apart name (codes "change") change is
+once_apart name none change undo redo add delete live bundles journal (Said (SaysStep (Undo limit events))) is =
+    apart name (codes "undo") undo is
+once_apart name none change undo redo add delete live bundles journal (Said (SaysStep (Redo limit events))) is =
+    apart name (codes "redo") redo is
+once_apart name none change undo redo add delete live bundles journal (Said (SaysStep (Add word contents force))) is =
+    apart name (codes "add") add is
+once_apart name none change undo redo add delete live bundles journal (Said (SaysStep (Delete words force))) is =
+    apart name (codes "delete") delete is
+once_apart name none change undo redo add delete live bundles journal (Said (SaysDry ask)) is =
+    apart name (codes "change") change is
+once_apart name none change undo redo add delete live bundles journal (Said SaysLive) is =
+    apart name (codes "live") live is
+once_apart name none change undo redo add delete live bundles journal (Said SaysBundles) is =
+    apart name (codes "bundles") bundles is
+once_apart name none change undo redo add delete live bundles journal (Said SaysJournal) is =
+    apart name (codes "journal") journal is
+once_apart name none change undo redo add delete live bundles journal WantsDryUndo is =
+    apart name (codes "undo") undo is
+once_apart name none change undo redo add delete live bundles journal WantsDryRedo is =
+    apart name (codes "redo") redo is
 
 -- matches that ask nothing of their command ask nothing
 pub db_none : (rows : List Row) → ((ask : DbAsk) → AsksIn rows ask → ⊥) → (ask : TaskAsk) → AsksNamed (codes "db") rows ask → ⊥
@@ -109,7 +124,8 @@ db_none rows none (OfDb ask file) asks = none ask asks.1.0
 db_none rows none (OfPlan ask file) asks = apart (codes "db") (codes "plan") refl asks.0
 db_none rows none (OfReplay file) asks = apart (codes "db") (codes "replay") refl asks.0
 db_none rows none (OfSession ask file) asks = apart (codes "db") (codes "session") refl asks.0
-db_none rows none (OfOnce ask file) asks = once_apart (codes "db") refl refl refl refl refl refl ask.what asks.0
+db_none rows none (OfOnce ask file) asks = once_apart (codes "db") refl refl refl refl refl refl refl refl refl
+    ask.what asks.0
 db_none rows none (OfUpdate ask file) asks = apart (codes "db") (codes "update") refl asks.0
 db_none rows none (OfStop file) asks = apart (codes "db") (codes "stop") refl asks.0
 db_none rows none OfVersion asks = apart (codes "db") (codes "version") refl asks.0
@@ -120,7 +136,8 @@ plan_none rows none (OfDb ask file) asks = apart (codes "plan") (codes "db") ref
 plan_none rows none (OfPlan ask file) asks = let both : None ≡ Some ask = sym none ∙ asks.1.0 in cc
 plan_none rows none (OfReplay file) asks = apart (codes "plan") (codes "replay") refl asks.0
 plan_none rows none (OfSession ask file) asks = apart (codes "plan") (codes "session") refl asks.0
-plan_none rows none (OfOnce ask file) asks = once_apart (codes "plan") refl refl refl refl refl refl ask.what asks.0
+plan_none rows none (OfOnce ask file) asks = once_apart (codes "plan") refl refl refl refl refl refl refl refl refl
+    ask.what asks.0
 plan_none rows none (OfUpdate ask file) asks = apart (codes "plan") (codes "update") refl asks.0
 plan_none rows none (OfStop file) asks = apart (codes "plan") (codes "stop") refl asks.0
 plan_none rows none OfVersion asks = apart (codes "plan") (codes "version") refl asks.0
@@ -131,7 +148,8 @@ session_none rows none (OfDb ask file) asks = apart (codes "session") (codes "db
 session_none rows none (OfPlan ask file) asks = apart (codes "session") (codes "plan") refl asks.0
 session_none rows none (OfReplay file) asks = apart (codes "session") (codes "replay") refl asks.0
 session_none rows none (OfSession ask file) asks = none ask asks.1.0
-session_none rows none (OfOnce ask file) asks = once_apart (codes "session") refl refl refl refl refl refl ask.what asks.0
+session_none rows none (OfOnce ask file) asks = once_apart (codes "session") refl refl refl refl refl refl refl refl refl
+    ask.what asks.0
 session_none rows none (OfUpdate ask file) asks = apart (codes "session") (codes "update") refl asks.0
 session_none rows none (OfStop file) asks = apart (codes "session") (codes "stop") refl asks.0
 session_none rows none OfVersion asks = apart (codes "session") (codes "version") refl asks.0
@@ -142,7 +160,8 @@ update_none rows none (OfDb ask file) asks = apart (codes "update") (codes "db")
 update_none rows none (OfPlan ask file) asks = apart (codes "update") (codes "plan") refl asks.0
 update_none rows none (OfReplay file) asks = apart (codes "update") (codes "replay") refl asks.0
 update_none rows none (OfSession ask file) asks = apart (codes "update") (codes "session") refl asks.0
-update_none rows none (OfOnce ask file) asks = once_apart (codes "update") refl refl refl refl refl refl ask.what asks.0
+update_none rows none (OfOnce ask file) asks = once_apart (codes "update") refl refl refl refl refl refl refl refl refl
+    ask.what asks.0
 update_none rows none (OfUpdate ask file) asks = none ask asks.1.0
 update_none rows none (OfStop file) asks = apart (codes "update") (codes "stop") refl asks.0
 update_none rows none OfVersion asks = apart (codes "update") (codes "version") refl asks.0

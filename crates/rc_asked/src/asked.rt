@@ -1,13 +1,14 @@
 //! What the words ask of a command.
-ghost use Rattle.std.specs.Prelude.{◌≡◌, ◌≢◌, ◌⊎◌, map, None, Some, string_bytes, IfErr, IfOk};
+ghost use Rattle.std.specs.Prelude.{◌≡◌, ◌≢◌, ◌⊎◌, ◌↔◌, map, None, Some, string_bytes, IfErr, IfOk, IsTrue};
 ghost use Rattle.clap.specs.Words.{found_of, rows_of};
 ghost use Rattle.rc_select.specs.Ask.{ask_of};
-ghost use Rattle.rc_asked.specs.Asked.{ask_in, mode_of, plan_asked};
+ghost use Rattle.rc_asked.specs.Asked.{AsksHelp, ask_in, mode_of, plan_asked};
 ghost use Rattle.rc_streams.specs.Input.{AppendsFront, failure_text, fault_line};
 ghost use Rattle.rc_asked.specs.declared.asked.WordsFault.TheVariants.{Memory};
 
 use crate::matched::{command_in, matches_in};
 use crate::texts::words_in;
+use clap::error::ErrorKind;
 use clap::{ArgMatches, Error as ClapError};
 use rc_command::is_on;
 use rc_select::{Mode, Request};
@@ -35,6 +36,8 @@ pub enum WordsFault {
     Files,
     /// They name no file of the session whose command is to be called off.
     Session,
+    /// Their first word is no name that a bundle may have.
+    Name,
     /// Their number of workers is none from 1 to 64.
     Workers,
     /// Their bound on how many states there are is none of at least 3.
@@ -111,6 +114,17 @@ fn mode_of(up: bool, down: bool, down_all: bool) -> Option<Mode>
     }
 }
 
+/// Whether the words ask for help. What `tell_words` writes then is what was asked for, and belongs
+/// on standard output.
+pub fn asks_help(fault: &WordsFault) -> bool
+    ensures { IsTrue result ↔ AsksHelp fault.now }
+{
+    match fault {
+        WordsFault::Found(error) => error.kind() == ErrorKind::DisplayHelp,
+        _ => false,
+    }
+}
+
 /// Tells why the words ask nothing, and answers the status.
 pub fn tell_words<F: Write>(faults: &mut F, fault: &WordsFault) -> u8
     ensures statuses { (result ≡ 100) ⊎ (result ≡ 111) }
@@ -143,6 +157,7 @@ fn words_of(fault: &WordsFault) -> &'static str {
         WordsFault::Live => "-l of db goes with the query dot alone",
         WordsFault::Files => "update wants -b and -l, or UNDORC_DB and UNDORC_LIVE, and -B",
         WordsFault::Session => "stop wants -l, or UNDORC_LIVE",
+        WordsFault::Name => "add wants a name first: 1 to 255 bytes, without spaces and newlines",
         WordsFault::Workers => "-w wants a number from 1 to 64",
         WordsFault::Bound => "-n wants a number from 3 to 4294967295",
         WordsFault::Limit => "-t and -T want a number from 0 to 4294967295",

@@ -16,7 +16,7 @@ mod texts;
 mod transitions;
 mod update_words;
 
-pub use crate::asked::{WordsFault, plan_asked, tell_words};
+pub use crate::asked::{WordsFault, asks_help, plan_asked, tell_words};
 pub use crate::compile_words::CompileRequest;
 pub use crate::db_words::{DbRequest, Query, db_asked};
 pub use crate::once_words::{Once, OnceRequest};

@@ -1,7 +1,7 @@
 //! What the words ask of a session of one line.
-ghost use Rattle.std.specs.Prelude.{◌≡◌, ◌≢◌, codes, option_map, IfErr, IfOk};
+ghost use Rattle.std.specs.Prelude.{◌≡◌, ◌≢◌, codes, map, option_map, IfErr, IfOk};
 ghost use Rattle.clap.specs.Words.{found_of, rows_of};
-ghost use Rattle.rc_asked.specs.OnceAsked.{AsksOnceIn, AsksWhat, AsksWhatIn, OnceAsk, OnceSaying};
+ghost use Rattle.rc_asked.specs.OnceAsked.{Adds, AsksOnceIn, AsksWhat, AsksWhatIn, OnceAsk, OnceSaying};
 ghost use Rattle.rc_asked.specs.OnceAsked.{once_ask_of, once_command, once_saying_of};
 ghost use Rattle.rc_asked.specs.declared.asked.WordsFault.TheVariants.{Memory};
 
@@ -9,8 +9,10 @@ use crate::asked::{WordsFault, plan_in};
 use crate::limits::run_limit_of;
 use crate::session_request::SessionRequest;
 use crate::session_words::session_in;
+use crate::texts::{strings_of, words_in};
 use clap::ArgMatches;
 use rc_command::is_on;
+use rc_names::{Name, NameFault};
 use rc_script::SessionLine;
 use rc_session::Step;
 use std::alloc::Global;
@@ -81,7 +83,10 @@ fn what_in(alloc: Global, name: &str, matches: &ArgMatches<'_>) -> Result<Once, 
         "change" => change_in(alloc, matches),
         "undo" => undo_in(alloc, matches),
         "redo" => redo_in(alloc, matches),
+        "add" => add_in(alloc, matches),
+        "delete" => delete_in(alloc, matches),
         "live" => Ok(Once::Line(SessionLine::Live)),
+        "bundles" => Ok(Once::Line(SessionLine::Bundles)),
         "journal" => Ok(Once::Line(SessionLine::Journal)),
         _ => Err(WordsFault::OtherCommand),
     }
@@ -137,5 +142,49 @@ fn redo_in(alloc: Global, matches: &ArgMatches<'_>) -> Result<Once, WordsFault>
         return Ok(Once::DryRedo);
     }
     let step = Step::Redo(limit, Vec::new(alloc));
+    Ok(Once::Line(SessionLine::Step(step)))
+}
+
+// What the matches of `add` ask to be done.
+fn add_in(alloc: Global, matches: &ArgMatches<'_>) -> Result<Once, WordsFault>
+    ensures asked { IfOk result (λ once.
+        AsksWhat (codes "add") (rows_of (found_of matches.now)) (once_saying_of once)) }
+    ensures wrong { IfErr result (λ fault. fault ≢ Memory → (what : OnceSaying) →
+        AsksWhat (codes "add") (rows_of (found_of matches.now)) what → ⊥) }
+{
+    let force = is_on(matches, "force");
+    match matches.get_strs("words") {
+        Some(words) => bundle_of(alloc, words, force),
+        None => Err(WordsFault::Name),
+    }
+}
+
+// A bundle of the first word, which holds what the others name.
+fn bundle_of(alloc: Global, words: &[&str], force: bool) -> Result<Once, WordsFault>
+    ensures asked { IfOk result (λ once.
+        Adds (map (λ word. word.now) words.now) force (once_saying_of once)) }
+    ensures wrong { IfErr result (λ fault. fault ≢ Memory → (what : OnceSaying) →
+        Adds (map (λ word. word.now) words.now) force what → ⊥) }
+{
+    let Some((first, rest)) = words.split_first() else {
+        return Err(WordsFault::Name);
+    };
+    let name = match Name::read(alloc, first) {
+        Ok(name) => name,
+        Err(NameFault::Memory) => return Err(WordsFault::Memory),
+        Err(_) => return Err(WordsFault::Name),
+    };
+    let contents = strings_of(alloc, rest)?;
+    Ok(Once::Line(SessionLine::Step(Step::Add(name, contents, force))))
+}
+
+// What the matches of `delete` ask to be done.
+fn delete_in(alloc: Global, matches: &ArgMatches<'_>) -> Result<Once, WordsFault>
+    ensures asked { IfOk result (λ once.
+        AsksWhat (codes "delete") (rows_of (found_of matches.now)) (once_saying_of once)) }
+    ensures wrong { IfErr result (λ fault. fault ≡ Memory) }
+{
+    let names = words_in(alloc, matches)?;
+    let step = Step::Delete(names, is_on(matches, "force"));
     Ok(Once::Line(SessionLine::Step(step)))
 }

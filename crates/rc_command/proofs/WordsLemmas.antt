@@ -10,8 +10,8 @@ use Rattle.clap.specs.declared.error.ErrorKind.TheVariants.{OutOfMemory}
 use Rattle.clap.specs.declared.ArgMatches.{ArgMatches}
 use Rattle.clap.proofs.WalkLemmas.{first_value-rows, raw_values-rows}
 use Rattle.std.specs.Option.{option_map_or}
-use Rattle.rc_command.specs.Commands.{Reads, asking_program, bare, bare_program, change_command, changing_program, compile_command, db_command, flag, new_option, option, plan_command, program}
-use Rattle.rc_command.specs.Commands.{query_word, replay_command, session_command, show_command, source_list, step_command, stop_command, update_command, with_arg, with_command, word_list}
+use Rattle.rc_command.specs.Commands.{Reads, altering_program, asking_program, bare, bare_program, change_command, changing_program, compile_command, db_command, flag, new_option, option, plan_command, program}
+use Rattle.rc_command.specs.Commands.{edit_command, query_word, replay_command, session_command, show_command, source_list, step_command, stop_command, update_command, with_arg, with_command, word_list}
 use Rattle.rc_command.specs.Words.{has_fault, is_on, rows_for, rows_named, words_in}
 
 -- what is opaque to the program is not to `clap`
@@ -21,11 +21,11 @@ read c reads = reads.0
 
 -- what `clap`'s clauses ask of the program
 program_is_plain : is_simple program ≡ true
-unfolding program changing_program asking_program bare with_arg with_command flag option word_list source_list query_word plan_command compile_command db_command replay_command session_command change_command step_command stop_command show_command bare_program update_command new_option
+unfolding program altering_program changing_program asking_program bare with_arg with_command flag option word_list source_list query_word plan_command compile_command db_command replay_command session_command change_command step_command stop_command edit_command show_command bare_program update_command new_option
 program_is_plain = refl
 
 program_is_simple : is_simple_and_free program ≡ true
-unfolding program changing_program asking_program bare with_arg with_command flag option word_list source_list query_word plan_command compile_command db_command replay_command session_command change_command step_command stop_command show_command bare_program update_command new_option
+unfolding program altering_program changing_program asking_program bare with_arg with_command flag option word_list source_list query_word plan_command compile_command db_command replay_command session_command change_command step_command stop_command edit_command show_command bare_program update_command new_option
 program_is_simple = refl
 
 -- what the matches hold is what the words ask for

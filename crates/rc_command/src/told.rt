@@ -197,6 +197,33 @@ const UPDATE: [ToldArg; 11] = [
 
 const SHOW: [ToldArg; 3] = [BASE, LIVE, WAIT];
 
+// What alters bundles.
+const FORCE: ToldArg = Flag(
+    "force",
+    'f',
+    "Also where a bundle of this name stands already, or none that is to go",
+);
+
+const ADD: [ToldArg; 5] = [
+    BASE,
+    LIVE,
+    WAIT,
+    FORCE,
+    Words(
+        1,
+        "NAME",
+        "The name of the bundle, and then those of what it holds",
+    ),
+];
+
+const DELETE: [ToldArg; 5] = [
+    BASE,
+    LIVE,
+    WAIT,
+    FORCE,
+    Words(1, "NAME", "The name of a bundle"),
+];
+
 const STOP: [ToldArg; 1] = [Valued(
     "live",
     'l',
@@ -205,7 +232,7 @@ const STOP: [ToldArg; 1] = [Valued(
 )];
 
 /// The commands.
-pub(crate) const COMMANDS: [ToldCommand; 13] = [
+pub(crate) const COMMANDS: [ToldCommand; 16] = [
     ToldCommand {
         name: "compile",
         about: "Makes the database that source directories define",
@@ -252,8 +279,23 @@ pub(crate) const COMMANDS: [ToldCommand; 13] = [
         args: &UPDATE,
     },
     ToldCommand {
+        name: "add",
+        about: "Makes a bundle of services, which undo takes back",
+        args: &ADD,
+    },
+    ToldCommand {
+        name: "delete",
+        about: "Deletes bundles, which undo brings back",
+        args: &DELETE,
+    },
+    ToldCommand {
         name: "live",
         about: "Prints what is up",
+        args: &SHOW,
+    },
+    ToldCommand {
+        name: "bundles",
+        about: "Prints each bundle with its services",
         args: &SHOW,
     },
     ToldCommand {
