@@ -384,7 +384,7 @@ fails 1 'PipelineName q' many
 wrong compile
 wrong compile -x
 wrong compile empty -b base
-wrong compile --help
+prints_help compile --help
 says '^Usage: undorc compile \[OPTIONS\] <SOURCE>\.\.\.$'
 wrong compile "$strange"
 says '^undorc: a word of the command line is not UTF-8$'

@@ -28,7 +28,8 @@ with() {
 # firsts FILE: what was told, without the lines that stand after a fault or after the refusal of a name, and help; they
 # begin with two spaces.
 firsts() {
-    sed -e '/^  nothing is named /d' -e '/^  options stand /d' -e '/^undorc: /,$ { /^  /d; }' "$1"
+    sed -e '/^  nothing is named /d' -e '/^  options stand /d' -e '/^  no change is /d' -e '/^  -p goes /d' \
+        -e '/^undorc: /,$ { /^  /d; }' "$1"
 }
 
 # judge WHAT STATUS: the files `status`, `out` and `err` against what is wanted, without what helps after a fault.
@@ -83,7 +84,22 @@ wrong() {
     judge "undorc $*" 100
 }
 
-# What is told of a wrong command line has this line.
+# Help that is asked for: it is printed on standard output, with the status of a call that does nothing, and nothing is read.
+prints_help() {
+    printf '%b' "$sample" > in
+    echo 0 > status
+    { "$program" "$@" > out 2> err || echo $? > status; cat > rest; } < in
+    if cmp -s in rest && grep -q '^Usage: undorc' out; then
+        cp out out.wanted
+    else
+        echo 'help on standard output, and all of the input left' > out.wanted
+    fi
+    : > err.wanted
+    judge "undorc $*" 100
+    cp out err
+}
+
+# What is told of a wrong command line, or the help that was asked for, has this line.
 says() {
     passed=$((passed + 1))
     if ! grep -q -e "$1" err; then

@@ -22,12 +22,12 @@ wrong plan -u -u web
 wrong plan -uu
 wrong plan -u=web
 wrong plan -uweb
-wrong -h
-wrong --help
-wrong help
-wrong help plan
-wrong plan -h
-wrong plan --help
+prints_help -h
+prints_help --help
+prints_help help
+prints_help help plan
+prints_help plan -h
+prints_help plan --help
 says '^Usage: undorc plan \[OPTIONS\] \[NAME\]\.\.\.$'
 says '^  -u  '
 says '^  -b <FILE>  '
@@ -79,7 +79,7 @@ wrong -d db check
 wrong db "$strange"
 wrong db frob
 says '^undorc: db has no such query, or it takes other words; `undorc db --help` lists the queries$'
-wrong db --help
+prints_help db --help
 says '^Usage: undorc db '
 
 # Scripts.
@@ -133,10 +133,10 @@ wrong session -b nowhere -x up
 wrong session -b nowhere -x none -w 0
 wrong -x none session
 wrong Session -x none
-wrong session -h
-wrong session -x none --help
-wrong help session
-wrong session --help
+prints_help session -h
+prints_help session -x none --help
+prints_help help session
+prints_help session --help
 says '^Usage: undorc session '
 says '^  -b <FILE>  '
 says '^  -w <N>  '
@@ -156,6 +156,6 @@ ln -s "$program" "$strange"
 known=$program
 program=./$strange
 expect 0 'raise db log net web\n' '' "${sample}root\n" plan -u web
-wrong plan --help
+prints_help plan --help
 says '^Usage: undorc plan '
 program=$known

@@ -17,7 +17,7 @@ use crate::stopping::stop;
 use crate::updates::update;
 use crate::usual::{Usual, usual_at};
 use log::error;
-use rc_asked::{Task, WordsFault, task_of, tell_words};
+use rc_asked::{Task, WordsFault, asks_help, task_of, tell_words};
 use rc_console::{compile, db, plan, replay, tell_failure};
 use rc_sessions::Service;
 use rc_streams::messages::{MESSAGE, Messages};
@@ -43,9 +43,10 @@ fn main(rt: HostRuntime) -> ExitCode {
                 let service = Service::Line(&request.once);
                 serve(&rt, &rt, &request.session, service, file)
             }
-            Ok(Task::Update(request, file)) => update(&rt, &rt, &request, file),
+            Ok(Task::Update(request, file)) => update(&rt, &rt, request, file),
             Ok(Task::Stop(file)) => stop(&rt, file),
             Ok(Task::Version) => version(&rt),
+            Err(fault) if asks_help(&fault) => tell_words(&mut rt.stdout(), &fault),
             Err(fault) => tell_words(&mut rt.stderr(), &fault),
         },
         (Err(error), _) => tell(&rt, "a word of the command line", &error),
