@@ -269,7 +269,10 @@ answers 1 'refused Unknown wbe\n' 'nothing is named wbe; is web meant?' "$(sed '
 answers 0 'refused Unknown dis\nlive\nok\n' 'nothing is named dis; is disk meant?' 'change dis\nlive\n' session -b db -x none
 answers 0 'refused Unknown dis\nlive\nok\n' 'nothing is named dis; is disk meant?' "$(sed 's/$/\\n/' whole | tr -d '\n')change dis\nlive\n" session -x none
 answers 0 'refused Unknown -u\n' "options stand in front of a line's word: -u change web" 'change -u web\n' session -b db -x none
-expect 1 'refused Unknown nobody\n' '' '' change -b db -x none nobody
+answers 1 'refused Unknown nobody\n' 'nothing is named nobody; undorc db list all prints the names' '' change -b db -x none nobody
+answers 1 'refused NothingToUndo\n' 'no change is left to undo; undorc journal prints those that are kept' '' undo -b db -x none
+answers 1 'refused NothingToRedo\n' 'no change is undone; undorc journal prints where the session stands' '' redo -b db -x none
+answers 1 'refused PruneNeedsUp\n' '-p goes with neither -d nor -D' '' change -pd -b db -x none web
 
 # The file of a session that is none: not taken for the database, nor the database for it.
 "$program" change web disk -b db -x none -l state > out
@@ -288,7 +291,7 @@ helps 1 'undorc: SameState\n' 'other: two states in a row are the same' -- undo 
 sed 's/^now .*/now wbe/' state > other
 helps 1 'undorc: Unknown\n' 'other: a state names what is no service of the database' -- live -b db -l other
 sed 's/^services .*/services disk/' state > other
-helps 1 'undorc: OtherDb\n' 'other: the session of another database; take that one, or carry it over by undorc update' -- live -b db -l other
+helps 1 'undorc: OtherDb\n' 'other: the session of another database; name that one by -b, also for undorc update' -- live -b db -l other
 helps 1 'undorc: Bad 0\n' 'state is no database: undorc compile makes one' -- live -b state -l state
 helps 1 'undorc: Unknown wbe\n' 'nothing is named wbe; is web meant?' -- change web -b db -x up:wbe -l state
 helps 111 'undorc: Io\n' 'services: is a directory' -- live -b db -l services

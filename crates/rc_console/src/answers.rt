@@ -1,5 +1,5 @@
-//! Standard output, with a word for people after an answer that refuses a name: which name may
-//! have been meant. The answers are written as they are.
+//! Standard output, with a word for people after an answer that refuses what is asked: which name
+//! may have been meant, or what to ask instead. The answers are written as they are.
 use crate::hints::{tell_hint, tell_near};
 use rc_names::NoMem;
 use std::io::{self, Stdout, Write};
@@ -44,6 +44,10 @@ impl<'a> Answers<'a> {
         if self.lacks {
             return Ok(());
         }
+        if let Some(hint) = refusal_hint(&self.answer) {
+            tell_hint(self.rt, hint);
+            return Ok(());
+        }
         let Some(name) = refused_name(&self.answer) else {
             return Ok(());
         };
@@ -83,6 +87,20 @@ impl Write for Answers<'_> {
         self.answer.clear();
         self.lacks = false;
         outcome
+    }
+}
+
+/// What helps after an answer that refuses what is asked, whatever it names.
+fn refusal_hint(answer: &[u8]) -> Option<&'static str> {
+    match std::str::from_utf8(answer).ok()? {
+        "refused NothingToUndo\n" => {
+            Some("no change is left to undo; undorc journal prints those that are kept")
+        }
+        "refused NothingToRedo\n" => {
+            Some("no change is undone; undorc journal prints where the session stands")
+        }
+        "refused PruneNeedsUp\n" => Some("-p goes with neither -d nor -D"),
+        _ => None,
     }
 }
 

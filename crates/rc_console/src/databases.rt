@@ -43,7 +43,7 @@ pub fn live_hint(alloc: Global, path: &str, bytes: &[u8], word: &str, rest: &str
         "Bad" => return bad_line(alloc, path, bytes, rest, &SESSION),
         "Version" => ":1: this program reads 'undorc-live 2' and 'undorc-live 1'",
         "OtherDb" =>
-            ": the session of another database; take that one, or carry it over by undorc update",
+            ": the session of another database; name that one by -b, also for undorc update",
         "Unknown" if rest.is_empty() => ": a state names what is no service of the database",
         "NotClosed" => ": a service is up without one that it needs, in state ",
         "SameState" => ": two states in a row are the same",
@@ -98,14 +98,20 @@ fn not_due(bytes: &[u8], offset: usize) -> &'static str {
     "this line has not the form that is due"
 }
 
-/// The name of a database that may have been meant.
+/// The name of a database that may have been meant, or how all of them are printed.
 pub fn near_hint(alloc: Global, database: &[u8], name: &str) -> Hint {
     let mut rest = database;
     for _ in 0..database.len() {
         let (line, behind) = next_line(rest);
         rest = behind;
         if line == "end" {
-            return Ok(None);
+            let mut said = Said::new(alloc);
+            said.add_row(
+                "nothing is named ",
+                name,
+                "; undorc db list all prints the names",
+            );
+            return said.hint();
         }
         if let Some(("service" | "bundle", words)) = line.split_once(' ') {
             let near = first_word(words);
