@@ -3,7 +3,6 @@
 # growth `n` of each call and all that follow; GROWTH, this one alone, where a vector may have asked for
 # less and all goes on, but not where the call has no other growth; THREAD, this start of a thread. It
 # prints the lines that are wrong.
-# A vector that can't be made as short as what it holds stays as long as it is.
 # A thread's start takes memory too, and more where none has ended before: where that is refused the call
 # is out of threads.
 FNR == 1 { part++ }
@@ -14,8 +13,8 @@ part == 1 { counts[FNR] = $0 }
 part == 2 { whole[FNR] = $0; lines = FNR }
 
 # Sets `before`, what is written of a line before the first call that is refused, with its name, and
-# `threads`, how many that starts; `over`, by how many growths it is before its end; and `shrinks`, whether
-# the last of them is to shrink; `answers`, how many of the last are for the answer to what is done by then.
+# `threads`, how many that starts; `over`, by how many growths it is before its end; and `answers`, how
+# many of the last are for the answer to what is done by then.
 # 0: none is refused.
 function is_refused(line,    calls, numbers, many, i, name, pair) {
     many = split(whole[line], calls, "; ")
@@ -26,7 +25,6 @@ function is_refused(line,    calls, numbers, many, i, name, pair) {
         sub(/: [^:]*$/, "", name)
         split(substr(numbers[i], length(name) + 3), pair, " ")
         threads = pair[2] + 0
-        shrinks = numbers[i] ~ /, the last to shrink$/
         answers = 0
         if (match(numbers[i], /, the last [0-9]+ for its answer$/))
             answers = substr(numbers[i], RSTART + length(", the last ")) + 0
@@ -49,7 +47,7 @@ function is_right(line, text,    refused, ended) {
         sub(/^: done/, ": out of memory", ended)
         return text == before ended
     }
-    if (text == whole[line] && (!refused || way == "GROWTH" && !only || shrinks && over == 0)) return 1
+    if (text == whole[line] && (!refused || way == "GROWTH" && !only)) return 1
     if (text == before ": out of memory, as before") return refused && way != "THREAD"
     if (text == before ": out of threads, as before")
         return threads > 0 && (refused || (way != "THREAD" && over >= -2 * threads))

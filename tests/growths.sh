@@ -2,8 +2,7 @@
 # The calls of the built program scenarios_memory with each growth refused in turn, and each start of a
 # thread: tests/growths.sh PROGRAM. tests/growths.txt names each call with the number of its growths, and
 # of the threads that it starts. A call of which one is refused tells that, and all is as before; where the
-# last is to shrink a vector, that stays as it is and all goes on; where the last are for the answer to what
-# is done by then, all is as after it. The last line is 'N passed, M failed, K skipped', and the status is 0
+# last are for the answer to what is done by then, all is as after it. The last line is 'N passed, M failed, K skipped', and the status is 0
 # where none failed.
 set -eu
 here=$(realpath "$(dirname "$0")")
@@ -39,7 +38,7 @@ awk 'NR == FNR { grown[FNR] = $1; started[FNR] = $2; next }
     }
     END { if (place != NR - FNR) print "the counts are of other calls" }' counts out > made
 cp made out
-sed -e 's/, the last to shrink//' -e 's/, the last [0-9]* for its answer//' "$here/growths.txt" > out.wanted
+sed 's/, the last [0-9]* for its answer//' "$here/growths.txt" > out.wanted
 judge 'the number of growths of each call' 0
 
 # The greatest number of growths, and of threads.
