@@ -38,11 +38,11 @@ holds() {
 
 # The commands of the program, and of each its options: lines `COMMAND OPTION`, with `=` after an
 # option that has a value.
-"$program" -h 2> said || true
+"$program" -h > said || true
 sed -n '/^Commands:/,/^$/s/^  \([a-z][a-z]*\)  .*/\1/p' said > commands
 grep -v -x help commands > own
 while read -r command; do
-    "$program" "$command" -h 2> said < /dev/null || true
+    "$program" "$command" -h > said < /dev/null || true
     sed -n -e "s/^  \(-[A-Za-z]\) <.*/$command \1=/p" -e "s/^  \(-[A-Za-z]\)  .*/$command \1/p" said
     [ "$command" != db ] || cp said asked
 done < own > options
