@@ -82,7 +82,11 @@ printf 'undorc: Recovered\n  raised a b\n  failed slow\n  blocked top\n' > told.
 cmp -s told told.wanted || cat told >> out
 wants 'ok\n' 'undorc: Recovered\n'
 judge 'a recovery reports what was moved' 0
-# The same command again completes.
+# The same command again completes. What the killed one had begun goes on, and ends before that.
+for turn in $(seq 250); do
+    ! grep -qx 'up slow' ran || break
+    sleep 0.02
+done
 : > ran
 expect 0 'raised slow top\nok\n' '' '' change -w 1 b top -b base -l live
 moved 'the same command again' 'up slow\nup top\n'
@@ -208,8 +212,12 @@ half() {
     old=$1 new=$2
     shift 2
     "$program" change a slow "$@" -b "$old" -l live < /dev/null > /dev/null
+    killed_update "$old" "$new"
+}
+# killed_update OLD NEW: the same of what is up
+killed_update() {
     rm -f go begun
-    "$program" update -b "$old" -B "$new" -w 1 -l live < /dev/null > cut.out 2> cut.err &
+    "$program" update -b "$1" -B "$2" -w 1 -l live < /dev/null > cut.out 2> cut.err &
     killed=$!
     until_begun
     kill -KILL "$killed"
@@ -229,6 +237,13 @@ expect 0 'lowered a slow\nok\nraised a slow top\nok\n' 'undorc: Recovered\n' '' 
 half next base top
 expect 0 'ok\n' 'undorc: Recovered\n' '' change -b next -l live
 expect 0 'lowered a slow\nok\nraised a slow\nok\n' '' '' update -b next -B base -l live
+# Where it has lowered nothing, what an earlier change lowered stays down.
+rm -f live ran begun
+: > go
+"$program" change a slow top -b next -l live < /dev/null > /dev/null
+"$program" change -d top -b next -l live < /dev/null > /dev/null
+killed_update next base
+expect 0 'lowered a slow\nok\nraised a slow\nok\n' 'undorc: Recovered\n' '' update -b next -B base -l live
 half base next
 "$program" update -b base -B next -l live < /dev/null > said 2> told || true
 grep -cx 'undorc: Recovered' told > out

@@ -174,8 +174,10 @@ fn recover_text(
         Some(Ok(Some(report))) => {
             info!(Messages(rt); target: MESSAGE, "Recovered");
             tell_report(rt, &report);
+            // Where it lowered nothing, the last entry of the session is that of an earlier command.
+            let lowers = report.starts_with(b"lowered ");
             drop(report);
-            Ok(again)
+            Ok(again && lowers)
         }
         // There was nothing to enter; or the command itself is refused.
         Some(Ok(None)) | Some(Err(Unrecovered::Database)) => Ok(false),
