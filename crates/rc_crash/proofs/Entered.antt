@@ -20,7 +20,7 @@ use Rattle.rc_recovery.specs.RunLog.{session_on}
 use Rattle.rc_crash.proofs.Cut.{can_least, least_way}
 use Rattle.rc_crash.proofs.Known.{Laws}
 
--- what is done is no want of memory
+-- what is done is not out of memory
 pub is_entered : (old : Holding) (command : Command) (report : Reported) (new : Holding)
     → Recovers old command (Ok report) new → Enters old command (Ok report) new
 is_entered old command report new (inl enters) = enters

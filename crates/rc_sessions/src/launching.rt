@@ -1,5 +1,5 @@
 //! A session is launched: its database, its gate and where it begins are found, it is served, and
-//! how it ended is told.
+//! its status is returned.
 ghost use Rattle.std.specs.Prelude.{◌≡◌, ◌⊎◌, ◌+◌, None, Err, IfErr, IfOk, MatchResult};
 ghost use Rattle.rc_streams.specs.Input.{AppendsFront, ConsumesAtMost, fault_line};
 ghost use Rattle.rc_streams.specs.Noting.{HasFailed, inner_of};
@@ -64,7 +64,7 @@ pub fn launch<T: Threads + Wait + Sync, R: Read, W: Write, F: Write, S: Store, L
         (S.failed (store_of devices.new.outputs.keeper))
         (F.contents devices.old.faults) (F.contents devices.new.faults) }
 
-    // Where the reader has failed, that is the cause that is told.
+    // Where the reader has failed, that is the cause that is reported.
     ensures cause { HasFailed devices.new.reader → (result ≡ 111)
         × AppendsFront (F.contents devices.old.faults) (F.contents devices.new.faults)
         (fault_line (serve_word Unread)) }

@@ -56,7 +56,7 @@ pub struct Outputs<W, S> {
     pub keeper: TextKeeper<S>,
 }
 
-/// The devices of a session: what it reads, where its answers go, and where faults are told.
+/// The devices of a session: what it reads, where its answers go, and where faults go.
 #[derive(Drop)]
 pub struct Devices<R, W, F, S> {
     pub reader: Noted<R>,

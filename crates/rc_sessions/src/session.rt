@@ -39,7 +39,7 @@ pub fn session_run<T: Threads + Wait + Sync, R: Read, W: Write, F: Write, S: Sto
         (S.failed (store_of devices.new.outputs.keeper))
         (F.contents devices.old.faults) (F.contents devices.new.faults) }
 
-    // Where the reader has failed, that is the cause that is told.
+    // Where the reader has failed, that is the cause that is reported.
     ensures cause { HasFailed devices.new.reader → (result ≡ 111)
         × AppendsFront (F.contents devices.old.faults) (F.contents devices.new.faults)
         (fault_line (serve_word Unread)) }

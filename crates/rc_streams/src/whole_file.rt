@@ -2,11 +2,11 @@
 use std::fs::File;
 use std::io::{self, Read};
 
-/// The most bytes for which room is taken before a byte is read: a size may be told wrongly.
+/// The most bytes for which room is taken before a byte is read: a size may be wrong.
 const MAX_ROOM: u64 = 67_108_864;
 
-/// The bytes of a file, in a buffer of its size. What has no size that is told, as a pipe, is read
-/// in pieces.
+/// The bytes of a file, in a buffer of its size. What has no size, as a pipe, is read in
+/// pieces.
 pub fn read(rt: &HostRuntime, path: &str) -> io::Result<Vec<u8>> {
     let mut file = File::open(rt, path)?;
     let size = file.metadata()?.len();

@@ -59,7 +59,7 @@ fn show_two(rt: &impl Print, one: &str, other: &str) -> io::Result<()> {
     }
 }
 
-/// What a worker who asks for a job is told.
+/// What a worker gets that asks for a job.
 fn word(took: &Result<Took, NotLegal>) -> &'static str {
     match took {
         Ok(Took::Job(job)) => SERVICES

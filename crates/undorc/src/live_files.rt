@@ -247,7 +247,7 @@ fn tell_cut(rt: &HostRuntime, live: Option<&str>) {
     drop((text, log));
 }
 
-/// Tells why the file of `-l` was not locked, and answers the status.
+/// Tells why the file of `-l` was not locked, and returns the status.
 fn tell_lock(rt: &HostRuntime, path: &str, fault: &LockFault) -> u8 {
     match fault {
         LockFault::Busy(owner) => {
@@ -261,7 +261,7 @@ fn tell_lock(rt: &HostRuntime, path: &str, fault: &LockFault) -> u8 {
     }
 }
 
-/// Tells why the run log can't be read or written, and answers the status.
+/// Tells why the run log can't be read or written, and returns the status.
 fn tell_log_fault(rt: &HostRuntime, path: &str, error: &io::Error) -> u8 {
     match format!(in rt.alloc(); "{path}.run") {
         Ok(log) => {
@@ -273,7 +273,7 @@ fn tell_log_fault(rt: &HostRuntime, path: &str, error: &io::Error) -> u8 {
     }
 }
 
-/// Tells why what a command has moved was not entered, and answers the status.
+/// Tells why what a command has moved was not entered, and returns the status.
 fn tell_unrecovered(rt: &HostRuntime, path: &str, fault: Unrecovered, files: &HeldFiles<'_>) -> u8 {
     match (fault, &files.error) {
         (Unrecovered::Io, Some(error)) => tell_file(rt, path, error),
@@ -287,7 +287,7 @@ fn tell_unrecovered(rt: &HostRuntime, path: &str, fault: Unrecovered, files: &He
     }
 }
 
-/// Tells that a log can't be entered, and answers the status.
+/// Tells that a log can't be entered, and returns the status.
 fn tell_unfit(rt: &HostRuntime, path: &str, why: &str) -> u8 {
     let status = tell_failure(rt, "Unrecovered");
     info!(Messages(rt); target: HINT, "{path}.run {why}");

@@ -79,7 +79,7 @@ fn version(rt: &HostRuntime) -> u8 {
     0
 }
 
-/// Tells why words could not be read, and answers the status.
+/// Tells why words could not be read, and returns the status.
 fn tell(rt: &HostRuntime, what: &str, error: &io::Error) -> u8 {
     if error.kind() == ErrorKind::InvalidData {
         error!(Messages(rt); target: MESSAGE, "{what} is not UTF-8");

@@ -7,8 +7,8 @@ use rc_streams::ending::{DONE, REFUSED};
 use rc_streams::messages::{MESSAGE, Messages};
 use rc_streams::{live_lock, stop_file};
 
-/// Calls off the command that goes on with the session in this file, and answers the status: 0
-/// where it is told, 1 where none is under way.
+/// Calls off the command that goes on with the session in this file, and returns the status: 0
+/// where there is one, 1 where none is under way.
 pub fn stop(rt: &HostRuntime, file: Option<&str>) -> u8 {
     let Some(path) = file else {
         return tell_words(&mut rt.stderr(), &WordsFault::Session);

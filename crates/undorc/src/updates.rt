@@ -12,7 +12,7 @@ use rc_streams::whole_file;
 use std::sync::Wait;
 use std::thread::Threads;
 
-/// Carries out an update, or shows it, and answers the status.
+/// Carries out an update, or shows it, and returns the status.
 pub fn update<T: Threads + Wait + Sync>(
     rt: &HostRuntime,
     threads: &T,
@@ -78,7 +78,7 @@ fn update_between<T: Threads + Wait + Sync>(
     }
 }
 
-/// Carries out an update, or shows it, and answers the status.
+/// Carries out an update, or shows it, and returns the status.
 fn updated<T: Threads + Wait + Sync, L: Log + Sync>(
     host: &Host<'_, T, L>,
     request: &UpdateRequest<'_>,
