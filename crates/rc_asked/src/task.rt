@@ -20,7 +20,7 @@ use rc_command::entered;
 use rc_select::Request;
 use std::alloc::Global;
 
-/// What the words ask of a command, and the file of `-b` or, of `stop`, that of `-l`, where they name
+/// What the words ask of a command, and the file of `-b` or, of `stop`, that of `-l`, if they name
 /// one.
 #[derive(Drop)]
 pub enum Task<'a> {

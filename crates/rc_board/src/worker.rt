@@ -78,8 +78,8 @@ fn await_start<R: Wait>(rt: &R, shared: &Shared) -> bool {
     guard.start() == Start::Opened
 }
 
-/// Asks for a job, and makes it, or waits until there may be one. False: there is nothing more to do
-/// for this worker.
+/// Asks for a job, and makes it, or waits until there may be one. False: nothing is left to do for
+/// this worker.
 fn turn<G: Gate, W: Watch, R: Wait>(
     rt: &R,
     gate: &G,

@@ -67,8 +67,8 @@ pub(crate) fn fit(done: &mut VecDeque<Entry>, undone: &mut VecDeque<Entry>, boun
     }
 }
 
-/// Returns the room that the nearest entry does not use: a closing takes no memory, so it leaves its
-/// entry with all the room that the opening made.
+/// Returns the room that the nearest entry does not use. A closing takes no memory, so it leaves
+/// its entry with all the room that the opening made.
 fn trim(stack: &mut VecDeque<Entry>)
     ensures { stack.new.items ≡ stack.old.items }
 {

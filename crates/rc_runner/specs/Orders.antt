@@ -12,8 +12,8 @@ use Rattle.rc_runner.specs.declared.order.Move.{Move}
 use Rattle.rc_runner.specs.declared.order.Move.TheVariants.{Known, Start}
 use Rattle.rc_runner.specs.Shell.{Scripts, Runs, IsTold, MayEnd, text_of, limit_for, seconds_of, word_of}
 
--- the words by which a program is started under a limit: one that has a limit leads a session of its
--- own, so that all that it starts can be ended
+-- the words by which a program is started under a limit: with one it leads a session of its own, so
+-- that all that it starts can be ended
 abbrev pub led : (limit : ℕ) → List (List ℕ) → List (List ℕ)
 led limit words = if limit == 0 then words else codes "setsid" ∷ words
 

@@ -29,7 +29,7 @@ pub fn replace(rt: &HostRuntime, path: &str, bytes: &[u8]) -> io::Result<()> {
     }
 }
 
-/// Finds out whether the file at a path can be replaced: the file beside it is made, with some bytes,
+/// Tests whether the file at a path can be replaced: the file beside it is made, with some bytes,
 /// and removed.
 pub fn probe(rt: &HostRuntime, path: &str) -> io::Result<()> {
     let place = place(rt, path)?;

@@ -174,7 +174,7 @@ fn recover_text(
         Some(Ok(Some(report))) => {
             info!(Messages(rt); target: MESSAGE, "Recovered");
             tell_report(rt, &report);
-            // Where it lowered nothing, the last entry of the session is that of an earlier command.
+            // Where it lowered nothing, the last entry is that of an earlier command.
             let lowers = report.starts_with(b"lowered ");
             drop(report);
             Ok(again && lowers)
