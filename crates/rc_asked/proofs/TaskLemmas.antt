@@ -94,15 +94,20 @@ once_apart name none change undo redo add delete live bundles journal (Said Says
     apart name [] none is
 once_apart name none change undo redo add delete live bundles journal (Said SaysWrong) is =
     apart name [] none is
-once_apart name none change undo redo add delete live bundles journal (Said (SaysStep (Change ask events))) is =
+once_apart name none change undo redo add delete live bundles journal
+    (Said (SaysStep (Change ask events))) is =
     apart name (codes "change") change is
-once_apart name none change undo redo add delete live bundles journal (Said (SaysStep (Undo limit events))) is =
+once_apart name none change undo redo add delete live bundles journal
+    (Said (SaysStep (Undo limit events))) is =
     apart name (codes "undo") undo is
-once_apart name none change undo redo add delete live bundles journal (Said (SaysStep (Redo limit events))) is =
+once_apart name none change undo redo add delete live bundles journal
+    (Said (SaysStep (Redo limit events))) is =
     apart name (codes "redo") redo is
-once_apart name none change undo redo add delete live bundles journal (Said (SaysStep (Add word contents force))) is =
+once_apart name none change undo redo add delete live bundles journal
+    (Said (SaysStep (Add word contents force))) is =
     apart name (codes "add") add is
-once_apart name none change undo redo add delete live bundles journal (Said (SaysStep (Delete words force))) is =
+once_apart name none change undo redo add delete live bundles journal
+    (Said (SaysStep (Delete words force))) is =
     apart name (codes "delete") delete is
 once_apart name none change undo redo add delete live bundles journal (Said (SaysDry ask)) is =
     apart name (codes "change") change is
@@ -124,7 +129,8 @@ db_none rows none (OfDb ask file) asks = none ask asks.1.0
 db_none rows none (OfPlan ask file) asks = apart (codes "db") (codes "plan") refl asks.0
 db_none rows none (OfReplay file) asks = apart (codes "db") (codes "replay") refl asks.0
 db_none rows none (OfSession ask file) asks = apart (codes "db") (codes "session") refl asks.0
-db_none rows none (OfOnce ask file) asks = once_apart (codes "db") refl refl refl refl refl refl refl refl refl
+db_none rows none (OfOnce ask file) asks =
+    once_apart (codes "db") refl refl refl refl refl refl refl refl refl
     ask.what asks.0
 db_none rows none (OfUpdate ask file) asks = apart (codes "db") (codes "update") refl asks.0
 db_none rows none (OfStop file) asks = apart (codes "db") (codes "stop") refl asks.0
@@ -136,7 +142,8 @@ plan_none rows none (OfDb ask file) asks = apart (codes "plan") (codes "db") ref
 plan_none rows none (OfPlan ask file) asks = let both : None ≡ Some ask = sym none ∙ asks.1.0 in cc
 plan_none rows none (OfReplay file) asks = apart (codes "plan") (codes "replay") refl asks.0
 plan_none rows none (OfSession ask file) asks = apart (codes "plan") (codes "session") refl asks.0
-plan_none rows none (OfOnce ask file) asks = once_apart (codes "plan") refl refl refl refl refl refl refl refl refl
+plan_none rows none (OfOnce ask file) asks =
+    once_apart (codes "plan") refl refl refl refl refl refl refl refl refl
     ask.what asks.0
 plan_none rows none (OfUpdate ask file) asks = apart (codes "plan") (codes "update") refl asks.0
 plan_none rows none (OfStop file) asks = apart (codes "plan") (codes "stop") refl asks.0
@@ -148,7 +155,8 @@ session_none rows none (OfDb ask file) asks = apart (codes "session") (codes "db
 session_none rows none (OfPlan ask file) asks = apart (codes "session") (codes "plan") refl asks.0
 session_none rows none (OfReplay file) asks = apart (codes "session") (codes "replay") refl asks.0
 session_none rows none (OfSession ask file) asks = none ask asks.1.0
-session_none rows none (OfOnce ask file) asks = once_apart (codes "session") refl refl refl refl refl refl refl refl refl
+session_none rows none (OfOnce ask file) asks =
+    once_apart (codes "session") refl refl refl refl refl refl refl refl refl
     ask.what asks.0
 session_none rows none (OfUpdate ask file) asks = apart (codes "session") (codes "update") refl asks.0
 session_none rows none (OfStop file) asks = apart (codes "session") (codes "stop") refl asks.0
@@ -160,7 +168,8 @@ update_none rows none (OfDb ask file) asks = apart (codes "update") (codes "db")
 update_none rows none (OfPlan ask file) asks = apart (codes "update") (codes "plan") refl asks.0
 update_none rows none (OfReplay file) asks = apart (codes "update") (codes "replay") refl asks.0
 update_none rows none (OfSession ask file) asks = apart (codes "update") (codes "session") refl asks.0
-update_none rows none (OfOnce ask file) asks = once_apart (codes "update") refl refl refl refl refl refl refl refl refl
+update_none rows none (OfOnce ask file) asks =
+    once_apart (codes "update") refl refl refl refl refl refl refl refl refl
     ask.what asks.0
 update_none rows none (OfUpdate ask file) asks = none ask asks.1.0
 update_none rows none (OfStop file) asks = apart (codes "update") (codes "stop") refl asks.0
@@ -168,16 +177,26 @@ update_none rows none OfVersion asks = apart (codes "update") (codes "version") 
 
 -- matches that ask for no session of one line ask nothing, where their command has none of the other names
 pub others_none : (name : Text) (rows : List Row) → (name ≡ codes "compile" → ⊥) → (name ≡ codes "db" → ⊥)
-    → (name ≡ codes "plan" → ⊥) → (name ≡ codes "replay" → ⊥) → (name ≡ codes "session" → ⊥) → (name ≡ codes "update" → ⊥)
+    → (name ≡ codes "plan" → ⊥) → (name ≡ codes "replay" → ⊥) → (name ≡ codes "session" → ⊥)
+    → (name ≡ codes "update" → ⊥)
     → (name ≡ codes "stop" → ⊥) → (name ≡ codes "version" → ⊥)
     → ((ask : OnceAsk) (file : Option Text) → AsksNamed name rows (OfOnce ask file) → ⊥)
     → (ask : TaskAsk) → AsksNamed name rows ask → ⊥
-others_none name rows compile db plan replay session update stop version none (OfCompile ask) asks = compile asks.0
-others_none name rows compile db plan replay session update stop version none (OfDb ask file) asks = db asks.0
-others_none name rows compile db plan replay session update stop version none (OfPlan ask file) asks = plan asks.0
-others_none name rows compile db plan replay session update stop version none (OfReplay file) asks = replay asks.0
-others_none name rows compile db plan replay session update stop version none (OfSession ask file) asks = session asks.0
-others_none name rows compile db plan replay session update stop version none (OfOnce ask file) asks = none ask file asks
-others_none name rows compile db plan replay session update stop version none (OfUpdate ask file) asks = update asks.0
-others_none name rows compile db plan replay session update stop version none (OfStop file) asks = stop asks.0
-others_none name rows compile db plan replay session update stop version none OfVersion asks = version asks.0
+others_none name rows compile db plan replay session update stop version none (OfCompile ask) asks =
+    compile asks.0
+others_none name rows compile db plan replay session update stop version none (OfDb ask file) asks =
+    db asks.0
+others_none name rows compile db plan replay session update stop version none (OfPlan ask file)
+    asks = plan asks.0
+others_none name rows compile db plan replay session update stop version none (OfReplay file) asks =
+    replay asks.0
+others_none name rows compile db plan replay session update stop version none (OfSession ask file)
+    asks = session asks.0
+others_none name rows compile db plan replay session update stop version none (OfOnce ask file)
+    asks = none ask file asks
+others_none name rows compile db plan replay session update stop version none (OfUpdate ask file)
+    asks = update asks.0
+others_none name rows compile db plan replay session update stop version none (OfStop file) asks =
+    stop asks.0
+others_none name rows compile db plan replay session update stop version none OfVersion asks =
+    version asks.0

@@ -42,7 +42,8 @@ up_as needs P Q s each (inr (t, member, path)) = inr (t, each t member, path)
 
 -- the first step
 module _ (old new : Database) (again : Bool) (line : Line) (parts : Parts) (plan : PlanSets) where
-  altered_wanted : IsLineOf old line → IsUpdate old new again line parts → (t : ℕ) → IsAlteredUp old new (Has line.current.live) t
+  altered_wanted : IsLineOf old line → IsUpdate old new again line parts → (t : ℕ)
+      → IsAlteredUp old new (Has line.current.live) t
       → IsWanted old.names line.current.table (Has line.current.live) (step_ask DownAll parts.lower) t
   altered_wanted of update t altered =
       let low : t < length line.current.live = has_within line.current.live t altered.0 in
@@ -67,12 +68,17 @@ module _ (old new : Database) (again : Bool) (line : Line) (parts : Parts) (plan
 
 -- the second step
 module _ (old new : Database) (again : Bool) (line : Line) (parts : Parts) (plan : PlanSets) where
-  carried_wanted : IsUpdate old new again line parts → (t : ℕ) → Carried old new (IsWantedUp again line) t → IsWanted new.names new.table (Has parts.kept) (step_ask Up parts.raise) t
+  carried_wanted : IsUpdate old new again line parts → (t : ℕ)
+      → Carried old new (IsWantedUp again line) t
+      → IsWanted new.names new.table (Has parts.kept) (step_ask Up parts.raise) t
   carried_wanted update t (s, up, (name, at_old, at_new)) =
-      wanted_back new new.table (Carried old new (IsWantedUp again line)) (Has parts.kept) Up parts.raise update.raise t name at_new (s, up, (name, at_old, at_new))
+      wanted_back new new.table (Carried old new (IsWantedUp again line)) (Has parts.kept) Up
+      parts.raise update.raise t name at_new (s, up, (name, at_old, at_new))
 
-  pub raises : IsDatabase new → IsUpdate old new again line parts → IsPlanOf new new.table parts.kept (step_ask Up parts.raise) plan
-      → (s : ℕ) → Has plan.raise s ↔ (UpFrom new.needs (Carried old new (IsWantedUp again line)) s × (Has parts.kept s → ⊥))
+  pub raises : IsDatabase new → IsUpdate old new again line parts
+      → IsPlanOf new new.table parts.kept (step_ask Up parts.raise) plan
+      → (s : ℕ) → Has plan.raise s ↔
+      (UpFrom new.needs (Carried old new (IsWantedUp again line)) s × (Has parts.kept s → ⊥))
   raises is update planned s =
       let carried = Carried old new (IsWantedUp again line) in
       let wanted = IsWanted new.names new.table (Has parts.kept) (step_ask Up parts.raise) in (

@@ -94,11 +94,15 @@ module _ (path : Option Path) (was is : Option (List ℕ)) (As At : EndsIn) (wha
   first_hindered told hindered first = inl (after, subst (λ (e : Ending). ServesOnce path was is As e what written gained from after) hindered first)
 
 -- what two lines come to is what an update comes to, whose steps they are
-module _ (path : Option Path) (was is : Option (List ℕ)) (As At : EndsIn) (dry again : Bool) (what then : OnceSaying) (written gained : Option (List ℕ)) (from to : Holding) (new : Database) (parts : Parts) where
-  pub update_ends : (result : Result Ending ServeFault) → IsUpdate from.database new again from.line parts → to ≡ session_with new parts from
+module _ (path : Option Path) (was is : Option (List ℕ)) (As At : EndsIn) (dry again : Bool)
+    (what then : OnceSaying) (written gained : Option (List ℕ)) (from to : Holding) (new : Database)
+    (parts : Parts) where
+  pub update_ends : (result : Result Ending ServeFault)
+      → IsUpdate from.database new again from.line parts → to ≡ session_with new parts from
       → what ≡ lowering dry parts.lower → then ≡ raising dry parts.raise
       → IfOk result (λ ending. EndsBoth ending path was is As At what then written gained from to)
-      → IfOk result (λ ending. EndsUpdate ending path was is As At dry again written gained from new)
+      → IfOk result (λ ending. EndsUpdate ending path was is As At dry again written gained from
+      new)
   update_ends (Ok ending) update there first second ends = record {
     parts = parts;
     update = update;
@@ -108,10 +112,12 @@ module _ (path : Option Path) (was is : Option (List ℕ)) (As At : EndsIn) (dry
   }
   update_ends (Err fault) update there first second ends = tt
 
-  pub update_stops : (result : Result Ending ServeFault) → IsUpdate from.database new again from.line parts → to ≡ session_with new parts from
+  pub update_stops : (result : Result Ending ServeFault)
+      → IsUpdate from.database new again from.line parts → to ≡ session_with new parts from
       → what ≡ lowering dry parts.lower → then ≡ raising dry parts.raise
       → IfErr result (λ fault. StopsBoth fault path was is As At what then written gained from to)
-      → IfErr result (λ fault. StopsUpdate fault path was is As At dry again written gained from new)
+      → IfErr result (λ fault. StopsUpdate fault path was is As At dry again written gained from
+      new)
   update_stops (Ok ending) update there first second stops = tt
   update_stops (Err fault) update there first second stops = inr (
     parts,
@@ -169,7 +175,8 @@ first_gateless (Failed fault) old new making is = is
 pub second_gateless : {R L : Type 0} (fault : SessionFault) (old new : Database) (making : MakingAsk) (gate : SessionGate R L) → IsGateFor old (making_on Lower making) gate
     → IsGateless new (making_on Raise making) fault → AreGateless old new making fault
 second_gateless (OfText fault) old new making gate made is = absurd is
-second_gateless (Unknown word) old new making gate made is = inr (past_found old (making_on Lower making) gate made, is)
+second_gateless (Unknown word) old new making gate made is =
+    inr (past_found old (making_on Lower making) gate made, is)
 second_gateless (OfLive fault) old new making gate made is = absurd is
 second_gateless (Failed fault) old new making gate made is = is
 

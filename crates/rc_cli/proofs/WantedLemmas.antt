@@ -63,7 +63,8 @@ wanted_closed d line up of holds s t has needs = elim ((holds s).0 has) [
   | inr other ↦ (holds t).1 (inr (
     other.0,
     other.1,
-    (at_place (IsStateOf d) (states line) other.1.0 other.0 of.each other.1.2).closed s t other.2 needs,
+    (at_place (IsStateOf d) (states line) other.1.0 other.0 of.each other.1.2).closed s t other.2
+        needs,
   ))
 ]
 
@@ -99,9 +100,11 @@ pub moves : (old d new : Database) (live : List Bool) (again : Bool) (line : Lin
     → IsUpdate old new again line parts
 moves old d new live again line parts is also lower kept bound raise = record {
   lower = subst (λ (e : Database). AreNamesOf e (IsAlteredUp e new (Has up)) parts.lower) is
-      (subst (λ (set : List Bool). AreNamesOf d (IsAlteredUp d new (Has set)) parts.lower) also lower);
+      (subst (λ (set : List Bool). AreNamesOf d (IsAlteredUp d new (Has set)) parts.lower) also
+      lower);
   kept = subst (λ (e : Database). Holds parts.kept (Carried e new (StaysUp e new (Has up)))) is
-      (subst (λ (set : List Bool). Holds parts.kept (Carried d new (StaysUp d new (Has set)))) also kept);
+      (subst (λ (set : List Bool). Holds parts.kept (Carried d new (StaysUp d new (Has set)))) also
+      kept);
   bound = bound;
   raise = raise;
 }

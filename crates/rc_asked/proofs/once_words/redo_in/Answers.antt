@@ -3,7 +3,8 @@ use Rattle.rc_asked.proofs.OnceLemmas.{limit_found, limit_none}
 use Rattle.rc_asked.proofs.once_words.redo_in.Goals as goal
 
 pub returns-in_default-clause-wrong : goal.returns-in_default-clause-wrong
-returns-in_default-clause-wrong c = λ _. limit_none (codes "redo") c.args.matches.now _ refl refl refl refl refl
+returns-in_default-clause-wrong c =
+    λ _. limit_none (codes "redo") c.args.matches.now _ refl refl refl refl refl
     c.get_str.ensures c.in_default.ensures.none
 
 pub returns-then-is_on-clause-asked : goal.returns-then-is_on-clause-asked

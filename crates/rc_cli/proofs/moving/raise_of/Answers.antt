@@ -20,5 +20,6 @@ pub returns : goal.returns
 returns c =
     carried_names c.args.from.now.database c.db.result.now c.args.new.now
     (Has c.in_ok-wanted.wanted) (IsWantedUp true c.args.from.now.line)
-    (map string_bytes c.in_ok-update.update.raise.items) c.db.ensures.db c.in_ok-wanted.ensures.members
+    (map string_bytes c.in_ok-update.update.raise.items) c.db.ensures.db
+    c.in_ok-wanted.ensures.members
     c.in_ok-update.ensures.raise

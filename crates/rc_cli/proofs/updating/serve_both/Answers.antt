@@ -34,11 +34,18 @@ line_once-requires-in-Ok-Done-clause-writer g c κs within = c.in-Ok-Done.ensure
 
 pub returns-in-Ok-clause-done : goal.returns-in-Ok-clause-done
 returns-in-Ok-clause-done g c =
-    both_ended (session_ask_of c.args.request.now).live (g.S.Store.holds (store_of c.args.outputs.now.keeper)) (g.S.Store.holds (store_of c.line_once.new.outputs.keeper)) (g.S.Store.holds (store_of c.line_once-in-Ok-Done.new.outputs.keeper))
-    (IsDoneAs c.args.request.now.workers (g.G.Gate.answers c.args.gates.now.lowers) (g.G.Gate.gives c.args.gates.now.lowers))
-    (IsDoneAs c.args.request.now.workers (g.G.Gate.answers c.args.gates.now.raises) (g.G.Gate.gives c.args.gates.now.raises))
+    both_ended (session_ask_of c.args.request.now).live
+    (g.S.Store.holds (store_of c.args.outputs.now.keeper))
+    (g.S.Store.holds (store_of c.line_once.new.outputs.keeper))
+    (g.S.Store.holds (store_of c.line_once-in-Ok-Done.new.outputs.keeper))
+    (IsDoneAs c.args.request.now.workers (g.G.Gate.answers c.args.gates.now.lowers)
+    (g.G.Gate.gives c.args.gates.now.lowers))
+    (IsDoneAs c.args.request.now.workers (g.G.Gate.answers c.args.gates.now.raises)
+    (g.G.Gate.gives c.args.gates.now.raises))
     (Said (saying_of c.args.ahead.now.lowering)) (Said (saying_of c.args.ahead.now.raising))
-    (g.W.Write.contents (inner_of c.args.outputs.now.writer)) (g.W.Write.contents (inner_of c.line_once.new.outputs.writer)) (g.W.Write.contents (inner_of c.line_once-in-Ok-Done.new.outputs.writer))
+    (g.W.Write.contents (inner_of c.args.outputs.now.writer))
+    (g.W.Write.contents (inner_of c.line_once.new.outputs.writer))
+    (g.W.Write.contents (inner_of c.line_once-in-Ok-Done.new.outputs.writer))
     c.args.from.now c.line_once.new.session c.args.ahead.now.to c.line_once-in-Ok-Done.new.session
     c.in-Ok-Done.field-0 c.in-Ok.raised c.behind.result c.in-Ok-Done.field-0-is c.behind.ensures c.in-Ok-Done.ensures.done c.in-Ok.ensures.done
 
@@ -53,11 +60,18 @@ returns-in-Err-line_once-clause-done g c = tt
 
 pub returns-in-Err-line_once-clause-stopped : goal.returns-in-Err-line_once-clause-stopped
 returns-in-Err-line_once-clause-stopped g c =
-    both_stopped (session_ask_of c.args.request.now).live (g.S.Store.holds (store_of c.args.outputs.now.keeper)) (g.S.Store.holds (store_of c.line_once.new.outputs.keeper)) (g.S.Store.holds (store_of c.line_once-in-Ok-Done.new.outputs.keeper))
-    (IsDoneAs c.args.request.now.workers (g.G.Gate.answers c.args.gates.now.lowers) (g.G.Gate.gives c.args.gates.now.lowers))
-    (IsDoneAs c.args.request.now.workers (g.G.Gate.answers c.args.gates.now.raises) (g.G.Gate.gives c.args.gates.now.raises))
+    both_stopped (session_ask_of c.args.request.now).live
+    (g.S.Store.holds (store_of c.args.outputs.now.keeper))
+    (g.S.Store.holds (store_of c.line_once.new.outputs.keeper))
+    (g.S.Store.holds (store_of c.line_once-in-Ok-Done.new.outputs.keeper))
+    (IsDoneAs c.args.request.now.workers (g.G.Gate.answers c.args.gates.now.lowers)
+    (g.G.Gate.gives c.args.gates.now.lowers))
+    (IsDoneAs c.args.request.now.workers (g.G.Gate.answers c.args.gates.now.raises)
+    (g.G.Gate.gives c.args.gates.now.raises))
     (Said (saying_of c.args.ahead.now.lowering)) (Said (saying_of c.args.ahead.now.raising))
-    (g.W.Write.contents (inner_of c.args.outputs.now.writer)) (g.W.Write.contents (inner_of c.line_once.new.outputs.writer)) (g.W.Write.contents (inner_of c.line_once-in-Ok-Done.new.outputs.writer))
+    (g.W.Write.contents (inner_of c.args.outputs.now.writer))
+    (g.W.Write.contents (inner_of c.line_once.new.outputs.writer))
+    (g.W.Write.contents (inner_of c.line_once-in-Ok-Done.new.outputs.writer))
     c.args.from.now c.line_once.new.session c.args.ahead.now.to c.line_once-in-Ok-Done.new.session
     c.in-Err-line_once.fault c.in-Ok-Done.field-0 c.in-Ok-Done.field-0-is c.in-Ok-Done.ensures.done c.in-Err-line_once.ensures.stopped
 
@@ -66,11 +80,17 @@ returns-in-Err-line_once-clause-fault g c = c.in-Err-line_once.ensures.fault
 
 pub returns-in-Ok-Refused-clause-done : goal.returns-in-Ok-Refused-clause-done
 returns-in-Ok-Refused-clause-done g c =
-    first_refused (session_ask_of c.args.request.now).live (g.S.Store.holds (store_of c.args.outputs.now.keeper)) (g.S.Store.holds (store_of c.line_once.new.outputs.keeper))
-    (IsDoneAs c.args.request.now.workers (g.G.Gate.answers c.args.gates.now.lowers) (g.G.Gate.gives c.args.gates.now.lowers))
-    (IsDoneAs c.args.request.now.workers (g.G.Gate.answers c.args.gates.now.raises) (g.G.Gate.gives c.args.gates.now.raises))
+    first_refused (session_ask_of c.args.request.now).live
+    (g.S.Store.holds (store_of c.args.outputs.now.keeper))
+    (g.S.Store.holds (store_of c.line_once.new.outputs.keeper))
+    (IsDoneAs c.args.request.now.workers (g.G.Gate.answers c.args.gates.now.lowers)
+    (g.G.Gate.gives c.args.gates.now.lowers))
+    (IsDoneAs c.args.request.now.workers (g.G.Gate.answers c.args.gates.now.raises)
+    (g.G.Gate.gives c.args.gates.now.raises))
     (Said (saying_of c.args.ahead.now.lowering)) (Said (saying_of c.args.ahead.now.raising))
-    (g.W.Write.contents (inner_of c.args.outputs.now.writer)) (g.W.Write.contents (inner_of c.line_once.new.outputs.writer)) c.args.from.now c.args.ahead.now.to c.line_once.new.session
+    (g.W.Write.contents (inner_of c.args.outputs.now.writer))
+    (g.W.Write.contents (inner_of c.line_once.new.outputs.writer)) c.args.from.now
+    c.args.ahead.now.to c.line_once.new.session
     c.in-Ok-Refused.field-0 c.in-Ok-Refused.field-0-is c.in-Ok-Refused.ensures.done
 
 pub returns-in-Ok-Refused-clause-stopped : goal.returns-in-Ok-Refused-clause-stopped
@@ -81,11 +101,17 @@ returns-in-Ok-Refused-clause-fault g c = tt
 
 pub returns-in-Ok-Hindered-clause-done : goal.returns-in-Ok-Hindered-clause-done
 returns-in-Ok-Hindered-clause-done g c =
-    first_hindered (session_ask_of c.args.request.now).live (g.S.Store.holds (store_of c.args.outputs.now.keeper)) (g.S.Store.holds (store_of c.line_once.new.outputs.keeper))
-    (IsDoneAs c.args.request.now.workers (g.G.Gate.answers c.args.gates.now.lowers) (g.G.Gate.gives c.args.gates.now.lowers))
-    (IsDoneAs c.args.request.now.workers (g.G.Gate.answers c.args.gates.now.raises) (g.G.Gate.gives c.args.gates.now.raises))
+    first_hindered (session_ask_of c.args.request.now).live
+    (g.S.Store.holds (store_of c.args.outputs.now.keeper))
+    (g.S.Store.holds (store_of c.line_once.new.outputs.keeper))
+    (IsDoneAs c.args.request.now.workers (g.G.Gate.answers c.args.gates.now.lowers)
+    (g.G.Gate.gives c.args.gates.now.lowers))
+    (IsDoneAs c.args.request.now.workers (g.G.Gate.answers c.args.gates.now.raises)
+    (g.G.Gate.gives c.args.gates.now.raises))
     (Said (saying_of c.args.ahead.now.lowering)) (Said (saying_of c.args.ahead.now.raising))
-    (g.W.Write.contents (inner_of c.args.outputs.now.writer)) (g.W.Write.contents (inner_of c.line_once.new.outputs.writer)) c.args.from.now c.args.ahead.now.to c.line_once.new.session
+    (g.W.Write.contents (inner_of c.args.outputs.now.writer))
+    (g.W.Write.contents (inner_of c.line_once.new.outputs.writer)) c.args.from.now
+    c.args.ahead.now.to c.line_once.new.session
     c.in-Ok-Hindered.field-0 c.in-Ok-Hindered.field-0-is c.in-Ok-Hindered.ensures.done
 
 pub returns-in-Ok-Hindered-clause-stopped : goal.returns-in-Ok-Hindered-clause-stopped

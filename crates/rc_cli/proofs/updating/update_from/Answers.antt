@@ -20,24 +20,38 @@ returns-clause-done g c =
     let parts : Parts = parts_of c.in-Ok.update in
     let there : c.in-Ok-session_of.to ≡ session_with c.args.new parts c.args.from.now =
     with_bound c.args.new parts c.bound-bound.result c.args.from.now c.in-Ok-session_of.to c.in-Ok-session_of.ensures (journal_bound c.journal.result.now c.args.from.now.line c.args.from.now.begun c.bound-bound.result c.journal.ensures.journal c.bound-bound.ensures) in
-    update_ends (session_ask_of c.args.request.now.session).live (g.S.Store.holds (store_of c.args.outputs.now.keeper)) _
-    (IsDoneAs c.args.request.now.session.workers (g.G.Gate.answers c.args.gates.now.lowers) (g.G.Gate.gives c.args.gates.now.lowers))
-    (IsDoneAs c.args.request.now.session.workers (g.G.Gate.answers c.args.gates.now.raises) (g.G.Gate.gives c.args.gates.now.raises))
-    c.args.request.now.dry c.args.request.now.again (Said (saying_of c.step_line-lowering.result)) (Said (saying_of c.step_line-raising.result))
-    (g.W.Write.contents (inner_of c.args.outputs.now.writer)) _ c.args.from.now c.in-Ok-session_of.to c.args.new parts
-    c.serve_both-ended.result c.in-Ok.ensures.update there (ap Said c.step_line-lowering.ensures.says) (ap Said c.step_line-raising.ensures.says) c.serve_both-ended.ensures.done
+    update_ends (session_ask_of c.args.request.now.session).live
+    (g.S.Store.holds (store_of c.args.outputs.now.keeper)) _
+    (IsDoneAs c.args.request.now.session.workers (g.G.Gate.answers c.args.gates.now.lowers)
+    (g.G.Gate.gives c.args.gates.now.lowers))
+    (IsDoneAs c.args.request.now.session.workers (g.G.Gate.answers c.args.gates.now.raises)
+    (g.G.Gate.gives c.args.gates.now.raises))
+    c.args.request.now.dry c.args.request.now.again (Said (saying_of c.step_line-lowering.result))
+    (Said (saying_of c.step_line-raising.result))
+    (g.W.Write.contents (inner_of c.args.outputs.now.writer)) _ c.args.from.now
+    c.in-Ok-session_of.to c.args.new parts
+    c.serve_both-ended.result c.in-Ok.ensures.update there
+    (ap Said c.step_line-lowering.ensures.says) (ap Said c.step_line-raising.ensures.says)
+    c.serve_both-ended.ensures.done
 
 pub returns-clause-stopped : goal.returns-clause-stopped
 returns-clause-stopped g c =
     let parts : Parts = parts_of c.in-Ok.update in
     let there : c.in-Ok-session_of.to ≡ session_with c.args.new parts c.args.from.now =
     with_bound c.args.new parts c.bound-bound.result c.args.from.now c.in-Ok-session_of.to c.in-Ok-session_of.ensures (journal_bound c.journal.result.now c.args.from.now.line c.args.from.now.begun c.bound-bound.result c.journal.ensures.journal c.bound-bound.ensures) in
-    update_stops (session_ask_of c.args.request.now.session).live (g.S.Store.holds (store_of c.args.outputs.now.keeper)) _
-    (IsDoneAs c.args.request.now.session.workers (g.G.Gate.answers c.args.gates.now.lowers) (g.G.Gate.gives c.args.gates.now.lowers))
-    (IsDoneAs c.args.request.now.session.workers (g.G.Gate.answers c.args.gates.now.raises) (g.G.Gate.gives c.args.gates.now.raises))
-    c.args.request.now.dry c.args.request.now.again (Said (saying_of c.step_line-lowering.result)) (Said (saying_of c.step_line-raising.result))
-    (g.W.Write.contents (inner_of c.args.outputs.now.writer)) _ c.args.from.now c.in-Ok-session_of.to c.args.new parts
-    c.serve_both-ended.result c.in-Ok.ensures.update there (ap Said c.step_line-lowering.ensures.says) (ap Said c.step_line-raising.ensures.says) c.serve_both-ended.ensures.stopped
+    update_stops (session_ask_of c.args.request.now.session).live
+    (g.S.Store.holds (store_of c.args.outputs.now.keeper)) _
+    (IsDoneAs c.args.request.now.session.workers (g.G.Gate.answers c.args.gates.now.lowers)
+    (g.G.Gate.gives c.args.gates.now.lowers))
+    (IsDoneAs c.args.request.now.session.workers (g.G.Gate.answers c.args.gates.now.raises)
+    (g.G.Gate.gives c.args.gates.now.raises))
+    c.args.request.now.dry c.args.request.now.again (Said (saying_of c.step_line-lowering.result))
+    (Said (saying_of c.step_line-raising.result))
+    (g.W.Write.contents (inner_of c.args.outputs.now.writer)) _ c.args.from.now
+    c.in-Ok-session_of.to c.args.new parts
+    c.serve_both-ended.result c.in-Ok.ensures.update there
+    (ap Said c.step_line-lowering.ensures.says) (ap Said c.step_line-raising.ensures.says)
+    c.serve_both-ended.ensures.stopped
 
 pub session_of-requires-clause-length : goal.session_of-requires-clause-length
 session_of-requires-clause-length g c = c.in-Ok.ensures.update.bound

@@ -76,7 +76,11 @@ returns-in-Err-spelled-clause-stopped g c =
     let within : length all ≤ 16777216 =
     omega (arith, c.in-Ok-read_all.input.ok.0, c.in-Ok-read_all.ensures.within) in
     unspelled_ends c.args.launch.service asked deal None _ _ _ (ap bytes_of c.in-None.is) refl refl
-    c.in-Err-spelled.fault all (c.in-Ok-read_all.ensures.whole, within, c.in-Ok-read_all.ensures.end)
+    c.in-Err-spelled.fault all (
+      c.in-Ok-read_all.ensures.whole,
+      within,
+      c.in-Ok-read_all.ensures.end,
+    )
     (subst (λ (bytes : List ℕ). IsUnspelled None bytes c.in-Err-spelled.fault)
     c.deref.ensures.value c.in-Err-spelled.ensures.fault)
 
@@ -99,8 +103,13 @@ returns-in-Ok-spelled-clause-done g c =
     c.deref.ensures.value c.in-Ok-spelled.ensures.spelled) in
     IfOk-weaker c.launch_on-in-None.result _ _
     (λ ending run. runs_in c.args.launch.service asked deal inner None
-    c.in-Ok-spelled.read.0 (ap bytes_of c.in-None.is)
-    (all, rest, (c.in-Ok-read_all.ensures.whole, within, c.in-Ok-read_all.ensures.end), spelled, refl) refl
+    c.in-Ok-spelled.read.0 (ap bytes_of c.in-None.is) (
+      all,
+      rest,
+      (c.in-Ok-read_all.ensures.whole, within, c.in-Ok-read_all.ensures.end),
+      spelled,
+      refl,
+    ) refl
     (ServesFor c.args.launch.service ending) run) c.launch_on-in-None.ensures.done
 
 pub returns-in-Ok-spelled-clause-stopped : goal.returns-in-Ok-spelled-clause-stopped
@@ -122,8 +131,13 @@ returns-in-Ok-spelled-clause-stopped g c =
     c.deref.ensures.value c.in-Ok-spelled.ensures.spelled) in
     IfErr-weaker c.launch_on-in-None.result _ _
     (λ fault end. ends_in c.args.launch.service asked deal inner None
-    c.in-Ok-spelled.read.0 (ap bytes_of c.in-None.is)
-    (all, rest, (c.in-Ok-read_all.ensures.whole, within, c.in-Ok-read_all.ensures.end), spelled, refl) refl
+    c.in-Ok-spelled.read.0 (ap bytes_of c.in-None.is) (
+      all,
+      rest,
+      (c.in-Ok-read_all.ensures.whole, within, c.in-Ok-read_all.ensures.end),
+      spelled,
+      refl,
+    ) refl
     fault _ _ _ _ (λ failed. inr (of_lines c.args.launch.service _ _
     (λ _. ap bytes_of c.in-None.is) failed)) end)
     c.launch_on-in-None.ensures.stopped
