@@ -1,3 +1,4 @@
+-- Bits of words: which are set after one is written, and after words are joined or cleared.
 use Rattle.std.proofs.Common.{◌≡◌, ◌≢◌, ℕ, ◌+◌, ◌-◌, ◌*◌, ◌/◌, ◌%◌, ◌^◌, ◌<◌, ◌⊎◌, ◌↔◌, inl, inr, List, length, slice_index, slice_set, nat_eq, bit_or, bit_and, refl, sym, ap, ◌∙◌, subst, arith, get_or-set_same, get_or-set_other}
 use Rattle.std.specs.Int.{bit_at}
 use mir.Syntax.{w64}

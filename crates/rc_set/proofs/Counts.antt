@@ -1,3 +1,4 @@
+-- How many bits of words are set, counted word by word.
 use Rattle.std.proofs.Common.{◌≡◌, ℕ, ◌+◌, ◌*◌, ◌/◌, ◌%◌, ◌^◌, ◌<◌, ◌≤◌, ◌-◌, inl, inr, Bool, false, cond, List, map, slice_index, nat_eq, count_by, count_ones, zero, suc, refl, sym, ap, ◌∙◌, arith}
 use Rattle.std.specs.Int.{bit_at}
 use Rattle.std.specs.List.{range_with_len}

@@ -1,3 +1,4 @@
+-- The ids of which a fact holds, listed one after the other up to a bound.
 use Rattle.rc_model.specs.Line.{Lists}
 use Rattle.std.proofs.Common.{◌≡◌, ℕ, ◌+◌, ◌<◌, ◌≤◌, ◌↔◌, List, [], ◌∷◌, ◌++◌, Contains, inl, inr, arith, subst, slice_index_or}
 use Rattle.std.proofs.lemmas.List.Elements.{Contains-push, Contains-push_cases, Contains-append_left, All-push}

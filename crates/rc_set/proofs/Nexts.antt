@@ -1,3 +1,4 @@
+-- The next id of a set, by the lowest bit of a shifted word.
 use Rattle.std.proofs.Common.{◌≡◌, ◌≢◌, ℕ, ◌+◌, ◌-◌, ◌*◌, ◌/◌, ◌%◌, ◌^◌, ◌<◌, ◌≤◌, ◌↔◌, inl, inr, List, length, slice_index, bit_and, Option, Some, None, IfSome, IfNone, sym, ap, ◌∙◌, subst, arith}
 use Rattle.std.specs.Int.{bit_at, trailing_zeros}
 use mir.Syntax.{w64}
@@ -70,6 +71,15 @@ module _ (P : ℕ → Type 0) (from at word : ℕ) (bits : AreBits P (at / 64) w
 pub word_bits : (words : List ℕ) (at : ℕ) → AreBits (HasBit words) at (slice_index words at)
 word_bits words at i low = bit_of_word words at i low
 
+-- a word that is 0 has none
+pub empty_word : (words : List ℕ) (at s : ℕ) → 64 * at ≤ s → s < 64 * at + 64
+    → slice_index words at ≡ 0 → HasBit words s → ⊥
+empty_word words at s from low zero has =
+    let e : s ≡ 64 * at + (s - 64 * at) = omega arith in
+    let one = (bit_of_word words at (s - 64 * at) (omega arith)).0 (subst (HasBit words) e has) in
+    let off = ap (λ (n : ℕ). bit_at n (s - 64 * at)) zero ∙ bit_at-zero (s - 64 * at) in
+    omega (arith, one, off)
+
 -- the ids of a word of a list that stand in no word of another
 pub word_bits_beyond : (words others : List ℕ) (at : ℕ) → slice_index others at < 2 ^ 64
     → AreBits (λ s. HasBit words s × (HasBit others s → ⊥)) at
@@ -96,10 +106,6 @@ clear_word_bits words at within fits i low =
           omega (arith, turned, off, bit_at-lt (slice_index words at) i),
       λ one. (known, λ has. omega (arith, turned, one, mine.0 has)),
     )
-
--- which fits a word, as any word does with its bits turned
-pub turned_fits : (word : ℕ) → 2 ^ 64 - 1 - word < 2 ^ 64
-turned_fits word = omega arith
 
 -- what stands in one list alone fits a word
 pub beyond_fits : (word other : ℕ) → word < 2 ^ 64 → bit_and word (2 ^ 64 - 1 - other) < 2 ^ 64

@@ -1,3 +1,4 @@
+-- The least number of which a fact holds, from some number on.
 use Rattle.std.specs.Prelude.{ℕ, ◌<◌, ◌≤◌}
 
 -- the least number from this one on of which a fact holds

@@ -3,9 +3,9 @@
 //! A set has a bit for each id, in words of 64.
 //!
 //! Time: `insert`, `remove`, `contains` and `bound` take one step; all other calls grow with the
-//! bound, a word at a time, and `ids` with the ids too. `next_from`, `next_beyond` and
-//! `next_missing` look at no word that ends before the number that they are given, nor at one
-//! behind their answer.
+//! bound, a word at a time, `ids` with the ids too, and `fill_missing` with those that are missing.
+//! `next_from` and `next_beyond` look at no word that ends before the number that they are given,
+//! nor at one behind their answer.
 #![tactic(auto)]
 
 ghost use Rattle.std.specs.Prelude.{◌≡◌, ◌≢◌, ℕ, ◌+◌, ◌*◌, ◌<◌, ◌≤◌, ◌⊎◌, ◌↔◌, length, count_by, IsTrue, IfOk, OnOk, IfSome, IfNone};
@@ -14,6 +14,7 @@ ghost use Rattle.rc_model.specs.Names.{Has, Holds};
 ghost use Rattle.rc_set.specs.Words.{has_bit, HasBit, flags_of};
 ghost use Rattle.rc_set.specs.Listed.{ListsBelow};
 ghost use Rattle.rc_set.specs.Next.{IsNextFrom, HasNoneFrom};
+ghost use Rattle.rc_set.specs.Filled.{Fills};
 
 use std::alloc::{AllocError, Global};
 use std::marker::Model;
@@ -109,18 +110,12 @@ impl Set {
         next_bit_beyond(&self.words, &other.words, from)
     }
 
-    /// The least id from a number on, below the bound, that the set lacks.
-    pub fn next_missing(&self, from: u16) -> Option<u16>
-        ensures some { IfSome result
-            (IsNextFrom (λ s. (s < length self.now) × (Has self.now s → ⊥)) from) }
-        ensures none { IfNone result
-            (HasNoneFrom (λ s. (s < length self.now) × (Has self.now s → ⊥)) from) }
-        ensures below { IfSome result (λ s. (s < length self.now) × (s < 4096)) }
+    /// Writes a value at the place of each id below the bound that the set lacks.
+    pub fn fill_missing<T: Copy>(&self, list: &mut [T], value: T)
+        requires { length list.old ≡ length self.now }
+        ensures { Fills (λ s. Has self.now s → ⊥) list.old list.new value }
     {
-        match next_clear_bit(&self.words, from) {
-            Some(id) if id < self.bound => Some(id),
-            _ => None,
-        }
+        fill_clear(list, &self.words, value);
     }
 
     /// Adds all ids of a set of the same bound.
@@ -254,9 +249,26 @@ fn next_bit(words: &[u64], from: u16) -> Option<u16>
         if rest != 0 {
             return Some(at + rest.trailing_zeros() as u16);
         }
-        at = (at / 64 + 1) * 64;
+        at = (next_word(words, (at / 64) as usize + 1) * 64) as u16;
     }
     None
+}
+
+/// The first word from a place on in which a bit is set, or the end of the words.
+fn next_word(words: &[u64], from: usize) -> usize
+    requires { from ≤ length words.now }
+    ensures behind { from ≤ result }
+    ensures within { result ≤ length words.now }
+    ensures none { (s : ℕ) → 64 * from ≤ s → s < 64 * result → HasBit words.now s → ⊥ }
+{
+    let mut at = from;
+    while at < words.len() {
+        if words[at] != 0 {
+            return at;
+        }
+        at += 1;
+    }
+    at
 }
 
 /// The least id from a number on whose bit is set in the words and not in the others.
@@ -272,25 +284,6 @@ fn next_bit_beyond(words: &[u64], others: &[u64], from: u16) -> Option<u16>
     while (at as usize) < 64 * words.len() {
         let word = (at / 64) as usize;
         let rest = (words[word] & !others[word]) >> (at % 64);
-        if rest != 0 {
-            return Some(at + rest.trailing_zeros() as u16);
-        }
-        at = (at / 64 + 1) * 64;
-    }
-    None
-}
-
-/// The least id of the words, from a number on, whose bit is not set.
-fn next_clear_bit(words: &[u64], from: u16) -> Option<u16>
-    requires { length words.now ≤ 64 }
-    ensures some { IfSome result
-        (IsNextFrom (λ s. (s < 64 * length words.now) × (HasBit words.now s → ⊥)) from) }
-    ensures none { IfNone result
-        (HasNoneFrom (λ s. (s < 64 * length words.now) × (HasBit words.now s → ⊥)) from) }
-{
-    let mut at = from;
-    while (at as usize) < 64 * words.len() {
-        let rest = !words[(at / 64) as usize] >> (at % 64);
         if rest != 0 {
             return Some(at + rest.trailing_zeros() as u16);
         }
@@ -325,6 +318,35 @@ fn push_ids(ids: &mut Vec<u16>, words: &[u64], at: usize) -> Result<(), NoMem>
         left &= !(1 << place);
     }
     Ok(())
+}
+
+/// Writes a value at the place of each id whose bit is not set.
+fn fill_clear<T: Copy>(list: &mut [T], words: &[u64], value: T)
+    requires { length words.now ≤ 64 }
+    ensures { Fills (λ s. (s < 64 * length words.now) × (HasBit words.now s → ⊥))
+        list.old list.new value }
+{
+    for at in 0..words.len() {
+        fill_word(list, words, at, value);
+    }
+}
+
+/// Writes a value at the place of each id of a word whose bit is not set.
+fn fill_word<T: Copy>(list: &mut [T], words: &[u64], at: usize, value: T)
+    requires few { length words.now ≤ 64 }
+    requires place { at < length words.now }
+    ensures { Fills (λ s. (64 * at ≤ s) × (s < 64 * (at + 1)) × (HasBit words.now s → ⊥))
+        list.old list.new value }
+{
+    let mut left = !words[at];
+    while left != 0 {
+        let place = left.trailing_zeros();
+        let id = 64 * at + place as usize;
+        if id < list.len() {
+            list[id] = value;
+        }
+        left &= !(1 << place);
+    }
 }
 
 /// How many bits are set.

@@ -1,8 +1,9 @@
-use Rattle.std.proofs.Common.{◌+◌, refl, subst, arith, ℕ}
+use Rattle.std.proofs.Common.{◌+◌, refl, slice_index, subst, arith, ℕ}
 use Rattle.std.specs.Int.{trailing_zeros}
 use mir.Syntax.{w64}
 use Rattle.rc_set.specs.Listed.{ListsWord}
-use Rattle.rc_set.proofs.WordIds.{word_more, word_falls, word_begins, word_ends}
+use Rattle.rc_set.proofs.WordIds.{word_more, word_begins, word_ends}
+use Rattle.rc_set.proofs.WordBits.{left_falls}
 use Rattle.rc_set.proofs.push_ids.Goals as goal
 
 pub loop-left-init : goal.loop-left-init
@@ -22,9 +23,9 @@ loop-left-preserved c =
 
 pub loop-left-smaller : goal.loop-left-smaller
 loop-left-smaller c =
-    word_falls c.args.words.now c.args.at c.loop-left.left c.loop-left.ids.items
-    c.loop-left.invariant.0 (omega arith) c.loop-left.auto.left-fits.fits
-    c.loop-left.invariant.1 (trailing_zeros w64 c.loop-left.left) refl
+    left_falls (slice_index c.args.words.now c.args.at) c.loop-left.left
+    c.loop-left.invariant.0 (trailing_zeros w64 c.loop-left.left) (omega arith)
+    c.loop-left.auto.left-fits.fits refl c.loop-left.invariant.1.bits
 
 pub returns : goal.returns
 returns c =
