@@ -1,3 +1,5 @@
+-- A service arrives: those of a list wait for one less, one after the other, and some join the
+-- queue.
 use Rattle.std.proofs.Common.{◌≡◌, ◌≢◌, ◌∙◌, ◌↔◌, ℕ, ◌+◌, ◌-◌, ◌<◌, ◌≤◌, List, [], ◌∷◌, ◌++◌, Bool, true, false, Contains, eqb, inl, inr, length, take, slice_index, slice_index_or, slice_set, vec_capacity, All, cond, count_by, zero, suc, refl, sym, subst, arith}
 use Rattle.std.specs.Global.{Vec}
 use mathlib.Core.Bool.{beq}

@@ -1,3 +1,4 @@
+-- Counts of services: of the same ones, of one less, of none, and of two lists that share none.
 use Rattle.std.proofs.Common.{◌≡◌, ◌≢◌, ◌∙◌, ◌↔◌, ℕ, ◌+◌, ◌-◌, ◌<◌, List, [], ◌∷◌, ◌++◌, Contains, inl, inr, length, slice_index, slice_index_or, refl, take, drop, suc, sym, subst, arith}
 use Rattle.std.specs.List.{remove}
 use Rattle.std.proofs.Math.Seq.{split_at}

@@ -12,7 +12,7 @@ use Rattle.rc_select.specs.PlanSets.{IsPlan}
 use Rattle.rc_core.specs.declared.tables.Tables.{Tables}
 use Rattle.rc_core.specs.declared.ready.Ready.{Ready}
 use Rattle.rc_core.specs.Tables.{AreFirst, IsKept, IsRoomFor}
-use Rattle.rc_core.specs.Ready.{AreReady, IsFirstReady, IsPlaced}
+use Rattle.rc_core.specs.Ready.{AreReady, IsFirstReady}
 use Rattle.rc_core.specs.Settled.{RunSoFar}
 use Rattle.rc_core.proofs.Opening.{kept_first}
 use Rattle.rc_core.proofs.Readying.{ready_first}
@@ -47,7 +47,7 @@ pub run_first : (needs shared : List (List ℕ)) (plan : PlanSets) (deadline : O
     → IsCourse (course_of needs plan deadline) → AreCopied needs shared plan opening lower raise → up_lent ≡ plan.opening → lower_lent ≡ plan.lower → raise_lent ≡ plan.raise
     → AreFirst up_lent lower_lent raise_lent t → IsFirstReady needs up_lent lower_lent raise_lent t.left r → many ≡ count_by (λ flag. flag) t.left → services ≡ length needs
     → trace.items ≡ [] → vec_len trace ≡ 0 → 2 * many + 1 ≤ vec_capacity trace → IsRoomFor services left
-    → IsKept (course_kept shared opening lower raise deadline) trace t × IsPlaced r × IsRoomFor (length shared) left
+    → IsKept (course_kept shared opening lower raise deadline) trace t × IsRoomFor (length shared) left
     × AreReady (course_kept shared opening lower raise deadline) trace.items r.waits.items r.queue.items × (length shared ≤ vec_capacity r.queue)
 run_first needs shared plan deadline t r trace left opening lower raise up_lent lower_lent raise_lent many services course same up_is lower_is raise_is tables ready count bound empty len room left_room =
     let c : Course = course_of needs plan deadline in
@@ -55,7 +55,6 @@ run_first needs shared plan deadline t r trace left opening lower raise up_lent 
     let readied : IsFirstReady needs plan.opening plan.lower plan.raise t.left r = rw (← up_is, ← lower_is, ← raise_is) ready in
     rw (same.graph, same.opening_is, same.lower_is, same.raise_is) (
       kept_first c t trace course first empty len (subst (λ (n : ℕ). 2 * n + 1 ≤ vec_capacity trace) count room),
-      readied.placed,
       subst (λ (n : ℕ). IsRoomFor n left) bound left_room,
       rw empty (ready_first c t.left r course first.left_ones readied),
       omega (arith, readied.bound, readied.queue.room),

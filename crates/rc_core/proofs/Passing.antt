@@ -11,6 +11,7 @@ use Rattle.rc_model.proofs.SetMembers.{has_within, has_or_lacks}
 use Rattle.rc_model.proofs.Standings.{first_of, first_up, first_down}
 use Rattle.rc_graph.specs.Order.{AreDistinct}
 use Rattle.rc_set.specs.Listed.{ListsBelow}
+use Rattle.rc_set.specs.Filled.{Fills}
 use Rattle.rc_set.specs.Next.{IsNextFrom, HasNoneFrom}
 use Rattle.rc_set.proofs.Listing.{none_between, one_passed, next_listed}
 use Rattle.rc_core.specs.Ready.{Counts}
@@ -77,77 +78,20 @@ all_stand up at standings shows none s = elim (cases_lt s at) [
   | inr high ↦ shows.rest s high ∙ sym (first_down up s (none s high))
 ]
 
--- what is below a number stands as the set says, and all else is up
-pub record SinksSoFar (up : List Bool) (at : ℕ) (standings : List Standing) : Type 0 where
-  pub bound : length standings ≡ length up
-  pub low : at ≤ length up
-  pub shown : (s : ℕ) → s < at → slice_index_or standings s Down ≡ first_of up s
-  pub rest : (s : ℕ) → at ≤ s → s < length up → slice_index_or standings s Down ≡ Up
-
--- a member of which it does not hold that it is missing
-is_there : (up : List Bool) (s : ℕ) → s < length up
-    → ((s < length up) × (Has up s → ⊥) → ⊥) → Has up s
-is_there up s low found = elim (has_or_lacks up s) [
-  | inl has ↦ has
-  | inr lacks ↦ absurd (found (low, lacks))
-]
-
--- none yet
-pub none_sink : (up : List Bool) (standings : List Standing)
-    → standings ≡ replicate (length up) Up → SinksSoFar up 0 standings
-none_sink up standings is = record {
-  bound = ap length is ∙ length-replicate (length up) Up;
-  low = omega arith;
-  shown = λ s low. absurd (omega arith);
-  rest = λ s high low. rw is (get_or-replicate (length up) s Up Down low);
-}
-
--- the next one that is missing sinks
-pub next_sinks : (up : List Bool) (at id : ℕ) (standings : List Standing)
-    → SinksSoFar up at standings
-    → IsNextFrom (λ s. (s < length up) × (Has up s → ⊥)) at id
-    → SinksSoFar up (id + 1) (slice_set standings id Down)
-next_sinks up at id standings before next =
-    let low : id < length up = next.holds.0 in
-    let within : id < length standings = omega (arith, before.bound) in
-    record {
-      bound = length-set standings id Down ∙ before.bound;
-      low = omega arith;
-      shown = λ s under. elim (cases_eq s id) [
-        | inl same ↦
-            let e : id ≡ s = sym same in
-            subst (λ (q : ℕ). slice_index_or (slice_set standings id Down) q Down ≡ first_of up q)
-            e
-            (get_or-set_same standings id Down Down within ∙ sym (first_down up id next.holds.1))
-        | inr other ↦
-            get_or-set_other standings id s Down Down other
-            ∙ (elim (cases_lt s at) [
-              | inl passed ↦ before.shown s passed
-              | inr from ↦
-                  let front : s < id = omega (arith, other) in
-                  let known : s < length up = omega arith in
-                  before.rest s from known
-                  ∙ sym (first_up up s (is_there up s known (next.least s from front)))
-            ])
-      ];
-      rest = λ s high known.
-          let other : s ≢ id = omega arith in
-          get_or-set_other standings id s Down Down other
-          ∙ before.rest s (omega (arith, next.behind)) known;
-    }
-
--- there is no further one
-pub all_sunk : (up : List Bool) (at : ℕ) (standings : List Standing) → SinksSoFar up at standings
-    → HasNoneFrom (λ s. (s < length up) × (Has up s → ⊥)) at → (s : ℕ)
-    → slice_index_or standings s Down ≡ first_of up s
-all_sunk up at standings sinks none s = elim (cases_lt s at) [
-  | inl low ↦ sinks.shown s low
-  | inr high ↦ elim (cases_lt s (length up)) [
-    | inl known ↦ sinks.rest s high known
-        ∙ sym (first_up up s (is_there up s known (none s high)))
-    | inr past ↦ get_or_past standings s Down (omega (arith, past, sinks.bound))
-        ∙ sym (first_down up s
-        (λ has. let low : s < length up = has_within up s has in omega arith))
+-- where all stood up, and what the set lacks went down, each stands as the set says
+pub all_sunk : (up : List Bool) (old new : List Standing) → old ≡ replicate (length up) Up
+    → Fills (λ s. Has up s → ⊥) old new Down → (s : ℕ)
+    → slice_index_or new s Down ≡ first_of up s
+all_sunk up old new is fills s = elim (has_or_lacks up s) [
+  | inl has ↦
+      let low : s < length up = has_within up s has in
+      let stood : slice_index_or old s Down ≡ Up =
+      rw is (get_or-replicate (length up) s Up Down low) in
+      fills.same s Down (λ lacks. lacks has) ∙ stood ∙ sym (first_up up s has)
+  | inr lacks ↦ elim (cases_lt s (length old)) [
+    | inl low ↦ fills.filled s Down low lacks ∙ sym (first_down up s lacks)
+    | inr past ↦ get_or_past new s Down (omega (arith, past, fills.bound))
+        ∙ sym (first_down up s lacks)
   ]
 ]
 

@@ -1,3 +1,4 @@
+-- Whether a service has moved, is up or has changed, by the sets of a run.
 use Rattle.std.specs.Prelude.{◌⊎◌, ℕ, List, Bool}
 use Rattle.rc_model.specs.Names.{Has}
 

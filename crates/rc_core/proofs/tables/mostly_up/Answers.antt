@@ -1,21 +1,20 @@
-use Rattle.std.proofs.Common.{◌≡◌, ℕ, replicate, subst}
+use Rattle.std.proofs.Common.{◌≡◌, ◌∙◌, ℕ, length, replicate, ap, subst, arith}
+use Rattle.std.specs.Vec.{with_items}
+use Rattle.std.proofs.lemmas.List.{with_items_is}
 use Rattle.rc_model.specs.declared.Standing.TheVariants.{Up}
-use Rattle.rc_core.proofs.Passing.{none_sink, next_sinks, all_sunk}
+use Rattle.rc_core.proofs.Passing.{all_sunk}
 use Rattle.rc_core.proofs.tables.mostly_up.Goals as goal
-
-pub loop-service-init : goal.loop-service-init
-loop-service-init c =
-    let up = c.in_ok-standings.ensures.items_if_clones_equal (λ y e. e) in
-    none_sink c.args.up.now c.in_ok-standings.standings.items
-    (subst (λ (n : ℕ). c.in_ok-standings.standings.items ≡ replicate n Up)
-    c.bound.ensures.bound up)
-
-pub loop-service-preserved : goal.loop-service-preserved
-loop-service-preserved c =
-    next_sinks c.args.up.now c.loop-service.at c.in-Some.service c.loop-service.standings.items
-    c.loop-service.invariant c.in-Some.ensures.some
 
 pub returns-clause-standing : goal.returns-clause-standing
 returns-clause-standing c =
-    all_sunk c.args.up.now c.loop-service.at c.loop-service.standings.items
-    c.loop-service.invariant c.in_default.ensures.none
+    let standings = c.in_ok-standings.standings in
+    let new = c.fill_missing.new.list in
+    let up = c.in_ok-standings.ensures.items_if_clones_equal (λ y e. e) in
+    let long : length new ≡ length standings.items =
+    c.fill_missing.ensures.bound ∙ ap length c.deref_mut.ensures.value in
+    let items : (with_items standings new).items ≡ new =
+    with_items_is standings new (omega (arith, long, standings.ok)) in
+    rw items
+    (all_sunk c.args.up.now c.deref_mut.result.now new (c.deref_mut.ensures.value
+    ∙ subst (λ (n : ℕ). standings.items ≡ replicate n Up) c.bound.ensures.bound up)
+    c.fill_missing.ensures)
