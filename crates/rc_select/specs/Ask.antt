@@ -1,3 +1,4 @@
+-- What a request asks.
 use Rattle.std.specs.Prelude.{map, string_bytes}
 use Rattle.rc_select.specs.declared.request.Request.{Request}
 use Rattle.rc_model.specs.Plan.{Ask}

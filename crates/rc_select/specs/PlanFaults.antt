@@ -1,3 +1,4 @@
+-- Why the wanted services of a plan are not found.
 use Rattle.std.specs.Prelude.{ℕ, List, All}
 use Rattle.rc_model.specs.Database.{Bundles, IsKnown, IsUnknownAt}
 use Rattle.rc_model.specs.declared.PlanFault.{PlanFault}

@@ -1,3 +1,4 @@
+-- The sets of a plan, as they fit each other.
 use Rattle.std.specs.Prelude.{◌≡◌, ℕ, length}
 use Rattle.rc_model.specs.Names.{Has}
 use Rattle.rc_model.specs.Plan.{PlanSets}

@@ -1,3 +1,4 @@
+-- What a plan aims at and what it keeps up, as two sets.
 use Rattle.std.specs.Prelude.{◌≡◌, ℕ, Bool, true, false, List, length}
 use Rattle.rc_model.specs.Names.{Has, Holds}
 use Rattle.rc_model.specs.declared.Mode.{Mode}

@@ -1,0 +1,5 @@
+mod CarryingLemmas
+mod DifferenceLemmas
+mod DistinctLemmas
+mod NeedsLemmas
+mod PassingLemmas

@@ -1,0 +1,5 @@
+pub mod Conversions
+pub mod Carrying
+pub mod Differing
+pub mod Knowing
+pub mod Distinct
