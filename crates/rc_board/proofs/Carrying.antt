@@ -1,3 +1,4 @@
+-- A run that workers made completes its command; why one that was begun is not made.
 use Rattle.std.proofs.Common.{◌≡◌, ◌∙◌, ℕ, Bool, false, List, [], Option, Result, Ok, Err, IfErr, ap, sym, subst}
 use Rattle.rc_graph.specs.declared.Way.{Way}
 use Rattle.rc_model.specs.Plan.{PlanSets}

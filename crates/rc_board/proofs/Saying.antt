@@ -10,7 +10,7 @@ use Rattle.rc_board.specs.declared.time.Time.{Time}
 use Rattle.rc_board.specs.declared.time.Time.TheVariants.{Late, Early}
 use Rattle.rc_board.specs.declared.worker.Asked.{Asked}
 use Rattle.rc_board.specs.declared.worker.Asked.TheVariants.{Job, Again, Stopped, Over}
-use Rattle.rc_board.specs.declared.worker.Made.{Made}
+use Rattle.rc_board.specs.declared.transition.Made.{Made}
 use Rattle.rc_board.specs.Asking.{NotesAsked, NotesEnd, IsAnswered}
 use Rattle.rc_board.specs.Timing.{IsTimeOf}
 use Rattle.rc_board.specs.Pads.{Written, with_note, AreSaid, IsSaidWith}
@@ -40,9 +40,9 @@ module _ (Answers : ℕ → Way → Outcome → Type 0) (Gives : ℕ → Type 0)
   -- and after it asked
   pub said_asked : (worker : ℕ) (time : Time) (asked : Asked) → IsTimeOf Gives deadline time
       → NotesAsked old worker time asked new → AreSaid Answers Gives deadline new.notes
-  said_asked worker (Late moment) (Job job) told is = absurd is
-  said_asked worker (Early leave) (Job job) told is =
-      said_more (Take worker job.service) (Some job.way) (in_time Gives deadline leave.moment told) is
+  said_asked worker (Late moment) (Job taken) told is = absurd is
+  said_asked worker (Early leave) (Job taken) told is =
+      said_more (Take worker taken.job.service) (Some taken.job.way) (in_time Gives deadline leave.moment told) is
   said_asked worker (Late moment) Again told is = said_still is
   said_asked worker (Early leave) Again told is = said_still is
   said_asked worker (Late moment) Stopped told is =

@@ -1,3 +1,4 @@
+-- What can be seen of a run: its events, where each service stands, and the room for more.
 use Rattle.std.specs.Prelude.{◌≡◌, ◌≤◌, ◌+◌, ◌*◌, ℕ, List, length, slice_index_or}
 use Rattle.rc_model.specs.declared.Standing.{Standing}
 use Rattle.rc_model.specs.declared.Standing.TheVariants.{Down}

@@ -1,3 +1,4 @@
+-- What workers make of a command: a run that carries it out, or the first fault.
 use Rattle.std.specs.Prelude.{◌≡◌, ℕ, [], true, false, Option}
 use Rattle.rc_graph.specs.declared.Way.{Way}
 use Rattle.rc_model.specs.Database.{Database}

@@ -15,12 +15,13 @@ pub enum Start {
     GivenUp,
 }
 
-/// What the workers share under one lock: the run, and whether they may begin. Contracts see the
-/// run.
+/// What the workers share under one lock: the run, whether they may begin, and how many of them
+/// wait for a change. Contracts see the run.
 #[derive(Drop)]
 pub struct Board {
     pub(crate) run: Run,
     start: Start,
+    waiting: u8,
 }
 
 impl Model for Board {
@@ -39,6 +40,7 @@ impl Board {
         Board {
             run,
             start: Start::Closed,
+            waiting: 0,
         }
     }
 
@@ -54,11 +56,34 @@ impl Board {
         self.start = start;
     }
 
+    /// Whether a worker waits for a change.
+    pub(crate) fn is_awaited(&self) -> bool {
+        self.waiting > 0
+    }
+
+    /// Counts one worker more that waits for a change.
+    pub(crate) fn begin_wait(&mut self)
+        ensures { self.new ≡ self.old }
+    {
+        self.waiting = self.waiting.saturating_add(1);
+    }
+
+    /// Counts one worker less that waits.
+    pub(crate) fn end_wait(&mut self)
+        ensures { self.new ≡ self.old }
+    {
+        self.waiting = self.waiting.saturating_sub(1);
+    }
+
     /// The run that it leaves.
     pub(crate) fn into_run(self) -> Run
         ensures { result ≡ self }
     {
-        let Board { run, start: _ } = self;
+        let Board {
+            run,
+            start: _,
+            waiting: _,
+        } = self;
         run
     }
 }

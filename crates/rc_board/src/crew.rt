@@ -75,7 +75,7 @@ pub(crate) fn tools_of(
 }
 
 /// A glance, where looks are wanted.
-fn glance_of(alloc: Global, run: &Run, looks: bool) -> Result<Option<Glance>, NoMem>
+pub(crate) fn glance_of(alloc: Global, run: &Run, looks: bool) -> Result<Option<Glance>, NoMem>
     requires { run.now.events ≡ [] }
 {
     if looks {

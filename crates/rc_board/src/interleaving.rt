@@ -1,9 +1,9 @@
 //! Whether the events of a run are an interleaving of what its workers wrote down.
 
-ghost use Rattle.std.specs.Prelude.{◌≡◌, ◌<◌, ◌≤◌, ◌+◌, ◌↔◌, ℕ, [], All, replicate, length, slice_index_or, IsTrue};
+ghost use Rattle.std.specs.Prelude.{◌≡◌, ◌≤◌, ◌↔◌, [], replicate, length, IsTrue};
 ghost use Rattle.rc_board.specs.Interleaving.{IsOfCrew, AreInterleaved};
 ghost use Rattle.rc_board.specs.Reading.{AreLeft, IsNext, ReadsOn};
-ghost use Rattle.rc_board.specs.Pads.{Written, events_on, own, way_of};
+ghost use Rattle.rc_board.specs.Pads.{events_on, own};
 
 use crate::made::{way_of, worker_of};
 use crate::note::Note;
@@ -18,29 +18,12 @@ pub(crate) fn are_interleaved(up: &Set, pads: &[Pad], events: &[Event]) -> bool
     requires { length pads.now ≤ 64 }
     ensures { IsTrue result ↔ AreInterleaved up.now pads.now events.now }
 {
-    are_of_crew(events, pads.len()) && are_own(events, pads) && are_all_planned(up, pads)
-}
-
-/// Whether workers up to this number made all events.
-fn are_of_crew(events: &[Event], workers: usize) -> bool
-    ensures { IsTrue result ↔ All (IsOfCrew workers) events.now }
-{
-    events.iter().all(|event| 1 <= worker_of(*event) && worker_of(*event) as usize <= workers)
-}
-
-/// Whether the events of each worker are those on its pad. It looks at each event once.
-fn are_own(events: &[Event], pads: &[Pad]) -> bool
-    requires few { length pads.now ≤ 64 }
-    requires crew { All (IsOfCrew (length pads.now)) events.now }
-    ensures { IsTrue result ↔ ((k : ℕ) (d : Written) → k < length pads.now
-        → own (k + 1) events.now ≡ events_on (slice_index_or pads.now k d).notes) }
-{
     // How far each pad is read.
     let mut read = unread();
     let mut events = events;
     while let Some((event, later)) = events.split_first() {
         events = later;
-        if !read_on(pads, &mut read, *event) {
+        if !read_on(up, pads, &mut read, *event) {
             return false;
         }
     }
@@ -54,26 +37,36 @@ fn unread() -> [usize; 64]
     [0; 64]
 }
 
-/// Reads one event further. False: it is not next on the pad of its worker.
-fn read_on(pads: &[Pad], read: &mut [usize], event: Event) -> bool
-    requires crew { IsOfCrew (length pads.now) event }
+/// Reads one event further. False: no worker of the crew made it, or it is not next on the pad of
+/// its worker with the way of its service.
+fn read_on(up: &Set, pads: &[Pad], read: &mut [usize], event: Event) -> bool
     requires room { length pads.now ≤ length read.old }
     ensures room { length read.new ≡ length read.old }
-    ensures step { ReadsOn pads.now read.old event result read.new }
+    ensures step { ReadsOn up.now pads.now read.old event result read.new }
 {
+    if !is_of_crew(event, pads.len()) {
+        return false;
+    }
     let k = worker_of(event) as usize - 1;
-    if !is_next(pads[k].notes(), read[k], event) {
+    if !is_next(pads[k].notes(), read[k], event, way_of(up, event)) {
         return false;
     }
     read[k] += 1;
     true
 }
 
-/// Whether an event is noted at this place.
-fn is_next(notes: &[Note], at: usize, event: Event) -> bool
-    ensures { IsTrue result ↔ IsNext notes.now at event }
+/// Whether a worker up to this number made an event.
+fn is_of_crew(event: Event, workers: usize) -> bool
+    ensures { IsTrue result ↔ IsOfCrew workers event }
 {
-    at < notes.len() && notes[at].event == event
+    1 <= worker_of(event) && worker_of(event) as usize <= workers
+}
+
+/// Whether an event is noted at this place, with this way.
+fn is_next(notes: &[Note], at: usize, event: Event, way: Option<Way>) -> bool
+    ensures { IsTrue result ↔ IsNext notes.now at event way }
+{
+    at < notes.len() && notes[at].event == event && is_same_way(notes[at].way, way)
 }
 
 /// Whether nothing is left on the pads after these places.
@@ -108,28 +101,6 @@ pub(crate) fn is_own(events: &[Event], notes: &[Note], worker: u8) -> bool
         }
     }
     notes.is_empty()
-}
-
-/// Whether each way on the pads is that of its service.
-fn are_all_planned(up: &Set, pads: &[Pad]) -> bool
-    ensures { IsTrue result ↔ All (λ (pad : Written).
-        All (λ (note : _). note.way ≡ way_of up.now note.event) pad.notes) pads.now }
-{
-    pads.iter().all(|pad| are_planned(up, pad.notes()))
-}
-
-/// Whether each way on a pad is that of its service.
-fn are_planned(up: &Set, notes: &[Note]) -> bool
-    ensures { IsTrue result ↔ All (λ (note : _). note.way ≡ way_of up.now note.event) notes.now }
-{
-    notes.iter().all(|note| is_planned(up, *note))
-}
-
-/// Whether a way is that of its service.
-fn is_planned(up: &Set, note: Note) -> bool
-    ensures { IsTrue result ↔ (note.way ≡ way_of up.now note.event) }
-{
-    is_same_way(note.way, way_of(up, note.event))
 }
 
 /// Whether two ways, or none, are one.

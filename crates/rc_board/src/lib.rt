@@ -2,6 +2,7 @@
 //! from one board under a lock, have a gate make the transitions, and show each event to a watch.
 #![tactic(auto)]
 
+mod alone;
 mod board;
 mod commands;
 mod crew;
@@ -15,6 +16,7 @@ mod note;
 mod pad;
 mod play;
 mod time;
+mod transition;
 mod watch;
 mod worker;
 

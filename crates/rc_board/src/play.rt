@@ -7,6 +7,7 @@ ghost use Rattle.rc_board.specs.Crew.{IsCrew};
 ghost use Rattle.rc_board.specs.Halting.{MayHalt};
 ghost use Rattle.rc_board.specs.Made.{AreMadeInTime};
 
+use crate::alone::played_alone;
 use crate::board::Board;
 use crate::crew::{Shared, Tools, run_crew, tools_of};
 use crate::gate::Gate;
@@ -72,6 +73,9 @@ pub(crate) fn played<R: Threads + Wait + Sync, G: Gate, W: Watch>(
         return Ok(run.finish());
     }
     let crew = crew_for(workers, planned);
+    if crew == 1 {
+        return played_alone(alloc, run, deadline, gate, watch);
+    }
     match room_for(alloc, &run, crew, watch.wants_looks()) {
         Ok(Room { tools, pads }) => worked(
             rt, graph, plan, deadline, gate, crew, watch, run, tools, pads,

@@ -7,32 +7,24 @@
 //! when nothing will be taken any more.
 
 ghost use Rattle.std.specs.Prelude.{◌≡◌, []};
-ghost use Rattle.rc_board.specs.Asking.{NotesAsked, NotesEnd, IsAnswered};
+ghost use Rattle.rc_board.specs.Asking.{NotesAsked, NotesEnd};
 ghost use Rattle.rc_board.specs.Pads.{AreSaid};
 
 use crate::board::{Board, Start};
 use crate::crew::{Shared, Tools};
 use crate::gate::Gate;
 use crate::glance::Glance;
-use crate::laws::{hold_done, hold_look, hold_stop, hold_take};
+use crate::laws::{hold_look, hold_stop, hold_take};
 use crate::pad::Pad;
 use crate::time::{Time, time_of};
+use crate::transition::{Made, Taken, make};
 use crate::watch::Watch;
-use rc_core::{Job, Outcome, Took};
-use rc_graph::Way;
+use rc_core::Took;
 use std::sync::{MutexGuard, Wait};
-
-/// A transition that a worker has made.
-#[derive(Clone, Copy)]
-pub(crate) struct Made {
-    service: u16,
-    way: Way,
-    outcome: Outcome,
-}
 
 /// What came of asking for a job.
 pub(crate) enum Asked {
-    Job(Job),
+    Job(Taken),
     /// There was none. Something has happened since, or may have.
     Again,
     /// There will be none, since the run was stopped by this worker.
@@ -93,9 +85,9 @@ fn turn<G: Gate, W: Watch, R: Wait>(
     ensures { AreSaid (G.answers gate.now) (G.gives gate.now) shared.now.deadline pad.new.notes }
 {
     match ask(rt, gate, shared, worker, pad) {
-        Asked::Job(job) => {
+        Asked::Job(taken) => {
             show(rt, shared, worker, pad, glance, watch);
-            transit(rt, gate, shared, worker, pad, job);
+            transit(rt, gate, shared, worker, pad, taken);
             show(rt, shared, worker, pad, glance, watch);
             true
         }
@@ -109,26 +101,19 @@ fn turn<G: Gate, W: Watch, R: Wait>(
 }
 
 /// Has the gate make the transition of a job, and reports to the board how it ended.
-fn transit<G: Gate, R: Wait>(rt: &R, gate: &G, shared: &Shared, worker: u8, pad: &mut Pad, job: Job)
+fn transit<G: Gate, R: Wait>(
+    rt: &R,
+    gate: &G,
+    shared: &Shared,
+    worker: u8,
+    pad: &mut Pad,
+    taken: Taken,
+)
     requires { AreSaid (G.answers gate.now) (G.gives gate.now) shared.now.deadline pad.old.notes }
     ensures { AreSaid (G.answers gate.now) (G.gives gate.now) shared.now.deadline pad.new.notes }
 {
-    let made = make(gate, job);
+    let made = make(gate, taken);
     tell(rt, shared, worker, pad, made);
-}
-
-/// Has the gate make the transition of a job, with nothing locked.
-fn make<G: Gate>(gate: &G, job: Job) -> Made
-    ensures { IsAnswered (G.answers gate.now) result }
-{
-    let service = job.service();
-    let way = job.way();
-    let outcome = gate.run(job);
-    Made {
-        service,
-        way,
-        outcome,
-    }
 }
 
 /// Reports to the board how a transition ended, in a hold of its own. It wakes nobody, since this
@@ -136,18 +121,8 @@ fn make<G: Gate>(gate: &G, job: Job) -> Made
 fn tell<R: Wait>(rt: &R, shared: &Shared, worker: u8, pad: &mut Pad, made: Made)
     ensures { NotesEnd pad.old worker made pad.new }
 {
-    if pad.room() == 0 {
-        return;
-    }
     let mut guard = shared.board.lock(rt);
-    let _ = hold_done(
-        &mut guard,
-        pad,
-        worker,
-        made.service,
-        made.way,
-        made.outcome,
-    );
+    made.enter(&mut guard, pad, worker);
     drop(guard);
 }
 
@@ -164,19 +139,27 @@ fn ask<G: Gate, R: Wait>(rt: &R, gate: &G, shared: &Shared, worker: u8, pad: &mu
     asked
 }
 
-/// Lets the board go: wakes one that waits where a job was taken, and waits for a change where
-/// there is none yet.
+/// Lets the board go: wakes one that waits, if any does, where a job was taken, and waits for a
+/// change where there is none yet.
 fn let_go<R: Wait>(rt: &R, shared: &Shared, guard: MutexGuard<Board>, asked: &Asked) {
     match asked {
         Asked::Job(_) => {
+            let wakes = guard.is_awaited();
             drop(guard);
-            shared.changed.notify_one();
+            if wakes {
+                shared.changed.notify_one();
+            }
         }
-        Asked::Again => {
-            let _ = shared.changed.wait(rt, guard);
-        }
+        Asked::Again => await_change(rt, shared, guard),
         Asked::Stopped | Asked::Over => drop(guard),
     }
+}
+
+/// Waits for a change, counted on the board as one that waits.
+fn await_change<R: Wait>(rt: &R, shared: &Shared, mut guard: MutexGuard<Board>) {
+    guard.begin_wait();
+    let mut guard = shared.changed.wait(rt, guard);
+    guard.end_wait();
 }
 
 /// Stops the run where it is late, else asks for a job, and gives the leave up for it.
@@ -192,14 +175,14 @@ fn next_on(board: &mut Board, pad: &mut Pad, worker: u8, time: Time) -> Asked
             Err(_) => Asked::Over,
         },
         Time::Early(_) => match hold_take(board, pad, worker) {
-            Ok(Took::Job(job)) => Asked::Job(job),
+            Ok(Took::Job(job)) => Asked::Job(Taken::new(job)),
             Ok(Took::Wait) => Asked::Again,
             Ok(Took::Settled) | Err(_) => Asked::Over,
         },
     }
 }
 
-/// Looks at the board, where looks are wanted, and shows it to the watch with nothing locked.
+/// Shows the board to the watch, where looks are wanted.
 fn show<R: Wait, W: Watch>(
     rt: &R,
     shared: &Shared,
@@ -208,9 +191,20 @@ fn show<R: Wait, W: Watch>(
     glance: &mut Option<Glance>,
     watch: &W,
 ) {
-    let Some(glance) = glance else {
-        return;
-    };
+    if let Some(glance) = glance {
+        look(rt, shared, worker, pad, glance, watch);
+    }
+}
+
+/// Looks at the board, and shows it to the watch with nothing locked.
+fn look<R: Wait, W: Watch>(
+    rt: &R,
+    shared: &Shared,
+    worker: u8,
+    pad: &Pad,
+    glance: &mut Glance,
+    watch: &W,
+) {
     // A look may take its time, so one that waits may go on.
     shared.changed.notify_one();
     let guard = shared.board.lock(rt);
