@@ -26,7 +26,7 @@ impl From<FileFault> for FilesFault {
     ghost use Rattle.rc_crash.specs.declared.recovering.FilesFault.TheVariants as fault;
     ghost use Rattle.rc_files.specs.declared.two_files.FileFault.TheVariants as file;
 
-    ghost from_gives = { λ from to. to ≢ fault.Log };
+    ghost from_gives = { λ from to. (to ≢ fault.Log) × (to ≡ fault.Io → from ≡ file.Io) };
 
     fn from(fault: FileFault) -> FilesFault {
         match fault {
@@ -56,6 +56,7 @@ pub fn recover_files<F: TwoFiles>(
         × (F.holds files.new ≡ F.holds files.old) }
     ensures moment { IsCutRecovery db (F.holds files.old) (F.holds files.new) }
     ensures crash { (g : Files) → F.left files.new g → IsCutRecovery db (F.holds files.old) g }
+    ensures io { IsErrOf result FilesFault.Io → F.failed files.new }
 {
     let file = files.read_file(alloc)?;
     let log = files.read_log(alloc)?;
@@ -81,6 +82,7 @@ fn put_made<F: TwoFiles>(
         ⊎ AfterCrash (recovery_writes (option_map (λ one. one.text.items) made))
         (F.holds files.old) g }
     ensures fault { IsErrOf result FilesFault.Log → ⊥ }
+    ensures io { IsErrOf result FilesFault.Io → F.failed files.new }
 {
     match made {
         Some(made) => put_entry(files, made),
@@ -97,6 +99,7 @@ fn entry_of(alloc: Global, db: Db, file: &[u8], log: &[u8]) -> Result<Option<Rec
         IsEntered db file.now log.now one.text.items one.report.items)) }
     ensures nothing { IfOk result (λ made. IfNone made (HasNothing db file.now log.now)) }
     ensures unfit { IsErrOf result FilesFault.Log → IsUnfit db file.now log.now }
+    ensures fault { IsErrOf result FilesFault.Io → ⊥ }
 {
     match recover_text(alloc, db, file, log) {
         Ok(made) => Ok(made),
@@ -106,7 +109,8 @@ fn entry_of(alloc: Global, db: Db, file: &[u8], log: &[u8]) -> Result<Option<Rec
 
 /// Why nothing is entered.
 fn fault_of(fault: RecoverFault) -> FilesFault
-    ensures { result ≡ FilesFault.Log → fault ≡ RecoverFault.Log }
+    ensures log { result ≡ FilesFault.Log → fault ≡ RecoverFault.Log }
+    ensures io { result ≢ FilesFault.Io }
 {
     match fault {
         RecoverFault::Log => FilesFault::Log,
@@ -123,6 +127,7 @@ fn put_entry<F: TwoFiles>(files: &mut F, made: Recovered) -> Result<Option<Vec<u
     ensures crash { (g : Files) → F.left files.new g → F.left files.old g
         ⊎ AfterCrash (recovery_writes (Some made.text.items)) (F.holds files.old) g }
     ensures fault { IsErrOf result FilesFault.Log → ⊥ }
+    ensures io { IsErrOf result FilesFault.Io → F.failed files.new }
 {
     let Recovered { text, report } = made;
     replace_and_empty(files, &text)?;

@@ -1,0 +1,1 @@
+-- rc_files has no lemmas of its own.

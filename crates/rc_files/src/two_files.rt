@@ -1,5 +1,5 @@
 //! The two files in which a session is kept, as a program reads and writes them.
-ghost use Rattle.std.specs.Prelude.{◌≡◌, ◌⊎◌, ◌++◌, ◌∷◌, [], IfOk, OnOk};
+ghost use Rattle.std.specs.Prelude.{◌≡◌, ◌⊎◌, ◌++◌, ◌∷◌, [], IfOk, IsErrOf, OnOk};
 ghost use Rattle.rc_files.specs.Files.{AfterCrash, Append, Empty, Files, Replace, after};
 
 use std::alloc::Global;
@@ -23,34 +23,42 @@ pub trait TwoFiles {
     /// What a crash may have left of them, at some moment since they were opened.
     ghost left: { Self → Files → Type 0 };
 
+    /// Whether a call has failed for the device, or one that reads may.
+    ghost failed: { Self → Type 0 };
+
     /// The bytes of the file.
     fn read_file(&self, alloc: Global) -> Result<Vec<u8>, FileFault>
-        ensures { IfOk result (λ bytes. bytes.items ≡ (holds self.now).file) };
+        ensures bytes { IfOk result (λ bytes. bytes.items ≡ (holds self.now).file) }
+        ensures io { IsErrOf result FileFault.Io → failed self.now };
 
     /// The bytes of the log.
     fn read_log(&self, alloc: Global) -> Result<Vec<u8>, FileFault>
-        ensures { IfOk result (λ bytes. bytes.items ≡ (holds self.now).log) };
+        ensures bytes { IfOk result (λ bytes. bytes.items ≡ (holds self.now).log) }
+        ensures io { IsErrOf result FileFault.Io → failed self.now };
 
     /// Appends bytes to the log, by one write.
     fn append_log(&mut self, bytes: &[u8]) -> Result<(), FileFault>
         ensures done { OnOk result (holds self.new ≡ after (holds self.old) (Append bytes.now)) }
         ensures moment { AfterCrash (Append bytes.now ∷ []) (holds self.old) (holds self.new) }
         ensures crash { (g : Files) → left self.new g →
-            left self.old g ⊎ AfterCrash (Append bytes.now ∷ []) (holds self.old) g };
+            left self.old g ⊎ AfterCrash (Append bytes.now ∷ []) (holds self.old) g }
+        ensures io { IsErrOf result FileFault.Io → failed self.new };
 
     /// Replaces the file whole.
     fn replace_file(&mut self, text: &[u8]) -> Result<(), FileFault>
         ensures done { OnOk result (holds self.new ≡ after (holds self.old) (Replace text.now)) }
         ensures moment { AfterCrash (Replace text.now ∷ []) (holds self.old) (holds self.new) }
         ensures crash { (g : Files) → left self.new g →
-            left self.old g ⊎ AfterCrash (Replace text.now ∷ []) (holds self.old) g };
+            left self.old g ⊎ AfterCrash (Replace text.now ∷ []) (holds self.old) g }
+        ensures io { IsErrOf result FileFault.Io → failed self.new };
 
     /// Empties the log.
     fn empty_log(&mut self) -> Result<(), FileFault>
         ensures done { OnOk result (holds self.new ≡ after (holds self.old) Empty) }
         ensures moment { AfterCrash (Empty ∷ []) (holds self.old) (holds self.new) }
         ensures crash { (g : Files) → left self.new g →
-            left self.old g ⊎ AfterCrash (Empty ∷ []) (holds self.old) g };
+            left self.old g ⊎ AfterCrash (Empty ∷ []) (holds self.old) g }
+        ensures io { IsErrOf result FileFault.Io → failed self.new };
 }
 
 /// Begins the log of a command anew, with the text of the file and the line of the step.
@@ -61,6 +69,7 @@ pub fn begin_log<F: TwoFiles>(files: &mut F, head: &[u8]) -> Result<(), FileFaul
         (F.holds files.new) }
     ensures crash { (g : Files) → F.left files.new g → F.left files.old g
         ⊎ AfterCrash (Empty ∷ Append head.now ∷ []) (F.holds files.old) g }
+    ensures io { IsErrOf result FileFault.Io → F.failed files.new }
 {
     files.empty_log()?;
     files.append_log(head)
@@ -73,6 +82,7 @@ pub fn replace_and_empty<F: TwoFiles>(files: &mut F, text: &[u8]) -> Result<(), 
         (F.holds files.new) }
     ensures crash { (g : Files) → F.left files.new g → F.left files.old g
         ⊎ AfterCrash (Replace text.now ∷ Empty ∷ []) (F.holds files.old) g }
+    ensures io { IsErrOf result FileFault.Io → F.failed files.new }
 {
     files.replace_file(text)?;
     files.empty_log()

@@ -1,3 +1,4 @@
+-- A command whose run was cut short has no fault once its run is ended and stopped.
 use Rattle.std.proofs.Common.{List, [], ◌∷◌, ◌++◌}
 use Rattle.rc_model.specs.Database.{Database}
 use Rattle.rc_model.specs.Line.{Line}

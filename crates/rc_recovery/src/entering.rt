@@ -42,7 +42,7 @@ pub fn recover(alloc: Global, session: &mut Session, step: &Step) -> Result<Repo
 }
 
 /// The events of a step.
-fn logged(step: &Step) -> &[Event]
+pub(crate) fn logged(step: &Step) -> &[Event]
     ensures { result.now ≡ events_of (command_of step.now) }
 {
     match step {

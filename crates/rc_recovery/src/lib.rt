@@ -7,9 +7,11 @@
 mod ends;
 mod entering;
 pub mod laws;
+mod logged;
 mod texts;
 
 pub use crate::ends::{with_ends, with_stop};
 pub use crate::entering::recover;
+pub use crate::logged::logged_events;
 pub use crate::texts::{RecoverFault, Recovered, recover_text};
 pub use rc_session::NoMem;

@@ -78,7 +78,7 @@ pub fn recover_text(
 }
 
 /// What stands in a log after the text that it begins with.
-fn behind<'a>(text: &[u8], log: &'a [u8]) -> Option<&'a [u8]>
+pub(crate) fn behind<'a>(text: &[u8], log: &'a [u8]) -> Option<&'a [u8]>
     ensures { MatchOption result (IsOther text.now log.now)
         (λ rest. log.now ≡ text.now ++ rest.now) }
 {
@@ -86,7 +86,7 @@ fn behind<'a>(text: &[u8], log: &'a [u8]) -> Option<&'a [u8]>
 }
 
 /// The lines that end in a newline.
-fn whole_lines(bytes: &[u8]) -> &[u8]
+pub(crate) fn whole_lines(bytes: &[u8]) -> &[u8]
     ensures { AreLines bytes.now result.now }
 {
     match memrchr(b'\n', bytes) {

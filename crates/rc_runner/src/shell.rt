@@ -12,7 +12,7 @@ use crate::progress::Event;
 use crate::run_log::RunLog;
 use crate::start::{end_of, millis_since, start};
 use crate::task::Task;
-use log::{Level, Log, log_enabled};
+use log::{Level, Log, log_enabled, warn};
 use rc_board::Gate;
 use rc_core::{Event as RunEvent, Job, Outcome};
 use rc_db::{Db, NoMem, Service};
@@ -23,7 +23,7 @@ use rc_streams::messages::MESSAGE;
 use rc_streams::run_file::RunFile;
 use rc_streams::stop_file::StopFile;
 use std::alloc::{AllocError, Global};
-use std::io::Stderr;
+use std::io::{self, Stderr};
 use std::marker::Model;
 use std::process::Processes;
 use std::time::{Clock, Instant};
@@ -235,16 +235,26 @@ impl<'a, R: Processes + Clock, L: Log> ShellGate<'a, R, L> {
     fn carry_out(&self, order: Order<'_>, is_logged: bool) -> Outcome
         ensures { MayEnd (seconds_of order.entry.task.limit) result }
     {
-        let (command, task) = order.into_parts();
+        let (mut command, task) = order.into_parts();
         if !is_logged {
             drop(command);
             return Outcome::NotStarted;
         }
         self.tell_start(&task);
-        let Some(mut child) = start(self.rt, command, self.errors) else {
-            return Outcome::NotStarted;
-        };
-        end_of(self.rt, self.alloc, &mut child, seconds(task.limit))
+        let started = start(self.rt, &mut command, self.errors);
+        if let Err(error) = &started {
+            self.tell_unstarted(task.name, command.get_program(), error);
+        }
+        drop(command);
+        match started {
+            Ok(mut child) => end_of(self.rt, self.alloc, &mut child, seconds(task.limit)),
+            Err(_) => Outcome::NotStarted,
+        }
+    }
+
+    /// Reports why a program can't be started.
+    fn tell_unstarted(&self, name: &str, program: &str, error: &io::Error) {
+        warn!(self.log; target: MESSAGE, "{name}: {program} can't be started: {error}");
     }
 
     /// Tells that a program is started, before it can write anything.

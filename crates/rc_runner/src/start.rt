@@ -96,17 +96,17 @@ pub(crate) fn add_two(command: &mut Command, one: &str, two: &str) -> Result<(),
 }
 
 /// Starts a program. It reads nothing, and what it writes goes to `errors`, if that is open: with a
-/// pipe a child that it leaves behind would have to be waited for. None: it can't be started.
+/// pipe a child that it leaves behind would have to be waited for.
 pub(crate) fn start<R: Processes>(
     rt: &R,
-    mut command: Command,
+    command: &mut Command,
     errors: Option<Stderr>,
-) -> Option<Child<R::Started>> {
+) -> io::Result<Child<R::Started>> {
     command
         .stdin(Stdio::null())
         .stdout(stream_to(errors))
         .stderr(stream_to(errors));
-    command.spawn(rt).ok()
+    command.spawn(rt)
 }
 
 /// Where what a program writes goes.

@@ -14,6 +14,7 @@ use rc_session::{Session, Step};
 use rc_streams::messages::MESSAGE;
 use std::alloc::Global;
 use std::marker::Model;
+use std::sync::atomic::{AtomicU64, Ordering};
 
 /// A gate that answers as another does, and tells a log of each outcome: the moment by the clock of
 /// that gate, the way, the name of the service, and how its transition ended.
@@ -24,6 +25,8 @@ pub struct Telling<'a, L, G> {
     /// The names of the services whose outcomes are told: all, or none.
     names: Vec<String>,
     inner: G,
+    /// The last moment by that clock before the run was called off.
+    last: AtomicU64,
 }
 
 impl<'a, L, G> Model for Telling<'a, L, G> {
@@ -44,6 +47,7 @@ impl<'a, L: Log, G: Drop> Telling<'a, L, G> {
                 alloc,
                 names,
                 inner,
+                last: AtomicU64::new(0),
             });
         }
         match names_of(alloc, db) {
@@ -52,6 +56,7 @@ impl<'a, L: Log, G: Drop> Telling<'a, L, G> {
                 alloc,
                 names,
                 inner,
+                last: AtomicU64::new(0),
             }),
             Err(fault) => {
                 drop(inner);
@@ -79,7 +84,8 @@ impl<'a, L: Log + Sync, G: Gate + Drop> Gate for Telling<'a, L, G> {
         let way = job.way();
         let outcome = self.inner.run(job);
         if !self.names.is_empty() {
-            self.tell_end(self.inner.now(), service, way, outcome);
+            let moment = shown_moment(&self.last, self.inner.now());
+            self.tell_end(moment, service, way, outcome);
         }
         outcome
     }
@@ -95,4 +101,14 @@ impl<'a, L: Log + Sync, G: Gate + Drop> Gate for Telling<'a, L, G> {
     fn end(&self) {
         self.inner.end();
     }
+}
+
+/// The moment that is reported. A clock that is called off stands at the last moment that there is;
+/// then it is the one before.
+fn shown_moment(last: &AtomicU64, now: u64) -> u64 {
+    if now == u64::MAX {
+        return last.load(Ordering::SeqCst);
+    }
+    last.store(now, Ordering::SeqCst);
+    now
 }

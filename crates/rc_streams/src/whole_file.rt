@@ -1,6 +1,6 @@
 //! Files that are read whole.
-use std::fs::File;
-use std::io::{self, Read};
+use std::fs::{self, File};
+use std::io::{self, ErrorKind, Read};
 
 /// The most bytes for which room is taken before a byte is read: a size may be wrong.
 const MAX_ROOM: u64 = 67_108_864;
@@ -15,4 +15,26 @@ pub fn read(rt: &HostRuntime, path: &str) -> io::Result<Vec<u8>> {
     let mut bytes = Vec::with_capacity(rt.alloc(), room)?;
     file.read_to_end(&mut bytes)?;
     Ok(bytes)
+}
+
+/// The bytes of a file that need not be there, where one is named. A pipe or a device is refused.
+pub fn read_optional(rt: &HostRuntime, file: Option<&str>) -> io::Result<Option<Vec<u8>>> {
+    let Some(path) = file else {
+        return Ok(None);
+    };
+    // A pipe would be waited for, and a device may have no end.
+    if let Ok(found) = fs::metadata(rt, path) {
+        if !found.is_file() && !found.is_dir() {
+            return Err(io::Error::from(ErrorKind::InvalidInput));
+        }
+    }
+    match read(rt, path) {
+        Ok(bytes) => Ok(Some(bytes)),
+        Err(error) => {
+            if error.kind() == ErrorKind::NotFound {
+                return Ok(None);
+            }
+            Err(error)
+        }
+    }
 }

@@ -10,8 +10,8 @@ use Rattle.rc_crash.proofs.recovering.recover_files.Goals as goal
 pub returns-in-Ok-clause-moment : goal.returns-in-Ok-clause-moment
 returns-in-Ok-clause-moment g c =
     let f : Files = g.F.TwoFiles.holds c.args.files.now in
-    let file : c.deref.result.now ≡ f.file = c.deref.ensures.value ∙ c.in_ok-file.ensures in
-    let log : c.deref-2.result.now ≡ f.log = c.deref-2.ensures.value ∙ c.in_ok-log.ensures in
+    let file : c.deref.result.now ≡ f.file = c.deref.ensures.value ∙ c.in_ok-file.ensures.bytes in
+    let log : c.deref-2.result.now ≡ f.log = c.deref-2.ensures.value ∙ c.in_ok-log.ensures.bytes in
     let made : Option Recovered = c.in-Ok.made in
     inr (
       option_map (λ one. one.text.items) made,
@@ -27,8 +27,8 @@ returns-in-Ok-clause-moment g c =
 pub returns-in-Ok-clause-crash : goal.returns-in-Ok-clause-crash
 returns-in-Ok-clause-crash g c = λ h left.
     let f : Files = g.F.TwoFiles.holds c.args.files.now in
-    let file : c.deref.result.now ≡ f.file = c.deref.ensures.value ∙ c.in_ok-file.ensures in
-    let log : c.deref-2.result.now ≡ f.log = c.deref-2.ensures.value ∙ c.in_ok-log.ensures in
+    let file : c.deref.result.now ≡ f.file = c.deref.ensures.value ∙ c.in_ok-file.ensures.bytes in
+    let log : c.deref-2.result.now ≡ f.log = c.deref-2.ensures.value ∙ c.in_ok-log.ensures.bytes in
     let made : Option Recovered = c.in-Ok.made in
     is_cut c.args.db f h (option_map (λ one. one.text.items) made)
     (g.F.TwoFiles.left c.args.files.now h) (c.requires.opened h)
@@ -42,8 +42,8 @@ pub returns-clause-unfit : goal.returns-clause-unfit
 returns-clause-unfit g c = λ is.
     let same : c.in-Err.fault ≡ Log = let e = is in cc in
     let f : Files = g.F.TwoFiles.holds c.args.files.now in
-    let file : c.deref.result.now ≡ f.file = c.deref.ensures.value ∙ c.in_ok-file.ensures in
-    let log : c.deref-2.result.now ≡ f.log = c.deref-2.ensures.value ∙ c.in_ok-log.ensures in (
+    let file : c.deref.result.now ≡ f.file = c.deref.ensures.value ∙ c.in_ok-file.ensures.bytes in
+    let log : c.deref-2.result.now ≡ f.log = c.deref-2.ensures.value ∙ c.in_ok-log.ensures.bytes in (
       of_files (IsUnfit c.args.db) c.deref.result.now c.deref-2.result.now f file log
           (c.in-Err.ensures.unfit (ap Err same)),
       refl,
