@@ -1,3 +1,4 @@
+-- What matches ask of a plan, by the mode that their flags give.
 use Rattle.std.proofs.Common.{◌≡◌, List, None, Some, option_map, ap, codes}
 use Rattle.clap.specs.Words.{Row}
 use Rattle.rc_model.specs.declared.Mode.{Mode}

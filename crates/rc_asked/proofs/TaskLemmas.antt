@@ -10,7 +10,9 @@ use Rattle.rc_asked.specs.Asked.{ask_in}
 use Rattle.rc_asked.specs.DbAsked.{AsksIn, DbAsk}
 use Rattle.rc_asked.specs.OnceAsked.{AsksWhatIn, HasNoEvents, OnceAsk, OnceSaying, Said, WantsDryRedo, WantsDryUndo, once_command, once_saying_of}
 use Rattle.rc_asked.specs.SessionAsked.{AsksSessionIn, IsBoundIn, IsCrewIn, SessionAsk}
-use Rattle.rc_asked.specs.Task.{AsksEntered, AsksNamed, AsksNoTask, AsksTask, AsksTaskIn, IsEventless, OfCompile, OfDb, OfOnce, OfPlan, OfReplay, OfSession, OfStop, OfUpdate, OfVersion, TaskAsk, command_of, task_ask_of}
+use Rattle.rc_asked.specs.Task.{AsksEntered, AsksNamed, AsksNoTask, AsksTask, AsksTaskIn, IsEventless}
+use Rattle.rc_asked.specs.Task.{OfCompile, OfDb, OfOnce, OfPlan, OfReplay, OfRestart, OfSeal, OfSession, OfStatus, OfStop, OfUpdate, OfVersion, TaskAsk, command_of, task_ask_of}
+use Rattle.rc_asked.specs.NamedAsked.{AsksNamesIn, NamedAsk}
 use Rattle.rc_asked.specs.UpdateAsked.{AsksUpdateIn, UpdateAsk}
 use Rattle.rc_asked.specs.declared.task.Task.{Task}
 use Rattle.rc_asked.specs.declared.task.Task.TheVariants as task
@@ -133,6 +135,9 @@ db_none rows none (OfOnce ask file) asks =
     once_apart (codes "db") refl refl refl refl refl refl refl refl refl
     ask.what asks.0
 db_none rows none (OfUpdate ask file) asks = apart (codes "db") (codes "update") refl asks.0
+db_none rows none (OfRestart ask file) asks = apart (codes "db") (codes "restart") refl asks.0
+db_none rows none (OfSeal ask file) asks = apart (codes "db") (codes "seal") refl asks.0
+db_none rows none (OfStatus ask file) asks = apart (codes "db") (codes "status") refl asks.0
 db_none rows none (OfStop file) asks = apart (codes "db") (codes "stop") refl asks.0
 db_none rows none OfVersion asks = apart (codes "db") (codes "version") refl asks.0
 
@@ -146,6 +151,9 @@ plan_none rows none (OfOnce ask file) asks =
     once_apart (codes "plan") refl refl refl refl refl refl refl refl refl
     ask.what asks.0
 plan_none rows none (OfUpdate ask file) asks = apart (codes "plan") (codes "update") refl asks.0
+plan_none rows none (OfRestart ask file) asks = apart (codes "plan") (codes "restart") refl asks.0
+plan_none rows none (OfSeal ask file) asks = apart (codes "plan") (codes "seal") refl asks.0
+plan_none rows none (OfStatus ask file) asks = apart (codes "plan") (codes "status") refl asks.0
 plan_none rows none (OfStop file) asks = apart (codes "plan") (codes "stop") refl asks.0
 plan_none rows none OfVersion asks = apart (codes "plan") (codes "version") refl asks.0
 
@@ -159,6 +167,9 @@ session_none rows none (OfOnce ask file) asks =
     once_apart (codes "session") refl refl refl refl refl refl refl refl refl
     ask.what asks.0
 session_none rows none (OfUpdate ask file) asks = apart (codes "session") (codes "update") refl asks.0
+session_none rows none (OfRestart ask file) asks = apart (codes "session") (codes "restart") refl asks.0
+session_none rows none (OfSeal ask file) asks = apart (codes "session") (codes "seal") refl asks.0
+session_none rows none (OfStatus ask file) asks = apart (codes "session") (codes "status") refl asks.0
 session_none rows none (OfStop file) asks = apart (codes "session") (codes "stop") refl asks.0
 session_none rows none OfVersion asks = apart (codes "session") (codes "version") refl asks.0
 
@@ -172,31 +183,120 @@ update_none rows none (OfOnce ask file) asks =
     once_apart (codes "update") refl refl refl refl refl refl refl refl refl
     ask.what asks.0
 update_none rows none (OfUpdate ask file) asks = none ask asks.1.0
+update_none rows none (OfRestart ask file) asks = apart (codes "update") (codes "restart") refl asks.0
+update_none rows none (OfSeal ask file) asks = apart (codes "update") (codes "seal") refl asks.0
+update_none rows none (OfStatus ask file) asks = apart (codes "update") (codes "status") refl asks.0
 update_none rows none (OfStop file) asks = apart (codes "update") (codes "stop") refl asks.0
 update_none rows none OfVersion asks = apart (codes "update") (codes "version") refl asks.0
 
--- matches that ask for no session of one line ask nothing, where their command has none of the other names
-pub others_none : (name : Text) (rows : List Row) → (name ≡ codes "compile" → ⊥) → (name ≡ codes "db" → ⊥)
-    → (name ≡ codes "plan" → ⊥) → (name ≡ codes "replay" → ⊥) → (name ≡ codes "session" → ⊥)
-    → (name ≡ codes "update" → ⊥)
+pub restart_none : (rows : List Row) → ((ask : NamedAsk) → AsksNamesIn rows ask → ⊥) → (ask : TaskAsk)
+    → AsksNamed (codes "restart") rows ask → ⊥
+restart_none rows none (OfCompile ask) asks =
+    apart (codes "restart") (codes "compile") refl asks.0
+restart_none rows none (OfDb ask file) asks =
+    apart (codes "restart") (codes "db") refl asks.0
+restart_none rows none (OfPlan ask file) asks =
+    apart (codes "restart") (codes "plan") refl asks.0
+restart_none rows none (OfReplay file) asks =
+    apart (codes "restart") (codes "replay") refl asks.0
+restart_none rows none (OfSession ask file) asks =
+    apart (codes "restart") (codes "session") refl asks.0
+restart_none rows none (OfOnce ask file) asks =
+    once_apart (codes "restart") refl refl refl refl refl refl refl refl refl ask.what asks.0
+restart_none rows none (OfUpdate ask file) asks =
+    apart (codes "restart") (codes "update") refl asks.0
+restart_none rows none (OfRestart ask file) asks = none ask asks.1.0
+restart_none rows none (OfSeal ask file) asks =
+    apart (codes "restart") (codes "seal") refl asks.0
+restart_none rows none (OfStatus ask file) asks =
+    apart (codes "restart") (codes "status") refl asks.0
+restart_none rows none (OfStop file) asks =
+    apart (codes "restart") (codes "stop") refl asks.0
+restart_none rows none OfVersion asks =
+    apart (codes "restart") (codes "version") refl asks.0
+
+pub seal_none : (rows : List Row) → ((ask : SessionAsk) → AsksSessionIn rows ask → ⊥) → (ask : TaskAsk)
+    → AsksNamed (codes "seal") rows ask → ⊥
+seal_none rows none (OfCompile ask) asks =
+    apart (codes "seal") (codes "compile") refl asks.0
+seal_none rows none (OfDb ask file) asks =
+    apart (codes "seal") (codes "db") refl asks.0
+seal_none rows none (OfPlan ask file) asks =
+    apart (codes "seal") (codes "plan") refl asks.0
+seal_none rows none (OfReplay file) asks =
+    apart (codes "seal") (codes "replay") refl asks.0
+seal_none rows none (OfSession ask file) asks =
+    apart (codes "seal") (codes "session") refl asks.0
+seal_none rows none (OfOnce ask file) asks =
+    once_apart (codes "seal") refl refl refl refl refl refl refl refl refl ask.what asks.0
+seal_none rows none (OfUpdate ask file) asks =
+    apart (codes "seal") (codes "update") refl asks.0
+seal_none rows none (OfRestart ask file) asks =
+    apart (codes "seal") (codes "restart") refl asks.0
+seal_none rows none (OfSeal ask file) asks = none ask asks.1.0
+seal_none rows none (OfStatus ask file) asks =
+    apart (codes "seal") (codes "status") refl asks.0
+seal_none rows none (OfStop file) asks =
+    apart (codes "seal") (codes "stop") refl asks.0
+seal_none rows none OfVersion asks =
+    apart (codes "seal") (codes "version") refl asks.0
+
+pub status_none : (rows : List Row) → ((ask : NamedAsk) → AsksNamesIn rows ask → ⊥) → (ask : TaskAsk)
+    → AsksNamed (codes "status") rows ask → ⊥
+status_none rows none (OfCompile ask) asks =
+    apart (codes "status") (codes "compile") refl asks.0
+status_none rows none (OfDb ask file) asks =
+    apart (codes "status") (codes "db") refl asks.0
+status_none rows none (OfPlan ask file) asks =
+    apart (codes "status") (codes "plan") refl asks.0
+status_none rows none (OfReplay file) asks =
+    apart (codes "status") (codes "replay") refl asks.0
+status_none rows none (OfSession ask file) asks =
+    apart (codes "status") (codes "session") refl asks.0
+status_none rows none (OfOnce ask file) asks =
+    once_apart (codes "status") refl refl refl refl refl refl refl refl refl ask.what asks.0
+status_none rows none (OfUpdate ask file) asks =
+    apart (codes "status") (codes "update") refl asks.0
+status_none rows none (OfRestart ask file) asks =
+    apart (codes "status") (codes "restart") refl asks.0
+status_none rows none (OfSeal ask file) asks =
+    apart (codes "status") (codes "seal") refl asks.0
+status_none rows none (OfStatus ask file) asks = none ask asks.1.0
+status_none rows none (OfStop file) asks =
+    apart (codes "status") (codes "stop") refl asks.0
+status_none rows none OfVersion asks =
+    apart (codes "status") (codes "version") refl asks.0
+
+-- matches that ask for no session of one line ask nothing, where their command has none of the
+-- other names
+pub others_none : (name : Text) (rows : List Row) → (name ≡ codes "compile" → ⊥)
+    → (name ≡ codes "db" → ⊥) → (name ≡ codes "plan" → ⊥) → (name ≡ codes "replay" → ⊥)
+    → (name ≡ codes "session" → ⊥) → (name ≡ codes "update" → ⊥) → (name ≡ codes "restart" → ⊥)
+    → (name ≡ codes "seal" → ⊥) → (name ≡ codes "status" → ⊥)
     → (name ≡ codes "stop" → ⊥) → (name ≡ codes "version" → ⊥)
     → ((ask : OnceAsk) (file : Option Text) → AsksNamed name rows (OfOnce ask file) → ⊥)
     → (ask : TaskAsk) → AsksNamed name rows ask → ⊥
-others_none name rows compile db plan replay session update stop version none (OfCompile ask) asks =
-    compile asks.0
-others_none name rows compile db plan replay session update stop version none (OfDb ask file) asks =
-    db asks.0
-others_none name rows compile db plan replay session update stop version none (OfPlan ask file)
-    asks = plan asks.0
-others_none name rows compile db plan replay session update stop version none (OfReplay file) asks =
-    replay asks.0
-others_none name rows compile db plan replay session update stop version none (OfSession ask file)
-    asks = session asks.0
-others_none name rows compile db plan replay session update stop version none (OfOnce ask file)
-    asks = none ask file asks
-others_none name rows compile db plan replay session update stop version none (OfUpdate ask file)
-    asks = update asks.0
-others_none name rows compile db plan replay session update stop version none (OfStop file) asks =
-    stop asks.0
-others_none name rows compile db plan replay session update stop version none OfVersion asks =
-    version asks.0
+others_none name rows compile db plan replay session update restart seal status stop version none
+    (OfCompile ask) asks = compile asks.0
+others_none name rows compile db plan replay session update restart seal status stop version none
+    (OfDb ask file) asks = db asks.0
+others_none name rows compile db plan replay session update restart seal status stop version none
+    (OfPlan ask file) asks = plan asks.0
+others_none name rows compile db plan replay session update restart seal status stop version none
+    (OfReplay file) asks = replay asks.0
+others_none name rows compile db plan replay session update restart seal status stop version none
+    (OfSession ask file) asks = session asks.0
+others_none name rows compile db plan replay session update restart seal status stop version none
+    (OfOnce ask file) asks = none ask file asks
+others_none name rows compile db plan replay session update restart seal status stop version none
+    (OfUpdate ask file) asks = update asks.0
+others_none name rows compile db plan replay session update restart seal status stop version none
+    (OfRestart ask file) asks = restart asks.0
+others_none name rows compile db plan replay session update restart seal status stop version none
+    (OfSeal ask file) asks = seal asks.0
+others_none name rows compile db plan replay session update restart seal status stop version none
+    (OfStatus ask file) asks = status asks.0
+others_none name rows compile db plan replay session update restart seal status stop version none
+    (OfStop file) asks = stop asks.0
+others_none name rows compile db plan replay session update restart seal status stop version none
+    OfVersion asks = version asks.0

@@ -1,3 +1,4 @@
+-- Lists of transitions as an option spells them: the words between commas.
 use Rattle.std.specs.Prelude.{◌≡◌, ◌≢◌, ◌==◌, ◌⊎◌, ◌++◌, ◌∷◌, ℕ, List, [], codes}
 use Rattle.std.specs.List.{slice_split}
 use Rattle.rc_graph.specs.declared.Way.{Way}

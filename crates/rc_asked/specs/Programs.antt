@@ -5,22 +5,28 @@ use Rattle.rc_script.specs.Words.{words_in as spaced}
 use Rattle.rc_asked.specs.Listed.{Listed, SpellsList}
 use Rattle.rc_asked.specs.Limits.{IsLimitIn}
 
--- by a table of those that fail, with nothing started, or by programs: the words of a runner for
--- oneshots, those of a controller for longruns, and the limit of services that have none, or 0
+-- by a table of those that fail, with nothing started, or by programs: the text that names a runner
+-- for oneshots, if one is named, that of a controller for longruns, and the limit of services that
+-- have none, or 0
 pub data MakingAsk : Type 0 where
   ByTable : List Listed → MakingAsk
-  ByPrograms : List Text → List Text → ℕ → MakingAsk
+  ByPrograms : (runner controller : Option Text) → ℕ → MakingAsk
+
+-- programs are started
+abbrev pub StartsBy : MakingAsk → Type 0
+StartsBy (ByTable failing) = ⊥
+StartsBy (ByPrograms runner controller limit) = Unit {0}
 
 -- the transitions that are listed as failing
 abbrev pub listed_in : MakingAsk → List Listed
 listed_in (ByTable failing) = failing
 listed_in (ByPrograms first second limit) = []
 
--- the words of the runner: those of the text that is given, and `/bin/sh -c` where none is
+-- the words of the runner: those of the text that names it, and `/bin/sh -c` where none does
 abbrev pub runner_in : Option Text → List Text
 runner_in given = spaced (unwrap_or given (codes "/bin/sh -c"))
 
--- the words of the controller: those of the text that is given, and none where none is
+-- the words of the controller: those of the text that names it, and none where none does
 abbrev pub controller_in : Option Text → List Text
 controller_in given = spaced (unwrap_or given [])
 
@@ -31,7 +37,7 @@ MakesBy (Some text) runner controller limit (ByTable failing) = SpellsList text 
 MakesBy (Some text) runner controller limit (ByPrograms first second usual) = ⊥
 MakesBy None runner controller limit (ByTable failing) = ⊥
 MakesBy None runner controller limit (ByPrograms first second usual) =
-    (first ≡ runner_in runner) × (second ≡ controller_in controller) × IsLimitIn limit usual
+    (first ≡ runner) × (second ≡ controller) × IsLimitIn limit usual
 
 -- the matches of `session` ask that transitions are made so
 abbrev pub MakesIn : List Row → MakingAsk → Type 0

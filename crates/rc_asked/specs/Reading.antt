@@ -1,3 +1,4 @@
+-- A transition that was read, by its way and the name of its service.
 use Rattle.rc_asked.specs.declared.transitions.Transition.{Transition}
 use Rattle.rc_asked.specs.Listed.{Listed}
 

@@ -3,17 +3,19 @@ use Rattle.std.specs.Prelude.{◌≡◌, ◌≤◌, ◌<◌, ◌^◌, ℕ, Bool,
 use Rattle.std.specs.Str.Parse.{IsNumeral, digits_value, without_leading_plus}
 use Rattle.clap.specs.Words.{Row, Text, first_of}
 use Rattle.rc_asked.specs.Making.{making_ask_of}
-use Rattle.rc_asked.specs.Programs.{MakesIn, MakingAsk}
+use Rattle.rc_asked.specs.Programs.{MakesIn, MakingAsk, StartsBy}
 use Rattle.rc_command.specs.Words.{is_on, rows_for}
 use Rattle.rc_asked.specs.declared.session_request.SessionRequest.{SessionRequest}
 
 -- what is asked of a session: how many workers it has, how transitions are made, whether each is
--- told, how many states a new one has at most, the file that it goes on with and is kept in, if one
--- is named, and whether that is waited for where another program holds it
+-- reported, or not even those that do not succeed, how many states a new one has at most, the file
+-- that it goes on with and is kept in, if one is named, and whether that is waited for where another
+-- program holds it
 pub record SessionAsk : Type 0 where
   pub workers : ℕ
   pub making : MakingAsk
   pub tells : Bool
+  pub quiet : Bool
   pub bound : ℕ
   pub live : Option Text
   pub waits : Bool
@@ -39,12 +41,13 @@ abbrev pub IsBoundIn : Option Text → ℕ → Type 0
 IsBoundIn None bound = bound ≡ 1024
 IsBoundIn (Some text) bound = SpellsBound text bound
 
--- the matches are those of this number of workers, of transitions that are made so, and told or
--- not, of this bound and of this file, waited for or not
+-- the matches are those of this number of workers, of transitions that are made so, and reported
+-- or not, of this bound and of this file, waited for or not
 pub record AsksSessionIn (rows : List Row) (ask : SessionAsk) : Type 0 where
   pub workers : IsCrewIn (first_of (codes "workers") rows) ask.workers
   pub making : MakesIn rows ask.making
   pub tells : ask.tells ≡ is_on (codes "verbose") rows
+  pub quiet : ask.quiet ≡ is_on (codes "quiet") rows
   pub bound : IsBoundIn (first_of (codes "bound") rows) ask.bound
   pub live : ask.live ≡ first_of (codes "live") rows
   pub waits : ask.waits ≡ is_on (codes "wait") rows
@@ -62,12 +65,17 @@ AsksSomeSession words = (ask : SessionAsk) × AsksSession words ask
 abbrev pub AsksNoSession : List Text → Type 0
 AsksNoSession words = (ask : SessionAsk) → AsksSession words ask → ⊥
 
+-- it starts programs
+abbrev pub Starts : SessionAsk → Type 0
+Starts ask = StartsBy ask.making
+
 -- what a request of the program asks
 abbrev pub session_ask_of : SessionRequest → SessionAsk
 session_ask_of request = record {
   workers = request.workers;
   making = making_ask_of request.making;
   tells = request.tells;
+  quiet = request.quiet;
   bound = request.bound;
   live = option_map (λ f. f.now) request.live;
   waits = request.waits;

@@ -6,10 +6,12 @@ use Rattle.rc_select.specs.Ask.{ask_of}
 use Rattle.rc_command.specs.Words.{rows_for}
 use Rattle.rc_asked.specs.Asked.{ask_in}
 use Rattle.rc_asked.specs.CompileAsked.{AsksCompileIn, CompileAsk, compile_ask_of}
-use Rattle.rc_asked.specs.OnceAsked.{AsksOnceIn, HasNoEvents, OnceAsk, once_ask_of, once_command}
+use Rattle.rc_asked.specs.OnceAsked.{AsksOnceIn, HasNoEvents, LacksFile, OnceAsk, once_ask_of, once_command}
 use Rattle.rc_asked.specs.DbAsked.{AsksIn, DbAsk, db_ask_of}
 use Rattle.rc_asked.specs.SessionAsked.{AsksSessionIn, SessionAsk, session_ask_of}
+use Rattle.rc_asked.specs.NamedAsked.{AsksNamesIn, NamedAsk, named_ask_of}
 use Rattle.rc_asked.specs.UpdateAsked.{AsksUpdateIn, UpdateAsk, update_ask_of}
+use Rattle.rc_asked.specs.Usual.{UsualAsk, first_named, session_by}
 use Rattle.rc_asked.specs.declared.task.Task.{Task}
 use Rattle.rc_asked.specs.declared.task.Task.TheVariants as task
 
@@ -22,6 +24,9 @@ pub data TaskAsk : Type 0 where
   OfSession : SessionAsk → Option Text → TaskAsk
   OfOnce : OnceAsk → Option Text → TaskAsk
   OfUpdate : UpdateAsk → Option Text → TaskAsk
+  OfRestart : NamedAsk → Option Text → TaskAsk
+  OfSeal : SessionAsk → Option Text → TaskAsk
+  OfStatus : NamedAsk → Option Text → TaskAsk
   OfStop : Option Text → TaskAsk
   OfVersion : TaskAsk
 
@@ -34,6 +39,9 @@ command_of (OfReplay file) = codes "replay"
 command_of (OfSession ask file) = codes "session"
 command_of (OfOnce ask file) = once_command ask.what
 command_of (OfUpdate ask file) = codes "update"
+command_of (OfRestart ask file) = codes "restart"
+command_of (OfSeal ask file) = codes "seal"
+command_of (OfStatus ask file) = codes "status"
 command_of (OfStop file) = codes "stop"
 command_of OfVersion = codes "version"
 
@@ -50,6 +58,9 @@ AsksTaskIn rows (OfReplay file) = file ≡ file_in rows
 AsksTaskIn rows (OfSession ask file) = AsksSessionIn rows ask × (file ≡ file_in rows)
 AsksTaskIn rows (OfOnce ask file) = AsksOnceIn rows ask × (file ≡ file_in rows)
 AsksTaskIn rows (OfUpdate ask file) = AsksUpdateIn rows ask × (file ≡ file_in rows)
+AsksTaskIn rows (OfRestart ask file) = AsksNamesIn rows ask × (file ≡ file_in rows)
+AsksTaskIn rows (OfSeal ask file) = AsksSessionIn rows ask × (file ≡ file_in rows)
+AsksTaskIn rows (OfStatus ask file) = AsksNamesIn rows ask × (file ≡ file_in rows)
 AsksTaskIn rows (OfStop file) = file ≡ first_of (codes "live") rows
 AsksTaskIn rows OfVersion = Unit {0}
 
@@ -82,30 +93,40 @@ task_ask_of (task.Session request file) =
 task_ask_of (task.Once request file) = OfOnce (once_ask_of request) (option_map (λ f. f.now) file)
 task_ask_of (task.Update request file) =
     OfUpdate (update_ask_of request) (option_map (λ f. f.now) file)
+task_ask_of (task.Restart request file) =
+    OfRestart (named_ask_of request) (option_map (λ f. f.now) file)
+task_ask_of (task.Seal request file) =
+    OfSeal (session_ask_of request) (option_map (λ f. f.now) file)
+task_ask_of (task.Status request file) =
+    OfStatus (named_ask_of request) (option_map (λ f. f.now) file)
 task_ask_of (task.Stop file) = OfStop (option_map (λ f. f.now) file)
 task_ask_of task.Version = OfVersion
 
--- what is named, or where nothing is the usual
-abbrev pub first_named : {A : Type 0} → (named usual : Option A) → Option A
-first_named (Some file) usual = Some file
-first_named None usual = usual
+-- the same, with these where nothing is named
+abbrev pub task_by : UsualAsk → TaskAsk → TaskAsk
+task_by usual (OfCompile ask) = OfCompile ask
+task_by usual (OfDb ask file) = OfDb ask (first_named file usual.base)
+task_by usual (OfPlan ask file) = OfPlan ask (first_named file usual.base)
+task_by usual (OfReplay file) = OfReplay (first_named file usual.base)
+task_by usual (OfSession ask file) =
+    OfSession (session_by usual ask) (first_named file usual.base)
+task_by usual (OfOnce ask file) =
+    OfOnce (record ask { session = session_by usual ask.session }) (first_named file usual.base)
+task_by usual (OfUpdate ask file) =
+    OfUpdate (record ask { session = session_by usual ask.session }) (first_named file usual.base)
+task_by usual (OfRestart ask file) =
+    OfRestart (record ask { session = session_by usual ask.session })
+    (first_named file usual.base)
+task_by usual (OfSeal ask file) = OfSeal (session_by usual ask) (first_named file usual.base)
+task_by usual (OfStatus ask file) =
+    OfStatus (record ask { session = session_by usual ask.session }) (first_named file usual.base)
+task_by usual (OfStop file) = OfStop (first_named file usual.live)
+task_by usual OfVersion = OfVersion
 
--- the same, with these files where none is named
-abbrev pub session_by : (live : Option Text) → SessionAsk → SessionAsk
-session_by live ask = record ask { live = first_named ask.live live }
-
-abbrev pub task_by : (base live : Option Text) → TaskAsk → TaskAsk
-task_by base live (OfCompile ask) = OfCompile ask
-task_by base live (OfDb ask file) = OfDb ask (first_named file base)
-task_by base live (OfPlan ask file) = OfPlan ask (first_named file base)
-task_by base live (OfReplay file) = OfReplay (first_named file base)
-task_by base live (OfSession ask file) = OfSession (session_by live ask) (first_named file base)
-task_by base live (OfOnce ask file) =
-    OfOnce (record ask { session = session_by live ask.session }) (first_named file base)
-task_by base live (OfUpdate ask file) =
-    OfUpdate (record ask { session = session_by live ask.session }) (first_named file base)
-task_by base live (OfStop file) = OfStop (first_named file live)
-task_by base live OfVersion = OfVersion
+-- it is a session of one line that needs a file and has none
+abbrev pub LacksItsFile : TaskAsk → Type 0
+LacksItsFile (OfOnce ask file) = LacksFile ask
+LacksItsFile other = ⊥
 
 -- a session of one line brings no events
 abbrev pub IsEventless : Task → Type 0

@@ -36,8 +36,14 @@ pub enum WordsFault {
     Files,
     /// They name no file of the session whose command is to be called off.
     Session,
+    /// They name no file that keeps what is up.
+    NoFile,
+    /// They name no file of the session or of its database, and the command wants both.
+    Both,
     /// Their first word is no name that a bundle may have.
     Name,
+    /// One of them has a newline.
+    Newline,
     /// Their number of workers is none from 1 to 64.
     Workers,
     /// Their bound on how many states there are is none of at least 3.
@@ -156,8 +162,11 @@ fn words_of(fault: &WordsFault) -> &'static str {
         }
         WordsFault::Live => "-l of db goes with the query dot alone",
         WordsFault::Files => "update wants -b and -l, or UNDORC_DB and UNDORC_LIVE, and -B",
+        WordsFault::Both => "this command wants -b and -l, or UNDORC_DB and UNDORC_LIVE",
         WordsFault::Session => "stop wants -l, or UNDORC_LIVE",
+        WordsFault::NoFile => "-l is missing, or UNDORC_LIVE: the file that keeps what is up",
         WordsFault::Name => "add wants a name first: 1 to 255 bytes, without spaces and newlines",
+        WordsFault::Newline => "a name has no newline",
         WordsFault::Workers => "-w wants a number from 1 to 64",
         WordsFault::Bound => "-n wants a number from 3 to 4294967295",
         WordsFault::Limit => "-t and -T want a number from 0 to 4294967295",

@@ -1,6 +1,9 @@
 //! What the words ask of a session of one line.
-ghost use Rattle.std.specs.Prelude.{◌≡◌, ◌≢◌, codes, map, option_map, IfErr, IfOk};
+ghost use Rattle.std.specs.Prelude.{◌≡◌, ◌≢◌, ◌↔◌, codes, map, option_map, All, IfErr, IfOk, IsTrue};
 ghost use Rattle.clap.specs.Words.{found_of, rows_of};
+ghost use Rattle.rc_asked.specs.Usual.{session_by, usual_ask_of};
+ghost use Rattle.rc_asked.specs.OnceAsked.{AreOneLine, IsOneLine, IsShown, LacksFile};
+ghost use Rattle.rc_command.specs.Words.{words_in as words_rows};
 ghost use Rattle.rc_asked.specs.OnceAsked.{Adds, AsksOnceIn, AsksWhat, AsksWhatIn, OnceAsk, OnceSaying};
 ghost use Rattle.rc_asked.specs.OnceAsked.{once_ask_of, once_command, once_saying_of};
 ghost use Rattle.rc_asked.specs.declared.asked.WordsFault.TheVariants.{Memory};
@@ -10,6 +13,7 @@ use crate::limits::run_limit_of;
 use crate::session_request::SessionRequest;
 use crate::session_words::session_in;
 use crate::texts::{strings_of, words_in};
+use crate::usual::Usual;
 use clap::ArgMatches;
 use rc_command::is_on;
 use rc_names::{Name, NameFault};
@@ -38,18 +42,35 @@ pub struct OnceRequest<'a> {
 }
 
 impl<'a> OnceRequest<'a> {
-    /// The same with another file of the session.
-    pub fn with_live(self, live: Option<&'a str>) -> OnceRequest<'a>
+    /// The same, with these where the words name nothing.
+    pub fn with_usual(self, usual: Usual<'a>) -> OnceRequest<'a>
         ensures { once_ask_of result ≡ record (once_ask_of self.entry) {
-          session = record (once_ask_of self.entry).session {
-            live = option_map (λ file. file.now) live.entry;
-          };
+          session = session_by (usual_ask_of usual.entry) (once_ask_of self.entry).session;
         } }
     {
         let OnceRequest { once, session } = self;
         OnceRequest {
             once,
-            session: session.with_live(live),
+            session: session.with_usual(usual),
+        }
+    }
+
+    /// Whether it needs a file and has none: what it starts would be known to nobody.
+    pub fn lacks_file(&self) -> bool
+        ensures { IsTrue result ↔ LacksFile (once_ask_of self.now) }
+    {
+        self.session.live.is_none() && self.session.starts() && !self.once.is_shown()
+    }
+}
+
+impl Once {
+    /// Whether it shows what would move.
+    fn is_shown(&self) -> bool
+        ensures { IsTrue result ↔ IsShown (once_saying_of self.now) }
+    {
+        match self {
+            Once::Line(SessionLine::Dry(_)) | Once::DryUndo | Once::DryRedo => true,
+            Once::Line(_) => false,
         }
     }
 }
@@ -67,9 +88,37 @@ pub(crate) fn once_in<'a>(
         name.now ≡ once_command ask.what →
         AsksOnceIn (rows_of (found_of matches.now)) ask → ⊥) }
 {
+    if !are_one_line(matches) {
+        return Err(WordsFault::Newline);
+    }
     let once = what_in(alloc, name, matches)?;
     let session = session_in(alloc, matches)?;
     Ok(OnceRequest { once, session })
+}
+
+/// Whether the words have no newline.
+pub(crate) fn are_one_line(matches: &ArgMatches<'_>) -> bool
+    ensures { IsTrue result ↔ AreOneLine (words_rows (rows_of (found_of matches.now))) }
+{
+    match matches.get_strs("words") {
+        Some(words) => are_all_one_line(words),
+        None => true,
+    }
+}
+
+// Whether these have no newline.
+fn are_all_one_line(words: &[&str]) -> bool
+    ensures { IsTrue result ↔ All (λ (word : _). IsOneLine word.now) words.now }
+{
+    words.iter().all(|word| is_one_line(word))
+}
+
+// Whether a word has no newline.
+#[tactic(auto, unfolding(crate::specs::OnceAsked::IsOneLine))]
+fn is_one_line(word: &str) -> bool
+    ensures { IsTrue result ↔ IsOneLine word.now }
+{
+    !word.as_bytes().contains(&b'\n')
 }
 
 // What the matches of the command of this name ask to be done.

@@ -67,11 +67,13 @@ pub(crate) fn session_in<'a>(
         return Err(WordsFault::Bound);
     };
     let tells = is_on(matches, "verbose");
+    let quiet = is_on(matches, "quiet");
     match making_in(alloc, matches) {
         Ok(making) => Ok(SessionRequest {
             workers,
             making,
             tells,
+            quiet,
             bound,
             live: text_in(matches, "live"),
             waits: is_on(matches, "wait"),

@@ -1,20 +1,23 @@
 //! The words of the command line, read once.
-ghost use Rattle.std.specs.Prelude.{◌≡◌, ◌≢◌, Option, codes, map, option_map, string_bytes, IfErr, IfOk};
+ghost use Rattle.std.specs.Prelude.{◌≡◌, ◌≢◌, Option, codes, map, string_bytes, IfErr, IfOk, OnErr, OnOk};
 ghost use Rattle.clap.specs.Words.{Text, found_of, rows_of, subcommand_rows_of};
 ghost use Rattle.rc_asked.specs.OnceAsked.{OnceAsk};
 ghost use Rattle.rc_asked.specs.Task.{AsksEntered, AsksNamed, AsksNoTask, AsksTask, IsEventless};
-ghost use Rattle.rc_asked.specs.Task.{OfOnce, TaskAsk, first_named, task_ask_of, task_by};
+ghost use Rattle.rc_asked.specs.Task.{LacksItsFile, OfOnce, TaskAsk, task_ask_of, task_by};
+ghost use Rattle.rc_asked.specs.Usual.{usual_ask_of};
 ghost use Rattle.rc_asked.specs.declared.asked.WordsFault.TheVariants.{Memory};
 
 use crate::asked::{WordsFault, plan_in};
 use crate::compile_words::{CompileRequest, compile_in};
 use crate::db_words::{DbRequest, db_in};
 use crate::matched::matches_in;
+use crate::named_words::{NamedRequest, named_in};
 use crate::once_words::{OnceRequest, once_in};
 use crate::session_request::SessionRequest;
 use crate::session_words::session_in;
 use crate::texts::text_in;
 use crate::update_words::{UpdateRequest, update_in};
+use crate::usual::{Usual, named_or};
 use clap::ArgMatches;
 use rc_command::entered;
 use rc_select::Request;
@@ -38,6 +41,12 @@ pub enum Task<'a> {
     Once(OnceRequest<'a>, Option<&'a str>),
     /// What is live, carried over from the database of `-b` to another.
     Update(UpdateRequest<'a>, Option<&'a str>),
+    /// That services go down and come up again.
+    Restart(NamedRequest<'a>, Option<&'a str>),
+    /// That the history around the current state is forgotten.
+    Seal(SessionRequest<'a>, Option<&'a str>),
+    /// Where services stand.
+    Status(NamedRequest<'a>, Option<&'a str>),
     /// That the command which goes on with the session of this file is called off.
     Stop(Option<&'a str>),
     /// Which version this is.
@@ -45,44 +54,48 @@ pub enum Task<'a> {
 }
 
 impl<'a> Task<'a> {
-    /// The same, with these files of `-b` and `-l` where the words name none.
-    pub fn with_usual(self, base: Option<&'a str>, live: Option<&'a str>) -> Task<'a>
-        ensures asked { task_ask_of result ≡ task_by (option_map (λ file. file.now) base.entry)
-            (option_map (λ file. file.now) live.entry) (task_ask_of self.entry) }
-        ensures eventless { IsEventless self.entry → IsEventless result }
+    /// The same, with these where the words name nothing. A session of one line that needs a file
+    /// is refused where there is none.
+    pub fn with_usual(self, usual: Usual<'a>) -> Result<Task<'a>, WordsFault>
+        ensures asked { IfOk result (λ task.
+            task_ask_of task ≡ task_by (usual_ask_of usual.entry) (task_ask_of self.entry)) }
+        ensures eventless { IsEventless self.entry → IfOk result IsEventless }
+        ensures named { OnOk result
+            (LacksItsFile (task_by (usual_ask_of usual.entry) (task_ask_of self.entry)) → ⊥) }
+        ensures lacks { OnErr result
+            (LacksItsFile (task_by (usual_ask_of usual.entry) (task_ask_of self.entry))) }
     {
-        match self {
+        Ok(match self {
             Task::Compile(request) => Task::Compile(request),
-            Task::Db(request, file) => Task::Db(request, named_or(file, base)),
-            Task::Plan(request, file) => Task::Plan(request, named_or(file, base)),
-            Task::Replay(file) => Task::Replay(named_or(file, base)),
+            Task::Db(request, file) => Task::Db(request, named_or(file, usual.base)),
+            Task::Plan(request, file) => Task::Plan(request, named_or(file, usual.base)),
+            Task::Replay(file) => Task::Replay(named_or(file, usual.base)),
             Task::Session(request, file) => {
-                let live = named_or(request.live, live);
-                Task::Session(request.with_live(live), named_or(file, base))
+                Task::Session(request.with_usual(usual), named_or(file, usual.base))
             }
             Task::Once(request, file) => {
-                let live = named_or(request.session.live, live);
-                Task::Once(request.with_live(live), named_or(file, base))
+                let request = request.with_usual(usual);
+                if request.lacks_file() {
+                    drop(request);
+                    return Err(WordsFault::NoFile);
+                }
+                Task::Once(request, named_or(file, usual.base))
             }
             Task::Update(request, file) => {
-                let live = named_or(request.session.live, live);
-                Task::Update(request.with_live(live), named_or(file, base))
+                Task::Update(request.with_usual(usual), named_or(file, usual.base))
             }
-            Task::Stop(file) => Task::Stop(named_or(file, live)),
+            Task::Restart(request, file) => {
+                Task::Restart(request.with_usual(usual), named_or(file, usual.base))
+            }
+            Task::Seal(request, file) => {
+                Task::Seal(request.with_usual(usual), named_or(file, usual.base))
+            }
+            Task::Status(request, file) => {
+                Task::Status(request.with_usual(usual), named_or(file, usual.base))
+            }
+            Task::Stop(file) => Task::Stop(named_or(file, usual.live)),
             Task::Version => Task::Version,
-        }
-    }
-}
-
-// The file that is named, or where none is the usual one.
-fn named_or<'a>(named: Option<&'a str>, usual: Option<&'a str>) -> Option<&'a str>
-    ensures { option_map (λ file. file.now) result
-        ≡ first_named (option_map (λ file. file.now) named.entry)
-        (option_map (λ file. file.now) usual.entry) }
-{
-    match named {
-        Some(file) => Some(file),
-        None => usual,
+        })
     }
 }
 
@@ -136,6 +149,9 @@ fn task_named<'a>(
         "replay" => Ok(Task::Replay(text_in(matches, "base"))),
         "session" => session_task(alloc, matches),
         "update" => update_task(alloc, matches),
+        "restart" => restart_task(alloc, matches),
+        "seal" => seal_task(alloc, matches),
+        "status" => status_task(alloc, matches),
         "stop" => Ok(Task::Stop(text_in(matches, "live"))),
         "version" => Ok(Task::Version),
         _ => once_task(alloc, name, matches),
@@ -203,6 +219,48 @@ fn update_task<'a>(alloc: Global, matches: &ArgMatches<'a>) -> Result<Task<'a>, 
 {
     match update_in(alloc, matches) {
         Ok(request) => Ok(Task::Update(request, text_in(matches, "base"))),
+        Err(fault) => Err(fault),
+    }
+}
+
+// What the matches of `restart` ask.
+fn restart_task<'a>(alloc: Global, matches: &ArgMatches<'a>) -> Result<Task<'a>, WordsFault>
+    ensures asked { IfOk result (λ task.
+        AsksNamed (codes "restart") (rows_of (found_of matches.now)) (task_ask_of task)) }
+    ensures wrong { IfErr result (λ fault.
+        fault ≢ Memory → (ask : TaskAsk) →
+        AsksNamed (codes "restart") (rows_of (found_of matches.now)) ask → ⊥) }
+{
+    match named_in(alloc, matches) {
+        Ok(request) => Ok(Task::Restart(request, text_in(matches, "base"))),
+        Err(fault) => Err(fault),
+    }
+}
+
+// What the matches of `seal` ask.
+fn seal_task<'a>(alloc: Global, matches: &ArgMatches<'a>) -> Result<Task<'a>, WordsFault>
+    ensures asked { IfOk result (λ task.
+        AsksNamed (codes "seal") (rows_of (found_of matches.now)) (task_ask_of task)) }
+    ensures wrong { IfErr result (λ fault.
+        fault ≢ Memory → (ask : TaskAsk) →
+        AsksNamed (codes "seal") (rows_of (found_of matches.now)) ask → ⊥) }
+{
+    match session_in(alloc, matches) {
+        Ok(request) => Ok(Task::Seal(request, text_in(matches, "base"))),
+        Err(fault) => Err(fault),
+    }
+}
+
+// What the matches of `status` ask.
+fn status_task<'a>(alloc: Global, matches: &ArgMatches<'a>) -> Result<Task<'a>, WordsFault>
+    ensures asked { IfOk result (λ task.
+        AsksNamed (codes "status") (rows_of (found_of matches.now)) (task_ask_of task)) }
+    ensures wrong { IfErr result (λ fault.
+        fault ≢ Memory → (ask : TaskAsk) →
+        AsksNamed (codes "status") (rows_of (found_of matches.now)) ask → ⊥) }
+{
+    match named_in(alloc, matches) {
+        Ok(request) => Ok(Task::Status(request, text_in(matches, "base"))),
         Err(fault) => Err(fault),
     }
 }

@@ -1,15 +1,21 @@
 //! What the words ask of `update`.
-ghost use Rattle.std.specs.Prelude.{◌≡◌, ◌≢◌, option_map, IfErr, IfOk};
+ghost use Rattle.std.specs.Prelude.{◌≡◌, ◌≢◌, codes, map, IfErr, IfOk};
 ghost use Rattle.clap.specs.Words.{found_of, rows_of};
-ghost use Rattle.rc_asked.specs.UpdateAsked.{AsksUpdateIn, UpdateAsk, update_ask_of};
+ghost use Rattle.rc_command.specs.Words.{values_in};
+ghost use Rattle.rc_asked.specs.UpdateAsked.{AsksUpdateIn, UpdateAsk, restart_of, update_ask_of};
+ghost use Rattle.rc_asked.specs.Usual.{session_by, usual_ask_of};
 ghost use Rattle.rc_asked.specs.declared.asked.WordsFault.TheVariants.{Memory};
+ghost use Rattle.rc_update.specs.Conversions.{conversion_of, conversions_of};
 
 use crate::asked::WordsFault;
 use crate::session_request::SessionRequest;
 use crate::session_words::session_in;
+use crate::texts::text_in;
+use crate::usual::Usual;
 use clap::ArgMatches;
 use rc_command::is_on;
-use std::alloc::Global;
+use rc_update::Conversion;
+use std::alloc::{AllocError, Global};
 
 /// What the words ask of `update`.
 #[derive(Drop)]
@@ -18,6 +24,10 @@ pub struct UpdateRequest<'a> {
     pub session: SessionRequest<'a>,
     /// The file of the new database.
     pub new: &'a str,
+    /// The file of the renames, if there is one.
+    pub renames: Option<&'a str>,
+    /// What goes on by another name, or is restarted anyway: of the words, what is restarted.
+    pub conversions: Vec<Conversion<'a>>,
     /// Whether it is shown, and not done.
     pub dry: bool,
     /// Whether it was begun before, and was cut short in its first step, which is the last entry of
@@ -26,23 +36,25 @@ pub struct UpdateRequest<'a> {
 }
 
 impl<'a> UpdateRequest<'a> {
-    /// The same request with another state file.
-    pub fn with_live(self, live: Option<&'a str>) -> UpdateRequest<'a>
+    /// The same request, with these where the words name nothing.
+    pub fn with_usual(self, usual: Usual<'a>) -> UpdateRequest<'a>
         ensures { update_ask_of result ≡ record (update_ask_of self.entry) {
-          session = record (update_ask_of self.entry).session {
-            live = option_map (λ file. file.now) live.entry;
-          };
+          session = session_by (usual_ask_of usual.entry) (update_ask_of self.entry).session;
         } }
     {
         let UpdateRequest {
             session,
             new,
+            renames,
+            conversions,
             dry,
             again,
         } = self;
         UpdateRequest {
-            session: session.with_live(live),
+            session: session.with_usual(usual),
             new,
+            renames,
+            conversions,
             dry,
             again,
         }
@@ -55,12 +67,40 @@ impl<'a> UpdateRequest<'a> {
         let UpdateRequest {
             session,
             new,
+            renames,
+            conversions,
             dry,
             again: _,
         } = self;
         UpdateRequest {
             session,
             new,
+            renames,
+            conversions,
+            dry,
+            again,
+        }
+    }
+
+    /// The same request with these conversions.
+    pub fn with_conversions(self, conversions: Vec<Conversion<'a>>) -> UpdateRequest<'a>
+        ensures { update_ask_of result ≡ record (update_ask_of self.entry) {
+          conversions = conversions_of conversions.entry.items;
+        } }
+    {
+        let UpdateRequest {
+            session,
+            new,
+            renames,
+            conversions: _,
+            dry,
+            again,
+        } = self;
+        UpdateRequest {
+            session,
+            new,
+            renames,
+            conversions,
             dry,
             again,
         }
@@ -81,10 +121,50 @@ pub(crate) fn update_in<'a>(
         return Err(WordsFault::Files);
     };
     let session = session_in(alloc, matches)?;
+    let conversions = restarts_in(alloc, matches)?;
     Ok(UpdateRequest {
         session,
         new,
+        renames: text_in(matches, "renames"),
+        conversions,
         dry: is_on(matches, "dry"),
         again: false,
     })
+}
+
+// What is restarted anyway.
+fn restarts_in<'a>(
+    alloc: Global,
+    matches: &ArgMatches<'a>,
+) -> Result<Vec<Conversion<'a>>, AllocError>
+    ensures { IfOk result (λ list. conversions_of list.items
+        ≡ map restart_of (values_in (codes "restarts") (rows_of (found_of matches.now)))) }
+{
+    match matches.get_strs("restarts") {
+        Some(names) => restarts_of(alloc, names),
+        None => Ok(Vec::new(alloc)),
+    }
+}
+
+// These are restarted.
+fn restarts_of<'a>(alloc: Global, names: &[&'a str]) -> Result<Vec<Conversion<'a>>, AllocError>
+    ensures { IfOk result (λ list.
+        conversions_of list.items ≡ map (λ name. restart_of name.now) names.now) }
+{
+    let mut list = Vec::new(alloc);
+    for name in names {
+        list.push(restart_of(name))?;
+    }
+    Ok(list)
+}
+
+// This is restarted.
+fn restart_of<'a>(name: &'a str) -> Conversion<'a>
+    ensures { conversion_of result ≡ restart_of name.entry.now }
+{
+    Conversion {
+        old: name.as_bytes(),
+        new: name.as_bytes(),
+        restart: true,
+    }
 }

@@ -1,5 +1,5 @@
-//! The database that a command is given: of a text of its own or at the beginning of the input, and
-//! how faults of its text and of a session's are told.
+//! The database of a command, from a text of its own or from the front of the input, and the words
+//! of its faults and of those of a session's text.
 #![tactic(auto)]
 
 mod base;

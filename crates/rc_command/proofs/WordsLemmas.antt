@@ -10,9 +10,9 @@ use Rattle.clap.specs.declared.error.ErrorKind.TheVariants.{OutOfMemory}
 use Rattle.clap.specs.declared.ArgMatches.{ArgMatches}
 use Rattle.clap.proofs.WalkLemmas.{first_value-rows, raw_values-rows}
 use Rattle.std.specs.Option.{option_map_or}
-use Rattle.rc_command.specs.Commands.{Reads, altering_program, asking_program, bare, bare_program, change_command, changing_program, compile_command, db_command, flag, new_option, option, plan_command, program}
-use Rattle.rc_command.specs.Commands.{edit_command, query_word, replay_command, session_command, show_command, source_list, step_command, stop_command, update_command, with_arg, with_command, word_list}
-use Rattle.rc_command.specs.Words.{has_fault, is_on, rows_for, rows_named, words_in}
+use Rattle.rc_command.specs.Commands.{Reads, altering_program, asking_program, bare, bare_program, change_command, changing_program, compile_command, db_command, flag, new_option, option, repeated, plan_command, program}
+use Rattle.rc_command.specs.Commands.{edit_command, journal_command, restart_command, status_command, query_word, replay_command, session_command, show_command, source_list, step_command, stop_command, update_command, with_arg, with_command, word_list}
+use Rattle.rc_command.specs.Words.{has_fault, is_on, rows_for, rows_named, values_in, words_in}
 
 -- what is opaque to the program is not to `clap`
 pub read : (c : Command) → Reads (Ok c) program → app_of c ≡ program
@@ -21,11 +21,11 @@ read c reads = reads.0
 
 -- what `clap`'s clauses ask of the program
 program_is_plain : is_simple program ≡ true
-unfolding program altering_program changing_program asking_program bare with_arg with_command flag option word_list source_list query_word plan_command compile_command db_command replay_command session_command change_command step_command stop_command edit_command show_command bare_program update_command new_option
+unfolding program altering_program changing_program asking_program bare with_arg with_command flag option repeated word_list source_list query_word plan_command compile_command db_command replay_command session_command change_command step_command stop_command edit_command restart_command status_command show_command journal_command bare_program update_command new_option
 program_is_plain = refl
 
 program_is_simple : is_simple_and_free program ≡ true
-unfolding program altering_program changing_program asking_program bare with_arg with_command flag option word_list source_list query_word plan_command compile_command db_command replay_command session_command change_command step_command stop_command edit_command show_command bare_program update_command new_option
+unfolding program altering_program changing_program asking_program bare with_arg with_command flag option repeated word_list source_list query_word plan_command compile_command db_command replay_command session_command change_command step_command stop_command edit_command restart_command status_command show_command journal_command bare_program update_command new_option
 program_is_simple = refl
 
 -- what the matches hold is what the words ask for
@@ -66,9 +66,15 @@ pub rows_wrong : (name : Text) (words : List Text) → has_fault (fault_of progr
 unfolding rows_for
 rows_wrong name words wrong = ap (λ (b : Bool). if b then None else rows_named name (subcommand_of program words)) wrong
 
--- the words that `get_strs` gives
+-- the values that `get_strs` gives
+pub values_found : (m : ArgMatches) (id : Text) (given : Option (List Text))
+    → given ≡ option_map raw_values (matched_of (found_of m) id)
+    → unwrap_or given [] ≡ values_in id (rows_of (found_of m))
+values_found m id given e = ap (λ o. unwrap_or o []) (e ∙ raw_values-rows (found_of m) id)
+
+-- the words that it gives
 pub words_found : (m : ArgMatches) (given : Option (List Text)) → given ≡ option_map raw_values (matched_of (found_of m) (codes "words")) → unwrap_or given [] ≡ words_in (rows_of (found_of m))
-words_found m given e = ap (λ o. unwrap_or o []) (e ∙ raw_values-rows (found_of m) (codes "words"))
+words_found m given e = values_found m (codes "words") given e
 
 -- whether a flag is on, by the text that `get_str` gives
 pub flag_found : (m : ArgMatches) (id : Text) (value : Option Text) → value ≡ first_value (found_of m) id → option_map_or (λ value. bytes_eq value (codes "true")) value false ≡ is_on id (rows_of (found_of m))

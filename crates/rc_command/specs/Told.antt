@@ -4,10 +4,11 @@ use Rattle.std.specs.List.{fold}
 use Rattle.clap.specs.Lexer.{usize_max}
 use Rattle.clap.specs.Words.{App, Rule, Text, new_rule}
 use Rattle.clap.specs.declared.builder.ArgAction.TheVariants.{Append}
-use Rattle.rc_command.specs.Commands.{bare, bare_program, flag, option, query_word}
+use Rattle.rc_command.specs.Commands.{bare, flag, option, query_word, repeated}
 use Rattle.rc_command.specs.Commands.{with_arg, with_command}
 use Rattle.rc_command.specs.declared.told.ToldArg.{ToldArg}
-use Rattle.rc_command.specs.declared.told.ToldArg.TheVariants.{Flag, Valued, Needed, Query, Words}
+use Rattle.rc_command.specs.declared.told.ToldArg.TheVariants.{Flag, Valued, Needed, Repeated}
+use Rattle.rc_command.specs.declared.told.ToldArg.TheVariants.{Query, Words}
 use Rattle.rc_command.specs.declared.told.ToldCommand.{ToldCommand}
 
 -- words, so many at least
@@ -24,6 +25,7 @@ abbrev pub told_rule : ToldArg → Rule
 told_rule (Flag id letter help) = flag id.now letter
 told_rule (Valued id letter value help) = option id.now letter
 told_rule (Needed id letter value help) = record (option id.now letter) { required = true }
+told_rule (Repeated id letter value help) = repeated id.now letter
 told_rule Query = query_word
 told_rule (Words least name help) = listed least
 
@@ -31,7 +33,7 @@ told_rule (Words least name help) = listed least
 abbrev pub told_command : Text → List ToldArg → App
 told_command name args = fold (λ app told. with_arg app (told_rule told)) (bare name) args
 
--- the program with these commands
-abbrev pub told_program : List ToldCommand → App
-told_program commands = fold
-    (λ app told. with_command app (told_command told.name.now told.args.now)) bare_program commands
+-- a program with these commands, too
+abbrev pub with_told : App → List ToldCommand → App
+with_told program commands = fold
+    (λ app told. with_command app (told_command told.name.now told.args.now)) program commands

@@ -25,6 +25,10 @@ rows_for name words = if has_fault (fault_of program words) then None
 abbrev pub is_on : Text → List Row → Bool
 is_on id rows = option_map_or (λ value. bytes_eq value (codes "true")) (first_of id rows) false
 
+-- the values of an argument, in their order
+abbrev pub values_in : Text → List Row → List Text
+values_in id rows = unwrap_or (all_of id rows) []
+
 -- the words of a command
 abbrev pub words_in : List Row → List Text
-words_in rows = unwrap_or (all_of (codes "words") rows) []
+words_in rows = values_in (codes "words") rows

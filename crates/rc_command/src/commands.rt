@@ -1,12 +1,12 @@
 //! The commands of the program, as they are told to `clap`.
 ghost use Rattle.std.specs.Prelude.{◌≡◌};
 ghost use Rattle.clap.specs.Words.{App};
-ghost use Rattle.rc_command.specs.Commands.{IsOwn, Reads, bare, bare_program, flag, option};
-ghost use Rattle.rc_command.specs.Commands.{program, query_word, rule_in, with_arg, with_command};
-ghost use Rattle.rc_command.specs.Told.{listed, told_command, told_program, told_rule};
+ghost use Rattle.rc_command.specs.Commands.{IsOwn, Reads, altering_program, asking_program, bare, bare_program};
+ghost use Rattle.rc_command.specs.Commands.{changing_program, flag, option, program, query_word, repeated, rule_in, with_arg, with_command};
+ghost use Rattle.rc_command.specs.Told.{listed, told_command, told_rule, with_told};
 
 use crate::query_words::QUERIES;
-use crate::told::{COMMANDS, ToldArg, ToldCommand};
+use crate::told::{ALTERING, ASKING, CHANGING, SHOWING, ToldArg, ToldCommand};
 use clap::{Arg, ArgAction, Command};
 use std::alloc::{AllocError, Global};
 
@@ -14,18 +14,48 @@ use std::alloc::{AllocError, Global};
 pub(crate) fn undorc_command<'a>(alloc: Global) -> Result<Command<'a>, AllocError>
     ensures { Reads result program }
 {
-    program_of(alloc, &COMMANDS)
+    let altering = altering_program(alloc);
+    with_commands(alloc, altering, &SHOWING)
 }
 
-// The program with the commands of a table.
-fn program_of<'a>(alloc: Global, commands: &[ToldCommand]) -> Result<Command<'a>, AllocError>
-    ensures { Reads result (told_program commands.now) }
+// The program with the commands that ask about databases.
+fn asking_program<'a>(alloc: Global) -> Result<Command<'a>, AllocError>
+    ensures { Reads result asking_program }
 {
-    let mut program = undorc_alone(alloc);
+    let alone = undorc_alone(alloc);
+    with_commands(alloc, alone, &ASKING)
+}
+
+// The same with those that go on with a session.
+fn changing_program<'a>(alloc: Global) -> Result<Command<'a>, AllocError>
+    ensures { Reads result changing_program }
+{
+    let asking = asking_program(alloc);
+    with_commands(alloc, asking, &CHANGING)
+}
+
+// The same with those that alter what a session holds.
+fn altering_program<'a>(alloc: Global) -> Result<Command<'a>, AllocError>
+    ensures { Reads result altering_program }
+{
+    let changing = changing_program(alloc);
+    with_commands(alloc, changing, &ALTERING)
+}
+
+// A program with the commands of a table.
+fn with_commands<'a>(
+    alloc: Global,
+    program: Result<Command<'a>, AllocError>,
+    commands: &[ToldCommand],
+) -> Result<Command<'a>, AllocError>
+    ensures { (app : App) → Reads program.entry app →
+        Reads result (with_told app commands.now) }
+{
+    let mut whole = program;
     for told in commands {
-        program = with_command(alloc, program, told);
+        whole = with_command(alloc, whole, told);
     }
-    program
+    whole
 }
 
 #[tactic(auto, unfolding(crate::specs::Commands::Reads, crate::specs::Commands::bare_program))]
@@ -105,6 +135,7 @@ fn arg_of<'a>(alloc: Global, told: &ToldArg) -> Arg<'a>
         ToldArg::Needed(id, letter, value, help) => option(alloc, id, letter, value, help).required(
             true,
         ),
+        ToldArg::Repeated(id, letter, value, help) => repeated(alloc, id, letter, value, help),
         ToldArg::Query => query_argument(alloc),
         ToldArg::Words(least, name, help) => words_argument(alloc, least, name, help),
     }
@@ -130,6 +161,18 @@ fn option<'a>(alloc: Global, id: &'a str, letter: char, value: &'a str, help: &'
         .short(letter)
         .value_name(value)
         .action(ArgAction::Set)
+        .help(help)
+}
+
+#[tactic(auto, unfolding(crate::specs::Commands::rule_in, crate::specs::Commands::IsOwn, crate::specs::Commands::repeated))]
+fn repeated<'a>(alloc: Global, id: &'a str, letter: char, value: &'a str, help: &'a str) -> Arg<'a>
+    ensures rule { rule_in result ≡ repeated id.entry.now letter }
+    ensures local { IsOwn result }
+{
+    Arg::new(alloc, id)
+        .short(letter)
+        .value_name(value)
+        .action(ArgAction::Append)
         .help(help)
 }
 

@@ -1,4 +1,4 @@
-//! The command line of `undorc`, as it is told to `clap`, and what `clap` makes of words.
+//! The commands and options of `undorc` for `clap`, and the matches that it returns for argv.
 #![tactic(auto)]
 
 mod commands;

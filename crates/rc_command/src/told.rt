@@ -1,5 +1,5 @@
 //! The commands of the program and their arguments, in the order of its help.
-use ToldArg::{Flag, Needed, Query, Valued, Words};
+use ToldArg::{Flag, Needed, Query, Repeated, Valued, Words};
 
 /// An argument of a command.
 pub(crate) enum ToldArg {
@@ -9,6 +9,8 @@ pub(crate) enum ToldArg {
     Valued(&'static str, char, &'static str, &'static str),
     /// The same, where the option must be given.
     Needed(&'static str, char, &'static str, &'static str),
+    /// The same, where the option may be given again and again.
+    Repeated(&'static str, char, &'static str, &'static str),
     /// The word that is the query.
     Query,
     /// Words: how many there must be, the name of one, and what help says of them.
@@ -137,6 +139,12 @@ const VERBOSE: ToldArg = Flag(
     "Tell each transition as it begins and as it ends, on standard error",
 );
 
+const QUIET: ToldArg = Flag(
+    "quiet",
+    'q',
+    "Report no transition, not even one that does not succeed",
+);
+
 // The file that a session goes on with and is kept in, and that it is waited for.
 const LIVE: ToldArg = Valued(
     "live",
@@ -172,6 +180,20 @@ const NEW: ToldArg = Needed(
     "Carry what is up over to the database of this file",
 );
 
+const RENAMES: ToldArg = Valued(
+    "renames",
+    'f',
+    "FILE",
+    "Read renames from this file: `OLD -> NEW` a line, and `restart` behind it where it moves anyway",
+);
+
+const RESTARTS: ToldArg = Repeated(
+    "restarts",
+    'R',
+    "NAME",
+    "Restart this service, though it is unaltered; may be given again",
+);
+
 const DRY: ToldArg = Flag(
     "dry",
     'n',
@@ -182,20 +204,53 @@ const SESSION: [ToldArg; 10] = [
     BASE, WORKERS, FAILING, RUNNER, CONTROLLER, USUAL, VERBOSE, LIVE, WAIT, BOUND,
 ];
 
-const CHANGE: [ToldArg; 17] = [
-    BASE, WORKERS, FAILING, RUNNER, CONTROLLER, USUAL, VERBOSE, LIVE, WAIT, LIMIT, DRY, UP, DOWN,
-    DOWN_ALL, PRUNE, ALL, NAMES,
+const CHANGE: [ToldArg; 18] = [
+    BASE, WORKERS, FAILING, RUNNER, CONTROLLER, USUAL, VERBOSE, LIVE, WAIT, LIMIT, DRY, QUIET, UP,
+    DOWN, DOWN_ALL, PRUNE, ALL, NAMES,
 ];
 
-const STEP: [ToldArg; 11] = [
-    BASE, WORKERS, FAILING, RUNNER, CONTROLLER, USUAL, VERBOSE, LIVE, WAIT, LIMIT, DRY,
+const STEP: [ToldArg; 12] = [
+    BASE, WORKERS, FAILING, RUNNER, CONTROLLER, USUAL, VERBOSE, LIVE, WAIT, LIMIT, DRY, QUIET,
 ];
 
-const UPDATE: [ToldArg; 11] = [
-    BASE, WORKERS, FAILING, RUNNER, CONTROLLER, USUAL, VERBOSE, LIVE, WAIT, NEW, DRY,
+const UPDATE: [ToldArg; 14] = [
+    BASE, WORKERS, FAILING, RUNNER, CONTROLLER, USUAL, VERBOSE, LIVE, WAIT, NEW, RENAMES, RESTARTS,
+    DRY, QUIET,
 ];
 
 const SHOW: [ToldArg; 3] = [BASE, LIVE, WAIT];
+
+const JOURNAL: [ToldArg; 4] = [
+    BASE,
+    LIVE,
+    WAIT,
+    Flag(
+        "verbose",
+        'v',
+        "Also print FILE.log: who did what, and when",
+    ),
+];
+
+const RESTART: [ToldArg; 11] = [
+    BASE,
+    WORKERS,
+    FAILING,
+    RUNNER,
+    CONTROLLER,
+    USUAL,
+    VERBOSE,
+    LIVE,
+    WAIT,
+    QUIET,
+    Words(1, "NAME", "The name of a service or of a bundle"),
+];
+
+// Where a session stands, which no lock is needed for.
+const STATUS: [ToldArg; 3] = [
+    BASE,
+    Valued("live", 'l', "FILE", "The file of the session"),
+    NAMES,
+];
 
 // What alters bundles.
 const FORCE: ToldArg = Flag(
@@ -231,8 +286,8 @@ const STOP: [ToldArg; 1] = [Valued(
     "Call off the command that goes on with the session in this file",
 )];
 
-/// The commands.
-pub(crate) const COMMANDS: [ToldCommand; 16] = [
+/// The commands that ask about databases.
+pub(crate) const ASKING: [ToldCommand; 4] = [
     ToldCommand {
         name: "compile",
         about: "Makes the database that source directories define",
@@ -253,6 +308,10 @@ pub(crate) const COMMANDS: [ToldCommand; 16] = [
         about: "Reads a database, and then from standard input commands with the events of their runs, and prints what they come to",
         args: &[BASE],
     },
+];
+
+/// The commands that go on with a session.
+pub(crate) const CHANGING: [ToldCommand; 4] = [
     ToldCommand {
         name: "session",
         about: "Reads a database, and then from standard input session lines; does what each says, and answers it",
@@ -273,10 +332,24 @@ pub(crate) const COMMANDS: [ToldCommand; 16] = [
         about: "Makes the change again that was undone last",
         args: &STEP,
     },
+];
+
+/// The commands of two steps, and those that alter what a session holds.
+pub(crate) const ALTERING: [ToldCommand; 5] = [
+    ToldCommand {
+        name: "restart",
+        about: "Lowers services that are up with all that needs them, and raises what went down",
+        args: &RESTART,
+    },
     ToldCommand {
         name: "update",
         about: "Carries what is up over to another database, whose journal begins anew",
         args: &UPDATE,
+    },
+    ToldCommand {
+        name: "seal",
+        about: "Forgets the journal: no undo goes back past the current state",
+        args: &SHOW,
     },
     ToldCommand {
         name: "add",
@@ -287,6 +360,15 @@ pub(crate) const COMMANDS: [ToldCommand; 16] = [
         name: "delete",
         about: "Deletes bundles, which undo brings back",
         args: &DELETE,
+    },
+];
+
+/// The commands that show where a session stands, and the others.
+pub(crate) const SHOWING: [ToldCommand; 6] = [
+    ToldCommand {
+        name: "status",
+        about: "Prints where each service stands, also while a command is under way",
+        args: &STATUS,
     },
     ToldCommand {
         name: "live",
@@ -301,7 +383,7 @@ pub(crate) const COMMANDS: [ToldCommand; 16] = [
     ToldCommand {
         name: "journal",
         about: "Prints what the changes raised and lowered, and which of them are undone",
-        args: &SHOW,
+        args: &JOURNAL,
     },
     ToldCommand {
         name: "stop",

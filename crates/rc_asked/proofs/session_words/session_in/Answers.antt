@@ -24,6 +24,7 @@ returns-in-Ok-clause-asked c = record {
   workers = found_as (says_crew c.in-Some.workers) c.args.matches.now (codes "workers") _ c.get_str.ensures c.in-Some.ensures.some;
   making = c.in-Ok.ensures.asked;
   tells = c.is_on-tells.ensures;
+  quiet = c.is_on-quiet.ensures;
   bound = found_as (says_bound c.in-Some-bound_of.bound) c.args.matches.now (codes "bound") _ c.get_str-2.ensures c.in-Some-bound_of.ensures.some;
   live = c.text_in.ensures;
   waits = c.is_on.ensures;

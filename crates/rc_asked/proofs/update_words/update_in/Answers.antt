@@ -11,6 +11,8 @@ pub returns-clause-asked : goal.returns-clause-asked
 returns-clause-asked c = record {
   session = c.in_ok-session.ensures.asked;
   new = c.in-Some.ensures ∙ first_value-rows (found_of c.args.matches.now) (codes "new");
+  renames = c.text_in.ensures;
+  conversions = c.in_ok-conversions.ensures;
   dry = c.is_on.ensures;
   again = refl;
 }
