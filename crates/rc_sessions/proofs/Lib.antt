@@ -1,5 +1,12 @@
+-- The lemmas of rc_sessions, in reading order.
+
+-- Transitions whose services are found.
 mod Found
-pub mod LaunchLemmas
-mod OnceLemmas
-mod ServingLemmas
+-- How a session of the program ends.
 pub mod SessionLemmas
+-- How a session that is launched ends.
+pub mod LaunchLemmas
+-- How the lines of a session are served, and how that is kept.
+mod ServingLemmas
+-- How one line is served.
+mod OnceLemmas

@@ -1,7 +1,7 @@
 -- What the program decides of the files and of the messages of a session.
 use Rattle.std.specs.Prelude.{◌≡◌, ℕ, Bool, true, false, List, Option, None, Some}
 use Rattle.log.specs.declared.level.LevelFilter.{LevelFilter}
-use Rattle.log.specs.declared.level.LevelFilter.TheVariants.{Info, Off}
+use Rattle.log.specs.declared.level.LevelFilter.TheVariants.{Info, Off, Warn}
 use Rattle.rc_script.specs.Says.{SaysStep}
 use Rattle.rc_asked.specs.OnceAsked.{OnceSaying, Said}
 use Rattle.rc_sessions.specs.declared.keeping.LiveFile.{LiveFile}
@@ -21,7 +21,10 @@ IsFound None (Text bytes) = ⊥
 IsFound (Some held) Missing = ⊥
 IsFound (Some held) (Text bytes) = bytes.now ≡ held
 
--- up to which level messages are written: that of each transition, or none
-abbrev pub level_by : (tells : Bool) → LevelFilter
-level_by true = Info
-level_by false = Off
+-- up to which level messages are written: that of each transition where it is asked; else that of
+-- those which do not succeed, where one line is served and they are not to be silent; else none
+abbrev pub level_by : (tells alone quiet : Bool) → LevelFilter
+level_by true alone quiet = Info
+level_by false true false = Warn
+level_by false true true = Off
+level_by false false quiet = Off

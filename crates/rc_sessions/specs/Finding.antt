@@ -1,3 +1,4 @@
+-- Transitions that are named on the command line, found among the names of a database.
 use Rattle.std.specs.Prelude.{◌≡◌, ◌++◌, ◌∷◌, ℕ, List, [], Some, slice_get, All, Contains}
 use Rattle.rc_graph.specs.declared.Way.{Way}
 use Rattle.rc_asked.specs.Listed.{Listed}

@@ -4,7 +4,7 @@ use Rattle.rc_model.specs.Database.{Database}
 use Rattle.rc_runner.specs.Shell.{scripts_of}
 use Rattle.rc_runner.specs.declared.session_gate.SessionGate.{SessionGate}
 use Rattle.rc_runner.specs.declared.session_gate.SessionGate.TheVariants.{Table, Shell}
-use Rattle.rc_asked.specs.Programs.{ByPrograms, ByTable, MakingAsk, listed_in}
+use Rattle.rc_asked.specs.Programs.{ByPrograms, ByTable, MakingAsk, controller_in, listed_in, runner_in}
 use Rattle.rc_serve.specs.declared.fault.ServeFault.TheVariants.{Memory}
 use Rattle.rc_sessions.specs.Finding.{AreFound, IsFirstUnknown}
 use Rattle.rc_sessions.specs.declared.session_fault.SessionFault.{SessionFault}
@@ -18,7 +18,7 @@ IsGateFor d (ByTable listed) (Table table) =
 IsGateFor d (ByTable listed) (Shell shell) = ⊥
 IsGateFor d (ByPrograms runner controller limit) (Table table) = ⊥
 IsGateFor d (ByPrograms runner controller limit) (Shell shell) =
-    shell ≡ scripts_of d runner controller limit
+    shell ≡ scripts_of d (runner_in runner) (controller_in controller) limit
 
 -- why there is no such gate: the first name that is to fail and is no service's, or out of memory
 abbrev pub IsGateless : Database → MakingAsk → SessionFault → Type 0

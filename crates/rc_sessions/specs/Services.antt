@@ -17,7 +17,7 @@ use Rattle.rc_serve.specs.Ending.{EndsIn, IsDoneAs}
 use Rattle.rc_serve.specs.Meeting.{Doing, IsDoneBy}
 use Rattle.rc_serve.specs.SessionText.{FailsExactly, IsDoneFailing, IsTimeless}
 use Rattle.rc_asked.specs.OnceAsked.{HasNoEvents, once_saying_of}
-use Rattle.rc_asked.specs.Programs.{ByPrograms, ByTable, MakingAsk}
+use Rattle.rc_asked.specs.Programs.{ByPrograms, ByTable, MakingAsk, controller_in, runner_in}
 use Rattle.rc_sessions.specs.Filing.{BeginsWith, Filing, HoldsBy}
 use Rattle.rc_sessions.specs.Finding.{AreFound}
 use Rattle.rc_sessions.specs.Once.{ServesOnce, StopsServing}
@@ -81,8 +81,9 @@ IsDoneFor d workers (ByTable listed) Comes =
     × Comes (IsDoneFailing (fails_in table))
     (IsDoneAs workers (λ s way o. o ≡ outcome_in table s way) (IsMomentOf []))
 IsDoneFor d workers (ByPrograms runner controller limit) Comes =
-    Comes (IsDoneBy workers (MayAnswer (scripts_of d runner controller limit)) (λ m. Unit {0}))
-    (IsDoneAs workers (MayAnswer (scripts_of d runner controller limit)) (λ m. Unit {0}))
+    let scripts = scripts_of d (runner_in runner) (controller_in controller) limit in
+    Comes (IsDoneBy workers (MayAnswer scripts) (λ m. Unit {0}))
+    (IsDoneAs workers (MayAnswer scripts) (λ m. Unit {0}))
 
 -- a session was served from where it begins
 pub record RunsGated (Comes : Served) (filing : Filing) (Does : Doing) (As : EndsIn) (d : Database)

@@ -1,5 +1,5 @@
 //! What the program decides of the files of a session, as functions of values.
-ghost use Rattle.std.specs.Prelude.{◌≡◌, ◌↔◌, None, option_map, if◌then◌else◌, IsTrue, IfOk, OnErr};
+ghost use Rattle.std.specs.Prelude.{◌≡◌, ◌↔◌, option_map, IsTrue, IfOk, OnErr};
 ghost use Rattle.rc_asked.specs.OnceAsked.{once_saying_of};
 ghost use Rattle.rc_sessions.specs.Deciding.{IsFound, Moves, level_by};
 ghost use Rattle.rc_sessions.specs.Filing.{IsUnread};
@@ -26,14 +26,6 @@ pub fn moves(once: Option<&Once>) -> bool
     }
 }
 
-/// The file that is locked: the one that is named, where a session is to do something. Who only
-/// looks takes no lock: the file is replaced whole, so what is read is one text of it.
-pub(crate) fn locked<'a>(live: Option<&'a str>, moves: bool) -> Option<&'a str>
-    ensures { result ≡ (if moves then live.entry else None) }
-{
-    if moves { live } else { None }
-}
-
 /// What stood in the file of `-l`, as it was read.
 pub fn live_file(read: &io::Result<Option<Vec<u8>>>) -> LiveFile<'_>
     ensures found { IfOk read.now (λ found.
@@ -48,31 +40,34 @@ pub fn live_file(read: &io::Result<Option<Vec<u8>>>) -> LiveFile<'_>
 }
 
 /// Why a file could not be read or written.
-pub(crate) fn keep_fault(error: &io::Error) -> KeepFault {
+pub fn keep_fault(error: &io::Error) -> KeepFault {
     if error.kind() == ErrorKind::OutOfMemory {
         return KeepFault::Memory;
     }
     KeepFault::Io
 }
 
-/// The log of a session: messages on standard error, where each transition is to be told, and else
-/// none.
+/// The log of a session: messages on standard error, for each transition where that is asked, and
+/// where one line is served alone for each that does not succeed, unless it is to be quiet.
 pub fn log_for<'h>(
     host: &'h HostRuntime,
     request: &SessionRequest<'_>,
+    alone: bool,
 ) -> Logged<&'h HostRuntime, Messages<&'h HostRuntime>>
-    ensures { max_level result ≡ level_by (session_ask_of request.now).tells }
+    ensures { max_level result ≡ level_by (session_ask_of request.now).tells alone
+        (session_ask_of request.now).quiet }
 {
-    Logged::new(host, level_of(request.tells), Messages(host))
+    let level = level_of(request.tells, alone, request.quiet);
+    Logged::new(host, level, Messages(host))
 }
 
 // Up to which level messages are written.
-fn level_of(tells: bool) -> LevelFilter
-    ensures { result ≡ level_by tells }
+fn level_of(tells: bool, alone: bool, quiet: bool) -> LevelFilter
+    ensures { result ≡ level_by tells alone quiet }
 {
-    if tells {
-        LevelFilter::Info
-    } else {
-        LevelFilter::Off
+    match (tells, alone, quiet) {
+        (true, _, _) => LevelFilter::Info,
+        (false, true, false) => LevelFilter::Warn,
+        (false, true, true) | (false, false, _) => LevelFilter::Off,
     }
 }

@@ -1,7 +1,8 @@
 //! The gate of a session: the one by which its transitions are made as it is asked.
-ghost use Rattle.std.specs.Prelude.{◌≡◌, map, string_bytes, IfErr, IfOk};
+ghost use Rattle.std.specs.Prelude.{◌≡◌, option_map, IfErr, IfOk};
 ghost use Rattle.rc_runner.specs.Shell.{scripts_of};
 ghost use Rattle.rc_asked.specs.Making.{making_ask_of};
+ghost use Rattle.rc_asked.specs.Programs.{controller_in, runner_in};
 ghost use Rattle.rc_sessions.specs.Gating.{IsGateFor, IsGateless};
 
 use crate::failing::gate_of;
@@ -61,20 +62,23 @@ fn quiet_gate<'h, 'a, T, L: Log + Sync>(
 fn shell_gate<'h, T, L: Log + Sync>(
     host: &Host<'h, T, L>,
     db: &Db,
-    programs: &Programs,
+    programs: &Programs<'_>,
     tells: bool,
 ) -> Result<ShellGate<'h, HostRuntime, L>, NoMem>
     ensures { IfOk result (λ gate. gate ≡ scripts_of db.now
-        (map string_bytes programs.now.runner.items)
-        (map string_bytes programs.now.controller.items) programs.now.limit) }
+        (runner_in (option_map (λ text. text.now) programs.now.runner))
+        (controller_in (option_map (λ text. text.now) programs.now.controller))
+        programs.now.limit) }
 {
+    let runner = programs.runner_words(host.alloc)?;
+    let controller = programs.controller_words(host.alloc)?;
     let gate = ShellGate::new(
         host.runtime,
         host.log,
         host.alloc,
         db,
-        &programs.runner,
-        &programs.controller,
+        &runner,
+        &controller,
         programs.limit,
     )?;
     let gate = if tells {

@@ -25,7 +25,7 @@ pub struct RunFiles {
 
 impl RunFiles {
     /// The files beside that of this path.
-    pub(crate) fn open(rt: &HostRuntime, path: &str) -> io::Result<RunFiles> {
+    pub fn open(rt: &HostRuntime, path: &str) -> io::Result<RunFiles> {
         let log = RunFile::open(rt, path)?;
         match StopFile::open(rt, path) {
             Ok(stop) => Ok(RunFiles { log, stop }),

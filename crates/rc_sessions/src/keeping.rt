@@ -68,6 +68,14 @@ impl<S: Store> TextKeeper<S> {
     {
         TextKeeper { store }
     }
+
+    /// The store.
+    pub fn into_store(self) -> S
+        ensures { result ≡ store_of self }
+    {
+        let TextKeeper { store } = self;
+        store
+    }
 }
 
 impl<S: Store> Keeper for TextKeeper<S> {

@@ -4,6 +4,7 @@ ghost use Rattle.rc_streams.specs.Noting.{HasFailed, inner_of};
 ghost use Rattle.rc_script.specs.Says.{saying_of};
 ghost use Rattle.rc_serve.specs.Ending.{IsDoneAs};
 ghost use Rattle.rc_serve.specs.Faults.{IsServeFault};
+ghost use Rattle.rc_serve.specs.Serving.{Stays};
 ghost use Rattle.rc_asked.specs.OnceAsked.{HasNoEvents, Said, once_saying_of};
 ghost use Rattle.rc_asked.specs.SessionAsked.{session_ask_of};
 ghost use Rattle.rc_sessions.specs.Once.{IsCommand, ServesOnce, StopsServing};
@@ -86,6 +87,8 @@ pub fn line_once<T: Threads + Wait + Sync, W: Write, G: Gate, S: Store, L>(
     ensures fault { IfErr result (IsServeFault ⊥ (HasFailed outputs.new.writer)
         (((session_ask_of request.now).live ≢ None) × S.failed (store_of outputs.new.keeper))) }
     ensures sound { OnOk result (HasFailed outputs.new.writer → ⊥) }
+    ensures stays { Stays session.old session.new }
+    ensures whole { OnOk result (session.new.spoiled ≡ false) }
 {
     if is_kept(request, said) {
         return match outputs.keeper.keep(host.alloc, session) {

@@ -1,26 +1,28 @@
 //! The file in which a session is kept, and its lock. Its text is replaced whole. A text that
 //! stands there already is not written again: that it could be is found out by a file beside it.
-ghost use Rattle.std.specs.Prelude.{◌≡◌, true, None};
+ghost use Rattle.std.specs.Prelude.{◌≡◌, None, option_map, if◌then◌else◌, IfOk, IfSome, IsSome};
+ghost use Rattle.rc_launch.specs.Opening.{LocksFor};
 
-use crate::deciding::{keep_fault, locked};
-use crate::host::RunFiles;
-use crate::keeping::{KeptText, Store};
+use crate::texts::LiveText;
+use crate::tried_lock::TriedLock;
 use rc_asked::Making;
 use rc_serve::KeepFault;
-use rc_streams::live_lock::{LiveLock, LockFault};
+use rc_sessions::{KeptText, RunFiles, Store, keep_fault};
+use rc_streams::live_lock::LockFault;
 use rc_streams::replaced_file::{probe, replace};
 use std::io;
 
 /// A file by its path, which may lead through links, and to nothing yet; its lock, which is held
-/// until the store is dropped; and whether it could not be written.
+/// until the store is dropped; and why it could not be written.
 #[derive(Drop)]
 pub struct LiveStore<'a> {
     rt: &'a HostRuntime,
     path: &'a str,
-    lock: Option<LiveLock>,
+    lock: Option<TriedLock<'a>>,
     /// The text that stands there, where that was read since it was locked.
     text: Option<&'a [u8]>,
-    failed: bool,
+    /// Why the file could not be written, if it could not.
+    error: Option<io::Error>,
 }
 
 impl<'a> LiveStore<'a> {
@@ -31,9 +33,11 @@ impl<'a> LiveStore<'a> {
         live: Option<&'a str>,
         moves: bool,
         waits: bool,
-    ) -> Result<LiveStore<'a>, LockFault> {
+    ) -> Result<LiveStore<'a>, LockFault>
+        ensures locked { IfOk result (LocksFor moves live.entry) }
+    {
         let lock = match locked(live, moves) {
-            Some(path) => LiveLock::take(rt, path, waits)?,
+            Some(path) => Some(TriedLock::take(rt, path, waits)?),
             None => None,
         };
         Ok(LiveStore {
@@ -41,26 +45,31 @@ impl<'a> LiveStore<'a> {
             path: live.unwrap_or(""),
             lock,
             text: None,
-            failed: false,
+            error: None,
         })
     }
 
     /// The same store, in whose file this text was found since it was locked.
-    pub fn with_text(self, text: Option<&'a [u8]>) -> LiveStore<'a> {
+    pub fn with_text(self, text: &'a LiveText<'_>) -> LiveStore<'a> {
         let LiveStore {
             rt,
             path,
             lock,
             text: _,
-            failed,
+            error,
         } = self;
         LiveStore {
             rt,
             path,
             lock,
-            text,
-            failed,
+            text: text.bytes(),
+            error,
         }
+    }
+
+    /// Why the file could not be written, if it could not.
+    pub fn error(&self) -> Option<&io::Error> {
+        self.error.as_ref()
     }
 
     /// Whether this text stands there already.
@@ -73,7 +82,10 @@ impl<'a> LiveStore<'a> {
 
     /// Whether the file is locked.
     pub fn is_locked(&self) -> bool {
-        self.lock.is_some()
+        match &self.lock {
+            Some(lock) => lock.is_held(),
+            None => false,
+        }
     }
 
     /// Makes the files of the runs of a session that is to start programs: those beside the file of
@@ -91,7 +103,7 @@ impl<'a> LiveStore<'a> {
 impl Store for LiveStore<'_> {
     ghost holds = { λ _. None };
 
-    ghost failed = { λ s. s.failed ≡ true };
+    ghost failed = { λ s. IsSome s.error };
 
     fn replace(&mut self, text: KeptText<'_>) -> Result<(), KeepFault> {
         let put = if self.has(text.bytes()) {
@@ -103,9 +115,18 @@ impl Store for LiveStore<'_> {
         match put {
             Ok(()) => Ok(()),
             Err(error) => {
-                self.failed = true;
-                Err(keep_fault(&error))
+                let fault = keep_fault(&error);
+                self.error = Some(error);
+                Err(fault)
             }
         }
     }
+}
+
+// The file that is locked: the one that is named, where a session is to do something. Who only
+// looks takes no lock: the file is replaced whole, so what is read is one text of it.
+fn locked<'a>(live: Option<&'a str>, moves: bool) -> Option<&'a str>
+    ensures { result ≡ (if moves then live.entry else None) }
+{
+    if moves { live } else { None }
 }

@@ -1,14 +1,14 @@
 //! A recovery of the two files of a session, by the text of a database.
-ghost use Rattle.std.specs.Prelude.{◌≡◌, ◌≢◌, ℕ, List, IfNone, IfOk, IfSome, IsErrOf};
-ghost use Rattle.rc_recovery.specs.RunLog.{IsEntered};
+ghost use Rattle.std.specs.Prelude.{◌≡◌, ◌≢◌, ℕ, List, IfErr, IfNone, IfOk, IfSome, IsErrOf};
+ghost use Rattle.rc_recovery.specs.RunLog.{HasNothing, IsEntered, IsUnfit};
 ghost use Rattle.rc_files.specs.Files.{Files};
-ghost use Rattle.rc_sessions.specs.Recovering.{IsOn, Leaves, LeavesCut, LeavesNothing, LeavesUnfit};
+ghost use Rattle.rc_launch.specs.Recovering.{IsNoBase, IsOn, IsUnread, Leaves, LeavesCut, LeavesNothing, LeavesUnfit};
 
 use rc_base::database_of;
 use rc_crash::{FilesFault, recover_files};
 use rc_dbtext::TextFault;
 use rc_files::TwoFiles;
-use rc_recovery::{Recovered, recover_text};
+use rc_recovery::{RecoverFault, Recovered, recover_text};
 use std::alloc::Global;
 use thiserror::Error;
 
@@ -30,9 +30,10 @@ pub enum Unrecovered {
 
 impl From<FilesFault> for Unrecovered {
     ghost use Rattle.rc_crash.specs.declared.recovering.FilesFault.TheVariants as from;
-    ghost use Rattle.rc_sessions.specs.declared.recovering.Unrecovered.TheVariants as to;
+    ghost use Rattle.rc_launch.specs.declared.recovering.Unrecovered.TheVariants as to;
 
-    ghost from_gives = { λ fault given. given ≡ to.Log → fault ≡ from.Log };
+    ghost from_gives = { λ fault given. (given ≡ to.Log → fault ≡ from.Log)
+        × (given ≡ to.Io → fault ≡ from.Io) × (given ≢ to.Database) };
 
     fn from(fault: FilesFault) -> Unrecovered {
         match fault {
@@ -58,6 +59,9 @@ pub fn recover_by<F: TwoFiles>(
         LeavesNothing base.now (F.holds files.old) (F.holds files.new))) }
     ensures unfit { IsErrOf result Unrecovered.Log →
         LeavesUnfit base.now (F.holds files.old) (F.holds files.new) }
+    ensures no_base { IsErrOf result Unrecovered.Database →
+        IsNoBase base.now × (F.holds files.new ≡ F.holds files.old) }
+    ensures io { IsErrOf result Unrecovered.Io → F.failed files.new }
     ensures crash { (g : Files) → F.left files.new g → LeavesCut base.now (F.holds files.old) g }
 {
     let db = match database_of(alloc, Some(base), &[]) {
@@ -70,26 +74,41 @@ pub fn recover_by<F: TwoFiles>(
     }
 }
 
-/// The report of what a recovery would enter of the bytes of the two files, if anything.
-pub fn left_report(alloc: Global, base: &[u8], file: &[u8], log: &[u8]) -> Option<Vec<u8>>
-    ensures { IfSome result (λ report. IsOn base.now
-        (λ d. (entered : List ℕ) × IsEntered d file.now log.now entered report.items)) }
+/// The report of what a recovery would enter of the bytes of the two files. `None`: there is nothing
+/// to enter.
+pub fn left_report(
+    alloc: Global,
+    base: &[u8],
+    file: &[u8],
+    log: &[u8],
+) -> Result<Option<Vec<u8>>, Unrecovered>
+    ensures entered { IfOk result (λ made. IfSome made (λ report. IsOn base.now
+        (λ d. (entered : List ℕ) × IsEntered d file.now log.now entered report.items))) }
+    ensures nothing { IfOk result (λ made. IfNone made (
+        IsOn base.now (λ d. HasNothing d file.now log.now))) }
+    ensures unfit { IsErrOf result Unrecovered.Log →
+        IsOn base.now (λ d. IsUnfit d file.now log.now) }
+    ensures no_base { IsErrOf result Unrecovered.Database → IsNoBase base.now }
+    ensures quiet { IsErrOf result Unrecovered.Io → ⊥ }
 {
-    let Ok((db, _none)) = database_of(alloc, Some(base), &[]) else {
-        return None;
+    let db = match database_of(alloc, Some(base), &[]) {
+        Ok((db, _none)) => db,
+        Err(fault) => return Err(unread(fault)),
     };
     match recover_text(alloc, db, file, log) {
         Ok(Some(Recovered { text, report })) => {
             drop(text);
-            Some(report)
+            Ok(Some(report))
         }
-        _ => None,
+        Ok(None) => Ok(None),
+        Err(RecoverFault::Log) => Err(Unrecovered::Log),
+        Err(RecoverFault::Memory) => Err(Unrecovered::Memory),
     }
 }
 
 // Why a database is not read.
 fn unread(fault: TextFault) -> Unrecovered
-    ensures { result ≢ Unrecovered.Log }
+    ensures { IsUnread fault result }
 {
     match fault {
         TextFault::Memory => Unrecovered::Memory,

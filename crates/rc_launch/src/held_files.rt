@@ -1,5 +1,5 @@
 //! The two files of a session on a disk, as they were read while it was locked.
-ghost use Rattle.std.specs.Prelude.{◌≡◌};
+ghost use Rattle.std.specs.Prelude.{◌≡◌, IsSome};
 
 use rc_files::{FileFault, TwoFiles};
 use rc_streams::replaced_file::replace;
@@ -15,7 +15,7 @@ pub struct HeldFiles<'a> {
     path: &'a str,
     file: Vec<u8>,
     log: Vec<u8>,
-    pub error: Option<io::Error>,
+    error: Option<io::Error>,
 }
 
 impl<'a> HeldFiles<'a> {
@@ -29,12 +29,19 @@ impl<'a> HeldFiles<'a> {
             error: None,
         }
     }
+
+    /// Why the call that failed did.
+    pub fn into_error(self) -> Option<io::Error> {
+        self.error
+    }
 }
 
 impl TwoFiles for HeldFiles<'_> {
     ghost holds = { λ f. record { file = f.file.items; log = f.log.items } };
 
     ghost left = { λ f g. g ≡ record { file = f.file.items; log = f.log.items } };
+
+    ghost failed = { λ f. IsSome f.error };
 
     fn read_file(&self, alloc: Global) -> Result<Vec<u8>, FileFault> {
         match Vec::from_slice(alloc, &self.file) {

@@ -1,0 +1,4 @@
+-- The lemmas of rc_launch, in reading order.
+
+-- What was read is what a command is carried out on.
+mod ServingLemmas

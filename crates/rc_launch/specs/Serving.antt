@@ -1,0 +1,78 @@
+-- What a command comes to on what was read for it.
+use Rattle.std.specs.Prelude.{◌≡◌, ℕ, List, [], Option, Some, false}
+use Rattle.std.specs.Prelude.{option_map, IfOk, OnErr}
+use Rattle.std.specs.Prelude.{Result}
+use Rattle.rc_asked.specs.NamedAsked.{named_ask_of}
+use Rattle.rc_asked.specs.OnceAsked.{once_saying_of}
+use Rattle.rc_asked.specs.SessionAsked.{session_ask_of}
+use Rattle.rc_asked.specs.UpdateAsked.{update_ask_of}
+use Rattle.rc_asked.specs.declared.once_words.OnceRequest.{OnceRequest}
+use Rattle.rc_cli.specs.Controlled.{LacksController, MovesLongrun}
+use Rattle.rc_cli.specs.Restarting.{Restarts}
+use Rattle.rc_cli.specs.Sealing.{SealsAs}
+use Rattle.rc_cli.specs.Status.{TellsStatus}
+use Rattle.rc_cli.specs.UpdateEnds.{Updates}
+use Rattle.rc_cli.specs.Updating.{lowering}
+use Rattle.rc_sessions.specs.Deciding.{IsFound}
+use Rattle.rc_sessions.specs.Filing.{IsUnread}
+use Rattle.rc_sessions.specs.Launching.{Launches}
+use Rattle.rc_sessions.specs.Session.{Dealing, asked_with}
+use Rattle.rc_sessions.specs.declared.keeping.LiveFile.{LiveFile}
+use Rattle.rc_sessions.specs.declared.service.Service.{Service}
+use Rattle.rc_sessions.specs.declared.service.Service.TheVariants.{Lines, Line as OneLine}
+use Rattle.rc_launch.specs.declared.loading.Loaded.{Loaded}
+use Rattle.rc_launch.specs.declared.loading.Loaded.TheVariants as loaded
+use Rattle.rc_launch.specs.declared.opened.Note.{Note}
+use Rattle.rc_launch.specs.declared.opened.Note.TheVariants as note
+use Rattle.rc_launch.specs.Works.{bytes_in}
+
+-- the bytes of the run log that was read
+abbrev pub logged_of : Note → List ℕ
+logged_of (note.Logged log) = log.bytes.items
+logged_of other = []
+
+-- what stood in a file as it was read
+abbrev pub IsReadAs : {E B : Type 0} → (B → List ℕ) → Result (Option B) E → LiveFile → Type 0
+IsReadAs bytes found file = IfOk found (λ held. IsFound (option_map bytes held) file)
+    × OnErr found (IsUnread file)
+
+-- a session of the one line of a request
+abbrev pub IsLineOf : OnceRequest → Service → Type 0
+IsLineOf request Lines = ⊥
+IsLineOf request (OneLine once) = once.now ≡ request.once
+
+-- a command was carried out on what was read, with this status: as a session of lines, or of one
+-- line, as an update, a restart, a seal or a question
+abbrev pub Carries : Loaded → (log : List ℕ) → LiveFile → (status : ℕ) → Dealing → (reader writer keeper : Type 0)
+    → (before after : Option (List ℕ)) → Type 0
+Carries (loaded.Lines request base) log file status deal reader writer keeper before after =
+    Launches Lines (asked_with (session_ask_of request) (option_map bytes_in base) file) status
+    deal reader writer keeper before after
+Carries (loaded.Line request base) log file status deal reader writer keeper before after =
+    (service : Service) × IsLineOf request service
+    × Launches service (asked_with (session_ask_of request.session) (option_map bytes_in base) file)
+    status deal reader writer keeper before after
+Carries (loaded.Update request old new) log file status deal reader writer keeper before after =
+    Updates (bytes_in old) (bytes_in new) (update_ask_of request) file status deal.was deal.is
+    deal.io.written deal.io.gained writer keeper before after
+Carries (loaded.Restart request base) log file status deal reader writer keeper before after =
+    Restarts (bytes_in base) (named_ask_of request) file status deal.was deal.is deal.io.written
+    deal.io.gained writer keeper before after
+Carries (loaded.Seal request base) log file status deal reader writer keeper before after =
+    SealsAs (bytes_in base) request.bound file status deal.was deal.is deal.io.written
+    deal.io.gained writer keeper before after
+Carries (loaded.Status request base) log file status deal reader writer keeper before after =
+    TellsStatus (bytes_in base) (named_ask_of request) file log status writer
+    deal.io.written deal.io.gained before after
+
+-- a longrun of this name would be moved, and no program is named that controls longruns
+abbrev pub LacksItsControllerBy : Loaded → LiveFile → List ℕ → Type 0
+LacksItsControllerBy (loaded.Line request (Some base)) file name =
+    LacksController (session_ask_of request.session)
+    × MovesLongrun (bytes_in base) (session_ask_of request.session) file
+    (once_saying_of request.once) name
+LacksItsControllerBy (loaded.Restart request base) file name =
+    LacksController (session_ask_of request.session)
+    × MovesLongrun (bytes_in base) (session_ask_of request.session) file
+    (lowering false (named_ask_of request).names) name
+LacksItsControllerBy other file name = ⊥

@@ -1,0 +1,33 @@
+//! Why the files of a command are not opened.
+use rc_asked::WordsFault;
+use std::io;
+use thiserror::Error;
+
+/// Why the files of a command are not opened. Nothing has moved then.
+#[derive(Debug, Drop, Error)]
+pub enum OpenFault<'a> {
+    /// The words do not name the files that it needs.
+    #[error("a file is not named")]
+    Words(WordsFault),
+    /// This file can't be read.
+    #[error("a file can't be read")]
+    File(&'a str, io::Error),
+    /// Another program goes on with the session of this file, of this process id where that is
+    /// known.
+    #[error("another program goes on with the session")]
+    Busy(&'a str, Option<u32>),
+    /// The file of the lock of this file can't be opened.
+    #[error("the lock can't be opened")]
+    Lock(&'a str, io::Error),
+    /// The run log of this file can't be read, written or removed.
+    #[error("the run log can't be used")]
+    Log(&'a str, io::Error),
+    /// The run log of this file is of a command that was cut short, and no database is named.
+    #[error("the run log needs a database")]
+    NoBase(&'a str),
+    /// It is of another database.
+    #[error("the run log is of another database")]
+    OtherBase(&'a str),
+    #[error("out of memory")]
+    Memory,
+}

@@ -1,0 +1,27 @@
+//! A command on the file of a session: its files are opened in the order that loses nothing, and it
+//! is carried out on what was read of them. What a command that was cut short has moved is entered
+//! before anything else is done.
+#![tactic(auto)]
+
+mod fault;
+mod held_files;
+mod live_store;
+mod loading;
+mod opened;
+mod opening;
+mod recovering;
+mod recovery;
+mod serving;
+mod texts;
+mod tried_lock;
+mod work;
+
+pub use crate::fault::OpenFault;
+pub use crate::held_files::HeldFiles;
+pub use crate::live_store::LiveStore;
+pub use crate::opened::{Note, Opened};
+pub use crate::opening::open;
+pub use crate::recovering::{Unrecovered, left_report, recover_by};
+pub use crate::serving::{Status, serve, uncontrolled_in};
+pub use crate::texts::{FileText, LiveText, LogText};
+pub use crate::work::Work;

@@ -1,0 +1,97 @@
+//! The files of a command are opened: its databases are read, the file of its session is locked,
+//! what a command that was cut short has moved is entered, and what stands in the file is read.
+ghost use Rattle.std.specs.Prelude.{IfOk};
+ghost use Rattle.rc_launch.specs.Opening.{AreOpened, IsOpenedAs, LocksFor};
+ghost use Rattle.rc_launch.specs.Works.{IsEventless, IsEventlessWork, session_in};
+
+use crate::fault::OpenFault;
+use crate::live_store::LiveStore;
+use crate::loading::{Loaded, load};
+use crate::opened::Opened;
+use crate::recovery::note_of;
+use crate::texts::LiveText;
+use crate::work::Work;
+use rc_streams::live_lock::LockFault;
+
+/// Opens the files of a command. The file of its session is locked where something is to be done,
+/// and not where that is only shown.
+pub fn open<'a>(
+    rt: &'a HostRuntime,
+    work: Work<'a>,
+) -> Result<(Opened<'a>, LiveStore<'a>), OpenFault<'a>>
+    requires eventless { IsEventlessWork work }
+    ensures { IfOk result (λ opened. AreOpened work.entry opened.0 opened.1) }
+{
+    let moves = work.moves();
+    match load(rt, work) {
+        Ok(loaded) => open_loaded(rt, loaded, moves),
+        Err(fault) => Err(fault),
+    }
+}
+
+// Locks the file of the session, and goes on.
+fn open_loaded<'a>(
+    rt: &'a HostRuntime,
+    loaded: Loaded<'a>,
+    moves: bool,
+) -> Result<(Opened<'a>, LiveStore<'a>), OpenFault<'a>>
+    requires eventless { IsEventless loaded }
+    ensures { IfOk result (λ opened. IsOpenedAs loaded.entry moves opened.0
+        × LocksFor moves (session_in loaded.entry).live opened.1) }
+{
+    let (live, waits) = (loaded.session().live, loaded.session().waits);
+    match LiveStore::open(rt, live, moves, waits) {
+        Ok(store) => match open_locked(rt, loaded, &store, moves) {
+            Ok(opened) => Ok((opened, store)),
+            Err(fault) => {
+                drop(store);
+                Err(fault)
+            }
+        },
+        Err(fault) => {
+            drop(loaded);
+            Err(lock_fault(live.unwrap_or(""), fault))
+        }
+    }
+}
+
+// Enters what a command that was cut short has moved, where the file is locked, and reads it.
+fn open_locked<'a>(
+    rt: &HostRuntime,
+    loaded: Loaded<'a>,
+    store: &LiveStore<'_>,
+    moves: bool,
+) -> Result<Opened<'a>, OpenFault<'a>>
+    requires eventless { IsEventless loaded }
+    ensures { IfOk result (IsOpenedAs loaded.entry moves) }
+{
+    let live = loaded.session().live;
+    let (note, again) = match note_of(rt, live, &loaded, store.is_locked()) {
+        Ok(found) => found,
+        Err(fault) => {
+            drop(loaded);
+            return Err(fault);
+        }
+    };
+    match store.run_files(&loaded.session().making) {
+        Ok(run_files) => Ok(Opened {
+            loaded: loaded.with_again(again),
+            live: LiveText::read(rt, live),
+            run_files,
+            note,
+            moves,
+        }),
+        Err(error) => {
+            drop((loaded, note));
+            Err(OpenFault::Log(live.unwrap_or(""), error))
+        }
+    }
+}
+
+// Why the file of a session is not locked.
+fn lock_fault<'a>(path: &'a str, fault: LockFault) -> OpenFault<'a> {
+    match fault {
+        LockFault::Busy(owner) => OpenFault::Busy(path, owner),
+        LockFault::Failed(error) => OpenFault::Lock(path, error),
+    }
+}

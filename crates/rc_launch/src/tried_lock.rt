@@ -1,0 +1,30 @@
+//! The lock of the file of a session, once it was asked for.
+ghost use Rattle.std.specs.Prelude.{◌≡◌, IfOk};
+
+use rc_streams::live_lock::{LiveLock, LockFault};
+
+/// What came of asking for a lock: it is held until this is dropped, or there is none, since a
+/// device or a folder stands there. Nothing but asking makes one.
+#[derive(Drop)]
+pub(crate) struct TriedLock<'a> {
+    path: &'a str,
+    lock: Option<LiveLock>,
+}
+
+impl<'a> TriedLock<'a> {
+    /// Asks for the lock of the session of this file, and waits for it or not where another program
+    /// holds it.
+    pub fn take(rt: &HostRuntime, path: &'a str, waits: bool) -> Result<TriedLock<'a>, LockFault>
+        ensures { IfOk result (λ tried. tried.path ≡ path.entry) }
+    {
+        Ok(TriedLock {
+            path,
+            lock: LiveLock::take(rt, path, waits)?,
+        })
+    }
+
+    /// Whether it is held.
+    pub fn is_held(&self) -> bool {
+        self.lock.is_some()
+    }
+}
