@@ -1,5 +1,7 @@
 -- How the two steps of an update are served, and how it ends.
-use Rattle.std.proofs.Common.{All, ◌≡◌, ◌≤◌, ◌∙◌, ◌++◌, ◌∷◌, ℕ, Bool, true, false, List, [], None, Option, Result, Ok, Err, IfErr, IfOk, inl, inr, ap, refl, sym, subst}
+use Rattle.std.proofs.Common.{All, ◌≡◌, ◌≤◌, ◌∙◌, ◌++◌, ◌∷◌, ℕ, Bool, true, false, List, [], None}
+use Rattle.std.proofs.Common.{Bor, MatchOption, OnOk, Option, Result, Ok, Err, IfErr, IfOk}
+use Rattle.std.proofs.Common.{inl, inr, ap, refl, sym, subst}
 use Rattle.std.proofs.lemmas.List.Elements.{All-cons, All-nil}
 use Rattle.clap.specs.Words.{Text as Path}
 use Rattle.rc_graph.specs.declared.Way.{Way}
@@ -19,7 +21,6 @@ use Rattle.rc_serve.specs.Ending.{EndsIn, IsDoneAs}
 use Rattle.rc_asked.specs.Listed.{Listed}
 use Rattle.rc_asked.specs.OnceAsked.{HasNoEvents, OnceSaying, Said}
 use Rattle.rc_asked.specs.Programs.{MakingAsk}
-use Rattle.rc_asked.specs.SessionAsked.{SessionAsk}
 use Rattle.rc_sessions.specs.Filing.{BeginsBy, file_named}
 use Rattle.rc_sessions.specs.Gating.{IsGateFor, IsGateless}
 use Rattle.rc_sessions.specs.Once.{ServesOnce, StopsServing}
@@ -28,10 +29,18 @@ use Rattle.rc_sessions.specs.Serving.{session_on}
 use Rattle.rc_sessions.specs.SessionFaults.{IsFileFault}
 use Rattle.rc_sessions.specs.declared.keeping.LiveFile.{LiveFile}
 use Rattle.rc_sessions.specs.declared.session_fault.SessionFault.{SessionFault}
-use Rattle.rc_sessions.specs.declared.session_fault.SessionFault.TheVariants.{OfText, Unknown, OfLive, Failed}
+use Rattle.rc_sessions.specs.declared.session_fault.SessionFault.TheVariants.{OfText, Unknown}
+use Rattle.rc_sessions.specs.declared.session_fault.SessionFault.TheVariants.{OfLive, Failed}
 use Rattle.rc_sessions.proofs.LaunchLemmas.{past_found, past_gate}
-use Rattle.rc_cli.specs.Updating.{AreDoneFor, EndsBoth, EndsUpdate, IsUpdate, Parts, ServesBoth, carried_line, ending_behind, listed_by, listed_on, lowering, making_on, raising, session_with, step_by}
-use Rattle.rc_cli.specs.UpdateEnds.{AreFoundInBoth, AreGateless, IsUnreadyUpdate, StopsBoth, StopsUpdate}
+use Rattle.rc_update.specs.Conversions.{Conversion, conversions_of}
+use Rattle.rc_update.specs.Knowing.{AreKnown, IsFirstStranger}
+use Rattle.rc_update.specs.declared.conversion.Conversion.{Conversion as Given}
+use Rattle.rc_asked.specs.UpdateAsked.{UpdateAsk}
+use Rattle.rc_cli.specs.Updating.{AreDoneFor, EndsBoth, EndsUpdate, IsUpdate, Parts, ServesBoth}
+use Rattle.rc_cli.specs.Updating.{carried_line, ending_behind, listed_by, listed_on, lowering}
+use Rattle.rc_cli.specs.Updating.{making_on, raising, session_with, step_by}
+use Rattle.rc_cli.specs.UpdateEnds.{AreFoundInBoth, AreGateless, IsUnreadyUpdate, StopsBoth}
+use Rattle.rc_cli.specs.UpdateEnds.{StopsUpdate}
 
 -- a step brings no events
 pub step_eventless : (dry : Bool) (ask : Ask) → HasNoEvents (Said (step_by dry ask))
@@ -94,15 +103,16 @@ module _ (path : Option Path) (was is : Option (List ℕ)) (As At : EndsIn) (wha
   first_hindered told hindered first = inl (after, subst (λ (e : Ending). ServesOnce path was is As e what written gained from after) hindered first)
 
 -- what two lines come to is what an update comes to, whose steps they are
-module _ (path : Option Path) (was is : Option (List ℕ)) (As At : EndsIn) (dry again : Bool)
+module _ (path : Option Path) (was is : Option (List ℕ)) (As At : EndsIn)
+    (list : List Conversion) (dry again : Bool)
     (what then : OnceSaying) (written gained : Option (List ℕ)) (from to : Holding) (new : Database)
     (parts : Parts) where
   pub update_ends : (result : Result Ending ServeFault)
-      → IsUpdate from.database new again from.line parts → to ≡ session_with new parts from
+      → IsUpdate from.database new list again from.line parts → to ≡ session_with new parts from
       → what ≡ lowering dry parts.lower → then ≡ raising dry parts.raise
       → IfOk result (λ ending. EndsBoth ending path was is As At what then written gained from to)
-      → IfOk result (λ ending. EndsUpdate ending path was is As At dry again written gained from
-      new)
+      → IfOk result (λ ending. EndsUpdate ending path was is As At list dry again written gained
+      from new)
   update_ends (Ok ending) update there first second ends = record {
     parts = parts;
     update = update;
@@ -113,11 +123,11 @@ module _ (path : Option Path) (was is : Option (List ℕ)) (As At : EndsIn) (dry
   update_ends (Err fault) update there first second ends = tt
 
   pub update_stops : (result : Result Ending ServeFault)
-      → IsUpdate from.database new again from.line parts → to ≡ session_with new parts from
+      → IsUpdate from.database new list again from.line parts → to ≡ session_with new parts from
       → what ≡ lowering dry parts.lower → then ≡ raising dry parts.raise
       → IfErr result (λ fault. StopsBoth fault path was is As At what then written gained from to)
-      → IfErr result (λ fault. StopsUpdate fault path was is As At dry again written gained from
-      new)
+      → IfErr result (λ fault. StopsUpdate fault path was is As At list dry again written gained
+      from new)
   update_stops (Ok ending) update there first second stops = tt
   update_stops (Err fault) update there first second stops = inr (
     parts,
@@ -127,21 +137,52 @@ module _ (path : Option Path) (was is : Option (List ℕ)) (As At : EndsIn) (dry
         (subst (λ (t : OnceSaying). StopsBoth fault path was is As At what t written gained from to) second stops)),
   )
 
--- why there are no gates, or no session begins, an update is not begun
-pub gates_unready : (fault : SessionFault) (ask : SessionAsk) (file : LiveFile) (old new : Database)
-    → AreGateless old new ask.making fault → IsUnreadyUpdate ask file old new fault
-gates_unready (OfText fault) ask file old new is = is
-gates_unready (Unknown word) ask file old new is = is
-gates_unready (OfLive fault) ask file old new is = absurd is
-gates_unready (Failed fault) ask file old new is = inl is
+-- what follows of a value and of what holds where there is one
+pub both_ok : {X E : Type 0} (result : Result X E) (P R : X → Type 0) (Q : Type 0)
+    → ((x : X) → P x → Q → R x) → IfOk result P → OnOk result Q → IfOk result R
+both_ok (Ok x) P R Q more holds also = more x holds also
+both_ok (Err e) P R Q more holds also = tt
 
-pub begin_unready : (fault : SessionFault) (ask : SessionAsk) (file : LiveFile) (old new : Database)
-    → AreFoundInBoth old new ask.making → IsFileFault (file_named ask.live file) old fault
+-- the same update by the list that a slice is of
+pub update_with : (old new : Database) (xs ys : List Given) (again : Bool) (line : Line)
+    (parts : Parts) → xs ≡ ys → IsUpdate old new (conversions_of xs) again line parts
+    → IsUpdate old new (conversions_of ys) again line parts
+update_with old new xs ys again line parts is update =
+    subst (λ (l : List Given). IsUpdate old new (conversions_of l) again line parts) is update
+
+-- the first name that is no service's, by the lists that slices and tables are of
+pub stranger_of : (found : Option (Bor (List ℕ))) (xs ys : List Given)
+    (old new first second : List (List ℕ)) → xs ≡ ys → old ≡ first → new ≡ second
+    → MatchOption found (AreKnown old new (conversions_of xs))
+    (λ name. IsFirstStranger old new (conversions_of xs) name.now)
+    → MatchOption found (AreKnown first second (conversions_of ys))
+    (λ name. IsFirstStranger first second (conversions_of ys) name.now)
+stranger_of found xs ys old new first second is here there says =
+    subst (λ (l : List Given). MatchOption found (AreKnown first second (conversions_of l))
+    (λ name. IsFirstStranger first second (conversions_of l) name.now)) is
+    (subst (λ (a : List (List ℕ)). MatchOption found (AreKnown a second (conversions_of xs))
+    (λ name. IsFirstStranger a second (conversions_of xs) name.now)) here
+    (subst (λ (b : List (List ℕ)). MatchOption found (AreKnown old b (conversions_of xs))
+    (λ name. IsFirstStranger old b (conversions_of xs) name.now)) there says))
+
+-- why there are no gates, or no session begins, an update is not begun
+pub gates_unready : (fault : SessionFault) (ask : UpdateAsk) (file : LiveFile)
+    (old new : Database) → AreKnown old.names new.names ask.conversions
+    → AreGateless old new ask.session.making fault → IsUnreadyUpdate ask file old new fault
+gates_unready (OfText fault) ask file old new known is = is
+gates_unready (Unknown word) ask file old new known is = inr (known, is)
+gates_unready (OfLive fault) ask file old new known is = absurd is
+gates_unready (Failed fault) ask file old new known is = inl is
+
+pub begin_unready : (fault : SessionFault) (ask : UpdateAsk) (file : LiveFile)
+    (old new : Database) → AreKnown old.names new.names ask.conversions
+    → AreFoundInBoth old new ask.session.making
+    → IsFileFault (file_named ask.session.live file) old fault
     → IsUnreadyUpdate ask file old new fault
-begin_unready (OfText fault) ask file old new found is = is
-begin_unready (Unknown word) ask file old new found is = absurd is
-begin_unready (OfLive fault) ask file old new found is = (found, is)
-begin_unready (Failed fault) ask file old new found is = inr is
+begin_unready (OfText fault) ask file old new known found is = is
+begin_unready (Unknown word) ask file old new known found is = absurd is
+begin_unready (OfLive fault) ask file old new known found is = (known, found, is)
+begin_unready (Failed fault) ask file old new known found is = inr is
 
 -- what comes of both steps past their gates
 pub past_gates : {R L Q M : Type 0} (old new : Database) (workers : ℕ) (making : MakingAsk)

@@ -1,5 +1,6 @@
 -- What is wanted up in the end of an update that was begun before.
-use Rattle.std.proofs.Common.{◌≡◌, ◌∙◌, ◌+◌, ◌⊎◌, ◌↔◌, inl, inr, ℕ, All, Bool, List, [], Option, None, Some, IfSome, true, length, slice_get, ap, sym, subst, arith}
+use Rattle.std.proofs.Common.{◌≡◌, ◌∙◌, ◌+◌, ◌⊎◌, ◌↔◌, inl, inr, ℕ, All, Bool, List, [], Option}
+use Rattle.std.proofs.Common.{None, Some, IfSome, true, length, slice_get, ap, sym, subst, arith}
 use Rattle.std.proofs.lemmas.Option.{get_or_from_slice_get, same_Some, slice_get_within}
 use Rattle.rc_model.specs.Names.{Has, Holds}
 use Rattle.rc_model.specs.Graph.{IsClosed}
@@ -10,8 +11,8 @@ use Rattle.rc_model.specs.Session.{Change, Command, IsLineOf, IsStateOf}
 use Rattle.rc_livetext.specs.Spelling.{Spells as SpellsLine}
 use Rattle.rc_script.specs.RunLines.{IsStepLine}
 use Rattle.rc_session.proofs.States.{current_state}
-use Rattle.rc_select.specs.Carrying.{AreNamesOf, Carried, IsAlteredUp, StaysUp}
-use Rattle.rc_cli.specs.Begun.{IsFirstLine}
+use Rattle.rc_update.specs.Carrying.{AreNamesOf, Carried, IsAlteredUp, StaysUp}
+use Rattle.rc_update.specs.Conversions.{Conversion}
 use Rattle.rc_cli.specs.Updating.{IsBefore, IsUpdate, IsWantedUp, Parts, step_ask}
 
 -- what holds of each of a list holds at a place
@@ -75,11 +76,12 @@ state_bound d line place state of at =
     (at_place (IsStateOf d) (states line) place state of.each at).bound
 
 -- what is carried over of the same services has the same names
-pub carried_names : (old d new : Database) (P Q : ℕ → Type 0) (names : List (List ℕ)) → d ≡ old
-    → ((s : ℕ) → P s ↔ Q s) → AreNamesOf new (Carried d new P) names
-    → AreNamesOf new (Carried old new Q) names
-carried_names old d new P Q names is same listed =
-    let lists = subst (λ (e : Database). AreNamesOf new (Carried e new P) names) is listed in
+pub carried_names : (old d new : Database) (list : List Conversion) (P Q : ℕ → Type 0)
+    (names : List (List ℕ)) → d ≡ old
+    → ((s : ℕ) → P s ↔ Q s) → AreNamesOf new (Carried d new list P) names
+    → AreNamesOf new (Carried old new list Q) names
+carried_names old d new list P Q names is same listed =
+    let lists = subst (λ (e : Database). AreNamesOf new (Carried e new list P) names) is listed in
     record {
       order = lists.order;
       same = λ name. (
@@ -91,19 +93,22 @@ carried_names old d new P Q names is same listed =
     }
 
 -- what an update does, where the old database and what is live are known by other names
-pub moves : (old d new : Database) (live : List Bool) (again : Bool) (line : Line) (parts : Parts)
+pub moves : (old d new : Database) (list : List Conversion) (live : List Bool) (again : Bool)
+    (line : Line) (parts : Parts)
     → d ≡ old → live ≡ line.current.live
-    → AreNamesOf d (IsAlteredUp d new (Has live)) parts.lower
-    → Holds parts.kept (Carried d new (StaysUp d new (Has live)))
+    → AreNamesOf d (IsAlteredUp d new list (Has live)) parts.lower
+    → Holds parts.kept (Carried d new list (StaysUp d new list (Has live)))
     → length parts.kept ≡ length new.names
-    → AreNamesOf new (Carried old new (IsWantedUp again line)) parts.raise
-    → IsUpdate old new again line parts
-moves old d new live again line parts is also lower kept bound raise = record {
-  lower = subst (λ (e : Database). AreNamesOf e (IsAlteredUp e new (Has up)) parts.lower) is
-      (subst (λ (set : List Bool). AreNamesOf d (IsAlteredUp d new (Has set)) parts.lower) also
+    → AreNamesOf new (Carried old new list (IsWantedUp again line)) parts.raise
+    → IsUpdate old new list again line parts
+moves old d new list live again line parts is also lower kept bound raise = record {
+  lower = subst (λ (e : Database). AreNamesOf e (IsAlteredUp e new list (Has up)) parts.lower) is
+      (subst (λ (set : List Bool). AreNamesOf d (IsAlteredUp d new list (Has set)) parts.lower) also
       lower);
-  kept = subst (λ (e : Database). Holds parts.kept (Carried e new (StaysUp e new (Has up)))) is
-      (subst (λ (set : List Bool). Holds parts.kept (Carried d new (StaysUp d new (Has set)))) also
+  kept = subst (λ (e : Database).
+      Holds parts.kept (Carried e new list (StaysUp e new list (Has up)))) is
+      (subst (λ (set : List Bool).
+      Holds parts.kept (Carried d new list (StaysUp d new list (Has set)))) also
       kept);
   bound = bound;
   raise = raise;
@@ -117,23 +122,6 @@ pub same_set : (live up : List Bool) → live ≡ up → (s : ℕ) → Has live 
 same_set live up is s = (
   λ has. subst (λ (set : List Bool). Has set s) is has,
   λ has. subst (λ (set : List Bool). Has set s) (sym is) has,
-)
-
--- the line of the first step, by the names that are lowered
-pub first_step : (d e : Database) (file : List ℕ) (line : Line) (live : List Bool)
-    (names : List (List ℕ)) (command : Command) (text : List ℕ)
-    → SpellsLine d file line → live ≡ line.current.live
-    → AreNamesOf d (IsAlteredUp d e (Has live)) names
-    → command ≡ Change (step_ask DownAll names) [] → IsStepLine command text
-    → IsFirstLine d e file text
-first_step d e file line live names command text spells is lowered asks says = (
-  line,
-  spells,
-  (
-    names,
-    subst (λ (set : List Bool). AreNamesOf d (IsAlteredUp d e (Has set)) names) is lowered,
-    subst (λ (one : Command). IsStepLine one text) asks says,
-  ),
 )
 
 -- what follows of what there may be

@@ -4,26 +4,36 @@ use Rattle.rc_model.specs.Names.{Has}
 use Rattle.rc_model.specs.Database.{Database}
 use Rattle.rc_model.specs.Line.{Line}
 use Rattle.rc_model.specs.declared.Mode.TheVariants.{DownAll}
-use Rattle.rc_model.specs.Session.{Change}
+use Rattle.rc_model.specs.Session.{Change, Command, IsLineOf}
 use Rattle.rc_base.specs.Base.{Spells}
 use Rattle.rc_livetext.specs.Spelling.{Spells as SpellsLine}
-use Rattle.rc_script.specs.RunLines.{IsStepLine}
-use Rattle.rc_select.specs.Carrying.{AreNamesOf, IsAlteredUp}
+use Rattle.rc_script.specs.RunLines.{IsStepLine, least_limited}
+use Rattle.rc_update.specs.Carrying.{AreNamesOf, IsAlteredUp}
+use Rattle.rc_update.specs.Conversions.{Conversion}
 use Rattle.rc_cli.specs.Updating.{step_ask}
 
--- the line of the first step, by what is live in the session of this text: what is altered or gone
--- is lowered
-abbrev pub IsFirstLine : (old new : Database) → (file step : List ℕ) → Type 0
-IsFirstLine old new file step = (line : Line) × SpellsLine old file line
-    × ((names : List (List ℕ)) × AreNamesOf old (IsAlteredUp old new (Has line.current.live)) names
-    × IsStepLine (Change (step_ask DownAll names) []) step)
+-- the names that the first step lowers, by what is live in the session of this text: what is
+-- altered, gone or to be restarted
+abbrev pub AreLowered : (old new : Database) → List Conversion → (file : List ℕ)
+    → List (List ℕ) → Type 0
+AreLowered old new list file names = (line : Line) × IsLineOf old line × SpellsLine old file line
+    × AreNamesOf old (IsAlteredUp old new list (Has line.current.live)) names
 
--- a log has that text and that line in front
-abbrev pub BeginsOn : (old new : Database) → (file log : List ℕ) → Type 0
-BeginsOn old new file log = (step : List ℕ) × (rest : List ℕ) × (log ≡ file ++ (step ++ rest))
-    × IsFirstLine old new file step
+-- the step that lowers these names, under the least limit
+abbrev pub lowering : List (List ℕ) → Command
+lowering names = least_limited (Change (step_ask DownAll names) [])
+
+-- bytes begin with the line of the step that lowers these names
+abbrev pub SaysLowering : List ℕ → List (List ℕ) → Type 0
+SaysLowering bytes names = (step : List ℕ) × (rest : List ℕ) × (bytes ≡ step ++ rest)
+    × IsStepLine (Change (step_ask DownAll names) []) step
+
+-- a log has the text of the session in front, and then the line of the first step
+abbrev pub BeginsOn : (old new : Database) → List Conversion → (file log : List ℕ) → Type 0
+BeginsOn old new list file log = (names : List (List ℕ)) × (rest : List ℕ) × (log ≡ file ++ rest)
+    × AreLowered old new list file names × SaysLowering rest names
 
 -- the same of the texts of both databases
-abbrev pub BeginsUpdate : (old new file log : List ℕ) → Type 0
-BeginsUpdate old new file log = (d : Database) × (e : Database)
-    × Spells (Some old) [] d [] × Spells (Some new) [] e [] × BeginsOn d e file log
+abbrev pub BeginsUpdate : (old new : List ℕ) → List Conversion → (file log : List ℕ) → Type 0
+BeginsUpdate old new list file log = (d : Database) × (e : Database)
+    × Spells (Some old) [] d [] × Spells (Some new) [] e [] × BeginsOn d e list file log

@@ -15,6 +15,8 @@ use Rattle.rc_asked.specs.OnceAsked.{OnceSaying}
 use Rattle.rc_asked.specs.Programs.{MakingAsk, listed_in}
 use Rattle.rc_asked.specs.SessionAsked.{SessionAsk}
 use Rattle.rc_asked.specs.UpdateAsked.{UpdateAsk}
+use Rattle.rc_update.specs.Conversions.{Conversion}
+use Rattle.rc_update.specs.Knowing.{AreKnown, IsFirstStranger}
 use Rattle.rc_base.specs.Base.{Spells}
 use Rattle.rc_sessions.specs.Filing.{BeginsBy, CannotKeep, FailsToBegin, IsFileRefused, file_named}
 use Rattle.rc_sessions.specs.Finding.{IsFirstUnknown}
@@ -23,8 +25,10 @@ use Rattle.rc_sessions.specs.Serving.{session_on}
 use Rattle.rc_sessions.specs.SessionFaults.{AreAllFound, EndsAs, IsUnspelled}
 use Rattle.rc_sessions.specs.declared.keeping.LiveFile.{LiveFile}
 use Rattle.rc_sessions.specs.declared.session_fault.SessionFault.{SessionFault}
-use Rattle.rc_sessions.specs.declared.session_fault.SessionFault.TheVariants.{OfText, Unknown, OfLive, Failed}
-use Rattle.rc_cli.specs.Updating.{AreDoneFor, EndsUpdate, IsUpdate, Parts, lowering, making_on, raising, session_with}
+use Rattle.rc_sessions.specs.declared.session_fault.SessionFault.TheVariants.{OfText, Unknown}
+use Rattle.rc_sessions.specs.declared.session_fault.SessionFault.TheVariants.{OfLive, Failed}
+use Rattle.rc_cli.specs.Updating.{AreDoneFor, EndsUpdate, IsUpdate, Parts, lowering, making_on}
+use Rattle.rc_cli.specs.Updating.{raising, session_with}
 
 -- the first line was done, and a fault came where the second one was served
 pub record StopsSecond (fault : ServeFault) (path : Option Path) (was is : Option (List ℕ))
@@ -49,11 +53,11 @@ IsShort fault was is written gained = (fault ≡ Memory) × (gained ≡ written)
 
 -- a fault came before the first step of an update, or where a step was served
 abbrev pub StopsUpdate : ServeFault → Option Path → (was is : Option (List ℕ)) →
-    (As At : EndsIn) → (dry again : Bool) → (written gained : Option (List ℕ)) → Holding
-    → Database → Type 0
-StopsUpdate fault path was is As At dry again written gained from new =
+    (As At : EndsIn) → List Conversion → (dry again : Bool) → (written gained : Option (List ℕ))
+    → Holding → Database → Type 0
+StopsUpdate fault path was is As At list dry again written gained from new =
     IsShort fault was is written gained
-    ⊎ ((parts : Parts) × IsUpdate from.database new again from.line parts
+    ⊎ ((parts : Parts) × IsUpdate from.database new list again from.line parts
     × StopsBoth fault path was is As At (lowering dry parts.lower) (raising dry parts.raise)
     written gained from (session_with new parts from))
 
@@ -62,8 +66,8 @@ abbrev pub RunsUpdate : Ending → UpdateAsk → LiveFile → (was is : Option (
     (As At : EndsIn) → (old new : Database) → (written gained : Option (List ℕ)) → Type 0
 RunsUpdate ending ask file was is As At old new written gained = (start : Line)
     × BeginsBy old ask.session.bound (file_named ask.session.live file) start
-    × EndsUpdate ending ask.session.live was is As At ask.dry ask.again written gained
-    (session_on old start) new
+    × EndsUpdate ending ask.session.live was is As At ask.conversions ask.dry ask.again
+    written gained (session_on old start) new
 
 -- each service that is to fail on its way down is one of the old database, and each that is to
 -- fail on its way up one of the new
@@ -84,15 +88,20 @@ AreGateless old new making (Unknown word) = IsUnknownInBoth old new making word.
 AreGateless old new making (Failed fault) = fault ≡ Memory
 AreGateless old new making other = ⊥
 
--- why an update is not begun: a name that is to fail is no service's; its file is refused, only
--- after that; the file could not be read, or out of memory
-abbrev pub IsUnreadyUpdate : SessionAsk → LiveFile → (old new : Database) → SessionFault → Type 0
+-- why an update is not begun: a conversion names no service of its database; a name that is to
+-- fail is no service's, only after that; its file is refused, only after those; the file could not
+-- be read, or out of memory
+abbrev pub IsUnreadyUpdate : UpdateAsk → LiveFile → (old new : Database) → SessionFault → Type 0
 IsUnreadyUpdate ask file old new (OfText fault) = ⊥
-IsUnreadyUpdate ask file old new (Unknown word) = IsUnknownInBoth old new ask.making word.now
-IsUnreadyUpdate ask file old new (OfLive fault) = AreFoundInBoth old new ask.making
-    × IsFileRefused old (file_named ask.live file) fault
+IsUnreadyUpdate ask file old new (Unknown word) =
+    IsFirstStranger old.names new.names ask.conversions word.now
+    ⊎ (AreKnown old.names new.names ask.conversions
+    × IsUnknownInBoth old new ask.session.making word.now)
+IsUnreadyUpdate ask file old new (OfLive fault) = AreKnown old.names new.names ask.conversions
+    × AreFoundInBoth old new ask.session.making
+    × IsFileRefused old (file_named ask.session.live file) fault
 IsUnreadyUpdate ask file old new (Failed fault) =
-    (fault ≡ Memory) ⊎ FailsToBegin (file_named ask.live file) fault
+    (fault ≡ Memory) ⊎ FailsToBegin (file_named ask.session.live file) fault
 
 -- how an update ends that is not carried out to its end: not begun, with nothing written and its
 -- store left alone; or by a fault, up to which it was carried out from where the session of the old
@@ -100,21 +109,23 @@ IsUnreadyUpdate ask file old new (Failed fault) =
 abbrev pub EndsUpdateOn : SessionFault → UpdateAsk → LiveFile → (was is : Option (List ℕ)) →
     (old new : Database) → (written gained : Option (List ℕ)) → (writer keeper : Type 0) → Type 0
 EndsUpdateOn fault ask file was is old new written gained writer keeper =
-    (IsUnreadyUpdate ask.session file old new fault × (gained ≡ written) × (is ≡ was))
+    (IsUnreadyUpdate ask file old new fault × (gained ≡ written) × (is ≡ was))
     ⊎ ((why : ServeFault) × (fault ≡ Failed why) × IsServeFault ⊥ writer keeper why
     × AreDoneFor old new ask.session.workers ask.session.making (λ As At. (start : Line)
     × BeginsBy old ask.session.bound (file_named ask.session.live file) start
-    × StopsUpdate why ask.session.live was is As At ask.dry ask.again written gained
-    (session_on old start) new))
+    × StopsUpdate why ask.session.live was is As At ask.conversions ask.dry ask.again
+    written gained (session_on old start) new))
 
--- both texts are those of databases, each name that is to fail is a service's, and an update from
--- the one to the other was carried out, or shown, and ended so
+-- both texts are those of databases, each conversion names services of theirs, each name that is to
+-- fail is a service's, and an update from the one to the other was carried out, or shown, and ended
+-- so
 pub record AnswersUpdate (ending : Ending) (old new : List ℕ) (ask : UpdateAsk) (file : LiveFile)
     (was is written gained : Option (List ℕ)) : Type 0 where
   pub from : Database
   pub to : Database
   pub old_spelled : Spells (Some old) [] from []
   pub new_spelled : Spells (Some new) [] to []
+  pub known : AreKnown from.names to.names ask.conversions
   pub run : AreDoneFor from to ask.session.workers ask.session.making
       (λ As At. RunsUpdate ending ask file was is As At from to written gained)
 

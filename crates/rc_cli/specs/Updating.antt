@@ -1,5 +1,6 @@
 -- The two steps of an update: one by the old database, and one by the new.
-use Rattle.std.specs.Prelude.{◌≡◌, ◌≢◌, ◌⊎◌, ◌∷◌, ◌+◌, ℕ, Bool, List, [], Option, Some, false, true, length, map, slice_get}
+use Rattle.std.specs.Prelude.{◌≡◌, ◌≢◌, ◌⊎◌, ◌∷◌, ◌+◌, ℕ, Bool, List, [], Option, Some, false, true}
+use Rattle.std.specs.Prelude.{length, map, slice_get}
 use Rattle.std.specs.String.{string_bytes}
 use Rattle.rc_graph.specs.declared.Way.{Way}
 use Rattle.rc_graph.specs.declared.Way.TheVariants.{Lower, Raise}
@@ -22,8 +23,9 @@ use Rattle.rc_asked.specs.Programs.{ByPrograms, ByTable, MakingAsk}
 use Rattle.rc_sessions.specs.Once.{ServesOnce}
 use Rattle.rc_sessions.specs.Services.{IsDoneFor}
 use Rattle.rc_sessions.specs.Serving.{session_on}
-use Rattle.rc_select.specs.Carrying.{AreNamesOf, Carried, IsAlteredUp, StaysUp}
-use Rattle.rc_select.specs.declared.carrying.Update.{Update}
+use Rattle.rc_update.specs.Carrying.{AreNamesOf, Carried, IsAlteredUp, StaysUp}
+use Rattle.rc_update.specs.Conversions.{Conversion}
+use Rattle.rc_update.specs.declared.carrying.Update.{Update}
 
 -- of transitions that are listed those of one way
 abbrev pub listed_by : Way → Way → Listed → List Listed → List Listed
@@ -104,14 +106,15 @@ IsWantedUp false line s = Has line.current.live s
 IsWantedUp true line s = Has line.current.live s
     ⊎ ((state : State) × IsBefore line state × Has state.live s)
 
--- what an update does from where a line stands: what is live and altered or gone is lowered, what
--- neither is that nor needs it stays, and what is wanted and still there is raised
-pub record IsUpdate (old new : Database) (again : Bool) (line : Line) (parts : Parts) : Type 0
-  where
-    pub lower : AreNamesOf old (IsAlteredUp old new (Has line.current.live)) parts.lower
-    pub kept : Holds parts.kept (Carried old new (StaysUp old new (Has line.current.live)))
-    pub bound : length parts.kept ≡ length new.names
-    pub raise : AreNamesOf new (Carried old new (IsWantedUp again line)) parts.raise
+-- what an update does from where a line stands, with these conversions: what is live and altered,
+-- gone or to be restarted is lowered, what neither is such nor needs it stays, and what is wanted
+-- and goes on is raised
+pub record IsUpdate (old new : Database) (list : List Conversion) (again : Bool) (line : Line)
+    (parts : Parts) : Type 0 where
+  pub lower : AreNamesOf old (IsAlteredUp old new list (Has line.current.live)) parts.lower
+  pub kept : Holds parts.kept (Carried old new list (StaysUp old new list (Has line.current.live)))
+  pub bound : length parts.kept ≡ length new.names
+  pub raise : AreNamesOf new (Carried old new list (IsWantedUp again line)) parts.raise
 
 -- one line was served, and then, where all of it was done, another one on another session
 pub record ServesBoth (path : Option Path) (was is : Option (List ℕ)) (As At : EndsIn)
@@ -149,9 +152,9 @@ session_with new parts from = session_on new (carried_line new parts.kept from.l
 
 -- an update from where a session stands ends so
 pub record EndsUpdate (ending : Ending) (path : Option Path) (was is : Option (List ℕ))
-    (As At : EndsIn) (dry again : Bool) (written gained : Option (List ℕ)) (from : Holding)
-    (new : Database) : Type 0 where
+    (As At : EndsIn) (list : List Conversion) (dry again : Bool)
+    (written gained : Option (List ℕ)) (from : Holding) (new : Database) : Type 0 where
   pub parts : Parts
-  pub update : IsUpdate from.database new again from.line parts
+  pub update : IsUpdate from.database new list again from.line parts
   pub ends : EndsBoth ending path was is As At (lowering dry parts.lower)
       (raising dry parts.raise) written gained from (session_with new parts from)

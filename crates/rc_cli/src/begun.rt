@@ -1,59 +1,101 @@
 //! Whether a command that was cut short is the first step of an update.
-ghost use Rattle.std.specs.Prelude.{◌≡◌, ◌++◌, ℕ, List, IsTrue, IfOk, IfSome, MatchOption, string_bytes};
-ghost use Rattle.rc_cli.specs.Begun.{BeginsOn, BeginsUpdate, IsFirstLine};
+ghost use Rattle.std.specs.Prelude.{◌≡◌, ◌≢◌, ◌++◌, ◌∷◌, ◌↔◌, [], ℕ, List, All, IsTrue, IfOk};
+ghost use Rattle.std.specs.Prelude.{IfNone, IfSome, MatchOption, Some, map, string_bytes};
+ghost use Rattle.rc_base.specs.Base.{Spells};
+ghost use Rattle.rc_model.specs.Database.{Database};
+ghost use Rattle.rc_model.specs.Line.{Line};
+ghost use Rattle.rc_model.specs.declared.Mode.TheVariants.{DownAll};
+ghost use Rattle.rc_model.specs.Session.{IsLineOf};
+ghost use Rattle.rc_livetext.specs.Spelling.{Spells as SpellsLine};
+ghost use Rattle.rc_select.specs.Ask.{ask_of};
+ghost use Rattle.rc_session.specs.Commands.{command_of};
+ghost use Rattle.rc_update.specs.Conversions.{conversions_of};
+ghost use Rattle.rc_cli.specs.Begun.{AreLowered, BeginsOn, BeginsUpdate, SaysLowering, lowering};
+ghost use Rattle.rc_cli.specs.Updating.{step_ask};
 
-use crate::updating::lowering_step;
+use memchr::memchr;
 use rc_base::database_of;
 use rc_db::Db;
-use rc_livetext::read_live;
-use rc_script::step_line;
-use rc_select::carry;
+use rc_dbtext::{TextFault, laws as text_laws};
+use rc_livetext::{LiveFault, laws as live_laws, read_live};
+use rc_script::laws::lines_say_one_thing;
+use rc_script::{SessionLine, read_line};
+use rc_select::{Mode, Request};
+use rc_session::Step;
 use rc_set::NoMem;
-use std::alloc::Global;
+use rc_update::{Conversion, carry};
+use std::alloc::{AllocError, Global};
 
 /// Whether a run log is that of the first step of an update from the database `old` to the database
-/// `new`, of the session whose text is `file`. Where memory runs out, the answer is no: what the
-/// step has lowered is entered, and stays down.
-pub fn begins_update(alloc: Global, old: &[u8], new: &[u8], file: &[u8], log: &[u8]) -> bool
-    ensures { IsTrue result → BeginsUpdate old.now new.now file.now log.now }
+/// `new`, of the session whose text is `file`.
+pub fn begins_update(
+    alloc: Global,
+    old: &[u8],
+    new: &[u8],
+    list: &[Conversion<'_>],
+    file: &[u8],
+    log: &[u8],
+) -> Result<bool, NoMem>
+    ensures { IfOk result (λ begins. IsTrue begins
+        ↔ BeginsUpdate old.now new.now (conversions_of list.now) file.now log.now) }
 {
-    let Ok((from, _none)) = database_of(alloc, Some(old), &[]) else {
-        return false;
+    text_laws::spelling_is_unique();
+    let Some(from) = database_in(alloc, old)? else {
+        return Ok(false);
     };
-    let Ok((to, _none)) = database_of(alloc, Some(new), &[]) else {
-        drop(from);
-        return false;
+    let to = match database_in(alloc, new) {
+        Ok(Some(to)) => to,
+        Ok(None) => {
+            drop(from);
+            return Ok(false);
+        }
+        Err(short) => {
+            drop(from);
+            return Err(short);
+        }
     };
-    let begins = begins_on(alloc, &from, &to, file, log);
+    let begins = begins_on(alloc, &from, &to, list, file, log);
     drop((from, to));
     begins
 }
 
-// The same of two databases.
-fn begins_on(alloc: Global, from: &Db, to: &Db, file: &[u8], log: &[u8]) -> bool
-    ensures { IsTrue result → BeginsOn from.now to.now file.now log.now }
+// The database of a text. None: the text is none of a database.
+fn database_in(alloc: Global, text: &[u8]) -> Result<Option<Db>, NoMem>
+    ensures some { IfOk result (λ read. IfSome read (λ d. Spells (Some text.now) [] d [])) }
+    ensures none { IfOk result (λ read. IfNone read (
+        (d : Database) → Spells (Some text.now) [] d [] → ⊥)) }
 {
-    let Some(rest) = behind(file, log) else {
-        return false;
-    };
-    match first_line(alloc, from, to, file) {
-        Ok(Some(line)) => {
-            let begins = has_front(rest, line.as_bytes());
-            drop(line);
-            begins
-        }
-        Ok(None) | Err(_) => false,
+    text_laws::spelling_is_not_refused();
+    match database_of(alloc, Some(text), &[]) {
+        Ok((db, _none)) => Ok(Some(db)),
+        Err(TextFault::Memory) => Err(AllocError),
+        Err(_) => Ok(None),
     }
 }
 
-// Whether bytes have these in front.
-fn has_front(bytes: &[u8], front: &[u8]) -> bool
-    ensures { IsTrue result → ((rest : List ℕ) × (bytes.now ≡ front.now ++ rest)) }
+// The same of two databases.
+fn begins_on(
+    alloc: Global,
+    from: &Db,
+    to: &Db,
+    list: &[Conversion<'_>],
+    file: &[u8],
+    log: &[u8],
+) -> Result<bool, NoMem>
+    ensures { IfOk result (λ begins. IsTrue begins
+        ↔ BeginsOn from.now to.now (conversions_of list.now) file.now log.now) }
 {
-    match behind(front, bytes) {
-        Some(_) => true,
-        None => false,
-    }
+    live_laws::spelling_is_unique();
+    let _names = from.names();
+    let Some(rest) = behind(file, log) else {
+        return Ok(false);
+    };
+    let Some(names) = lowered(alloc, from, to, list, file)? else {
+        return Ok(false);
+    };
+    let begins = says_lowering(alloc, rest, &names);
+    drop(names);
+    begins
 }
 
 // What stands in bytes after these, if they begin with them.
@@ -64,24 +106,99 @@ fn behind<'a>(front: &[u8], bytes: &'a [u8]) -> Option<&'a [u8]>
     bytes.strip_prefix(front)
 }
 
-// The line of the first step of an update of the session whose text this is, if it is one.
-fn first_line(alloc: Global, from: &Db, to: &Db, file: &[u8]) -> Result<Option<String>, NoMem>
-    ensures { IfOk result (λ made. IfSome made (λ line.
-        IsFirstLine from.now to.now file.now (string_bytes line))) }
+// The names that the first step of an update lowers, of the session whose text this is. None: the
+// text is none of a session of the database.
+fn lowered(
+    alloc: Global,
+    from: &Db,
+    to: &Db,
+    list: &[Conversion<'_>],
+    file: &[u8],
+) -> Result<Option<Vec<String>>, NoMem>
+    ensures some { IfOk result (λ read. IfSome read (λ names.
+        AreLowered from.now to.now (conversions_of list.now) file.now
+        (map string_bytes names.items))) }
+    ensures none { IfOk result (λ read. IfNone read (
+        (line : Line) → IsLineOf from.now line → SpellsLine from.now file.now line → ⊥)) }
 {
-    let Ok((line, _states)) = read_live(alloc, file, from) else {
-        return Ok(None);
+    live_laws::spelling_is_not_refused();
+    let _names = from.names();
+    let line = match read_live(alloc, file, from) {
+        Ok((line, _states)) => line,
+        Err(fault) if is_memory(fault) => return Err(AllocError),
+        Err(_) => return Ok(None),
     };
-    let update = match carry(alloc, from, to, line.live()) {
-        Ok(update) => update,
-        Err(fault) => {
-            drop(line);
-            return Err(fault);
-        }
-    };
+    let update = carry(alloc, from, to, list, line.live());
     drop(line);
-    let step = lowering_step(alloc, update.lower);
-    let made = step_line(alloc, &step);
-    drop(step);
-    made
+    match update {
+        Ok(update) => Ok(Some(update.lower)),
+        Err(short) => Err(short),
+    }
+}
+
+// Whether memory ran out.
+fn is_memory(fault: LiveFault) -> bool
+    ensures { IsTrue result ↔ (fault ≡ LiveFault.Memory) }
+{
+    matches!(fault, LiveFault::Memory)
+}
+
+// Whether the first line of these bytes is that of the step that lowers these names.
+fn says_lowering(alloc: Global, bytes: &[u8], names: &[String]) -> Result<bool, NoMem>
+    ensures { IfOk result (λ says. IsTrue says
+        ↔ SaysLowering bytes.now (map string_bytes names.now)) }
+{
+    lines_say_one_thing();
+    let Some((line, _rest)) = first_line(bytes) else {
+        return Ok(false);
+    };
+    match read_line(alloc, line)? {
+        SessionLine::Step(step) => {
+            let is = is_lowering(&step, names);
+            drop(step);
+            Ok(is)
+        }
+        _ => Ok(false),
+    }
+}
+
+// The line at the beginning without its newline, and what follows it.
+fn first_line(bytes: &[u8]) -> Option<(&[u8], &[u8])>
+    ensures line { IfSome result (λ cut. (bytes.now ≡ cut.0.now ++ 10 ∷ cut.1.now)
+        × All (λ byte. byte ≢ 10) cut.0.now) }
+    ensures none { IfNone result (All (λ byte. byte ≢ 10) bytes.now) }
+{
+    let end = memchr(b'\n', bytes)?;
+    Some((&bytes[..end], &bytes[end + 1..]))
+}
+
+// Whether a step is the one that lowers these names, under the least limit.
+fn is_lowering(step: &Step, names: &[String]) -> bool
+    ensures { IsTrue result ↔ (command_of step.now ≡ lowering (map string_bytes names.now)) }
+{
+    match step {
+        Step::Change(request, events) => events.is_empty() && lowers(request, names),
+        _ => false,
+    }
+}
+
+// Whether a request is to lower these names, under the least limit.
+fn lowers(request: &Request, names: &[String]) -> bool
+    ensures { IsTrue result ↔ (ask_of request.now
+        ≡ record (step_ask DownAll (map string_bytes names.now)) { limit = 1 }) }
+{
+    if request.prune || request.all || request.limit != 1 {
+        return false;
+    }
+    match request.mode {
+        Mode::DownAll => are_same(&request.names, names),
+        Mode::Up | Mode::Down => false,
+    }
+}
+
+// Whether two lists of names are one.
+fn are_same(names: &[String], others: &[String]) -> bool
+    ensures { IsTrue result ↔ (map string_bytes names.now ≡ map string_bytes others.now) }
+{
+    names == others
 }

@@ -1,43 +1,61 @@
 //! Laws of the definitions. The functions do nothing when they run.
-ghost use Rattle.std.specs.Prelude.{ℕ, List, Bool};
+ghost use Rattle.std.specs.Prelude.{◌≡◌, ℕ, List, Bool, length};
 ghost use Rattle.rc_model.specs.Names.{Has, Holds};
-ghost use Rattle.rc_model.specs.Graph.{UpFrom};
+ghost use Rattle.rc_model.specs.Graph.{IsClosed, UpFrom};
 ghost use Rattle.rc_model.specs.Database.{Database, IsDatabase};
 ghost use Rattle.rc_model.specs.Line.{Line};
 ghost use Rattle.rc_model.specs.Plan.{IsPlanOf, PlanSets};
 ghost use Rattle.rc_model.specs.declared.Mode.TheVariants.{DownAll, Up};
 ghost use Rattle.rc_model.specs.Session.{IsLineOf};
-ghost use Rattle.rc_select.specs.Carrying.{Carried, StaysUp};
+ghost use Rattle.rc_update.specs.Carrying.{AreNamesOf, Carried, StaysUp};
+ghost use Rattle.rc_cli.specs.Restarting.{WentDown};
+ghost use Rattle.rc_update.specs.Conversions.{Conversion};
 ghost use Rattle.rc_cli.specs.Updating.{IsUpdate, IsWantedUp, Parts, step_ask};
 
 /// The first step of an update lowers exactly what is live and does not stay, and moves nothing
-/// else: a service that is neither altered nor gone, and needs nothing that is, is never moved.
+/// else: a service that is neither altered, gone nor to be restarted, and needs nothing that is, is
+/// never moved.
 pub fn lowering_spares_the_rest()
-    ensures lowers { (old new : Database) (again : Bool) (line : Line) (parts : Parts)
-        (plan : PlanSets) →
-        IsDatabase old → IsLineOf old line → IsUpdate old new again line parts →
+    ensures lowers { (old new : Database) (list : List Conversion) (again : Bool) (line : Line)
+        (parts : Parts) (plan : PlanSets) →
+        IsDatabase old → IsLineOf old line → IsUpdate old new list again line parts →
         IsPlanOf old line.current.table line.current.live (step_ask DownAll parts.lower) plan →
         Holds plan.lower (λ s. Has line.current.live s
-        × (StaysUp old new (Has line.current.live) s → ⊥)) }
-    ensures alone { (old new : Database) (again : Bool) (line : Line) (parts : Parts)
-        (plan : PlanSets) →
-        IsDatabase old → IsLineOf old line → IsUpdate old new again line parts →
+        × (StaysUp old new list (Has line.current.live) s → ⊥)) }
+    ensures alone { (old new : Database) (list : List Conversion) (again : Bool) (line : Line)
+        (parts : Parts) (plan : PlanSets) →
+        IsDatabase old → IsLineOf old line → IsUpdate old new list again line parts →
         IsPlanOf old line.current.table line.current.live (step_ask DownAll parts.lower) plan →
         (s : ℕ) → Has plan.raise s → ⊥ }
 {}
 
-/// The second step raises what is wanted and still there, with all that it needs, so far as it did
+/// The second step raises what is wanted and goes on, with all that it needs, so far as it did
 /// not stay live, and moves nothing else.
 pub fn raising_spares_the_rest()
-    ensures raises { (old new : Database) (again : Bool) (line : Line) (parts : Parts)
-        (plan : PlanSets) →
-        IsDatabase new → IsUpdate old new again line parts →
+    ensures raises { (old new : Database) (list : List Conversion) (again : Bool) (line : Line)
+        (parts : Parts) (plan : PlanSets) →
+        IsDatabase new → IsUpdate old new list again line parts →
         IsPlanOf new new.table parts.kept (step_ask Up parts.raise) plan →
-        Holds plan.raise (λ s. UpFrom new.needs (Carried old new (IsWantedUp again line)) s
-        × (Has parts.kept s → ⊥)) }
-    ensures alone { (old new : Database) (again : Bool) (line : Line) (parts : Parts)
-        (plan : PlanSets) →
-        IsDatabase new → IsUpdate old new again line parts →
+        Holds plan.raise (λ s. UpFrom new.needs
+        (Carried old new list (IsWantedUp again line)) s × (Has parts.kept s → ⊥)) }
+    ensures alone { (old new : Database) (list : List Conversion) (again : Bool) (line : Line)
+        (parts : Parts) (plan : PlanSets) →
+        IsDatabase new → IsUpdate old new list again line parts →
         IsPlanOf new new.table parts.kept (step_ask Up parts.raise) plan →
+        (s : ℕ) → Has plan.lower s → ⊥ }
+{}
+
+/// The second step of a restart raises exactly what went down in the first one, whatever did not go
+/// down, and moves nothing else.
+pub fn restarts_raise_what_went_down()
+    ensures raises { (d : Database) (before : List Bool) (here : Line) (names : List (List ℕ))
+        (plan : PlanSets) →
+        IsDatabase d → IsLineOf d here → length before ≡ length d.names →
+        IsClosed d.needs (Has before) →
+        AreNamesOf d (WentDown before here.current.live) names →
+        IsPlanOf d here.current.table here.current.live (step_ask Up names) plan →
+        Holds plan.raise (WentDown before here.current.live) }
+    ensures alone { (d : Database) (here : Line) (names : List (List ℕ)) (plan : PlanSets) →
+        IsPlanOf d here.current.table here.current.live (step_ask Up names) plan →
         (s : ℕ) → Has plan.lower s → ⊥ }
 {}

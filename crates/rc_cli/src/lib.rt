@@ -3,12 +3,20 @@
 #![tactic(auto)]
 
 mod begun;
+mod controlled;
 pub mod laws;
 mod moving;
+mod restarting;
+mod sealing;
+mod status;
 mod update;
 mod updating;
 
 pub use crate::begun::begins_update;
+pub use crate::controlled::uncontrolled;
+pub use crate::restarting::{restart_as_asked, uncontrolled_restart};
+pub use crate::sealing::seal_as_asked;
+pub use crate::status::status_as_asked;
 pub use crate::update::update_as_asked;
 pub use rc_compiling::compile_run;
 pub use rc_queries::{db_run, plan_run, replay_run};

@@ -2,13 +2,14 @@
 ghost use Rattle.std.specs.Prelude.{◌≡◌, false, true, length, map, string_bytes, IfOk};
 ghost use Rattle.rc_model.specs.Graph.{IsClosed};
 ghost use Rattle.rc_model.specs.Names.{Has, Holds};
-ghost use Rattle.rc_select.specs.Carrying.{AreNamesOf, Carried};
+ghost use Rattle.rc_update.specs.Carrying.{AreNamesOf, Carried};
+ghost use Rattle.rc_update.specs.Conversions.{conversions_of};
 ghost use Rattle.rc_cli.specs.Updating.{IsUpdate, IsWantedUp, parts_of};
 
 use rc_db::Db;
-use rc_select::{Update, carry};
 use rc_session::Session;
 use rc_set::{NoMem, Set};
+use rc_update::{Conversion, Update, carry};
 use std::alloc::Global;
 
 /// What an update moves, by what is live in a session of the old database. One that was begun
@@ -17,18 +18,19 @@ pub(crate) fn update_of(
     alloc: Global,
     from: &Session,
     new: &Db,
+    list: &[Conversion<'_>],
     again: bool,
 ) -> Result<Update, NoMem>
     requires { from.now.begun ≡ false }
-    ensures update { IfOk result (λ update. IsUpdate from.now.database new.now again
-        from.now.line (parts_of update)) }
+    ensures update { IfOk result (λ update. IsUpdate from.now.database new.now
+        (conversions_of list.now) again from.now.line (parts_of update)) }
     ensures closed { IfOk result (λ update. IsClosed new.now.needs (Has update.kept)) }
 {
-    let update = carry(alloc, from.db(), new, from.journal().live())?;
+    let update = carry(alloc, from.db(), new, list, from.journal().live())?;
     if !again {
         return Ok(update);
     }
-    let raise = raise_of(alloc, from, new)?;
+    let raise = raise_of(alloc, from, new, list)?;
     let Update {
         lower,
         kept,
@@ -38,14 +40,20 @@ pub(crate) fn update_of(
 }
 
 // The names that an update raises which was begun before.
-fn raise_of(alloc: Global, from: &Session, new: &Db) -> Result<Vec<String>, NoMem>
+fn raise_of(
+    alloc: Global,
+    from: &Session,
+    new: &Db,
+    list: &[Conversion<'_>],
+) -> Result<Vec<String>, NoMem>
     requires { from.now.begun ≡ false }
     ensures { IfOk result (λ raise. AreNamesOf new.now
-        (Carried from.now.database new.now (IsWantedUp true from.now.line))
+        (Carried from.now.database new.now (conversions_of list.now)
+        (IsWantedUp true from.now.line))
         (map string_bytes raise.items)) }
 {
     let wanted = wanted_up(alloc, from)?;
-    let update = carry(alloc, from.db(), new, &wanted)?;
+    let update = carry(alloc, from.db(), new, list, &wanted)?;
     drop(wanted);
     let Update { lower, kept, raise } = update;
     drop((lower, kept));

@@ -1,6 +1,7 @@
 //! The two steps of an update: how their transitions are made, what they move, and that they are
 //! kept.
-ghost use Rattle.std.specs.Prelude.{◌≡◌, ◌≢◌, ◌≤◌, ◌++◌, [], None, false, length, map, string_bytes, IfErr, IfOk, OnOk};
+ghost use Rattle.std.specs.Prelude.{◌≡◌, ◌≢◌, ◌≤◌, ◌++◌, [], None, false, length, map};
+ghost use Rattle.std.specs.Prelude.{string_bytes, IfErr, IfOk, MatchOption, OnOk};
 ghost use Rattle.rc_graph.specs.declared.Way.TheVariants.{Lower, Raise};
 ghost use Rattle.rc_model.specs.declared.Mode.TheVariants.{DownAll};
 ghost use Rattle.rc_model.specs.Session.{Change};
@@ -21,8 +22,13 @@ ghost use Rattle.rc_sessions.specs.Filing.{CannotKeep};
 ghost use Rattle.rc_sessions.specs.Gating.{IsGateFor, IsGateless};
 ghost use Rattle.rc_sessions.specs.Serving.{session_on};
 ghost use Rattle.rc_sessions.specs.Storing.{store_of};
-ghost use Rattle.rc_cli.specs.Updating.{AreDoneFor, EndsBoth, EndsUpdate, carried_line, ending_behind, listed_by, listed_on, making_on, step_ask, step_by};
-ghost use Rattle.rc_cli.specs.UpdateEnds.{AreGateless, EndsUpdateOn, RunsUpdate, StopsBoth, StopsUpdate};
+ghost use Rattle.rc_update.specs.Conversions.{conversions_of};
+ghost use Rattle.rc_update.specs.Knowing.{AreKnown, IsFirstStranger};
+ghost use Rattle.rc_cli.specs.Updating.{AreDoneFor, EndsBoth, EndsUpdate, carried_line};
+ghost use Rattle.rc_cli.specs.Updating.{ending_behind, listed_by, listed_on, making_on, step_ask};
+ghost use Rattle.rc_cli.specs.Updating.{step_by};
+ghost use Rattle.rc_cli.specs.UpdateEnds.{AreGateless, EndsUpdateOn, RunsUpdate, StopsBoth};
+ghost use Rattle.rc_cli.specs.UpdateEnds.{StopsUpdate};
 
 use crate::moving::update_of;
 use log::Log;
@@ -38,6 +44,7 @@ use rc_serve::{Ending, ServeFault};
 use rc_session::{Session, Step};
 use rc_sessions::{Host, LiveFile, Outputs, SessionFault, Store, begin, gate_for, line_once};
 use rc_set::{NoMem, Set};
+use rc_update::first_unknown;
 use std::alloc::{AllocError, Global};
 use std::io::Write;
 use std::sync::Wait;
@@ -69,6 +76,8 @@ pub(crate) fn update_on<'a, T: Threads + Wait + Sync, W: Write, S: Store, L: Log
     outputs: &mut Outputs<W, S>,
 ) -> Result<Ending, SessionFault<'a>>
     requires writer { HasFailed outputs.old.writer → ⊥ }
+    ensures known { OnOk result (AreKnown old.names new.names
+        (conversions_of request.now.conversions.items)) }
     ensures done { IfOk result (λ ending. AreDoneFor old new request.now.session.workers
         (making_ask_of request.now.session.making) (λ As At.
         RunsUpdate ending (update_ask_of request.now) live.entry
@@ -83,6 +92,10 @@ pub(crate) fn update_on<'a, T: Threads + Wait + Sync, W: Write, S: Store, L: Log
         (HasFailed outputs.new.writer) (CannotKeep (session_ask_of request.now.session) live.entry
         (S.failed (store_of outputs.new.keeper)))) }
 {
+    if let Some(name) = stranger(request, &old, &new) {
+        drop((old, new));
+        return Err(SessionFault::Unknown(name));
+    }
     let asked = &request.session;
     let gates = match gates_of(host, &old, &new, asked) {
         Ok(gates) => gates,
@@ -104,6 +117,16 @@ pub(crate) fn update_on<'a, T: Threads + Wait + Sync, W: Write, S: Store, L: Log
         Ok(ending) => Ok(ending),
         Err(fault) => Err(SessionFault::Failed(fault)),
     }
+}
+
+// The first name of a conversion that its database lacks.
+fn stranger<'a>(request: &UpdateRequest<'a>, old: &Db, new: &Db) -> Option<&'a [u8]>
+    ensures { MatchOption result (AreKnown old.now.names new.now.names
+        (conversions_of request.now.conversions.items))
+        (λ name. IsFirstStranger old.now.names new.now.names
+        (conversions_of request.now.conversions.items) name.now) }
+{
+    first_unknown(request.conversions.as_slice(), old.names(), new.names())
 }
 
 // The gates of both steps. Transitions that are listed as failing on the way down are of the old
@@ -209,7 +232,7 @@ fn update_from<T: Threads + Wait + Sync, W: Write, G: Gate, S: Store, L>(
         (G.gives gates.now.lowers))
         (IsDoneAs request.now.session.workers (G.answers gates.now.raises)
         (G.gives gates.now.raises))
-        request.now.dry request.now.again
+        (conversions_of request.now.conversions.items) request.now.dry request.now.again
         (W.contents (inner_of outputs.old.writer)) (W.contents (inner_of outputs.new.writer))
         from.old new) }
     ensures stopped { IfErr result (λ fault.
@@ -219,7 +242,7 @@ fn update_from<T: Threads + Wait + Sync, W: Write, G: Gate, S: Store, L>(
         (G.gives gates.now.lowers))
         (IsDoneAs request.now.session.workers (G.answers gates.now.raises)
         (G.gives gates.now.raises))
-        request.now.dry request.now.again
+        (conversions_of request.now.conversions.items) request.now.dry request.now.again
         (W.contents (inner_of outputs.old.writer)) (W.contents (inner_of outputs.new.writer))
         from.old new) }
     ensures fault { IfErr result (IsServeFault ⊥ (HasFailed outputs.new.writer)
@@ -227,7 +250,13 @@ fn update_from<T: Threads + Wait + Sync, W: Write, G: Gate, S: Store, L>(
         × S.failed (store_of outputs.new.keeper))) }
 {
     let bound = from.journal().bound();
-    let update = match update_of(host.alloc, from, &new, request.again) {
+    let update = match update_of(
+        host.alloc,
+        from,
+        &new,
+        request.conversions.as_slice(),
+        request.again,
+    ) {
         Ok(update) => update,
         Err(_) => {
             drop(new);
@@ -267,9 +296,9 @@ fn session_of(alloc: Global, db: Db, live: Set, bound: u32) -> Result<Session, N
     Session::resume(db, Line::with_bound(alloc, live, table, bound))
 }
 
-// The line of a step: the change of these names or, where it is only shown, its plan. It has the
-// greatest limit that there is, so that it can be called off.
-fn step_line(alloc: Global, dry: bool, mode: Mode, names: Vec<String>) -> SessionLine
+/// The line of a step: the change of these names or, where it is only shown, its plan. It has the
+/// greatest limit that there is, so that it can be called off.
+pub(crate) fn step_line(alloc: Global, dry: bool, mode: Mode, names: Vec<String>) -> SessionLine
     ensures says { saying_of result ≡ step_by dry (step_ask mode (map string_bytes names.items)) }
 {
     let request = step_request(mode, names);

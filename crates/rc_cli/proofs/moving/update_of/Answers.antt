@@ -4,8 +4,9 @@ use Rattle.rc_model.specs.Names.{Has}
 use Rattle.rc_model.specs.Graph.{IsClosed}
 use Rattle.rc_model.specs.Database.{Database}
 use Rattle.rc_line.specs.Opening.{Journal}
-use Rattle.rc_select.specs.Carrying.{AreNamesOf, Carried}
+use Rattle.rc_update.specs.Carrying.{AreNamesOf, Carried}
 use Rattle.rc_session.proofs.States.{current_state}
+use Rattle.rc_update.specs.Conversions.{conversions_of}
 use Rattle.rc_cli.specs.Updating.{IsWantedUp, parts_of}
 use Rattle.rc_cli.proofs.WantedLemmas.{carried_names, moves, same_set}
 use Rattle.rc_cli.proofs.moving.update_of.Goals as goal
@@ -24,14 +25,16 @@ returns-then-not-again-clause-update c =
     let is_live = c.live.ensures
     ∙ ap (λ (j : Journal). j.line.current.live) c.journal.ensures.journal in
     let raise = carried_names c.args.from.now.database c.db.result.now c.args.new.now
-    (Has c.live.result.now) (IsWantedUp false line)
+    (conversions_of c.args.list.now) (Has c.live.result.now) (IsWantedUp false line)
     (map string_bytes c.in_ok-update.update.raise.items) c.db.ensures.db
     (same_set c.live.result.now line.current.live is_live) c.in_ok-update.ensures.raise in
-    moves c.args.from.now.database c.db.result.now c.args.new.now c.live.result.now c.args.again
+    moves c.args.from.now.database c.db.result.now c.args.new.now
+    (conversions_of c.args.list.now) c.live.result.now c.args.again
     line (parts_of c.in_ok-update.update) c.db.ensures.db is_live c.in_ok-update.ensures.lower
     c.in_ok-update.ensures.kept c.in_ok-update.ensures.bound
     (subst (λ (b : Bool). AreNamesOf c.args.new.now
-    (Carried c.args.from.now.database c.args.new.now (IsWantedUp b line))
+    (Carried c.args.from.now.database c.args.new.now (conversions_of c.args.list.now)
+    (IsWantedUp b line))
     (map string_bytes c.in_ok-update.update.raise.items)) (sym c.if-not-again.true) raise)
 
 pub returns-clause-update : goal.returns-clause-update
@@ -39,9 +42,11 @@ returns-clause-update c =
     let line = c.args.from.now.line in
     let is_live = c.live.ensures
     ∙ ap (λ (j : Journal). j.line.current.live) c.journal.ensures.journal in
-    moves c.args.from.now.database c.db.result.now c.args.new.now c.live.result.now c.args.again
+    moves c.args.from.now.database c.db.result.now c.args.new.now
+    (conversions_of c.args.list.now) c.live.result.now c.args.again
     line _ c.db.ensures.db is_live c.in_ok-update.ensures.lower
     c.in_ok-update.ensures.kept c.in_ok-update.ensures.bound
     (subst (λ (b : Bool). AreNamesOf c.args.new.now
-    (Carried c.args.from.now.database c.args.new.now (IsWantedUp b line))
+    (Carried c.args.from.now.database c.args.new.now (conversions_of c.args.list.now)
+    (IsWantedUp b line))
     (map string_bytes c.in_ok-raise.raise.items)) (sym c.if-not-again.false) c.in_ok-raise.ensures)

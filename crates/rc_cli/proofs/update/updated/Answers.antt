@@ -1,5 +1,6 @@
 use Rattle.std.proofs.Common.{inl, inr, refl}
-use Rattle.std.proofs.lemmas.Result.{IfErr-weaker, IfOk-weaker}
+use Rattle.std.proofs.lemmas.Result.{IfErr-weaker}
+use Rattle.rc_cli.proofs.UpdateLemmas.{both_ok}
 use Rattle.rc_cli.proofs.update.updated.Goals as goal
 
 pub returns-in-Err-clause-stopped : goal.returns-in-Err-clause-stopped
@@ -9,14 +10,15 @@ pub returns-in-Ok-spelled-clause-done : goal.returns-in-Ok-spelled-clause-done
 returns-in-Ok-spelled-clause-done g c =
     let old = c.in-Ok.ensures.spelled in
     let new = c.in-Ok-spelled.ensures.spelled in
-    IfOk-weaker c.update_on.result _ _
-    (λ ending run. record {
+    both_ok c.update_on.result _ _ _
+    (λ ending run known. record {
       from = c.in-Ok.from;
       to = c.in-Ok-spelled.to;
       old_spelled = (old.0, old.1, old.2, refl);
       new_spelled = (new.0, new.1, new.2, refl);
+      known = known;
       run = run;
-    }) c.update_on.ensures.done
+    }) c.update_on.ensures.done c.update_on.ensures.known
 
 pub returns-in-Ok-spelled-clause-stopped : goal.returns-in-Ok-spelled-clause-stopped
 returns-in-Ok-spelled-clause-stopped g c =

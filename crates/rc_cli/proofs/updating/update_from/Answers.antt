@@ -11,8 +11,11 @@ use Rattle.rc_asked.specs.SessionAsked.{session_ask_of}
 use Rattle.rc_serve.specs.Ending.{IsDoneAs}
 use Rattle.rc_session.proofs.States.{current_state}
 use Rattle.rc_sessions.specs.Storing.{store_of}
+use Rattle.rc_update.specs.Conversions.{conversions_of}
 use Rattle.rc_cli.specs.Updating.{Parts, carried_line, parts_of, session_with, step_ask}
-use Rattle.rc_cli.proofs.UpdateLemmas.{journal_bound, line_bound, says_eventless, stands_closed, update_ends, update_stops, with_bound}
+use Rattle.rc_cli.proofs.UpdateLemmas.{journal_bound, line_bound, says_eventless, stands_closed}
+use Rattle.rc_cli.proofs.UpdateLemmas.{update_ends, update_stops, with_bound}
+use Rattle.rc_cli.proofs.UpdateLemmas.{update_with}
 use Rattle.rc_cli.proofs.updating.update_from.Goals as goal
 
 pub returns-clause-done : goal.returns-clause-done
@@ -26,11 +29,16 @@ returns-clause-done g c =
     (g.G.Gate.gives c.args.gates.now.lowers))
     (IsDoneAs c.args.request.now.session.workers (g.G.Gate.answers c.args.gates.now.raises)
     (g.G.Gate.gives c.args.gates.now.raises))
-    c.args.request.now.dry c.args.request.now.again (Said (saying_of c.step_line-lowering.result))
+    (conversions_of c.args.request.now.conversions.items) c.args.request.now.dry
+    c.args.request.now.again (Said (saying_of c.step_line-lowering.result))
     (Said (saying_of c.step_line-raising.result))
     (g.W.Write.contents (inner_of c.args.outputs.now.writer)) _ c.args.from.now
     c.in-Ok-session_of.to c.args.new parts
-    c.serve_both-ended.result c.in-Ok.ensures.update there
+    c.serve_both-ended.result
+    (update_with c.args.from.now.database c.args.new c.as_slice.result.now
+    c.args.request.now.conversions.items c.args.request.now.again c.args.from.now.line parts
+    c.as_slice.ensures.value c.in-Ok.ensures.update)
+    there
     (ap Said c.step_line-lowering.ensures.says) (ap Said c.step_line-raising.ensures.says)
     c.serve_both-ended.ensures.done
 
@@ -45,11 +53,16 @@ returns-clause-stopped g c =
     (g.G.Gate.gives c.args.gates.now.lowers))
     (IsDoneAs c.args.request.now.session.workers (g.G.Gate.answers c.args.gates.now.raises)
     (g.G.Gate.gives c.args.gates.now.raises))
-    c.args.request.now.dry c.args.request.now.again (Said (saying_of c.step_line-lowering.result))
+    (conversions_of c.args.request.now.conversions.items) c.args.request.now.dry
+    c.args.request.now.again (Said (saying_of c.step_line-lowering.result))
     (Said (saying_of c.step_line-raising.result))
     (g.W.Write.contents (inner_of c.args.outputs.now.writer)) _ c.args.from.now
     c.in-Ok-session_of.to c.args.new parts
-    c.serve_both-ended.result c.in-Ok.ensures.update there
+    c.serve_both-ended.result
+    (update_with c.args.from.now.database c.args.new c.as_slice.result.now
+    c.args.request.now.conversions.items c.args.request.now.again c.args.from.now.line parts
+    c.as_slice.ensures.value c.in-Ok.ensures.update)
+    there
     (ap Said c.step_line-lowering.ensures.says) (ap Said c.step_line-raising.ensures.says)
     c.serve_both-ended.ensures.stopped
 

@@ -13,13 +13,20 @@ use Rattle.rc_sessions.proofs.LaunchLemmas.{past_found}
 use Rattle.rc_sessions.proofs.SessionLemmas.{fault_wider}
 use Rattle.rc_cli.specs.Updating.{EndsUpdate, making_on}
 use Rattle.rc_cli.specs.UpdateEnds.{StopsUpdate}
-use Rattle.rc_cli.proofs.UpdateLemmas.{begin_unready, begun_closed, from_start, gates_unready, past_gates}
+use Rattle.rc_cli.proofs.UpdateLemmas.{begin_unready, begun_closed, from_start, gates_unready}
+use Rattle.rc_cli.proofs.UpdateLemmas.{past_gates}
 use Rattle.rc_cli.proofs.updating.update_on.Goals as goal
+
+pub returns-in-Some-clause-stopped : goal.returns-in-Some-clause-stopped
+returns-in-Some-clause-stopped g c = inl (inl c.in-Some.ensures, refl, refl)
+
+pub returns-in-Ok-ended-clause-known : goal.returns-in-Ok-ended-clause-known
+returns-in-Ok-ended-clause-known g c = c.in_default.ensures
 
 pub returns-in-Err-clause-stopped : goal.returns-in-Err-clause-stopped
 returns-in-Err-clause-stopped g c = inl (
-  gates_unready c.in-Err.fault (session_ask_of c.args.request.now.session) c.args.live
-      c.args.old c.args.new c.in-Err.ensures.fault,
+  gates_unready c.in-Err.fault (update_ask_of c.args.request.now) c.args.live
+      c.args.old c.args.new c.in_default.ensures c.in-Err.ensures.fault,
   refl,
   refl,
 )
@@ -28,8 +35,8 @@ pub returns-in-Err-begin-clause-stopped : goal.returns-in-Err-begin-clause-stopp
 returns-in-Err-begin-clause-stopped g c =
     let making = making_ask_of c.args.request.now.session.making in
     let made = c.in-Ok.ensures.made in inl (
-      begin_unready c.in-Err-begin.fault (session_ask_of c.args.request.now.session) c.args.live
-          c.args.old c.args.new (
+      begin_unready c.in-Err-begin.fault (update_ask_of c.args.request.now) c.args.live
+          c.args.old c.args.new c.in_default.ensures (
             past_found c.args.old (making_on Lower making) c.in-Ok.gates.lowers made.0,
             past_found c.args.new (making_on Raise making) c.in-Ok.gates.raises made.1,
           )
@@ -53,7 +60,8 @@ returns-in-Ok-ended-clause-done g c =
     c.in-Ok.gates.lowers c.in-Ok.gates.raises _ c.in-Ok.ensures.made.0 c.in-Ok.ensures.made.1
     (from_start c.args.old ask.session.bound (file_named ask.session.live c.args.live)
     c.in-Ok-begin.from
-    (λ (h : Holding). EndsUpdate c.in-Ok-ended.ending ask.session.live was is As At ask.dry
+    (λ (h : Holding). EndsUpdate c.in-Ok-ended.ending ask.session.live was is As At
+    ask.conversions ask.dry
     ask.again written gained h c.args.new)
     c.in-Ok-begin.ensures.begun c.in-Ok-ended.ensures.done)
 
@@ -77,7 +85,8 @@ returns-in-Err-ended-clause-stopped g c =
           c.in-Ok.ensures.made.1
           (from_start c.args.old ask.session.bound (file_named ask.session.live c.args.live)
           c.in-Ok-begin.from
-          (λ (h : Holding). StopsUpdate c.in-Err-ended.fault ask.session.live was is As At ask.dry
+          (λ (h : Holding). StopsUpdate c.in-Err-ended.fault ask.session.live was is As At
+          ask.conversions ask.dry
           ask.again written gained h c.args.new)
           c.in-Ok-begin.ensures.begun c.in-Err-ended.ensures.stopped),
     )

@@ -1,0 +1,82 @@
+-- What `seal` makes of a session: a line of its current state alone.
+use Rattle.std.specs.Prelude.{◌≡◌, ◌⊎◌, ℕ, List, [], Option, Some}
+use Rattle.std.specs.Io.KnownBytes.{Appends}
+use Rattle.rc_model.specs.Database.{Database}
+use Rattle.rc_model.specs.Line.{Line}
+use Rattle.rc_session.specs.Holding.{Holding}
+use Rattle.rc_render.specs.Names.{ok_line}
+use Rattle.rc_streams.specs.Input.{AppendsFront}
+use Rattle.rc_serve.specs.declared.ending.Ending.{Ending}
+use Rattle.rc_serve.specs.declared.ending.Ending.TheVariants.{Done}
+use Rattle.rc_serve.specs.declared.fault.ServeFault.{ServeFault}
+use Rattle.rc_serve.specs.declared.fault.ServeFault.TheVariants.{Write}
+use Rattle.rc_serve.specs.Faults.{IsServeFault}
+use Rattle.rc_base.specs.Base.{Spells}
+use Rattle.rc_sessions.specs.Filing.{BeginsBy}
+use Rattle.rc_sessions.specs.Serving.{IsOfFile, session_on}
+use Rattle.rc_sessions.specs.SessionFaults.{EndsAs, IsFileFault, IsUnspelled}
+use Rattle.rc_sessions.specs.Storing.{HoldsText}
+use Rattle.rc_sessions.specs.declared.keeping.LiveFile.{LiveFile}
+use Rattle.rc_sessions.specs.declared.session_fault.SessionFault.{SessionFault}
+use Rattle.rc_sessions.specs.declared.session_fault.SessionFault.TheVariants.{Failed}
+
+-- the current state alone of a line, under the same bound: there is nothing to undo or redo
+abbrev pub sealed : Line → Line
+sealed line = record { before = []; current = line.current; after = []; bound = line.bound }
+
+-- a session has the current state alone of the line with which the session of a file begins
+abbrev pub IsSealedBy : Database → (bound : ℕ) → LiveFile → Holding → Type 0
+IsSealedBy d bound file session =
+    (start : Line) × BeginsBy d bound file start × (session ≡ session_on d (sealed start))
+
+-- a session on a database was sealed: its file holds the current state alone, and that it is done
+-- was answered
+pub record Seals (d : Database) (bound : ℕ) (file : LiveFile)
+    (is written gained : Option (List ℕ)) : Type 0 where
+  pub start : Line
+  pub begins : BeginsBy d bound file start
+  pub kept : HoldsText is d (sealed start)
+  pub told : Appends written gained ok_line
+
+-- a fault came where a line of states was to be kept: nothing was written, and the store is as it
+-- was or holds its text; or where the answer was written, which comes after that
+abbrev pub StopsKeeping : ServeFault → Database → Line → (was is written gained : Option (List ℕ))
+    → Type 0
+StopsKeeping fault d line was is written gained =
+    (IsOfFile fault × (gained ≡ written) × ((is ≡ was) ⊎ HoldsText is d line))
+    ⊎ ((fault ≡ Write) × AppendsFront written gained ok_line × HoldsText is d line)
+
+-- why a session on a database is not sealed: its file is refused or can't be read, or out of
+-- memory, with nothing done; or a fault came where it was kept and answered
+abbrev pub StopsSealing : SessionFault → Database → (bound : ℕ) → LiveFile
+    → (was is written gained : Option (List ℕ)) → (writer keeper : Type 0) → Type 0
+StopsSealing fault d bound file was is written gained writer keeper =
+    (IsFileFault file d fault × (gained ≡ written) × (is ≡ was))
+    ⊎ ((why : ServeFault) × (fault ≡ Failed why) × IsServeFault ⊥ writer keeper why
+    × ((start : Line) × BeginsBy d bound file start
+    × StopsKeeping why d (sealed start) was is written gained))
+
+-- a text is that of a database, and the session on it was sealed
+abbrev pub SealsText : Ending → (base : List ℕ) → (bound : ℕ) → LiveFile
+    → (is written gained : Option (List ℕ)) → Type 0
+SealsText ending base bound file is written gained = (ending ≡ Done)
+    × ((d : Database) × Spells (Some base) [] d [] × Seals d bound file is written gained)
+
+-- why there is no answer: the text is that of no database, or out of memory, with nothing done; or
+-- the session on it is not sealed
+abbrev pub FailsSealing : SessionFault → (base : List ℕ) → (bound : ℕ) → LiveFile
+    → (was is written gained : Option (List ℕ)) → (writer keeper : Type 0) → Type 0
+FailsSealing fault base bound file was is written gained writer keeper =
+    (IsUnspelled (Some base) [] fault × (gained ≡ written) × (is ≡ was))
+    ⊎ ((d : Database) × Spells (Some base) [] d []
+    × StopsSealing fault d bound file was is written gained writer keeper)
+
+-- a seal was answered, with the status of how it ended, and nothing told; or a fault is told, of
+-- the writer or of the file only where that one has failed
+abbrev pub SealsAs : (base : List ℕ) → (bound : ℕ) → LiveFile → (status : ℕ)
+    → (was is written gained : Option (List ℕ)) → (writer keeper : Type 0)
+    → (before after : Option (List ℕ)) → Type 0
+SealsAs base bound file status was is written gained writer keeper before after = EndsAs
+    (λ ending. SealsText ending base bound file is written gained)
+    (λ fault. FailsSealing fault base bound file was is written gained writer keeper)
+    status before after

@@ -1,0 +1,402 @@
+//! `status`: where services stand, by the file of a session and, while a command is under way, by
+//! its run log.
+ghost use Rattle.std.specs.Prelude.{◌≡◌, ◌≢◌, ◌<◌, ◌↔◌, ◌++◌, ◌∷◌, ℕ, false, codes, length, map};
+ghost use Rattle.std.specs.Prelude.{string_bytes, IfErr, IfOk, IsTrue, OnOk};
+ghost use Rattle.std.specs.List.{list_any};
+ghost use Rattle.rc_model.specs.Names.{Has, Holds};
+ghost use Rattle.rc_model.specs.Run.{after_end, after_event, after_take};
+ghost use Rattle.rc_render.specs.Lines.{line};
+ghost use Rattle.rc_streams.specs.Noting.{HasFailed, inner_of};
+ghost use Rattle.rc_asked.specs.NamedAsked.{named_ask_of};
+ghost use Rattle.rc_asked.specs.SessionAsked.{session_ask_of};
+ghost use Rattle.rc_sessions.specs.Filing.{file_named};
+ghost use Rattle.rc_cli.specs.Status.{AnswersAt, AnswersStatus, AnswersText, AreOfFile, IsTextOf};
+ghost use Rattle.rc_cli.specs.Status.{IsUnanswered, IsUpAs};
+ghost use Rattle.rc_cli.specs.Status.{TellsStatus, fails, line_of, lines_to, standing_after};
+ghost use Rattle.rc_cli.specs.Status.{standing_word, status_of};
+
+use rc_asked::{NamedRequest, SessionRequest};
+use rc_core::{Event, Outcome, Standing};
+use rc_db::{Db, QueryFault};
+use rc_names::Names;
+use rc_recovery::logged_events;
+use rc_render::refusal_text;
+use rc_serve::ServeFault;
+use rc_session::{Refusal, Session};
+use rc_sessions::{Devices, LiveFile, SessionFault, begin, spelled, tell_ended};
+use rc_set::{NoMem, Set};
+use rc_streams::ending::{DONE, REFUSED};
+use rc_streams::writing::write_answer;
+use std::alloc::{AllocError, Global};
+use std::io::Write;
+
+/// A service that was asked about is not up.
+const NOT_UP: u8 = 3;
+
+/// How `status` ends.
+#[derive(Clone, Copy)]
+pub enum Shown {
+    /// No service was named, or all that were named are up.
+    Up,
+    /// One that was named is not.
+    NotUp,
+    /// A name is none.
+    Refused,
+}
+
+/// An answer, and how `status` ends with it.
+#[derive(Drop)]
+struct StatusAnswer {
+    ending: Shown,
+    text: Vec<u8>,
+}
+
+/// Prints where services stand, and returns the status: 0; 3 where one that was named is not up; 1
+/// where a name is none, or a text is refused; 111 for a failure.
+///
+/// `live` is what stood in the file of the session, and `log` in its run log, read before it: so a
+/// log of the command that has ended since is one of another text, and says nothing.
+pub fn status_as_asked<R, W: Write, F: Write, S>(
+    alloc: Global,
+    request: &NamedRequest<'_>,
+    base: &[u8],
+    live: LiveFile<'_>,
+    log: &[u8],
+    devices: &mut Devices<R, W, F, S>,
+) -> u8
+    requires writer { HasFailed devices.old.outputs.writer → ⊥ }
+    ensures told { TellsStatus base.now (named_ask_of request.now) live.entry log.now result
+        (HasFailed devices.new.outputs.writer)
+        (W.contents (inner_of devices.old.outputs.writer))
+        (W.contents (inner_of devices.new.outputs.writer))
+        (F.contents devices.old.faults) (F.contents devices.new.faults) }
+    ensures unread { devices.new.reader ≡ devices.old.reader }
+    ensures unkept { devices.new.outputs.keeper ≡ devices.old.outputs.keeper }
+{
+    let answer = match text_answer(alloc, request, base, live, log) {
+        Ok(answer) => answer,
+        Err(fault) => return tell_ended(alloc, &mut devices.faults, Err(fault)),
+    };
+    let status = status_of(answer.ending);
+    let written = write_answer(&mut devices.outputs.writer, &answer.text);
+    drop(answer);
+    match written {
+        Ok(()) => status,
+        Err(failure) => {
+            let fault = SessionFault::Failed(ServeFault::from(failure));
+            tell_ended(alloc, &mut devices.faults, Err(fault))
+        }
+    }
+}
+
+// The status of how it ends.
+fn status_of(ending: Shown) -> u8
+    ensures { result ≡ status_of ending }
+{
+    match ending {
+        Shown::Up => DONE,
+        Shown::NotUp => NOT_UP,
+        Shown::Refused => REFUSED,
+    }
+}
+
+// The answer by the text of the database.
+fn text_answer<'a>(
+    alloc: Global,
+    request: &NamedRequest<'_>,
+    base: &[u8],
+    live: LiveFile<'_>,
+    log: &[u8],
+) -> Result<StatusAnswer, SessionFault<'a>>
+    ensures answer { IfOk result (λ answer. AnswersText base.now (named_ask_of request.now)
+        live.entry log.now answer.ending answer.text.items) }
+    ensures none { IfErr result (IsUnanswered base.now (named_ask_of request.now) live.entry) }
+{
+    let db = match spelled(alloc, Some(base), &[]) {
+        Ok((db, _none)) => db,
+        Err(fault) => return Err(fault),
+    };
+    let live = file_named(&request.session, live);
+    let session = match begin(alloc, db, &request.session, live) {
+        Ok(session) => session,
+        Err(fault) => return Err(fault),
+    };
+    let answer = session_answer(alloc, &session, live, log, &request.names);
+    drop(session);
+    match answer {
+        Ok(answer) => Ok(answer),
+        Err(_) => Err(SessionFault::Failed(ServeFault::Memory)),
+    }
+}
+
+// What stood in the file that is named. Where none is, nothing did.
+fn file_named<'a>(request: &SessionRequest<'_>, live: LiveFile<'a>) -> LiveFile<'a>
+    ensures { result ≡ file_named (session_ask_of request.now).live live.entry }
+{
+    match request.live {
+        Some(_) => live,
+        None => LiveFile::Missing,
+    }
+}
+
+// The answer from where a session stands, and what its run log says.
+fn session_answer(
+    alloc: Global,
+    session: &Session,
+    live: LiveFile<'_>,
+    log: &[u8],
+    names: &[String],
+) -> Result<StatusAnswer, NoMem>
+    requires closed { session.now.begun ≡ false }
+    ensures { IfOk result (λ answer. AnswersAt session.now.database session.now.line live.entry
+        log.now (map string_bytes names.now) answer.ending answer.text.items) }
+{
+    let events = events_of(alloc, session.db(), live, log)?;
+    let answer = answer_after(alloc, session, &events, names);
+    drop(events);
+    answer
+}
+
+// What the run log beside a file says.
+fn events_of(alloc: Global, db: &Db, live: LiveFile<'_>, log: &[u8]) -> Result<Vec<Event>, NoMem>
+    ensures { IfOk result (λ events. AreOfFile db.now live.entry log.now events.items) }
+{
+    match live {
+        LiveFile::Text(bytes) => logged_events(alloc, db.names(), bytes, log),
+        LiveFile::Missing | LiveFile::Unread(_) => Ok(Vec::new(alloc)),
+    }
+}
+
+// The answer from where a session stands, after these events.
+fn answer_after(
+    alloc: Global,
+    session: &Session,
+    events: &[Event],
+    names: &[String],
+) -> Result<StatusAnswer, NoMem>
+    requires closed { session.now.begun ≡ false }
+    ensures { IfOk result (λ answer. AnswersStatus session.now.database session.now.line events.now
+        (map string_bytes names.now) answer.ending answer.text.items) }
+{
+    let _states = session.journal();
+    if names.is_empty() {
+        return all_answer(alloc, session.db(), session.live(), events);
+    }
+    match session.db().selected(alloc, session.table(), names) {
+        Ok(wanted) => {
+            let answer = wanted_answer(alloc, session.db(), session.live(), &wanted, events);
+            drop(wanted);
+            answer
+        }
+        Err(QueryFault::Unknown(place)) => {
+            let text = refusal_text(alloc, names, Refusal::Unknown(place))?;
+            Ok(StatusAnswer {
+                ending: Shown::Refused,
+                text,
+            })
+        }
+        Err(_) => Err(AllocError),
+    }
+}
+
+// The answer about all services.
+fn all_answer(alloc: Global, db: &Db, live: &Set, events: &[Event]) -> Result<StatusAnswer, NoMem>
+    requires live { length live.now ≡ length db.now.names }
+    ensures { IfOk result (λ answer. (answer.ending ≡ Shown.Up) × IsTextOf db.now live.now
+        events.now (λ s. s < length db.now.names) answer.text.items) }
+{
+    let all = all_of(alloc, db.names())?;
+    let text = lines_of(alloc, db.names(), live, &all, events);
+    drop(all);
+    Ok(StatusAnswer {
+        ending: Shown::Up,
+        text: text?,
+    })
+}
+
+// The answer about the wanted.
+fn wanted_answer(
+    alloc: Global,
+    db: &Db,
+    live: &Set,
+    wanted: &Set,
+    events: &[Event],
+) -> Result<StatusAnswer, NoMem>
+    requires live { length live.now ≡ length db.now.names }
+    requires wanted { length wanted.now ≡ length db.now.names }
+    ensures text { IfOk result (λ answer. answer.text.items ≡ lines_to db.now.names wanted.now
+        live.now events.now (length db.now.names)) }
+    ensures ending { IfOk result (λ answer. IsUpAs answer.ending wanted.now live.now events.now) }
+{
+    let ending = ending_of(live, wanted, events);
+    let text = lines_of(alloc, db.names(), live, wanted, events)?;
+    Ok(StatusAnswer { ending, text })
+}
+
+// All services.
+fn all_of(alloc: Global, names: &Names) -> Result<Set, NoMem>
+    ensures bound { IfOk result (λ all. length all ≡ length names.now) }
+    ensures members { IfOk result (λ all. Holds all (λ s. s < length names.now)) }
+{
+    let mut all = Set::empty(alloc, names.len())?;
+    for id in 0..names.len() {
+        all.insert(id);
+    }
+    Ok(all)
+}
+
+// How it ends where services were named.
+fn ending_of(live: &Set, wanted: &Set, events: &[Event]) -> Shown
+    requires { length live.now ≡ length wanted.now }
+    ensures { IsUpAs result wanted.now live.now events.now }
+{
+    for id in 0..wanted.bound() {
+        if wanted.contains(id) && !is_up(live.contains(id), events, id) {
+            return Shown::NotUp;
+        }
+    }
+    Shown::Up
+}
+
+// Whether a service is up, and no transition of it failed.
+fn is_up(live: bool, events: &[Event], s: u16) -> bool
+    ensures { IsTrue result ↔ (standing_word (list_any (fails s) events.now)
+        (standing_after live events.now s) ≡ codes "up") }
+{
+    word_of(live, events, s) == b"up".as_slice()
+}
+
+// The lines of the wanted.
+fn lines_of(
+    alloc: Global,
+    names: &Names,
+    live: &Set,
+    wanted: &Set,
+    events: &[Event],
+) -> Result<Vec<u8>, NoMem>
+    requires live { length live.now ≡ length names.now }
+    requires bound { length wanted.now ≡ length names.now }
+    ensures { IfOk result (λ text. text.items ≡ lines_to names.now wanted.now
+        live.now events.now (length names.now)) }
+{
+    let mut text = Vec::new(alloc);
+    for id in 0..names.len() {
+        add_service(&mut text, names, id, live, wanted, events)?;
+    }
+    Ok(text)
+}
+
+// Appends the line of a service, where it is wanted.
+fn add_service(
+    text: &mut Vec<u8>,
+    names: &Names,
+    id: u16,
+    live: &Set,
+    wanted: &Set,
+    events: &[Event],
+) -> Result<(), NoMem>
+    requires id { id < length names.now }
+    requires live { length live.now ≡ length names.now }
+    requires wanted { length wanted.now ≡ length names.now }
+    ensures { OnOk result (text.new.items ≡ text.old.items
+        ++ line_of names.now wanted.now live.now events.now id) }
+{
+    if !wanted.contains(id) {
+        return Ok(());
+    }
+    let word = word_of(live.contains(id), events, id);
+    add_line(text, names.name_of(id).text().as_bytes(), word)
+}
+
+// Appends a line of two words.
+fn add_line(text: &mut Vec<u8>, name: &[u8], word: &[u8]) -> Result<(), NoMem>
+    ensures { OnOk result (text.new.items ≡ text.old.items ++ line (name.now ++ 32 ∷ word.now)) }
+{
+    text.extend_from_slice(name)?;
+    text.push(b' ')?;
+    text.extend_from_slice(word)?;
+    text.push(b'\n')?;
+    Ok(())
+}
+
+// The word for a service that was live or not before these events.
+fn word_of(live: bool, events: &[Event], s: u16) -> &'static [u8]
+    ensures { result.now ≡ standing_word (list_any (fails s) events.now)
+        (standing_after live events.now s) }
+{
+    standing_word(has_failed(events, s), standing_after(live, events, s))
+}
+
+// Whether a transition of a service failed in these events.
+fn has_failed(events: &[Event], s: u16) -> bool
+    ensures { result ≡ list_any (fails s) events.now }
+{
+    events.iter().any(|event| fails(s, *event))
+}
+
+// The word for a service of which a transition failed or not, and that stands so.
+fn standing_word(failed: bool, standing: Standing) -> &'static [u8]
+    ensures { result.now ≡ standing_word failed standing }
+{
+    match (failed, standing) {
+        (true, _) => b"failed",
+        (false, Standing::Down) => b"down",
+        (false, Standing::Rising) => b"rising",
+        (false, Standing::Up) => b"up",
+        (false, Standing::Sinking) => b"sinking",
+    }
+}
+
+// Whether an event says that a transition of this service has failed.
+fn fails(s: u16, event: Event) -> bool
+    ensures { result ≡ fails s event }
+{
+    match event {
+        Event::Done(_, other, outcome) => other == s && outcome != Outcome::Ok,
+        Event::Take(..) | Event::Stop(..) => false,
+    }
+}
+
+// Where a service stands after these events.
+fn standing_after(live: bool, events: &[Event], s: u16) -> Standing
+    ensures { result ≡ standing_after live events.now s }
+{
+    let mut standing = if live { Standing::Up } else { Standing::Down };
+    for event in events {
+        standing = after_event(s, standing, *event);
+    }
+    standing
+}
+
+// Where a service stands after one event more.
+fn after_event(s: u16, standing: Standing, event: Event) -> Standing
+    ensures { result ≡ after_event s standing event }
+{
+    match event {
+        Event::Take(_, other) if other == s => after_take(standing),
+        Event::Done(_, other, outcome) if other == s => after_end(outcome == Outcome::Ok, standing),
+        _ => standing,
+    }
+}
+
+// Where a service stands once it is taken.
+fn after_take(standing: Standing) -> Standing
+    ensures { result ≡ after_take standing }
+{
+    match standing {
+        Standing::Down => Standing::Rising,
+        Standing::Up => Standing::Sinking,
+        moving => moving,
+    }
+}
+
+// Where a service stands once its transition has ended, with success or without.
+fn after_end(well: bool, standing: Standing) -> Standing
+    ensures { result ≡ after_end well standing }
+{
+    match (standing, well) {
+        (Standing::Rising, true) | (Standing::Sinking, false) => Standing::Up,
+        (Standing::Rising, false) | (Standing::Sinking, true) => Standing::Down,
+        (still, _) => still,
+    }
+}
