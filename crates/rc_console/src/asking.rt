@@ -1,12 +1,12 @@
 //! `db`, `plan` and `replay`, on the database of a file or at the beginning of standard input.
 use crate::fault_lines::Told;
-use crate::files::{base_at, live_at};
+use crate::files::base_at;
 use crate::hints::{Seen, behind_database, behind_session, tell_file};
 use crate::terminal::Typed;
 use rc_asked::DbRequest;
 use rc_queries::{db_as_asked, plan_as_asked, replay_as_asked};
 use rc_select::Request;
-use rc_streams::Noted;
+use rc_streams::{Noted, whole_file};
 use std::io;
 
 /// Answers a question about a database, and gives the status. A file of a session that is not there
@@ -14,7 +14,7 @@ use std::io;
 pub fn db(rt: &HostRuntime, request: &DbRequest<'_>, file: Option<&str>) -> u8 {
     match base_at(rt, file) {
         Ok(base) => {
-            let live = live_at(rt, request.live);
+            let live = whole_file::read_optional(rt, request.live);
             let status = db_on(rt, request, file, base.as_deref(), &live);
             drop(live);
             drop(base);
@@ -48,7 +48,7 @@ fn db_on(
         &mut told,
     );
     let seen = Seen::new(file, base, typed.kept());
-    behind_session(rt, request.live, live, &seen, &told);
+    behind_session(rt, request.live, live, None, &seen, &told);
     drop(told);
     drop(typed);
     status

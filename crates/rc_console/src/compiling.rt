@@ -1,4 +1,5 @@
 //! `compile`: the database of source directories, on standard output or in a file.
+use crate::exposure::{restrict, warn_of_links};
 use crate::fault_lines::Told;
 use crate::hints;
 use rc_asked::CompileRequest;
@@ -7,6 +8,7 @@ use rc_names::NoMem;
 use rc_source::FolderTree;
 use rc_streams::Noted;
 use rc_streams::replaced_file::replace;
+use std::{fs, io};
 
 /// Compiles source directories, and answers the status.
 pub fn compile(rt: &HostRuntime, request: &CompileRequest<'_>) -> u8 {
@@ -28,24 +30,29 @@ fn compile_trees(
 ) -> u8 {
     let mut told = Told::new(rt.alloc(), rt.stderr());
     let status = match request.output {
-        Some(path) => compile_into(rt, trees, path, &mut told),
+        Some(path) => compile_into(rt, request, trees, path, &mut told),
         None => compile_run(rt.alloc(), trees, &mut Noted::new(rt.stdout()), &mut told),
     };
     hints::behind_compile(rt, request, &told);
+    if status == 0 && libc::geteuid() == 0 {
+        let _ = warn_of_links(rt, &request.sources);
+    }
     drop(told);
     status
 }
 
-/// Puts the database into a file, which is left alone where there is none.
+/// Puts the database into a file, which is left alone where there is none, and may be read by
+/// nobody who may not read the sources.
 fn compile_into(
     rt: &HostRuntime,
+    request: &CompileRequest<'_>,
     trees: &mut [FolderTree<HostRuntime>],
     path: &str,
-    told: &mut Told<std::io::Stderr>,
+    told: &mut Told<io::Stderr>,
 ) -> u8 {
     match text_of(rt.alloc(), trees) {
         Ok(text) => {
-            let replaced = replace(rt, path, &text);
+            let replaced = replace_restricted(rt, request, path, &text);
             drop(text);
             match replaced {
                 Ok(()) => 0,
@@ -54,6 +61,21 @@ fn compile_into(
         }
         Err(fault) => tell_trees(rt.alloc(), told, &fault),
     }
+}
+
+/// Replaces the file, which may be read by nobody who may not read the sources.
+fn replace_restricted(
+    rt: &HostRuntime,
+    request: &CompileRequest<'_>,
+    path: &str,
+    text: &[u8],
+) -> io::Result<()> {
+    let is_made = restrict(rt, &request.sources, path)?;
+    let replaced = replace(rt, path, text);
+    if is_made && replaced.is_err() {
+        let _ = fs::remove_file(rt, path);
+    }
+    replaced
 }
 
 /// Adds the trees of directories. Nothing is read yet.

@@ -105,45 +105,50 @@ fn hint_on(rt: &HostRuntime, seen: &Seen<'_>, word: &str, rest: &str) -> Hint {
     }
 }
 
-/// What helps after what a session told: of the file of `-l`, with what was read there, or of its
-/// database.
+/// What helps after what a session told: of the file of `-l`, with what was read there and why it
+/// could not be written, or of its database.
 pub fn behind_session(
     rt: &HostRuntime,
     live: Option<&str>,
     text: &io::Result<Option<Vec<u8>>>,
+    unwritten: Option<&io::Error>,
     seen: &Seen<'_>,
     told: &ToldErrors,
 ) {
-    if let (Some(path), Ok(Some((word, rest)))) = (live, told.fault()) {
-        if tell_found(rt, HINT, behind_live(rt, path, text, seen, word, rest)) {
+    if let (Some(path), Ok(Some(fault))) = (live, told.fault()) {
+        let hint = match (fault.0, unwritten) {
+            ("Io", Some(error)) => unwritten_hint(rt, path, error),
+            _ => behind_live(rt, path, text, seen, fault),
+        };
+        if tell_found(rt, HINT, hint) {
             return;
         }
     }
     behind_database(rt, seen, told);
 }
 
-/// What helps where the file of `-l` can't be read or written, or its text is refused, which is
-/// looked at after the database.
+/// What helps where the file of `-l` could not be written.
+fn unwritten_hint(rt: &HostRuntime, path: &str, error: &io::Error) -> Hint {
+    let what = word_of(error.kind());
+    Ok(Some(format!(in rt.alloc(); "{path} can't be replaced by {path}.new: {what}")?))
+}
+
+/// What helps where the file of `-l` can't be read, or its text is refused, which is looked at after
+/// the database.
 fn behind_live(
     rt: &HostRuntime,
     path: &str,
     text: &io::Result<Option<Vec<u8>>>,
     seen: &Seen<'_>,
-    word: &str,
-    rest: &str,
+    fault: (&str, &str),
 ) -> Hint {
+    let (word, rest) = fault;
     match text {
         Err(error) if word == "Io" => {
             let what = word_of(error.kind());
             Ok(Some(format!(in rt.alloc(); "{path}: {what}")?))
         }
-        Ok(_) if word == "Io" => {
-            let hint = format!(in rt.alloc();
-                "{path}: it can't be replaced, by {path}.new in the same directory"
-            )?;
-            Ok(Some(hint))
-        }
-        Ok(Some(bytes)) => match seen.is_good(rt) {
+        Ok(Some(bytes)) if word != "Io" => match seen.is_good(rt) {
             Ok(true) => live_hint(rt.alloc(), path, bytes, word, rest),
             Ok(false) => Ok(None),
             Err(fault) => Err(fault),

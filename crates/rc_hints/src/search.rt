@@ -7,9 +7,13 @@ use rc_names::NoMem;
 use std::alloc::Global;
 use std::fs::{self, Files};
 use std::io::{self, Read};
+use std::os::unix::fs::PermissionsExt;
 
 /// The most bytes that a file may have.
 pub(crate) const MAX_FILE: usize = 65536;
+
+/// The rights to run a file, of its owner, its group and all others.
+const MAY_RUN: u32 = 0o111;
 
 /// Source directories, and what is said of what stands in them.
 #[derive(Drop)]
@@ -92,6 +96,20 @@ impl<'a> Search<'a> {
         match bytes {
             Some(bytes) => bytes,
             None => Vec::new(self.said.alloc),
+        }
+    }
+
+    /// Whether somebody may run a file of an entry.
+    pub(crate) fn is_executable(&mut self, entry: &Entry<'_, '_>, file: &str) -> bool {
+        let path = self.said.file_path(entry, file);
+        let found = self.rt.metadata(path.as_str());
+        drop(path);
+        match found {
+            Ok(found) => found.is_file() && found.permissions().mode() & MAY_RUN != 0,
+            Err(error) => {
+                self.said.note_error(&error);
+                false
+            }
         }
     }
 

@@ -1,6 +1,7 @@
 //! What a person may think is looked at, and is not.
 use crate::entries::{Entry, Sources, without_slash};
 use crate::entry_flaws::add_mistaken;
+use crate::listed::{name_at, text_of};
 use crate::places::{line_at, offset_of};
 use crate::said::Hint;
 use crate::search::Search;
@@ -51,9 +52,9 @@ pub fn looks_like_entry(sources: &Sources<'_>) -> Hint {
     search.said.hint()
 }
 
-/// Notes about the entries: which files are not looked at, which texts have a carriage return, and
-/// which bundles have no contents. Each but the first stands on a line of its own, behind the word
-/// `undorc: `.
+/// Notes about the entries: which files are not looked at, which texts have a carriage return, which
+/// ends of pipelines get no pipe, and which bundles have no contents. Each but the first stands on a
+/// line of its own, behind the word `undorc: `.
 pub fn unread_files(sources: &Sources<'_>) -> Hint {
     let mut search = sources.search();
     add_all(&mut search);
@@ -86,6 +87,9 @@ fn add_notes(search: &mut Search<'_>, entry: &Entry<'_, '_>) {
             is_empty = false;
         }
         add_note(search, entry, file);
+        if matches!(file, "producer-for" | "consumer-for") {
+            add_unjoined(search, entry, file);
+        }
     }
     drop(files);
     if is_empty {
@@ -112,5 +116,18 @@ fn add_note(search: &mut Search<'_>, entry: &Entry<'_, '_>, file: &str) {
         search.said.begin_line(NOTE);
         search.said.add_file(entry, file);
         search.said.add(" is not looked at");
+    }
+}
+
+/// Adds the note about an end of a pipeline that gets no pipe: its `run` opens the pipe, and is not
+/// executable.
+fn add_unjoined(search: &mut Search<'_>, entry: &Entry<'_, '_>, file: &str) {
+    let list = search.file(entry, file);
+    let names = name_at(text_of(&list), 0).is_some();
+    drop(list);
+    if names && entry.kind == Some(Kind::Longrun) && !search.is_executable(entry, "run") {
+        search.said.begin_line(NOTE);
+        search.said.add_file(entry, file);
+        search.said.add(" is not joined (run is not executable)");
     }
 }

@@ -1,3 +1,4 @@
+-- What `plan` writes and refuses for a spelled database, from the calls that it makes.
 use Rattle.std.proofs.Common.{◌≡◌, ℕ, List, Option, None, Some, IfSome, inr, sym, subst, Result, Ok, Err, IfErr}
 use Rattle.std.specs.Result.{IsErrAnd}
 use Rattle.rc_model.specs.Database.{Database}

@@ -1,3 +1,4 @@
+-- Words that are to be names of services, and what refuses them.
 use Rattle.std.specs.Prelude.{◌≡◌, ◌==◌, nat_lt, ℕ, List, ◌∷◌, ◌++◌, Some, slice_get, length, All, Contains, filter}
 use Rattle.std.specs.List.{slice_split}
 use Rattle.rc_queries.specs.declared.named.NamedFault.{NamedFault}

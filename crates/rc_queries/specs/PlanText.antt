@@ -1,3 +1,4 @@
+-- What `plan` writes: the plan in a database where the given services are up.
 use Rattle.std.specs.Prelude.{◌≡◌, ℕ, List, Bool, Option, Some, length}
 use Rattle.rc_model.specs.Names.{Has, Holds}
 use Rattle.rc_model.specs.Graph.{IsClosed}

@@ -4,25 +4,25 @@
 ghost use Rattle.std.specs.Prelude.{IfOk};
 ghost use Rattle.rc_asked.specs.Task.{IsEventless};
 
-mod live_files;
+mod commands;
+mod history;
+mod notes;
 mod own_name;
-mod sessions;
 mod stopping;
 mod updates;
 mod usual;
 
-use crate::own_name::OwnName;
-use crate::sessions::serve;
+use crate::commands::carry_out;
+use crate::own_name::words;
 use crate::stopping::stop;
 use crate::updates::update;
-use crate::usual::{Usual, usual_at};
+use crate::usual::{UsualTexts, usual_at};
 use log::error;
 use rc_asked::{Task, WordsFault, asks_help, task_of, tell_words};
 use rc_console::{compile, db, plan, replay, tell_failure};
-use rc_sessions::Service;
+use rc_launch::Work;
 use rc_streams::messages::{MESSAGE, Messages};
 use std::alloc::Global;
-use std::env;
 use std::io::{self, ErrorKind};
 use std::process::ExitCode;
 
@@ -38,35 +38,33 @@ fn main(rt: HostRuntime) -> ExitCode {
             Ok(Task::Db(request, file)) => db(&rt, &request, file),
             Ok(Task::Plan(request, file)) => plan(&rt, &request, file),
             Ok(Task::Replay(file)) => replay(&rt, file),
-            Ok(Task::Session(request, file)) => serve(&rt, &rt, &request, Service::Lines, file),
-            Ok(Task::Once(request, file)) => {
-                let service = Service::Line(&request.once);
-                serve(&rt, &rt, &request.session, service, file)
-            }
+            Ok(Task::Session(request, file)) => carry_out(&rt, &rt, Work::Lines(request, file)),
+            Ok(Task::Once(request, file)) => carry_out(&rt, &rt, Work::Line(request, file)),
             Ok(Task::Update(request, file)) => update(&rt, &rt, request, file),
+            Ok(Task::Restart(request, file)) => carry_out(&rt, &rt, Work::Restart(request, file)),
+            Ok(Task::Seal(request, file)) => carry_out(&rt, &rt, Work::Seal(request, file)),
+            Ok(Task::Status(request, file)) => carry_out(&rt, &rt, Work::Status(request, file)),
             Ok(Task::Stop(file)) => stop(&rt, file),
             Ok(Task::Version) => version(&rt),
             Err(fault) if asks_help(&fault) => tell_words(&mut rt.stdout(), &fault),
             Err(fault) => tell_words(&mut rt.stderr(), &fault),
         },
         (Err(error), _) => tell(&rt, "a word of the command line", &error),
-        (_, Err(error)) => tell(&rt, "UNDORC_DB or UNDORC_LIVE", &error),
+        (_, Err(error)) => tell(&rt, "a variable of the environment", &error),
     };
     ExitCode::from(status)
 }
 
-/// The words of the command line, the first of them the program's own name.
-fn words(rt: &HostRuntime) -> io::Result<Vec<String>> {
-    let words = env::args(&(OwnName::new(rt), rt.alloc()))?;
-    Ok(words.collect(rt.alloc())?)
-}
-
 /// What the words ask, with these files where they name none.
-fn task_by<'a>(alloc: Global, words: &'a [String], usual: &'a Usual) -> Result<Task<'a>, WordsFault>
+fn task_by<'a>(
+    alloc: Global,
+    words: &'a [String],
+    usual: &'a UsualTexts,
+) -> Result<Task<'a>, WordsFault>
     ensures { IfOk result IsEventless }
 {
     match task_of(alloc, words) {
-        Ok(task) => Ok(task.with_usual(usual.base(), usual.live())),
+        Ok(task) => task.with_usual(usual.texts()),
         Err(fault) => Err(fault),
     }
 }

@@ -1,5 +1,7 @@
-//! The program's own name as its first word. The path by which it was started need not be a text.
-use std::env::{Env, FillError};
+//! The words of the command line, with the program's own name as the first. The path by which it was
+//! started need not be a text.
+use std::env::{self, Env, FillError};
+use std::io;
 
 const NAME: &[u8] = b"undorc";
 
@@ -36,4 +38,10 @@ impl<E: Env> Env for OwnName<'_, E> {
     fn var_at(&self, i: usize, buf: &mut [u8]) -> Result<usize, FillError> {
         self.rest.var_at(i, buf)
     }
+}
+
+/// The words of the command line, the first of them the program's own name.
+pub fn words(rt: &HostRuntime) -> io::Result<Vec<String>> {
+    let words = env::args(&(OwnName::new(rt), rt.alloc()))?;
+    Ok(words.collect(rt.alloc())?)
 }

@@ -1,32 +1,38 @@
-//! The files of `-b` and `-l` where the words name none: the
-//! environment's UNDORC_DB and UNDORC_LIVE.
+//! The files of `-b` and `-l`, and the programs of `-r` and `-c`, where the words name none: the
+//! environment's UNDORC_DB, UNDORC_LIVE, UNDORC_RUNNER and UNDORC_CONTROLLER.
+use rc_asked::Usual;
 use std::env::{self, VarError};
 use std::io::{self, ErrorKind};
 
-/// The files that the environment names. A variable that is empty names none.
+/// What the environment names. A variable that is empty names nothing.
 #[derive(Drop)]
-pub struct Usual {
+pub struct UsualTexts {
     base: Option<String>,
     live: Option<String>,
+    runner: Option<String>,
+    controller: Option<String>,
 }
 
-impl Usual {
-    /// The file of `-b`, if one is named.
-    pub fn base(&self) -> Option<&str> {
-        self.base.as_deref()
-    }
-
-    /// The file of `-l`, if one is named.
-    pub fn live(&self) -> Option<&str> {
-        self.live.as_deref()
+impl UsualTexts {
+    /// The texts that it names.
+    pub fn texts(&self) -> Usual<'_> {
+        Usual {
+            base: self.base.as_deref(),
+            live: self.live.as_deref(),
+            runner: self.runner.as_deref(),
+            controller: self.controller.as_deref(),
+        }
     }
 }
 
-/// The files that the environment names.
-pub fn usual_at(rt: &HostRuntime) -> io::Result<Usual> {
-    let base = named_in(rt, "UNDORC_DB")?;
-    let live = named_in(rt, "UNDORC_LIVE")?;
-    Ok(Usual { base, live })
+/// What the environment names.
+pub fn usual_at(rt: &HostRuntime) -> io::Result<UsualTexts> {
+    Ok(UsualTexts {
+        base: named_in(rt, "UNDORC_DB")?,
+        live: named_in(rt, "UNDORC_LIVE")?,
+        runner: named_in(rt, "UNDORC_RUNNER")?,
+        controller: named_in(rt, "UNDORC_CONTROLLER")?,
+    })
 }
 
 /// What a variable of the environment names.

@@ -1,0 +1,116 @@
+//! Who may read what sources say, and which of them stand elsewhere.
+
+use log::warn;
+use rc_streams::messages::{MESSAGE, Messages};
+use std::fs::{self, File, Permissions};
+use std::io::{self, ErrorKind};
+use std::os::unix::fs::{OpenOptionsExt, PermissionsExt};
+
+/// The rights to read: of the owner, of the group, and of all others.
+const READING: u32 = 0o444;
+
+/// The files of a service or a bundle whose bytes, or what they name, come into a database.
+const READ: [&str; 5] = ["contents", "dependencies", "down", "type", "up"];
+
+/// Makes the file at a path, or takes rights from the one that is there, so that nobody may read it
+/// who may not read each of the sources. Where all may be read by all, it is left alone. Returns
+/// whether it was made.
+pub fn restrict(rt: &HostRuntime, sources: &[String], path: &str) -> io::Result<bool> {
+    let mut rights = READING;
+    for source in sources {
+        for entry in fs::read_dir(rt, source.as_str())? {
+            let entry = entry?;
+            rights &= readable_by(rt, entry.path().as_str())?;
+        }
+    }
+    if rights == READING {
+        return Ok(false);
+    }
+    match fs::metadata(rt, path) {
+        Ok(found) if found.is_file() => {
+            let mode = found.permissions().mode() & (rights | !READING);
+            fs::set_permissions(rt, path, Permissions::from_mode(mode))?;
+            Ok(false)
+        }
+        Ok(_) => Ok(false),
+        Err(error) if error.kind() == ErrorKind::NotFound => {
+            make(rt, path, rights)?;
+            Ok(true)
+        }
+        Err(error) => Err(error),
+    }
+}
+
+/// Makes an empty file that may be read by these, and written by its owner.
+fn make(rt: &HostRuntime, path: &str, rights: u32) -> io::Result<()> {
+    let mut options = File::options();
+    options.write(true).create_new(true).mode(0o200 | rights);
+    drop(options.open(rt, path)?);
+    Ok(())
+}
+
+/// Who may read each file of an entry that comes into a database.
+fn readable_by(rt: &HostRuntime, entry: &str) -> io::Result<u32> {
+    let mut rights = READING;
+    for file in READ {
+        let path = format!(in rt.alloc(); "{entry}/{file}")?;
+        let found = fs::metadata(rt, path.as_str());
+        drop(path);
+        if let Ok(found) = found {
+            if found.is_file() {
+                rights &= found.permissions().mode();
+            }
+        }
+    }
+    Ok(rights)
+}
+
+/// Warns of entries and of their files that are links to somewhere outside of their sources: who
+/// may write there says what runs.
+pub fn warn_of_links(rt: &HostRuntime, sources: &[String]) -> io::Result<()> {
+    for source in sources {
+        let root = fs::canonicalize(rt, source.as_str())?;
+        for entry in fs::read_dir(rt, source.as_str())? {
+            let entry = entry?;
+            warn_of_entry(rt, root.as_str(), entry.path().as_str())?;
+        }
+        drop(root);
+    }
+    Ok(())
+}
+
+/// Warns of an entry and of its files.
+fn warn_of_entry(rt: &HostRuntime, root: &str, entry: &str) -> io::Result<()> {
+    warn_of(rt, root, entry)?;
+    for file in READ {
+        let path = format!(in rt.alloc(); "{entry}/{file}")?;
+        let warned = warn_of(rt, root, path.as_str());
+        drop(path);
+        warned?;
+    }
+    Ok(())
+}
+
+/// Warns of a path, if a link stands there that leads out of a directory.
+fn warn_of(rt: &HostRuntime, root: &str, path: &str) -> io::Result<()> {
+    match fs::symlink_metadata(rt, path) {
+        Ok(found) if found.is_symlink() => {
+            let target = fs::canonicalize(rt, path)?;
+            if !is_within(target.as_str(), root) {
+                let target = target.as_str();
+                warn!(Messages(rt); target: MESSAGE, "{path} is a link out of its source, to {target}");
+            }
+            drop(target);
+            Ok(())
+        }
+        _ => Ok(()),
+    }
+}
+
+/// Whether a path is that of something in a directory.
+fn is_within(path: &str, root: &str) -> bool {
+    match path.strip_prefix(root) {
+        Some(rest) => rest.starts_with('/') || root.ends_with('/'),
+        None => false,
+    }
+}

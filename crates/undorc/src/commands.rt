@@ -1,0 +1,171 @@
+//! Commands on the file of a session: their files are opened, they are carried out, and people are
+//! told what helps.
+ghost use Rattle.rc_streams.specs.Noting.{HasFailed};
+ghost use Rattle.rc_launch.specs.Works.{IsEventless, IsEventlessWork};
+
+use crate::history;
+use crate::notes::{tell_left, tell_note, tell_opening};
+use crate::updates::tell_why;
+use log::{error, info, warn};
+use rc_asked::Once;
+use rc_console::{Answers, Seen, Told, ToldErrors, Typed, behind_session};
+use rc_launch::{LiveStore, Opened, Work, open, serve, uncontrolled_in};
+use rc_names::NoMem;
+use rc_script::SessionLine;
+use rc_sessions::{Devices, Outputs, Store, TextKeeper};
+use rc_streams::Noted;
+use rc_streams::ending::REFUSED;
+use rc_streams::messages::{HINT, MESSAGE, Messages};
+use std::sync::Wait;
+use std::thread::Threads;
+
+/// Carries a command out, and returns the status.
+pub fn carry_out<T: Threads + Wait + Sync>(rt: &HostRuntime, threads: &T, work: Work<'_>) -> u8
+    requires { IsEventlessWork work }
+{
+    match open(rt, work) {
+        Ok((opened, store)) => {
+            tell_note(rt, opened.note());
+            let status = carry_out_on(rt, threads, &opened, store);
+            drop(opened);
+            status
+        }
+        Err(fault) => tell_opening(rt, fault),
+    }
+}
+
+/// The same on the files that were opened for it.
+fn carry_out_on<'x, T: Threads + Wait + Sync>(
+    rt: &'x HostRuntime,
+    threads: &T,
+    opened: &'x Opened<'x>,
+    store: LiveStore<'x>,
+) -> u8
+    requires { IsEventless opened.now.loaded }
+{
+    if let Some(name) = uncontrolled_in(rt, opened) {
+        close(rt, opened);
+        drop(store);
+        return refuse_uncontrolled(rt, name);
+    }
+    let base = opened.base().map(|base| base.bytes());
+    let mut typed = Typed::new(rt, reads(opened));
+    let mut answers = Answers::new(rt, base);
+    let store = store.with_text(opened.live());
+    let mut devices = devices_of(rt, &mut typed, &mut answers, store);
+    let status = serve(rt, threads, opened, &mut devices).code();
+    close(rt, opened);
+    let Devices {
+        reader: _,
+        outputs,
+        faults: told,
+    } = devices;
+    let store = store_in(outputs);
+    enter(rt, opened, status);
+    if let Ok(seen) = seen_of(rt, &*opened, typed.kept()) {
+        if let Some(database) = seen.input {
+            answers.tell_all(database);
+        }
+        let live = opened.live();
+        behind_session(rt, live.path(), live.found(), store.error(), &seen, &told);
+    }
+    tell_why(rt, opened, status);
+    tell_left(rt, opened);
+    status
+}
+
+/// Refuses a command that would move a longrun where none is named that controls them, and returns
+/// the status.
+fn refuse_uncontrolled(rt: &HostRuntime, name: String) -> u8 {
+    error!(Messages(rt); target: MESSAGE, "NoController {name}");
+    info!(Messages(rt); target: HINT, "{name} is a longrun; -c names its controller");
+    drop(name);
+    REFUSED
+}
+
+/// Removes the files of the runs of a command that is over, and tells where the log could not be
+/// written. The lock is still held.
+fn close(rt: &HostRuntime, opened: &Opened<'_>) {
+    if let (Some(path), Some(run_files)) = (opened.session().live, opened.run_files()) {
+        run_files.remove(rt, path);
+        if run_files.log.has_failed() {
+            warn!(Messages(rt); target: MESSAGE,
+                "{path}.run can't be written: what could not be logged was not started");
+        }
+    }
+}
+
+/// Enters a command that altered the file of the session into its log, or shows that log with the
+/// journal.
+fn enter(rt: &HostRuntime, opened: &Opened<'_>, status: u8) {
+    let Some(path) = opened.session().live else {
+        return;
+    };
+    if opened.moves() {
+        history::enter(rt, path, opened.live().bytes(), status);
+    } else if opened.session().tells && is_journal(opened.once()) {
+        let _ = history::show(rt, path);
+    }
+}
+
+/// Whether the line shows the journal.
+fn is_journal(once: Option<&Once>) -> bool {
+    matches!(once, Some(Once::Line(SessionLine::Journal)))
+}
+
+/// Devices that have not failed yet, with standard error for faults.
+fn devices_of<R, W, S: Store>(
+    rt: &HostRuntime,
+    reader: R,
+    writer: W,
+    store: S,
+) -> Devices<R, W, ToldErrors, S>
+    ensures reader { HasFailed result.reader → ⊥ }
+    ensures writer { HasFailed result.outputs.writer → ⊥ }
+{
+    Devices {
+        reader: Noted::new(reader),
+        outputs: Outputs {
+            writer: Noted::new(writer),
+            keeper: TextKeeper::new(store),
+        },
+        faults: Told::new(rt.alloc(), rt.stderr()),
+    }
+}
+
+/// The store of outputs that are written no more.
+fn store_in<W: Drop, S: Store>(outputs: Outputs<W, S>) -> S {
+    let Outputs { writer: _, keeper } = outputs;
+    keeper.into_store()
+}
+
+/// What is read whole, as a person at a terminal is told.
+fn reads(opened: &Opened<'_>) -> Option<&'static str> {
+    if opened.base().is_some() {
+        return None;
+    }
+    if opened.is_of_lines() {
+        return Some("the database and the session's lines");
+    }
+    Some("the database")
+}
+
+/// The database of which a fault may be: that of the command; of an update the old one, and where
+/// that is right the new one.
+fn seen_of<'a>(
+    rt: &HostRuntime,
+    opened: &'a Opened<'_>,
+    input: Option<&'a [u8]>,
+) -> Result<Seen<'a>, NoMem> {
+    let Some(base) = opened.base() else {
+        return Ok(Seen::new(None, None, input));
+    };
+    let seen = Seen::new(Some(base.path()), Some(base.bytes()), input);
+    if let Some(new) = opened.other() {
+        let other = Seen::new(Some(new.path()), Some(new.bytes()), None);
+        if seen.is_good(rt)? && !other.is_good(rt)? {
+            return Ok(other);
+        }
+    }
+    Ok(seen)
+}

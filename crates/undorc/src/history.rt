@@ -1,0 +1,103 @@
+//! The file of who did what and when: `FILE.log` beside `FILE`, where it is there. Each command
+//! that altered the session appends a line, while it has the lock.
+
+use crate::own_name::words;
+use jiff::Timestamp;
+use rc_launch::LiveText;
+use rc_streams::whole_file;
+use std::fs::File;
+use std::io::{self, ErrorKind, Write};
+
+/// Appends a line for this command, which ends with this status, where the log is there and the
+/// text of the session is another one than before. A line that can't be written is dropped.
+pub fn enter(rt: &HostRuntime, path: &str, before: Option<&[u8]>, status: u8) {
+    let Ok(log) = format!(in rt.alloc(); "{path}.log") else {
+        return;
+    };
+    if let Ok(mut file) = File::options().append(true).open(rt, log.as_str()) {
+        let live = LiveText::read(rt, Some(path));
+        if let Some(after) = live.bytes() {
+            if before != Some(after) {
+                append(rt, &mut file, status, current_of(after));
+            }
+        }
+        drop(live);
+        drop(file);
+    }
+    drop(log);
+}
+
+/// Appends the line of this command.
+fn append(rt: &HostRuntime, file: &mut File, status: u8, at: usize) {
+    if let Ok(words) = words(rt) {
+        if let Ok(line) = line_of(rt, &words, status, at) {
+            let _ = file.write_all(line.as_bytes());
+            drop(line);
+        }
+        drop(words);
+    }
+}
+
+/// The line of a command: when, by whom, with which status, at which state, and its words.
+fn line_of(rt: &HostRuntime, words: &[String], status: u8, at: usize) -> io::Result<String> {
+    let now = now_of(rt);
+    let user = libc::getuid();
+    let mut line = format!(in rt.alloc(); "{at} {now} uid {user} status {status}:")?;
+    for word in words.iter().skip(1) {
+        let shown = if is_plain(word) {
+            format!(in rt.alloc(); " {word}")?
+        } else {
+            format!(in rt.alloc(); " {word:?}")?
+        };
+        line.push_str(shown.as_str())?;
+        drop(shown);
+    }
+    line.push_str("\n")?;
+    Ok(line)
+}
+
+/// The moment, in whole seconds.
+fn now_of(rt: &HostRuntime) -> Timestamp {
+    match Timestamp::now(rt) {
+        Ok(now) => Timestamp::from_second(now.as_second()).unwrap_or(now),
+        Err(_) => Timestamp::UNIX_EPOCH,
+    }
+}
+
+/// Whether a word can be shown as it is.
+fn is_plain(word: &str) -> bool {
+    !word.is_empty()
+        && word
+            .bytes()
+            .all(|byte| byte.is_ascii_graphic() && byte != b'"')
+}
+
+/// The number of the current state in the text of a session.
+fn current_of(text: &[u8]) -> usize {
+    let mut number = 0;
+    for line in text.split(|byte| *byte == b'\n') {
+        if line == b"now".as_slice() || line.starts_with(b"now ") {
+            return number;
+        }
+        if line == b"up".as_slice() || line.starts_with(b"up ") {
+            number = number.saturating_add(1);
+        }
+    }
+    number
+}
+
+/// Prints the log, where it is there.
+pub fn show(rt: &HostRuntime, path: &str) -> io::Result<()> {
+    let log = format!(in rt.alloc(); "{path}.log")?;
+    let read = whole_file::read(rt, log.as_str());
+    drop(log);
+    match read {
+        Ok(text) => {
+            let shown = rt.stdout().write_all(&text);
+            drop(text);
+            shown
+        }
+        Err(error) if error.kind() == ErrorKind::NotFound => Ok(()),
+        Err(error) => Err(error),
+    }
+}

@@ -1,0 +1,106 @@
+//! What is told of the files beside that of a session.
+use log::info;
+use rc_asked::tell_words;
+use rc_console::{tell_failure, tell_file};
+use rc_launch::{FileText, LiveText, Note, OpenFault, Opened, left_report};
+use rc_streams::messages::{HINT, MESSAGE, Messages};
+use rc_streams::run_file;
+use std::io;
+
+/// Tells what was found beside the file of a session.
+pub fn tell_note(rt: &HostRuntime, note: &Note<'_>) {
+    match note {
+        Note::Nothing | Note::Logged(_) => {}
+        Note::UnderWay => info!(Messages(rt); target: MESSAGE, "a command is under way"),
+        Note::Cut => info!(Messages(rt); target: MESSAGE,
+            "a command was cut short: the next one enters what it has moved"),
+        Note::Recovered(report) => {
+            info!(Messages(rt); target: MESSAGE, "Recovered");
+            tell_report(rt, report);
+        }
+    }
+}
+
+/// Tells what was moved of which the session does not know, since its file could not be written or
+/// memory ran out.
+pub fn tell_left(rt: &HostRuntime, opened: &Opened<'_>) {
+    if let (Some(path), Some(run_files), Some(base)) = (
+        opened.session().live,
+        opened.run_files(),
+        opened.base(),
+    ) {
+        if run_files.log.has_run() {
+            tell_log(rt, path, base);
+        }
+    }
+}
+
+/// Tells what a run log leaves for the next command to enter.
+fn tell_log(rt: &HostRuntime, path: &str, base: &FileText<'_>) {
+    let live = LiveText::read(rt, Some(path));
+    if let (Some(text), Ok(Some(log))) = (live.bytes(), run_file::read(rt, path)) {
+        if let Ok(Some(report)) = left_report(rt.alloc(), base.bytes(), text, &log) {
+            info!(Messages(rt); target: MESSAGE, "the next command enters what was moved");
+            tell_report(rt, &report);
+            drop(report);
+        }
+        drop(log);
+    }
+    drop(live);
+}
+
+/// Tells the lines of a report, but for the last one, which is that of an answer.
+fn tell_report(rt: &HostRuntime, report: &[u8]) {
+    if let Ok(lines) = str::from_utf8(report) {
+        for line in lines.trim_end_matches("ok\n").lines() {
+            info!(Messages(rt); target: HINT, "{line}");
+        }
+    }
+}
+
+/// Tells why the files of a command were not opened, and returns the status.
+pub fn tell_opening(rt: &HostRuntime, fault: OpenFault<'_>) -> u8 {
+    match fault {
+        OpenFault::Words(fault) => tell_words(&mut rt.stderr(), &fault),
+        OpenFault::File(path, error) => tell_file(rt, path, &error),
+        OpenFault::Busy(path, owner) => {
+            let status = tell_failure(rt, "Busy");
+            if let Some(owner) = owner {
+                info!(Messages(rt); target: HINT, "process {owner} goes on with {path}");
+            }
+            status
+        }
+        OpenFault::Lock(path, error) => tell_beside(rt, path, ".lock", &error),
+        OpenFault::Log(path, error) => tell_beside(rt, path, ".run", &error),
+        OpenFault::NoBase(path) => tell_unfit(
+            rt,
+            path,
+            "is of a command that was cut short: name its database by -b",
+        ),
+        OpenFault::OtherBase(path) => tell_unfit(
+            rt,
+            path,
+            "is of another database: name that of the command that was cut short, or remove it",
+        ),
+        OpenFault::Memory => tell_failure(rt, "Memory"),
+    }
+}
+
+/// Reports why a file beside that of `-l` can't be read or written, and returns the status.
+fn tell_beside(rt: &HostRuntime, path: &str, ending: &str, error: &io::Error) -> u8 {
+    match format!(in rt.alloc(); "{path}{ending}") {
+        Ok(beside) => {
+            let status = tell_file(rt, beside.as_str(), error);
+            drop(beside);
+            status
+        }
+        Err(_) => tell_failure(rt, "Memory"),
+    }
+}
+
+/// Tells that a log can't be entered, and returns the status.
+fn tell_unfit(rt: &HostRuntime, path: &str, why: &str) -> u8 {
+    let status = tell_failure(rt, "Unrecovered");
+    info!(Messages(rt); target: HINT, "{path}.run {why}");
+    status
+}
