@@ -12,6 +12,7 @@ The words are those of the program, which reads the file `in`. The names, beside
     runs     how many there are, where that is known
     file     each run is a session that is kept in a file of its own, `link`: behind a link
     keeps    the word before the name of that file, where it is not `-l`
+    log      a file with the text of the run log beside that file, which is to stay as it is
     lanes    how many runs are made side by side
 Each run has files of its own, which are removed after it.
 """
@@ -24,7 +25,7 @@ from ended import Rules, lines_of
 
 FLAGS = ("alone", "answers", "scripts", "kept", "fresh", "lost", "notes")
 USUAL = {"ways": "", "from": "0", "device": "", "does": "", "least": "1", "runs": "", "file": "", "keeps": "-l",
-         "lanes": "4", "faults": "", "told": "", "read": "", "written": ""}
+         "log": "", "lanes": "4", "faults": "", "told": "", "read": "", "written": ""}
 # More runs than these are none that come to an end.
 MOST = 5000
 AROUND = dict(os.environ)
@@ -95,6 +96,8 @@ class Run:
                 os.symlink(self.place, self.kept)
             if not options["fresh"]:
                 write(self.kept, options["text"])
+            if options["log"]:
+                write(self.kept + ".run", read(options["log"]))
         self.streams = [stream(), stream()]
         return spawn(options["program"], words, environment, [(os.POSIX_SPAWN_OPEN, 0, "in", os.O_RDONLY, 0)],
                      self.streams)
@@ -102,7 +105,9 @@ class Run:
     def end(self, status):
         """Takes up what it left."""
         self.status = os.waitstatus_to_exitcode(status)
-        self.out, self.err = map(text_in, self.streams)
+        self.out, told = map(text_in, self.streams)
+        # Why a program can't be started is said in a line of its own, before that of its transition.
+        self.err = "".join(line for line in told.splitlines(True) if " can't be started: " not in line)
         self.grown = [int(word) for word in taken(self.counts).split()]
         self.noted = taken(self.log) if self.options["scripts"] else ""
         self.live, self.left = "", []
@@ -116,6 +121,8 @@ class Run:
             places.append(self.place)
             if not os.path.islink(self.kept):
                 self.left.append("a link is none any more")
+        if self.options["log"] and read(self.kept + ".run") != read(self.options["log"]):
+            self.left.append("another run log")
         if self.options["device"]:
             for path in places:
                 if os.path.exists(path + ".new"):

@@ -1,3 +1,4 @@
+-- Courses of the same needs, plan and deadline are equal.
 use Rattle.std.proofs.Common.{◌≡◌, ℕ, List, Option, sym, subst}
 use Rattle.rc_model.specs.Plan.{PlanSets}
 use Rattle.rc_model.specs.Run.{course_of}

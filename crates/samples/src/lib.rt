@@ -1,9 +1,11 @@
 //! What tests share: small sets, graphs and databases, changes that are drawn with what they come
-//! to by plain rules and workers that carry them out in drawn orders.
+//! to by plain rules, workers that carry them out in drawn orders, and the files of a session in
+//! memory.
 #![tactic(auto)]
 
 mod databases;
 mod draw;
+mod files;
 mod graphs;
 mod plain;
 mod same;
@@ -13,6 +15,7 @@ pub use crate::databases::{
     BUNDLES, Bundle, Row, SERVICES, joined, name_of, parts_of, put, sample, words_of,
 };
 pub use crate::draw::{Change, Draw, drawn_graph};
+pub use crate::files::MemoryFiles;
 pub use crate::graphs::{DB, LOG, NEEDS, NET, ROOT, WEB, graph_of, has_ids, set_of, widest_fan};
 pub use crate::plain::{End, end_of};
 pub use crate::same::is_same;

@@ -1,0 +1,1 @@
+-- samples_memory has no lemmas of its own.

@@ -1,15 +1,39 @@
-//! Values that calls make one after the other: a graph of a draft, and a database of its text.
+//! Values that calls make one after the other: a graph of a draft, a database of its text, lines of
+//! an input, names of a line, and the end of a run.
 
 ghost use Rattle.std.specs.Prelude.{◌≡◌, length};
 
 use crate::told::go_on_to;
+use rc_core::{Event, Outcome};
 use rc_db::Db;
-use rc_dbtext::{TextFault, read_db, read_db_front, write_db};
+use rc_dbform::{FormFault, read_form};
+use rc_dbtext::{
+    TextFault, known_set, push_bundle, push_line, push_set, push_word, read_db, read_db_front,
+    write_db,
+};
 use rc_graph::{Draft, Graph, GraphFault};
+use rc_recovery::{with_ends, with_stop};
+use rc_script::{texts_of, words_of};
 use rc_set::NoMem;
-use samples::is_same;
+use rc_streams::{Failure, Lines, Noted, read_all};
+use rc_textform::{ascend, names_of};
+use samples::{LOG, NET, is_same};
 use std::alloc::{AllocError, AllocGlobal, Global};
 use std::io::Print;
+
+/// An input of two lines, the first of which has two names.
+const INPUT: &[u8] = b"db log\nnet";
+
+/// A bundle as a line of the text of a database, and lines that are in none.
+const LINES: &[u8] = b"bundle site web\n web and its consumersservices of the whole sample 5\n";
+
+/// Two transitions that were under way, and their ends.
+const ENDED: [Event; 4] = [
+    Event::Take(1, NET),
+    Event::Take(2, LOG),
+    Event::Done(1, NET, Outcome::NotStarted),
+    Event::Done(2, LOG, Outcome::NotStarted),
+];
 
 /// What calls make, one after the other.
 #[derive(Clone, Copy)]
@@ -20,6 +44,16 @@ pub enum Made {
     Circle,
     /// The text of a database, and the database of that text.
     Text,
+    /// What an input has, and its first line.
+    Input,
+    /// The names of a line, the first of them by itself, and their services.
+    Names,
+    /// The words of a line, and their texts.
+    Words,
+    /// Lines of a text.
+    Lines,
+    /// The ends of transitions that were under way, and a stop after them.
+    Ends,
 }
 
 /// Makes a value. Whether it is right.
@@ -28,6 +62,11 @@ pub fn is_made(rt: &(impl Print + AllocGlobal), db: &Db, made: Made) -> Result<b
         Made::Chain => is_drafted(rt, false, &[2, 1, 0]),
         Made::Circle => is_drafted(rt, true, &[0, 1, 2]),
         Made::Text => is_read_back(rt, db),
+        Made::Input => is_input(rt),
+        Made::Names => are_names(rt, db),
+        Made::Words => are_words(rt.alloc()),
+        Made::Lines => are_lines(rt, db),
+        Made::Ends => are_ends(rt),
     }
 }
 
@@ -81,7 +120,22 @@ fn is_read_back(rt: &(impl Print + AllocGlobal), db: &Db) -> Result<bool, NoMem>
     text.push(b'\n')?;
     go_on_to(rt, "read_db_front");
     let is_front = is_at_front(rt.alloc(), &text, long, db)?;
-    Ok(is_whole && is_front)
+    go_on_to(rt, "rc_dbform::read_form");
+    let is_form = is_form(rt.alloc(), &text)?;
+    Ok(is_whole && is_front && is_form)
+}
+
+/// Whether a text says five services and a bundle, and one byte follows.
+fn is_form(alloc: Global, bytes: &[u8]) -> Result<bool, NoMem> {
+    match read_form(alloc, bytes) {
+        Ok((form, rest)) => {
+            let is_right = form.services.len() == 5 && form.bundles.len() == 1 && rest.len() == 1;
+            drop(form);
+            Ok(is_right)
+        }
+        Err(FormFault::Memory) => Err(AllocError),
+        Err(_) => Ok(false),
+    }
 }
 
 fn is_read(read: Result<Db, TextFault>, db: &Db) -> Result<bool, NoMem> {
@@ -102,4 +156,90 @@ fn is_at_front(alloc: Global, bytes: &[u8], long: usize, db: &Db) -> Result<bool
         Ok((other, taken)) => Ok(is_read(Ok(other), db)? && taken == long),
         Err(fault) => is_read(Err(fault), db),
     }
+}
+
+/// Whether the whole input is read, and its first line.
+fn is_input(rt: &(impl Print + AllocGlobal)) -> Result<bool, NoMem> {
+    let is_whole = is_read_whole(read_all(rt.alloc(), &mut Noted::new(INPUT)))?;
+    go_on_to(rt, "Lines::next");
+    let mut lines = Lines::new(rt.alloc());
+    let next = lines.next(rt.alloc(), &mut Noted::new(INPUT));
+    drop(lines);
+    Ok(is_whole && is_first_line(next)?)
+}
+
+fn is_read_whole(read: Result<Vec<u8>, Failure>) -> Result<bool, NoMem> {
+    match read {
+        Ok(bytes) => Ok(bytes.as_slice() == INPUT),
+        Err(Failure::Memory) => Err(AllocError),
+        Err(_) => Ok(false),
+    }
+}
+
+fn is_first_line(next: Result<Option<(Vec<u8>, bool)>, Failure>) -> Result<bool, NoMem> {
+    match next {
+        Ok(Some((line, is_ended))) => Ok(is_ended && line.as_slice() == b"db log".as_slice()),
+        Ok(None) => Ok(false),
+        Err(Failure::Memory) => Err(AllocError),
+        Err(_) => Ok(false),
+    }
+}
+
+/// Whether the words of a line are two names, the first of which is copied, and those of services.
+fn are_names(rt: &(impl Print + AllocGlobal), db: &Db) -> Result<bool, NoMem> {
+    let Some((words, _)) = rc_textform::words_of(INPUT) else {
+        return Ok(false);
+    };
+    let Some(names) = names_of(rt.alloc(), words)? else {
+        return Ok(false);
+    };
+    go_on_to(rt, "NameWord::copy");
+    let is_copied = match names.first() {
+        Some(name) => name.copy(rt.alloc())?.text() == "db",
+        None => false,
+    };
+    if !ascend(&names) {
+        return Ok(false);
+    }
+    go_on_to(rt, "known_set");
+    match known_set(rt.alloc(), &names, db.names())? {
+        Some(set) => Ok(is_copied && set.len() == 2),
+        None => Ok(false),
+    }
+}
+
+/// Whether a line has two words, which are texts.
+fn are_words(alloc: Global) -> Result<bool, NoMem> {
+    let words = words_of(alloc, INPUT)?;
+    match texts_of(alloc, &words)? {
+        Some(texts) => Ok(texts.len() == 2 && texts.first() == Some(&"db")),
+        None => Ok(false),
+    }
+}
+
+/// Whether the line of a bundle is written, and others behind it.
+fn are_lines(rt: &(impl Print + AllocGlobal), db: &Db) -> Result<bool, NoMem> {
+    let (alloc, names, table) = (rt.alloc(), db.names(), db.table());
+    if table.len() == 0 {
+        return Ok(false);
+    }
+    let (name, set) = table.at(0);
+    let mut text = Vec::new(alloc);
+    push_bundle(alloc, &mut text, names, name, set)?;
+    go_on_to(rt, "push_set");
+    push_set(alloc, &mut text, names, set)?;
+    go_on_to(rt, "push_word");
+    push_word(&mut text, b"and its consumers")?;
+    go_on_to(rt, "push_line");
+    push_line(&mut text, b"services of the whole sample", b"5")?;
+    Ok(text.as_slice() == LINES)
+}
+
+/// Whether the ends of two takes are added, and then a stop.
+fn are_ends(rt: &(impl Print + AllocGlobal)) -> Result<bool, NoMem> {
+    let ended = with_ends(rt.alloc(), &[Event::Take(1, NET), Event::Take(2, LOG)])?;
+    let is_ended = ended.as_slice() == ENDED.as_slice();
+    go_on_to(rt, "with_stop");
+    let stopped = with_stop(ended)?;
+    Ok(is_ended && stopped.last() == Some(&Event::Stop(1, u64::MAX)))
 }

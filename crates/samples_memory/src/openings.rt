@@ -101,7 +101,12 @@ fn show_lowered(
 }
 
 /// The plan from some services to others, where none of them lacks what it needs.
-fn plan_to(alloc: Global, graph: &Graph, from: &Set, to: &Set) -> Result<Option<Plan>, NoMem>
+pub(crate) fn plan_to(
+    alloc: Global,
+    graph: &Graph,
+    from: &Set,
+    to: &Set,
+) -> Result<Option<Plan>, NoMem>
     ensures { IfOk result (λ found. IfSome found (λ plan. length plan.opening ≡ length from.now)) }
 {
     if from.bound() != graph.len() || to.bound() != graph.len() {

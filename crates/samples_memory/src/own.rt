@@ -17,6 +17,8 @@ use std::io::Print;
 pub enum Given {
     /// Names, to which one is added.
     Names,
+    /// No names, to which one is appended.
+    NoNames,
     /// A draft, in which one service needs one more.
     Draft,
     /// A table, into which a bundle is put.
@@ -37,6 +39,7 @@ type Own = Result<(Result<(), NoMem>, bool), NoMem>;
 pub fn show_own(rt: &(impl Print + AllocGlobal), what: &str, given: Given) -> io::Result<()> {
     match given {
         Given::Names => show_end(rt, on_names(rt, what)),
+        Given::NoNames => show_end(rt, on_no_names(rt, what)),
         Given::Draft => show_draft(rt, what),
         Given::Bundles => show_end(rt, on_table(rt, what)),
     }
@@ -101,6 +104,17 @@ fn are_eight(names: &Names) -> bool {
         }
     }
     names.len() == 8 && names.find("a").is_none()
+}
+
+/// Names the call on no names, and makes it.
+fn on_no_names(rt: &(impl Print + AllocGlobal), what: &str) -> Own {
+    let name = name_of(rt.alloc(), "a")?;
+    let mut names = Names::new(rt.alloc());
+    let _ = print!(rt; "{what}: ");
+    let came = names.append(name);
+    let is_same = names.is_empty();
+    drop(names);
+    Ok((came, is_same))
 }
 
 fn show_draft(rt: &(impl Print + AllocGlobal), what: &str) -> io::Result<()> {

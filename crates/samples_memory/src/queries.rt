@@ -4,6 +4,7 @@ use rc_db::{Db, QueryFault, Which};
 use rc_graph::Way;
 use rc_select::{PlanFault, Request, plan};
 use rc_set::{NoMem, Set};
+use samples::NET;
 use std::alloc::{AllocError, Global};
 
 /// What is asked of the database.
@@ -12,6 +13,7 @@ pub enum Query {
     List,
     Contents,
     Script,
+    ServiceScript,
     Pipeline,
     Atomics,
     Dependencies,
@@ -24,6 +26,7 @@ pub fn is_answer(alloc: Global, db: &Db, query: Query, words: &[String]) -> Resu
     match query {
         Query::List => is_listed(alloc, db),
         Query::Script => has_script(alloc, db),
+        Query::ServiceScript => has_text(alloc, db),
         Query::Contents => are_ids(db.contents(alloc, "site"), &[4]),
         Query::Pipeline => are_ids(db.pipeline(alloc, "web"), &[1, 4]),
         Query::Selected => is_selected(alloc, db, words),
@@ -69,6 +72,15 @@ fn has_script(alloc: Global, db: &Db) -> Result<bool, NoMem> {
         Err(QueryFault::Memory) => Err(AllocError),
         Err(_) => Ok(false),
     }
+}
+
+/// Whether the first oneshot has this text by itself.
+fn has_text(alloc: Global, db: &Db) -> Result<bool, NoMem> {
+    if db.names().len() <= NET {
+        return Ok(false);
+    }
+    let text = db.service(NET).script(alloc, Way::Raise)?;
+    Ok(text.as_str() == "true\n")
 }
 
 fn is_selected(alloc: Global, db: &Db, words: &[String]) -> Result<bool, NoMem> {

@@ -1,27 +1,29 @@
-//! Edits of bundles that a table is given outright.
+//! Edits of bundles that a table is given outright, or that are only made.
 
 ghost use Rattle.std.specs.Prelude.{length};
 ghost use Rattle.rc_model.specs.Database.{HaveBound};
 
 use crate::told::{show_came, show_line};
 use rc_board::Fault;
-use rc_bundle::{BundleFault, add, delete};
+use rc_bundle::{BundleFault, add, added, delete, removed};
 use rc_db::{Db, Table};
 use rc_session::{Refusal, Step};
 use std::alloc::{AllocGlobal, Global};
 use std::io;
 use std::io::Print;
 
-/// An edit of a table that is given outright, what it came to, and whether the table is as it was.
+/// An edit of a table that is given outright, or only made, what it came to, and whether the table
+/// is as it was.
 pub fn show_table(
     rt: &(impl Print + AllocGlobal),
     db: &Db,
     what: &str,
     step: Option<&Step>,
+    is_given: bool,
 ) -> io::Result<()> {
     let mut table = db.table().copy(rt.alloc())?;
     let _ = print!(rt; "{what}: ");
-    let came = altered(rt.alloc(), &mut table, db, step);
+    let came = altered(rt.alloc(), &mut table, db, step, is_given);
     let is_same = table.same(db.table());
     let bundles = table.len();
     drop(table);
@@ -33,13 +35,25 @@ pub fn show_table(
     }
 }
 
-/// Defines a bundle or removes some, as a step says.
-fn altered(alloc: Global, table: &mut Table, db: &Db, step: Option<&Step>) -> Result<(), Fault>
+/// Defines a bundle or removes some, as a step says, or only makes the edit.
+fn altered(
+    alloc: Global,
+    table: &mut Table,
+    db: &Db,
+    step: Option<&Step>,
+    is_given: bool,
+) -> Result<(), Fault>
     requires { HaveBound (length db.now.names) table.old }
 {
-    let edit = match step {
-        Some(Step::Add(name, contents, force)) => add(alloc, table, db, name, contents, *force),
-        Some(Step::Delete(names, force)) => delete(alloc, table, db, names, *force),
+    let edit = match (step, is_given) {
+        (Some(Step::Add(name, contents, force)), true) => {
+            add(alloc, table, db, name, contents, *force)
+        }
+        (Some(Step::Add(name, contents, force)), false) => {
+            added(alloc, table, db, name, contents, *force)
+        }
+        (Some(Step::Delete(names, force)), true) => delete(alloc, table, db, names, *force),
+        (Some(Step::Delete(names, force)), false) => removed(alloc, table, db, names, *force),
         _ => return Err(Fault::Strange),
     };
     match edit {

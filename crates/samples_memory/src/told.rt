@@ -19,6 +19,15 @@ pub(crate) fn fault_of(came: Result<(), NoMem>) -> Result<(), Fault> {
     }
 }
 
+/// The same of a call whose answer is looked at: a wrong one is strange.
+pub(crate) fn came_of(is_right: Result<bool, NoMem>) -> Result<(), Fault> {
+    match is_right {
+        Ok(true) => Ok(()),
+        Ok(false) => Err(Fault::Strange),
+        Err(short) => fault_of(Err(short)),
+    }
+}
+
 /// Tells what a call came to, with more to follow on the line.
 pub fn show_came(rt: &impl Print, came: Result<(), Fault>) -> io::Result<()> {
     match came {

@@ -7,11 +7,12 @@ use rc_bundle::Edit;
 use rc_db::Db;
 use rc_graph::Graph;
 use rc_line::Line;
-use rc_livetext::{LiveFault, read_live, write_live};
-use rc_names::{Name, NameFault, Names};
+use rc_livetext::{FormFault, LiveFault, read_form, read_live, write_live};
+use rc_names::{Name, NameFault, Names, is_name};
 use rc_select::{Plan, between, plan_up};
 use rc_session::Session;
 use rc_set::{NoMem, Set};
+use rc_update::carry;
 use samples::has_ids;
 use std::alloc::{AllocError, Global};
 
@@ -22,6 +23,7 @@ pub enum Value {
     SetCopy,
     SetIds,
     NameRead,
+    NameOf,
     NameCopy,
     GraphShare,
     UpOf,
@@ -35,7 +37,9 @@ pub enum Value {
     LineState,
     WriteLive,
     ReadLive,
+    LiveForm,
     PadNew,
+    Carry,
 }
 
 /// Makes a value. Whether it is right.
@@ -44,7 +48,8 @@ pub fn is_value(alloc: Global, session: &Session, value: Value, text: &[u8]) -> 
 {
     match value {
         Value::SetEmpty | Value::SetCopy | Value::SetIds => is_set(alloc, session.live(), value),
-        Value::NameRead => is_name(alloc),
+        Value::NameRead => is_read_name(alloc),
+        Value::NameOf => is_same_name(alloc, "pair"),
         Value::NameCopy => is_copied(alloc, session.db().names()),
         Value::GraphShare | Value::UpOf | Value::DownOf | Value::PlanBetween => {
             is_on_graph(alloc, session.db().graph(), session.live(), value)
@@ -54,6 +59,7 @@ pub fn is_value(alloc: Global, session: &Session, value: Value, text: &[u8]) -> 
             None => Ok(false),
         },
         Value::PadNew => Ok(Pad::new(alloc, 5)?.room() == 11),
+        Value::Carry => is_carried(alloc, session.db(), session.live()),
         _ => is_on_session(alloc, session, value, text),
     }
 }
@@ -83,12 +89,32 @@ fn is_filled(made: &mut Set, set: &Set) -> bool
     is_altered && made.is_empty()
 }
 
-fn is_name(alloc: Global) -> Result<bool, NoMem> {
+fn is_read_name(alloc: Global) -> Result<bool, NoMem> {
     match Name::read(alloc, "pair") {
         Ok(name) => Ok(name.text() == "pair"),
         Err(NameFault::Memory) => Err(AllocError),
         Err(_) => Ok(false),
     }
+}
+
+fn is_same_name(alloc: Global, text: &str) -> Result<bool, NoMem> {
+    if !is_name(text) {
+        return Ok(false);
+    }
+    Ok(Name::of(alloc, text)?.text() == text)
+}
+
+/// Whether all that is live stays, from a database to itself.
+fn is_carried(alloc: Global, db: &Db, live: &Set) -> Result<bool, NoMem> {
+    let _names = db.names();
+    if live.bound() != db.graph().len() || !db.graph().closed(live) {
+        return Ok(false);
+    }
+    let update = carry(alloc, db, db, &[], live)?;
+    let stays = update.lower.is_empty() && update.kept.len() == live.len();
+    let is_right = stays && update.raise.len() == live.len() as usize;
+    drop(update);
+    Ok(is_right)
 }
 
 fn is_copied(alloc: Global, names: &Names) -> Result<bool, NoMem> {
@@ -140,6 +166,7 @@ fn is_on_session(alloc: Global, session: &Session, value: Value, text: &[u8]) ->
         Value::EditBetween => Ok(Edit::between(alloc, db.table(), table)?.len() == 1),
         Value::WriteLive => Ok(write_live(alloc, session)?.as_slice() == text),
         Value::ReadLive => is_read(alloc, text, db),
+        Value::LiveForm => is_form(alloc, text),
         _ => is_on_line(alloc, session.journal(), value),
     }
 }
@@ -148,6 +175,19 @@ fn is_read(alloc: Global, text: &[u8], db: &Db) -> Result<bool, NoMem> {
     match read_live(alloc, text, db) {
         Ok((line, count)) => Ok(line.states() == 3 && count == 3),
         Err(LiveFault::Memory) => Err(AllocError),
+        Err(_) => Ok(false),
+    }
+}
+
+/// Whether a text says two states before the current one.
+fn is_form(alloc: Global, text: &[u8]) -> Result<bool, NoMem> {
+    match read_form(alloc, text) {
+        Ok((form, rest)) => {
+            let is_right = form.before.len() == 2 && rest.is_empty();
+            drop(form);
+            Ok(is_right)
+        }
+        Err(FormFault::Memory) => Err(AllocError),
         Err(_) => Ok(false),
     }
 }

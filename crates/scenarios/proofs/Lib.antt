@@ -1,0 +1,1 @@
+-- scenarios has no lemmas of its own.

@@ -13,6 +13,7 @@ mod crashed;
 mod device;
 mod drawn;
 mod edits;
+mod failing;
 mod joining;
 mod legality;
 mod names;
@@ -29,6 +30,7 @@ mod wide;
 
 use crate::completed::show_completed;
 use crate::crashed::show_crashed;
+use crate::failing::show_failing;
 use crate::joining::show_joined;
 use crate::legality::show_legality;
 use crate::names::{show_names, show_words};
@@ -49,6 +51,7 @@ fn main(rt: HostRuntime) -> Result<(), Fail> {
     show_joined(&rt)?;
     show_tables(&rt)?;
     show_trees(&rt)?;
+    show_failing(&rt)?;
     show_waiting(&rt)?;
     show_completed(&rt)?;
     show_recovered(&rt)?;

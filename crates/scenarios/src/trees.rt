@@ -2,7 +2,7 @@
 
 use crate::device::Sink;
 use rc_compiling::compile_run;
-use rc_source::MemoryTree;
+use rc_source::{MemoryTree, Tree};
 use rc_streams::Noted;
 use std::alloc::{AllocError, Global};
 use std::io;
@@ -10,10 +10,10 @@ use std::io::ErrorKind;
 
 /// A file: the directory of its service, its path there, and its line. A directory alone has no
 /// path.
-type File = (&'static str, &'static str, &'static str);
+pub(crate) type File = (&'static str, &'static str, &'static str);
 
 /// The files of two services.
-const FILES: [File; 6] = [
+pub(crate) const FILES: [File; 6] = [
     ("a", "type", "longrun"),
     ("a", "run", ""),
     ("a", "dependencies.d/b", ""),
@@ -241,7 +241,12 @@ fn show_filled(
 }
 
 /// The status. What the command promises stands on its contract, so none of it is asked here.
-fn compiled(alloc: Global, trees: &mut [MemoryTree], writer: &mut Sink, faults: &mut Sink) -> u8 {
+pub(crate) fn compiled<T: Tree>(
+    alloc: Global,
+    trees: &mut [T],
+    writer: &mut Sink,
+    faults: &mut Sink,
+) -> u8 {
     compile_run(alloc, trees, &mut Noted::new(writer), faults)
 }
 
@@ -251,7 +256,7 @@ fn show_line(rt: &impl Print, what: &str, status: u8, written: &str, told: &str)
     println!(rt; " {told:?}")
 }
 
-fn put_all(tree: &mut MemoryTree, files: &[File]) -> Result<(), AllocError> {
+pub(crate) fn put_all(tree: &mut MemoryTree, files: &[File]) -> Result<(), AllocError> {
     for (service, path, line) in files {
         if path.is_empty() {
             tree.folder(service)?;

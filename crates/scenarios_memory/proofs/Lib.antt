@@ -1,0 +1,1 @@
+-- scenarios_memory has no lemmas of its own.

@@ -1,18 +1,20 @@
 //! Runs that are begun, and abandoned, spoiled or completed. Each further call is named by itself.
 
-ghost use Rattle.std.specs.Prelude.{◌≡◌, true, false, length, IfOk};
+ghost use Rattle.std.specs.Prelude.{◌≡◌, true, false, length, IfOk, OnErr};
 ghost use Rattle.rc_model.specs.Headline.{HasRun};
 ghost use Rattle.rc_model.specs.Names.{Has};
 ghost use Rattle.rc_model.specs.Graph.{IsClosed};
 ghost use Rattle.rc_model.specs.Run.{course_of, IsSettled};
 ghost use Rattle.rc_model.specs.Beside.{TargetOf};
 ghost use Rattle.rc_session.specs.Commands.{command_of};
+ghost use Rattle.rc_session.specs.Holding.{IsOfSession};
 
 use crate::calls::{by_events, planned};
 use rc_core::{Ended, Event, Outcome, Run, Standing};
 use rc_graph::Graph;
+use rc_recovery::recover;
 use rc_select::Plan;
-use rc_session::{Refusal, Session, Step};
+use rc_session::{Begun, Refusal, Session, Step};
 use rc_set::NoMem;
 use samples::{ROOT, run_between, settles};
 use samples_memory::go_on_to;
@@ -29,10 +31,7 @@ pub(crate) fn abandoned(
     requires { session.old.begun ≡ false }
     ensures { session.new.begun ≡ false }
 {
-    if !has_run(step) {
-        return Err(Refusal::Strange);
-    }
-    let begun = session.begin(rt.alloc(), step, 0)?;
+    let begun = begun_by_name(rt.alloc(), session, step)?;
     if spoils {
         go_on_to(rt, "spoil");
         session.spoil(begun);
@@ -42,6 +41,20 @@ pub(crate) fn abandoned(
     go_on_to(rt, "abandon");
     session.abandon(begun);
     Ok(())
+}
+
+/// Begins the run of a step by the call for its kind.
+fn begun_by_name(alloc: Global, session: &mut Session, step: &Step) -> Result<Begun, Refusal>
+    requires { session.old.begun ≡ false }
+    ensures task { IfOk result (IsOfSession session.new) }
+    ensures same { OnErr result (session.new ≡ session.old) }
+{
+    match step {
+        Step::Change(request, _) => session.begin_change(alloc, request, 0),
+        Step::Undo(limit, _) => session.begin_undo(alloc, *limit, 0),
+        Step::Redo(limit, _) => session.begin_redo(alloc, *limit, 0),
+        _ => Err(Refusal::Strange),
+    }
 }
 
 /// Whether a poisoned session refuses a plan and a step.
@@ -63,6 +76,20 @@ fn has_run(step: &Step) -> bool
     ensures { result ≡ true → HasRun (command_of step.now) }
 {
     matches!(step, Step::Change(..) | Step::Undo(..) | Step::Redo(..))
+}
+
+/// Enters a step that was cut short after its events.
+pub(crate) fn recovered(alloc: Global, session: &mut Session, step: &Step) -> Result<(), Refusal>
+    requires { session.old.begun ≡ false }
+    ensures { session.new.begun ≡ false }
+{
+    if !has_run(step) {
+        return Err(Refusal::Strange);
+    }
+    match recover(alloc, session, step) {
+        Ok(_) => Ok(()),
+        Err(refusal) => Err(refusal),
+    }
 }
 
 /// Begins the run of a step, runs it, and completes it.

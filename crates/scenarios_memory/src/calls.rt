@@ -2,16 +2,16 @@
 
 ghost use Rattle.std.specs.Prelude.{◌≡◌, false};
 
-use crate::begun::{abandoned, completed, is_stopped};
+use crate::begun::{abandoned, completed, is_stopped, recovered};
 use crate::rows::How;
-use crate::serving::{is_gate, is_locked, served};
+use crate::serving::{is_gate, is_locked, is_telling, served};
 use crate::workers::{by_workers, within};
 use rc_board::Fault;
 use rc_session::{Refusal, Session, Step};
 use rc_set::NoMem;
 use samples_memory::{
     is_answer, is_from_folder, is_from_memory, is_made, is_of_states, is_planned, is_stepped_on,
-    is_value,
+    is_text, is_value,
 };
 use std::alloc::{AllocGlobal, Global};
 use std::io::Print;
@@ -33,7 +33,7 @@ pub(crate) fn made<R: Print + AllocGlobal + Threads + Wait + Sync>(
     match how {
         How::Workers(workers) => by_workers(rt, session, workers, steps.first()),
         How::Within => within(rt, session, steps.first()),
-        How::Serve(workers) => served(rt, session, workers),
+        How::Serve(serving) => served(rt, session, serving),
         _ => match told(host, session, how, steps, text) {
             Ok(()) => Ok(()),
             Err(refusal) => Err(Fault::Refused(refusal)),
@@ -52,7 +52,7 @@ fn told(
     ensures { session.new.begun ≡ false }
 {
     match how {
-        How::Of(_) | How::Stop | How::States | How::StepOn => {
+        How::Of(_) | How::Text(..) | How::Stop | How::States | How::StepOn => {
             answered(is_right(rt, session, how, text))
         }
         How::Make(_) | How::Memory | How::Folder | How::Lock => answered(is_own(rt, session, how)),
@@ -75,6 +75,7 @@ fn is_right(
 {
     match how {
         How::Of(value) => is_value(rt.alloc(), session, value, text),
+        How::Text(text, due) => is_text(rt.alloc(), session, text, due),
         How::Stop => is_stopped(rt, session.db().graph()),
         How::States => is_of_states(rt, session.db().table(), session.table()),
         _ => is_stepped_on(rt, session.journal(), session.table()),
@@ -101,9 +102,10 @@ fn stepped(rt: &HostRuntime, session: &mut Session, how: How, step: &Step) -> Re
         How::Abandon => abandoned(rt, session, step, false),
         How::Spoil => abandoned(rt, session, step, true),
         How::By => by_events(rt.alloc(), session, step),
+        How::Recover => recovered(rt.alloc(), session, step),
         How::Edit => edited(rt.alloc(), session, step),
         How::Dry => planned(rt.alloc(), session, step),
-        How::Ask(_) | How::Plan | How::Shell => asked(rt, session, how, step),
+        How::Ask(_) | How::Plan | How::Shell | How::Tell => asked(rt, session, how, step),
         _ => Err(Refusal::Strange),
     }
 }
@@ -166,6 +168,7 @@ fn asked(rt: &HostRuntime, session: &Session, how: How, step: &Step) -> Result<(
     answered(match how {
         How::Ask(query) => is_answer(alloc, db, query, &request.names),
         How::Plan => is_planned(alloc, db, session.live(), request),
+        How::Tell => is_telling(rt, db),
         _ => is_gate(rt, db, &request.names),
     })
 }

@@ -21,8 +21,8 @@ use rc_session::{Session, Step};
 use rc_set::NoMem;
 use samples::sample;
 use samples_memory::{
-    show_begun, show_came, show_change, show_edit, show_line, show_opening, show_own, show_resumed,
-    show_table, show_tree,
+    show_begun, show_came, show_change, show_edit, show_line, show_opening, show_own,
+    show_recovered, show_resumed, show_table, show_tree,
 };
 use std::alloc::{AllocGlobal, Global};
 use std::io;
@@ -49,7 +49,7 @@ fn show_row<R: Print + AllocGlobal + Threads + Wait + Sync>(
         return Ok(show_begun(rt, row.0, db, bound)?);
     }
     let mut session = session_of_sample(rt.alloc())?;
-    if let How::Resume = row.2 {
+    if matches!(row.2, How::Resume | How::Recovered(_)) {
         let db = sample(rt.alloc());
         let shown = show_goes_on(rt, &mut session, row, db);
         drop(session);
@@ -67,7 +67,8 @@ fn session_of_sample(alloc: Global) -> Result<Session, Fail>
     Ok(Session::new(alloc, db)?)
 }
 
-/// Plays the steps before the call, and goes on over a database with the session's line.
+/// Plays the steps before the call, and goes on over a database with the session's line, or with
+/// its files.
 fn show_goes_on(
     rt: &(impl Print + AllocGlobal),
     session: &mut Session,
@@ -78,7 +79,10 @@ fn show_goes_on(
 {
     let db = db?;
     match set_up(rt.alloc(), session, row.1) {
-        Ok(()) => Ok(show_resumed(rt, row.0, db, session)?),
+        Ok(()) => Ok(match row.2 {
+            How::Recovered(way) => show_recovered(rt, row.0, db, session, way),
+            _ => show_resumed(rt, row.0, db, session),
+        }?),
         Err(short) => {
             drop(db);
             Err(Fail::from(short))
@@ -99,7 +103,7 @@ fn show_on<R: Print + AllocGlobal + Threads + Wait + Sync>(
     set_up(rt.alloc(), session, before)?;
     let steps = steps_of(rt.alloc(), acts)?;
     let shown = match how {
-        How::Table => show_table(rt, session.db(), what, steps.first()),
+        How::Table(given) => show_table(rt, session.db(), what, steps.first(), *given),
         How::Own(given) => show_own(rt, what, *given),
         How::Alter(altering) => show_tree(rt, what, *altering),
         How::Change => show_change(rt, session.db().graph(), session.journal(), what),

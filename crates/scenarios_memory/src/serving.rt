@@ -1,27 +1,50 @@
-//! A session of one line, over a reader and a writer in memory; a gate that starts programs; and
-//! the lock of a session's file.
+//! A session of one line, over a reader and a writer in memory, or a line by itself; a gate that
+//! starts programs; and the lock of a session's file.
 
 ghost use Rattle.std.specs.Prelude.{◌≡◌, false};
 
 use rc_board::{Fault, Gate};
 use rc_db::Db;
-use rc_runner::{ShellGate, StepClock, TableGate};
-use rc_serve::{ServeFault, Unkept, serve};
-use rc_session::{Refusal, Session};
+use rc_runner::{ShellGate, StepClock, TableGate, Telling};
+use rc_script::SessionLine;
+use rc_serve::{Ending, ServeFault, Unkept, answer_once, serve, show_redo, show_undo};
+use rc_session::{Refusal, Session, Step};
 use rc_set::NoMem;
 use rc_streams::Noted;
 use rc_streams::live_lock::{LiveLock, LockFault};
 use rc_streams::messages::Messages;
+use rc_streams::run_file::RunFile;
 use std::alloc::{AllocError, AllocGlobal};
 use std::io;
 use std::io::{ErrorKind, Write};
 use std::sync::Wait;
 use std::thread::Threads;
 
-/// The line that is read, and the bytes that are due for it.
+/// The line that is read.
 const LINE: &[u8] = b"-u change site\n";
 
-const ANSWER: &[u8] = b"raised db log net root web\nok\n";
+/// What is served.
+#[derive(Clone, Copy)]
+pub(crate) enum Serving {
+    /// An input of one line, by so many workers.
+    Input(u8),
+    /// An undo.
+    Once,
+    /// What an undo would move.
+    ShowUndo,
+    /// What a redo would move.
+    ShowRedo,
+}
+
+/// The bytes that are due.
+fn answer_of(serving: Serving) -> &'static [u8] {
+    match serving {
+        Serving::Input(_) => b"raised db log net root web\nok\n",
+        Serving::Once => b"lowered db log net root web\nok\n",
+        Serving::ShowUndo => b"lower db log net root web\nok\n",
+        Serving::ShowRedo => b"raise db log net root web\nok\n",
+    }
+}
 
 /// Within so many milliseconds a gate is made.
 const MOST: u64 = 60_000;
@@ -48,21 +71,23 @@ impl Write for Due {
     }
 }
 
-/// Serves a session of one line by so many workers.
+/// Serves a session, and looks whether the answer is whole.
 pub(crate) fn served<R: AllocGlobal + Threads + Wait + Sync>(
     rt: &R,
     session: &mut Session,
-    workers: u8,
+    serving: Serving,
 ) -> Result<(), Fault>
     requires { session.old.begun ≡ false }
     ensures { session.new.begun ≡ false }
 {
-    let mut due = Due { left: ANSWER };
-    let ended = ended(rt, session, workers, &mut due);
+    let mut due = Due {
+        left: answer_of(serving),
+    };
+    let ended = ended(rt, session, serving, &mut due);
     let is_whole = due.left.is_empty();
     drop(due);
     match ended {
-        Ok(()) if is_whole => Ok(()),
+        Ok(_) if is_whole => Ok(()),
         Err(ServeFault::Memory) => Err(Fault::Refused(Refusal::Memory)),
         Err(ServeFault::NoThread) => Err(Fault::NoThread),
         Err(ServeFault::Workers) => Err(Fault::Workers),
@@ -73,9 +98,26 @@ pub(crate) fn served<R: AllocGlobal + Threads + Wait + Sync>(
 fn ended<R: AllocGlobal + Threads + Wait + Sync>(
     rt: &R,
     session: &mut Session,
+    serving: Serving,
+    due: &mut Due,
+) -> Result<Ending, ServeFault>
+    requires { session.old.begun ≡ false }
+    ensures { session.new.begun ≡ false }
+{
+    match serving {
+        Serving::Input(workers) => input_ended(rt, session, workers, due),
+        Serving::Once => once_ended(rt, session, due),
+        Serving::ShowUndo => show_undo(rt.alloc(), session, &mut Noted::new(due)),
+        Serving::ShowRedo => show_redo(rt.alloc(), session, &mut Noted::new(due)),
+    }
+}
+
+fn input_ended<R: AllocGlobal + Threads + Wait + Sync>(
+    rt: &R,
+    session: &mut Session,
     workers: u8,
     due: &mut Due,
-) -> Result<(), ServeFault>
+) -> Result<Ending, ServeFault>
     requires { session.old.begun ≡ false }
     ensures { session.new.begun ≡ false }
 {
@@ -95,14 +137,79 @@ fn ended<R: AllocGlobal + Threads + Wait + Sync>(
         workers,
     );
     drop(gate);
+    match ended {
+        Ok(()) => Ok(Ending::Done),
+        Err(fault) => Err(fault),
+    }
+}
+
+/// Does an undo by one worker.
+fn once_ended<R: AllocGlobal + Threads + Wait + Sync>(
+    rt: &R,
+    session: &mut Session,
+    due: &mut Due,
+) -> Result<Ending, ServeFault>
+    requires { session.old.begun ≡ false }
+    ensures { session.new.begun ≡ false }
+{
+    let alloc = rt.alloc();
+    let gate = TableGate::new(Vec::new(alloc), StepClock::new(Vec::new(alloc)));
+    let said = SessionLine::Step(Step::Undo(0, Vec::new(alloc)));
+    let mut writer = Noted::new(due);
+    let mut keeper = Unkept;
+    let ended = answer_once(
+        rt,
+        alloc,
+        session,
+        &mut keeper,
+        &gate,
+        1,
+        &said,
+        &mut writer,
+    );
+    drop((gate, said));
     ended
 }
 
-/// Whether a gate for a database is made, and its clock goes from then on.
+/// Whether a gate for a database is made, which logs its runs, and its clock goes from then on.
 pub(crate) fn is_gate(rt: &HostRuntime, db: &Db, words: &[String]) -> Result<bool, NoMem> {
     let log = Messages(rt);
     let gate = ShellGate::new(rt, &log, rt.alloc(), db, words, words, 7)?;
+    // The log is opened between the two parts, where no growth is refused.
+    let _ = print!(rt; "done; ");
+    match RunFile::open(rt, "live") {
+        Ok(file) => {
+            let is_logging = is_logging(rt, db, gate, &file);
+            drop(file);
+            is_logging
+        }
+        Err(_) => {
+            drop(gate);
+            Ok(false)
+        }
+    }
+}
+
+fn is_logging(
+    rt: &HostRuntime,
+    db: &Db,
+    gate: ShellGate<'_, HostRuntime, Messages<&HostRuntime>>,
+    file: &RunFile,
+) -> Result<bool, NoMem> {
+    let _ = print!(rt; "with_run_log: ");
+    let gate = gate.with_run_log(file, db)?;
     let is_new = gate.now() < MOST;
+    drop(gate);
+    Ok(is_new)
+}
+
+/// Whether a gate that reports outcomes answers for its clock.
+pub(crate) fn is_telling(rt: &HostRuntime, db: &Db) -> Result<bool, NoMem> {
+    let log = Messages(rt);
+    let alloc = rt.alloc();
+    let inner = TableGate::new(Vec::new(alloc), StepClock::new(Vec::new(alloc)));
+    let gate = Telling::new(&log, alloc, db, inner)?;
+    let is_new = gate.now() == 0;
     drop(gate);
     Ok(is_new)
 }

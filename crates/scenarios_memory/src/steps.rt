@@ -17,6 +17,8 @@ const FALL: [u16; 5] = [WEB, LOG, DB, NET, ROOT];
 pub(crate) enum Act {
     /// Brings `site` up, within a limit if that is not 0.
     Up(u32),
+    /// The same, of which only one service came up.
+    Cut,
     /// Undoes a change, by taking these services, or an edit.
     Undo(&'static [u16]),
     /// Redoes a change or an edit.
@@ -54,7 +56,8 @@ pub(crate) fn steps_of(alloc: Global, acts: &[Act]) -> Result<Vec<Step>, NoMem> 
 
 fn step_of(alloc: Global, act: &Act) -> Result<Step, NoMem> {
     match act {
-        Act::Up(limit) => up_site(alloc, *limit),
+        Act::Up(limit) => up_site(alloc, *limit, &RISE),
+        Act::Cut => up_site(alloc, 5, &[ROOT]),
         Act::Undo(order) => Ok(Step::Undo(0, run_of(alloc, order)?)),
         Act::Redo(order) => Ok(Step::Redo(0, run_of(alloc, order)?)),
         Act::Add => add_pair(alloc),
@@ -72,7 +75,7 @@ fn run_of(alloc: Global, services: &[u16]) -> Result<Vec<Event>, NoMem> {
     Ok(events)
 }
 
-fn up_site(alloc: Global, limit: u32) -> Result<Step, NoMem> {
+fn up_site(alloc: Global, limit: u32, order: &[u16]) -> Result<Step, NoMem> {
     let names = words_of(alloc, &["site"])?;
     let request = Request {
         mode: Mode::Up,
@@ -81,7 +84,7 @@ fn up_site(alloc: Global, limit: u32) -> Result<Step, NoMem> {
         names,
         limit,
     };
-    Ok(Step::Change(request, run_of(alloc, &RISE)?))
+    Ok(Step::Change(request, run_of(alloc, order)?))
 }
 
 fn add_pair(alloc: Global) -> Result<Step, NoMem> {

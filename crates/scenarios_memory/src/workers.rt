@@ -4,7 +4,7 @@ ghost use Rattle.std.specs.Prelude.{◌≡◌, false};
 
 use rc_board::{Fault, Gate, Glance, Watch, change, redo, undo};
 use rc_core::{Event, Job, Outcome, Standing};
-use rc_runner::StepClock;
+use rc_runner::{StepClock, TableGate};
 use rc_session::{Refusal, Report, Session, Step};
 use samples_memory::go_on_to;
 use std::alloc::AllocGlobal;
@@ -13,11 +13,11 @@ use std::sync::Wait;
 use std::sync::atomic::{AtomicUsize, Ordering};
 use std::thread::Threads;
 
-/// A gate at which all goes well, that counts what it is asked, and a watch that counts its looks,
-/// and remembers the most that one of them saw.
+/// A gate over one that answers by a table, that counts what it is asked, and a watch that counts
+/// its looks, and remembers the most that one of them saw.
 #[derive(Drop)]
 struct Counting {
-    clock: StepClock,
+    gate: TableGate,
     calls: AtomicUsize,
     looks: AtomicUsize,
     events: AtomicUsize,
@@ -29,13 +29,13 @@ impl Gate for Counting {
 
     ghost gives = { λ gate moment. Unit {0} };
 
-    fn run(&self, _job: Job) -> Outcome {
+    fn run(&self, job: Job) -> Outcome {
         self.calls.fetch_add(1, Ordering::SeqCst);
-        Outcome::Ok
+        self.gate.run(job)
     }
 
     fn now(&self) -> u64 {
-        self.clock.now()
+        self.gate.now()
     }
 }
 
@@ -74,9 +74,22 @@ fn is_seen(seen: &Counting, report: &Report) -> bool {
         && is_cut_short(report)
 }
 
-/// Where a run was stopped, one service was taken and ended well before that, and four were not.
+/// Where a run was stopped, it has one take, its end and the stop, and four services are untried.
 fn is_cut_short(report: &Report) -> bool {
-    !report.stopped || (report.trace.len() == 3 && report.untried.len() == 4)
+    !report.stopped || (is_one_transition(&report.trace) && report.untried.len() == 4)
+}
+
+/// Whether a service was taken, its transition ended well, and the run was stopped at moment 5.
+fn is_one_transition(trace: &[Event]) -> bool {
+    let [
+        Event::Take(1, taken),
+        Event::Done(1, ended, Outcome::Ok),
+        Event::Stop(1, 5),
+    ] = trace
+    else {
+        return false;
+    };
+    taken == ended
 }
 
 fn takes_in(trace: &[Event]) -> usize {
@@ -137,7 +150,7 @@ fn by_clock<R: AllocGlobal + Threads + Wait + Sync>(
     ensures { session.new.begun ≡ false }
 {
     let seen = Counting {
-        clock,
+        gate: TableGate::new(Vec::new(rt.alloc()), clock),
         calls: AtomicUsize::new(0),
         looks: AtomicUsize::new(0),
         events: AtomicUsize::new(0),

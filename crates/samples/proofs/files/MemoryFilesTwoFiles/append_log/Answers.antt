@@ -2,7 +2,7 @@ use Rattle.std.proofs.Common.{◌≡◌, ◌∙◌, ◌++◌, ℕ, Bool, true, f
 use Rattle.std.specs.Result.{is_ok}
 use Rattle.std.proofs.lemmas.List.{append-nil, take-append-drop}
 use Rattle.rc_files.specs.Files.{Append, Torn}
-use Rattle.scenarios.proofs.crashed.MemoryFilesTwoFiles.append_log.Goals as goal
+use Rattle.samples.proofs.files.MemoryFilesTwoFiles.append_log.Goals as goal
 
 -- the front of the bytes for which there are steps is appended, where there is memory
 torn : (file old new bytes : List ℕ) (count : ℕ) (ok : Bool)
