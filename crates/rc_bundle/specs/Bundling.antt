@@ -1,3 +1,4 @@
+-- An edit that leads to a table with a given property.
 use Rattle.std.specs.Prelude.{List}
 use Rattle.rc_model.specs.Database.{Bundles, IsTable}
 use Rattle.rc_model.specs.Line.{Alteration, IsEdit}

@@ -1,3 +1,4 @@
+-- How the first flaw of definitions is reported, and steps of what names stand for, need and feed.
 use Rattle.std.proofs.Common.{◌≡◌, ℕ, inl, List, Contains, refl}
 use Rattle.rc_source.specs.Meaning.{Meaning}
 use Rattle.rc_compile.specs.declared.CompileFault.{CompileFault}

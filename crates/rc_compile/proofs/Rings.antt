@@ -1,3 +1,4 @@
+-- Compiled definitions have no cycle of services that need one another by name.
 use Rattle.std.proofs.Common.{◌≡◌, ℕ, List, [], ◌∷◌, ◌++◌}
 use Rattle.std.specs.Prelude.{Some, slice_get}
 use Rattle.rc_model.specs.Graph.{Reaches}

@@ -1,3 +1,4 @@
+-- The tables that the compiler's tests look into: services, bundles, pipes and shared names.
 use Rattle.std.specs.Prelude.{◌≡◌, ◌<◌, ◌↔◌, ◌⊎◌, ℕ, Bool, List, length, Contains, Some, slice_get}
 use Rattle.rc_model.specs.declared.Kind.TheVariants.{Longrun}
 use Rattle.rc_model.specs.Names.{Has, Holds}

@@ -1,3 +1,4 @@
+-- The names that a definition gives to services and bundles, and when a table of names is full.
 use Rattle.std.specs.Prelude.{◌≡◌, ◌≢◌, ◌≤◌, ◌⊎◌, ℕ, List, length, Contains}
 use Rattle.rc_model.specs.declared.Kind.TheVariants.{Bundle}
 use Rattle.rc_source.specs.Meaning.{Meaning}

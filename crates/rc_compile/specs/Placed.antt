@@ -1,3 +1,4 @@
+-- For each name, the place of its definition, and the service that this makes.
 use Rattle.std.specs.Prelude.{◌≡◌, ℕ, List, length, slice_index, slice_get, Some, Contains}
 use Rattle.rc_model.specs.Database.{Service}
 use Rattle.rc_source.specs.Meaning.{Meaning}

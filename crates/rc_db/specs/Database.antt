@@ -1,3 +1,4 @@
+-- Databases that can be written as text.
 use Rattle.std.specs.Prelude.{All}
 use Rattle.rc_db.specs.Service.{IsWritableService}
 use Rattle.rc_model.specs.Database.{Database}

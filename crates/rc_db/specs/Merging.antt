@@ -1,3 +1,4 @@
+-- Which of two lists of names has the next name in byte order.
 use Rattle.std.specs.Prelude.{◌≡◌, ℕ, List, Some, slice_get}
 use Rattle.rc_model.specs.Names.{IsBefore}
 

@@ -1,3 +1,4 @@
+-- The database that its parts make.
 use Rattle.rc_db.specs.declared.parts.Parts.{Parts}
 use Rattle.rc_model.specs.Database.{Database}
 

@@ -1,3 +1,4 @@
+-- When a query is refused, and by which fault first.
 use Rattle.std.specs.Prelude.{◌≡◌, ℕ, List, All, Contains}
 use Rattle.rc_model.specs.declared.Kind.TheVariants.{Oneshot, Longrun}
 use Rattle.rc_db.specs.declared.fault.QueryFault.{QueryFault}

@@ -1,3 +1,4 @@
+-- What was read of the part of a service after its needs.
 use Rattle.std.specs.Option.{option_map}
 use Rattle.rc_dbform.specs.declared.forms.BodyForm.{BodyForm}
 use Rattle.rc_dbform.specs.declared.forms.BodyForm.TheVariants as forms

@@ -1,3 +1,5 @@
+-- Values that are read line by line: where reading succeeds, where it is stuck, and what refuses
+-- it.
 use Rattle.std.specs.Prelude.{◌≡◌, ◌≢◌, ◌<◌, ℕ, List, [], ◌∷◌, length, All, codes}
 use Rattle.std.specs.Str.Parse.{digits_value}
 use Rattle.rc_dbform.specs.declared.fault.FormFault.{FormFault}

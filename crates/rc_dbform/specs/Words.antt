@@ -1,3 +1,4 @@
+-- Values that are read from the words of one line.
 use Rattle.std.specs.Prelude.{◌≡◌, ℕ, List, ◌++◌, length, All}
 use Rattle.std.specs.Str.{IsUtf8}
 use Rattle.rc_dbform.specs.declared.fault.FormFault.{FormFault}

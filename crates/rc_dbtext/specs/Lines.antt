@@ -1,3 +1,4 @@
+-- The lines of a database in two parts: those of its services and those of its bundles.
 use Rattle.std.specs.Prelude.{ℕ, List, ◌∷◌}
 use Rattle.std.specs.List.{flat_map}
 use Rattle.rc_model.specs.Database.{Database}

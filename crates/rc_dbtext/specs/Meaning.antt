@@ -1,3 +1,4 @@
+-- Texts that mean a database: their names ascend, stand for what they may, and lead in no cycle.
 use Rattle.std.specs.Prelude.{◌≡◌, ℕ, List, [], ◌∷◌, ◌++◌, map, All, Contains, IfSome}
 use Rattle.rc_model.specs.declared.Kind.TheVariants as kinds
 use Rattle.rc_model.specs.Names.{IsInByteOrder}

@@ -1,3 +1,4 @@
+-- Parts of a text against names that are known, and a service against its text.
 use Rattle.std.specs.Prelude.{◌≡◌, ℕ, List, map, All, Contains, IfSome, Some, slice_get}
 use Rattle.rc_model.specs.Database.{Service}
 use Rattle.rc_db.specs.Service.{IsWritableService}

@@ -1,3 +1,4 @@
+-- The text of a database: names in place of ids, and its bytes.
 use Rattle.std.specs.Prelude.{ℕ, suc, Bool, true, false, List, [], ◌∷◌, map, unwrap_or, slice_index_or}
 use Rattle.std.specs.Option.{option_map}
 use Rattle.rc_model.specs.declared.Kind.{Kind}

@@ -1,3 +1,4 @@
+-- An id is put into an ascending list, and a pair into the table of lists.
 use Rattle.std.proofs.Common.{◌≡◌, ◌∙◌, ℕ, ◌+◌, ◌<◌, ◌≤◌, ◌⊎◌, ◌↔◌, List, [], ◌∷◌, ◌++◌, Contains, inl, inr, arith, sym, subst, slice_index_or, slice_set, length, length-set, zero, suc, Ok, Err, ◌-◌, Result, IsOk, OnOk, OnErr}
 use Rattle.std.specs.List.{insert}
 use Rattle.smallvec.specs.SmallVec.{SmallVec}

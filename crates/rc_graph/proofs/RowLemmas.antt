@@ -1,3 +1,4 @@
+-- Lists in a table of short vectors: what a row holds, and rows that are counted or added.
 use Rattle.std.proofs.Common.{◌≡◌, ◌∙◌, inl, inr, ℕ, ◌+◌, ◌<◌, ◌↔◌, List, [], All, Contains, length, map, replicate, take, slice_index_or, ◌∷◌, ◌++◌, ◌≤◌, zero, suc, refl, arith, ap, sym, subst}
 use Rattle.smallvec.specs.SmallVec.{SmallVec}
 use Rattle.std.proofs.lemmas.List.{get_or-map, length-map, map_more, map_push, replicate_more, take_all}

@@ -1,3 +1,4 @@
+-- One step of a walk over the graph: what a set and a list gain.
 use Rattle.std.specs.Prelude.{◌≡◌, ◌+◌, ◌≤◌, ◌⊎◌, ◌↔◌, ℕ, List, Bool, not, length, count_by, Contains}
 use Rattle.rc_model.specs.Names.{Has, Holds}
 

@@ -1,3 +1,4 @@
+-- When bundles have no graph, because they hold one another in a cycle.
 use Rattle.std.specs.Prelude.{◌≡◌, ℕ, List}
 use Rattle.rc_holds.specs.declared.graph.CycleFault.{CycleFault}
 use Rattle.rc_holds.specs.declared.graph.CycleFault.TheVariants.{Cycle, Memory}

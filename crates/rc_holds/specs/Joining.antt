@@ -1,3 +1,4 @@
+-- Sets that are joined along the lists of a graph.
 use Rattle.std.specs.Prelude.{◌≡◌, ◌⊎◌, ℕ, Bool, List, [], length, slice_index_or, All, Contains}
 use Rattle.rc_model.specs.Names.{Has}
 use Rattle.rc_model.specs.Graph.{UpFrom}

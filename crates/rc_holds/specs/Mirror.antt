@@ -1,3 +1,4 @@
+-- Relations between names, as lists of ids for the places of the names.
 use Rattle.std.specs.Prelude.{◌≡◌, ◌↔◌, ℕ, List, length, Contains, Some, slice_get}
 use Rattle.std.specs.Option.{option_to_list}
 use Rattle.rc_model.specs.Graph.{Needs}

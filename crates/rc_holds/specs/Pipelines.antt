@@ -1,3 +1,4 @@
+-- Services, longruns and pipelines among definitions, and which name a pipeline has.
 use Rattle.std.specs.Prelude.{◌≡◌, ◌≢◌, ℕ, List, [], Contains, Some, None}
 use Rattle.rc_model.specs.declared.Kind.TheVariants.{Longrun, Bundle}
 use Rattle.rc_source.specs.Meaning.{Meaning}

@@ -1,3 +1,4 @@
+-- The lists that vectors of vectors hold.
 use Rattle.std.specs.Prelude.{ℕ, List, map}
 use Rattle.std.specs.Global.{Vec}
 

@@ -1,3 +1,4 @@
+-- What a name stands for among definitions, and which service needs which by name.
 use Rattle.std.specs.Prelude.{◌≡◌, ◌⊎◌, ℕ, List, Contains}
 use Rattle.rc_model.specs.declared.Kind.TheVariants.{Bundle}
 use Rattle.rc_source.specs.Meaning.{Meaning}

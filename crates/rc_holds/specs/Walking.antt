@@ -1,3 +1,4 @@
+-- One step of a walk: a list is met, and what of it is new is left to follow.
 use Rattle.std.specs.Prelude.{◌≡◌, ◌≤◌, ◌+◌, ◌⊎◌, ◌↔◌, ℕ, Bool, List, not, length, count_by, Contains}
 use Rattle.rc_model.specs.Names.{Has, Holds}
 

@@ -1,3 +1,4 @@
+-- The text of a line of states, in the form of now and in the older one.
 use Rattle.std.specs.Prelude.{◌≡◌, ◌⊎◌, max, ℕ, List, length, map, Option, Some, None}
 use Rattle.rc_model.specs.Database.{Database}
 use Rattle.rc_model.specs.Line.{State, Line, states}

@@ -1,3 +1,4 @@
+-- The text of a session: what it gives, its lines and their bytes, and what may be spelled.
 use Rattle.std.specs.Prelude.{◌≤◌, ◌<◌, ◌^◌, ℕ, Bool, true, false, codes}
 use Rattle.std.specs.Prelude.{List, [], ◌∷◌, ◌++◌, length, map, All, Option, Some, None, IfSome}
 use Rattle.std.specs.List.{flat_map}

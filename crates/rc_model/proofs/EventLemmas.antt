@@ -1,3 +1,4 @@
+-- What events contain after one more of them.
 use Rattle.std.proofs.Common.{◌≡◌, ℕ, Bool, false, List, [], ◌∷◌, ◌++◌, ◌⊎◌, inl, inr, Contains, ap, sym}
 use Rattle.std.proofs.lemmas.List.Elements.{Contains-append_left, Contains-push_cases}
 use Rattle.rc_model.specs.declared.Outcome.{Outcome}

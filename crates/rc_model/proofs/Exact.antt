@@ -1,3 +1,4 @@
+-- An entry leads from a state to only one state, and an edit to only one table.
 use Rattle.std.proofs.Common.{◌≡◌, ◌⊎◌, ◌∙◌, ℕ, suc, Bool, true, false, List, [], ◌∷◌, length, Option, Some, None, unwrap_or, inl, inr, refl, ap, sym, arith}
 use Rattle.rc_model.specs.Names.{Has}
 use Rattle.rc_model.proofs.SetMembers.{has_or_lacks}

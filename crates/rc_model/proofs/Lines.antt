@@ -1,3 +1,5 @@
+-- Lines of states and where they are cut: the same states with the cursor elsewhere, fronts and
+-- backs.
 use Rattle.std.proofs.Common.{◌≡◌, ◌≢◌, ◌∙◌, ℕ, suc, List, [], ◌∷◌, ◌++◌, length, take, drop, Some, slice_get, All, refl, ap, sym, subst, arith}
 use Rattle.rc_model.specs.Line.{State, Line, IsNext, AreStates, DifferInTurn, states, cursor}
 use Rattle.std.proofs.lemmas.List.Elements.{All-nil, All-cons, All-append}

@@ -1,3 +1,4 @@
+-- The ids that one set gains over another, listed in ascending order.
 use Rattle.std.proofs.Common.{◌≡◌, ℕ, ◌+◌, ◌<◌, ◌≤◌, ◌↔◌, List, [], ◌∷◌, ◌++◌, Bool, length, Contains, All, inl, inr, arith, subst, slice_index_or}
 use Rattle.std.proofs.lemmas.List.Elements.{Contains-push, Contains-push_cases, Contains-append_left, All-push}
 use Rattle.std.proofs.lemmas.Bool.{cases_lt}

@@ -1,3 +1,4 @@
+-- Sets of one bound with the same members are equal, and a set that is copied id by id.
 use Rattle.std.proofs.Common.{◌≡◌, ℕ, ◌<◌, ◌≤◌, ◌↔◌, List, [], ◌∷◌, Bool, true, false, zero, suc, length, inl, inr, arith, refl, sym}
 use Rattle.std.proofs.lemmas.Bool.{cases_lt}
 use Rattle.rc_model.specs.Names.{Has}

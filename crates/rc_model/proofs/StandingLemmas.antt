@@ -1,3 +1,4 @@
+-- Where a service stands after one more event.
 use Rattle.std.proofs.Common.{◌≡◌, ◌≢◌, ℕ, ◌⊎◌, inl, inr, List, [], ◌∷◌, ◌++◌, Bool, true, false, eqb, eq-eqb, refl, ◌∙◌}
 use Rattle.std.proofs.lemmas.Bool.{ne_eqb, cond-true, cond-false, false_from_ne_true}
 use Rattle.std.proofs.lemmas.List.Sums.{fold_push}

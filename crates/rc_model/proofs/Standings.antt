@@ -1,3 +1,4 @@
+-- Where services stand before the first event, listed service by service.
 use Rattle.std.proofs.Common.{◌≡◌, ℕ, ◌+◌, ◌<◌, ◌≤◌, ◌∙◌, List, [], ◌∷◌, ◌++◌, Bool, true, false, if◌then◌else◌, length, slice_index_or, inl, inr, arith, ap, sym, refl}
 use Rattle.std.proofs.lemmas.List.{length_push, get_or_push, get_or_append_left, get_or_past}
 use Rattle.std.proofs.lemmas.Bool.{cases_lt}

@@ -1,3 +1,4 @@
+-- From a closed opening, every run has at each moment all that its live services need.
 use Rattle.std.proofs.Common.{◌≡◌, ℕ, List, [], ◌∷◌, ◌++◌, take, inl, inr, ap, ◌∙◌, sym, subst}
 use Rattle.std.proofs.lemmas.Bool.{cases_eq}
 use Rattle.rc_model.specs.Names.{Has}

@@ -1,3 +1,4 @@
+-- What a report tells of a run, from what the run has come to.
 use Rattle.std.proofs.Common.{◌≡◌, ◌∙◌, ◌↔◌, ℕ, Bool, true, false, List, [], Option, if◌then◌else◌, refl, sym, subst, rules}
 use Rattle.rc_model.specs.Names.{Has}
 use Rattle.rc_model.specs.Plan.{PlanSets}

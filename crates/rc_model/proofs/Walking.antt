@@ -1,3 +1,4 @@
+-- Lines stay lines when the cursor moves, when a state is put in, and at an undo or redo.
 use Rattle.std.proofs.Common.{◌≡◌, ◌≢◌, ◌⊎◌, ◌∙◌, ◌+◌, ◌≤◌, ℕ, suc, arith, length-append, Bool, List, [], ◌∷◌, ◌++◌, length, take, drop, inl, inr, refl, ap, sym, subst}
 use Rattle.rc_model.specs.Database.{IsTable}
 use Rattle.rc_model.specs.Line.{State, Line, IsNext, IsLine, AreStates, states, cursor, within_bound, MovesTo, MovesByUndo, MovesByRedo, put_between, put_last, with_live}

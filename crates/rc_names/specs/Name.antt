@@ -1,3 +1,4 @@
+-- Why a text is no name: the first fault in order.
 use Rattle.std.specs.Prelude.{◌≡◌, ◌<◌, ◌≤◌, ℕ, List, [], length}
 use Rattle.rc_names.specs.declared.name.NameFault.{NameFault}
 use Rattle.rc_names.specs.declared.name.NameFault.TheVariants.{Empty, Long, BadByte, Reserved, Memory}

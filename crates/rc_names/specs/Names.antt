@@ -1,3 +1,5 @@
+-- Lists of names in byte order: what they list, what is added, and where a missing name would
+-- stand.
 use Rattle.std.specs.Prelude.{◌≡◌, ◌≤◌, ◌↔◌, ◌⊎◌, ℕ, List, length, Contains, Some, slice_get}
 use Rattle.std.specs.List.{AllWithin}
 use Rattle.rc_model.specs.Names.{IsBefore, IsInByteOrder}

@@ -1,3 +1,4 @@
+-- The journal's text, piece by piece: signs of services, members of bundles, lines of entries.
 use Rattle.std.proofs.Common.{◌≡◌, ◌∙◌, ◌⊎◌, ◌↔◌, inl, inr, ℕ, zero, suc, ◌+◌, ◌<◌, Bool, true, false, List, [], ◌∷◌, ◌++◌, Some, length, take, All, Contains, slice_get, slice_index_or, get_or, if◌then◌else◌, ◌≤◌, refl, ap, sym, subst, arith, append_assoc, add-one}
 use Rattle.std.proofs.lemmas.List.{append-nil, take_all, take_more}
 use Rattle.std.proofs.lemmas.List.Elements.{Contains-get_or, Contains-push, Contains-push_cases, Contains-append_left}

@@ -1,3 +1,4 @@
+-- Lines of names, name by name.
 use Rattle.rc_model.specs.Line.{Lists}
 use Rattle.std.proofs.Common.{◌≡◌, ◌∙◌, ℕ, ◌+◌, ◌<◌, ◌≤◌, List, [], ◌∷◌, ◌++◌, Some, length, map, take, slice_get, slice_index_or, get_or, All, arith, refl, ap, sym}
 use Rattle.std.proofs.lemmas.Grind.{flat_map-append}

@@ -1,3 +1,4 @@
+-- The answers to commands, as text.
 use Rattle.std.specs.Prelude.{ℕ, List, [], ◌∷◌, ◌++◌, Result, Ok, Err}
 use Rattle.rc_model.specs.declared.Refusal.{Refusal}
 use Rattle.rc_model.specs.Session.{Command, Change, Undo, Redo, Add, Delete, Reported}

@@ -1,3 +1,4 @@
+-- Lines of names: one name a line, or a word and names after it.
 use Rattle.rc_model.specs.Line.{Lists}
 use Rattle.std.specs.Prelude.{◌≡◌, ℕ, List, [], ◌∷◌, ◌++◌, map, slice_index_or}
 use Rattle.std.specs.List.{flat_map}

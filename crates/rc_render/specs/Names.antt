@@ -1,3 +1,4 @@
+-- Lines of the services of a set and of bundles.
 use Rattle.std.specs.Prelude.{ℕ, Bool, true, false, List, [], ◌∷◌, ◌++◌, codes}
 use Rattle.std.specs.List.{flat_map}
 use Rattle.rc_model.specs.Database.{Bundles}

@@ -1,3 +1,4 @@
+-- The lines of a plan.
 use Rattle.std.specs.Prelude.{◌≡◌, ◌++◌, ℕ, List, codes}
 use Rattle.rc_model.specs.Names.{Has}
 use Rattle.rc_model.specs.Plan.{PlanSets}

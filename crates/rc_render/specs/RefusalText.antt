@@ -1,3 +1,4 @@
+-- Refusals as text: their names, and the words or numbers that they tell.
 use Rattle.std.specs.Prelude.{ℕ, List, [], ◌++◌, codes, slice_index_or}
 use Rattle.std.specs.Fmt.{decimal}
 use Rattle.rc_model.specs.declared.Refusal.{Refusal}

@@ -1,3 +1,4 @@
+-- The answer to a command that is done.
 use Rattle.std.specs.Prelude.{ℕ, List, ◌++◌, codes}
 use Rattle.rc_model.specs.Session.{Reported}
 use Rattle.rc_render.specs.Lines.{names_line, names_at}

@@ -1,3 +1,4 @@
+-- A change or an edit that alters something is entered into the line.
 use Rattle.std.proofs.Common.{◌≡◌, ◌∙◌, ◌≤◌, refl, [], ◌∷◌, inl, inr, ap, sym, subst}
 use Rattle.rc_model.specs.Database.{Database}
 use Rattle.rc_model.specs.Line.{IsEdit, State, Entry, IsEntry, IsGained, Line, IsNext, MovesTo, put_last, with_live, with_table, Lists}

@@ -1,3 +1,4 @@
+-- What a redo leaves that fails midway, and how an undo or redo goes on after one that failed.
 use Rattle.std.proofs.Common.{◌≡◌, ◌≢◌, ◌∙◌, ◌⊎◌, ◌≤◌, ◌<◌, suc, Bool, List, [], ◌∷◌, ◌++◌, length, length-append, Ok, inl, inr, refl, ap, sym, subst, arith}
 use Rattle.rc_model.specs.Database.{IsTable, Database, IsDatabase}
 use Rattle.rc_model.specs.Line.{State, Entry, IsEntry, Line, IsLine, IsNext, IsEntryBefore, IsEntryAfter, states, within_bound, MovesByUndo, MovesByRedo, put_between, with_live}

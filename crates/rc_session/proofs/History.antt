@@ -1,3 +1,5 @@
+-- Whatever is done to a line keeps its history: it loses no state but by its bound, or what could
+-- be redone.
 use Rattle.std.proofs.Common.{◌≡◌, ◌∙◌, ◌≤◌, ℕ, Bool, List, [], ◌∷◌, ◌++◌, ◌⊎◌, length, length-append, inl, inr, refl, ap, sym, subst, arith}
 use Rattle.rc_model.specs.declared.Event.{Event}
 use Rattle.rc_model.specs.Database.{Database}

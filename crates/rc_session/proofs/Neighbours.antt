@@ -1,3 +1,4 @@
+-- A line has one neighbour on each side.
 use Rattle.std.proofs.Common.{◌≡◌, ◌∙◌, suc, List, [], ◌∷◌, ◌++◌, length, refl, ap, sym, arith}
 use Rattle.rc_model.specs.Line.{State, Line, IsNext}
 use Rattle.rc_model.proofs.Lines.{length_push, cons_head, cons_tail}

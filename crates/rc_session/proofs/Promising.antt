@@ -1,3 +1,4 @@
+-- The headline for one command and for many: what is promised holds of each line of a database.
 use Rattle.std.proofs.Common.{◌≡◌, ◌∙◌, Bool, List, take, Result, inl, inr, ap, sym, subst}
 use Rattle.rc_model.specs.Names.{Holds}
 use Rattle.rc_model.specs.Run.{course_of, IsStrictlyClosed}

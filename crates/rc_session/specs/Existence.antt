@@ -1,3 +1,4 @@
+-- What can be done where a line stands.
 use Rattle.std.specs.Prelude.{◌≢◌, ◌⊎◌, ℕ, List, [], Ok}
 use Rattle.rc_model.specs.Names.{IsName}
 use Rattle.rc_model.specs.Database.{Database}
@@ -7,8 +8,6 @@ use Rattle.rc_model.specs.declared.Refusal.{Refusal}
 use Rattle.rc_model.specs.Session.{Command, Undo, Redo, Add, Reported, Does, IsOwnFault}
 use Rattle.rc_session.specs.Commands.{with_events}
 use Rattle.rc_model.specs.Headline.{WentWell}
-
--- What can be done where a line stands.
 
 -- some events carry the command out with nothing failing, and then the line is this one
 abbrev pub CanGoWell : Database → Line → Command → Line → Type 0

@@ -1,3 +1,4 @@
+-- What a session has, and what it answers to commands.
 use Rattle.std.specs.Prelude.{◌≡◌, ◌⊎◌, ℕ, Bool, true, false, List, [], length, replicate, map, Option, Result, Ok, Err}
 use Rattle.rc_model.specs.Database.{Database}
 use Rattle.rc_model.specs.Plan.{PlanSets}

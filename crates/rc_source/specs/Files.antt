@@ -1,3 +1,4 @@
+-- The tests of one file: what is wrong with it, and where reading stops.
 use Rattle.std.specs.Prelude.{◌≡◌, ◌<◌, ◌⊎◌, ℕ, List, false, length, All, Contains, Option, Some, None}
 use Rattle.rc_model.specs.Names.{IsName}
 use Rattle.rc_source.specs.declared.fault.Flaw.{Flaw}

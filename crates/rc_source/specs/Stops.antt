@@ -1,3 +1,4 @@
+-- Tests in order: where reading stops first.
 use Rattle.std.specs.Prelude.{◌⊎◌, List, [], ◌∷◌}
 
 -- of things that are tested in order, the first that does not pass is one at which reading stops

@@ -1,3 +1,4 @@
+-- All tests of sources in the order in which they are made, and the flaw at which reading stops.
 use Rattle.std.specs.Prelude.{◌≡◌, ◌⊎◌, not, ℕ, List, [], ◌∷◌, ◌++◌, map, filter, All, Contains, codes, string_bytes, slice_get, Some}
 use Rattle.rc_model.specs.Names.{IsName}
 use Rattle.rc_source.specs.declared.fault.Flaw.{Flaw}

@@ -1,3 +1,4 @@
+-- The files of a table, each a path with its bytes.
 use Rattle.std.specs.Prelude.{ℕ, List, map, string_bytes, String, Vec}
 
 -- files as they stand in a table

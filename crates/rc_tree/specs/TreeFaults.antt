@@ -1,3 +1,4 @@
+-- When a look into a tree is refused: a device fails, or a file is too long.
 use Rattle.std.specs.Prelude.{◌≡◌, ◌<◌, ◌≤◌, ◌+◌, ◌-◌, ◌^◌, min, ℕ, List, length, Option, Some}
 use Rattle.rc_tree.specs.declared.tree.TreeFault.{TreeFault}
 use Rattle.rc_tree.specs.declared.tree.TreeFault.TheVariants.{Io, TooLong, Memory}
