@@ -5,7 +5,7 @@ PREFIX ?= /usr/local
 PROGRAM := crates/undorc/out/undorc
 SOURCES := $(shell find crates -name out -prune -o -type f -print) crates.txt
 
-.PHONY: build demo model pages test install uninstall release
+.PHONY: build crates demo model pages test install uninstall release
 
 # Only a proved crate is built, so the first build proves everything below the program. `make test`
 # builds the program too.
@@ -18,9 +18,13 @@ $(PROGRAM): $(SOURCES)
 demo:
 	@sh tests/demo.sh $(PROGRAM)
 
-# The list of definitions with the contracts that name them, from the sources.
+# The list of definitions with the contracts that name them, from the sources; it is not kept in git.
 model:
 	@python3 tests/words.py > docs/WORDS.md
+
+# The descriptions of the crates, from the heads of their root files.
+crates:
+	@python3 tests/crates.py
 
 # The lists of the man pages that are tables of docs/FORMATS.md.
 pages:

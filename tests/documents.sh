@@ -1,5 +1,5 @@
-# What the documents say of the sources: each crate of crates.txt has its line in the lists of docs/ARCHITECTURE.md and
-# docs/PROOF.md, and each definition and call that docs/MODEL.md names is there, and each file that any names.
+# What the documents say of the sources: each crate of crates.txt stands in the tree of docs/ARCHITECTURE.md and in the
+# tables of docs/PROOF.md, and each definition and call that docs/MODEL.md names is there, and each file that any names.
 # tests/pages.sh reads this file.
 
 # The crates of the product, and those that test.
@@ -17,10 +17,8 @@ cp product wanted
 awk '/^```/ { if (inside) exit; inside = 1; next } inside && $1 ~ /^(rc_|undorc)/ { print $1 }' \
     "$top/docs/ARCHITECTURE.md" > found
 equals 'the tree of docs/ARCHITECTURE.md'
-firsts_of "$top/docs/ARCHITECTURE.md" > found
-equals 'the table of docs/ARCHITECTURE.md'
 cp testing wanted
-grep '^Tests stand at the top' "$top/docs/ARCHITECTURE.md" | grep -o '`[a-z_]*`' | tr -d '`' > found
+grep '^Tests stand at the top' "$top/docs/ARCHITECTURE.md" | grep -o -E '`(samples|scenarios)[a-z_]*`' | tr -d '`' > found
 equals 'the tests of docs/ARCHITECTURE.md'
 # The program itself promises nothing of its own.
 grep -v -x undorc product > wanted
@@ -38,19 +36,63 @@ holds 'crates.txt, of the crates of docs/MODEL.md,'
 
 # Files that documents name are there.
 grep -h -o -E '`(tests|docs|contrib|packaging|man|crates)/[A-Za-z0-9_./-]*`' "$top"/*.md "$top"/docs/*.md "$top"/contrib/*.md |
-    tr -d '`' | grep -v -e '/out/' -e /TOPIC | sort -u > wanted
+    tr -d '`' | grep -v -e '/out/' -e /TOPIC -e docs/WORDS.md | sort -u > wanted
 while read -r file; do
     [ ! -e "$top/$file" ] || echo "$file"
 done < wanted > found
 holds 'the repository, of the files that documents name,'
 
-# The list of definitions is that of the sources.
-if python3 "$top/tests/words.py" | cmp -s - "$top/docs/WORDS.md"; then
+# The scripts of the samples can run twice: each `up` in its order, and then each `down`, ends the second time as the
+# first. `run_text TEXT` runs one as its runner does.
+run_text() {
+    place=$PWD/samples
+    case $1 in
+        importas*) set -- execlineb -Pc "$1" ;;
+        *) set -- sh -c "$1" ;;
+    esac
+    env -C "$place" MACHINE="$place" UNDORC_ROOT="$place" "$@" > /dev/null 2>&1 < /dev/null
+}
+: > wanted
+: > found
+for document in README.md docs/TUTORIAL.md docs/S6RC.md contrib/machine/README.md man/undorc-sources.5; do
+    sed -n "s,^[$] echo '\\(.*\\)' > [a-z]*/\\([a-z-]*\\)/\\(up\\|down\\)$,\\3 \\2 \\1,p" "$top/$document" > texts
+    [ -s texts ] || echo "$document has scripts" >> wanted
+    rm -rf samples
+    mkdir samples
+    for wanted_way in up down; do
+        while read -r way name text; do
+            [ "$way" = "$wanted_way" ] || continue
+            first=0 second=0
+            run_text "$text" || first=$?
+            run_text "$text" || second=$?
+            echo "$document: $way of $name ends with $first" >> wanted
+            echo "$document: $way of $name ends with $second" >> found
+        done < texts
+    done
+done
+equals 'the scripts of samples, which can run twice'
+
+# Lengths of paragraphs, sentences, cells and documents, and what scripts make.
+if python3 "$top/tests/prose.py"; then
     passed=$((passed + 1))
 else
     failed=$((failed + 1))
-    echo 'FAILED: docs/WORDS.md is not of these sources: run make model'
+    echo 'FAILED: documents are too long, or not what is made (make crates; tests/figures.sh)'
 fi
+
+# Lines of sources and proofs have at most 100 columns.
+if python3 "$top/tests/columns.py" --check; then
+    passed=$((passed + 1))
+else
+    failed=$((failed + 1))
+    echo 'FAILED: lines are too long (tests/columns.py breaks them)'
+fi
+
+# The list of definitions, which is not kept, can be made: it has each module of rc_model with a definition.
+python3 "$top/tests/words.py" > words.md
+sed -n 's/^## `rc_model`: `\(.*\)`/\1/p' words.md > found
+sed -n 's/^pub mod //p' "$top/crates/rc_model/specs/Lib.antt" > wanted
+holds 'the list of make model'
 
 # What docs/PROOF.md shows of the sources stands there.
 awk '/^```/ { inside = !inside; next } inside { sub(/^ */, ""); print }' "$top/docs/PROOF.md" > wanted
@@ -76,6 +118,12 @@ holds 'the sources, of the names in docs/ARCHITECTURE.md,'
 # last in the paragraph, else one of those of the heading.
 awk '
     FILENAME == "defined" || FILENAME == "called" { is[$0] = 1; next }
+    FNR == 1 { for (line in is) { split(line, parts, " "); if (parts[3] != "") has[parts[1] " " parts[2]] = 1 } }
+    function stands(module,  i) {
+        if (crate != "") { if ((crate " " module) in has) return }
+        else for (i = 1; i <= count; i++) if ((heads[i] " " module) in has) return
+        print heads[1], (crate == "" ? "" : "of " crate " "), "has no specs/" module
+    }
     function look(name,  i) {
         if (module == "") {
             sub(/.*::/, "", name)
@@ -109,7 +157,7 @@ awk '
             word = substr(word, 1, index(word, "`") - 1)
             i += length(word) + 1
             if (word ~ /^rc_[a-z]*$/) crate = word
-            else if (word ~ /^specs\//) module = substr(word, 7)
+            else if (word ~ /^specs\//) { module = substr(word, 7); stands(module) }
             else look(word)
         }
     }' defined called "$top/docs/MODEL.md" > lost

@@ -26,17 +26,27 @@ with() {
 }
 
 # firsts FILE: what was told, without the lines that stand after a fault or after the refusal of a name, and help; they
-# begin with two spaces.
+# begin with two spaces; and without what root is told of links.
 firsts() {
-    sed -e '/^  nothing is named /d' -e '/^  options stand /d' -e '/^  no change is /d' -e '/^  -p goes /d' \
+    sed -e '/ is a link out of its source, to /d' -e '/^  nothing is named /d' -e '/^  options stand /d' -e '/^  no change is /d' -e '/^  -p goes /d' \
         -e '/^undorc: /,$ { /^  /d; }' "$1"
 }
 
-# judge WHAT STATUS: the files `status`, `out` and `err` against what is wanted, without what helps after a fault.
+# unreported FILE: it without what a one-shot command reports of transitions
+unreported() {
+    sed '/^undorc: *[0-9]*\.[0-9][0-9][0-9] s  /d' "$1"
+}
+
+# judge WHAT STATUS: the files `status`, `out` and `err` against what is wanted, without what helps after a fault, and
+# without reports where none are wanted.
 judge() {
     read -r ended < status
     firsts err > err.firsts
-    mv err.firsts err
+    if unreported err.wanted | cmp -s - err.wanted; then
+        unreported err.firsts > err
+    else
+        mv err.firsts err
+    fi
     if [ "$ended" -eq "$2" ] && cmp -s out out.wanted && cmp -s err err.wanted; then
         passed=$((passed + 1))
         return

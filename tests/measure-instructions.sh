@@ -1,11 +1,12 @@
 #!/bin/sh
-# measure-instructions.sh [PROGRAM [OLD]]: how many instructions `undorc session` takes by one worker
-# for a change of all services, its undo and its redo, as multiples of a plain loop over services and
-# pairs (tests/plain.c, which writes the same answers), without the reading of the database; how an
-# undo or redo grows with the services and with the pairs; `plan` and `db check` beside `ninja -n`,
-# where ninja is there (`plan one` raises the service that needs most); and the most memory. With OLD,
-# the program of an older commit, its figures stand in front. valgrind counts, so other work disturbs
-# nothing but time.
+# measure-instructions.sh [PROGRAM [OLD]]: how many instructions `undorc session` takes for an undo or
+# redo of all services by one worker, and by four, which is the default; and by one worker for a change
+# of all, its undo and its redo. All are multiples of a plain loop over services and pairs (tests/plain.c,
+# which writes the same answers), without the reading of the database. Then how an undo or redo by one
+# worker grows with the services and with the pairs; `plan` and `db check` beside `ninja -n`, where ninja
+# is there (`plan one` raises the service that needs most); and the most memory. With OLD, the program of
+# an older commit, its figures stand in front. valgrind counts, so other work disturbs nothing but time;
+# which of four workers waits for which differs from run to run.
 set -eu
 cd "$(dirname "$0")/.."
 program=${1:-crates/undorc/out/undorc}
@@ -54,6 +55,12 @@ moves() {
     echo "$(($(session "$1" change) - nothing)) $((($(session "$1" many) - few) / 20)) $((few - nothing))"
 }
 
+# crew PROGRAM: the mean of an undo and a redo by four workers
+crew() {
+    few=$(count few "$1" session -x none -b "$room/text")
+    echo "$((($(count many "$1" session -x none -b "$room/text") - few) / 20))"
+}
+
 # loop: the mean of an undo and a redo of the plain loop
 loop() {
     few=$(count nothing "$room/plain" "$room/text" 1)
@@ -69,14 +76,14 @@ head() {
     echo
 }
 
-head 'Graph of 4,096' 'Undo or redo' 'Change, undo and redo' 'Change alone'
+head 'Graph of 4,096' 'Undo or redo' 'by four workers' 'Change, undo and redo' 'Change alone'
 for kind in none next before fan layers random; do
     sh tests/graph.sh text $kind > "$room/text"
-    echo "$kind $(loop) $(moves "$program") ${old:+$(moves "$old")}"
+    echo "$kind $(loop) $(moves "$program") $(crew "$program") ${old:+$(moves "$old") $(crew "$old")}"
 done | awk '{
-    if (NF > 5) printf "| %s | %.2f, %.2f | %.2f, %.2f | %.2f, %.2f |\n", $1, $7 / $2, $4 / $2,
-        $8 / 3 / $2, $5 / 3 / $2, $6 / $2, $3 / $2
-    else printf "| %s | %.2f | %.2f | %.2f |\n", $1, $4 / $2, $5 / 3 / $2, $3 / $2
+    if (NF > 6) printf "| %s | %.2f, %.2f | %.2f, %.2f | %.2f, %.2f | %.2f, %.2f |\n", $1, $8 / $2,
+        $4 / $2, $10 / $2, $6 / $2, $9 / 3 / $2, $5 / 3 / $2, $7 / $2, $3 / $2
+    else printf "| %s | %.2f | %.2f | %.2f | %.2f |\n", $1, $4 / $2, $6 / $2, $5 / 3 / $2, $3 / $2
 }'
 echo
 

@@ -1,9 +1,10 @@
 #!/bin/sh
-# measure-scripts.sh [PROGRAM [RUNS]]: the processor time that `undorc session` takes to have /bin/sh run
-# `true` for each of 4,096 oneshots, with that of the scripts, by 1, 4 and 64 workers, beside `ninja -j`
-# on the same graph and `xargs -P`, which knows no graph, with as many; what the run log of `-l` adds;
-# and the most memory that each takes, but for what it starts. Times are ratios, of the least of RUNS (3
-# without RUNS), since other work disturbs them. tests/graph.sh has the graphs.
+# measure-scripts.sh [PROGRAM [RUNS]]: the processor time, user and system, that `undorc session` takes
+# for each script where it has /bin/sh run `true` for each of 4,096 oneshots, by 1, 4 and 64 workers, the
+# scripts included; that as a multiple of `ninja -j` and `make -j` on the same graph, and of `xargs -P`,
+# which knows no graph, each with as many jobs and a shell for each; what the run log of `-l` adds; and
+# the most memory that the program and ninja take, but for what they start. Each time is the least of
+# RUNS (3 without RUNS), since other work disturbs them. tests/graph.sh has the graphs.
 set -eu
 cd "$(dirname "$0")/.."
 program=$(realpath "${1:-crates/undorc/out/undorc}")
@@ -22,10 +23,18 @@ least() {
         END { print best, peak }'
 }
 
+# makefile FILE: the targets of a file for ninja as a file for make, all of them behind `all`; the `;` has
+# make start a shell, as the others do
+makefile() {
+    sed -n 's/^build \([^:]*\):.*/all: \1/p' "$1"
+    sed -n 's/^build \([^:]*\): up\(.*\)/\1:\2\n\t@true;/p' "$1"
+}
+
 for kind in none layers random; do
     sh tests/graph.sh text $kind \
         | sed 's/ longrun / oneshot /; s/^producer -$/up 5\ntrue\n\ndown -/' > "$room/text"
     sh tests/graph.sh ninja $kind > "$room/build.ninja"
+    makefile "$room/build.ninja" > "$room/Makefile"
     awk '$1 == "service" { print $2 }' "$room/text" > "$room/names"
     for workers in 1 4 64; do
         echo '-u change all' > "$room/in"
@@ -34,16 +43,18 @@ for kind in none layers random; do
         logged=$(least "$program" session -b "$room/text" -w $workers -l "$room/live")
         tail -n 1 "$room/out" | grep -q '^ok$'
         ninja=$(least ninja -C "$room" --quiet -j $workers)
+        make=$(least make -C "$room" -s -j $workers all)
         cp "$room/names" "$room/in"
         xargs=$(least xargs -n 1 -P $workers /bin/sh -c true)
-        echo "$kind $workers $ours $logged $ninja $xargs"
+        echo "$kind $workers $ours $logged $ninja $make $xargs"
     done
 done | awk '
     BEGIN {
-        print "| Graph of 4,096 | Workers | A change of all, of `ninja -j` | of `xargs -P` | With a run log, of without | Memory, MB | that of `ninja`, MB |"
-        print "|---|---|---|---|---|---|---|"
+        printf "| Graph of 4,096 | Workers | Milliseconds for each script | of `ninja -j` | of `make -j` |"
+        print " of `xargs -P` | With a run log, of without | Memory | that of ninja |"
+        print "|---|---|---|---|---|---|---|---|---|"
     }
     {
-        printf "| %s | %d | %.2f | %.2f | %.3f | %.0f | %.0f |\n", $1, $2, $3 / $7, $3 / $9, $5 / $3,
-            $4 / 1000, $8 / 1000
+        printf "| %s | %d | %.2f | %.2f | %.2f | %.2f | %.2f | %.0f MB | %.0f MB |\n", $1, $2,
+            $3 * 1000 / 4096, $3 / $7, $3 / $9, $3 / $11, $5 / $3, $4 / 1024, $8 / 1024
     }'

@@ -43,7 +43,7 @@ while IFS= read -r file; do
         cmp "$top/contrib/$file" - >> out 2>&1 || true
     [ ! -x "$top/contrib/$file" ] || [ -x "$to/share/undorc/$file" ] || echo "$file: no right to run"
 done < files >> out
-(cd "$top" && find README.md LICENSE docs -type f) | while IFS= read -r file; do
+(cd "$top" && find README.md NEWS LICENSE docs -type f) | while IFS= read -r file; do
     cmp "$top/$file" "$to/share/doc/undorc/$file" 2>&1 || true
 done >> out
 for file in bash-completion/completions/undorc zsh/site-functions/_undorc \
@@ -90,7 +90,7 @@ if PATH=/usr/bin:/bin command -v rt > /dev/null; then
 else
     for target in build demo; do
         status=0
-        PATH=/usr/bin:/bin MAKEFLAGS='' timeout 5 make -s -C "$top" "PROGRAM=$room/no/program" "$target" \
+        PATH=/usr/bin:/bin MAKEFLAGS='' timeout 30 make -s -C "$top" "PROGRAM=$room/no/program" "$target" \
             > out 2> said || status=$?
         echo "$target: $status" >> out
         sed '/^make/d' said >> out

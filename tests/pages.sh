@@ -95,8 +95,10 @@ equals 'the queries that are described'
 sed -n '/^## The queries of `db`/,/^## /s/^| `\([a-z][a-z-]*\)[ `].*/\1/p' "$top/docs/FORMATS.md" > found
 equals 'the queries of docs/FORMATS.md'
 
-# Statuses: of the table of one-shot commands.
-sed -n '/^## One-shot commands/,/^## /s/^| \([0-9][0-9]*\) .*/\1/p' "$top/docs/FORMATS.md" > wanted
+# Statuses: of the table of one-shot commands, and of that of `status`.
+for part in 'One-shot commands' 'Where services stand'; do
+    sed -n "/^## $part/,/^## /s/^| \([0-9][0-9]*\) .*/\1/p" "$top/docs/FORMATS.md"
+done > wanted
 section undorc.1 'EXIT STATUS' | sed -n 's/^\.It \([0-9]*\)$/\1/p' > found
 equals 'statuses'
 

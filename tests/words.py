@@ -1,7 +1,7 @@
 #!/usr/bin/env python3
 """Prints docs/WORDS.md: each definition that a public contract names, with what its comment says, and the contracts.
 
-    tests/words.py > docs/WORDS.md        (`make model`; the gate compares the two)
+    tests/words.py > docs/WORDS.md        (`make model`; git does not keep it)
 
 Of rc_model, which is read as a whole, each definition is listed; of other crates those that the contract of a public
 call or type names. A contract names a word where the file imports it, and it stands in a clause of the call or type.

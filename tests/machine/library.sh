@@ -23,7 +23,7 @@ disk() {
             rm -rf "$place"
             mkdir -p "$place"
         done
-        cp -a "$contrib/machine" "$contrib/lint" etc/undorc
+        cp -a "$contrib/machine" "$contrib/orderly" "$contrib/lint" etc/undorc
         mkdir -p etc/undorc/services mnt/x usr/local/bin usr/local/sbin
         cp "$program" usr/local/bin/undorc
         for name in halt poweroff reboot; do

@@ -2,7 +2,7 @@
 # A set of some fifty services as s6-rc takes it, with nothing edited: oneshots and longruns in
 # execline, pipelines, readiness, a daemon that crashes, and one that ignores TERM. A machine with a
 # real first process boots it, changes, undoes, updates, loses a command and a supervisor, shuts
-# down, and boots again.
+# down, and boots again. After each step the supervisor says what the session says.
 disk s
 
 # runs NAME TEXT [NEED..]: a longrun in execline
@@ -62,22 +62,30 @@ bundle default basic udevd-pipeline klogd-pipeline syslogd-pipeline dbus-pipelin
     sshd-pipeline nginx-pipeline redis-pipeline postgres-pipeline php-fpm-pipeline getty-1 \
     getty-2 getty-3 getty-4 crond acpid smartd collecting legacy slow
 sed -i 's|/bin/sh -ec|execlineb -Pc|' ../machine/settings
-case $supervisor in
+# `contained` sets `kind`.
+case ${kind:-$supervisor} in
     s6) begin=/etc/undorc/machine/first/s6/stage1 ;;
     runit)
         begin=runit
         cp -a "$contrib"/machine/first/runit/* "$disk/upper/etc/runit/"
         ;;
+    container)
+        begin="env UNDORC_SUPERVISOR=$supervisor machine/first/container > /run/said 2>&1"
+        ;;
 esac
 
 # boots WHAT: a first process boots the set
 boots() {
-    start s sh -c "cd /etc/undorc; [ -e db ] || undorc compile -o db services; exec $begin"
-    within 60 'grep -q "^boot: status" /run/undorc/boot.log' || true
-    step "$1" 'boot: status 0
-status 0' 'tail -n 1 /run/undorc/boot.log'
-    [ "$(script 'tail -n 1 /run/undorc/boot.log')" = 'boot: status 0' ] ||
-        script 'grep -v "ok$\|started$" /run/undorc/boot.log'
+    case ${kind:-machine} in
+        machine) log=/run/undorc/boot.log ends='boot: status 0' ;;
+        container) log=/run/said ends=ok ;;
+    esac
+    start s sh -c "mountpoint -q /proc || mount -t proc proc /proc
+        cd /etc/undorc; [ -e db ] || undorc compile -o db services; exec $begin"
+    within 60 "grep -q -e '^boot: status' -e '^$ends\$' -e '^container:' $log" || true
+    step "$1" "$ends
+status 0" "tail -n 1 $log"
+    [ "$(script "tail -n 1 $log")" = "$ends" ] || script "grep -v 'ok\$\|started\$' $log"
 }
 # supervisor_of NAME: prints the process id of what supervises it
 supervisor_of() {
@@ -94,8 +102,11 @@ within 20 'set -- /run/log/*/current; [ $# -eq 11 ] || exit
 is 'each pipeline has its log' \
     'archive dbus klogd nginx ntpd php-fpm postgres redis sshd syslogd udevd ' \
     "$(script 'cd /run/log; for log in *; do [ ! -s $log/current ] || printf "%s " $log; done')"
-is 'nothing of them is in the catch-all log' 0 \
-    "$(script 'grep -c works /run/undorc/caught/current')"
+case ${kind:-machine} in
+    machine) caught=/run/undorc/caught/current ;;
+    container) caught=/run/said ;;
+esac
+is 'nothing of them is in the catch-all log' 0 "$(script "grep -c works $caught")"
 step 'a daemon that crashes' 'failed flaky
 ok
 status 2' 'machine/manage change flaky'
@@ -124,6 +135,23 @@ is 'the scanner starts it again' yes \
 script "kill -KILL $orphan"
 step 'drift finds nothing behind it' 'status 0' machine/drift
 
+# A limit, a script and a name move nothing: all daemons are the processes that they were.
+processes() {
+    case $supervisor in
+        s6) script 'for one in /run/service/*; do s6-svstat -o pid "$one"; done' ;;
+        runit) script 'cat /run/service/*/supervise/pid' ;;
+    esac
+}
+processes > "$room/before"
+is 'there are daemons' yes "$([ "$(wc -l < "$room/before")" -gt 20 ] && echo yes)"
+step 'an update: a limit, a script and a name' 'ok
+ok
+status 0' 'echo 60000 > services/route/timeout-up; echo "# again" >> services/swap/up
+    mv services/seed services/entropy; sed -i "s/^seed\$/entropy/" services/basic/contents
+    echo "seed -> entropy" > renames
+    undorc compile -o new services; machine/manage update -B new -f renames'
+processes > "$room/after"
+is 'it moves nothing' '' "$(diff "$room/before" "$room/after")"
 step 'an update: a changed run, one that is gone, and one that is new' 'lowered crond ntpd
 ok
 raised ntpd
@@ -140,19 +168,28 @@ ok
 status 0' 'machine/manage change cups'
 step 'drift finds nothing again' 'status 0' machine/drift
 
-# ends WHAT: the first process is asked to halt
+# ends WHAT FORCED: the first process is asked to halt; FORCED is what the shutdown says
 ends() {
-    case $supervisor in
+    case ${kind:-$supervisor} in
         s6) kill -USR1 "$first" ;;
         runit) ask_runit 0 ;;
+        container) kill -TERM "$first" ;;
     esac
-    read_shutdown
+    case ${kind:-machine} in
+        machine) ended=130 && read_shutdown ;;
+        container) ended=0 && exec 7< "/proc/$first/root/run/said" ;;
+    esac
     wait_end
-    is "$1" 130 "$status"
-    is "$1: what is forced" 'down legacy: killed,shutdown: status 2,' \
-        "$(grep -x -e 'down .*: killed' -e 'shutdown: status.*' <&7 | tr '\n' ,)"
+    is "$1" "$ended" "$status"
+    is "$1: what is forced" "$2" "$(grep -x -e 'down .*: killed' -e '.*shutdown.* status .*' <&7 |
+        sed 's/^container: the shutdown ended with/shutdown:/' | tr '\n' ,)"
     exec 7<&-
 }
-ends 'the end'
+ends 'the end' 'down legacy: killed,shutdown: status 2,'
 boots 'boot of the updated set'
-ends 'its end'
+step 'a shutdown by hand' 'live
+status 2' 'machine/shutdown > /run/x; ended=$?; machine/manage live | head -n 1; (exit $ended)'
+case ${kind:-machine} in
+    machine) ends 'its end' 'shutdown: status 0,' ;;
+    container) ends 'its end' '' ;;
+esac

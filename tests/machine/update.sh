@@ -91,17 +91,64 @@ step 'an update after one that was killed' 'status 0' 'rm -r services/below
     machine/manage update -B new | grep -v ^refused; test ! -e new'
 is 'it finishes the first one' a,b,needy,new, \
     "$(script 'undorc db -b db list longruns | tr "\n" ,')"
+stop
 
-# An update that is sent TERM: undorc ends with it, and the same command goes on.
-script 'echo 3 > services/needy/notification-fd; echo net > services/needy/dependencies
-    undorc compile -o new services'
-is 'an update that is sent TERM ends, and undorc with it' ended "$(script '
-    machine/manage update -B new > /run/x 2>&1 &
-    manager=$!
-    sleep 2
-    kill -TERM "$manager"
-    wait "$manager"
-    pgrep -x undorc > /run/x || echo ended')"
+# An update is called off: what is under way ends, nothing more begins, and nothing is left running.
+disk v
+oneshot net true ''
+longrun low 'echo started > /run/low; exec sleep 1000'
+longrun slow "trap 'sleep 2; exit 0' TERM; while :; do sleep 0.1; done" low
+bundle default slow net
+start_scanner v
+step 'boot of what is updated' 'raised low net slow
+ok
+status 0' 'undorc compile -o db services; machine/boot'
+
+# needs NAME..: the sources of another database, in which low needs these
+needs() {
+    script "printf '%s\\n' $* | grep . > services/low/dependencies
+        undorc compile -o new services; rm -f /run/low"
+}
+# called_off SIGNAL TEXT: prints a script: an update is sent SIGNAL once TEXT succeeds
+called_off() {
+    echo "env --default-signal=INT machine/manage update -B new > /run/said 2> /run/x &
+        manager=\$!
+        timeout 20 sh -c 'until $2; do sleep 0.05; done'
+        kill -$1 \$manager
+        ended=0
+        wait \$manager || ended=\$?
+        cat /run/said
+        pgrep -x undorc
+        pgrep -f 'machine/controlle[r] '
+        ls new 2> /dev/null
+        (exit \$ended)"
+}
+for signal in TERM INT HUP; do
+    needs net
+    step "$signal calls an update off in its first half, which renames nothing" 'lowered slow
+untried low
+ok
+new
+status 2' "$(called_off "$signal" 'machine/says | grep -q "^slow up$"')"
+    step "an undo after $signal brings back what went down" 'raised slow
+ok
+status 0' 'machine/manage undo'
+    step "the same update after $signal" 'lowered low slow
+ok
+raised low slow
+ok
+status 0' 'machine/manage update -B new'
+    needs ''
+    step "$signal calls an update off in its second half, which renames NEW" 'lowered low slow
+ok
+raised low
+untried slow
+ok
+status 2' "$(called_off "$signal" 'test -e /run/low')"
+    step "a change after $signal" 'raised slow
+ok
+status 0' 'machine/manage change default'
+done
 stop
 
 # An update that can't lower everything.

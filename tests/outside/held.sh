@@ -29,6 +29,9 @@ gives_back 0 '' change -w 1 -b base -x none -l live site
 gives_back 0 '' undo -w 1 -b base -x none -l live
 gives_back 0 '' redo -w 1 -b base -x none -l live
 gives_back 0 '' update -w 1 -b base -B base -x none -l live
+gives_back 0 '' restart -w 1 -b base -x none -l live net
+gives_back 0 '' status -b base -l live
+gives_back 0 '' seal -b base -l live
 gives_back 0 '' live -b base -l live
 gives_back 0 '' journal -b base -l live
 gives_back 100 '' change -b

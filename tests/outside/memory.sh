@@ -203,6 +203,37 @@ one_shot redo redo -x none
 one_shot '' change -n b
 one_shot '' live
 
+# A history that is sealed, and a restart: on file is one of the texts in turn.
+cp text.none.0 live
+"$program" seal -b base -l live > whole.none
+mv live text.none.1
+each $((from > 0 ? 20 : 100)) "$ample$memory" 'answers kept' seal -b base
+cp text.none.0 live
+"$program" restart a -b base -x none -l live > whole.none
+mv live text.none.2
+cp text.none.0 live
+"$program" change -D a -b base -x none -l live > made
+mv live text.none.1
+each $((from > 0 ? 20 : 100)) "$ample$memory" 'answers kept' restart a -b base -x none
+
+# Where services stand, by the file and the log of a run: both are only read, and the answer is whole, or
+# nothing is written.
+rm text.none.[12]
+cp text.none.0 log
+printf '%s\n' '-t 1 -u change b' 'take 1 b' >> log
+stands() {
+    ends=$1
+    shift
+    cp text.none.0 live
+    cp log live.run
+    "$program" "$@" -b base -l live > whole.none || echo $? > status.none
+    rm live live.run
+    each $((from > 0 ? 20 : 100)) "$ends" 'alone kept log=log' "$@" -b base
+}
+stands "$ample$memory" status
+stands "${memory}3\\n" status b c
+rm status.none
+
 # What starts scripts is made before the first line of a session is read.
 echo 'change b' > in
 expects none
@@ -243,8 +274,8 @@ each 100 "$ample${memory}2\\n" 'answers kept scripts' update -b base -B new -v
 rm text.none.*.then
 for at in 1 2; do cp text.none.0 "text.none.$at"; done
 cp text.none.0 live
-"$program" update -b base -B new -l live -n > whole.none
-each 20 "$ample$memory" 'answers kept' update -b base -B new -n
+"$program" update -b base -B new -l live -n -q > whole.none
+each 20 "$ample$memory" 'answers kept' update -b base -B new -n -q
 from=0
 unset ARMED
 worked_in

@@ -173,6 +173,27 @@ runs compile -v services
 : > out
 judge 'compile -v tells no more than that' 0
 
+# An end of a pipeline whose run is not executable.
+newcomer
+echo longrun > services/disk/type
+mv services/disk/up services/disk/run
+echo disk > services/web/producer-for
+echo web > services/disk/consumer-for
+unjoined=' is not joined (run is not executable)'
+notes "undorc: services/web/producer-for$unjoined" compile -v services
+notes "undorc: services/disk/consumer-for$unjoined" compile -v services
+chmod u+x services/web/run
+wants '' "undorc: services/disk/consumer-for$unjoined\n"
+runs compile -v services
+: > out
+judge 'an end whose run is executable is joined' 0
+printf '# nobody\n' > services/disk/consumer-for
+rm services/web/producer-for
+wants '' ''
+runs compile -v services
+: > out
+judge 'a file without a name is no end' 0
+
 # A database in a file, which a refused run leaves as it was.
 newcomer
 expect 0 '' '' '' compile -o db services
@@ -295,7 +316,7 @@ helps 1 'undorc: OtherDb\n' 'other: the session of another database; name that o
 helps 1 'undorc: Bad 0\n' 'state is no database: undorc compile makes one' -- live -b state -l state
 helps 1 'undorc: Unknown wbe\n' 'nothing is named wbe; is web meant?' -- change web -b db -x up:wbe -l state
 helps 111 'undorc: Io\n' 'services: is a directory' -- live -b db -l services
-helps 111 'undorc: Io\n' 'nowhere/live: no such file or directory' -- change web -b db -x none -l nowhere/live
+helps 111 'undorc: Io\n' 'nowhere/live.lock: no such file or directory' -- change web -b db -x none -l nowhere/live
 
 # Who has no right to read.
 if may_be_nobody 'a file without the right to read'; then

@@ -146,16 +146,16 @@ echo 'false' > broken/first/up
 echo 'true' > broken/second/up
 echo first > broken/second/dependencies
 "$program" compile broken > broken.db
-expect 2 'failed first\nblocked second\nok\n' '' '' change second -b broken.db
+expect 2 'failed first\nblocked second\nok\n' '' '' change second -b broken.db -l broken.live
 
-# Without -l a command begins with nothing up, and without -b the database is that of the input.
-expect 0 'live\nok\n' '' '' live -b base
+# With -x and -n a command needs no file, and begins with nothing up; without -b the database is that of the input.
+expect 0 'live\nok\n' '' '' live -b base -l missing
 expect 1 'refused NothingToUndo\n' '' '' undo -b base -x none
 expect 1 'refused NothingToUndo\n' '' '' undo -n -b base
 expect 0 'raised net root\nok\n' '' "$sample" change net -x none
 expect 0 'raise net root\nok\n' '' "${sample}what is behind it\n" change -n net
-expect 0 'at 0 of 1\nok\n' '' "$sample" journal
-expect 1 '' 'undorc: Bad 0\n' '' live
+expect 0 'at 0 of 1\nok\n' '' "$sample" journal -l missing
+expect 1 '' 'undorc: Bad 0\n' '' live -l missing
 
 # Files that can't be read, or not written: where something is only shown nothing is written.
 mkdir folder
@@ -163,7 +163,7 @@ for words in 'change net -x none' 'undo -x none' 'redo -x none' 'change -n net' 
     # shellcheck disable=SC2086
     expect 111 '' 'undorc: Io\n' '' $words -b base -l folder
 done
-expect 111 '' 'undorc: Io\n' '' live -b folder
+expect 111 '' 'undorc: Io\n' '' live -b folder -l missing
 printf '%b' 'notes\n' > notes
 expect 1 '' 'undorc: Bad 0\n' '' journal -b base -l notes
 expect 1 '' 'undorc: Bad 0\n' '' change net -b base -x none -l notes
@@ -214,13 +214,14 @@ shows 0 'live net root\nok\n' live
 UNDORC_DB=base UNDORC_LIVE=live
 export UNDORC_DB UNDORC_LIVE
 expect 0 'live net root\nok\n' '' '' live
-expect 0 'lowered net root\nok\n' '' '' undo -x none
+expect 1 'refused NothingToUndo\n' '' '' undo -x none
+expect 0 'lowered net root\nok\n' '' '' undo -x none -l live
 expect 0 'live\nok\n' '' 'live\n' session -x none
 expect 1 '' 'undorc: Bad 0\n' '' live -b notes
 unset UNDORC_LIVE
-expect 0 'live\nok\n' '' '' live
+expect 0 'live\nok\n' '' '' live -l live
 UNDORC_DB=''
-expect 0 'live\nok\n' '' "$sample" live
+expect 0 'live\nok\n' '' "$sample" live -l live
 unset UNDORC_DB
 
 expect 0 'undorc 0.1.0\n' '' '' version

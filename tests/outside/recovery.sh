@@ -214,10 +214,12 @@ half() {
     "$program" change a slow "$@" -b "$old" -l live < /dev/null > /dev/null
     killed_update "$old" "$new"
 }
-# killed_update OLD NEW: the same of what is up
+# killed_update OLD NEW [OPTION..]: the same of what is up
 killed_update() {
     rm -f go begun
-    "$program" update -b "$1" -B "$2" -w 1 -l live < /dev/null > cut.out 2> cut.err &
+    old=$1 new=$2
+    shift 2
+    "$program" update -b "$old" -B "$new" -w 1 -l live "$@" < /dev/null > cut.out 2> cut.err &
     killed=$!
     until_begun
     kill -KILL "$killed"
@@ -244,6 +246,27 @@ rm -f live ran begun
 "$program" change -d top -b next -l live < /dev/null > /dev/null
 killed_update next base
 expect 0 'lowered a slow\nok\nraised a slow\nok\n' 'undorc: Recovered\n' '' update -b next -B base -l live
+# Where it renames or restarts services, the same command goes on, and one without that is another update.
+mv tree/top tree/tip
+rm -r tree/a
+oneshot a 'echo up a >> ran'
+"$program" compile tree > named
+echo 'top -> tip' > renames
+# cut_short OLD NEW [OPTION..]: an update of what is up in `next` that is killed while `slow` goes down
+cut_short() {
+    rm -f live ran begun
+    : > go
+    "$program" change a slow top -b next -l live < /dev/null > /dev/null
+    killed_update "$@"
+}
+cut_short next named -f renames
+expect 0 'lowered a slow\nok\nraised a slow tip\nok\n' 'undorc: Recovered\n' '' update -b next -B named -l live -f renames
+cut_short next named -f renames
+expect 0 'lowered a slow\nok\nraised a slow\nok\n' 'undorc: Recovered\n' '' update -b next -B named -l live
+cut_short next next -R slow
+expect 0 'lowered slow\nok\nraised slow top\nok\n' 'undorc: Recovered\n' '' update -b next -B next -l live -R slow
+cut_short next next -R slow
+expect 0 'ok\nok\n' 'undorc: Recovered\n' '' update -b next -B next -l live
 half base next
 "$program" update -b base -B next -l live < /dev/null > said 2> told || true
 grep -cx 'undorc: Recovered' told > out
@@ -294,10 +317,11 @@ done
 # ^C at a terminal goes to the scripts, too. It ends the program, and the next command recovers it; under `orderly` the
 # program ends in order.
 cat > press.py <<'END'
-import os, pty, sys, time
+import os, pty, signal, sys, time
 
 child, terminal = pty.fork()
 if child == 0:
+    signal.signal(signal.SIGINT, signal.SIG_DFL)
     os.execvp(sys.argv[1], sys.argv[1:])
 while not os.path.exists("begun") or os.path.getsize("begun") == 0:
     time.sleep(0.02)
@@ -343,6 +367,31 @@ wait "$called" || echo $? > status
 wants 'raised a b slow\nuntried top\nok\n' ''
 judge 'orderly where env blocks nothing' 2
 
+# One that waits there for another ends, and the other one is not called off.
+rm -f live ran go begun
+echo 0 > status
+"$program" change -w 1 top -b base -l live < /dev/null > out 2> err &
+called=$!
+until_begun
+PATH=$PWD/plain:$PATH UNDORC_PROGRAM=$program sh "$here/../contrib/orderly" change -W b -b base -l live < /dev/null > cut.out 2> cut.err &
+waiting=$!
+for turn in $(seq 250); do
+    ! grep -q waits cut.err || break
+    sleep 0.02
+done
+kill -TERM "$waiting"
+for turn in $(seq 250); do
+    kill -0 "$waiting" 2> /dev/null || break
+    sleep 0.02
+done
+: > go
+ended=0
+wait "$waiting" || ended=$?
+wait "$called" || echo $? > status
+echo "$ended" >> out
+wants 'raised a b slow top\nok\n143\n' ''
+judge 'orderly that waits for another where env blocks nothing' 0
+
 # A limit of 0 is none, and such a command can't be called off.
 rm -f live ran go begun
 echo 0 > status
@@ -384,7 +433,7 @@ done
 rm -f live ran
 echo 0 > status
 env --ignore-signal=XFSZ prlimit --fsize=4096 "$program" change -w 1 all -b long -l live < /dev/null > answer 2> err || echo $? > status
-sed -n '/^undorc:/p' err > out
+sed -n '/^undorc: l/p' err > out
 sed 's/ .*//' answer >> out
 "$program" live -b long -l live < /dev/null | sed -n '1s/^live //p' | wc -w > up
 wc -l < ran >> up

@@ -151,7 +151,12 @@ done
 for limit in 0 1000; do
     limit one $limit
     for words in /nonexistent "$PWD/made" "$PWD"; do
-        tells 'failed one\nok\n' 'up one: started\nup one: not started\n' 'change one\n' -r "$words"
+        # With a limit it is setsid that starts the program, and says why it can't.
+        why='Permission denied (os error 13)'
+        [ "$words" != /nonexistent ] || why='No such file or directory (os error 2)'
+        why="undorc: one: $words can't be started: $why\\n"
+        [ "$limit" -eq 0 ] || why=
+        tells 'failed one\nok\n' "up one: started\\n${why}up one: not started\\n" 'change one\n' -r "$words"
     done
     for words in '' ' '; do
         tells 'failed one\nok\n' 'up one: not started\n' 'change one\n' -r "$words"
@@ -163,7 +168,9 @@ begin_tree
 oneshot one 'echo up >> log'
 rm -f log
 session 'raised one\nok\nlowered one\nok\n' '' 'change one\nundo\n'
-tells 'failed one\nok\nok\n' 'up one: started\nup one: not started\n' 'change one\n-d change one\n' -r /nonexistent
+tells 'failed one\nok\nok\n' \
+    "up one: started\\nundorc: one: /nonexistent can't be started: No such file or directory (os error 2)\\nup one: not started\\n" \
+    'change one\n-d change one\n' -r /nonexistent
 tells 'raised one\nok\nlowered one\nok\n' 'up one: started\nup one: ok\ndown one: ok\n' 'change one\nundo\n'
 down one 'exit 5'
 tells 'raised one\nok\nfailed one\nok\n' 'up one: started\nup one: ok\ndown one: started\ndown one: failed 5\n' 'change one\nundo\n'

@@ -59,23 +59,26 @@ update() {
     shift 3
     expect "$ends" "$output" "$fault" '' update -b old -B new -l live "$@"
 }
-# carries LOWERED RAISED LOG LIVE JOURNAL: an update by scripts, what is shown of it before, and the same by a table
+# carries LOWERED RAISED LOG LIVE JOURNAL [OPTION..]: an update by scripts, what is shown of it before, and the same by a
+# table
 carries() {
     fresh
     lower='' raise=''
     [ -z "$1" ] || lower="lower$1\\n"
     [ -z "$2" ] || raise="raise$2\\n"
-    update 0 "${lower}ok\n${raise}ok\n" '' -n
+    lowers=$1 raises=$2 logged=$3 lives=$4 journals=$5
+    shift 5
+    update 0 "${lower}ok\n${raise}ok\n" '' -n -q "$@"
     same "what update -n leaves" live.old live
-    [ -z "$1" ] || lower="lowered$1\\n"
-    [ -z "$2" ] || raise="raised$2\\n"
-    update 0 "${lower}ok\n${raise}ok\n" '' -x none
+    [ -z "$lowers" ] || lower="lowered$lowers\\n"
+    [ -z "$raises" ] || raise="raised$raises\\n"
+    update 0 "${lower}ok\n${raise}ok\n" '' -x none "$@"
     moved ''
-    kept "$4" "$5"
+    kept "$lives" "$journals"
     fresh
-    update 0 "${lower}ok\n${raise}ok\n" ''
-    moved "$3"
-    kept "$4" "$5"
+    update 0 "${lower}ok\n${raise}ok\n" '' "$@"
+    moved "$logged"
+    kept "$lives" "$journals"
     cp live live.done
     expect 0 'ok\nok\n' '' '' update -b new -B new -l live
 }
@@ -213,7 +216,8 @@ compiled new.pipe
 rm -f pipe.live
 expect 0 'raised first other writer\nok\n' '' '' change writer -b old.pipe -x none -l pipe.live
 expect 0 'ok\nok\n' '' '' update -n -b old.pipe -B old.pipe -l pipe.live
-expect 0 'lower writer\nok\nraise writer\nok\n' '' '' update -n -b old.pipe -B new.pipe -l pipe.live
+told='undorc: writer moves: its pipeline is another one\n'
+expect 0 'lower writer\nok\nraise writer\nok\n' "$told" '' update -n -b old.pipe -B new.pipe -l pipe.live
 old_tree
 
 # A longrun in a oneshot's place, by the controller and the runner that are named.
@@ -254,6 +258,131 @@ wants 'bound 7\n' ''
 : > err
 echo 0 > status
 judge 'the bound is carried over' 0
+
+# A service is restarted, though it is unaltered, with what needs it; and so it is by a line of the file.
+old_tree
+compiled new
+: > none
+carries ' b c' ' b c' "$lines" ' a b c d e' "$back" -R b
+carries ' b c e' ' b c e' 'down b\ndown c\ndown e\nup b\nup c\nup e\n' ' a b c d e' 'at 1 of 2\n0 +b +c +e' -R e -R b
+carries '' '' '' ' a b c d e' "$all" -R f
+printf 'b restart\n' > renames
+carries ' b c' ' b c' "$lines" ' a b c d e' "$back" -f renames
+carries '' '' '' ' a b c d e' "$all" -f none
+
+# A service goes on by another name: nothing moves, what needs it neither, and an undo or a change knows the new name.
+# renamed: the tree in which `b` is called `x`
+renamed() {
+    old_tree
+    mv tree/b tree/x
+    echo 'echo up x >> log' > tree/x/up
+    echo 'echo down x >> log' > tree/x/down
+    echo x > tree/c/dependencies
+}
+renamed
+compiled new
+printf '# the renames\n\n  b\t->  x  \n' > renames
+carries '' '' '' ' a c d e x' "$all" -f renames
+expect 0 'lowered c x\nok\n' '' '' change -D x -b new -l live
+words='change -D behind a rename'
+moved 'down c\ndown x\n'
+# Without the file it is another service.
+carries ' b c' ' c x' 'down b\ndown c\nup c\nup x\n' ' a c d e x' 'at 1 of 2\n0 +c +x'
+# It is renamed and restarted; its scripts on the way down are those of the old database.
+printf 'b -> x restart\n' > renames
+carries ' b c' ' c x' 'down b\ndown c\nup c\nup x\n' ' a c d e x' 'at 1 of 2\n0 +c +x' -f renames
+# Two services exchange their names, and a name passes on to another one.
+printf 'd -> a\na -> d\n' > renames
+old_tree
+service b d
+service e a
+compiled new
+carries '' '' '' ' a b c d e' "$all" -f renames
+rm -r tree
+service a
+service b a
+service c b
+compiled new
+printf 'd -> a\n' > renames
+carries ' a b c e' ' b c' 'down a\ndown b\ndown c\ndown e\nup b\nup c\n' ' a b c' 'at 1 of 2\n0 +b +c' -f renames
+# What was down comes up under its new name only where it is needed.
+old_tree
+mv tree/f tree/g
+compiled new
+printf 'f -> g\n' > renames
+carries '' '' '' ' a b c d e' "$all" -f renames
+# A renamed service is altered, or what needs it needs another one besides.
+renamed
+service x d
+compiled new
+printf 'b -> x\n' > renames
+carries ' b c' ' c x' 'down b\ndown c\nup c\nup x\n' ' a c d e x' 'at 1 of 2\n0 +c +x' -f renames
+renamed
+service c x d
+compiled new
+carries ' c' ' c' 'down c\nup c\n' ' a c d e x' 'at 1 of 2\n0 +c' -f renames
+renamed
+service c
+compiled new
+carries ' c' ' c' 'down c\nup c\n' ' a c d e x' 'at 1 of 2\n0 +c' -f renames
+
+# Why each service moves: on standard error, and not with -q.
+old_tree
+rm -r tree/e
+service a d
+mkdir tree/d.new
+echo longrun > tree/d.new/type
+echo run > tree/d.new/run
+rm -r tree/d
+mv tree/d.new tree/d
+compiled new
+fresh
+told='undorc: a moves: its needs are others\nundorc: b moves: it needs a, which moves\n'
+told=$told'undorc: c moves: it needs b, which moves\nundorc: d moves: its kind is another one\n'
+told=$told'undorc: e moves: it is gone\n'
+update 0 'lower a b c d e\nok\nraise a b c d\nok\n' "$told" -n
+update 0 'lower a b c d e\nok\nraise a b c d\nok\n' '' -n -q
+same 'what update -n with reasons leaves' live.old live
+cp old new
+update 0 'lower c e\nok\nraise c e\nok\n' \
+    'undorc: c moves: it is to be restarted\nundorc: e moves: it is to be restarted\n' -n -R c -R e
+
+# What is refused of conversions: the first line of another form, the first name that stands twice, and then the first
+# name that its database lacks; nothing has moved.
+old_tree
+mv tree/f tree/g
+compiled new
+# refuses FAULT TEXT [OPTION..]: a text of renames that is refused
+refuses() {
+    fresh
+    fault=$1
+    printf '%b' "$2" > renames
+    shift 2
+    update 1 '' "$fault" -f renames "$@"
+    moved ''
+    same 'what an update leaves whose renames are refused' live.old live
+}
+refuses 'undorc: BadLine 1\n' 'a\n'
+refuses 'undorc: BadLine 2\n' 'a -> a\na ->\n'
+refuses 'undorc: BadLine 3\n' '#\n\na => a\n'
+refuses 'undorc: BadLine 1\n' 'a -> a again\n'
+refuses 'undorc: BadLine 1\n' 'a -> a restart now\n'
+refuses 'undorc: BadLine 2\n' 'a -> a\na restart a'
+refuses 'undorc: Twice a\n' 'a -> b\na -> d\n'
+refuses 'undorc: Twice b\n' 'a -> b\nd -> b\n'
+refuses 'undorc: Twice a\n' 'a restart\n' -R a
+refuses 'undorc: Twice z\n' 'z -> z\n' -R z -R a
+refuses 'undorc: Unknown z\n' 'a -> a\nz -> b\n'
+refuses 'undorc: Unknown z\n' 'a -> z\n'
+refuses 'undorc: Unknown g\n' 'g -> f\n'
+refuses 'undorc: Unknown f\n' 'a -> f\n'
+refuses 'undorc: Unknown f\n' '' -R f
+refuses 'undorc: Unknown z\n' '' -R z -x up:y
+refuses 'undorc: Unknown z\n' '' -n -R z
+fresh
+update 111 '' 'undorc: Io\n' -f nowhere
+update 111 '' 'undorc: Io\n' -f .
+same 'what an update leaves whose renames are not there' live.old live
 
 # What fails on its way down is not lowered, nor what it needs: the old database stands, and nothing is raised by the new.
 old_tree
@@ -318,6 +447,8 @@ expect 111 '' 'undorc: Io\n' '' update -b old -B new -l nowhere/live
 
 # Wrong lines.
 wrong update -b old -l live
+wrong update -b old -B new -l live -f renames -f renames
+wrong update -b old -B new -l live -R
 wrong update -B new -l live
 wrong update -b old -B new
 wrong update -b old -B new -l live a
@@ -333,8 +464,10 @@ wrong update
 fresh
 UNDORC_DB=old UNDORC_LIVE=live
 export UNDORC_DB UNDORC_LIVE
-expect 0 'lower b c e\nok\nraise b c\nok\n' '' '' update -B new -n
-expect 0 'lowered b c e\nok\nraised b c\nok\n' '' '' update -B new -x none
+told='undorc: b moves: its needs are others\nundorc: c moves: it needs b, which moves\nundorc: e moves: it is gone\n'
+expect 0 'lower b c e\nok\nraise b c\nok\n' "$told" '' update -B new -n
+expect 0 'lowered b c e\nok\nraised b c\nok\n' '' '' update -B new -x none -l live
+wrong update -B new -x none
 unset UNDORC_DB UNDORC_LIVE
 kept ' a b c d' "$back"
 

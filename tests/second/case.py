@@ -10,6 +10,9 @@ class Case:
         self.word = word
         self.base = None
         self.other = None
+        self.renames = None
+        self.restarts = []
+        self.early = False
         self.in_front = False
         self.own = b""
         self.down = False
@@ -29,15 +32,16 @@ class Case:
 
     @property
     def locks(self):
-        """Whether the lock of the file of -l is taken."""
+        """Whether the lock of the file of -l is taken: not where it is refused earlier."""
         moves = self.word in ("session", "change", "undo", "redo", "update") and not self.dry
-        return moves and self.keeps
+        return moves and self.keeps and not self.early
 
     def files(self, kept):
         """What lies in the folder in the end."""
         names = [b"in", b"out", b"err"] + [b"tree%d" % k for k in range(len(self.trees))]
         names += [] if self.base is None or self.in_front else [b"base"]
         names += [] if self.other is None else [b"other"]
+        names += [] if self.renames is None else [b"renames"]
         names += [b"kept.lock"] if self.locks else []
         return sorted(names + ([] if kept is None else [b"kept"]))
 
@@ -62,6 +66,9 @@ class Case:
         words += [b"-n", b"%d" % self.bound] if self.bound else []
         words += [b"-n"] if self.dry else []
         words += [b"-B", b"other"] if self.word == "update" else []
+        words += [] if self.renames is None else [b"-f", b"renames"]
+        for name in self.restarts:
+            words += [b"-R", name]
         return words + (self.asked() if self.word == "change" else [])
 
     def asked(self):

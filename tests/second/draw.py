@@ -470,11 +470,45 @@ class Drawer:
             service.kind, service.producer = b"oneshot", None
             service.up, service.down = self.pick(TEXTS), self.pick(TEXTS + [None])
 
+    def renames(self, base, new):
+        """Some services of the new database get other names; the text that says so, mostly right."""
+        lines = []
+        for name in self.some(sorted(new.services), 3):
+            free = [other for other in NAMES if other not in new.services and other not in new.bundles]
+            if free and not self.one_in(8):
+                other = self.pick(free)
+                self.rename(new, name, other)
+                if not self.one_in(8):
+                    name = self.pick(sorted(base.services)) if self.one_in(12) and base.services else name
+                    lines.append(name + self.pick([b" -> ", b"\t->  "]) + other + self.pick([b"", b"", b" restart"]))
+            else:
+                lines.append(name + b" restart")
+        if self.one_in(6):
+            lines.append(self.pick([b"", b"# -> x", b"  ", b"a ->", b"a -> b c", b"restart", b"-> a", b"\xff -> a"]))
+        self.random.shuffle(lines)
+        return b"\n".join(lines) + self.pick([b"", b"\n"])
+
+    def rename(self, base, name, other):
+        """The service of a name has another one, wherever it stands."""
+        services = {other if one == name else one: service for one, service in base.services.items()}
+        base.services.clear()
+        base.services.update(services)
+        for service in services.values():
+            service.needs = sorted(other if need == name else need for need in service.needs)
+            service.producer = other if service.producer == name else service.producer
+        for bundle, members in base.bundles.items():
+            base.bundles[bundle] = frozenset(other if one == name else one for one in members)
+
     def update(self):
         case = Case("update")
         base = self.on_base(case)
         case.in_front, case.keeps, case.dry = False, True, self.one_in(4)
         new = self.next_base(base)
+        if self.one_in(3):
+            case.renames = self.renames(base, new)
+        if self.one_in(4):
+            case.restarts = self.some(sorted(set(base.services) & set(new.services)), 3)
+            case.restarts += self.some(NAMES[:2], 12)
         if self.one_in(12):
             self.wrong_base(new)
         case.other = self.mutated(text_of(new)) if self.one_in(12) else text_of(new)

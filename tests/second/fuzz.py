@@ -42,6 +42,11 @@ def plant(path, tree):
         else:
             write(inner, there)
 
+# How a report of a transition begins where nothing is started.
+REPORT = b"undorc:    0.000 s  "
+# What an update that is only shown says of each service that moves.
+MOVES = b" moves: "
+
 
 class Bench:
     """A folder in which the built program is run."""
@@ -66,12 +71,15 @@ class Bench:
             write(b"base", case.base)
         if case.other is not None:
             write(b"other", case.other)
+        if case.renames is not None:
+            write(b"renames", case.renames)
         if case.kept is not None:
             write(b"kept", case.kept)
         write(b"in", case.input)
 
     def run(self, case):
-        """The status, what is written, the first line of what is told, the file of -l, what is left."""
+        """The status, what is written, what is reported of transitions, the first line of what else is told, the file
+        of -l, what is left."""
         self.prepare(case)
         actions = [(os.POSIX_SPAWN_OPEN, 0, "in", os.O_RDONLY, 0)]
         for stream, name in ((1, "out"), (2, "err")):
@@ -87,8 +95,10 @@ class Bench:
         status = os.waitstatus_to_exitcode(os.waitpid(child, 0)[1])
         *lines, rest = read("err").split(b"\n")
         told = [line + b"\n" for line in lines] + [rest]
-        fault = next((line for line in told if not line.startswith(b"  ")), b"")
-        return status, read("out"), fault, read("kept"), sorted(os.listdir(b"."))
+        is_report = lambda line: line.startswith(REPORT) or MOVES in line
+        reports = [line for line in told if is_report(line)]
+        fault = next((line for line in told if not line.startswith(b"  ") and not is_report(line)), b"")
+        return status, read("out"), sorted(reports), fault, read("kept"), sorted(os.listdir(b"."))
 
 
 def is_circle(fault, word, steps):
@@ -104,14 +114,14 @@ def is_circle(fault, word, steps):
 def difference(bench, case):
     """What the built program does and the plain one does not, nothing where they agree."""
     wanted = program.run(case)
-    status, out, fault, kept, left = bench.run(case)
+    status, out, reports, fault, kept, left = bench.run(case)
     if wanted.circle is not None:
         word = wanted.fault.split()[1]
         if is_circle(fault, word, wanted.circle):
             fault = wanted.fault
-    given = (status, out, fault, kept, left)
-    plain = (wanted.status, wanted.out, wanted.fault, wanted.kept, case.files(wanted.kept))
-    names = ("status", "standard output", "standard error", "the file of -l", "files")
+    given = (status, out, reports, fault, kept, left)
+    plain = (wanted.status, wanted.out, sorted(wanted.reports), wanted.fault, wanted.kept, case.files(wanted.kept))
+    names = ("status", "standard output", "reports", "standard error", "the file of -l", "files")
     return [
         f"{name}: plain {one!r}, built {other!r}"
         for name, one, other in zip(names, plain, given)
@@ -122,7 +132,7 @@ def difference(bench, case):
 def show(seed, case, lines):
     print(f"FAILED: seed {seed}: undorc {b' '.join(case.arguments())!r}")
     parts = [("input", case.input), ("base", None if case.in_front else case.base)]
-    parts += [("other", case.other), ("kept", case.kept)] + [(f"tree{k}", t) for k, t in enumerate(case.trees)]
+    parts += [("other", case.other), ("renames", case.renames), ("kept", case.kept)] + [(f"tree{k}", t) for k, t in enumerate(case.trees)]
     for name, text in parts:
         if text is not None:
             print(f"  {name}: {text!r}")

@@ -20,10 +20,12 @@ LOOKS = (b"live", b"bundles", b"journal")
 
 
 class Answer:
-    """What a run comes to: `fault` is the line on standard error, and `kept` the file of -l."""
+    """What a run comes to: `fault` is the line on standard error behind `reports`, those of transitions, and
+    `kept` the file of -l."""
 
     def __init__(self, status=0, out=b"", fault=b"", kept=None, circle=None):
         self.status = status
+        self.reports = []
         self.out = out
         self.fault = fault
         self.kept = kept
@@ -83,6 +85,7 @@ def one_shot(case, answer):
     """A session of one line; what only shows something leaves the file alone."""
     base, _, line = begun(case)
     command = Command(case.word.encode(), ask=case.ask)
+    was = set(line.now().live)
     if case.locks:
         answer.kept = live.text_of(base, line)
     try:
@@ -99,6 +102,14 @@ def one_shot(case, answer):
         answer.kept = live.text_of(base, line)
     if has_failed(answer.out):
         answer.status = 2
+    if not case.dry:
+        answer.reports = reports_of(lambda name: b"down" if name in was else b"up", answer.out)
+
+
+def reports_of(way_of, text):
+    """What is reported of the services that an answer says failed."""
+    failed = [line.split(b" ")[1:] for line in text.split(b"\n") if line.startswith(b"failed ")]
+    return [b"undorc:    0.000 s  %s %s: failed 1\n" % (way_of(name), name) for names in failed for name in names]
 
 
 def run_of(case, answer):
@@ -113,6 +124,9 @@ def run_of(case, answer):
         return
     if case.word == "update":
         updates.update(case, answer)
+        if not case.dry:
+            lowering, _, raising = answer.out.partition(b"ok\n")
+            answer.reports = reports_of(lambda _: b"down", lowering) + reports_of(lambda _: b"up", raising)
         return
     base, text = base_and_input(case)
     if case.word == "db" and case.query == b"dot":
@@ -129,6 +143,10 @@ def run_of(case, answer):
 
 def run(case):
     answer = Answer(kept=case.kept)
+    if case.word in ("live", "journal") and not case.keeps:
+        answer.status = 100
+        answer.fault = b"undorc: -l is missing, or UNDORC_LIVE: the file that keeps what is up\n"
+        return answer
     try:
         run_of(case, answer)
     except Refusal as refusal:

@@ -66,14 +66,17 @@ def with_part(case, part, value):
 
 
 def smaller(case):
-    for part, less in (("kept", None), ("bound", None), ("keeps", False), ("failing", [])):
-        if getattr(case, part) != less and not (part == "keeps" and case.kept):
+    for part, less in (("kept", None), ("bound", None), ("keeps", False), ("failing", []), ("restarts", []), ("renames", None)):
+        if getattr(case, part) != less and not (part == "keeps" and (case.kept or case.word == "update")):
             yield with_part(case, part, less)
     for text in parts_of_lines(case.own):
         yield with_part(case, "own", text)
     if case.base is not None:
         for text in smaller_bases(case.base):
             yield with_part(case, "base", text)
+    if case.renames is not None:
+        for text in parts_of_lines(case.renames):
+            yield with_part(case, "renames", text)
     if case.other is not None:
         for text in smaller_bases(case.other):
             yield with_part(case, "other", text)

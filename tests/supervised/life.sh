@@ -27,7 +27,10 @@ compiles
 scans
 
 does 0 'raised app log net root slow web\nok\n' "$folder/boot"
+does 1 'refused NothingToUndo\n' "$folder/manage" undo
 does 0 'ok\n' "$folder/boot"
+does 0 'lowered app web\nok\nraised app web\nok\n' "$folder/manage" restart app
+does 0 'app up\nweb up\n' "$folder/manage" status web app
 
 # What fails is down and is not tried again; an undo takes back what came up beside it, and a redo brings that up again.
 does 2 'raised spare\nfailed crash late never shut\nblocked above\nok\n' "$folder/manage" change broken
@@ -74,6 +77,34 @@ echo 0 > status
 judges 'drift behind a session that was killed' 1
 does 0 'raised slow web\nok\n' "$folder/manage" change web
 
+# A signal calls a change off: slow comes up, web is not tried, and neither undorc nor a controller is left. Where env can't
+# block signals, it is the same.
+# commands: the processes of a command
+commands() {
+    for process in $(ours); do { tr '\0' ' ' < "/proc/$process/cmdline" && echo; } 2> killed || true; done > left
+    grep -e "$program change" -e "$folder/controller" left || true
+}
+# called_off SIGNAL PATH
+called_off() {
+    does 0 'lowered slow web\nok\n' "$folder/manage" change -d slow
+    PATH=$2 "$folder/manage" change web > out 2> told &
+    session=$!
+    until_so is_state slow up
+    kill "-$1" "$session"
+    echo 0 > status
+    wait "$session" || echo $? > status
+    agrees 20 > err
+    commands >> err
+    wants 'raised slow\nuntried web\nok\n' ''
+    judges "a change that is sent $1" 2
+    does 0 'raised web\nok\n' "$folder/manage" change web
+}
+mkdir plain
+printf '#!/bin/sh\nexit 1\n' > plain/env
+chmod +x plain/env
+for signal in TERM INT HUP; do called_off "$signal" "$PATH"; done
+called_off TERM "$room/plain:$PATH"
+
 # drifts STATUS LINES: what drift says
 drifts() {
     wants "$2" ''
@@ -98,25 +129,33 @@ fi
 # An update moves what needs something else, and what needs that: the others are the processes that they were.
 # numbers NAME..: the process numbers of these longruns
 numbers() { for name; do number "$name"; done; }
-# A limit and a script count from the next transition on.
+# A limit and a script count from the next transition on, and a oneshot goes on by another name.
 numbers app log slow spare web > numbers.before
 echo 30000 > services/web/timeout-up
 echo ': another' > services/net/up
+mv services/net services/lan
+echo "rm $room/flags/lan" > services/lan/down
+sed -i 's/^net$/lan/' services/*/dependencies
+echo 'net -> lan' > renames
 "$program" compile -o new services
 echo 0 > status
 : > err
-"$folder/manage" update -B "$room/new" > out 2> told || echo $? > status
+"$folder/manage" update -B "$room/new" -f renames > out 2> told || echo $? > status
 wants 'ok\nok\n' ''
-judges 'an update of a limit and a script' 0
+judges 'an update of a limit, a script and a name' 0
 numbers app log slow spare web > numbers.after
-holds 'an update of a limit and a script moves nothing' cmp -s numbers.before numbers.after
+holds 'an update of a limit, a script and a name moves nothing' cmp -s numbers.before numbers.after
+# The mark of what was up is that of the service that it is now.
+mv flags/net flags/lan
+sed -i 's/^net$/lan/' names.oneshots
 numbers app log slow spare > numbers.before
 echo spare >> services/web/dependencies
 "$program" compile -o new services
 "$folder/manage" update -B "$room/new" -n > out 2> err
-wants 'lower web\nok\nraise web\nok\n' ''
+wants 'lower web\nok\nraise web\nok\n' 'undorc: web moves: its needs are others\n'
 echo 0 > status
 judges 'an update that is shown' 0
+: > err
 "$folder/manage" update -B "$room/new" > out 2> told || echo $? > status
 wants 'lowered web\nok\nraised web\nok\n' ''
 judges 'an update' 0
@@ -124,5 +163,15 @@ numbers app log slow spare > numbers.after
 holds 'an update leaves the processes alone that it does not name' cmp -s numbers.before numbers.after
 does 0 'ok\n' "$folder/manage" change web
 
-does 0 'lowered app log net root slow spare web\nok\n' "$folder/shutdown"
+# A longrun is restarted, with what needs it.
+numbers app log spare > numbers.before
+"$program" compile -o new services
+: > err
+"$folder/manage" update -B "$room/new" -R slow > out 2> told || echo $? > status
+wants 'lowered slow web\nok\nraised slow web\nok\n' ''
+judges 'an update that restarts' 0
+numbers app log spare > numbers.after
+holds 'an update leaves the processes alone that it does not restart' cmp -s numbers.before numbers.after
+
+does 0 'lowered app lan log root slow spare web\nok\n' "$folder/shutdown"
 does 0 'ok\n' "$folder/shutdown"

@@ -1,0 +1,177 @@
+# What one-shot commands report, which of them are refused before anything moves, and what the log of their file says of
+# them. tests/program.sh reads this file.
+# shellcheck source=../trees.sh
+. "$here/trees.sh"
+mkdir reports
+cd reports
+printf '%b' "$sample" > base
+: > in
+begin_tree
+oneshot bad 'echo here is why; exit 3'
+oneshot good true
+longrun guard
+"$program" compile tree > scripts
+
+# reports STATUS OUTPUT REPORTS WORDS..: the command of these words ends so, and reports this, but for the times
+reports() {
+    ended=$1
+    wants "$2" "$3"
+    shift 3
+    runs "$@"
+    sed -e 's/^undorc: *[0-9]*\.[0-9][0-9][0-9] s  //' err > untimed
+    cp untimed err
+    judge "undorc $*, and what it reports" "$ended"
+}
+
+# hinted LINE: that is a line of what was reported, after the fault
+hinted() {
+    passed=$((passed + 1))
+    grep -q -x -e "  $1" untimed && return
+    passed=$((passed - 1))
+    failed=$((failed + 1))
+    echo "FAILED: no hint is '$1':"
+    cat untimed
+}
+
+# What does not succeed is reported; with -q nothing is, and with -v all is. A session reports nothing of itself.
+failing='raised good\nfailed bad\nok\n'
+reports 2 "$failing" 'up bad: failed 3\n' change bad good -b scripts -l one
+rm one
+reports 2 "$failing" '' change bad good -b scripts -l one -q
+rm one
+reports 2 "$failing" 'up bad: started\nhere is why\nup bad: failed 3\nup good: started\nup good: ok\n' \
+    change bad good -b scripts -l one -w 1 -v -q
+rm one
+echo 'change bad good' > in
+reports 0 "$failing" '' session -b scripts -l one
+: > in
+rm one
+reports 2 'failed root\nblocked net\nok\n' 'up root: failed 1\n' change net -b base -x up:root -l one
+reports 1 'refused Unknown nobody\n' '' change nobody -b base -x none -l one
+rm -f one
+
+# A program that can't be started is named, with the error.
+reports 2 'failed bad\nok\n' \
+    'undorc: bad: /nonexistent can'"'"'t be started: No such file or directory (os error 2)\nup bad: not started\n' \
+    change bad -b scripts -l one -r /nonexistent
+rm one
+
+# A longrun moves only where a program controls it: nothing has moved before, and -x and -n do without.
+reports 1 '' 'undorc: NoController guard\n' change guard good -b scripts -l one
+hinted 'guard is a longrun; -c names its controller'
+passed=$((passed + 1))
+[ ! -e one ] || { passed=$((passed - 1)); failed=$((failed + 1)); echo 'FAILED: a change that is refused made its file'; }
+reports 0 'raise good guard\nok\n' '' change -n guard good -b scripts -l one
+reports 0 'raised good guard\nok\n' '' change guard good -b scripts -l one -x none
+reports 1 '' 'undorc: NoController guard\n' undo -b scripts -l one
+reports 1 '' 'undorc: NoController guard\n' restart guard good -b scripts -l one
+reports 0 'live good guard\nok\n' '' live -b scripts -l one
+reports 0 'lowered good\nok\n' '' change -d good -b scripts -l one
+reports 0 'lowered guard\nok\n' '' change -d guard -b scripts -l one -c true
+rm one
+
+# What starts programs, or asks what is up, needs a file.
+for line in 'change good' undo redo live bundles journal 'add b good' 'delete b'; do
+    # The words stand apart.
+    # shellcheck disable=SC2086
+    wrong $line -b scripts
+    says '^undorc: -l is missing, or UNDORC_LIVE: the file that keeps what is up$'
+done
+: > in
+reports 0 'raise good\nok\n' '' change -n good -b scripts
+reports 0 'raised good\nok\n' '' change good -x none -b scripts
+reports 1 'refused NothingToUndo\n' '' undo -x none -b scripts
+
+# The environment names the programs, where the words name none; and its file is left alone with -x.
+UNDORC_LIVE=one UNDORC_RUNNER=/nonexistent UNDORC_CONTROLLER=true
+export UNDORC_LIVE UNDORC_RUNNER UNDORC_CONTROLLER
+reports 0 'raised guard\nok\n' '' change guard -b scripts
+reports 2 'failed good\nok\n' \
+    'undorc: good: /nonexistent can'"'"'t be started: No such file or directory (os error 2)\nup good: not started\n' change good -b scripts
+reports 0 'raised good\nok\n' '' change good -b scripts -r '/bin/sh -c'
+reports 2 'failed guard\nok\n' 'down guard: failed 1\n' change -d guard -b scripts -c false
+cp one one.before
+reports 0 'raised good\nok\n' '' change good -b scripts -x none
+passed=$((passed + 1))
+cmp -s one one.before || { passed=$((passed - 1)); failed=$((failed + 1)); echo 'FAILED: -x altered the file of UNDORC_LIVE'; }
+unset UNDORC_LIVE UNDORC_RUNNER UNDORC_CONTROLLER
+rm one
+
+# A name with a newline can't make an answer of two lines.
+wrong change "$(printf 'nobody\nok')" -b scripts -l one
+says '^undorc: a name has no newline$'
+wrong add "$(printf 'b\nok')" good -b scripts -l one
+wrong restart "$(printf 'nobody\nok')" -b scripts -l one -x none
+says '^undorc: a name has no newline$'
+wrong status "$(printf 'nobody\nok')" -b scripts -l one
+says '^undorc: a name has no newline$'
+
+# A file that can't be had, or replaced: which it is, and why.
+: > in
+reports 111 '' 'undorc: Io\n' change good -b scripts -l nowhere/one
+hinted 'nowhere/one.lock: no such file or directory'
+mkdir shut
+"$program" change good -b scripts -l shut/one > out
+if may_be_nobody 'a directory that may not be written'; then
+    chmod 755 .. . shut
+    chmod 666 shut/one shut/one.lock
+    chown 65534 shut/one.lock
+    chmod 644 scripts
+    cp "$program" undorc
+    printf '#!/bin/sh\nexec setpriv --reuid 65534 --regid 65534 --clear-groups %s/undorc "$@"\n' "$PWD" > nobody
+    chmod 755 undorc nobody
+    owned=$program
+    program=$PWD/nobody
+    reports 111 '' 'undorc: Io\n' change -d good -b scripts -x none -l shut/one
+    hinted 'shut/one can.t be replaced by shut/one.new: permission denied'
+    program=$owned
+fi
+
+# The log of a file has a line for each command that altered it, where it is there; `journal -v` prints it.
+rm -f one
+reports 0 'raised good\nok\n' '' change good -b scripts -l one
+: > one.log
+reports 1 'refused Unknown nobody\n' '' change nobody -b scripts -l one
+reports 0 'ok\n' '' change good -b scripts -l one
+reports 0 'lowered good\nok\n' '' change -d good -b scripts -l one
+reports 2 'failed bad\nok\n' 'up bad: failed 3\n' change bad -b scripts -l one
+reports 0 'raised good\nok\n' '' undo -b scripts -l one
+reports 0 'ok\n' '' add 'b"' good -b scripts -l one
+sed -e "s/ [0-9-]*T[0-9:]*Z uid $(id -u) / /" one.log > out
+printf '%s\n' '2 status 0: change -d good -b scripts -l one' '1 status 0: undo -b scripts -l one' \
+    '2 status 0: add "b\"" good -b scripts -l one' > out.wanted
+: > err
+: > err.wanted
+echo 0 > status
+judge 'the log of who did what' 0
+"$program" journal -b scripts -l one > plain
+cat plain one.log > out.wanted
+"$program" journal -v -b scripts -l one > out
+judge 'the journal with its log' 0
+
+# Root is told of sources that are links out of their folder, and the file of -o may be read by nobody who may not
+# read the sources.
+mkdir elsewhere
+echo true > elsewhere/up
+rm tree/good/up
+ln -s ../../elsewhere/up tree/good/up
+rm -f made
+"$program" compile -o made tree 2> told || true
+wants '' ''
+: > out
+[ "$(id -u)" -ne 0 ] || printf 'undorc: tree/good/up is a link out of its source, to %s/elsewhere/up\n' "$PWD" > out.wanted
+cp told out
+: > err
+echo 0 > status
+judge 'root is told of a link' 0
+chmod 600 tree/bad/up
+stat -c %a made > out
+rm -f made
+"$program" compile -o made tree 2> told || true
+stat -c %a made >> out
+chmod 644 made
+"$program" compile -o made tree 2> told || true
+stat -c %a made >> out
+wants '644\n600\n600\n' ''
+judge 'a database is no more readable than its sources' 0
+chmod 644 tree/bad/up

@@ -1,0 +1,92 @@
+# `restart`: what is named goes down with all that needs it, and what went down comes up again. tests/program.sh reads this
+# file.
+# shellcheck source=../trees.sh
+. "$here/trees.sh"
+mkdir restarts
+cd restarts
+cp "$samples/sample.txt" base
+: > in
+# starts NAME..: these are up, and nothing else
+starts() {
+    rm -f live live.run
+    "$program" change "$@" -b base -l live -x none > setup
+}
+# goes STATUS OUTPUT JOURNAL WORDS..: a restart, and the journal behind it
+goes() {
+    ends=$1 output=$2 entries=$3
+    shift 3
+    expect "$ends" "$output" '' '' restart -b base -l live "$@"
+    expect 0 "$entries" '' '' journal -b base -l live
+}
+
+starts web
+goes 0 'lowered web\nok\nraised web\nok\n' 'at 3 of 4\n0 +db +log +net +root +web\n1 -web\n2 +web\nok\n' web -x none
+# With all that needs it, essential services too, and nothing else.
+starts web
+goes 0 'lowered db net web\nok\nraised db net web\nok\n' \
+    'at 3 of 4\n0 +db +log +net +root +web\n1 -db -net -web\n2 +db +net +web\nok\n' net -x none
+starts web
+goes 0 'lowered db net root web\nok\nraised db net root web\nok\n' \
+    'at 3 of 4\n0 +db +log +net +root +web\n1 -db -net -root -web\n2 +db +net +root +web\nok\n' root -x none
+# What is down stays down, also where it is named.
+starts net log
+goes 0 'lowered net\nok\nraised net\nok\n' 'at 3 of 4\n0 +log +net +root\n1 -net\n2 +net\nok\n' net web -x none
+starts net
+goes 0 'ok\nok\n' 'at 1 of 2\n0 +net +root\nok\n' log web -x none
+# Each half is an entry, and a bundle's name stands for its services.
+starts web
+goes 0 'lowered web\nok\nraised web\nok\n' 'at 3 of 4\n0 +db +log +net +root +web\n1 -web\n2 +web\nok\n' site -x none
+expect 0 'lowered web\nok\n' '' '' undo -b base -l live -x none
+expect 0 'raised web\nok\n' '' '' undo -b base -l live -x none
+
+# What fails on the way down stays up with what it needs; what went down comes up all the same.
+starts web
+goes 2 'lowered web\nfailed db\nblocked net\nok\nraised web\nok\n' \
+    'at 3 of 4\n0 +db +log +net +root +web\n1 -web\n2 +web\nok\n' net -x down:db
+starts web
+goes 2 'failed web\nok\nok\n' 'at 1 of 2\n0 +db +log +net +root +web\nok\n' web -x down:web
+# What fails on the way up stays down with what needs it.
+starts web
+goes 2 'lowered db net web\nok\nraised net\nfailed db\nblocked web\nok\n' \
+    'at 3 of 4\n0 +db +log +net +root +web\n1 -db -net -web\n2 +net\nok\n' net -x up:db
+
+# What is refused moves nothing.
+starts web
+cp live was
+goes 1 'refused Unknown nobody\n' 'at 1 of 2\n0 +db +log +net +root +web\nok\n' web nobody -x none
+expect 1 '' 'undorc: Unknown nobody\n' '' restart web -b base -l live -x up:nobody
+printf '%b' "$none" > other
+expect 1 '' 'undorc: OtherDb\n' '' restart web -b other -l live -x none
+expect 111 '' 'undorc: Io\n' '' restart web -b missing -l live -x none
+exec 7>> live.lock
+flock 7
+expect 111 '' 'undorc: Busy\n' '' restart web -b base -l live -x none
+exec 7>&-
+cmp -s live was || echo 'the file differs' >> out
+judge 'a restart that is refused' 111
+wrong restart
+wrong restart -b base -l live
+wrong restart web -b base
+wrong restart web -l live
+wrong restart web -b base -l live -n
+wrong restart web -b base -l live -t 5
+
+# By real scripts, each once, and in the order of needs.
+begin_tree
+oneshot a 'echo up a >> log'
+down a 'echo down a >> log'
+oneshot b 'echo up b >> log' a
+down b 'echo down b >> log'
+oneshot c 'echo up c >> log'
+down c 'echo down c >> log'
+"$program" compile tree > base
+rm live
+"$program" change b c -b base -l live < /dev/null > setup
+: > log
+expect 0 'lowered a b\nok\nraised a b\nok\n' '' '' restart a -b base -l live
+wants 'down b\ndown a\nup a\nup b\n' ''
+cp log out
+: > err
+echo 0 > status
+judge 'the scripts of a restart' 0
+cd ..

@@ -1,0 +1,93 @@
+# `status`: where services stand, by FILE and, while a command is under way, by its run log. tests/program.sh reads this
+# file.
+# shellcheck source=../trees.sh
+. "$here/trees.sh"
+mkdir status_of
+cd status_of
+cp "$samples/sample.txt" base
+: > in
+
+# Where no command is under way FILE says it, and names in any order are answered in that of their bytes.
+expect 0 'db down\nlog down\nnet down\nroot down\nweb down\n' '' '' status -b base -l live
+"$program" change net -b base -l live -x none > setup
+expect 0 'db down\nlog down\nnet up\nroot up\nweb down\n' '' '' status -b base -l live
+expect 0 'net up\nroot up\n' '' '' status root net -b base -l live
+expect 3 'net up\nweb down\n' '' '' status web net -b base -l live
+expect 3 'web down\n' '' '' status site -b base -l live
+expect 1 'refused Unknown nobody\n' '' '' status net nobody other -b base -l live
+"$program" add both net root site -b base -l live > setup
+expect 3 'net up\nroot up\nweb down\n' '' '' status both -b base -l live
+
+# logged LINES: the run log of a command that is under way or was cut short
+logged() {
+    cp live live.run
+    printf '%b' "$1" >> live.run
+}
+logged '-t 1 -u change web\ntake 1 db\ntake 2 log\ndone 2 log ok\ndone 1 db failed 3\n'
+expect 0 'db failed\nlog up\nnet up\nroot up\nweb down\n' '' '' status -b base -l live
+expect 3 'db failed\n' '' '' status db -b base -l live
+expect 0 'log up\n' '' '' status log -b base -l live
+logged '-t 1 -u change web\ntake 1 db\ntake 2 log\n'
+expect 0 'db rising\nlog rising\nnet up\nroot up\nweb down\n' '' '' status -b base -l live
+logged '-t 1 -D change root\ntake 1 net\n'
+expect 3 'net sinking\n' '' '' status net -b base -l live
+logged '-t 1 -D change root\ntake 1 net\ndone 1 net ok\n'
+expect 3 'net down\nroot up\n' '' '' status net root -b base -l live
+logged '-t 1 -D change root\ntake 1 net\ndone 1 net timeout\n'
+expect 3 'net failed\n' '' '' status net -b base -l live
+# A line that was not written whole says nothing; nor does a log of another text, or one that fits no command.
+logged '-t 1 -D change root\ntake 1 net\ndone 1 net o'
+expect 3 'net sinking\n' '' '' status net -b base -l live
+logged 'take 1 net\n'
+expect 0 'net up\n' '' '' status net -b base -l live
+cp base live.run
+expect 0 'net up\n' '' '' status net -b base -l live
+rm live.run
+
+# Both files stay as they are, no lock is taken, and nothing is made.
+rm -f live.lock
+cp live was
+exec 7>> live.lock
+flock 7
+expect 0 'net up\n' '' '' status net -b base -l live
+exec 7>&-
+rm live.lock
+wants '' ''
+ls live.* > out 2> setup || true
+cmp -s live was || echo 'the file differs' >> out
+: > err
+echo 0 > status
+judge 'status leaves all as it is' 0
+expect 0 'db down\nlog down\nnet down\nroot down\nweb down\n' '' '' status -b base -l missing
+printf '%b' "$none" > other
+expect 1 '' 'undorc: OtherDb\n' '' status -b other -l live
+expect 1 '' 'undorc: Bad 0\n' '' status -b live -l base
+mkdir folder
+expect 111 '' 'undorc: Io\n' '' status -b base -l folder
+expect 111 '' 'undorc: Io\n' '' status -b missing -l live
+wrong status
+wrong status -b base
+wrong status -l live net
+wrong status -b base -l live -W
+wrong status -b base -l live -x none
+UNDORC_DB=base UNDORC_LIVE=live expect 0 'net up\n' '' '' status net
+
+# A command that is under way, with real scripts.
+begin_tree
+oneshot quick 'true'
+oneshot slow ': > begun; until [ -e go ]; do sleep 0.02; done' quick
+oneshot bad 'exit 1'
+oneshot above 'true' slow
+"$program" compile tree > base
+rm live
+"$program" change above bad -b base -l live > change.out 2> change.err < /dev/null &
+changing=$!
+for turn in $(seq 250); do
+    [ ! -e begun ] || ! grep -q 'bad failed' live.run 2> setup || break
+    sleep 0.02
+done
+expect 0 'above down\nbad failed\nquick up\nslow rising\n' '' '' status -b base -l live
+: > go
+wait "$changing" || true
+expect 0 'above up\nbad down\nquick up\nslow up\n' '' '' status -b base -l live
+cd ..
