@@ -41,7 +41,7 @@ for entry in "$top"/contrib/*; do
     [ "$entry" = "$completion" ] || put_tree "$entry" "share/undorc/${entry##*/}"
 done
 # Documents keep the places in which they name each other.
-for file in README.md LICENSE; do
+for file in README.md NEWS LICENSE; do
     put 644 "$top/$file" "share/doc/undorc/$file"
 done
 put_tree "$top/docs" share/doc/undorc/docs

@@ -14,7 +14,7 @@ trap 'rm -rf "$room"' EXIT
 made=$room/$name
 mkdir "$made" "$made/packaging"
 install -m 755 "$program" "$made/undorc"
-cp -R man contrib docs README.md LICENSE "$made"
+cp -R man contrib docs README.md NEWS LICENSE "$made"
 cp packaging/install.sh packaging/uninstall.sh "$made/packaging"
 cp packaging/Makefile "$made/Makefile"
 

@@ -125,6 +125,7 @@ _undorc_value() {
             ;;
         TEXT*) mapfile -t COMPREPLY < <(compgen -c -- "${words[-1]}") ;;
         LIST*) _undorc_failing ;;
+        NAME*) _undorc_offer < <(_undorc_names services) ;;
         N-w) _undorc_offer < <(printf '%s\n' 1 2 4 8 16 32 64) ;;
     esac
 }
@@ -160,7 +161,7 @@ _undorc_words() {
                 esac
             fi
             ;;
-        plan | change | add) _undorc_offer < <(_undorc_names all) ;;
+        plan | change | add | restart | status) _undorc_offer < <(_undorc_names all) ;;
         delete) _undorc_offer < <(_undorc_names bundles) ;;
         help) [[ ${#found[@]} -gt 0 ]] || _undorc_commands ;;
     esac

@@ -90,6 +90,8 @@ function __undorc_option -a command letter value about
             set takes -x -a '(__fish_complete_command)'
         case 'LIST*'
             set takes -x -a '(__undorc_failing)'
+        case 'NAME*'
+            set takes -x -a '(__undorc_names services)'
         case Nw
             set takes -x -a '1 2 4 8 16 32 64'
         case '*'
@@ -126,7 +128,7 @@ end
 complete -c undorc -f
 complete -c undorc -s h -l help -d 'Print help'
 __undorc_offers
-complete -c undorc -n '__undorc_is plan change add' -a '(__undorc_names all)' -d 'Name'
+complete -c undorc -n '__undorc_is plan change add restart status' -a '(__undorc_names all)' -d 'Name'
 complete -c undorc -n '__undorc_is delete' -a '(__undorc_names bundles)' -d 'Name'
 complete -c undorc -n '__undorc_is compile' -a '(__fish_complete_directories)' -d 'Source directory'
 complete -c undorc -n '__undorc_is db' -a '(__undorc_query)'
