@@ -1,5 +1,6 @@
 -- What the words ask of `db`.
-use Rattle.std.specs.Prelude.{◌≡◌, ◌∷◌, List, [], Option, Some, IfSome, codes, option_map, if◌then◌else◌}
+use Rattle.std.specs.Prelude.{◌≡◌, ◌∷◌, List, [], Option, Some, IfSome, codes, option_map}
+use Rattle.std.specs.Prelude.{if◌then◌else◌}
 use Rattle.std.specs.Option.{option_map_or}
 use Rattle.clap.specs.Words.{Row, Text, first_of}
 use Rattle.rc_graph.specs.declared.Way.{Way}

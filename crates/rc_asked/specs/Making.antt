@@ -8,5 +8,6 @@ use Rattle.rc_asked.specs.declared.program_words.Making.TheVariants as making
 -- how a request of the program asks that transitions are made
 abbrev pub making_ask_of : Making → MakingAsk
 making_ask_of (making.Table failing) = ByTable (map listed_of failing.items)
-making_ask_of (making.Programs programs) = ByPrograms (option_map (λ text. text.now) programs.runner)
+making_ask_of (making.Programs programs) =
+    ByPrograms (option_map (λ text. text.now) programs.runner)
     (option_map (λ text. text.now) programs.controller) programs.limit

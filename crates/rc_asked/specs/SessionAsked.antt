@@ -1,5 +1,6 @@
 -- What the words ask of `session`.
-use Rattle.std.specs.Prelude.{◌≡◌, ◌≤◌, ◌<◌, ◌^◌, ℕ, Bool, List, Option, None, Some, codes, option_map}
+use Rattle.std.specs.Prelude.{◌≡◌, ◌≤◌, ◌<◌, ◌^◌, ℕ, Bool, List, Option, None, Some, codes}
+use Rattle.std.specs.Prelude.{option_map}
 use Rattle.std.specs.Str.Parse.{IsNumeral, digits_value, without_leading_plus}
 use Rattle.clap.specs.Words.{Row, Text, first_of}
 use Rattle.rc_asked.specs.Making.{making_ask_of}
@@ -9,8 +10,8 @@ use Rattle.rc_asked.specs.declared.session_request.SessionRequest.{SessionReques
 
 -- what is asked of a session: how many workers it has, how transitions are made, whether each is
 -- reported, or not even those that do not succeed, how many states a new one has at most, the file
--- that it goes on with and is kept in, if one is named, and whether that is waited for where another
--- program holds it
+-- that it goes on with and is kept in, if one is named, and whether that is waited for where
+-- another program holds it
 pub record SessionAsk : Type 0 where
   pub workers : ℕ
   pub making : MakingAsk

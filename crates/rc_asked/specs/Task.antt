@@ -6,7 +6,8 @@ use Rattle.rc_select.specs.Ask.{ask_of}
 use Rattle.rc_command.specs.Words.{rows_for}
 use Rattle.rc_asked.specs.Asked.{ask_in}
 use Rattle.rc_asked.specs.CompileAsked.{AsksCompileIn, CompileAsk, compile_ask_of}
-use Rattle.rc_asked.specs.OnceAsked.{AsksOnceIn, HasNoEvents, LacksFile, OnceAsk, once_ask_of, once_command}
+use Rattle.rc_asked.specs.OnceAsked.{AsksOnceIn, HasNoEvents, LacksFile, OnceAsk, once_ask_of}
+use Rattle.rc_asked.specs.OnceAsked.{once_command}
 use Rattle.rc_asked.specs.DbAsked.{AsksIn, DbAsk, db_ask_of}
 use Rattle.rc_asked.specs.SessionAsked.{AsksSessionIn, SessionAsk, session_ask_of}
 use Rattle.rc_asked.specs.NamedAsked.{AsksNamesIn, NamedAsk, named_ask_of}

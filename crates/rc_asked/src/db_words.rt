@@ -1,7 +1,9 @@
 //! What the words ask of `db`.
-ghost use Rattle.std.specs.Prelude.{◌≡◌, ◌≢◌, ◌↔◌, ◌∷◌, [], codes, if◌then◌else◌, map, string_bytes, IfErr, IfNone, IfOk, IfSome, IsTrue};
+ghost use Rattle.std.specs.Prelude.{◌≡◌, ◌≢◌, ◌↔◌, ◌∷◌, [], codes, if◌then◌else◌, map};
+ghost use Rattle.std.specs.Prelude.{string_bytes, IfErr, IfNone, IfOk, IfSome, IsTrue};
 ghost use Rattle.clap.specs.Words.{found_of, rows_of};
-ghost use Rattle.rc_asked.specs.DbAsked.{AsksDb, AsksIn, AsksNothing, DbAsk, ShowsByPicture, ask_by, db_ask_of};
+ghost use Rattle.rc_asked.specs.DbAsked.{AsksDb, AsksIn, AsksNothing, DbAsk, ShowsByPicture};
+ghost use Rattle.rc_asked.specs.DbAsked.{ask_by, db_ask_of};
 ghost use Rattle.rc_asked.specs.Query.{Dot, Question, list_word, question_of, words_of_query};
 ghost use Rattle.rc_command.specs.QueryWords.{names_word};
 ghost use Rattle.rc_command.specs.Words.{words_in};

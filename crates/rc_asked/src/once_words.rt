@@ -1,10 +1,12 @@
 //! What the words ask of a session of one line.
-ghost use Rattle.std.specs.Prelude.{◌≡◌, ◌≢◌, ◌↔◌, codes, map, option_map, All, IfErr, IfOk, IsTrue};
+ghost use Rattle.std.specs.Prelude.{◌≡◌, ◌≢◌, ◌↔◌, codes, map, option_map, All, IfErr, IfOk};
+ghost use Rattle.std.specs.Prelude.{IsTrue};
 ghost use Rattle.clap.specs.Words.{found_of, rows_of};
 ghost use Rattle.rc_asked.specs.Usual.{session_by, usual_ask_of};
 ghost use Rattle.rc_asked.specs.OnceAsked.{AreOneLine, IsOneLine, IsShown, LacksFile};
 ghost use Rattle.rc_command.specs.Words.{words_in as words_rows};
-ghost use Rattle.rc_asked.specs.OnceAsked.{Adds, AsksOnceIn, AsksWhat, AsksWhatIn, OnceAsk, OnceSaying};
+ghost use Rattle.rc_asked.specs.OnceAsked.{Adds, AsksOnceIn, AsksWhat, AsksWhatIn, OnceAsk};
+ghost use Rattle.rc_asked.specs.OnceAsked.{OnceSaying};
 ghost use Rattle.rc_asked.specs.OnceAsked.{once_ask_of, once_command, once_saying_of};
 ghost use Rattle.rc_asked.specs.declared.asked.WordsFault.TheVariants.{Memory};
 

@@ -1,5 +1,6 @@
 //! How the words of `session` ask that transitions are made.
-ghost use Rattle.std.specs.Prelude.{◌≡◌, ◌≢◌, Option, Some, map, option_map, string_bytes, IfErr, IfOk};
+ghost use Rattle.std.specs.Prelude.{◌≡◌, ◌≢◌, Option, Some, map, option_map, string_bytes, IfErr};
+ghost use Rattle.std.specs.Prelude.{IfOk};
 ghost use Rattle.clap.specs.Words.{Text, found_of, rows_of};
 ghost use Rattle.rc_asked.specs.Making.{making_ask_of};
 ghost use Rattle.rc_asked.specs.Programs.{MakesBy, MakesIn, MakingAsk, controller_in, runner_in};

@@ -1,7 +1,10 @@
 //! What the words ask of `session`.
-ghost use Rattle.std.specs.Prelude.{◌≢◌, ◌≤◌, ℕ, map, option_map, string_bytes, IfErr, IfNone, IfOk, IfSome};
+ghost use Rattle.std.specs.Prelude.{◌≢◌, ◌≤◌, ℕ, map, option_map, string_bytes, IfErr, IfNone};
+ghost use Rattle.std.specs.Prelude.{IfOk, IfSome};
 ghost use Rattle.clap.specs.Words.{found_of, rows_of};
-ghost use Rattle.rc_asked.specs.SessionAsked.{AsksNoSession, AsksSession, AsksSessionIn, IsBoundIn, IsCrewIn, SessionAsk, SpellsBound, SpellsCrew, session_ask_of};
+ghost use Rattle.rc_asked.specs.SessionAsked.{AsksNoSession, AsksSession, AsksSessionIn, IsBoundIn};
+ghost use Rattle.rc_asked.specs.SessionAsked.{IsCrewIn, SessionAsk, SpellsBound, SpellsCrew};
+ghost use Rattle.rc_asked.specs.SessionAsked.{session_ask_of};
 ghost use Rattle.rc_asked.specs.declared.asked.WordsFault.TheVariants.{Memory};
 
 use crate::asked::WordsFault;

@@ -1,7 +1,8 @@
 //! The list of transitions that are to fail, as words: `none`, or `up:NAME` and
 //! `down:NAME` with commas between them.
 
-ghost use Rattle.std.specs.Prelude.{◌≡◌, ◌≢◌, ◌++◌, ◌∷◌, ◌↔◌, ℕ, List, [], map, codes, IsTrue, IfOk, OnOk, IfSome, IfNone};
+ghost use Rattle.std.specs.Prelude.{◌≡◌, ◌≢◌, ◌++◌, ◌∷◌, ◌↔◌, ℕ, List, [], map, codes, IsTrue};
+ghost use Rattle.std.specs.Prelude.{IfOk, OnOk, IfSome, IfNone};
 ghost use Rattle.rc_asked.specs.Listed.{Listed, AreSpelled, IsSpelled, SpellsList, words_in};
 ghost use Rattle.rc_asked.specs.Reading.{listed_of};
 

@@ -1,5 +1,6 @@
 -- A base and an input: the base comes first.
-use Rattle.std.specs.Prelude.{◌≡◌, ◌≢◌, ◌⊎◌, ◌≤◌, ℕ, List, [], Option, None, Some, IfSome, drop, length}
+use Rattle.std.specs.Prelude.{◌≡◌, ◌≢◌, ◌⊎◌, ◌≤◌, ℕ, List, [], Option, None, Some, IfSome, drop}
+use Rattle.std.specs.Prelude.{length}
 use Rattle.std.specs.Io.KnownBytes.{IsAtEnd}
 use Rattle.rc_model.specs.Database.{Database, IsDatabase}
 use Rattle.rc_db.specs.Database.{IsWritable}

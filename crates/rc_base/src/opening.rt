@@ -2,7 +2,8 @@
 //! database stands at the beginning.
 ghost use Rattle.std.specs.Prelude.{◌≡◌, ◌⊎◌, ◌+◌, Err, None, Some, IfErr, IfOk};
 ghost use Rattle.rc_base.specs.Base.{bytes_of};
-ghost use Rattle.rc_base.specs.Opening.{IsBaseFault, IsInputFault, IsOpenFault, IsWrongBase, Opens, ReadsAll};
+ghost use Rattle.rc_base.specs.Opening.{IsBaseFault, IsInputFault, IsOpenFault, IsWrongBase, Opens};
+ghost use Rattle.rc_base.specs.Opening.{ReadsAll};
 ghost use Rattle.rc_model.specs.Database.{IsDatabase};
 ghost use Rattle.rc_db.specs.Database.{IsWritable};
 ghost use Rattle.rc_dbtext.specs.Spelling.{spelling};

@@ -1,5 +1,7 @@
 -- How many services of a course move, and that a run fits into the room counted for it.
-use Rattle.std.proofs.Common.{◌≡◌, ◌∙◌, inl, inr, ◌⊎◌, ℕ, zero, suc, ◌+◌, ◌*◌, ◌<◌, ◌≤◌, Bool, true, false, cond, ◌||◌, List, [], ◌∷◌, length, count_by, Result, Ok, Err, IfOk, refl, sym, arith}
+use Rattle.std.proofs.Common.{◌≡◌, ◌∙◌, inl, inr, ◌⊎◌, ℕ, zero, suc, ◌+◌, ◌*◌, ◌<◌, ◌≤◌, Bool, true}
+use Rattle.std.proofs.Common.{false, cond, ◌||◌, List, [], ◌∷◌, length, count_by, Result, Ok, Err}
+use Rattle.std.proofs.Common.{IfOk, refl, sym, arith}
 use Rattle.std.proofs.lemmas.List.Sums.{sum_by-cons, count_by-le-length}
 use Rattle.rc_model.specs.Names.{Has, Holds}
 use Rattle.rc_model.specs.declared.Event.{Event}

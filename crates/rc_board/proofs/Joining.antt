@@ -1,5 +1,6 @@
 -- What joined pads make, with a gate that says what they tell.
-use Rattle.std.proofs.Common.{◌≡◌, ℕ, ◌+◌, ◌-◌, ◌≤◌, ◌<◌, ◌==◌, Bool, true, false, cond, List, [], ◌∷◌, Option, length, get_or, arith, refl, sym, subst}
+use Rattle.std.proofs.Common.{◌≡◌, ℕ, ◌+◌, ◌-◌, ◌≤◌, ◌<◌, ◌==◌, Bool, true, false, cond, List, []}
+use Rattle.std.proofs.Common.{◌∷◌, Option, length, get_or, arith, refl, sym, subst}
 use Rattle.std.specs.List.{All}
 use Rattle.std.proofs.lemmas.List.Elements.{All-nil, All-cons, All-head, All-tail, All-map}
 use Rattle.std.proofs.lemmas.Bool.{eq-eqb}
@@ -42,29 +43,35 @@ all_from_own P n (e ∷ es) a h =
 module _ (Answers : ℕ → Way → Outcome → Type 0) (Gives : ℕ → Type 0) (deadline : Option ℕ)
     (up : List Bool) where
   -- an event whose way is that of its service
-  said_so : (e : Event) → IsSaidWith Answers Gives deadline e (way_of up e) → IsSaidInTime Answers Gives deadline up e
+  said_so : (e : Event) → IsSaidWith Answers Gives deadline e (way_of up e)
+      → IsSaidInTime Answers Gives deadline up e
   said_so (Take w s) said = said
   said_so (Done w s o) said = said
   said_so (Stop w m) said = said
 
-  note_said : (x : Note) → IsSaidWith Answers Gives deadline x.event x.way → x.way ≡ way_of up x.event
+  note_said : (x : Note) → IsSaidWith Answers Gives deadline x.event x.way
+      → x.way ≡ way_of up x.event
       → IsSaidInTime Answers Gives deadline up x.event
   note_said x said is =
-      said_so x.event (subst (λ (way : Option Way). IsSaidWith Answers Gives deadline x.event way) is said)
+      said_so x.event
+      (subst (λ (way : Option Way). IsSaidWith Answers Gives deadline x.event way) is said)
 
   pad_said : (xs : List Note) → AreSaid Answers Gives deadline xs
-      → All (λ (x : Note). x.way ≡ way_of up x.event) xs → All (IsSaidInTime Answers Gives deadline up) (events_on xs)
+      → All (λ (x : Note). x.way ≡ way_of up x.event) xs
+      → All (IsSaidInTime Answers Gives deadline up) (events_on xs)
   pad_said xs said ways =
       All-map (IsSaidInTime Answers Gives deadline up) (λ (x : Note). x.event) xs
       (λ k d low. note_said (get_or xs k d) (said k d low) (ways k d low))
 
   -- the events of a worker, from its pad
   own_said : (pads : List Written) (es : List Event) (k : ℕ) → k < length pads
-      → AreInterleaved up pads es → All (λ (p : Written). AreSaid Answers Gives deadline p.notes) pads
+      → AreInterleaved up pads es
+      → All (λ (p : Written). AreSaid Answers Gives deadline p.notes) pads
       → All (IsSaidInTime Answers Gives deadline up) (own (k + 1) es)
   own_said pads es k low joined said =
       let none : Written = record { notes = []; room = 0 } in
-      subst (λ (xs : List Event). All (IsSaidInTime Answers Gives deadline up) xs) (sym (joined.each k none low))
+      subst (λ (xs : List Event). All (IsSaidInTime Answers Gives deadline up) xs)
+      (sym (joined.each k none low))
       (pad_said (get_or pads k none).notes (said k none low) (joined.ways k none low))
 
   -- an interleaving of pads that tell what the gate may say was made with it

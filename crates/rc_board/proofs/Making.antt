@@ -1,5 +1,7 @@
 -- What workers make, one event after the other.
-use Rattle.std.proofs.Common.{◌≡◌, ◌≤◌, ℕ, Bool, true, false, List, [], ◌∷◌, ◌++◌, Option, Result, Ok, Err, IfOk, IfErr, OnOk, OnErr, slice_index_or, get_or, refl, sym, subst, arith}
+use Rattle.std.proofs.Common.{◌≡◌, ◌≤◌, ℕ, Bool, true, false, List, [], ◌∷◌, ◌++◌, Option, Result}
+use Rattle.std.proofs.Common.{Ok, Err, IfOk, IfErr, OnOk, OnErr, slice_index_or, get_or, refl, sym}
+use Rattle.std.proofs.Common.{subst, arith}
 use Rattle.std.proofs.lemmas.Bool.{false_from_ne_true}
 use Rattle.std.proofs.lemmas.List.Elements.{All-nil, All-push}
 use Rattle.rc_graph.specs.declared.Way.{Way}
@@ -16,7 +18,8 @@ use Rattle.rc_core.specs.Taking.{CanGo, IsAnswered}
 use Rattle.rc_board.specs.declared.play.Halt.{Halt}
 use Rattle.rc_board.specs.declared.play.Halt.TheVariants.{Memory, NoThread, Strange}
 use Rattle.rc_board.specs.Halting.{MayHalt}
-use Rattle.rc_board.specs.Made.{way_from, worker_of, IsSaid, IsInTime, IsTimely, IsSaidInTime, AreMade, AreMadeInTime, AreTimely}
+use Rattle.rc_board.specs.Made.{way_from, worker_of, IsSaid, IsInTime, IsTimely, IsSaidInTime}
+use Rattle.rc_board.specs.Made.{AreMade, AreMadeInTime, AreTimely}
 
 -- a service that may go this way goes the way of its service
 pub way_is : (c : Course) (events : List Event) (s : ℕ) (way : Way) → IsCourse c
@@ -54,7 +57,8 @@ module _ (Answers : ℕ → Way → Outcome → Type 0) (Gives : ℕ → Type 0)
   }
 
   -- where there are more workers
-  pub made_by_more : (n m : ℕ) (events : List Event) → n ≤ m → AreMadeInTime n Answers Gives deadline up events
+  pub made_by_more : (n m : ℕ) (events : List Event) → n ≤ m
+      → AreMadeInTime n Answers Gives deadline up events
       → AreMadeInTime m Answers Gives deadline up events
   made_by_more n m events more made = record {
     numbers = λ k d low.
@@ -71,7 +75,8 @@ module _ (Answers : ℕ → Way → Outcome → Type 0) (Gives : ℕ → Type 0)
 
 -- what tells of a gate what it may say, and in time, does both
 said_of : (Answers : ℕ → Way → Outcome → Type 0) (Gives : ℕ → Type 0) (deadline : Option ℕ)
-    (up : List Bool) (e : Event) → IsSaidInTime Answers Gives deadline up e → IsSaid Answers Gives up e
+    (up : List Bool) (e : Event) → IsSaidInTime Answers Gives deadline up e
+    → IsSaid Answers Gives up e
 said_of Answers Gives deadline up (Take w s) said = tt
 said_of Answers Gives deadline up (Done w s o) said = said
 said_of Answers Gives deadline up (Stop w m) said = said
@@ -93,22 +98,26 @@ module _ (workers : ℕ) (Answers : ℕ → Way → Outcome → Type 0) (Gives :
   }
 
   pub made_timely : AreTimely Gives deadline events
-  made_timely = λ k d low. timely_of Answers Gives deadline up (get_or events k d) (made.said k d low)
+  made_timely =
+      λ k d low. timely_of Answers Gives deadline up (get_or events k d) (made.said k d low)
 
 -- a run goes on as it was made: its course stays, and worker 1 made what came
 abbrev pub GoesOn : (ℕ → Way → Outcome → Type 0) → (ℕ → Type 0) → RunSoFar → RunSoFar → Type 0
 GoesOn Answers Gives old new =
-    (new.course ≡ old.course) × AreMadeInTime 1 Answers Gives new.course.deadline new.course.up new.events
+    (new.course ≡ old.course) × AreMadeInTime 1 Answers Gives new.course.deadline
+    new.course.up new.events
 
 module _ (Answers : ℕ → Way → Outcome → Type 0) (Gives : ℕ → Type 0) (old new : RunSoFar)
     (made : AreMadeInTime 1 Answers Gives old.course.deadline old.course.up old.events) where
   stays : new ≡ old → GoesOn Answers Gives old new
   stays same = subst (λ (run : RunSoFar). GoesOn Answers Gives old run) (sym same) (refl, made)
 
-  comes : (e : Event) → worker_of e ≤ 1 → IsSaidInTime Answers Gives old.course.deadline old.course.up e
+  comes : (e : Event) → worker_of e ≤ 1
+      → IsSaidInTime Answers Gives old.course.deadline old.course.up e
       → new ≡ with_event old e → GoesOn Answers Gives old new
   comes e number said is =
-      let more = made_more Answers Gives old.course.deadline old.course.up 1 old.events e number said made in
+      let more =
+      made_more Answers Gives old.course.deadline old.course.up 1 old.events e number said made in
       subst (λ (run : RunSoFar). GoesOn Answers Gives old run) (sym is) (refl, more)
 
   -- after a stop, legal or not

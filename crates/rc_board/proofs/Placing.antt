@@ -1,5 +1,8 @@
 -- Pads that are read one event after the other.
-use Rattle.std.proofs.Common.{◌≡◌, ◌∙◌, ℕ, suc, ◌+◌, ◌<◌, ◌≤◌, ◌==◌, ◌↔◌, Bool, true, false, List, [], ◌∷◌, None, length, drop, replicate, get_or, slice_set, get_or-set_same, get_or-set_other, inl, inr, refl, ap, sym, subst, arith}
+use Rattle.std.proofs.Common.{◌≡◌, ◌∙◌, ℕ, suc, ◌+◌, ◌<◌, ◌≤◌, ◌==◌, ◌↔◌, Bool, true, false, List}
+use Rattle.std.proofs.Common.{[], ◌∷◌, None, length, drop, replicate, get_or, slice_set}
+use Rattle.std.proofs.Common.{get_or-set_same, get_or-set_other, inl, inr, refl, ap, sym, subst}
+use Rattle.std.proofs.Common.{arith}
 use Rattle.std.proofs.Math.Seq.{drop-cons}
 use Rattle.std.proofs.Math.ListN.{drop_of_length-le}
 use Rattle.std.proofs.lemmas.List.{get_or_default, get_or-replicate}
@@ -36,7 +39,8 @@ noted_from : (notes : List Note) (a : ℕ) (d : Note) → a < length notes
     → events_on (drop a notes) ≡ (get_or notes a d).event ∷ events_on (drop (a + 1) notes)
 noted_from notes a d low =
     let one : suc a ≡ a + 1 = omega arith in
-    subst (λ (n : ℕ). events_on (drop a notes) ≡ (get_or notes a d).event ∷ events_on (drop n notes)) one
+    subst (λ (n : ℕ). events_on (drop a notes) ≡ (get_or notes a d).event
+    ∷ events_on (drop n notes)) one
     (ap (λ (ns : List Note). events_on ns) (drop-cons notes a d low))
 
 -- an event that is next on its worker's pad

@@ -20,13 +20,15 @@ module _ (Answers : ℕ → Way → Outcome → Type 0) (Gives : ℕ → Type 0)
     (old new : Written)
     (said : AreSaid Answers Gives deadline old.notes) where
   said_still : new ≡ old → AreSaid Answers Gives deadline new.notes
-  said_still same = subst (λ (pad : Written). AreSaid Answers Gives deadline pad.notes) (sym same) said
+  said_still same =
+      subst (λ (pad : Written). AreSaid Answers Gives deadline pad.notes) (sym same) said
 
   said_more : (event : Event) (way : Option Way) → IsSaidWith Answers Gives deadline event way
       → new ≡ with_note old event way → AreSaid Answers Gives deadline new.notes
   said_more event way one is =
       subst (λ (pad : Written). AreSaid Answers Gives deadline pad.notes) (sym is)
-      (All-push (λ (note : Note). IsSaidWith Answers Gives deadline note.event note.way) old.notes _ said
+      (All-push (λ (note : Note). IsSaidWith Answers Gives deadline note.event note.way)
+      old.notes _ said
       one)
 
   -- after a worker told how a transition ended
@@ -42,7 +44,8 @@ module _ (Answers : ℕ → Way → Outcome → Type 0) (Gives : ℕ → Type 0)
       → NotesAsked old worker time asked new → AreSaid Answers Gives deadline new.notes
   said_asked worker (Late moment) (Job taken) told is = absurd is
   said_asked worker (Early leave) (Job taken) told is =
-      said_more (Take worker taken.job.service) (Some taken.job.way) (in_time Gives deadline leave.moment told) is
+      said_more (Take worker taken.job.service) (Some taken.job.way)
+      (in_time Gives deadline leave.moment told) is
   said_asked worker (Late moment) Again told is = said_still is
   said_asked worker (Early leave) Again told is = said_still is
   said_asked worker (Late moment) Stopped told is =

@@ -1,5 +1,6 @@
 -- The events on the board are an interleaving of those on the workers' pads.
-use Rattle.std.specs.Prelude.{◌≡◌, ◌+◌, ◌<◌, ◌≤◌, ℕ, Bool, List, Option, All, length, slice_index_or}
+use Rattle.std.specs.Prelude.{◌≡◌, ◌+◌, ◌<◌, ◌≤◌, ℕ, Bool, List, Option, All, length}
+use Rattle.std.specs.Prelude.{slice_index_or}
 use Rattle.rc_model.specs.Plan.{PlanSets}
 use Rattle.rc_model.specs.declared.Event.{Event}
 use Rattle.rc_model.specs.Run.{course_of, IsSettled}

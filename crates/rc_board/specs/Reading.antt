@@ -1,5 +1,6 @@
 -- How far the pads are read.
-use Rattle.std.specs.Prelude.{◌≡◌, ◌+◌, ◌<◌, ◌↔◌, ◌∷◌, ℕ, Bool, true, false, List, Option, All, length, drop, slice_index_or}
+use Rattle.std.specs.Prelude.{◌≡◌, ◌+◌, ◌<◌, ◌↔◌, ◌∷◌, ℕ, Bool, true, false, List, Option, All}
+use Rattle.std.specs.Prelude.{length, drop, slice_index_or}
 use Rattle.rc_graph.specs.declared.Way.{Way}
 use Rattle.rc_model.specs.declared.Event.{Event}
 use Rattle.rc_board.specs.declared.note.Note.{Note}

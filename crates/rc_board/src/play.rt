@@ -1,6 +1,7 @@
 //! A run that was begun, made by workers.
 
-ghost use Rattle.std.specs.Prelude.{◌≡◌, ◌<◌, ◌≤◌, ℕ, min, [], All, IfOk, IfErr, vec_len, vec_capacity};
+ghost use Rattle.std.specs.Prelude.{◌≡◌, ◌<◌, ◌≤◌, ℕ, min, [], All, IfOk, IfErr, vec_len};
+ghost use Rattle.std.specs.Prelude.{vec_capacity};
 ghost use Rattle.rc_model.specs.Run.{IsPlanned, course_of, IsSettled};
 ghost use Rattle.rc_model.specs.Beside.{IsCourse, planned_count};
 ghost use Rattle.rc_board.specs.Crew.{IsCrew};

@@ -1,7 +1,7 @@
 //! The transition of a worker between its take and the event of its end.
 //!
-//! Both values here have no `Drop`, so a worker can lose neither: who takes a job must have the gate
-//! make it, and what was made must be reported to the board.
+//! Both values here have no `Drop`, so a worker can lose neither: who takes a job must have the
+//! gate make it, and what was made must be reported to the board.
 
 ghost use Rattle.std.specs.Prelude.{◌≡◌};
 ghost use Rattle.rc_board.specs.Asking.{EntersEnd, IsAnswered};

@@ -1,5 +1,6 @@
 -- Two tables that are walked side by side: the next name, and whether its sets differ.
-use Rattle.std.specs.Prelude.{◌≡◌, ◌≢◌, ◌+◌, ◌⊎◌, ℕ, Bool, List, [], ◌∷◌, ◌++◌, Option, Some, None, slice_get}
+use Rattle.std.specs.Prelude.{◌≡◌, ◌≢◌, ◌+◌, ◌⊎◌, ℕ, Bool, List, [], ◌∷◌, ◌++◌, Option, Some, None}
+use Rattle.std.specs.Prelude.{slice_get}
 use Rattle.rc_model.specs.Names.{IsBefore}
 use Rattle.rc_model.specs.Database.{Bundles}
 use Rattle.rc_model.specs.Line.{Alteration}

@@ -1,6 +1,8 @@
-ghost use Rattle.std.specs.Prelude.{◌≡◌, ◌⊎◌, ◌<◌, ◌≤◌, ℕ, length, map, All, IfOk, IfErr, OnOk, OnErr, string_bytes};
+ghost use Rattle.std.specs.Prelude.{◌≡◌, ◌⊎◌, ◌<◌, ◌≤◌, ℕ, length, map, All, IfOk, IfErr, OnOk};
+ghost use Rattle.std.specs.Prelude.{OnErr, string_bytes};
 ghost use Rattle.rc_model.specs.Database.{HaveBound, IsTable, IsKnown, IsBundle};
-ghost use Rattle.rc_model.specs.Line.{IsEdit, Defines, Removes, CanAdd, CanDelete, IsAddFault, IsDeleteFault};
+ghost use Rattle.rc_model.specs.Line.{IsEdit, Defines, Removes, CanAdd, CanDelete, IsAddFault};
+ghost use Rattle.rc_model.specs.Line.{IsDeleteFault};
 ghost use Rattle.rc_bundle.specs.Bundling.{LeadsWhere};
 
 use crate::edit::Edit;

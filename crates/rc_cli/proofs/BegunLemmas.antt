@@ -115,7 +115,10 @@ one_list : (d : Database) (In : ℕ → Type 0) (xs ys : List (List ℕ)) → Ar
     → AreNamesOf d In ys → xs ≡ ys
 one_list d In xs ys first second =
     same_names xs ys first.order second.order
-    (λ n. (λ h. (second.same n).1 ((first.same n).0 h), λ h. (first.same n).1 ((second.same n).0 h)))
+    (λ n. (
+      λ h. (second.same n).1 ((first.same n).0 h),
+      λ h. (first.same n).1 ((second.same n).0 h),
+    ))
 
 -- what the first step lowers is one list
 lowered_once : (d e : Database) (list : List Conversion) (file : List ℕ)

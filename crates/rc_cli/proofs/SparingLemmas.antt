@@ -20,25 +20,31 @@ use Rattle.rc_update.specs.Conversions.{Conversion}
 use Rattle.rc_cli.specs.Updating.{IsUpdate, IsWantedUp, Parts, step_ask}
 
 -- the services that the names of services stand for are those services
-module _ (d : Database) (table : Bundles) (P IsUp : ℕ → Type 0) (mode : Mode) (names : List (List ℕ)) where
-  pub wanted_in : IsDatabase d → AreApart d.names table → AreNamesOf d P names → (s : ℕ) → IsWanted d.names table IsUp (step_ask mode names) s → P s
+module _ (d : Database) (table : Bundles) (P IsUp : ℕ → Type 0) (mode : Mode)
+    (names : List (List ℕ)) where
+  pub wanted_in : IsDatabase d → AreApart d.names table → AreNamesOf d P names → (s : ℕ)
+      → IsWanted d.names table IsUp (step_ask mode names) s → P s
   wanted_in is apart lists s (inl (word, there, inl at)) =
       let named = (lists.same word).0 there in
       subst P (one_place d.names word named.0 s is.names.order named.1 at) named.2
   wanted_in is apart lists s (inl (word, there, inr (set, value, has))) =
       let named = (lists.same word).0 there in
-      absurd (apart word (contains_at d.names named.0 word named.1) (named_by_value table word set value))
+      absurd (apart word (contains_at d.names named.0 word named.1)
+      (named_by_value table word set value))
   wanted_in is apart lists s (inr (all, up)) = let bad : false ≡ true = all in cc
 
-  pub wanted_back : AreNamesOf d P names → (s : ℕ) (name : List ℕ) → slice_get d.names s ≡ Some name → P s → IsWanted d.names table IsUp (step_ask mode names) s
+  pub wanted_back : AreNamesOf d P names → (s : ℕ) (name : List ℕ) → slice_get d.names s ≡ Some name
+      → P s → IsWanted d.names table IsUp (step_ask mode names) s
   wanted_back lists s name at holds = inl (name, (lists.same name).1 (s, at, holds), inl at)
 
 -- closures of the same members are the same
-down_as : (needs : List (List ℕ)) (P Q : ℕ → Type 0) (s : ℕ) → ((t : ℕ) → P t → Q t) → DownFrom needs P s → DownFrom needs Q s
+down_as : (needs : List (List ℕ)) (P Q : ℕ → Type 0) (s : ℕ) → ((t : ℕ) → P t → Q t)
+    → DownFrom needs P s → DownFrom needs Q s
 down_as needs P Q s each (inl member) = inl (each s member)
 down_as needs P Q s each (inr (t, member, path)) = inr (t, each t member, path)
 
-up_as : (needs : List (List ℕ)) (P Q : ℕ → Type 0) (s : ℕ) → ((t : ℕ) → P t → Q t) → UpFrom needs P s → UpFrom needs Q s
+up_as : (needs : List (List ℕ)) (P Q : ℕ → Type 0) (s : ℕ) → ((t : ℕ) → P t → Q t)
+    → UpFrom needs P s → UpFrom needs Q s
 up_as needs P Q s each (inl member) = inl (each s member)
 up_as needs P Q s each (inr (t, member, path)) = inr (t, each t member, path)
 
@@ -47,26 +53,46 @@ module _ (old new : Database) (list : List Conversion) (again : Bool) (line : Li
     (plan : PlanSets) where
   altered_wanted : IsLineOf old line → IsUpdate old new list again line parts → (t : ℕ)
       → IsAlteredUp old new list (Has line.current.live) t
-      → IsWanted old.names line.current.table (Has line.current.live) (step_ask DownAll parts.lower) t
+      → IsWanted old.names line.current.table (Has line.current.live) (step_ask DownAll parts.lower)
+      t
   altered_wanted of update t altered =
       let low : t < length line.current.live = has_within line.current.live t altered.0 in
       let bound = (current_state old line of).bound in
-      wanted_back old line.current.table (IsAlteredUp old new list (Has line.current.live)) (Has line.current.live) DownAll parts.lower update.lower t _
+      wanted_back old line.current.table (IsAlteredUp old new list (Has line.current.live))
+      (Has line.current.live) DownAll parts.lower update.lower t _
       (slice_get-get_or old.names t [] (omega (arith, low, bound))) altered
 
   pub lowers : IsDatabase old → IsLineOf old line → IsUpdate old new list again line parts
       → IsPlanOf old line.current.table line.current.live (step_ask DownAll parts.lower) plan
-      → (s : ℕ) → Has plan.lower s ↔ (Has line.current.live s × (StaysUp old new list (Has line.current.live) s → ⊥))
+      → (s : ℕ) → Has plan.lower s
+      ↔ (Has line.current.live s × (StaysUp old new list (Has line.current.live) s → ⊥))
   lowers is of update planned s =
       let altered = IsAlteredUp old new list (Has line.current.live) in
-      let wanted = IsWanted old.names line.current.table (Has line.current.live) (step_ask DownAll parts.lower) in
+      let wanted = IsWanted old.names line.current.table (Has line.current.live)
+      (step_ask DownAll parts.lower) in
       let apart = (current_state old line of).apart in (
-        λ has. let goes = (planned.lower s).0 has in
-            (goes.0, λ stays. goes.1 (stays.0, λ down. stays.1 (down_as old.needs wanted altered s (wanted_in old line.current.table altered (Has line.current.live) DownAll parts.lower is apart update.lower) down))),
-        λ goes. (planned.lower s).1 (goes.0, λ stays. goes.1 (stays.0, λ down. stays.1 (down_as old.needs altered wanted s (altered_wanted of update) down))),
+        λ has. let goes = (planned.lower s).0 has in (
+          goes.0,
+          λ stays. goes.1 (
+            stays.0,
+            λ down. stays.1
+                (down_as old.needs wanted altered s
+                (wanted_in old line.current.table altered (Has line.current.live) DownAll
+                parts.lower is apart update.lower) down),
+          ),
+        ),
+        λ goes. (planned.lower s).1 (
+          goes.0,
+          λ stays. goes.1 (
+            stays.0,
+            λ down. stays.1
+                (down_as old.needs altered wanted s (altered_wanted of update) down),
+          ),
+        ),
       )
 
-  pub lowers_alone : IsPlanOf old line.current.table line.current.live (step_ask DownAll parts.lower) plan → (s : ℕ) → Has plan.raise s → ⊥
+  pub lowers_alone : IsPlanOf old line.current.table line.current.live
+      (step_ask DownAll parts.lower) plan → (s : ℕ) → Has plan.raise s → ⊥
   lowers_alone planned s has = let comes = (planned.raise s).0 has in comes.1 comes.0.0
 
 -- the second step
@@ -89,12 +115,17 @@ module _ (old new : Database) (list : List Conversion) (again : Bool) (line : Li
         λ has. let comes = (planned.raise s).0 has in (
           elim comes.0 [
             | inl up ↦ absurd (comes.1 up)
-            | inr from ↦ up_as new.needs wanted carried s (wanted_in new new.table carried (Has parts.kept) Up parts.raise is is.fit.apart update.raise) from
+            | inr from ↦
+                up_as new.needs wanted carried s
+                (wanted_in new new.table carried (Has parts.kept) Up parts.raise is is.fit.apart
+                update.raise) from
           ],
           comes.1,
         ),
-        λ comes. (planned.raise s).1 (inr (up_as new.needs carried wanted s (carried_wanted update) comes.0), comes.1),
+        λ comes. (planned.raise s).1
+            (inr (up_as new.needs carried wanted s (carried_wanted update) comes.0), comes.1),
       )
 
-  pub raises_alone : IsPlanOf new new.table parts.kept (step_ask Up parts.raise) plan → (s : ℕ) → Has plan.lower s → ⊥
+  pub raises_alone : IsPlanOf new new.table parts.kept (step_ask Up parts.raise) plan → (s : ℕ)
+      → Has plan.lower s → ⊥
   raises_alone planned s has = let goes = (planned.lower s).0 has in goes.1 (inl goes.0)

@@ -47,60 +47,104 @@ pub step_eventless : (dry : Bool) (ask : Ask) → HasNoEvents (Said (step_by dry
 step_eventless true ask = tt
 step_eventless false ask = refl
 
-pub says_eventless : (dry : Bool) (ask : Ask) (saying : Saying) → saying ≡ step_by dry ask → HasNoEvents (Said saying)
-says_eventless dry ask saying is = subst (λ (s : Saying). HasNoEvents (Said s)) (sym is) (step_eventless dry ask)
+pub says_eventless : (dry : Bool) (ask : Ask) (saying : Saying) → saying ≡ step_by dry ask
+    → HasNoEvents (Said saying)
+says_eventless dry ask saying is =
+    subst (λ (s : Saying). HasNoEvents (Said s)) (sym is) (step_eventless dry ask)
 
 -- a session that stands so has no run begun, and is not poisoned
-pub stands_closed : (session : Holding) (d : Database) (line : Line) → session ≡ session_on d line → (session.begun ≡ false) × (session.spoiled ≡ false)
-stands_closed session d line is = (ap (λ (h : Holding). h.begun) is, ap (λ (h : Holding). h.spoiled) is)
+pub stands_closed : (session : Holding) (d : Database) (line : Line) → session ≡ session_on d line
+    → (session.begun ≡ false) × (session.spoiled ≡ false)
+stands_closed session d line is =
+    (ap (λ (h : Holding). h.begun) is, ap (λ (h : Holding). h.spoiled) is)
 
 -- and so does one from where a session begins
-pub begun_closed : (session : Holding) (d : Database) (bound : ℕ) (file : LiveFile) → ((start : Line) × BeginsBy d bound file start × (session ≡ session_on d start)) → (session.begun ≡ false) × (session.spoiled ≡ false)
+pub begun_closed : (session : Holding) (d : Database) (bound : ℕ) (file : LiveFile)
+    → ((start : Line) × BeginsBy d bound file start × (session ≡ session_on d start))
+    → (session.begun ≡ false) × (session.spoiled ≡ false)
 begun_closed session d bound file (start, begins, is) = stands_closed session d start is
 
 -- the bound of a line is that of what it is kept in, and three at least
-pub journal_bound : (journal : Journal) (line : Line) (begun : Bool) (bound : ℕ) → journal ≡ record { line = line; is_open = begun } → bound ≡ journal.line.bound → bound ≡ line.bound
+pub journal_bound : (journal : Journal) (line : Line) (begun : Bool) (bound : ℕ)
+    → journal ≡ record { line = line; is_open = begun } → bound ≡ journal.line.bound
+    → bound ≡ line.bound
 journal_bound journal line begun bound same is = is ∙ ap (λ (j : Journal). j.line.bound) same
 
 pub line_bound : (line : Line) (bound : ℕ) → IsLine line → bound ≡ line.bound → 3 ≤ bound
 line_bound line bound is_line is = subst (λ (n : ℕ). 3 ≤ n) (sym is) is_line.bound.0
 
 -- two lines of which both were served
-module _ (path : Option Path) (was held is : Option (List ℕ)) (As At : EndsIn) (what then : OnceSaying) (written shown gained : Option (List ℕ)) (from middle to after : Holding) where
-  both : (ending : Ending) → ServesOnce path was held As Done what written shown from middle → ServesOnce path held is At ending then shown gained to after
+module _ (path : Option Path) (was held is : Option (List ℕ)) (As At : EndsIn)
+    (what then : OnceSaying) (written shown gained : Option (List ℕ))
+    (from middle to after : Holding) where
+  both : (ending : Ending) → ServesOnce path was held As Done what written shown from middle
+      → ServesOnce path held is At ending then shown gained to after
       → ServesBoth path was is As At ending what then written gained from to
-  both ending first second = record { middle = middle; after = after; held = held; shown = shown; first = first; second = second }
+  both ending first second = record {
+    middle = middle;
+    after = after;
+    held = held;
+    shown = shown;
+    first = first;
+    second = second;
+  }
 
-  pub ends_behind : (ending : Ending) → ServesOnce path was held As Done what written shown from middle → ServesOnce path held is At ending then shown gained to after
+  pub ends_behind : (ending : Ending)
+      → ServesOnce path was held As Done what written shown from middle
+      → ServesOnce path held is At ending then shown gained to after
       → EndsBoth (ending_behind ending) path was is As At what then written gained from to
   ends_behind Done first second = both Done first second
   ends_behind Refused first second = inr (Refused, (λ bad. cc), both Refused first second)
   ends_behind Hindered first second = inr (Hindered, (λ bad. cc), both Hindered first second)
 
   pub both_ended : (told raised ending : Ending) → told ≡ Done → ending ≡ ending_behind raised
-      → ServesOnce path was held As told what written shown from middle → ServesOnce path held is At raised then shown gained to after
+      → ServesOnce path was held As told what written shown from middle
+      → ServesOnce path held is At raised then shown gained to after
       → EndsBoth ending path was is As At what then written gained from to
   both_ended told raised ending done ended first second =
-      subst (λ (e : Ending). EndsBoth e path was is As At what then written gained from to) (sym ended)
-      (ends_behind raised (subst (λ (e : Ending). ServesOnce path was held As e what written shown from middle) done first) second)
+      subst (λ (e : Ending). EndsBoth e path was is As At what then written gained from to)
+      (sym ended)
+      (ends_behind raised
+      (subst (λ (e : Ending). ServesOnce path was held As e what written shown from middle)
+      done first) second)
 
-  pub stops_behind : (fault : ServeFault) → ServesOnce path was held As Done what written shown from middle
+  pub stops_behind : (fault : ServeFault)
+      → ServesOnce path was held As Done what written shown from middle
       → StopsServing fault path held is At then shown gained to
       → StopsBoth fault path was is As At what then written gained from to
-  stops_behind fault first stops = inr (record { middle = middle; held = held; shown = shown; first = first; stops = stops })
+  stops_behind fault first stops =
+      inr (record { middle = middle; held = held; shown = shown; first = first; stops = stops })
 
-  pub both_stopped : (fault : ServeFault) (told : Ending) → told ≡ Done → ServesOnce path was held As told what written shown from middle
+  pub both_stopped : (fault : ServeFault) (told : Ending) → told ≡ Done
+      → ServesOnce path was held As told what written shown from middle
       → StopsServing fault path held is At then shown gained to
       → StopsBoth fault path was is As At what then written gained from to
-  both_stopped fault told done first stops = stops_behind fault (subst (λ (e : Ending). ServesOnce path was held As e what written shown from middle) done first) stops
+  both_stopped fault told done first stops =
+      stops_behind fault
+      (subst (λ (e : Ending). ServesOnce path was held As e what written shown from middle)
+      done first) stops
 
 -- two lines of which the first was not done
-module _ (path : Option Path) (was is : Option (List ℕ)) (As At : EndsIn) (what then : OnceSaying) (written gained : Option (List ℕ)) (from to after : Holding) where
-  pub first_refused : (told : Ending) → told ≡ Refused → ServesOnce path was is As told what written gained from after → EndsBoth Refused path was is As At what then written gained from to
-  first_refused told refused first = (after, subst (λ (e : Ending). ServesOnce path was is As e what written gained from after) refused first)
+module _ (path : Option Path) (was is : Option (List ℕ)) (As At : EndsIn) (what then : OnceSaying)
+    (written gained : Option (List ℕ)) (from to after : Holding) where
+  pub first_refused : (told : Ending) → told ≡ Refused
+      → ServesOnce path was is As told what written gained from after
+      → EndsBoth Refused path was is As At what then written gained from to
+  first_refused told refused first = (
+    after,
+    subst (λ (e : Ending). ServesOnce path was is As e what written gained from after)
+        refused first,
+  )
 
-  pub first_hindered : (told : Ending) → told ≡ Hindered → ServesOnce path was is As told what written gained from after → EndsBoth Hindered path was is As At what then written gained from to
-  first_hindered told hindered first = inl (after, subst (λ (e : Ending). ServesOnce path was is As e what written gained from after) hindered first)
+  pub first_hindered : (told : Ending) → told ≡ Hindered
+      → ServesOnce path was is As told what written gained from after
+      → EndsBoth Hindered path was is As At what then written gained from to
+  first_hindered told hindered first =
+      inl (
+        after,
+        subst (λ (e : Ending). ServesOnce path was is As e what written gained from after)
+            hindered first,
+      )
 
 -- what two lines come to is what an update comes to, whose steps they are
 module _ (path : Option Path) (was is : Option (List ℕ)) (As At : EndsIn)
@@ -116,9 +160,13 @@ module _ (path : Option Path) (was is : Option (List ℕ)) (As At : EndsIn)
   update_ends (Ok ending) update there first second ends = record {
     parts = parts;
     update = update;
-    ends = subst (λ (h : Holding). EndsBoth ending path was is As At (lowering dry parts.lower) (raising dry parts.raise) written gained from h) there
-        (subst (λ (w : OnceSaying). EndsBoth ending path was is As At w (raising dry parts.raise) written gained from to) first
-        (subst (λ (t : OnceSaying). EndsBoth ending path was is As At what t written gained from to) second ends));
+    ends =
+        subst (λ (h : Holding). EndsBoth ending path was is As At (lowering dry parts.lower)
+        (raising dry parts.raise) written gained from h) there
+        (subst (λ (w : OnceSaying). EndsBoth ending path was is As At w (raising dry parts.raise)
+        written gained from to) first
+        (subst (λ (t : OnceSaying). EndsBoth ending path was is As At what t written gained from to)
+        second ends));
   }
   update_ends (Err fault) update there first second ends = tt
 
@@ -132,9 +180,12 @@ module _ (path : Option Path) (was is : Option (List ℕ)) (As At : EndsIn)
   update_stops (Err fault) update there first second stops = inr (
     parts,
     update,
-    subst (λ (h : Holding). StopsBoth fault path was is As At (lowering dry parts.lower) (raising dry parts.raise) written gained from h) there
-        (subst (λ (w : OnceSaying). StopsBoth fault path was is As At w (raising dry parts.raise) written gained from to) first
-        (subst (λ (t : OnceSaying). StopsBoth fault path was is As At what t written gained from to) second stops)),
+    subst (λ (h : Holding). StopsBoth fault path was is As At (lowering dry parts.lower)
+        (raising dry parts.raise) written gained from h) there
+        (subst (λ (w : OnceSaying). StopsBoth fault path was is As At w (raising dry parts.raise)
+        written gained from to) first
+        (subst (λ (t : OnceSaying). StopsBoth fault path was is As At what t written gained from to)
+        second stops)),
   )
 
 -- what follows of a value and of what holds where there is one
@@ -207,13 +258,15 @@ from_start old bound file from Comes (start, begins, is) come =
     (start, begins, subst Comes is come)
 
 -- why there is no gate of the first step, or of the second one, is why there are not both
-pub first_gateless : (fault : SessionFault) (old new : Database) (making : MakingAsk) → IsGateless old (making_on Lower making) fault → AreGateless old new making fault
+pub first_gateless : (fault : SessionFault) (old new : Database) (making : MakingAsk)
+    → IsGateless old (making_on Lower making) fault → AreGateless old new making fault
 first_gateless (OfText fault) old new making is = absurd is
 first_gateless (Unknown word) old new making is = inl is
 first_gateless (OfLive fault) old new making is = absurd is
 first_gateless (Failed fault) old new making is = is
 
-pub second_gateless : {R L : Type 0} (fault : SessionFault) (old new : Database) (making : MakingAsk) (gate : SessionGate R L) → IsGateFor old (making_on Lower making) gate
+pub second_gateless : {R L : Type 0} (fault : SessionFault) (old new : Database)
+    (making : MakingAsk) (gate : SessionGate R L) → IsGateFor old (making_on Lower making) gate
     → IsGateless new (making_on Raise making) fault → AreGateless old new making fault
 second_gateless (OfText fault) old new making gate made is = absurd is
 second_gateless (Unknown word) old new making gate made is =
@@ -222,24 +275,35 @@ second_gateless (OfLive fault) old new making gate made is = absurd is
 second_gateless (Failed fault) old new making gate made is = is
 
 -- the session with what stays, by its bound
-pub with_bound : (new : Database) (parts : Parts) (bound : ℕ) (from to : Holding) → to ≡ session_on new (carried_line new parts.kept bound) → bound ≡ from.line.bound → to ≡ session_with new parts from
-with_bound new parts bound from to is same = is ∙ ap (λ (b : ℕ). session_on new (carried_line new parts.kept b)) same
+pub with_bound : (new : Database) (parts : Parts) (bound : ℕ) (from to : Holding)
+    → to ≡ session_on new (carried_line new parts.kept bound) → bound ≡ from.line.bound
+    → to ≡ session_with new parts from
+with_bound new parts bound from to is same =
+    is ∙ ap (λ (b : ℕ). session_on new (carried_line new parts.kept b)) same
 
 -- a line of one state
-pub one_state : (P : State → Type 0) (line : Line) (state : State) (bound : ℕ) → line ≡ record { before = []; current = state; after = []; bound = bound } → P state → All P (states line)
-one_state P line state bound is holds = subst (λ (l : Line). All P (states l)) (sym is) (All-cons P state [] holds (All-nil P))
+pub one_state : (P : State → Type 0) (line : Line) (state : State) (bound : ℕ)
+    → line ≡ record { before = []; current = state; after = []; bound = bound } → P state
+    → All P (states line)
+one_state P line state bound is holds =
+    subst (λ (l : Line). All P (states l)) (sym is) (All-cons P state [] holds (All-nil P))
 
 -- a transition in front of others, and more after
-listed_grown : (way other : Way) (one : Listed) (some more : List Listed) → listed_by way other one (some ++ more) ≡ listed_by way other one some ++ more
+listed_grown : (way other : Way) (one : Listed) (some more : List Listed)
+    → listed_by way other one (some ++ more) ≡ listed_by way other one some ++ more
 listed_grown Raise Raise one some more = refl
 listed_grown Raise Lower one some more = refl
 listed_grown Lower Raise one some more = refl
 listed_grown Lower Lower one some more = refl
 
 -- of listed transitions up to one and that one, those of a way
-listed_on-append : (way : Way) (some more : List Listed) → listed_on way (some ++ more) ≡ listed_on way some ++ listed_on way more
+listed_on-append : (way : Way) (some more : List Listed)
+    → listed_on way (some ++ more) ≡ listed_on way some ++ listed_on way more
 listed_on-append way [] more = refl
-listed_on-append way (one ∷ some) more = ap (listed_by way one.way one) (listed_on-append way some more) ∙ listed_grown way one.way one (listed_on way some) (listed_on way more)
+listed_on-append way (one ∷ some) more =
+    ap (listed_by way one.way one) (listed_on-append way some more)
+    ∙ listed_grown way one.way one (listed_on way some) (listed_on way more)
 
-pub listed_next : (way : Way) (some all : List Listed) (one : Listed) → all ≡ some ++ one ∷ [] → listed_on way all ≡ listed_on way some ++ listed_by way one.way one []
+pub listed_next : (way : Way) (some all : List Listed) (one : Listed) → all ≡ some ++ one ∷ []
+    → listed_on way all ≡ listed_on way some ++ listed_by way one.way one []
 listed_next way some all one is = ap (listed_on way) is ∙ listed_on-append way some (one ∷ [])

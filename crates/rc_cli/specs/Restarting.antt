@@ -72,7 +72,8 @@ pub record ServesRestart (path : Option Path) (was is : Option (List ℕ)) (As :
   pub first : Lowers path was held As what lowered written shown old middle
   pub second : RaisesAgain raised path held is As old.line.current.live shown gained middle
 
--- a restart whose first line says this ends so: both steps were served; or the first one is refused, and nothing has moved
+-- a restart whose first line says this ends so: both steps were served; or the first one is
+-- refused, and nothing has moved
 abbrev pub EndsRestart : Ending → Option Path → (was is : Option (List ℕ)) → EndsIn
     → OnceSaying → (written gained : Option (List ℕ)) → Holding → Type 0
 EndsRestart ending path was is As what written gained old =

@@ -193,7 +193,8 @@ fn restart_in<T: Threads + Wait + Sync, W: Write, G: Gate, S: Store, L>(
         (W.contents (inner_of outputs.old.writer)) (W.contents (inner_of outputs.new.writer))
         session.old) }
     ensures fault { IfErr result (IsServeFault ⊥ (HasFailed outputs.new.writer)
-        (((named_ask_of request.now).session.live ≢ None) × S.failed (store_of outputs.new.keeper))) }
+        (((named_ask_of request.now).session.live ≢ None)
+        × S.failed (store_of outputs.new.keeper))) }
 {
     let Ok(before) = session.live().copy(host.alloc) else {
         return Err(ServeFault::Memory);

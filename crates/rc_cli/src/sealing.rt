@@ -31,8 +31,8 @@ use std::io::Write;
 /// the status: 0 where that is done, 1 where it is refused, 111 for a failure.
 ///
 /// The file then holds the text of a line of one state: what is live, the bundles, and the bound
-/// are as they were, and there is nothing to undo or redo. `live` is what stood in the file. Nothing
-/// is read. The writer must not have failed before.
+/// are as they were, and there is nothing to undo or redo. `live` is what stood in the file.
+/// Nothing is read. The writer must not have failed before.
 pub fn seal_as_asked<R, W: Write, F: Write, S: Store>(
     alloc: Global,
     request: &SessionRequest<'_>,
@@ -133,7 +133,8 @@ fn sealed_session<'a>(
 // The same of the line of a text.
 fn sealed_text<'a>(alloc: Global, db: Db, bytes: &[u8]) -> Result<Session, SessionFault<'a>>
     ensures sealed { IfOk result (λ session. (start : States)
-        × IsLineOf db start × Spells db bytes.now start × (session ≡ session_on db (sealed start))) }
+        × IsLineOf db start × Spells db bytes.now start
+        × (session ≡ session_on db (sealed start))) }
     ensures fault { IfErr result (IsTextFaultOf db bytes.now) }
 {
     let (line, _states) = match read_live(alloc, bytes, &db) {

@@ -1,5 +1,6 @@
 -- The words of a command line, as `clap` reads them.
-use Rattle.std.specs.Prelude.{◌∷◌, Bool, List, [], Option, None, Some, codes, false, true, if◌then◌else◌, unwrap_or}
+use Rattle.std.specs.Prelude.{◌∷◌, Bool, List, [], Option, None, Some, codes, false, true}
+use Rattle.std.specs.Prelude.{if◌then◌else◌, unwrap_or}
 use Rattle.std.specs.Option.{option_map_or}
 use Rattle.std.specs.Str.{bytes_eq}
 use Rattle.clap.specs.Words.{Kinds, Row, Text, all_of, fault_of, first_of, subcommand_of}

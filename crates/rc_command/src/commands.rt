@@ -1,8 +1,10 @@
 //! The commands of the program, as they are told to `clap`.
 ghost use Rattle.std.specs.Prelude.{◌≡◌};
 ghost use Rattle.clap.specs.Words.{App};
-ghost use Rattle.rc_command.specs.Commands.{IsOwn, Reads, altering_program, asking_program, bare, bare_program};
-ghost use Rattle.rc_command.specs.Commands.{changing_program, flag, option, program, query_word, repeated, rule_in, with_arg, with_command};
+ghost use Rattle.rc_command.specs.Commands.{IsOwn, Reads, altering_program, asking_program, bare};
+ghost use Rattle.rc_command.specs.Commands.{bare_program};
+ghost use Rattle.rc_command.specs.Commands.{changing_program, flag, option, program, query_word};
+ghost use Rattle.rc_command.specs.Commands.{repeated, rule_in, with_arg, with_command};
 ghost use Rattle.rc_command.specs.Told.{listed, told_command, told_rule, with_told};
 
 use crate::query_words::QUERIES;

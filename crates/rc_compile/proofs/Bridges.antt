@@ -1,12 +1,14 @@
 -- What definitions without flaws in their pipes are.
-use Rattle.std.proofs.Common.{◌≡◌, ◌≢◌, ◌∙◌, ◌⊎◌, inl, inr, ℕ, Bool, true, false, List, [], ◌∷◌, Contains, Option, Some, None, refl, sym, subst, true≢false}
+use Rattle.std.proofs.Common.{◌≡◌, ◌≢◌, ◌∙◌, ◌⊎◌, inl, inr, ℕ, Bool, true, false, List, [], ◌∷◌}
+use Rattle.std.proofs.Common.{Contains, Option, Some, None, refl, sym, subst, true≢false}
 use Rattle.std.specs.Str.{bytes_eq}
 use Rattle.std.proofs.lemmas.Option.{same_Some}
 use Rattle.std.proofs.lemmas.Slice.Eq.{bytes_eq-Decides}
 use Rattle.rc_model.specs.declared.Kind.{Kind}
 use Rattle.rc_model.specs.declared.Kind.TheVariants.{Oneshot, Longrun, Bundle}
 use Rattle.rc_source.specs.Meaning.{Meaning, AreMeanings}
-use Rattle.rc_source.proofs.Members.{Contains-cons_cases, Contains-there, Contains-here, Contains-nil}
+use Rattle.rc_source.proofs.Members.{Contains-cons_cases, Contains-there, Contains-here}
+use Rattle.rc_source.proofs.Members.{Contains-nil}
 use Rattle.rc_holds.specs.Pipelines.{IsDefined, IsLongrun, WritesTo, ReadsFrom}
 use Rattle.rc_holds.specs.Sets.{ArePiped, AreApart}
 use Rattle.rc_holds.proofs.Meanings.{only_one}
@@ -20,18 +22,24 @@ same_or_other a b = by (bytes_eq a b) refl
     by false e = inr (λ same. true≢false (sym ((bytes_eq-Decides a b).1 same) ∙ e))
 
 -- whether a list has a name
-listed_or_not : (names : List (List ℕ)) (name : List ℕ) → Contains names name ⊎ (Contains names name → ⊥)
+listed_or_not : (names : List (List ℕ)) (name : List ℕ)
+    → Contains names name ⊎ (Contains names name → ⊥)
 listed_or_not [] name = inr (λ there. Contains-nil name there)
 listed_or_not (x ∷ xs) name = elim (same_or_other name x) [
   | inl same ↦ inl (Contains-here x xs name same)
   | inr differ ↦ elim (listed_or_not xs name) [
     | inl rest ↦ inl (Contains-there x xs name rest)
-    | inr out ↦ inr (λ there. elim (Contains-cons_cases x xs name there) [ inl here ↦ differ here | inr rest ↦ out rest ])
+    | inr out ↦
+        inr (λ there. elim (Contains-cons_cases x xs name there) [
+          | inl here ↦ differ here
+          | inr rest ↦ out rest
+        ])
   ]
 ]
 
 -- whether the meaning of a name is such
-defined_or_not : (P : Meaning → Type 0) → ((m : Meaning) → P m ⊎ (P m → ⊥)) → (ms : List Meaning) (name : List ℕ) → IsDefined ms P name ⊎ (IsDefined ms P name → ⊥)
+defined_or_not : (P : Meaning → Type 0) → ((m : Meaning) → P m ⊎ (P m → ⊥))
+    → (ms : List Meaning) (name : List ℕ) → IsDefined ms P name ⊎ (IsDefined ms P name → ⊥)
 defined_or_not P test [] name = inr (λ found. Contains-nil found.0 found.1)
 defined_or_not P test (m ∷ ms) name = elim (defined_or_not P test ms name) [
   | inl found ↦ inl (found.0, Contains-there m ms found.0 found.1, found.2, found.3)
@@ -63,16 +71,20 @@ is_some_or_not (Some x) name = elim (same_or_other x name) [
 ]
 
 longrun_or_not : (ms : List Meaning) (name : List ℕ) → IsLongrun ms name ⊎ (IsLongrun ms name → ⊥)
-longrun_or_not ms name = defined_or_not (λ m. m.kind ≡ Longrun) (λ m. is_longrun_or_not m.kind) ms name
+longrun_or_not ms name =
+    defined_or_not (λ m. m.kind ≡ Longrun) (λ m. is_longrun_or_not m.kind) ms name
 
 writes_or_not : (ms : List Meaning) (a b : List ℕ) → WritesTo ms a b ⊎ (WritesTo ms a b → ⊥)
-writes_or_not ms a b = defined_or_not (λ m. m.producer_for ≡ Some b) (λ m. is_some_or_not m.producer_for b) ms a
+writes_or_not ms a b =
+    defined_or_not (λ m. m.producer_for ≡ Some b) (λ m. is_some_or_not m.producer_for b) ms a
 
 reads_or_not : (ms : List Meaning) (a b : List ℕ) → ReadsFrom ms a b ⊎ (ReadsFrom ms a b → ⊥)
-reads_or_not ms a b = defined_or_not (λ m. Contains m.consumer_for b) (λ m. listed_or_not m.consumer_for b) ms a
+reads_or_not ms a b =
+    defined_or_not (λ m. Contains m.consumer_for b) (λ m. listed_or_not m.consumer_for b) ms a
 
 -- where no type is wrong both sides of a pipe are longruns
-pub both_longruns : (ms : List Meaning) → ((s : List ℕ) → HasWrongType ms s → ⊥) → (s t : List ℕ) → WritesTo ms s t → IsLongrun ms s × IsLongrun ms t
+pub both_longruns : (ms : List Meaning) → ((s : List ℕ) → HasWrongType ms s → ⊥) → (s t : List ℕ)
+    → WritesTo ms s t → IsLongrun ms s × IsLongrun ms t
 both_longruns ms none s t writes = elim (longrun_or_not ms s) [
   | inl first ↦ elim (longrun_or_not ms t) [
     | inl second ↦ (first, second)
@@ -81,18 +93,28 @@ both_longruns ms none s t writes = elim (longrun_or_not ms s) [
   | inr other ↦ absurd (none s (t, inl writes, λ both. other both.0))
 ]
 
-pub are_piped : (ms : List Meaning) → ((s : List ℕ) → HasWrongType ms s → ⊥) → ((s : List ℕ) → HasNoMatch ms s → ⊥) → ArePiped ms
+pub are_piped : (ms : List Meaning) → ((s : List ℕ) → HasWrongType ms s → ⊥)
+    → ((s : List ℕ) → HasNoMatch ms s → ⊥) → ArePiped ms
 are_piped ms right matched = record {
   longruns = both_longruns ms right;
   both = λ s t. (
-    λ writes. elim (reads_or_not ms t s) [ inl reads ↦ reads | inr not_so ↦ absurd (matched s (t, inl (writes, not_so))) ],
-    λ reads. elim (writes_or_not ms s t) [ inl writes ↦ writes | inr not_so ↦ absurd (matched t (s, inr (reads, not_so))) ],
+    λ writes. elim (reads_or_not ms t s) [
+      | inl reads ↦ reads
+      | inr not_so ↦ absurd (matched s (t, inl (writes, not_so)))
+    ],
+    λ reads. elim (writes_or_not ms s t) [
+      | inl writes ↦ writes
+      | inr not_so ↦ absurd (matched t (s, inr (reads, not_so)))
+    ],
   );
 }
 
 -- where no name of a pipeline is taken no service has the name of a bundle
-pub are_apart : (ms : List Meaning) → AreMeanings ms → ((s : List ℕ) → HasTakenName ms s → ⊥) → AreApart ms
+pub are_apart : (ms : List Meaning) → AreMeanings ms → ((s : List ℕ) → HasTakenName ms s → ⊥)
+    → AreApart ms
 are_apart ms are free name (m, there, called, service) (inl bundle) =
-    let own : IsDefined ms (λ x. x.kind ≡ Bundle) m.name = subst (IsDefined ms (λ x. x.kind ≡ Bundle)) (sym called) bundle in
+    let own : IsDefined ms (λ x. x.kind ≡ Bundle) m.name =
+    subst (IsDefined ms (λ x. x.kind ≡ Bundle)) (sym called) bundle in
     service (only_one ms are (λ x. x.kind ≡ Bundle) m there own)
-are_apart ms are free name (m, there, called, service) (inr (last, within, names)) = free last.name (name, (last, within, refl, names), inl (m, there, called, tt))
+are_apart ms are free name (m, there, called, service) (inr (last, within, names)) =
+    free last.name (name, (last, within, refl, names), inl (m, there, called, tt))

@@ -1,5 +1,7 @@
 -- What is defined of a name, where each name is that of one meaning.
-use Rattle.std.proofs.Common.{◌≡◌, ◌≢◌, ◌∙◌, ◌<◌, ◌⊎◌, inl, inr, ℕ, List, [], length, get_or, slice_get, Contains, AllPairs, Some, None, refl, sym, ap, subst, arith}
+use Rattle.std.proofs.Common.{◌≡◌, ◌≢◌, ◌∙◌, ◌<◌, ◌⊎◌, inl, inr, ℕ, List, [], length, get_or}
+use Rattle.std.proofs.Common.{slice_get, Contains, AllPairs, Some, None, refl, sym, ap, subst}
+use Rattle.std.proofs.Common.{arith}
 use Rattle.std.proofs.lemmas.Option.{slice_get_within, get_or_from_slice_get}
 use Rattle.rc_model.specs.declared.Kind.{Kind}
 use Rattle.rc_model.specs.declared.Kind.TheVariants.{Oneshot, Longrun, Bundle}
@@ -7,7 +9,8 @@ use Rattle.rc_source.specs.Meaning.{Meaning, AreMeanings, IsMeaning}
 use Rattle.rc_holds.specs.Pipelines.{IsService, WritesTo, ReadsFrom}
 
 -- two meanings at different places have different names
-pub apart : (ms : List Meaning) → AllPairs (λ a b. a.name ≢ b.name) ms → (i j : ℕ) (a b : Meaning) → slice_get ms i ≡ Some a → slice_get ms j ≡ Some b → i < j → a.name ≢ b.name
+pub apart : (ms : List Meaning) → AllPairs (λ a b. a.name ≢ b.name) ms → (i j : ℕ) (a b : Meaning)
+    → slice_get ms i ≡ Some a → slice_get ms j ≡ Some b → i < j → a.name ≢ b.name
 apart ms distinct i j a b at_a at_b low same =
     let within : j < length ms = slice_get_within ms j b at_b in
     let here : get_or ms i a ≡ a = get_or_from_slice_get ms i a a at_a in
@@ -20,7 +23,13 @@ module _ (ms : List Meaning) (are : AreMeanings ms) where
 
   -- what has a pipe is a service
   pub writer_is_service : (a b : List ℕ) → WritesTo ms a b → IsService ms a
-  writer_is_service a b (m, there, named, writes) = (m, there, named, λ bundle. let none : m.producer_for ≡ None = ((meaning_is m there).bundle bundle).0 in let bad : None ≡ Some b = sym none ∙ writes in cc)
+  writer_is_service a b (m, there, named, writes) = (
+    m,
+    there,
+    named,
+    λ bundle. let none : m.producer_for ≡ None =
+        ((meaning_is m there).bundle bundle).0 in let bad : None ≡ Some b = sym none ∙ writes in cc,
+  )
 
   pub reader_is_service : (a b : List ℕ) → ReadsFrom ms a b → IsService ms a
   reader_is_service a b (m, there, named, reads) = (

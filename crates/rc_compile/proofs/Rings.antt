@@ -14,13 +14,16 @@ abbrev first_of : List (List ℕ) → List ℕ → List ℕ
 first_of [] last = last
 first_of (x ∷ xs) last = x
 
-head_need : (ms : List Meaning) (rest : List (List ℕ)) (a last : List ℕ) → EachNext (NeedsNamed ms) (a ∷ (rest ++ last ∷ [])) → NeedsNamed ms a (first_of rest last)
+head_need : (ms : List Meaning) (rest : List (List ℕ)) (a last : List ℕ)
+    → EachNext (NeedsNamed ms) (a ∷ (rest ++ last ∷ [])) → NeedsNamed ms a (first_of rest last)
 head_need ms [] a last path = path.0
 head_need ms (x ∷ xs) a last path = path.0
 
 module _ (ms : List Meaning) (d : Database) (of : IsDatabaseOf ms d) where
   -- services that need one another by name reach one another by place
-  reach : (xs : List (List ℕ)) (a b : List ℕ) (s t : ℕ) → slice_get d.names s ≡ Some a → slice_get d.names t ≡ Some b → EachNext (NeedsNamed ms) (a ∷ (xs ++ b ∷ [])) → Reaches d.needs s t
+  reach : (xs : List (List ℕ)) (a b : List ℕ) (s t : ℕ) → slice_get d.names s ≡ Some a
+      → slice_get d.names t ≡ Some b → EachNext (NeedsNamed ms) (a ∷ (xs ++ b ∷ []))
+      → Reaches d.needs s t
   reach [] a b s t ps pt path = ([], ((of.needs a b s t ps pt).1 path.0, tt))
   reach (x ∷ xs) a b s t ps pt path =
       let place = place_of d.names x ((of.names.same x).1 path.0.1) in

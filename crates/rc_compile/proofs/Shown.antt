@@ -1,5 +1,6 @@
 -- The tables show of an entry what it has.
-use Rattle.std.proofs.Common.{◌≡◌, ◌≢◌, ◌∙◌, ◌<◌, ◌⊎◌, ◌↔◌, ⊎_elim, inl, inr, ℕ, List, slice_get, Contains, Some, refl, sym, ap, subst, arith}
+use Rattle.std.proofs.Common.{◌≡◌, ◌≢◌, ◌∙◌, ◌<◌, ◌⊎◌, ◌↔◌, ⊎_elim, inl, inr, ℕ, List, slice_get}
+use Rattle.std.proofs.Common.{Contains, Some, refl, sym, ap, subst, arith}
 use Rattle.std.proofs.lemmas.Bool.{cases_lt}
 use Rattle.std.proofs.lemmas.Option.{same_Some}
 use Rattle.rc_model.specs.declared.Kind.TheVariants.{Longrun, Bundle}
@@ -14,16 +15,21 @@ use Rattle.rc_compile.specs.declared.book.Book.{Book}
 use Rattle.rc_compile.specs.declared.scan.Sought.TheVariants.{Unknown}
 use Rattle.rc_compile.specs.declared.tables.Which.TheVariants.{Bundles}
 use Rattle.rc_compile.specs.Given.{Gives}
-use Rattle.rc_compile.specs.CompileFaults.{HasWrongType, HasNoMatch, HasTakenName, HasUnknown, HasSomeUnknown, Mentions}
-use Rattle.rc_compile.specs.Book.{IsBook, IsShared, IsSought, ShowsUnknown, HasNamed, JoinsOther, IsUnmatched, IsTaken}
+use Rattle.rc_compile.specs.CompileFaults.{HasWrongType, HasNoMatch, HasTakenName, HasUnknown}
+use Rattle.rc_compile.specs.CompileFaults.{HasSomeUnknown, Mentions}
+use Rattle.rc_compile.specs.Book.{IsBook, IsShared, IsSought, ShowsUnknown, HasNamed, JoinsOther}
+use Rattle.rc_compile.specs.Book.{IsUnmatched, IsTaken}
 use Rattle.rc_compile.proofs.Defined.{apart, writer_is_service, reader_is_service, bundle_or_not}
 
-pub same_least : (P Q : List ℕ → Type 0) → ((x : List ℕ) → P x ↔ Q x) → (x : List ℕ) → IsLeast P x → IsLeast Q x
-same_least P Q same x (holds, least) = ((same x).0 holds, λ other q before. least other ((same other).1 q) before)
+pub same_least : (P Q : List ℕ → Type 0) → ((x : List ℕ) → P x ↔ Q x) → (x : List ℕ)
+    → IsLeast P x → IsLeast Q x
+same_least P Q same x (holds, least) =
+    ((same x).0 holds, λ other q before. least other ((same other).1 q) before)
 
 module _ (ms : List Meaning) (book : Book) (are : AreMeanings ms) (is : IsBook ms book) where
   -- a name stands for something where one of the tables has it
-  pub known_same : (name : List ℕ) → (Contains book.services name ⊎ Contains book.bundles name) ↔ IsKnown ms name
+  pub known_same : (name : List ℕ) → (Contains book.services name ⊎ Contains book.bundles name)
+      ↔ IsKnown ms name
   known_same name = (
     λ there. ⊎_elim (λ s. inl ((is.service name).0 s)) (λ b. inr ((is.bundle name).0 b)) there,
     λ known. ⊎_elim (λ s. inl ((is.service name).1 s)) (λ b. inr ((is.bundle name).1 b)) known,
@@ -34,47 +40,84 @@ module _ (ms : List Meaning) (book : Book) (are : AreMeanings ms) (is : IsBook m
 
   longrun_same : (name : List ℕ) → HasNamed book.services book.longruns name ↔ IsLongrun ms name
   longrun_same name = (
-    λ (s, at, has). let (m, there, (kind, at_m)) = (is.longrun s).0 has in (m, there, same_Some m.name name (sym at_m ∙ at), kind),
+    λ (s, at, has). let (m, there, (kind, at_m)) = (is.longrun s).0 has in
+        (m, there, same_Some m.name name (sym at_m ∙ at), kind),
     λ (m, there, called, kind).
-        let at = place_of book.services name (in_services name (longrun_is_service ms name (m, there, called, kind))) in
-        (at.0, at.1, (is.longrun at.0).1 (m, there, (kind, at.1 ∙ ap (λ (x : List ℕ). Some x) (sym called)))),
+        let at = place_of book.services name
+        (in_services name (longrun_is_service ms name (m, there, called, kind))) in (
+          at.0,
+          at.1,
+          (is.longrun at.0).1 (m, there, (kind, at.1 ∙ ap (λ (x : List ℕ). Some x) (sym called))),
+        ),
   )
 
   -- unknown names of an entry
-  pub unknown_same : (m : Meaning) → Contains ms m → (name : List ℕ) → (Mentions m name × (Contains book.services name ⊎ Contains book.bundles name → ⊥)) ↔ HasUnknown ms m.name name
+  pub unknown_same : (m : Meaning) → Contains ms m → (name : List ℕ)
+      → (Mentions m name × (Contains book.services name ⊎ Contains book.bundles name → ⊥))
+      ↔ HasUnknown ms m.name name
   unknown_same m within name = (
     λ (mentions, not). ((m, within, refl, mentions), λ known. not ((known_same name).1 known)),
-    λ (defined, not). (only_one ms are (λ x. Mentions x name) m within defined, λ there. not ((known_same name).0 there)),
+    λ (defined, not). (
+      only_one ms are (λ x. Mentions x name) m within defined,
+      λ there. not ((known_same name).0 there),
+    ),
   )
 
-  pub type_same : (m : Meaning) → Contains ms m → JoinsOther book.services book.longruns m ↔ HasWrongType ms m.name
+  pub type_same : (m : Meaning) → Contains ms m → JoinsOther book.services book.longruns m
+      ↔ HasWrongType ms m.name
   type_same m within = (
     λ (t, names, not). (
       t,
       ⊎_elim (λ w. inl (m, within, refl, w)) (λ r. inr (m, within, refl, r)) names,
-      λ both. not (only_one ms are (λ x. x.kind ≡ Longrun) m within both.0, (longrun_same t).1 both.1),
+      λ both. not (
+        only_one ms are (λ x. x.kind ≡ Longrun) m within both.0,
+        (longrun_same t).1 both.1,
+      ),
     ),
     λ (t, names, not). (
       t,
-      ⊎_elim (λ w. inl (only_one ms are (λ x. x.producer_for ≡ Some t) m within w)) (λ r. inr (only_one ms are (λ x. Contains x.consumer_for t) m within r)) names,
+      ⊎_elim (λ w. inl (only_one ms are (λ x. x.producer_for ≡ Some t) m within w))
+          (λ r. inr (only_one ms are (λ x. Contains x.consumer_for t) m within r)) names,
       λ both. not ((m, within, refl, both.0), (longrun_same t).0 both.1),
     ),
   )
 
-  matched_same : (a : List ℕ) → HasNamed book.services book.matched a ↔ ((t : List ℕ) × WritesTo ms a t × ReadsFrom ms t a)
+  matched_same : (a : List ℕ) → HasNamed book.services book.matched a
+      ↔ ((t : List ℕ) × WritesTo ms a t × ReadsFrom ms t a)
   matched_same a = (
     λ (s, at, has).
         let (m, there, (name, reads, at_name, pair)) = (is.matched s).0 has in
-        let one : name ≡ a = same_Some name a (sym at_name ∙ at) in
-        (m.name, subst (λ x. WritesTo ms x m.name) one ((is.writes name m.name).0 pair).2, (m, there, refl, subst (Contains m.consumer_for) one reads)),
+        let one : name ≡ a = same_Some name a (sym at_name ∙ at) in (
+          m.name,
+          subst (λ x. WritesTo ms x m.name) one ((is.writes name m.name).0 pair).2,
+          (m, there, refl, subst (Contains m.consumer_for) one reads),
+        ),
     λ (t, writes, (m, there, called, reads)).
         let own : WritesTo ms a m.name = subst (WritesTo ms a) (sym called) writes in
         let in_a = in_services a (writer_is_service ms are a m.name own) in
-        let at = place_of book.services a in_a in
-        (at.0, at.1, (is.matched at.0).1 (m, there, (a, reads, at.1, (is.writes a m.name).1 (in_a, in_services m.name (reader_is_service ms are m.name a (m, there, refl, reads)), own)))),
+        let at = place_of book.services a in_a in (
+          at.0,
+          at.1,
+          (is.matched at.0).1 (
+            m,
+            there,
+            (
+              a,
+              reads,
+              at.1,
+              (is.writes a m.name).1 (
+                in_a,
+                in_services m.name
+                    (reader_is_service ms are m.name a (m, there, refl, reads)),
+                own,
+              ),
+            ),
+          ),
+        ),
   )
 
-  pub match_same : (m : Meaning) → Contains ms m → IsUnmatched book.services (rows book.feeds.items) book.matched m ↔ HasNoMatch ms m.name
+  pub match_same : (m : Meaning) → Contains ms m
+      → IsUnmatched book.services (rows book.feeds.items) book.matched m ↔ HasNoMatch ms m.name
   match_same m within = (
     λ (t, cases). (
       t,
@@ -84,28 +127,43 @@ module _ (ms : List Meaning) (book : Book) (are : AreMeanings ms) (is : IsBook m
           inl (w, λ reads. not ((matched_same m.name).1 (t, w, reads))))
           (λ (reads, not).
           let r : ReadsFrom ms m.name t = (m, within, refl, reads) in
-          inr (r, λ writes. not ((is.writes t m.name).1 (in_services t (writer_is_service ms are t m.name writes), in_services m.name (reader_is_service ms are m.name t r), writes))))
+          inr (
+            r,
+            λ writes. not
+                ((is.writes t m.name).1 (
+                  in_services t (writer_is_service ms are t m.name writes),
+                  in_services m.name (reader_is_service ms are m.name t r),
+                  writes,
+                )),
+          ))
           cases,
     ),
     λ (t, cases). (
       t,
       ⊎_elim
           (λ (writes, not).
-          let here : m.producer_for ≡ Some t = only_one ms are (λ x. x.producer_for ≡ Some t) m within writes in
+          let here : m.producer_for ≡ Some t =
+          only_one ms are (λ x. x.producer_for ≡ Some t) m within writes in
           inl (
             here,
             λ named.
                 let (other, also, reads) = (matched_same m.name).0 named in
-                let there : m.producer_for ≡ Some other = only_one ms are (λ x. x.producer_for ≡ Some other) m within also in
-                not (subst (λ x. ReadsFrom ms x m.name) (same_Some other t (sym there ∙ here)) reads),
+                let there : m.producer_for ≡ Some other =
+                only_one ms are (λ x. x.producer_for ≡ Some other) m within also in
+                not (subst (λ x. ReadsFrom ms x m.name) (same_Some other t (sym there ∙ here))
+                reads),
           ))
-          (λ (reads, not). inr (only_one ms are (λ x. Contains x.consumer_for t) m within reads, λ pair. not ((is.writes t m.name).0 pair).2))
+          (λ (reads, not). inr (
+            only_one ms are (λ x. Contains x.consumer_for t) m within reads,
+            λ pair. not ((is.writes t m.name).0 pair).2,
+          ))
           cases,
     ),
   )
 
   -- two meanings that give a name share it
-  shared_by : (a b : Meaning) (name : List ℕ) → Contains ms a → Contains ms b → (a ≢ b) → Gives Bundles a name → Gives Bundles b name → IsShared ms name
+  shared_by : (a b : Meaning) (name : List ℕ) → Contains ms a → Contains ms b → (a ≢ b)
+      → Gives Bundles a name → Gives Bundles b name → IsShared ms name
   shared_by a b name in_a in_b differ gives_a gives_b =
       let at_a = place_of ms a in_a in
       let at_b = place_of ms b in_b in
@@ -122,7 +180,8 @@ module _ (ms : List Meaning) (book : Book) (are : AreMeanings ms) (is : IsBook m
       (cases_lt at_a.0 at_b.0)
 
   -- another one that gives a name takes it
-  taken_by : (m x : Meaning) (name : List ℕ) → Contains ms m → Contains ms x → (x.name ≢ m.name) → NamesPipeline m name → Gives Bundles x name → HasTakenName ms m.name
+  taken_by : (m x : Meaning) (name : List ℕ) → Contains ms m → Contains ms x → (x.name ≢ m.name)
+      → NamesPipeline m name → Gives Bundles x name → HasTakenName ms m.name
   taken_by m x name in_m in_x differ names gives = (
     name,
     (m, in_m, refl, names),
@@ -132,7 +191,8 @@ module _ (ms : List Meaning) (book : Book) (are : AreMeanings ms) (is : IsBook m
         gives,
   )
 
-  pub taken_same : (m : Meaning) → Contains ms m → IsTaken book.services book.bundles book.shared m ↔ HasTakenName ms m.name
+  pub taken_same : (m : Meaning) → Contains ms m → IsTaken book.services book.bundles book.shared m
+      ↔ HasTakenName ms m.name
   taken_same m within = (forth, back)
     where
       forth : IsTaken book.services book.bundles book.shared m → HasTakenName ms m.name
@@ -146,10 +206,12 @@ module _ (ms : List Meaning) (book : Book) (are : AreMeanings ms) (is : IsBook m
               let at = place_of ms m within in
               let differ = apart ms are.distinct in
               ⊎_elim
-              (λ (below : i < at.0). taken_by m a name within (contains_at ms i a at_a) (differ i at.0 a m at_a at.1 below) names gives_a)
+              (λ (below : i < at.0). taken_by m a name within (contains_at ms i a at_a)
+              (differ i at.0 a m at_a at.1 below) names gives_a)
               (λ above.
               let lower : at.0 < j = omega arith in
-              taken_by m b name within (contains_at ms j b at_b) (λ same. differ at.0 j m b at.1 at_b lower (sym same)) names gives_b)
+              taken_by m b name within (contains_at ms j b at_b)
+              (λ same. differ at.0 j m b at.1 at_b lower (sym same)) names gives_b)
               (cases_lt i at.0)
 
       back : HasTakenName ms m.name → IsTaken book.services book.bundles book.shared m
@@ -159,11 +221,17 @@ module _ (ms : List Meaning) (book : Book) (are : AreMeanings ms) (is : IsBook m
             names,
             ⊎_elim
                 (λ (x, there, named, any). ⊎_elim
-                (λ kind. inr ((is.twice name).1 (shared_by x m name there within (λ same. let bad : Bundle ≡ Longrun = sym kind ∙ ap (λ y. y.kind) same ∙ names.longrun in cc) (inl (kind, named)) (inr names))))
+                (λ kind. inr
+                ((is.twice name).1
+                (shared_by x m name there within
+                (λ same. let bad : Bundle ≡ Longrun = sym kind ∙ ap (λ y. y.kind) same
+                ∙ names.longrun in cc) (inl (kind, named)) (inr names))))
                 (λ kind. inl (in_services name (x, there, named, kind)))
                 (bundle_or_not x.kind))
                 (λ (other, differ, (x, there, named, also)).
-                inr ((is.twice name).1 (shared_by x m name there within (λ same. differ (sym named ∙ ap (λ y. y.name) same)) (inr also) (inr names))))
+                inr ((is.twice name).1
+                (shared_by x m name there within
+                (λ same. differ (sym named ∙ ap (λ y. y.name) same)) (inr also) (inr names))))
                 cases,
           )
 
@@ -175,17 +243,25 @@ module _ (ms : List Meaning) (book : Book) (are : AreMeanings ms) (is : IsBook m
   )
 
   -- those of which the tables show one
-  pub entries_unknown : (s : List ℕ) → HasSomeUnknown ms s → (m : Meaning) × Contains ms m × ((m.name ≡ s) × ShowsUnknown book m)
-  entries_unknown s (name, ((m, there, named, mentions), not)) = (m, there, (named, (name, mentions, λ known. not ((known_same name).0 known))))
+  pub entries_unknown : (s : List ℕ) → HasSomeUnknown ms s
+      → (m : Meaning) × Contains ms m × ((m.name ≡ s) × ShowsUnknown book m)
+  entries_unknown s (name, ((m, there, named, mentions), not)) =
+      (m, there, (named, (name, mentions, λ known. not ((known_same name).0 known))))
 
 module _ (ms : List Meaning) where
   -- those that are sought for such a name
   pub sought_unknown : (s : List ℕ) → IsSought ms Unknown s ↔ HasSomeUnknown ms s
   sought_unknown s = (
     λ (m, there, named, has). subst (HasSomeUnknown ms) named has,
-    λ (name, ((m, there, named, mentions), not)). (m, there, named, (name, ((m, there, refl, mentions), not))),
+    λ (name, ((m, there, named, mentions), not)). (
+      m,
+      there,
+      named,
+      (name, ((m, there, refl, mentions), not)),
+    ),
   )
 
   -- the least of those that are sought for such a name
-  pub least_with_unknown : (s : List ℕ) → IsLeast (IsSought ms Unknown) s → IsLeast (HasSomeUnknown ms) s
+  pub least_with_unknown : (s : List ℕ) → IsLeast (IsSought ms Unknown) s
+      → IsLeast (HasSomeUnknown ms) s
   least_with_unknown = same_least (IsSought ms Unknown) (HasSomeUnknown ms) sought_unknown

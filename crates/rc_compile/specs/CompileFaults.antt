@@ -1,12 +1,15 @@
 -- What definitions are refused for: the flaws, and their order.
-use Rattle.std.specs.Prelude.{◌≡◌, ◌≢◌, ◌<◌, ◌⊎◌, ℕ, List, [], ◌∷◌, ◌++◌, length, map, Contains, Some, All, AllPairs}
+use Rattle.std.specs.Prelude.{◌≡◌, ◌≢◌, ◌<◌, ◌⊎◌, ℕ, List, [], ◌∷◌, ◌++◌, length, map, Contains}
+use Rattle.std.specs.Prelude.{Some, All, AllPairs}
 use Rattle.rc_source.specs.Meaning.{Meaning}
 use Rattle.rc_compile.specs.declared.CompileFault.{CompileFault}
 use Rattle.rc_compile.specs.declared.CompileFault.TheVariants as fault
 use Rattle.rc_compile.specs.declared.flaws.EntryFlaw.{EntryFlaw}
-use Rattle.rc_compile.specs.declared.flaws.EntryFlaw.TheVariants.{PipelineType, PipelineMismatch, PipelineName}
+use Rattle.rc_compile.specs.declared.flaws.EntryFlaw.TheVariants.{PipelineType, PipelineMismatch}
+use Rattle.rc_compile.specs.declared.flaws.EntryFlaw.TheVariants.{PipelineName}
 use Rattle.rc_holds.specs.Along.{IsShownCycle, IsLeast}
-use Rattle.rc_holds.specs.Pipelines.{IsDefined, IsService, IsLongrun, WritesTo, ReadsFrom, NamesPipeline}
+use Rattle.rc_holds.specs.Pipelines.{IsDefined, IsService, IsLongrun, WritesTo, ReadsFrom}
+use Rattle.rc_holds.specs.Pipelines.{NamesPipeline}
 use Rattle.rc_holds.specs.Standing.{IsBundle, IsKnown, HasContent, NeedsNamed}
 
 -- more than 4,096 names of which this holds

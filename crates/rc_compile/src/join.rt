@@ -1,5 +1,6 @@
 // The database of parts that definitions gave.
-ghost use Rattle.std.specs.Prelude.{◌≡◌, ◌↔◌, ℕ, Bool, List, length, map, Contains, Some, slice_get};
+ghost use Rattle.std.specs.Prelude.{◌≡◌, ◌↔◌, ℕ, Bool, List, length, map, Contains, Some};
+ghost use Rattle.std.specs.Prelude.{slice_get};
 ghost use Rattle.rc_model.specs.Names.{Has};
 ghost use Rattle.rc_model.specs.Database.{HaveBound, names_of, value_of};
 ghost use Rattle.rc_db.specs.Database.{IsWritable};

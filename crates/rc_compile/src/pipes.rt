@@ -1,11 +1,13 @@
 // What is wrong with the pipes of a definition.
-ghost use Rattle.std.specs.Prelude.{◌≡◌, ◌≤◌, ◌<◌, ◌↔◌, ◌⊎◌, ℕ, List, length, map, Contains, Some, IsTrue, IfOk, slice_get};
+ghost use Rattle.std.specs.Prelude.{◌≡◌, ◌≤◌, ◌<◌, ◌↔◌, ◌⊎◌, ℕ, List, length, map, Contains, Some};
+ghost use Rattle.std.specs.Prelude.{IsTrue, IfOk, slice_get};
 ghost use Rattle.rc_model.specs.Names.{Has, Holds};
 ghost use Rattle.rc_holds.specs.Rows.{rows};
 ghost use Rattle.rc_source.specs.Meaning.{Meaning};
 ghost use Rattle.rc_source.specs.Said.{meaning_of};
 ghost use Rattle.rc_holds.specs.Standing.{IsBundle};
-ghost use Rattle.rc_compile.specs.Book.{HasNamed, HasPair, JoinsOther, IsLongrunAt, ArePairedAt, IsMatchedAt, IsUnmatched, IsTaken, IsShared, GivesAt};
+ghost use Rattle.rc_compile.specs.Book.{HasNamed, HasPair, JoinsOther, IsLongrunAt, ArePairedAt};
+ghost use Rattle.rc_compile.specs.Book.{IsMatchedAt, IsUnmatched, IsTaken, IsShared, GivesAt};
 
 use crate::tables::{Which, given};
 use rc_db::has_name;

@@ -1,10 +1,12 @@
 // What is looked for in entries, one by one, and told of the least that has it.
-ghost use Rattle.std.specs.Prelude.{◌≡◌, ◌↔◌, ◌⊎◌, ℕ, List, map, Contains, IsTrue, IfOk, IfErr, IfSome, IfNone, OnOk};
+ghost use Rattle.std.specs.Prelude.{◌≡◌, ◌↔◌, ◌⊎◌, ℕ, List, map, Contains, IsTrue, IfOk, IfErr};
+ghost use Rattle.std.specs.Prelude.{IfSome, IfNone, OnOk};
 ghost use Rattle.rc_source.specs.Meaning.{AreMeanings};
 ghost use Rattle.rc_source.specs.Said.{meaning_of};
 ghost use Rattle.rc_holds.specs.Along.{IsLeast};
 ghost use Rattle.rc_compile.specs.Book.{IsBook, HasSought, IsSought, ShowsUnknown};
-ghost use Rattle.rc_compile.specs.CompileFaults.{AreFreeBefore, HasSomeUnknown, HasUnknown, HaveFlaw, IsCompileFault, OfEntry, Unknown};
+ghost use Rattle.rc_compile.specs.CompileFaults.{AreFreeBefore, HasSomeUnknown, HasUnknown};
+ghost use Rattle.rc_compile.specs.CompileFaults.{HaveFlaw, IsCompileFault, OfEntry, Unknown};
 
 use crate::CompileFault;
 use crate::book::Book;

@@ -1,5 +1,6 @@
 // The names of services, and those of bundles and pipelines.
-ghost use Rattle.std.specs.Prelude.{◌≡◌, ◌↔◌, ◌⊎◌, ℕ, List, Contains, map, false, IsTrue, IfOk, IfSome, IfNone};
+ghost use Rattle.std.specs.Prelude.{◌≡◌, ◌↔◌, ◌⊎◌, ℕ, List, Contains, map, false, IsTrue, IfOk};
+ghost use Rattle.std.specs.Prelude.{IfSome, IfNone};
 ghost use Rattle.rc_names.specs.Names.{Adds};
 ghost use Rattle.rc_model.specs.Names.{AreNames};
 ghost use Rattle.rc_source.specs.Said.{meaning_of};

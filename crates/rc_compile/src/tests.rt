@@ -5,7 +5,8 @@ ghost use Rattle.rc_source.specs.Said.{meaning_of};
 ghost use Rattle.rc_holds.specs.Standing.{HasContent};
 ghost use Rattle.rc_holds.specs.Mirror.{Mirrors};
 ghost use Rattle.rc_compile.specs.Book.{IsBook};
-ghost use Rattle.rc_compile.specs.CompileFaults.{AreFreeBefore, BundleCycle, Cycle, HaveFlaw, IsCompileFault, TooMany, Unknown};
+ghost use Rattle.rc_compile.specs.CompileFaults.{AreFreeBefore, BundleCycle, Cycle, HaveFlaw};
+ghost use Rattle.rc_compile.specs.CompileFaults.{IsCompileFault, TooMany, Unknown};
 
 use crate::CompileFault;
 use crate::book::Book;

@@ -10,7 +10,8 @@ use Rattle.rc_compile.specs.declared.CompileFault.{CompileFault}
 use Rattle.rc_compile.specs.declared.CompileFault.TheVariants as wrong
 use Rattle.rc_compile.specs.CompileFaults.{IsCompileFault}
 use Rattle.rc_compiling.specs.declared.compile_faults.TreesFault.{TreesFault}
-use Rattle.rc_compiling.specs.declared.compile_faults.TreesFault.TheVariants.{Source as OfSource, Definitions, Memory}
+use Rattle.rc_compiling.specs.declared.compile_faults.TreesFault.TheVariants.{Source as OfSource}
+use Rattle.rc_compiling.specs.declared.compile_faults.TreesFault.TheVariants.{Definitions, Memory}
 use Rattle.rc_streams.specs.declared.input.Failure.TheVariants as failure
 use Rattle.rc_compiling.specs.Compiled.{AreSaid}
 use Rattle.rc_streams.specs.Input.{AppendsFront, failure_text, fault_line}

@@ -6,7 +6,9 @@ ghost use Rattle.rc_source.specs.Said.{meaning_of};
 ghost use Rattle.rc_dbtext.specs.Spelling.{spelling};
 ghost use Rattle.rc_compiling.specs.declared.compile_faults.TreesFault.TheVariants.{Memory};
 ghost use Rattle.rc_compiling.specs.Compiled.{IsCompiled, IsTextOf};
-ghost use Rattle.rc_compiling.specs.CompileRefusals.{IsDefinitionsFault, IsDeviceFault, IsTreesFault, TellsDevice, TellsRefusal, TellsWant};
+ghost use Rattle.rc_compiling.specs.CompileRefusals.{IsDefinitionsFault, IsDeviceFault};
+ghost use Rattle.rc_compiling.specs.CompileRefusals.{IsTreesFault, TellsDevice, TellsRefusal};
+ghost use Rattle.rc_compiling.specs.CompileRefusals.{TellsWant};
 ghost use Rattle.rc_streams.specs.Input.{FailsWith, WritesAll, WritesFront};
 ghost use Rattle.rc_streams.specs.Noting.{HasFailed, inner_of};
 

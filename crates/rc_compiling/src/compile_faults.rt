@@ -1,6 +1,8 @@
 //! Why `compile` writes nothing, and how that is told.
 ghost use Rattle.std.specs.Prelude.{◌≡◌, ◌⊎◌, ◌∷◌, [], ◌++◌, IfOk, OnOk};
-ghost use Rattle.rc_compiling.specs.CompileRefusals.{IsDeviceFault, IsRefusal, compile_text, flaw_text, flaw_word, word_with_names, trees_text};
+ghost use Rattle.rc_compiling.specs.CompileRefusals.{IsDeviceFault, IsRefusal, compile_text};
+ghost use Rattle.rc_compiling.specs.CompileRefusals.{flaw_text, flaw_word, word_with_names};
+ghost use Rattle.rc_compiling.specs.CompileRefusals.{trees_text};
 ghost use Rattle.rc_streams.specs.Input.{AppendsFront, failure_text, fault_line};
 
 use rc_compile::CompileFault;

@@ -98,7 +98,8 @@ fn warn_of(rt: &HostRuntime, root: &str, path: &str) -> io::Result<()> {
             let target = fs::canonicalize(rt, path)?;
             if !is_within(target.as_str(), root) {
                 let target = target.as_str();
-                warn!(Messages(rt); target: MESSAGE, "{path} is a link out of its source, to {target}");
+                warn!(Messages(rt); target: MESSAGE,
+                    "{path} is a link out of its source, to {target}");
             }
             drop(target);
             Ok(())

@@ -133,8 +133,8 @@ fn unwritten_hint(rt: &HostRuntime, path: &str, error: &io::Error) -> Hint {
     Ok(Some(format!(in rt.alloc(); "{path} can't be replaced by {path}.new: {what}")?))
 }
 
-/// What helps where the file of `-l` can't be read, or its text is refused, which is looked at after
-/// the database.
+/// What helps where the file of `-l` can't be read, or its text is refused, which is looked at
+/// after the database.
 fn behind_live(
     rt: &HostRuntime,
     path: &str,

@@ -1,6 +1,7 @@
 //! The commands `compile`, `db`, `plan` and `replay` on files; prompts at a terminal; hints after
-//! faults and answers; why an update moves a service; and who may read what `compile` writes. No contract covers what files hold
-//! or what people read. The contracts of `rc_compiling` and `rc_queries` cover the answers.
+//! faults and answers; why an update moves a service; and who may read what `compile` writes. No
+//! contract covers what files hold or what people read. The contracts of `rc_compiling` and
+//! `rc_queries` cover the answers.
 #![tactic(auto)]
 
 mod answers;

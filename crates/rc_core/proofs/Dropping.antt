@@ -1,5 +1,6 @@
 -- What is taken out of the end of a queue.
-use Rattle.std.proofs.Common.{◌≡◌, ◌∙◌, ℕ, ◌<◌, List, Bool, Contains, inl, inr, length, slice_index_or, sym, subst, arith}
+use Rattle.std.proofs.Common.{◌≡◌, ◌∙◌, ℕ, ◌<◌, List, Bool, Contains, inl, inr, length}
+use Rattle.std.proofs.Common.{slice_index_or, sym, subst, arith}
 use Rattle.std.proofs.lemmas.Bool.{cases_lt}
 use Rattle.std.proofs.lemmas.List.{get_or_default}
 use Rattle.rc_model.specs.Names.{Has}

@@ -1,5 +1,6 @@
 -- A run in which nothing has happened, from the parts that it is made of.
-use Rattle.std.proofs.Common.{◌≡◌, ◌∙◌, ℕ, ◌+◌, ◌*◌, ◌≤◌, List, [], Bool, Option, length, count_by, arith, refl, subst}
+use Rattle.std.proofs.Common.{◌≡◌, ◌∙◌, ℕ, ◌+◌, ◌*◌, ◌≤◌, List, [], Bool, Option, length, count_by}
+use Rattle.std.proofs.Common.{arith, refl, subst}
 use Rattle.std.specs.Global.{Vec}
 use Rattle.std.specs.Vec.{vec_len, vec_capacity}
 use Rattle.rc_model.specs.declared.Event.{Event}
@@ -18,8 +19,11 @@ use Rattle.rc_core.proofs.Opening.{kept_first}
 use Rattle.rc_core.proofs.Readying.{ready_first}
 
 -- a plan that fits a graph is a course
-pub course_first : (needs : List (List ℕ)) (plan : PlanSets) (deadline : Option ℕ) → AreNeeds needs → IsAcyclic needs → IsPlan plan → length plan.opening ≡ length needs → IsClosed needs (Has plan.opening)
-    → IsClosed needs (TargetOf (course_of needs plan deadline)) → IsCourse (course_of needs plan deadline)
+pub course_first : (needs : List (List ℕ)) (plan : PlanSets) (deadline : Option ℕ) → AreNeeds needs
+    → IsAcyclic needs → IsPlan plan → length plan.opening ≡ length needs
+    → IsClosed needs (Has plan.opening)
+    → IsClosed needs (TargetOf (course_of needs plan deadline))
+    → IsCourse (course_of needs plan deadline)
 course_first needs plan deadline lists acyclic is bound opening target = record {
   lists = lists;
   acyclic = acyclic;
@@ -34,33 +38,53 @@ course_first needs plan deadline lists acyclic is bound opening target = record 
 
 -- the course of a graph that is shared and of sets that are copied
 abbrev pub course_kept : List (List ℕ) → List Bool → List Bool → List Bool → Option ℕ → Course
-course_kept needs up lower raise deadline = record { needs = needs; up = up; lower = lower; raise = raise; deadline = deadline }
+course_kept needs up lower raise deadline =
+    record { needs = needs; up = up; lower = lower; raise = raise; deadline = deadline }
 
 -- what the copies are of was handed to the tables and to the queue
-pub record AreCopied (needs shared : List (List ℕ)) (plan : PlanSets) (opening lower raise : List Bool) : Type 0 where
+pub record AreCopied (needs shared : List (List ℕ)) (plan : PlanSets)
+    (opening lower raise : List Bool) : Type 0 where
   pub graph : shared ≡ needs
   pub opening_is : opening ≡ plan.opening
   pub lower_is : lower ≡ plan.lower
   pub raise_is : raise ≡ plan.raise
 
-pub run_first : (needs shared : List (List ℕ)) (plan : PlanSets) (deadline : Option ℕ) (t : Tables) (r : Ready) (trace : Vec Event) (left : Vec ℕ) (opening lower raise up_lent lower_lent raise_lent : List Bool) (many services : ℕ)
-    → IsCourse (course_of needs plan deadline) → AreCopied needs shared plan opening lower raise → up_lent ≡ plan.opening → lower_lent ≡ plan.lower → raise_lent ≡ plan.raise
-    → AreFirst up_lent lower_lent raise_lent t → IsFirstReady needs up_lent lower_lent raise_lent t.left r → many ≡ count_by (λ flag. flag) t.left → services ≡ length needs
-    → trace.items ≡ [] → vec_len trace ≡ 0 → 2 * many + 1 ≤ vec_capacity trace → IsRoomFor services left
-    → IsKept (course_kept shared opening lower raise deadline) trace t × IsRoomFor (length shared) left
-    × AreReady (course_kept shared opening lower raise deadline) trace.items r.waits.items r.queue.items × (length shared ≤ vec_capacity r.queue)
-run_first needs shared plan deadline t r trace left opening lower raise up_lent lower_lent raise_lent many services course same up_is lower_is raise_is tables ready count bound empty len room left_room =
+pub run_first : (needs shared : List (List ℕ)) (plan : PlanSets) (deadline : Option ℕ) (t : Tables)
+    (r : Ready) (trace : Vec Event) (left : Vec ℕ)
+    (opening lower raise up_lent lower_lent raise_lent : List Bool) (many services : ℕ)
+    → IsCourse (course_of needs plan deadline) → AreCopied needs shared plan opening lower raise
+    → up_lent ≡ plan.opening → lower_lent ≡ plan.lower → raise_lent ≡ plan.raise
+    → AreFirst up_lent lower_lent raise_lent t
+    → IsFirstReady needs up_lent lower_lent raise_lent t.left r
+    → many ≡ count_by (λ flag. flag) t.left → services ≡ length needs
+    → trace.items ≡ [] → vec_len trace ≡ 0 → 2 * many + 1 ≤ vec_capacity trace
+    → IsRoomFor services left
+    → IsKept (course_kept shared opening lower raise deadline) trace t
+    × IsRoomFor (length shared) left
+    × AreReady (course_kept shared opening lower raise deadline) trace.items r.waits.items
+    r.queue.items × (length shared ≤ vec_capacity r.queue)
+run_first needs shared plan deadline t r trace left opening lower raise up_lent lower_lent
+    raise_lent many services course same up_is lower_is raise_is tables ready count bound empty len
+    room left_room =
     let c : Course = course_of needs plan deadline in
-    let first : AreFirst plan.opening plan.lower plan.raise t = rw (← up_is, ← lower_is, ← raise_is) tables in
-    let readied : IsFirstReady needs plan.opening plan.lower plan.raise t.left r = rw (← up_is, ← lower_is, ← raise_is) ready in
+    let first : AreFirst plan.opening plan.lower plan.raise t =
+    rw (← up_is, ← lower_is, ← raise_is) tables in
+    let readied : IsFirstReady needs plan.opening plan.lower plan.raise t.left r =
+    rw (← up_is, ← lower_is, ← raise_is) ready in
     rw (same.graph, same.opening_is, same.lower_is, same.raise_is) (
-      kept_first c t trace course first empty len (subst (λ (n : ℕ). 2 * n + 1 ≤ vec_capacity trace) count room),
+      kept_first c t trace course first empty len
+          (subst (λ (n : ℕ). 2 * n + 1 ≤ vec_capacity trace) count room),
       subst (λ (n : ℕ). IsRoomFor n left) bound left_room,
       rw empty (ready_first c t.left r course first.left_ones readied),
       omega (arith, readied.bound, readied.queue.room),
     )
 
 -- what it shows is the plan's course, and no events
-pub shown_first : (needs shared : List (List ℕ)) (plan : PlanSets) (deadline : Option ℕ) (opening lower raise : List Bool) (events : List Event) → AreCopied needs shared plan opening lower raise → events ≡ []
-    → ◌≡◌ {A = RunSoFar} (record { course = course_kept shared opening lower raise deadline; events = events }) (record { course = course_of needs plan deadline; events = [] })
-shown_first needs shared plan deadline opening lower raise events same empty = rw (same.graph, same.opening_is, same.lower_is, same.raise_is, empty) refl
+pub shown_first : (needs shared : List (List ℕ)) (plan : PlanSets) (deadline : Option ℕ)
+    (opening lower raise : List Bool) (events : List Event)
+    → AreCopied needs shared plan opening lower raise → events ≡ []
+    → ◌≡◌ {A = RunSoFar}
+    (record { course = course_kept shared opening lower raise deadline; events = events })
+    (record { course = course_of needs plan deadline; events = [] })
+shown_first needs shared plan deadline opening lower raise events same empty =
+    rw (same.graph, same.opening_is, same.lower_is, same.raise_is, empty) refl

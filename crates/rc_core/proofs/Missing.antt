@@ -1,5 +1,6 @@
 -- What a service still waits for, and how events change it.
-use Rattle.std.proofs.Common.{◌≡◌, ◌≢◌, ◌∙◌, ◌⊎◌, ◌↔◌, ℕ, List, [], ◌∷◌, ◌++◌, true, false, Contains, inl, inr, refl, ap, sym, subst}
+use Rattle.std.proofs.Common.{◌≡◌, ◌≢◌, ◌∙◌, ◌⊎◌, ◌↔◌, ℕ, List, [], ◌∷◌, ◌++◌, true, false}
+use Rattle.std.proofs.Common.{Contains, inl, inr, refl, ap, sym, subst}
 use Rattle.std.proofs.lemmas.Bool.{cases_eq}
 use Rattle.rc_model.specs.Names.{Has}
 use Rattle.rc_model.specs.Graph.{Needs}
@@ -8,11 +9,14 @@ use Rattle.rc_model.specs.declared.Standing.TheVariants.{Down, Rising, Up, Sinki
 use Rattle.rc_model.specs.declared.Outcome.{Outcome}
 use Rattle.rc_model.specs.declared.Event.{Event}
 use Rattle.rc_model.specs.declared.Event.TheVariants.{Take, Done}
-use Rattle.rc_model.specs.Run.{Course, IsPlanned, is_success, after_take, standing_of, WasTaken, IsHeldBy, CanMove, IsRun}
+use Rattle.rc_model.specs.Run.{Course, IsPlanned, is_success, after_take, standing_of, WasTaken}
+use Rattle.rc_model.specs.Run.{IsHeldBy, CanMove, IsRun}
 use Rattle.rc_model.specs.Beside.{IsCourse}
 use Rattle.rc_core.specs.Ready.{IsMissing, IsNext}
 use Rattle.rc_model.proofs.RunLemmas.{taken_was_planned, done_was_taken}
-use Rattle.rc_model.proofs.StandingLemmas.{standing_take_here, standing_take_other, standing_done_here, standing_done_other, standing_first_up, standing_first_down}
+use Rattle.rc_model.proofs.StandingLemmas.{standing_take_here, standing_take_other}
+use Rattle.rc_model.proofs.StandingLemmas.{standing_done_here, standing_done_other}
+use Rattle.rc_model.proofs.StandingLemmas.{standing_first_up, standing_first_down}
 use Rattle.rc_core.proofs.Stories.{story_of}
 use Rattle.rc_core.proofs.Places.{move_is_left}
 
@@ -55,7 +59,8 @@ held_stands c events w s run held = elim (story_of c events s run) [
 held_rising : (c : Course) (events : List Event) (w s : ℕ) → IsCourse c → IsRun c events
     → IsHeldBy events w s → Has c.raise s → standing_of c events s ≡ Rising
 held_rising c events w s course run held raise =
-    held_stands c events w s run held ∙ ap after_take (standing_first_down c s (course.rises s raise))
+    held_stands c events w s run held
+    ∙ ap after_take (standing_first_down c s (course.rises s raise))
 
 held_sinking : (c : Course) (events : List Event) (w s : ℕ) → IsCourse c → IsRun c events
     → IsHeldBy events w s → Has c.lower s → standing_of c events s ≡ Sinking

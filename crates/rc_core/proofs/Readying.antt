@@ -1,9 +1,13 @@
 -- The counts and the queue say what the events say.
-use Rattle.std.proofs.Common.{◌≡◌, ◌∙◌, ◌↔◌, ◌⊎◌, ◌-◌, ℕ, ◌<◌, ◌≤◌, List, [], ◌∷◌, ◌++◌, Bool, true, false, All, Contains, inl, inr, length, slice_index, slice_index_or, vec_capacity, ap, sym, subst, refl, arith}
+use Rattle.std.proofs.Common.{◌≡◌, ◌∙◌, ◌↔◌, ◌⊎◌, ◌-◌, ℕ, ◌<◌, ◌≤◌, List, [], ◌∷◌, ◌++◌, Bool, true}
+use Rattle.std.proofs.Common.{false, All, Contains, inl, inr, length, slice_index, slice_index_or}
+use Rattle.std.proofs.Common.{vec_capacity, ap, sym, subst, refl, arith}
 use Rattle.std.specs.Global.{Vec}
 use Rattle.std.proofs.lemmas.Bool.{cases_lt, false_from_ne_true}
-use Rattle.std.proofs.lemmas.List.{get_or_past, get_or_default, get_or_append_left, get_or-append_right, length-append}
-use Rattle.std.proofs.lemmas.List.Elements.{Contains-get_or, Contains-append_left, Contains-append_right, Contains-append_cases}
+use Rattle.std.proofs.lemmas.List.{get_or_past, get_or_default, get_or_append_left}
+use Rattle.std.proofs.lemmas.List.{get_or-append_right, length-append}
+use Rattle.std.proofs.lemmas.List.Elements.{Contains-get_or, Contains-append_left}
+use Rattle.std.proofs.lemmas.List.Elements.{Contains-append_right, Contains-append_cases}
 use Rattle.rc_model.specs.Names.{Has, Holds}
 use Rattle.rc_model.proofs.SetMembers.{has_or_lacks, is_set_or_not}
 use Rattle.rc_graph.specs.Order.{AreDistinct}
@@ -13,14 +17,20 @@ use Rattle.rc_model.specs.declared.Outcome.{Outcome}
 use Rattle.rc_model.specs.declared.Event.{Event}
 use Rattle.rc_model.specs.declared.Event.TheVariants.{Take, Done, Stop}
 use Rattle.rc_core.specs.declared.ready.Ready.{Ready}
-use Rattle.rc_model.specs.Run.{Course, IsPlanned, is_success, standing_of, WasTaken, IsLeft, IsHeldBy, CanMove, IsLegal, IsRun}
+use Rattle.rc_model.specs.Run.{Course, IsPlanned, is_success, standing_of, WasTaken, IsLeft}
+use Rattle.rc_model.specs.Run.{IsHeldBy, CanMove, IsLegal, IsRun}
 use Rattle.rc_model.specs.Beside.{IsCourse}
-use Rattle.rc_core.specs.Ready.{IsCount, IsMissing, AreReady, IsNext, NotesArrival, DropsTaken, IsLast, IsFirstReady, HasQueue, CanNoteReady, NotesReady}
-use Rattle.rc_core.proofs.Counted.{distinct_both, same_count, less_count, none_of_zero, zero_of_none, some_counts}
+use Rattle.rc_core.specs.Ready.{IsCount, IsMissing, AreReady, IsNext, NotesArrival, DropsTaken}
+use Rattle.rc_core.specs.Ready.{IsLast, IsFirstReady, HasQueue, CanNoteReady, NotesReady}
+use Rattle.rc_core.proofs.Counted.{distinct_both, same_count, less_count, none_of_zero}
+use Rattle.rc_core.proofs.Counted.{zero_of_none, some_counts}
 use Rattle.rc_model.proofs.EventLemmas.{still_there, take_then_take, take_then_done, take_then_stop}
 use Rattle.rc_model.proofs.RunLemmas.{taken_was_planned}
-use Rattle.rc_model.proofs.StandingLemmas.{standing_stop, standing_first_up, standing_first_down, is_down_or_not}
-use Rattle.rc_core.proofs.Missing.{up_or_not, fresh_stands, missing_kept, missing_after_take, missing_after_failure, next_missing, missing_next, missing_after_success}
+use Rattle.rc_model.proofs.StandingLemmas.{standing_stop, standing_first_up, standing_first_down}
+use Rattle.rc_model.proofs.StandingLemmas.{is_down_or_not}
+use Rattle.rc_core.proofs.Missing.{up_or_not, fresh_stands, missing_kept, missing_after_take}
+use Rattle.rc_core.proofs.Missing.{missing_after_failure, next_missing, missing_next}
+use Rattle.rc_core.proofs.Missing.{missing_after_success}
 use Rattle.rc_core.proofs.Dropping.{front_in, front_once, still_in}
 use Rattle.rc_core.proofs.Noting.{left_after_take}
 use Rattle.rc_core.proofs.Places.{move_is_left, planned_within}

@@ -4,7 +4,8 @@ use Rattle.std.specs.Prelude.{◌≡◌, ◌≢◌, ◌⊎◌, ℕ, List, Some, 
 use Rattle.rc_model.specs.declared.Standing.TheVariants.{Sinking}
 use Rattle.rc_model.specs.declared.Event.{Event}
 use Rattle.rc_model.specs.declared.Event.TheVariants.{Take, Done, Stop}
-use Rattle.rc_model.specs.Run.{Course, standing_of, IsWorker, IsFree, NoneHeld, IsStopped, CanSink, CanRise, IsLegal}
+use Rattle.rc_model.specs.Run.{Course, standing_of, IsWorker, IsFree, NoneHeld, IsStopped, CanSink}
+use Rattle.rc_model.specs.Run.{CanRise, IsLegal}
 
 -- lowering is settled: nothing is on its way down, and nothing may go down
 pub record IsLowered (c : Course) (events : List Event) : Type 0 where

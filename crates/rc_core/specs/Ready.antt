@@ -1,6 +1,7 @@
 -- Which services may be taken: how many others each waits for, and a queue of those that wait for
 -- none.
-use Rattle.std.specs.Prelude.{◌≡◌, ◌≢◌, ◌-◌, ◌<◌, ◌≤◌, ◌⊎◌, ◌↔◌, ℕ, List, Bool, true, false, length, slice_index, slice_index_or, Contains, vec_len, vec_capacity}
+use Rattle.std.specs.Prelude.{◌≡◌, ◌≢◌, ◌-◌, ◌<◌, ◌≤◌, ◌⊎◌, ◌↔◌, ℕ, List, Bool, true, false, length}
+use Rattle.std.specs.Prelude.{slice_index, slice_index_or, Contains, vec_len, vec_capacity}
 use Rattle.std.specs.Global.{Vec}
 use Rattle.rc_model.specs.Line.{Lists}
 use Rattle.rc_model.specs.Names.{Has}

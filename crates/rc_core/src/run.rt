@@ -1,9 +1,12 @@
-ghost use Rattle.std.specs.Prelude.{◌≡◌, ◌<◌, ◌≤◌, ◌↔◌, ℕ, Bool, [], length, slice_index_or, take, vec_len, vec_capacity, IsTrue, IfOk, OnOk, OnErr};
+ghost use Rattle.std.specs.Prelude.{◌≡◌, ◌<◌, ◌≤◌, ◌↔◌, ℕ, Bool, [], length, slice_index_or, take};
+ghost use Rattle.std.specs.Prelude.{vec_len, vec_capacity, IsTrue, IfOk, OnOk, OnErr};
 ghost use Rattle.rc_model.specs.Names.{Has};
 ghost use Rattle.rc_model.specs.Graph.{IsClosed};
 ghost use Rattle.rc_graph.specs.declared.Way.{Way};
 ghost use Rattle.rc_model.specs.declared.Event.{Event};
-ghost use Rattle.rc_model.specs.Run.{course_of, standing_of, IsWorker, IsFree, HasFailed, IsStopped, IsLegal, IsRun, IsStrictlyClosed, IsLive, IsSettled};
+ghost use Rattle.rc_model.specs.Run.{course_of, standing_of, IsWorker, IsFree, HasFailed};
+ghost use Rattle.rc_model.specs.Run.{IsStopped, IsLegal, IsRun, IsStrictlyClosed, IsLive};
+ghost use Rattle.rc_model.specs.Run.{IsSettled};
 ghost use Rattle.rc_model.specs.Beside.{planned_count, IsCourse, TargetOf};
 ghost use Rattle.rc_core.specs.End.{EndOf};
 ghost use Rattle.rc_core.specs.Failing.{WouldFail, EndsAs};
@@ -34,8 +37,8 @@ pub struct NotLegal;
 ///
 /// It borrows nothing. No call but `open` can be refused as out of memory. Time: `open` grows with
 /// the services that move and their pairs, `take_apart` with the services that do not arrive, and
-/// both pass over sets and lists a word at a time; `done` grows with those that the service needs or
-/// that need it; the others take one step, and a take passes over what `step` took out of turn
+/// both pass over sets and lists a word at a time; `done` grows with those that the service needs
+/// or that need it; the others take one step, and a take passes over what `step` took out of turn
 /// before, each once. So a whole run looks at each service and pair once.
 #[derive(Drop)]
 pub struct Run {

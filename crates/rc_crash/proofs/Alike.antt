@@ -1,5 +1,6 @@
 -- Two runs of a command after which the same is live lead to one line.
-use Rattle.std.proofs.Common.{◌≡◌, ◌∙◌, ◌⊎◌, ◌↔◌, inl, inr, ℕ, Bool, List, [], ◌∷◌, ◌++◌, Option, ap, sym, subst}
+use Rattle.std.proofs.Common.{◌≡◌, ◌∙◌, ◌⊎◌, ◌↔◌, inl, inr, ℕ, Bool, List, [], ◌∷◌, ◌++◌, Option}
+use Rattle.std.proofs.Common.{ap, sym, subst}
 use Rattle.rc_model.specs.Names.{Has}
 use Rattle.rc_model.specs.declared.Event.{Event}
 use Rattle.rc_model.specs.Database.{Database}
@@ -7,7 +8,8 @@ use Rattle.rc_model.specs.Headline.{HasRun}
 use Rattle.rc_model.specs.Line.{Line, MovesTo, State, put_between, with_live, within_bound}
 use Rattle.rc_model.specs.Plan.{IsPlanTo, KeptOfAsk, PlanSets, TargetOfAsk}
 use Rattle.rc_model.specs.Run.{Course, IsLive, course_of}
-use Rattle.rc_model.specs.Session.{Change, Command, Does, DoesByRun, EndsWith, MovesBy, Nothing, Redo, Reported, Undo, Add, Delete, events_of}
+use Rattle.rc_model.specs.Session.{Change, Command, Does, DoesByRun, EndsWith, MovesBy, Nothing}
+use Rattle.rc_model.specs.Session.{Redo, Reported, Undo, Add, Delete, events_of}
 use Rattle.rc_session.specs.Commands.{with_events}
 use Rattle.rc_session.proofs.Excluding.{one_set}
 use Rattle.rc_session.proofs.Neighbours.{one_back, one_on}

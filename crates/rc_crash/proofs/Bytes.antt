@@ -1,5 +1,6 @@
 -- Bytes, lines and their fronts.
-use Rattle.std.proofs.Common.{◌≡◌, ◌≢◌, ◌∙◌, ◌⊎◌, inl, inr, ℕ, suc, Contains, List, [], ◌∷◌, ◌++◌, refl, ap, sym, subst, append_assoc, arith}
+use Rattle.std.proofs.Common.{◌≡◌, ◌≢◌, ◌∙◌, ◌⊎◌, inl, inr, ℕ, suc, Contains, List, [], ◌∷◌, ◌++◌}
+use Rattle.std.proofs.Common.{refl, ap, sym, subst, append_assoc, arith}
 use Rattle.std.specs.List.{AllByRecursion, concat}
 use Rattle.std.proofs.lemmas.Bool.{cases_eq}
 use Rattle.std.proofs.lemmas.List.{append-nil}

@@ -1,5 +1,6 @@
 -- What a crash of a command leaves.
-use Rattle.std.proofs.Common.{◌≡◌, ◌≢◌, ◌∙◌, ◌⊎◌, inl, inr, ℕ, List, [], ◌∷◌, ◌++◌, map, refl, ap, sym, subst, append_assoc}
+use Rattle.std.proofs.Common.{◌≡◌, ◌≢◌, ◌∙◌, ◌⊎◌, inl, inr, ℕ, List, [], ◌∷◌, ◌++◌, map, refl, ap}
+use Rattle.std.proofs.Common.{sym, subst, append_assoc}
 use Rattle.std.specs.List.{AllZip, concat}
 use Rattle.std.proofs.lemmas.List.{append-nil}
 use Rattle.std.proofs.lemmas.List.Elements.{All-from_recursion, recursion_from_All}
@@ -12,8 +13,10 @@ use Rattle.rc_script.specs.RunLines.{IsEventLine}
 use Rattle.rc_recovery.specs.RunLog.{IsUnfit}
 use Rattle.rc_files.specs.Files.{AfterCrash, Append, Empty, Files, IsFront, Replace, Write}
 use Rattle.rc_crash.specs.Logging.{HoldEvents, IsLogged, Logged, log_of}
-use Rattle.rc_crash.specs.Recoveries.{AreCutRecoveries, EndsIn, EndsInOneLine, EndsOn, IsAtRest, IsCrash}
-use Rattle.rc_crash.proofs.Bytes.{Bare, bare_front, bare_line, cancel, concat_more, nothing, one_longer, one_or_other, torn_line}
+use Rattle.rc_crash.specs.Recoveries.{AreCutRecoveries, EndsIn, EndsInOneLine, EndsOn, IsAtRest}
+use Rattle.rc_crash.specs.Recoveries.{IsCrash}
+use Rattle.rc_crash.proofs.Bytes.{Bare, bare_front, bare_line, cancel, concat_more, nothing}
+use Rattle.rc_crash.proofs.Bytes.{one_longer, one_or_other, torn_line}
 use Rattle.rc_crash.proofs.Held.{kept_ends, kept_fits, none_rests, one_end_text, other_rests}
 use Rattle.rc_crash.proofs.Known.{Laws}
 use Rattle.rc_crash.proofs.Resting.{all_still, bare_rests, empty_rests, ends_still, files}

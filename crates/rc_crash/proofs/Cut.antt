@@ -1,5 +1,6 @@
 -- Events that begin a run of a command begin one of it under the least limit.
-use Rattle.std.proofs.Common.{◌≡◌, ◌≤◌, inl, inr, ℕ, Bool, List, [], ◌∷◌, ◌++◌, Option, Some, None, length, slice_get, take, Contains, arith, refl, sym, subst}
+use Rattle.std.proofs.Common.{◌≡◌, ◌≤◌, inl, inr, ℕ, Bool, List, [], ◌∷◌, ◌++◌, Option, Some, None}
+use Rattle.std.proofs.Common.{length, slice_get, take, Contains, arith, refl, sym, subst}
 use Rattle.std.proofs.lemmas.List.{take_at}
 use Rattle.std.proofs.lemmas.List.Elements.{Contains-append_left}
 use Rattle.rc_model.specs.Names.{Has}
@@ -9,7 +10,8 @@ use Rattle.rc_model.specs.Database.{Bundles, Database}
 use Rattle.rc_model.specs.Line.{Line}
 use Rattle.rc_model.specs.Plan.{Ask, CanPlan, IsPlanTo, PlanSets}
 use Rattle.rc_model.specs.Run.{CanMove, Course, IsLegal, IsRun, IsStopped, course_of}
-use Rattle.rc_model.specs.Session.{Command, Change, Undo, Redo, Add, Delete, IsWay, Nothing, deadline_of}
+use Rattle.rc_model.specs.Session.{Command, Change, Undo, Redo, Add, Delete, IsWay, Nothing}
+use Rattle.rc_model.specs.Session.{deadline_of}
 use Rattle.rc_model.proofs.Exact.{equal_or_not}
 use Rattle.rc_model.proofs.RunLemmas.{run_prefix}
 use Rattle.rc_session.specs.Commands.{with_events}

@@ -1,5 +1,6 @@
 -- What a session makes of a command that was cut short.
-use Rattle.std.proofs.Common.{◌≡◌, ◌≢◌, ◌∙◌, inl, inr, ℕ, false, List, [], ◌∷◌, ◌++◌, Option, Result, Ok, Err, refl, ap, sym, subst}
+use Rattle.std.proofs.Common.{◌≡◌, ◌≢◌, ◌∙◌, inl, inr, ℕ, false, List, [], ◌∷◌, ◌++◌, Option}
+use Rattle.std.proofs.Common.{Result, Ok, Err, refl, ap, sym, subst}
 use Rattle.std.proofs.lemmas.Bool.{false≢true}
 use Rattle.rc_model.specs.declared.Event.{Event}
 use Rattle.rc_model.specs.declared.Refusal.{Refusal}
@@ -9,13 +10,16 @@ use Rattle.rc_model.specs.Headline.{HasRun}
 use Rattle.rc_model.specs.Line.{Line}
 use Rattle.rc_model.specs.Plan.{PlanSets}
 use Rattle.rc_model.specs.Run.{Course, IsRun, course_of}
-use Rattle.rc_model.specs.Session.{Command, Change, Undo, Redo, Add, Delete, Does, IsEventFault, IsLineOf, IsOwnFault, IsRunFault, IsTask, Refuses, Reported, deadline_of, events_of}
+use Rattle.rc_model.specs.Session.{Command, Change, Undo, Redo, Add, Delete, Does, IsEventFault}
+use Rattle.rc_model.specs.Session.{IsLineOf, IsOwnFault, IsRunFault, IsTask, Refuses, Reported}
+use Rattle.rc_model.specs.Session.{deadline_of, events_of}
 use Rattle.rc_session.specs.Commands.{with_events}
 use Rattle.rc_session.specs.Holding.{Holding, IsHindrance, Obeys}
 use Rattle.rc_session.proofs.Excluding.{task_not_own}
 use Rattle.rc_script.specs.RunLines.{least_limited}
 use Rattle.rc_recovery.specs.Ends.{last_stop, with_ends}
-use Rattle.rc_recovery.specs.Recovering.{Enters, IsCutShort, IsUnsettled, Recovers, called_off, cut_short}
+use Rattle.rc_recovery.specs.Recovering.{Enters, IsCutShort, IsUnsettled, Recovers, called_off}
+use Rattle.rc_recovery.specs.Recovering.{cut_short}
 use Rattle.rc_recovery.specs.RunLog.{session_on}
 use Rattle.rc_crash.proofs.Cut.{can_least, least_way}
 use Rattle.rc_crash.proofs.Known.{Laws}

@@ -1,5 +1,6 @@
 -- Files that hold the log of a command.
-use Rattle.std.proofs.Common.{◌≡◌, ◌≢◌, ◌∙◌, ◌⊎◌, inl, inr, ℕ, List, [], ◌∷◌, ◌++◌, Option, Some, None, Ok, Err, length, arith, refl, ap, sym, subst, append_assoc}
+use Rattle.std.proofs.Common.{◌≡◌, ◌≢◌, ◌∙◌, ◌⊎◌, inl, inr, ℕ, List, [], ◌∷◌, ◌++◌, Option, Some}
+use Rattle.std.proofs.Common.{None, Ok, Err, length, arith, refl, ap, sym, subst, append_assoc}
 use Rattle.std.specs.List.{concat}
 use Rattle.std.proofs.lemmas.List.{append-nil}
 use Rattle.std.proofs.lemmas.List.Elements.{recursion_from_All}
@@ -7,7 +8,8 @@ use Rattle.rc_model.specs.declared.Event.{Event}
 use Rattle.rc_model.specs.Database.{Database}
 use Rattle.rc_model.specs.Headline.{HasRun}
 use Rattle.rc_model.specs.Line.{Line}
-use Rattle.rc_model.specs.Session.{Command, Change, Undo, Redo, Add, Delete, IsLineOf, Reported, events_of}
+use Rattle.rc_model.specs.Session.{Command, Change, Undo, Redo, Add, Delete, IsLineOf, Reported}
+use Rattle.rc_model.specs.Session.{events_of}
 use Rattle.rc_session.specs.Commands.{with_events}
 use Rattle.rc_session.specs.Holding.{Holding}
 use Rattle.rc_livetext.specs.LiveFaults.{IsLiveFault}
@@ -16,10 +18,12 @@ use Rattle.rc_script.specs.RunLines.{least_limited}
 use Rattle.rc_script.specs.Script.{IsScript}
 use Rattle.rc_script.specs.declared.script.ScriptFault.TheVariants as script_fault
 use Rattle.rc_recovery.specs.Recovering.{Enters, IsCutShort}
-use Rattle.rc_recovery.specs.RunLog.{HasNothing, HasScript, IsEntered, IsEnteredAs, IsRefusedIn, IsUnfit, IsUnfitFor, LogsAll, session_on}
+use Rattle.rc_recovery.specs.RunLog.{HasNothing, HasScript, IsEntered, IsEnteredAs, IsRefusedIn}
+use Rattle.rc_recovery.specs.RunLog.{IsUnfit, IsUnfitFor, LogsAll, session_on}
 use Rattle.rc_files.specs.Files.{Files}
 use Rattle.rc_crash.specs.Logging.{BeginsRun, HoldEvents, IsLogged, Logged}
-use Rattle.rc_crash.specs.Recoveries.{AreCutRecoveries, EndsIn, IsAtRest, IsCutRecovery, IsLineAfter, Makes, text_after}
+use Rattle.rc_crash.specs.Recoveries.{AreCutRecoveries, EndsIn, IsAtRest, IsCutRecovery}
+use Rattle.rc_crash.specs.Recoveries.{IsLineAfter, Makes, text_after}
 use Rattle.rc_crash.proofs.Bytes.{cancel, one_longer, one_or_other, one_whole}
 use Rattle.rc_crash.proofs.Cut.{begins_cut, front_begins}
 use Rattle.rc_crash.proofs.Entered.{entered_line, entered_on, is_entered, never_refused, one_end}

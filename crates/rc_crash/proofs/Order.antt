@@ -1,6 +1,7 @@
 -- What workers log of a run begins one.
 use Rattle.std.proofs.Common.{ℕ, inl, inr, List, [], ◌∷◌, ◌++◌, Option, Contains, refl, sym, subst}
-use Rattle.std.proofs.lemmas.List.Elements.{Contains-append_cases, Contains-append_left, Contains-append_right}
+use Rattle.std.proofs.lemmas.List.Elements.{Contains-append_cases, Contains-append_left}
+use Rattle.std.proofs.lemmas.List.Elements.{Contains-append_right}
 use Rattle.rc_model.specs.declared.Event.{Event}
 use Rattle.rc_model.specs.declared.Event.TheVariants.{Stop}
 use Rattle.rc_model.specs.Database.{Database}

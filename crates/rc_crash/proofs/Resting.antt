@@ -1,5 +1,6 @@
 -- Files of which nothing is entered.
-use Rattle.std.proofs.Common.{◌≡◌, ◌≢◌, ◌∙◌, ◌⊎◌, inl, inr, ℕ, List, [], ◌∷◌, ◌++◌, Option, Some, None, length, arith, refl, ap, sym, subst}
+use Rattle.std.proofs.Common.{◌≡◌, ◌≢◌, ◌∙◌, ◌⊎◌, inl, inr, ℕ, List, [], ◌∷◌, ◌++◌, Option, Some}
+use Rattle.std.proofs.Common.{None, length, arith, refl, ap, sym, subst}
 use Rattle.std.proofs.lemmas.List.Elements.{recursion_from_All}
 use Rattle.rc_model.specs.Database.{Database}
 use Rattle.rc_model.specs.Session.{Command}
@@ -8,7 +9,8 @@ use Rattle.rc_script.specs.declared.script.ScriptFault.TheVariants as script_fau
 use Rattle.rc_recovery.specs.RunLog.{HasScript, IsEntered, IsUnfit, LogsAll}
 use Rattle.rc_files.specs.Files.{AfterCrash, Files}
 use Rattle.rc_crash.specs.Logging.{unlogged_writes}
-use Rattle.rc_crash.specs.Recoveries.{AreCutRecoveries, EndsIn, IsAtRest, IsCutRecovery, Makes, text_after}
+use Rattle.rc_crash.specs.Recoveries.{AreCutRecoveries, EndsIn, IsAtRest, IsCutRecovery, Makes}
+use Rattle.rc_crash.specs.Recoveries.{text_after}
 use Rattle.rc_crash.proofs.Bytes.{Bare, nothing, one_whole}
 use Rattle.rc_crash.proofs.Known.{Scripts}
 use Rattle.rc_crash.proofs.Reading.{reads_none}

@@ -1,5 +1,6 @@
 //! A recovery over the two files of a session.
-ghost use Rattle.std.specs.Prelude.{◌≡◌, ◌≢◌, ◌⊎◌, ◌∷◌, [], ℕ, List, Option, None, Some, IfOk, IfNone, IfSome, IsErrOf, MatchOption, option_map};
+ghost use Rattle.std.specs.Prelude.{◌≡◌, ◌≢◌, ◌⊎◌, ◌∷◌, [], ℕ, List, Option, None, Some, IfOk};
+ghost use Rattle.std.specs.Prelude.{IfNone, IfSome, IsErrOf, MatchOption, option_map};
 ghost use Rattle.rc_files.specs.Files.{AfterCrash, Files};
 ghost use Rattle.rc_recovery.specs.RunLog.{HasNothing, IsEntered, IsUnfit};
 ghost use Rattle.rc_crash.specs.Recoveries.{IsCutRecovery, Makes, recovery_writes};

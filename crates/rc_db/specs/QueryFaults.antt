@@ -2,7 +2,8 @@
 use Rattle.std.specs.Prelude.{◌≡◌, ℕ, List, All, Contains}
 use Rattle.rc_model.specs.declared.Kind.TheVariants.{Oneshot, Longrun}
 use Rattle.rc_db.specs.declared.fault.QueryFault.{QueryFault}
-use Rattle.rc_db.specs.declared.fault.QueryFault.TheVariants.{Unknown, NotAtomic, NotBundle, NotLongrun, NotOneshot, Memory}
+use Rattle.rc_db.specs.declared.fault.QueryFault.TheVariants.{Unknown, NotAtomic, NotBundle}
+use Rattle.rc_db.specs.declared.fault.QueryFault.TheVariants.{NotLongrun, NotOneshot, Memory}
 use Rattle.rc_model.specs.Database.{Bundles, names_of, Database, IsKnown, IsUnknownAt}
 use Rattle.rc_db.specs.Queries.{IsKindOf}
 

@@ -1,6 +1,8 @@
-ghost use Rattle.std.specs.Prelude.{◌≡◌, ◌<◌, ◌↔◌, length, map, string_bytes, slice_get, All, Some, IsTrue, IfOk, IfErr, OnOk, OnErr};
+ghost use Rattle.std.specs.Prelude.{◌≡◌, ◌<◌, ◌↔◌, length, map, string_bytes, slice_get, All, Some};
+ghost use Rattle.std.specs.Prelude.{IsTrue, IfOk, IfErr, OnOk, OnErr};
 ghost use Rattle.rc_model.specs.Names.{Holds};
-ghost use Rattle.rc_model.specs.Database.{HaveBound, FitTogether, IsDatabase, IsEssential, IsKnown, Selected};
+ghost use Rattle.rc_model.specs.Database.{HaveBound, FitTogether, IsDatabase, IsEssential, IsKnown};
+ghost use Rattle.rc_model.specs.Database.{Selected};
 ghost use Rattle.rc_db.specs.QueryFaults.{IsNamesFault};
 ghost use Rattle.rc_db.specs.Parts.{database_of};
 

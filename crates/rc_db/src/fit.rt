@@ -1,7 +1,8 @@
 ghost use Rattle.std.specs.Prelude.{◌≡◌, ◌≢◌, ◌<◌, ◌↔◌, ℕ, length, All, IsTrue, IfSome, IfNone};
 ghost use Rattle.std.specs.Bool.{OnTrue};
 ghost use Rattle.rc_model.specs.Graph.{Needs};
-ghost use Rattle.rc_model.specs.Database.{HasLimits, HaveBound, IsTable, AreApart, Feeds, FitTogether, IsDatabase, IsKind};
+ghost use Rattle.rc_model.specs.Database.{HasLimits, HaveBound, IsTable, AreApart, Feeds};
+ghost use Rattle.rc_model.specs.Database.{FitTogether, IsDatabase, IsKind};
 ghost use Rattle.rc_db.specs.Parts.{database_of};
 
 use crate::named::has_name;

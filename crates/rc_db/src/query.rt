@@ -1,12 +1,14 @@
 //! Queries of one name.
 
-ghost use Rattle.std.specs.Prelude.{◌≡◌, ◌≢◌, ℕ, List, Bool, Some, slice_get, string_bytes, IfOk, IfErr, OnOk};
+ghost use Rattle.std.specs.Prelude.{◌≡◌, ◌≢◌, ℕ, List, Bool, Some, slice_get, string_bytes, IfOk};
+ghost use Rattle.std.specs.Prelude.{IfErr, OnOk};
 ghost use Rattle.rc_model.specs.Line.{Lists};
 ghost use Rattle.rc_model.specs.Names.{Has};
 ghost use Rattle.rc_model.specs.Database.{Service as Facts, value_of, IsDatabase};
 ghost use Rattle.rc_db.specs.Service.{limit_of, script_of};
 ghost use Rattle.rc_db.specs.Queries.{IsKindOf, IsServiceNamed};
-ghost use Rattle.rc_db.specs.QueryFaults.{AnyName, OfService, OfBundle, OfOneshot, IsSuch, IsQueryFault};
+ghost use Rattle.rc_db.specs.QueryFaults.{AnyName, OfService, OfBundle, OfOneshot, IsSuch};
+ghost use Rattle.rc_db.specs.QueryFaults.{IsQueryFault};
 
 use crate::db::Db;
 use crate::fault::QueryFault;

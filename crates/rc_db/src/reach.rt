@@ -1,6 +1,7 @@
 //! Queries of several names: what they stand for, and what they need or are needed by.
 
-ghost use Rattle.std.specs.Prelude.{◌≡◌, ◌<◌, ◌⊎◌, ◌↔◌, ℕ, length, map, string_bytes, All, Contains, IfOk, IfErr, OnOk};
+ghost use Rattle.std.specs.Prelude.{◌≡◌, ◌<◌, ◌⊎◌, ◌↔◌, ℕ, length, map, string_bytes, All};
+ghost use Rattle.std.specs.Prelude.{Contains, IfOk, IfErr, OnOk};
 ghost use Rattle.rc_model.specs.Line.{Lists};
 ghost use Rattle.rc_model.specs.Names.{Has, Holds};
 ghost use Rattle.rc_model.specs.Graph.{AreNeeds};

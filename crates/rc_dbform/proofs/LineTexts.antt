@@ -1,5 +1,6 @@
 -- The kinds of lines: the words of each are UTF-8.
-use Rattle.std.proofs.Common.{ℕ, Bool, true, false, List, [], ◌∷◌, length, All, Option, Some, None, IfSome, arith, refl}
+use Rattle.std.proofs.Common.{ℕ, Bool, true, false, List, [], ◌∷◌, length, All, Option, Some, None}
+use Rattle.std.proofs.Common.{IfSome, arith, refl}
 use Rattle.std.proofs.lemmas.List.Elements.{All-cons}
 use Rattle.std.specs.Prelude.{codes}
 use Rattle.std.specs.Fmt.{decimal}
@@ -8,7 +9,9 @@ use Rattle.rc_model.specs.declared.Kind.{Kind}
 use Rattle.rc_model.specs.declared.Kind.TheVariants as kinds
 use Rattle.rc_model.specs.Names.{IsName}
 use Rattle.rc_db.specs.Service.{IsScript}
-use Rattle.rc_dbform.specs.Text.{OfService, OfNeeds, OfProducer, OfUp, OfDown, OfBundle, Last, Head, BundleText, IsHead, IsBundleText, words, kind_word, flag_word, or_dash, length_word}
+use Rattle.rc_dbform.specs.Text.{OfService, OfNeeds, OfProducer, OfUp, OfDown, OfBundle, Last, Head}
+use Rattle.rc_dbform.specs.Text.{BundleText, IsHead, IsBundleText, words, kind_word, flag_word}
+use Rattle.rc_dbform.specs.Text.{or_dash, length_word}
 use Rattle.rc_textform.proofs.Texts.{one_text, text_decimal, text_from, text_names}
 
 text_kind : (kind : Kind) → IsUtf8 (kind_word kind)

@@ -2,7 +2,9 @@
 ghost use Rattle.std.specs.Prelude.{◌≡◌, ◌≤◌, ◌∷◌, [], IfOk, IfErr};
 ghost use Rattle.std.specs.List.{flat_map};
 ghost use Rattle.rc_model.specs.declared.Kind.TheVariants as kinds;
-ghost use Rattle.rc_dbform.specs.Text.{ServiceCount, BundleCount, IsBody, IsServiceText, IsBundleText, IsDbText, AreFew, body_lines, service_lines, bundle_lines, count_and_lines, db_lines};
+ghost use Rattle.rc_dbform.specs.Text.{ServiceCount, BundleCount, IsBody, IsServiceText};
+ghost use Rattle.rc_dbform.specs.Text.{IsBundleText, IsDbText, AreFew, body_lines, service_lines};
+ghost use Rattle.rc_dbform.specs.Text.{bundle_lines, count_and_lines, db_lines};
 ghost use Rattle.rc_dbform.specs.Reading.{IsRead, IsRefused, AreSo};
 ghost use Rattle.rc_dbform.specs.FormText.{body_text};
 

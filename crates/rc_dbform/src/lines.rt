@@ -1,12 +1,15 @@
 //! The lines of a database text, a function for each kind of line.
-ghost use Rattle.std.specs.Prelude.{◌≡◌, ◌≤◌, ℕ, List, [], ◌∷◌, ◌++◌, All, IfOk, IfErr, IfSome, MatchOption, codes, length, Bool};
+ghost use Rattle.std.specs.Prelude.{◌≡◌, ◌≤◌, ℕ, List, [], ◌∷◌, ◌++◌, All, IfOk, IfErr, IfSome};
+ghost use Rattle.std.specs.Prelude.{MatchOption, codes, length, Bool};
 ghost use Rattle.std.specs.Fmt.{decimal};
 ghost use Rattle.std.specs.Option.{option_map};
 ghost use Rattle.rc_model.specs.Names.{IsName};
 ghost use Rattle.rc_model.specs.declared.Kind.{Kind};
 ghost use Rattle.rc_model.specs.declared.Kind.TheVariants as kinds;
 ghost use Rattle.rc_db.specs.Service.{IsScript};
-ghost use Rattle.rc_dbform.specs.Text.{First, OfService, OfNeeds, OfProducer, OfUp, OfDown, OfBundle, Last, IsHead, IsBundleText, line_of_words, spell, kind_word, flag_word, or_dash, text_behind};
+ghost use Rattle.rc_dbform.specs.Text.{First, OfService, OfNeeds, OfProducer, OfUp, OfDown};
+ghost use Rattle.rc_dbform.specs.Text.{OfBundle, Last, IsHead, IsBundleText, line_of_words, spell};
+ghost use Rattle.rc_dbform.specs.Text.{kind_word, flag_word, or_dash, text_behind};
 ghost use Rattle.rc_dbform.specs.Reading.{IsNumber, IsNoNumber, IsNoCount, IsRead, IsRefused, one};
 ghost use Rattle.rc_dbform.specs.Words.{IsPlain, IsOfWords, IsOfNoWords};
 

@@ -1,10 +1,12 @@
 -- The text of a database: names in place of ids, and its bytes.
-use Rattle.std.specs.Prelude.{ℕ, suc, Bool, true, false, List, [], ◌∷◌, map, unwrap_or, slice_index_or}
+use Rattle.std.specs.Prelude.{ℕ, suc, Bool, true, false, List, [], ◌∷◌, map, unwrap_or}
+use Rattle.std.specs.Prelude.{slice_index_or}
 use Rattle.std.specs.Option.{option_map}
 use Rattle.rc_model.specs.declared.Kind.{Kind}
 use Rattle.rc_model.specs.declared.Kind.TheVariants as kinds
 use Rattle.rc_model.specs.Database.{Service, Database}
-use Rattle.rc_dbform.specs.Text.{Head, Body, OfLongrun, OfOneshot, ServiceText, BundleText, DbText, db_text}
+use Rattle.rc_dbform.specs.Text.{Head, Body, OfLongrun, OfOneshot, ServiceText, BundleText, DbText}
+use Rattle.rc_dbform.specs.Text.{db_text}
 
 -- the members of a set, ascending
 abbrev pub members : List Bool → List ℕ

@@ -5,7 +5,8 @@ use Rattle.rc_dbform.specs.declared.fault.FormFault.TheVariants as form
 use Rattle.rc_dbform.specs.Text.{DbText, IsDbText, db_lines, db_text}
 use Rattle.rc_dbform.specs.Reading.{IsRefused}
 use Rattle.rc_dbtext.specs.declared.fault.TextFault.{TextFault}
-use Rattle.rc_dbtext.specs.declared.fault.TextFault.TheVariants.{Bad, Version, NotSorted, Cyclic, TooMany, Dangling, Memory}
+use Rattle.rc_dbtext.specs.declared.fault.TextFault.TheVariants.{Bad, Version, NotSorted, Cyclic}
+use Rattle.rc_dbtext.specs.declared.fault.TextFault.TheVariants.{TooMany, Dangling, Memory}
 use Rattle.rc_dbtext.specs.Meaning.{IsSorted, IsComplete, IsCyclic}
 
 -- the form of the prefix is refused for this

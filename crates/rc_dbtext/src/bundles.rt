@@ -1,5 +1,6 @@
 //! The bundles of a database, made of what a text says.
-ghost use Rattle.std.specs.Prelude.{◌≡◌, ◌<◌, ◌≤◌, ◌++◌, ◌∷◌, [], Bool, List, length, map, All, Contains, IfOk, IfSome, IfNone, OnOk};
+ghost use Rattle.std.specs.Prelude.{◌≡◌, ◌<◌, ◌≤◌, ◌++◌, ◌∷◌, [], Bool, List, length, map, All};
+ghost use Rattle.std.specs.Prelude.{Contains, IfOk, IfSome, IfNone, OnOk};
 ghost use Rattle.rc_model.specs.Names.{IsBefore, IsInByteOrder};
 ghost use Rattle.rc_model.specs.Database.{HaveBound, names_of};
 ghost use Rattle.rc_dbtext.specs.Meaning.{bundle_names};

@@ -8,7 +8,8 @@ ghost use Rattle.rc_dbform.specs.Text.{IsDbText};
 ghost use Rattle.rc_dbtext.specs.Meaning.{IsComplete, IsSorted, service_names};
 ghost use Rattle.rc_dbtext.specs.Parts.{AreNeedsOf};
 ghost use Rattle.rc_dbtext.specs.Spelling.{spelling, text_of};
-ghost use Rattle.rc_dbtext.specs.TextFaults.{BeginsWith, HasFormFault, IsFrontFault, IsMeaningFault, IsWholeFault};
+ghost use Rattle.rc_dbtext.specs.TextFaults.{BeginsWith, HasFormFault, IsFrontFault};
+ghost use Rattle.rc_dbtext.specs.TextFaults.{IsMeaningFault, IsWholeFault};
 
 use crate::build::{draft_of, graph_of, names_of, services_of};
 use crate::bundles::table_of;

@@ -8,5 +8,6 @@ pub no_fault : {T E : Type 0} {P : Type 0} (graph : T) (fault : E) → Ok graph 
 no_fault graph fault is = absurd (cc)
 
 -- a fault tells one cycle
-pub same_cycle : {T : Type 0} (told : Result T GraphFault) (ring other : List ℕ) → told ≡ Err (Cycle ring) → told ≡ Err (Cycle other) → ring ≡ other
+pub same_cycle : {T : Type 0} (told : Result T GraphFault) (ring other : List ℕ)
+    → told ≡ Err (Cycle ring) → told ≡ Err (Cycle other) → ring ≡ other
 same_cycle told ring other is other_is = cc

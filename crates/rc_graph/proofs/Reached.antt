@@ -1,7 +1,9 @@
 -- The loop that closes a set: lists are put in until all that is reached is in.
-use Rattle.std.proofs.Common.{◌≡◌, ◌∙◌, ℕ, ◌⊎◌, inl, inr, List, [], ◌∷◌, ◌++◌, Bool, Contains, length, ap, sym, subst, refl, arith}
+use Rattle.std.proofs.Common.{◌≡◌, ◌∙◌, ℕ, ◌⊎◌, inl, inr, List, [], ◌∷◌, ◌++◌, Bool, Contains}
+use Rattle.std.proofs.Common.{length, ap, sym, subst, refl, arith}
 use Rattle.std.proofs.lemmas.List.{length_push}
-use Rattle.std.proofs.lemmas.List.Elements.{Contains-append_left, Contains-push, Contains-push_cases}
+use Rattle.std.proofs.lemmas.List.Elements.{Contains-append_left, Contains-push}
+use Rattle.std.proofs.lemmas.List.Elements.{Contains-push_cases}
 use Rattle.rc_model.specs.Names.{Has, Holds}
 use Rattle.rc_model.specs.Line.{Lists}
 use Rattle.rc_model.specs.Graph.{Needs, UpFrom}

@@ -1,8 +1,10 @@
 -- The loop that turns the lists of needs round, service by service.
-use Rattle.std.proofs.Common.{◌≡◌, ◌∙◌, ℕ, ◌+◌, ◌<◌, ◌≤◌, ◌⊎◌, ◌↔◌, List, [], ◌∷◌, ◌++◌, Contains, inl, inr, arith, sym, subst, slice_index_or, length, replicate, refl}
+use Rattle.std.proofs.Common.{◌≡◌, ◌∙◌, ℕ, ◌+◌, ◌<◌, ◌≤◌, ◌⊎◌, ◌↔◌, List, [], ◌∷◌, ◌++◌, Contains}
+use Rattle.std.proofs.Common.{inl, inr, arith, sym, subst, slice_index_or, length, replicate, refl}
 use Rattle.std.proofs.lemmas.Bool.{cases_lt, cases_order}
 use Rattle.std.proofs.lemmas.List.{length-replicate, get_or-replicate, get_or_past}
-use Rattle.std.proofs.lemmas.List.Elements.{Contains-append_left, Contains-push, Contains-push_cases}
+use Rattle.std.proofs.lemmas.List.Elements.{Contains-append_left, Contains-push}
+use Rattle.std.proofs.lemmas.List.Elements.{Contains-push_cases}
 use Rattle.smallvec.specs.SmallVec.{SmallVec}
 use Rattle.rc_model.specs.Graph.{Needs, AreNeeds}
 use Rattle.rc_graph.specs.Needs.{IsReverse}
@@ -26,15 +28,22 @@ none_added old service lists =
     }
 
 -- one more of them
-pub one_added : (old mid new : List (List ℕ)) (list : List ℕ) (service x : ℕ) → HasAdded old mid list service → length new ≡ length mid → AreNeeds new → ((t s : ℕ) → Needs new t s ↔ (Needs mid t s ⊎ ((t ≡ x) × (s ≡ service)))) → HasAdded old new (list ++ x ∷ []) service
+pub one_added : (old mid new : List (List ℕ)) (list : List ℕ) (service x : ℕ)
+    → HasAdded old mid list service → length new ≡ length mid → AreNeeds new
+    → ((t s : ℕ) → Needs new t s ↔ (Needs mid t s ⊎ ((t ≡ x) × (s ≡ service))))
+    → HasAdded old new (list ++ x ∷ []) service
 one_added old mid new list service x before same lists pairs =
     record {
       bound = omega (arith, before.bound);
       lists = lists;
       pairs = λ t s. (
         λ h. elim ((pairs t s).0 h) [
-          | inl in_mid ↦ elim ((before.pairs t s).0 in_mid) [ inl in_old ↦ inl in_old | inr added ↦ inr (added.0, Contains-append_left list (x ∷ []) t added.1) ]
-          | inr added ↦ inr (added.1, subst (Contains (list ++ x ∷ [])) (sym added.0) (Contains-push list x))
+          | inl in_mid ↦ elim ((before.pairs t s).0 in_mid) [
+            | inl in_old ↦ inl in_old
+            | inr added ↦ inr (added.0, Contains-append_left list (x ∷ []) t added.1)
+          ]
+          | inr added ↦
+              inr (added.1, subst (Contains (list ++ x ∷ [])) (sym added.0) (Contains-push list x))
         ],
         λ h. (pairs t s).1 (elim h [
           | inl in_old ↦ inl ((before.pairs t s).1 (inl in_old))
@@ -55,7 +64,9 @@ pub record ReversesBelow (needs needed_by : List (List ℕ)) (bound : ℕ) : Typ
 no_row : (n s : ℕ) → slice_index_or (replicate {A = List ℕ} n []) s [] ≡ []
 no_row n s = elim (cases_lt s n) [
   | inl low ↦ get_or-replicate n s [] [] low
-  | inr high ↦ get_or_past (replicate n []) s [] (let n_long : length (replicate {A = List ℕ} n []) ≡ n = length-replicate n [] in omega arith)
+  | inr high ↦
+      get_or_past (replicate n []) s []
+      (let n_long : length (replicate {A = List ℕ} n []) ≡ n = length-replicate n [] in omega arith)
 ]
 
 no_need : (n s t : ℕ) → Needs (replicate n []) s t → ⊥
@@ -71,7 +82,8 @@ are_needs_none n few =
     }
 
 -- empty lists, at first
-pub none_reversed : (needs : List (List ℕ)) → AreNeeds needs → ReversesBelow needs (replicate (length needs) []) 0
+pub none_reversed : (needs : List (List ℕ)) → AreNeeds needs
+    → ReversesBelow needs (replicate (length needs) []) 0
 none_reversed needs lists =
     record {
       few = length-replicate (length needs) [];
@@ -80,7 +92,8 @@ none_reversed needs lists =
     }
 
 -- the pairs of one more service
-pub one_reversed : (needs mid new : List (List ℕ)) (s : ℕ) → ReversesBelow needs mid s → HasAdded mid new (slice_index_or needs s []) s → ReversesBelow needs new (s + 1)
+pub one_reversed : (needs mid new : List (List ℕ)) (s : ℕ) → ReversesBelow needs mid s
+    → HasAdded mid new (slice_index_or needs s []) s → ReversesBelow needs new (s + 1)
 one_reversed needs mid new s before added =
     record {
       few = omega (arith, before.few, added.bound);
@@ -99,7 +112,8 @@ one_reversed needs mid new s before added =
     }
 
 -- all of them
-pub all_reversed : (needs needed_by : List (List ℕ)) (n : ℕ) → length needs ≤ n → ReversesBelow needs needed_by n → IsReverse needs needed_by
+pub all_reversed : (needs needed_by : List (List ℕ)) (n : ℕ) → length needs ≤ n
+    → ReversesBelow needs needed_by n → IsReverse needs needed_by
 all_reversed needs needed_by n high reversed =
     record {
       few = reversed.few;

@@ -1,5 +1,6 @@
 -- One step of a walk over the graph: what a set and a list gain.
-use Rattle.std.specs.Prelude.{◌≡◌, ◌+◌, ◌≤◌, ◌⊎◌, ◌↔◌, ℕ, List, Bool, not, length, count_by, Contains}
+use Rattle.std.specs.Prelude.{◌≡◌, ◌+◌, ◌≤◌, ◌⊎◌, ◌↔◌, ℕ, List, Bool, not, length, count_by}
+use Rattle.std.specs.Prelude.{Contains}
 use Rattle.rc_model.specs.Names.{Has, Holds}
 
 -- a set gains what a list has, and another list gains what the set gains

@@ -52,9 +52,9 @@ pub fn looks_like_entry(sources: &Sources<'_>) -> Hint {
     search.said.hint()
 }
 
-/// Notes about the entries: which files are not looked at, which texts have a carriage return, which
-/// ends of pipelines get no pipe, and which bundles have no contents. Each but the first stands on a
-/// line of its own, behind the word `undorc: `.
+/// Notes about the entries: which files are not looked at, which texts have a carriage return,
+/// which ends of pipelines get no pipe, and which bundles have no contents. Each but the first
+/// stands on a line of its own, behind the word `undorc: `.
 pub fn unread_files(sources: &Sources<'_>) -> Hint {
     let mut search = sources.search();
     add_all(&mut search);

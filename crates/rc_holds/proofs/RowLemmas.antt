@@ -1,5 +1,6 @@
 -- Lists in a table of vectors: what a row holds, and empty rows that are added.
-use Rattle.std.proofs.Common.{◌≡◌, ◌∙◌, ℕ, ◌+◌, ◌<◌, ◌≤◌, ◌↔◌, List, [], ◌∷◌, ◌++◌, All, Contains, length, replicate, slice_index_or, ap, sym, subst, arith}
+use Rattle.std.proofs.Common.{◌≡◌, ◌∙◌, ℕ, ◌+◌, ◌<◌, ◌≤◌, ◌↔◌, List, [], ◌∷◌, ◌++◌, All, Contains}
+use Rattle.std.proofs.Common.{length, replicate, slice_index_or, ap, sym, subst, arith}
 use Rattle.std.specs.Global.{Vec}
 use Rattle.std.proofs.lemmas.List.{get_or-map, length-map, map_push, replicate_more}
 use Rattle.std.proofs.lemmas.List.Elements.{Contains-get_or}

@@ -4,7 +4,8 @@ use Rattle.std.specs.Option.{option_to_list}
 use Rattle.rc_model.specs.Graph.{Needs}
 use Rattle.rc_source.specs.Meaning.{Meaning}
 use Rattle.rc_holds.specs.declared.rows.Listed.{Listed}
-use Rattle.rc_holds.specs.declared.rows.Listed.TheVariants.{Dependencies, Consumers, Contents, Producer}
+use Rattle.rc_holds.specs.declared.rows.Listed.TheVariants.{Dependencies, Consumers, Contents}
+use Rattle.rc_holds.specs.declared.rows.Listed.TheVariants.{Producer}
 use Rattle.rc_holds.specs.Pipelines.{IsDefined}
 
 -- a list of a definition

@@ -1,5 +1,6 @@
 -- Definitions whose pipes and names fit, and the sets of services of their bundles.
-use Rattle.std.specs.Prelude.{◌≡◌, ◌↔◌, ℕ, Bool, List, [], Contains, Some, slice_get, slice_index_or}
+use Rattle.std.specs.Prelude.{◌≡◌, ◌↔◌, ℕ, Bool, List, [], Contains, Some, slice_get}
+use Rattle.std.specs.Prelude.{slice_index_or}
 use Rattle.rc_model.specs.Names.{Has}
 use Rattle.rc_model.specs.Graph.{UpFrom}
 use Rattle.rc_source.specs.Meaning.{Meaning}

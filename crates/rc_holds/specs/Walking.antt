@@ -1,5 +1,6 @@
 -- One step of a walk: a list is met, and what of it is new is left to follow.
-use Rattle.std.specs.Prelude.{◌≡◌, ◌≤◌, ◌+◌, ◌⊎◌, ◌↔◌, ℕ, Bool, List, not, length, count_by, Contains}
+use Rattle.std.specs.Prelude.{◌≡◌, ◌≤◌, ◌+◌, ◌⊎◌, ◌↔◌, ℕ, Bool, List, not, length, count_by}
+use Rattle.std.specs.Prelude.{Contains}
 use Rattle.rc_model.specs.Names.{Has, Holds}
 
 -- a list is met: all of it is seen, what of it is new is to be followed, and no

@@ -1,5 +1,6 @@
 // What definitions list, by the places of names in tables.
-ghost use Rattle.std.specs.Prelude.{◌≡◌, ◌⊎◌, ◌↔◌, ℕ, List, [], length, replicate, map, Contains, Some, slice_get, IfOk, OnOk};
+ghost use Rattle.std.specs.Prelude.{◌≡◌, ◌⊎◌, ◌↔◌, ℕ, List, [], length, replicate, map, Contains};
+ghost use Rattle.std.specs.Prelude.{Some, slice_get, IfOk, OnOk};
 ghost use Rattle.std.specs.Option.{option_to_list};
 ghost use Rattle.rc_model.specs.Names.{IsInByteOrder};
 ghost use Rattle.rc_model.specs.Graph.{Needs};

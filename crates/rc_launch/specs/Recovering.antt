@@ -9,7 +9,8 @@ use Rattle.rc_recovery.specs.RunLog.{HasNothing, IsEntered, IsUnfit}
 use Rattle.rc_files.specs.Files.{Files}
 use Rattle.rc_crash.specs.Recoveries.{IsCutRecovery}
 use Rattle.rc_launch.specs.declared.recovering.Unrecovered.{Unrecovered}
-use Rattle.rc_launch.specs.declared.recovering.Unrecovered.TheVariants.{Database as NoDatabase, Memory}
+use Rattle.rc_launch.specs.declared.recovering.Unrecovered.TheVariants.{Database as NoDatabase}
+use Rattle.rc_launch.specs.declared.recovering.Unrecovered.TheVariants.{Memory}
 
 -- of the database that a text spells this holds
 abbrev pub IsOn : List ℕ → (Database → Type 0) → Type 0

@@ -43,7 +43,8 @@ IsLineOf request (OneLine once) = once.now ≡ request.once
 
 -- a command was carried out on what was read, with this status: as a session of lines, or of one
 -- line, as an update, a restart, a seal or a question
-abbrev pub Carries : Loaded → (log : List ℕ) → LiveFile → (status : ℕ) → Dealing → (reader writer keeper : Type 0)
+abbrev pub Carries : Loaded → (log : List ℕ) → LiveFile → (status : ℕ) → Dealing
+    → (reader writer keeper : Type 0)
     → (before after : Option (List ℕ)) → Type 0
 Carries (loaded.Lines request base) log file status deal reader writer keeper before after =
     Launches Lines (asked_with (session_ask_of request) (option_map bytes_in base) file) status

@@ -2,7 +2,8 @@
 ghost use Rattle.std.specs.Prelude.{◌≡◌, ◌≢◌, ℕ, List, IfErr, IfNone, IfOk, IfSome, IsErrOf};
 ghost use Rattle.rc_recovery.specs.RunLog.{HasNothing, IsEntered, IsUnfit};
 ghost use Rattle.rc_files.specs.Files.{Files};
-ghost use Rattle.rc_launch.specs.Recovering.{IsNoBase, IsOn, IsUnread, Leaves, LeavesCut, LeavesNothing, LeavesUnfit};
+ghost use Rattle.rc_launch.specs.Recovering.{IsNoBase, IsOn, IsUnread, Leaves, LeavesCut};
+ghost use Rattle.rc_launch.specs.Recovering.{LeavesNothing, LeavesUnfit};
 
 use rc_base::database_of;
 use rc_crash::{FilesFault, recover_files};
@@ -74,8 +75,8 @@ pub fn recover_by<F: TwoFiles>(
     }
 }
 
-/// The report of what a recovery would enter of the bytes of the two files. `None`: there is nothing
-/// to enter.
+/// The report of what a recovery would enter of the bytes of the two files. `None`: there is
+/// nothing to enter.
 pub fn left_report(
     alloc: Global,
     base: &[u8],

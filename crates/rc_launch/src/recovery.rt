@@ -12,9 +12,9 @@ use rc_cli::begins_update;
 use rc_names::NoMem;
 use rc_streams::{live_lock, run_file, stop_file};
 
-/// What is found beside the file of a session: where it is locked, what a command that was cut short
-/// has moved is entered; and where it is shown where services stand, the run log is read. The second
-/// value: whether what was entered is the first step of the update that is asked for.
+/// What is found beside the file of a session: where it is locked, what a command that was cut
+/// short has moved is entered; and where it is shown where services stand, the run log is read. The
+/// second value: whether what was entered is the first step of the update that is asked for.
 pub(crate) fn note_of<'a>(
     rt: &HostRuntime,
     live: Option<&'a str>,
@@ -37,8 +37,8 @@ pub(crate) fn note_of<'a>(
 }
 
 // Enters what the run log of a session leaves, by the first database that the log fits, and removes
-/// what called its command off. The second value: whether that was the first step of the update that
-/// is asked for.
+/// what called its command off. The second value: whether that was the first step of the update
+/// that is asked for.
 fn recover<'a>(
     rt: &HostRuntime,
     path: &'a str,

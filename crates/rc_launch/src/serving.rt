@@ -137,8 +137,8 @@ fn base_in<'b>(base: &'b Option<FileText<'_>>) -> Option<&'b [u8]>
     }
 }
 
-/// A longrun that a command of one line or a restart would move, where programs are started and none
-/// controls longruns.
+/// A longrun that a command of one line or a restart would move, where programs are started and
+/// none controls longruns.
 pub fn uncontrolled_in(rt: &HostRuntime, opened: &Opened<'_>) -> Option<String>
     ensures { IfSome result (λ name. (file : LiveFile)
         × IsReadAs (λ bytes. bytes.items) opened.now.live.found file

@@ -1,6 +1,8 @@
 -- How a line is kept, for its view alone: the current state, and two stacks of entries.
 -- No public contract speaks of it.
-use Rattle.std.specs.Prelude.{◌≡◌, ◌≢◌, ◌⊎◌, ◌+◌, ◌≤◌, ◌<◌, ℕ, suc, Contains, slice_get, drop, List, [], ◌∷◌, reverse, Bool, true, false, Option, Some, None, length, slice_set, vec_len, vec_capacity}
+use Rattle.std.specs.Prelude.{◌≡◌, ◌≢◌, ◌⊎◌, ◌+◌, ◌≤◌, ◌<◌, ℕ, suc, Contains, slice_get, drop, List}
+use Rattle.std.specs.Prelude.{[], ◌∷◌, reverse, Bool, true, false, Option, Some, None, length}
+use Rattle.std.specs.Prelude.{slice_set, vec_len, vec_capacity}
 use Rattle.std.specs.Global.{Vec}
 use Rattle.std.specs.Ordering.{nat_cmp}
 use Rattle.std.specs.Cmp.Lexicographic.{slice_cmp}
@@ -9,7 +11,8 @@ use Rattle.rc_line.specs.declared.aim.Aim.{Aim}
 use Rattle.rc_line.specs.declared.aim.Aim.TheVariants.{Change, Edit, Undo, Redo}
 use Rattle.rc_line.specs.declared.room.Room.{Room}
 use Rattle.rc_model.specs.Database.{Bundles, IsTable, value_of}
-use Rattle.rc_model.specs.Line.{Alteration, State, Entry, IsGained, IsEntry, Line, IsBound, states, Lists}
+use Rattle.rc_model.specs.Line.{Alteration, State, Entry, IsGained, IsEntry, Line, IsBound, states}
+use Rattle.rc_model.specs.Line.{Lists}
 
 -- which of its two values an alteration leads to
 abbrev pub towards : Bool → Alteration → Option (List Bool)

@@ -3,7 +3,9 @@
 ghost use Rattle.std.specs.Prelude.{◌≡◌, ◌⊎◌, ◌≤◌, ◌<◌, ℕ, [], suc, length, List, Bool, ◌++◌, ◌∷◌};
 ghost use Rattle.std.specs.Prelude.{take, drop, Some, slice_get};
 ghost use Rattle.rc_model.specs.Database.{IsTable};
-ghost use Rattle.rc_model.specs.Line.{State, Entry, IsEntry, entry_back, Line, IsLine, IsNext, states, cursor, within_bound, MovesTo, MovesByUndo, MovesByRedo};
+ghost use Rattle.rc_model.specs.Line.{State, Entry, IsEntry, entry_back, Line, IsLine, IsNext};
+ghost use Rattle.rc_model.specs.Line.{states, cursor, within_bound, MovesTo, MovesByUndo};
+ghost use Rattle.rc_model.specs.Line.{MovesByRedo};
 
 /// The inverse of an entry is the entry back.
 pub fn entries_turn_round()

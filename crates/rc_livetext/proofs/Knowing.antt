@@ -1,5 +1,7 @@
 -- What states name, as it is looked up.
-use Rattle.std.proofs.Common.{◌≡◌, ◌∙◌, ◌+◌, ◌<◌, ◌++◌, ◌∷◌, ℕ, Bool, true, false, not, List, [], Some, length, take, get_or, slice_get, Contains, All, refl, sym, ap, subst}
+use Rattle.std.proofs.Common.{◌≡◌, ◌∙◌, ◌+◌, ◌<◌, ◌++◌, ◌∷◌, ℕ, Bool, true, false, not, List, []}
+use Rattle.std.proofs.Common.{Some, length, take, get_or, slice_get, Contains, All, refl, sym, ap}
+use Rattle.std.proofs.Common.{subst}
 use Rattle.std.proofs.lemmas.Bool.{false≢true}
 use Rattle.std.proofs.lemmas.List.{take_more}
 use Rattle.std.proofs.lemmas.Option.{get_or_from_slice_get}
@@ -20,15 +22,21 @@ same_text a b told = by (bytes_eq a b) refl told
     by false is told = absurd (false≢true (sym told))
 
 -- one name more that is the same
-pub same_more : (xs ys : List (List ℕ)) (i : ℕ) (x y : List ℕ) → i < length xs → x ≡ get_or xs i x → slice_get ys i ≡ Some y → x ≡ y → take i xs ≡ take i ys → take (i + 1) xs ≡ take (i + 1) ys
+pub same_more : (xs ys : List (List ℕ)) (i : ℕ) (x y : List ℕ) → i < length xs → x ≡ get_or xs i x
+    → slice_get ys i ≡ Some y → x ≡ y → take i xs ≡ take i ys → take (i + 1) xs ≡ take (i + 1) ys
 same_more xs ys i x y within here there same so_far =
-    take_more xs i x within ∙ (ap (λ (l : List (List ℕ)). l ++ get_or xs i x ∷ []) so_far ∙ ap (λ (z : List ℕ). take i ys ++ z ∷ []) (sym here ∙ same) ∙ sym (take_next ys i y there))
+    take_more xs i x within
+    ∙ (ap (λ (l : List (List ℕ)). l ++ get_or xs i x ∷ []) so_far
+    ∙ ap (λ (z : List ℕ). take i ys ++ z ∷ []) (sym here ∙ same) ∙ sym (take_next ys i y there))
 
 -- names of which one is told apart are others
-pub other_names : (xs ys : List (List ℕ)) (i : ℕ) (x y : List ℕ) → x ≡ get_or xs i x → slice_get ys i ≡ Some y → (a b : List ℕ) → a ≡ x → b ≡ y → not (bytes_eq a b) ≡ true → xs ≡ ys → ⊥
+pub other_names : (xs ys : List (List ℕ)) (i : ℕ) (x y : List ℕ) → x ≡ get_or xs i x
+    → slice_get ys i ≡ Some y → (a b : List ℕ) → a ≡ x → b ≡ y → not (bytes_eq a b) ≡ true → xs ≡ ys
+    → ⊥
 other_names xs ys i x y here there a b is_a is_b told same =
     let at : get_or ys i x ≡ y = get_or_from_slice_get ys i y x there in
-    let both : a ≡ b = is_a ∙ here ∙ ap (λ (l : List (List ℕ)). get_or l i x) same ∙ at ∙ sym is_b in
+    let both : a ≡ b =
+    is_a ∙ here ∙ ap (λ (l : List (List ℕ)). get_or l i x) same ∙ at ∙ sym is_b in
     false≢true (sym (ap not ((bytes_eq-Decides a b).1 both)) ∙ told)
 
 -- bundles whose members are known have names of services alone

@@ -5,7 +5,8 @@ use Rattle.std.proofs.lemmas.List.Elements.{All-nil, All-push}
 use Rattle.rc_textform.specs.Words.{BundleText}
 use Rattle.rc_textform.specs.Form.{spells}
 use Rattle.rc_livetext.specs.Text.{Line, First, OfServices, OfBound, OfState, OfBundle, Last}
-use Rattle.rc_livetext.specs.Text.{StateText, IsStateText, AreAscending, IsBundleText, state_lines, spell}
+use Rattle.rc_livetext.specs.Text.{StateText, IsStateText, AreAscending, IsBundleText, state_lines}
+use Rattle.rc_livetext.specs.Text.{spell}
 use Rattle.rc_livetext.specs.Following.{Place, AtFirst, AtServices, AtBound, AtStates, InState}
 use Rattle.rc_livetext.specs.Following.{May, place_after, IsNoLineHere}
 use Rattle.rc_livetext.specs.Held.{AreBundles, HasBundles, HasNoMore, HasNo, HasStates}
@@ -52,7 +53,8 @@ no_states bytes = (All-nil IsStateText, refl)
 
 -- one state more
 pub one_state : (s : StateText) (states : List StateText) (bytes rest middle behind : List ℕ)
-    → HasStates bytes states rest → AreAscending s.live → rest ≡ spell (OfState false s.live) ++ middle
+    → HasStates bytes states rest → AreAscending s.live
+    → rest ≡ spell (OfState false s.live) ++ middle
     → HasBundles middle s.bundles behind → HasStates bytes (states ++ s ∷ []) behind
 one_state s states bytes rest middle behind has live line bundles = (
   All-push IsStateText states s has.0 (state_is s live bundles.0),
@@ -76,7 +78,8 @@ behind_state seen place states s opens each is =
 -- where no more bundles of the last state stand
 pub none_behind : (seen : Bool) (place : Place) (states : List StateText) (s : StateText)
     (rest : List ℕ) → IsOpenTo seen place → All IsStateText states → IsStateText s
-    → HasNoMore s.bundles rest → HasNoBundle (place_after place (states_lines (states ++ s ∷ []))) rest
+    → HasNoMore s.bundles rest
+    → HasNoBundle (place_after place (states_lines (states ++ s ∷ []))) rest
 none_behind seen place states s rest opens each is none =
     let F : Place → Type 0 = λ p. HasNoBundle p rest in
     subst F (sym (behind_state seen place states s opens each is)) none
@@ -139,13 +142,21 @@ not_again (InState seen bundles) names opens may = may.1 opens refl
 not_again place names opens may = opens
 
 -- where no line stands at all, reading states stops
-pub stops_here : (place : Place) (bytes rest : List ℕ) (states : List StateText) (fault : FormFault) → HasStates bytes states rest → IsMissing IsSaid (λ l. l) rest fault → Stops place bytes fault
-stops_here place bytes rest states (Bad left) has missing = record { states = states; rest = rest; has = has; size = missing.0; none = no_line (place_after place (states_lines states)) rest missing.1 }
+pub stops_here : (place : Place) (bytes rest : List ℕ) (states : List StateText) (fault : FormFault)
+    → HasStates bytes states rest → IsMissing IsSaid (λ l. l) rest fault → Stops place bytes fault
+stops_here place bytes rest states (Bad left) has missing = record {
+  states = states;
+  rest = rest;
+  has = has;
+  size = missing.0;
+  none = no_line (place_after place (states_lines states)) rest missing.1;
+}
 stops_here place bytes rest states Version has missing = absurd missing
 stops_here place bytes rest states Memory has missing = tt
 
 -- it may run out of memory anywhere
-pub stops_short : (place : Place) (bytes : List ℕ) (fault : FormFault) → fault ≡ Memory → Stops place bytes fault
+pub stops_short : (place : Place) (bytes : List ℕ) (fault : FormFault) → fault ≡ Memory
+    → Stops place bytes fault
 stops_short place bytes fault is = subst (Stops place bytes) (sym is) tt
 
 -- no bundle stands where another byte does
@@ -161,7 +172,8 @@ no_bundle_here line rest behind said here other b tail is same =
     apart line other
     (first_once (line_text line) (OfBundle b) behind tail said is (sym here ∙ same)).0
   where
-    apart : (one : LineForm) → ((c : BundleText) → one ≡ form.Bundle c → ⊥) → line_text one ≡ OfBundle b → ⊥
+    apart : (one : LineForm) → ((c : BundleText) → one ≡ form.Bundle c → ⊥)
+        → line_text one ≡ OfBundle b → ⊥
     apart (form.First bounded) differs is = absurd (cc)
     apart (form.Services names) differs is = absurd (cc)
     apart (form.Bound bound) differs is = absurd (cc)

@@ -8,7 +8,8 @@ use Rattle.rc_livetext.specs.declared.form_fault.FormFault.TheVariants.{Bad, Ver
 use Rattle.rc_livetext.specs.Text.{Line, OfState, Last, StateText, AreAscending}
 use Rattle.rc_livetext.specs.Text.{IsBound, head_lines, state_lines, spell}
 use Rattle.rc_livetext.specs.Refusals.{BeginsWith, IsRefused}
-use Rattle.rc_livetext.specs.Following.{Place, AtFirst, AtStates, InState, Part, part_lines, place_after}
+use Rattle.rc_livetext.specs.Following.{Place, AtFirst, AtStates, InState, Part, part_lines}
+use Rattle.rc_livetext.specs.Following.{place_after}
 use Rattle.rc_livetext.specs.Following.{IsNoLineHere}
 use Rattle.rc_livetext.specs.Held.{HasBundles, HasStates, Stops, states_lines}
 use Rattle.rc_livetext.proofs.Heading.{front_one}
@@ -43,7 +44,8 @@ module _ (services : List (List ℕ)) (bound : Option ℕ) (bytes states_at : Li
       ∙ ap (place_after AtStates) (append-nil lines) in
       let front : bytes ≡ spells spell (part_lines p) ++ stops.rest =
       joins (head_lines services bound) (lines ++ []) bytes states_at stops.rest head
-      (stops.has.1 ∙ ap (λ (ls : List Line). spells spell ls ++ stops.rest) (sym (append-nil lines))) in
+      (stops.has.1 ∙ ap (λ (ls : List Line). spells spell ls ++ stops.rest)
+      (sym (append-nil lines))) in
       let None_here : Place → Type 0 = λ q. IsNoLineHere q stops.rest in
       let stuck = part_stuck p bytes stops.rest
       (record { services = services_are; bound = bound_is; before = stops.has.0; current = tt })
@@ -60,7 +62,8 @@ module _ (services : List (List ℕ)) (bound : Option ℕ) (bytes states_at : Li
         → bytes ≡ spells spell (head_lines services bound
         ++ (states_lines before ++ (state_lines true current ++ more))) ++ rest
     front_with more rest next =
-        joins (head_lines services bound) (states_lines before ++ (state_lines true current ++ more))
+        joins (head_lines services bound)
+        (states_lines before ++ (state_lines true current ++ more))
         bytes states_at rest head
         (joins (states_lines before) (state_lines true current ++ more) states_at
         (spell (OfState true current.live) ++ bundles_at) rest has.1
@@ -87,7 +90,8 @@ module _ (services : List (List ℕ)) (bound : Option ℕ) (bytes states_at : Li
         let there = (states_may AtStates false before refl has.0).1 in
         let one = state_may (place_after AtStates (states_lines before)) false true current there
         (λ bad _. (let no : false ≡ true = bad in cc)) (state_is current live bundles.0) in
-        let at : place_after AtFirst (part_lines p) ≡ place_after (InState true current.bundles) lines =
+        let at : place_after AtFirst (part_lines p)
+        ≡ place_after (InState true current.bundles) lines =
         reached_join AtFirst (head_lines services bound) (states_lines before ++ (own ++ lines))
         ∙ ap (λ (q : Place). place_after q (states_lines before ++ (own ++ lines)))
         (head_reached services bound)
@@ -108,7 +112,15 @@ module _ (services : List (List ℕ)) (bound : Option ℕ) (bytes states_at : Li
     -- and those after it, and the last line
     pub whole : (after : List StateText) (rest : List ℕ)
         → HasStates behind after (spell Last ++ rest)
-        → BeginsWith bytes (record { services = services; bound = bound; before = before; current = current; after = after }) rest
+        → BeginsWith bytes
+        (record {
+          services = services;
+          bound = bound;
+          before = before;
+          current =
+              current;
+          after = after;
+        }) rest
     whole after rest ends = (
       record {
         services = services_are;

@@ -3,9 +3,11 @@ ghost use Rattle.std.specs.Prelude.{◌≡◌, ◌↔◌, ◌++◌, List, true, 
 ghost use Rattle.std.specs.Bool.{OnFalse};
 ghost use Rattle.rc_model.specs.Names.{IsBefore};
 ghost use Rattle.rc_textform.specs.Words.{BundleText};
-ghost use Rattle.rc_livetext.specs.Text.{AreAscending, IsBundleText, OfBundle, OfState, Last, spell};
+ghost use Rattle.rc_livetext.specs.Text.{AreAscending, IsBundleText, OfBundle, OfState, Last};
+ghost use Rattle.rc_livetext.specs.Text.{spell};
 ghost use Rattle.rc_livetext.specs.Following.{MayAdd, AtStates, InState};
-ghost use Rattle.rc_livetext.specs.Held.{AreBundles, HasBundles, HasNo, HasNoMore, HasStates, Stops};
+ghost use Rattle.rc_livetext.specs.Held.{AreBundles, HasBundles, HasNo, HasNoMore, HasStates};
+ghost use Rattle.rc_livetext.specs.Held.{Stops};
 
 use crate::form_fault::FormFault;
 use crate::heads::next_line;

@@ -1,5 +1,6 @@
 //! From a line of states to its text.
-ghost use Rattle.std.specs.Prelude.{◌≡◌, ◌++◌, false, length, map, slice_get, All, Some, IfOk, OnOk};
+ghost use Rattle.std.specs.Prelude.{◌≡◌, ◌++◌, false, length, map, slice_get, All, Some, IfOk};
+ghost use Rattle.std.specs.Prelude.{OnOk};
 ghost use Rattle.rc_model.specs.Database.{HaveBound};
 ghost use Rattle.rc_model.specs.Line.{states, cursor};
 ghost use Rattle.rc_textform.specs.Form.{spells};

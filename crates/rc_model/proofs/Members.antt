@@ -1,5 +1,6 @@
 -- Members of lists: head by head, and by their places.
-use Rattle.std.proofs.Common.{◌≡◌, ◌∙◌, ◌<◌, ◌⊎◌, inl, inr, ℕ, zero, suc, List, [], ◌∷◌, length, slice_get, slice_index_or, Some, Contains, refl, ap, arith}
+use Rattle.std.proofs.Common.{◌≡◌, ◌∙◌, ◌<◌, ◌⊎◌, inl, inr, ℕ, zero, suc, List, [], ◌∷◌, length}
+use Rattle.std.proofs.Common.{slice_get, slice_index_or, Some, Contains, refl, ap, arith}
 use Rattle.std.proofs.lemmas.Option.{slice_get-get_or, slice_get_within, get_or_from_slice_get}
 
 module _ {X : Type 0} where
@@ -25,5 +26,6 @@ module _ {X : Type 0} where
   contains_at xs k x at = (k, slice_get_within xs k x at, get_or_from_slice_get xs k x x at)
 
   -- what stands at a place
-  pub at_place : (xs : List X) (k : ℕ) (x d : X) → slice_get xs k ≡ Some x → (k < length xs) × (slice_index_or xs k d ≡ x)
+  pub at_place : (xs : List X) (k : ℕ) (x d : X) → slice_get xs k ≡ Some x
+      → (k < length xs) × (slice_index_or xs k d ≡ x)
   at_place xs k x d at = (slice_get_within xs k x at, get_or_from_slice_get xs k x d at)

@@ -1,5 +1,6 @@
 -- Sets of one bound with the same members are equal, and a set that is copied id by id.
-use Rattle.std.proofs.Common.{◌≡◌, ℕ, ◌<◌, ◌≤◌, ◌↔◌, List, [], ◌∷◌, Bool, true, false, zero, suc, length, inl, inr, arith, refl, sym}
+use Rattle.std.proofs.Common.{◌≡◌, ℕ, ◌<◌, ◌≤◌, ◌↔◌, List, [], ◌∷◌, Bool, true, false, zero, suc}
+use Rattle.std.proofs.Common.{length, inl, inr, arith, refl, sym}
 use Rattle.std.proofs.lemmas.Bool.{cases_lt}
 use Rattle.rc_model.specs.Names.{Has}
 use Rattle.rc_model.proofs.SetMembers.{has_within}
@@ -27,12 +28,14 @@ pub record HasBelow (with : List Bool) (bound : ℕ) (set : List Bool) : Type 0 
   pub same : (s : ℕ) → s < bound → Has set s ↔ Has with s
 
 -- all ids below the bound are all
-pub all_below : (with : List Bool) (bound : ℕ) (set : List Bool) → length with ≤ bound → HasBelow with bound set → set ≡ with
+pub all_below : (with : List Bool) (bound : ℕ) (set : List Bool) → length with ≤ bound
+    → HasBelow with bound set → set ≡ with
 all_below with bound set whole h =
     same_set set with h.many (λ s. elim (cases_lt s bound) [
       | inl low ↦ h.same s low
       | inr high ↦ (
-        λ in_set. let within : s < length set = has_within set s in_set in absurd (omega (arith, h.many)),
+        λ in_set. let within : s < length set = has_within set s in_set in
+            absurd (omega (arith, h.many)),
         λ in_with. let within : s < length with = has_within with s in_with in absurd (omega arith),
       )
     ])

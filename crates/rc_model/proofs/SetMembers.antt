@@ -1,5 +1,6 @@
 -- A set has a service or lacks it, and has none beyond its bound.
-use Rattle.std.proofs.Common.{◌≡◌, ◌≢◌, ℕ, ◌<◌, ◌⊎◌, inl, inr, List, [], ◌∷◌, Bool, true, false, zero, suc, length, slice_index_or, refl, arith}
+use Rattle.std.proofs.Common.{◌≡◌, ◌≢◌, ℕ, ◌<◌, ◌⊎◌, inl, inr, List, [], ◌∷◌, Bool, true, false}
+use Rattle.std.proofs.Common.{zero, suc, length, slice_index_or, refl, arith}
 use Rattle.rc_model.specs.Names.{Has}
 
 -- a flag is set or not

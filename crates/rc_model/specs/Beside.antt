@@ -10,12 +10,15 @@ use Rattle.rc_model.specs.declared.PlanFault.{PlanFault}
 use Rattle.rc_model.specs.declared.BundleFault.{BundleFault}
 use Rattle.rc_model.specs.declared.LineFault.{LineFault}
 use Rattle.rc_model.specs.declared.Refusal.{Refusal}
-use Rattle.rc_model.specs.declared.Refusal.TheVariants.{PruneNeedsUp, Unknown, IsAtomic, Exists, Missing, Full, NothingToUndo, NothingToRedo, NotEdit, Memory}
+use Rattle.rc_model.specs.declared.Refusal.TheVariants.{PruneNeedsUp, Unknown, IsAtomic, Exists}
+use Rattle.rc_model.specs.declared.Refusal.TheVariants.{Missing, Full, NothingToUndo, NothingToRedo}
+use Rattle.rc_model.specs.declared.Refusal.TheVariants.{NotEdit, Memory}
 use Rattle.rc_model.specs.declared.PlanFault.TheVariants as plan_fault
 use Rattle.rc_model.specs.declared.BundleFault.TheVariants as bundle_fault
 use Rattle.rc_model.specs.declared.LineFault.TheVariants as line_fault
 use Rattle.rc_model.specs.Session.{Command, Change, Undo, Redo, Add, Delete, Reported, IsOwnFault}
-use Rattle.rc_model.specs.Headline.{RanInOrder, IsEntered, EntersEdit, KeepsHistory, WentWell, Leaves, LeavesAhead, HasRun}
+use Rattle.rc_model.specs.Headline.{RanInOrder, IsEntered, EntersEdit, KeepsHistory, WentWell}
+use Rattle.rc_model.specs.Headline.{Leaves, LeavesAhead, HasRun}
 
 -- what is up in the end where all goes well: what is up and not to go down, and what is to come up
 abbrev pub TargetOf : Course → ℕ → Type 0

@@ -1,5 +1,6 @@
 -- Services and bundles, and what words stand for.
-use Rattle.std.specs.Prelude.{◌<◌, ◌^◌, ℕ, Bool, List, Option, ◌≡◌, ◌≢◌, ◌≤◌, [], ◌∷◌, length, map, All, Some, None, if◌then◌else◌, true, Contains, slice_get, ◌⊎◌, take}
+use Rattle.std.specs.Prelude.{◌<◌, ◌^◌, ℕ, Bool, List, Option, ◌≡◌, ◌≢◌, ◌≤◌, [], ◌∷◌, length, map}
+use Rattle.std.specs.Prelude.{All, Some, None, if◌then◌else◌, true, Contains, slice_get, ◌⊎◌, take}
 use Rattle.rc_model.specs.declared.Kind.{Kind}
 use Rattle.std.specs.Str.{bytes_eq}
 use Rattle.rc_model.specs.Names.{IsName, IsInByteOrder, AreNames, Has}

@@ -1,5 +1,6 @@
 -- Who needs whom: paths, cycles, and what is closed.
-use Rattle.std.specs.Prelude.{◌<◌, ◌≤◌, ℕ, List, [], ◌∷◌, ◌++◌, length, slice_index_or, Contains, ◌⊎◌}
+use Rattle.std.specs.Prelude.{◌<◌, ◌≤◌, ℕ, List, [], ◌∷◌, ◌++◌, length, slice_index_or, Contains}
+use Rattle.std.specs.Prelude.{◌⊎◌}
 use Rattle.rc_model.specs.Names.{IsAscending}
 
 -- s needs t, where the s-th list says what s needs

@@ -1,13 +1,17 @@
 -- What holds all along of commands that are played.
-use Rattle.std.specs.Prelude.{◌≡◌, ◌≢◌, ◌≤◌, ◌<◌, ◌+◌, ◌-◌, ◌⊎◌, ℕ, false, List, [], ◌∷◌, ◌++◌, length, take, drop, All, Option, Some, slice_get, Result, Ok, Err}
+use Rattle.std.specs.Prelude.{◌≡◌, ◌≢◌, ◌≤◌, ◌<◌, ◌+◌, ◌-◌, ◌⊎◌, ℕ, false, List, [], ◌∷◌, ◌++◌}
+use Rattle.std.specs.Prelude.{length, take, drop, All, Option, Some, slice_get, Result, Ok, Err}
 use Rattle.rc_model.specs.Names.{Has, Holds}
 use Rattle.rc_model.specs.Database.{Database, IsDatabase}
 use Rattle.rc_model.specs.Plan.{PlanSets, Ask, TargetOfAsk}
-use Rattle.rc_model.specs.Line.{Alteration, IsEdit, State, Entry, IsEntry, entry_back, Line, IsNext, IsEntryBefore, IsEntryAfter, states, cursor, put_last}
+use Rattle.rc_model.specs.Line.{Alteration, IsEdit, State, Entry, IsEntry, entry_back, Line, IsNext}
+use Rattle.rc_model.specs.Line.{IsEntryBefore, IsEntryAfter, states, cursor, put_last}
 use Rattle.rc_model.specs.declared.Event.{Event}
 use Rattle.rc_model.specs.Run.{course_of, IsStrictlyClosed}
 use Rattle.rc_model.specs.declared.Refusal.{Refusal}
-use Rattle.rc_model.specs.Session.{Command, Change, Undo, Redo, events_of, Reported, IsTask, EndsWith, DoesByEdit, Does, IsLineOf, Answers, Plays, Add, Delete}
+use Rattle.rc_model.specs.Session.{Command, Change, Undo, Redo, events_of, Reported, IsTask}
+use Rattle.rc_model.specs.Session.{EndsWith, DoesByEdit, Does, IsLineOf, Answers, Plays, Add}
+use Rattle.rc_model.specs.Session.{Delete}
 
 -- a command that a run carries out: a change, an undo or a redo
 abbrev pub HasRun : Command → Type 0

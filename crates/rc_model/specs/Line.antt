@@ -1,9 +1,13 @@
 -- States, edits of bundles, the entries between states, and the moves of a line.
-use Rattle.std.specs.Prelude.{◌≡◌, ◌≢◌, ◌↔◌, ℕ, Bool, List, map, Contains, Option, ◌≤◌, suc, false, length, All, Some, None, ◌<◌, ◌^◌, [], ◌∷◌, ◌++◌, slice_get, ltb, if◌then◌else◌, ◌⊎◌}
+use Rattle.std.specs.Prelude.{◌≡◌, ◌≢◌, ◌↔◌, ℕ, Bool, List, map, Contains, Option, ◌≤◌, suc, false}
+use Rattle.std.specs.Prelude.{length, All, Some, None, ◌<◌, ◌^◌, [], ◌∷◌, ◌++◌, slice_get, ltb}
+use Rattle.std.specs.Prelude.{if◌then◌else◌, ◌⊎◌}
 use Rattle.rc_model.specs.Names.{IsInByteOrder, Holds, Has, IsAscending}
-use Rattle.rc_model.specs.Database.{Bundles, value_of, Selected, IsKnown, IsFirst, IsUnknownAt, IsTable, IsBundle}
+use Rattle.rc_model.specs.Database.{Bundles, value_of, Selected, IsKnown, IsFirst, IsUnknownAt}
+use Rattle.rc_model.specs.Database.{IsTable, IsBundle}
 use Rattle.rc_model.specs.declared.BundleFault.{BundleFault}
-use Rattle.rc_model.specs.declared.BundleFault.TheVariants.{IsAtomic, Exists, Missing, Unknown, Memory, Full}
+use Rattle.rc_model.specs.declared.BundleFault.TheVariants.{IsAtomic, Exists, Missing, Unknown}
+use Rattle.rc_model.specs.declared.BundleFault.TheVariants.{Memory, Full}
 
 -- what a change, an edit, an undo and a redo go
 -- between: the services that are live, and the bundles

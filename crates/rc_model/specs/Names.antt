@@ -1,5 +1,6 @@
 -- Names of services and bundles, their byte order, and sets of services.
-use Rattle.std.specs.Prelude.{◌≢◌, ◌<◌, ◌≤◌, ℕ, List, length, All, IsTrue, slice_index, codes, nat_eq, ◌≡◌, AllPairs, Bool, true, false, slice_index_or, ◌↔◌}
+use Rattle.std.specs.Prelude.{◌≢◌, ◌<◌, ◌≤◌, ℕ, List, length, All, IsTrue, slice_index, codes}
+use Rattle.std.specs.Prelude.{nat_eq, ◌≡◌, AllPairs, Bool, true, false, slice_index_or, ◌↔◌}
 use Rattle.std.specs.Str.{IsUtf8}
 use Rattle.std.specs.List.{starts_with}
 use Rattle.std.specs.Cmp.Lexicographic.{slice_cmp}

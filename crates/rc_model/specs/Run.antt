@@ -1,6 +1,7 @@
 -- Events, where services stand after them, which may come next, and when a run is settled.
 -- An event is a `Take`, a `Done` or a `Stop`; a service stands `Down`, `Rising`, `Up` or `Sinking`.
-use Rattle.std.specs.Prelude.{◌≡◌, ◌⊎◌, ℕ, List, Bool, Option, ◌==◌, true, false, if◌then◌else◌, slice_index_or, ◌≤◌, Contains, Some, slice_get, take, ◌≢◌}
+use Rattle.std.specs.Prelude.{◌≡◌, ◌⊎◌, ℕ, List, Bool, Option, ◌==◌, true, false, if◌then◌else◌}
+use Rattle.std.specs.Prelude.{slice_index_or, ◌≤◌, Contains, Some, slice_get, take, ◌≢◌}
 use Rattle.rc_model.specs.Names.{Has}
 use Rattle.rc_model.specs.Graph.{Needs}
 use Rattle.rc_model.specs.Plan.{PlanSets}

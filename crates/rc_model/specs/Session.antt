@@ -1,14 +1,21 @@
 -- Commands, what each does to the line, what is reported of it, and when it is refused.
-use Rattle.std.specs.Prelude.{ℕ, Bool, List, [], ◌≡◌, ◌+◌, ◌-◌, ◌^◌, ◌==◌, if◌then◌else◌, min, length, Option, None, Some, ◌↔◌, true, false, ◌⊎◌, All, take, slice_get, ◌∷◌, Result, Ok, Err}
+use Rattle.std.specs.Prelude.{ℕ, Bool, List, [], ◌≡◌, ◌+◌, ◌-◌, ◌^◌, ◌==◌, if◌then◌else◌, min}
+use Rattle.std.specs.Prelude.{length, Option, None, Some, ◌↔◌, true, false, ◌⊎◌, All, take}
+use Rattle.std.specs.Prelude.{slice_get, ◌∷◌, Result, Ok, Err}
 use Rattle.rc_model.specs.declared.Event.{Event}
 use Rattle.rc_model.specs.Plan.{Ask, PlanSets, IsPlanTo, IsPlanOf, CanPlan, IsPlanFault}
 use Rattle.rc_model.specs.Names.{Has, Holds}
 use Rattle.rc_model.specs.Database.{Database, Bundles, IsTable, HaveBound, AreApart}
-use Rattle.rc_model.specs.Run.{Course, IsLive, IsSettled, HasFailed, IsStopped, IsLeft, course_of, IsLegal, IsRun}
-use Rattle.rc_model.specs.Line.{Line, IsNext, MovesByChange, MovesByUndo, MovesByRedo, IsGained, Defines, Removes, CanAdd, CanDelete, State, IsLine, states, MovesByEdit, IsAddFault, IsDeleteFault, Lists}
+use Rattle.rc_model.specs.Run.{Course, IsLive, IsSettled, HasFailed, IsStopped, IsLeft, course_of}
+use Rattle.rc_model.specs.Run.{IsLegal, IsRun}
+use Rattle.rc_model.specs.Line.{Line, IsNext, MovesByChange, MovesByUndo, MovesByRedo, IsGained}
+use Rattle.rc_model.specs.Line.{Defines, Removes, CanAdd, CanDelete, State, IsLine, states}
+use Rattle.rc_model.specs.Line.{MovesByEdit, IsAddFault, IsDeleteFault, Lists}
 use Rattle.rc_model.specs.Graph.{IsClosed}
 use Rattle.rc_model.specs.declared.Refusal.{Refusal}
-use Rattle.rc_model.specs.declared.Refusal.TheVariants.{BadEvent, NotSettled, PruneNeedsUp, Unknown, IsAtomic, Exists, Missing, Full, NothingToUndo, NothingToRedo}
+use Rattle.rc_model.specs.declared.Refusal.TheVariants.{BadEvent, NotSettled, PruneNeedsUp, Unknown}
+use Rattle.rc_model.specs.declared.Refusal.TheVariants.{IsAtomic, Exists, Missing, Full}
+use Rattle.rc_model.specs.declared.Refusal.TheVariants.{NothingToUndo, NothingToRedo}
 use Rattle.rc_model.specs.declared.PlanFault.TheVariants as plan_fault
 use Rattle.rc_model.specs.declared.BundleFault.TheVariants as bundle_fault
 

@@ -1,5 +1,7 @@
 -- What adding a name answers at each of its exits.
-use Rattle.std.proofs.Common.{◌≡◌, ℕ, ◌+◌, ⊎_elim, inl, Bool, true, false, List, map, Option, Some, None, Result, Ok, Err, is_some, slice_get, Contains, IfSome, IfNone, IfOk, OnOk, OnErr, IsErr, arith, sym, ap, subst, ◌∙◌, true≢false}
+use Rattle.std.proofs.Common.{◌≡◌, ℕ, ◌+◌, ⊎_elim, inl, Bool, true, false, List, map, Option, Some}
+use Rattle.std.proofs.Common.{None, Result, Ok, Err, is_some, slice_get, Contains, IfSome, IfNone}
+use Rattle.std.proofs.Common.{IfOk, OnOk, OnErr, IsErr, arith, sym, ap, subst, ◌∙◌, true≢false}
 use Rattle.std.proofs.lemmas.Bool.{false≢true}
 use Rattle.std.specs.Map.{keys_of, values_of}
 use Rattle.rc_model.specs.Names.{AreNames}

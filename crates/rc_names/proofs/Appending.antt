@@ -1,5 +1,6 @@
 -- What a table shows after a name that comes last went in.
-use Rattle.std.proofs.Common.{◌≡◌, ◌∙◌, ℕ, ◌<◌, List, [], ◌∷◌, ◌++◌, length, map, All, Contains, arith, sym, ap, subst, get_or, false}
+use Rattle.std.proofs.Common.{◌≡◌, ◌∙◌, ℕ, ◌<◌, List, [], ◌∷◌, ◌++◌, length, map, All, Contains}
+use Rattle.std.proofs.Common.{arith, sym, ap, subst, get_or, false}
 use Rattle.std.proofs.lemmas.List.{length-map, length_push, map-append}
 use Rattle.std.proofs.lemmas.List.Elements.{All-contains, All-push}
 use Rattle.std.proofs.lemmas.List.Quantifiers.{all_pairs_push}

@@ -1,6 +1,8 @@
 -- What a table's keys say of the texts that it shows: `bytes` reads a key, and the texts are the
 -- keys' bytes.
-use Rattle.std.proofs.Common.{◌≡◌, ℕ, ◌<◌, ⊎_elim, Bool, true, false, List, length, get_or, map, position, slice_get, Contains, Some, None, arith, refl, sym, ap, subst, ◌∙◌, true≢false}
+use Rattle.std.proofs.Common.{◌≡◌, ℕ, ◌<◌, ⊎_elim, Bool, true, false, List, length, get_or, map}
+use Rattle.std.proofs.Common.{position, slice_get, Contains, Some, None, arith, refl, sym, ap}
+use Rattle.std.proofs.Common.{subst, ◌∙◌, true≢false}
 use Rattle.std.proofs.lemmas.Bool.{cases_lt, lt-ltb}
 use Rattle.std.proofs.lemmas.List.{get_or-map, length-map}
 use Rattle.std.proofs.lemmas.List.Quantifiers.{position-Some}

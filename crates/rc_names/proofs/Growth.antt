@@ -1,7 +1,9 @@
 -- What a list of names is once a name went in at the place where it is missing.
-use Rattle.std.proofs.Common.{◌≡◌, ℕ, ◌+◌, ◌-◌, ◌<◌, ⊎_elim, inl, inr, List, ◌∷◌, length, get_or, insert, Contains, All, arith, subst}
+use Rattle.std.proofs.Common.{◌≡◌, ℕ, ◌+◌, ◌-◌, ◌<◌, ⊎_elim, inl, inr, List, ◌∷◌, length, get_or}
+use Rattle.std.proofs.Common.{insert, Contains, All, arith, subst}
 use Rattle.std.proofs.lemmas.Bool.{cases_lt}
-use Rattle.std.proofs.lemmas.List.Edits.{length-insert, get_or-insert_below, get_or-insert_at, get_or-insert_above}
+use Rattle.std.proofs.lemmas.List.Edits.{length-insert, get_or-insert_below, get_or-insert_at}
+use Rattle.std.proofs.lemmas.List.Edits.{get_or-insert_above}
 use Rattle.std.proofs.lemmas.List.Elements.{All-cons}
 use Rattle.std.proofs.lemmas.List.Sorted.{IsPermutation-insert, All-permutation}
 use Rattle.rc_model.proofs.ByteOrder.{not_before_itself}

@@ -1,5 +1,6 @@
 -- What a search by a text finds in a list that shows names in byte order.
-use Rattle.std.proofs.Common.{◌≡◌, ℕ, ◌+◌, ◌<◌, ⊎_elim, List, length, get_or, map, slice_get, Some, Result, Ok, Err, IfOk, IfErr, arith, sym, ap, subst, ◌∙◌}
+use Rattle.std.proofs.Common.{◌≡◌, ℕ, ◌+◌, ◌<◌, ⊎_elim, List, length, get_or, map, slice_get, Some}
+use Rattle.std.proofs.Common.{Result, Ok, Err, IfOk, IfErr, arith, sym, ap, subst, ◌∙◌}
 use Rattle.std.proofs.lemmas.Cmp.{nat_list_cmp_total}
 use Rattle.std.proofs.lemmas.List.{length-map}
 use Rattle.std.proofs.lemmas.List.Sorted.{searchable_from_sorted}

@@ -1,7 +1,8 @@
 -- Why a text is no name: the first fault in order.
 use Rattle.std.specs.Prelude.{◌≡◌, ◌<◌, ◌≤◌, ℕ, List, [], length}
 use Rattle.rc_names.specs.declared.name.NameFault.{NameFault}
-use Rattle.rc_names.specs.declared.name.NameFault.TheVariants.{Empty, Long, BadByte, Reserved, Memory}
+use Rattle.rc_names.specs.declared.name.NameFault.TheVariants.{Empty, Long, BadByte, Reserved}
+use Rattle.rc_names.specs.declared.name.NameFault.TheVariants.{Memory}
 use Rattle.rc_model.specs.Names.{HasNameBytes, IsReserved, IsName}
 
 -- the first fault of a text in the order of the faults; out of memory

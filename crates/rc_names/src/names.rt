@@ -1,4 +1,6 @@
-ghost use Rattle.std.specs.Prelude.{◌≡◌, ◌+◌, ◌<◌, ◌↔◌, ◌∷◌, ◌++◌, [], false, length, Some, All, Contains, IfOk, OnOk, OnErr, IfSome, IfNone, IsTrue, slice_get, if◌then◌else◌};
+ghost use Rattle.std.specs.Prelude.{◌≡◌, ◌+◌, ◌<◌, ◌↔◌, ◌∷◌, ◌++◌, [], false, length, Some, All};
+ghost use Rattle.std.specs.Prelude.{Contains, IfOk, OnOk, OnErr, IfSome, IfNone, IsTrue, slice_get};
+ghost use Rattle.std.specs.Prelude.{if◌then◌else◌};
 ghost use Rattle.rc_names.specs.Names.{Adds};
 ghost use Rattle.rc_model.specs.Names.{AreNames, IsBefore};
 

@@ -1,5 +1,6 @@
 -- What is printed for a question, and when it is refused.
-use Rattle.std.specs.Prelude.{◌≡◌, ◌≢◌, ℕ, Bool, true, false, List, [], All, Option, None, Some, codes, slice_get}
+use Rattle.std.specs.Prelude.{◌≡◌, ◌≢◌, ℕ, Bool, true, false, List, [], All, Option, None, Some}
+use Rattle.std.specs.Prelude.{codes, slice_get}
 use Rattle.std.specs.Fmt.{decimal}
 use Rattle.clap.specs.Words.{Text}
 use Rattle.rc_model.specs.declared.Kind.{Kind}
@@ -11,7 +12,8 @@ use Rattle.rc_db.specs.Pipeline.{InPipelineOf}
 use Rattle.rc_names.specs.Names.{ListsNames}
 use Rattle.rc_db.specs.Queries.{IsKindOf, IsNextTo, IsServiceNamed, IsShown, IsWithAll}
 use Rattle.rc_db.specs.Service.{limit_of, script_of}
-use Rattle.rc_db.specs.QueryFaults.{AnyName, Asked, IsNamesFault, IsQueryFault, OfBundle, OfLongrun, OfOneshot, OfService}
+use Rattle.rc_db.specs.QueryFaults.{AnyName, Asked, IsNamesFault, IsQueryFault, OfBundle, OfLongrun}
+use Rattle.rc_db.specs.QueryFaults.{OfOneshot, OfService}
 use Rattle.rc_db.specs.declared.fault.QueryFault.{QueryFault}
 use Rattle.rc_db.specs.declared.fault.QueryFault.TheVariants as wrong
 use Rattle.rc_db.specs.declared.which.Which.{Which}

@@ -1,5 +1,6 @@
 -- When `db` refuses, and how it tells that.
-use Rattle.std.specs.Prelude.{◌≡◌, ◌≢◌, ◌⊎◌, ℕ, List, [], Option, None, Some, IfSome, codes, slice_get, unwrap_or}
+use Rattle.std.specs.Prelude.{◌≡◌, ◌≢◌, ◌⊎◌, ℕ, List, [], Option, None, Some, IfSome, codes}
+use Rattle.std.specs.Prelude.{slice_get, unwrap_or}
 use Rattle.clap.specs.Words.{Text}
 use Rattle.rc_model.specs.Database.{Database}
 use Rattle.rc_db.specs.declared.fault.QueryFault.{QueryFault}

@@ -1,5 +1,6 @@
 -- Words that are to be names of services, and what refuses them.
-use Rattle.std.specs.Prelude.{◌≡◌, ◌==◌, nat_lt, ℕ, List, ◌∷◌, ◌++◌, Some, slice_get, length, All, Contains, filter}
+use Rattle.std.specs.Prelude.{◌≡◌, ◌==◌, nat_lt, ℕ, List, ◌∷◌, ◌++◌, Some, slice_get, length, All}
+use Rattle.std.specs.Prelude.{Contains, filter}
 use Rattle.std.specs.List.{slice_split}
 use Rattle.rc_queries.specs.declared.named.NamedFault.{NamedFault}
 use Rattle.rc_queries.specs.declared.named.NamedFault.TheVariants.{Unknown, Memory}

@@ -12,7 +12,9 @@ use Rattle.rc_dbtext.specs.declared.fault.TextFault.TheVariants as text
 use Rattle.rc_queries.specs.declared.named.NamedFault.{NamedFault}
 use Rattle.rc_queries.specs.declared.named.NamedFault.TheVariants as named
 use Rattle.rc_queries.specs.declared.plan.PlanFault.{PlanFault}
-use Rattle.rc_queries.specs.declared.plan.PlanFault.TheVariants.{Bad, Version, NotSorted, Cyclic, TooMany, Dangling, Unknown, NotClosed, PruneNeedsUp, Memory}
+use Rattle.rc_queries.specs.declared.plan.PlanFault.TheVariants.{Bad, Version, NotSorted, Cyclic}
+use Rattle.rc_queries.specs.declared.plan.PlanFault.TheVariants.{TooMany, Dangling, Unknown}
+use Rattle.rc_queries.specs.declared.plan.PlanFault.TheVariants.{NotClosed, PruneNeedsUp, Memory}
 use Rattle.rc_asked.specs.Asked.{plan_asked}
 use Rattle.rc_base.specs.Base.{IsTextFault, Spells}
 use Rattle.rc_base.specs.UnknownWord.{unknown_word}

@@ -1,11 +1,13 @@
 //! The command `db`: questions about a database.
-ghost use Rattle.std.specs.Prelude.{◌≡◌, ◌≢◌, ◌⊎◌, ◌<◌, ◌≤◌, ◌+◌, None, length, map, string_bytes, vec_len, IfErr, IfOk, IfSome, IsSome, OnOk};
+ghost use Rattle.std.specs.Prelude.{◌≡◌, ◌≢◌, ◌⊎◌, ◌<◌, ◌≤◌, ◌+◌, None, length, map, string_bytes};
+ghost use Rattle.std.specs.Prelude.{vec_len, IfErr, IfOk, IfSome, IsSome, OnOk};
 ghost use Rattle.std.specs.Io.KnownBytes.{IsAtEnd};
 ghost use Rattle.rc_base.specs.Base.{bytes_of};
 ghost use Rattle.rc_queries.specs.DbAnswer.{IsAnswerFor, IsDbAnswer};
 ghost use Rattle.rc_asked.specs.DbAsked.{AsksNothing, AsksSomething, db_ask_of};
 ghost use Rattle.rc_queries.specs.DbFaults.{IfRead, IsDbRefused, TellsAnswerFault, TellsDbFault};
-ghost use Rattle.rc_streams.specs.Input.{ConsumesAtMost, FailsWith, IsCause, TellsFailure, WritesAll, WritesFront};
+ghost use Rattle.rc_streams.specs.Input.{ConsumesAtMost, FailsWith, IsCause, TellsFailure};
+ghost use Rattle.rc_streams.specs.Input.{WritesAll, WritesFront};
 ghost use Rattle.rc_streams.specs.Noting.{HasFailed, inner_of};
 
 use crate::db_answer::answer_to;

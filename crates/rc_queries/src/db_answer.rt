@@ -5,8 +5,13 @@ ghost use Rattle.rc_render.specs.Lines.{line};
 ghost use Rattle.rc_base.specs.Base.{bytes_of};
 ghost use Rattle.rc_model.specs.Line.{Lists};
 ghost use Rattle.rc_model.specs.Database.{IsKnown, Selected};
-ghost use Rattle.rc_db.specs.QueryFaults.{AnyName, IsNamesFault, IsQueryFault, OfBundle, OfLongrun, OfOneshot, OfService};
-ghost use Rattle.rc_queries.specs.DbAnswer.{IsAnswerTo, IsContentsText, IsFlagsText, IsFound, IsKindText, IsLimitText, IsListText, IsNameAnswer, IsNamesAnswer, IsOfQuery, IsPicture, IsPipelineText, IsScriptText, IsShownFault, IsUnanswered, asked_by, kind_word};
+ghost use Rattle.rc_db.specs.QueryFaults.{AnyName, IsNamesFault, IsQueryFault, OfBundle, OfLongrun};
+ghost use Rattle.rc_db.specs.QueryFaults.{OfOneshot, OfService};
+ghost use Rattle.rc_queries.specs.DbAnswer.{IsAnswerTo, IsContentsText, IsFlagsText, IsFound};
+ghost use Rattle.rc_queries.specs.DbAnswer.{IsKindText, IsLimitText, IsListText, IsNameAnswer};
+ghost use Rattle.rc_queries.specs.DbAnswer.{IsNamesAnswer, IsOfQuery, IsPicture, IsPipelineText};
+ghost use Rattle.rc_queries.specs.DbAnswer.{IsScriptText, IsShownFault, IsUnanswered, asked_by};
+ghost use Rattle.rc_queries.specs.DbAnswer.{kind_word};
 ghost use Rattle.rc_asked.specs.DbAsked.{db_ask_of};
 ghost use Rattle.rc_asked.specs.Query.{question_of};
 

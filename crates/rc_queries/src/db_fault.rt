@@ -1,6 +1,7 @@
 //! Why `db` refuses, and how it tells that.
 ghost use Rattle.std.specs.Prelude.{◌≡◌, ◌≢◌, ◌⊎◌, slice_get, option_map, IfOk, IfSome};
-ghost use Rattle.rc_queries.specs.DbFaults.{IsLiveTold, IsQueryTold, IsQueryWord, IsTextTold, db_fault_text, query_word};
+ghost use Rattle.rc_queries.specs.DbFaults.{IsLiveTold, IsQueryTold, IsQueryWord, IsTextTold};
+ghost use Rattle.rc_queries.specs.DbFaults.{db_fault_text, query_word};
 ghost use Rattle.rc_streams.specs.Input.{AppendsFront, failure_text, fault_line};
 ghost use Rattle.rc_asked.specs.Query.{names_in, question_of};
 ghost use Rattle.rc_queries.specs.declared.db_fault.DbFault.TheVariants.{Memory};

@@ -1,5 +1,6 @@
 //! The command `plan`: what a change would lower, raise and keep.
-ghost use Rattle.std.specs.Prelude.{◌≡◌, ◌≢◌, ◌⊎◌, ◌<◌, ◌≤◌, ◌+◌, ℕ, [], None, length, map, string_bytes, IfOk, IfErr, IfSome};
+ghost use Rattle.std.specs.Prelude.{◌≡◌, ◌≢◌, ◌⊎◌, ◌<◌, ◌≤◌, ◌+◌, ℕ, [], None, length, map};
+ghost use Rattle.std.specs.Prelude.{string_bytes, IfOk, IfErr, IfSome};
 ghost use Rattle.std.specs.Io.KnownBytes.{IsAtEnd};
 ghost use Rattle.rc_model.specs.Names.{Has};
 ghost use Rattle.rc_model.specs.Graph.{IsClosed};
@@ -7,11 +8,14 @@ ghost use Rattle.rc_select.specs.Ask.{ask_of};
 ghost use Rattle.rc_asked.specs.Asked.{plan_asked};
 ghost use Rattle.rc_base.specs.Base.{bytes_of};
 ghost use Rattle.rc_base.specs.Opening.{IsWrongBase};
-ghost use Rattle.rc_streams.specs.Input.{AppendsFront, ConsumesAtMost, FailsWith, TellsFailure, WritesAll, WritesFront, fault_line};
+ghost use Rattle.rc_streams.specs.Input.{AppendsFront, ConsumesAtMost, FailsWith, TellsFailure};
+ghost use Rattle.rc_streams.specs.Input.{WritesAll, WritesFront, fault_line};
 ghost use Rattle.rc_streams.specs.Noting.{HasFailed, inner_of};
 ghost use Rattle.rc_queries.specs.Named.{word_lines};
 ghost use Rattle.rc_queries.specs.PlanText.{IsAnswer, IsPlanFor, IsPlanIn, IsTextFor, IsUpSet};
-ghost use Rattle.rc_queries.specs.PlanFaults.{IsAskFault, IsFaultOf, IsNameFault, IsRefused, IsTextRefusal, IsToldAs, IsUpFault, TellsFault, TellsPlanFault, fault_text};
+ghost use Rattle.rc_queries.specs.PlanFaults.{IsAskFault, IsFaultOf, IsNameFault, IsRefused};
+ghost use Rattle.rc_queries.specs.PlanFaults.{IsTextRefusal, IsToldAs, IsUpFault, TellsFault};
+ghost use Rattle.rc_queries.specs.PlanFaults.{TellsPlanFault, fault_text};
 ghost use Rattle.rc_queries.specs.declared.plan.PlanFault.TheVariants.{Memory};
 
 use crate::named::{NamedFault, named_set, word_lines};

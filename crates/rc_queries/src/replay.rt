@@ -1,12 +1,15 @@
 //! The command `replay`: commands with the events of their runs, and what they come to.
-ghost use Rattle.std.specs.Prelude.{◌≡◌, ◌≢◌, ◌⊎◌, ◌<◌, ◌≤◌, ◌+◌, [], codes, None, length, map, string_bytes, IfErr, IfOk, IfSome};
+ghost use Rattle.std.specs.Prelude.{◌≡◌, ◌≢◌, ◌⊎◌, ◌<◌, ◌≤◌, ◌+◌, [], codes, None, length, map};
+ghost use Rattle.std.specs.Prelude.{string_bytes, IfErr, IfOk, IfSome};
 ghost use Rattle.std.specs.Io.KnownBytes.{IsAtEnd};
-ghost use Rattle.rc_streams.specs.Input.{AppendsFront, ConsumesAtMost, FailsWith, TellsFailure, WritesAll, WritesFront, failure_text, fault_line};
+ghost use Rattle.rc_streams.specs.Input.{AppendsFront, ConsumesAtMost, FailsWith, TellsFailure};
+ghost use Rattle.rc_streams.specs.Input.{WritesAll, WritesFront, failure_text, fault_line};
 ghost use Rattle.rc_streams.specs.Noting.{HasFailed, inner_of};
 ghost use Rattle.rc_base.specs.Base.{bytes_of};
 ghost use Rattle.rc_base.specs.Opening.{IsWrongBase};
 ghost use Rattle.rc_asked.specs.ReplayAsked.{AsksReplay};
-ghost use Rattle.rc_queries.specs.Replay.{IsReplayFor, IsScriptAs, IsTextAs, TellsReplayFault, replay_fault_text};
+ghost use Rattle.rc_queries.specs.Replay.{IsReplayFor, IsScriptAs, IsTextAs, TellsReplayFault};
+ghost use Rattle.rc_queries.specs.Replay.{replay_fault_text};
 ghost use Rattle.rc_command.specs.Words.{rows_for};
 ghost use Rattle.rc_queries.specs.declared.replay.ReplayFault.TheVariants.{Memory};
 

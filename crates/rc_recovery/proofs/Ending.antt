@@ -1,8 +1,12 @@
 -- A logged run that was cut short, with an end added for each transition that has none, is settled.
-use Rattle.std.proofs.Common.{◌≡◌, ◌∙◌, ◌⊎◌, ◌↔◌, ◌≤◌, inl, inr, ℕ, List, [], ◌∷◌, ◌++◌, Bool, true, false, cond, ◌==◌, ◌&&◌, All, Contains, slice_index_or, Some, refl, ap, sym, subst, arith, append_assoc}
+use Rattle.std.proofs.Common.{◌≡◌, ◌∙◌, ◌⊎◌, ◌↔◌, ◌≤◌, inl, inr, ℕ, List, [], ◌∷◌, ◌++◌, Bool, true}
+use Rattle.std.proofs.Common.{false, cond, ◌==◌, ◌&&◌, All, Contains, slice_index_or, Some, refl}
+use Rattle.std.proofs.Common.{ap, sym, subst, arith, append_assoc}
 use Rattle.std.specs.List.{fold, list_any}
 use Rattle.std.proofs.lemmas.Bool.{cases_Bool, cond-true, cond-false, eqb-true, eq-eqb, false≢true}
-use Rattle.std.proofs.lemmas.List.Elements.{All-push, Contains-append_left, Contains-append_right, Contains-append_cases, Contains-push, Contains-push_cases}
+use Rattle.std.proofs.lemmas.List.Elements.{All-push, Contains-append_left, Contains-append_right}
+use Rattle.std.proofs.lemmas.List.Elements.{Contains-append_cases, Contains-push}
+use Rattle.std.proofs.lemmas.List.Elements.{Contains-push_cases}
 use Rattle.std.proofs.lemmas.List.Folds.{Any-from_list_any, list_any_at}
 use Rattle.rc_model.specs.declared.Outcome.{Outcome}
 use Rattle.rc_model.specs.declared.Outcome.TheVariants as outcome
@@ -10,7 +14,8 @@ use Rattle.rc_model.specs.declared.Event.{Event}
 use Rattle.rc_model.specs.declared.Event.TheVariants.{Take, Done, Stop}
 use Rattle.rc_model.specs.declared.Standing.{Standing}
 use Rattle.rc_model.specs.declared.Standing.TheVariants.{Down, Rising, Up, Sinking}
-use Rattle.rc_model.specs.Run.{Course, IsLegal, IsLive, IsRun, IsSettled, IsStopped, NoneHeld, after_end, standing_of}
+use Rattle.rc_model.specs.Run.{Course, IsLegal, IsLive, IsRun, IsSettled, IsStopped, NoneHeld}
+use Rattle.rc_model.specs.Run.{after_end, standing_of}
 use Rattle.rc_model.proofs.RunLemmas.{run_push, legal_within}
 use Rattle.rc_model.proofs.EventLemmas.{take_then_done, take_then_stop}
 use Rattle.rc_model.proofs.StandingLemmas.{standing_push, standing_stop}
@@ -27,8 +32,11 @@ both_true a b x y = ap (λ t. t && b) x ∙ y
 ends_what : (w s : ℕ) (x : Event) → ends w s x ≡ true → (o : Outcome) × (x ≡ Done w s o)
 ends_what w s (Take v t) e = absurd (false≢true e)
 ends_what w s (Done v t o) e =
-    let parts = both (v == w) (t == s) e in
-    (o, ap (λ (x : ℕ). Done x t o) (eqb-true v w parts.0) ∙ ap (λ (y : ℕ). Done w y o) (eqb-true t s parts.1))
+    let parts = both (v == w) (t == s) e in (
+      o,
+      ap (λ (x : ℕ). Done x t o) (eqb-true v w parts.0)
+          ∙ ap (λ (y : ℕ). Done w y o) (eqb-true t s parts.1),
+    )
 ends_what w s (Stop v m) e = absurd (false≢true e)
 
 ends_self : (w s : ℕ) (o : Outcome) → ends w s (Done w s o) ≡ true
@@ -38,8 +46,14 @@ any_true : (w s : ℕ) (events : List Event) → list_any (ends w s) events ≡ 
     → (o : Outcome) × Contains events (Done w s o)
 any_true w s events e =
     let found = Any-from_list_any (ends w s) events e in
-    let what = ends_what w s found.1 found.4 in
-    (what.0, (found.0, found.2, subst (λ (y : Event). slice_index_or events found.0 y ≡ y) what.1 found.3))
+    let what = ends_what w s found.1 found.4 in (
+      what.0,
+      (
+        found.0,
+        found.2,
+        subst (λ (y : Event). slice_index_or events found.0 y ≡ y) what.1 found.3,
+      ),
+    )
 
 any_false : (w s : ℕ) (events : List Event) → list_any (ends w s) events ≡ false → (o : Outcome)
     → Contains events (Done w s o) → ⊥
@@ -57,9 +71,16 @@ IsMore events e = (with_end events e ≡ events)
 more : (events : List Event) (e : Event) → IsMore events e
 more events (Take w s) = elim (cases_Bool (list_any (ends w s) events)) [
   | inl there ↦ inl
-      (cond-true (list_any (ends w s) events) events (events ++ Done w s outcome.NotStarted ∷ []) there)
-  | inr none ↦ inr
-      (w, s, refl, none, cond-false (list_any (ends w s) events) events (events ++ Done w s outcome.NotStarted ∷ []) none)
+      (cond-true (list_any (ends w s) events) events (events ++ Done w s outcome.NotStarted ∷ [])
+      there)
+  | inr none ↦ inr (
+    w,
+    s,
+    refl,
+    none,
+    cond-false (list_any (ends w s) events) events (events ++ Done w s outcome.NotStarted ∷ [])
+        none,
+  )
 ]
 more events (Done w s o) = inl refl
 more events (Stop w m) = inl refl
@@ -121,7 +142,8 @@ ends_one events w s = elim (cases_Bool (list_any (ends w s) events)) [
   | inr none ↦ (
     outcome.NotStarted,
     subst (λ (all : List Event). Contains all (Done w s outcome.NotStarted))
-        (sym (cond-false (list_any (ends w s) events) events (events ++ Done w s outcome.NotStarted ∷ []) none))
+        (sym (cond-false (list_any (ends w s) events) events
+        (events ++ Done w s outcome.NotStarted ∷ []) none))
         (Contains-push events (Done w s outcome.NotStarted)),
   )
 ]
@@ -207,7 +229,8 @@ adds_one logged events e has adds = elim (more events e) [
       let unended : (o : Outcome) → Contains logged (Done w s o)
       → ⊥ =
       λ o h. any_false w s events none o
-      (subst (λ (all : List Event). Contains all (Done w s o)) (sym adds.1) (Contains-append_left logged adds.0 (Done w s o) h)) in (
+      (subst (λ (all : List Event). Contains all (Done w s o)) (sym adds.1)
+      (Contains-append_left logged adds.0 (Done w s o) h)) in (
         adds.0 ++ end ∷ [],
         added ∙ ap (λ (all : List Event). all ++ end ∷ []) adds.1
             ∙ append_assoc logged adds.0 (end ∷ []),
@@ -245,10 +268,14 @@ at_as a b same = (subst IsAt same, subst IsAt (sym same))
 failed_as : (standing : Standing) → IsAt (after_end false standing) ↔ IsAt standing
 failed_as Down = (λ h. h, λ h. h)
 failed_as Rising = (
-  λ h. elim h
-      [ inl e ↦ absurd (let bad : Down ≡ Up = e in cc) | inr e ↦ absurd (let bad : Down ≡ Sinking = e in cc) ],
-  λ h. elim h
-      [ inl e ↦ absurd (let bad : Rising ≡ Up = e in cc) | inr e ↦ absurd (let bad : Rising ≡ Sinking = e in cc) ],
+  λ h. elim h [
+    | inl e ↦ absurd (let bad : Down ≡ Up = e in cc)
+    | inr e ↦ absurd (let bad : Down ≡ Sinking = e in cc)
+  ],
+  λ h. elim h [
+    | inl e ↦ absurd (let bad : Rising ≡ Up = e in cc)
+    | inr e ↦ absurd (let bad : Rising ≡ Sinking = e in cc)
+  ],
 )
 failed_as Up = (λ h. h, λ h. h)
 failed_as Sinking = (λ h. inr refl, λ h. inl refl)

@@ -7,7 +7,8 @@ use Rattle.rc_model.specs.declared.Refusal.{Refusal}
 use Rattle.rc_model.specs.declared.Refusal.TheVariants.{BadEvent, NotSettled}
 use Rattle.rc_model.specs.Run.{Course, IsSettled, course_of}
 use Rattle.rc_model.specs.Headline.{HasRun}
-use Rattle.rc_model.specs.Session.{Command, Change, Undo, Redo, Add, Delete, IsEventFault, IsRunFault}
+use Rattle.rc_model.specs.Session.{Command, Change, Undo, Redo, Add, Delete, IsEventFault}
+use Rattle.rc_model.specs.Session.{IsRunFault}
 use Rattle.rc_recovery.specs.Ends.{last_stop, with_ends}
 use Rattle.rc_recovery.proofs.Ending.{settled_stopped}
 use Rattle.rc_recovery.specs.Recovering.{IsCutShort, called_off}

@@ -1,5 +1,6 @@
 -- A run stays one where its events are logged in another order.
-use Rattle.std.proofs.Common.{◌≡◌, ◌≢◌, ◌∙◌, ◌⊎◌, ◌↔◌, ◌==◌, inl, inr, ℕ, List, [], ◌∷◌, ◌++◌, length, Contains, refl, ap, sym, subst, append_assoc}
+use Rattle.std.proofs.Common.{◌≡◌, ◌≢◌, ◌∙◌, ◌⊎◌, ◌↔◌, ◌==◌, inl, inr, ℕ, List, [], ◌∷◌, ◌++◌}
+use Rattle.std.proofs.Common.{length, Contains, refl, ap, sym, subst, append_assoc}
 use Rattle.std.proofs.lemmas.Bool.{cases_eq, cond-false, ne_eqb}
 use Rattle.std.proofs.lemmas.List.{append-nil, take_at}
 use Rattle.std.proofs.lemmas.List.Elements.{Contains-push, Contains-push_cases}
@@ -7,7 +8,8 @@ use Rattle.rc_model.specs.declared.Event.{Event}
 use Rattle.rc_model.specs.declared.Event.TheVariants.{Take, Done, Stop}
 use Rattle.rc_model.specs.declared.Standing.{Standing}
 use Rattle.rc_model.specs.declared.Standing.TheVariants.{Sinking, Up}
-use Rattle.rc_model.specs.Run.{CanMove, Course, IsLegal, IsLive, IsRun, after_end, after_event, after_take, is_success, standing_of}
+use Rattle.rc_model.specs.Run.{CanMove, Course, IsLegal, IsLive, IsRun, after_end, after_event}
+use Rattle.rc_model.specs.Run.{after_take, is_success, standing_of}
 use Rattle.rc_model.proofs.EventLemmas.{still_there, take_then_done, take_then_take}
 use Rattle.rc_model.proofs.RunLemmas.{run_prefix, run_push}
 use Rattle.rc_model.proofs.StandingLemmas.{standing_push}

@@ -1,5 +1,6 @@
 -- Two neighbouring events of a run that two workers made change places.
-use Rattle.std.proofs.Common.{◌≡◌, ◌≢◌, ◌∙◌, ◌⊎◌, inl, inr, ℕ, List, [], ◌∷◌, ◌++◌, false, slice_index_or, length, Contains, refl, ap, sym, subst}
+use Rattle.std.proofs.Common.{◌≡◌, ◌≢◌, ◌∙◌, ◌⊎◌, inl, inr, ℕ, List, [], ◌∷◌, ◌++◌, false}
+use Rattle.std.proofs.Common.{slice_index_or, length, Contains, refl, ap, sym, subst}
 use Rattle.std.proofs.lemmas.Bool.{cases_Bool, cases_eq, cond-true, cond-false}
 use Rattle.std.proofs.lemmas.List.{take_at}
 use Rattle.std.proofs.lemmas.List.Elements.{Contains-push, Contains-push_cases}
@@ -9,10 +10,13 @@ use Rattle.rc_model.specs.declared.Standing.TheVariants.{Down, Rising, Up, Sinki
 use Rattle.rc_model.specs.declared.Outcome.{Outcome}
 use Rattle.rc_model.specs.declared.Event.{Event}
 use Rattle.rc_model.specs.declared.Event.TheVariants.{Take, Done, Stop}
-use Rattle.rc_model.specs.Run.{Course, CanMove, IsFree, IsHeldBy, IsLegal, IsRun, IsStopped, after_take, standing_at_first, standing_of}
-use Rattle.rc_model.proofs.EventLemmas.{still_there, take_then_take, take_then_done, done_then_take, done_then_done}
+use Rattle.rc_model.specs.Run.{Course, CanMove, IsFree, IsHeldBy, IsLegal, IsRun, IsStopped}
+use Rattle.rc_model.specs.Run.{after_take, standing_at_first, standing_of}
+use Rattle.rc_model.proofs.EventLemmas.{still_there, take_then_take, take_then_done, done_then_take}
+use Rattle.rc_model.proofs.EventLemmas.{done_then_done}
 use Rattle.rc_model.proofs.RunLemmas.{run_prefix, run_push, slice_get-push_last}
-use Rattle.rc_model.proofs.StandingLemmas.{standing_take_here, standing_take_other, standing_done_other}
+use Rattle.rc_model.proofs.StandingLemmas.{standing_take_here, standing_take_other}
+use Rattle.rc_model.proofs.StandingLemmas.{standing_done_other}
 use Rattle.rc_core.proofs.Places.{move_is_left}
 use Rattle.rc_core.proofs.Stories.{story_of}
 

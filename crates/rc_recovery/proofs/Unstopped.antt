@@ -1,12 +1,15 @@
 -- The events of a run without its stop.
-use Rattle.std.proofs.Common.{◌≡◌, ◌∙◌, ◌↔◌, inl, inr, ℕ, List, [], ◌∷◌, ◌++◌, Contains, refl, ap, sym, subst}
+use Rattle.std.proofs.Common.{◌≡◌, ◌∙◌, ◌↔◌, inl, inr, ℕ, List, [], ◌∷◌, ◌++◌, Contains, refl, ap}
+use Rattle.std.proofs.Common.{sym, subst}
 use Rattle.std.specs.List.{fold}
-use Rattle.std.proofs.lemmas.List.Elements.{Contains-append_cases, Contains-append_left, Contains-append_right, Contains-push_cases}
+use Rattle.std.proofs.lemmas.List.Elements.{Contains-append_cases, Contains-append_left}
+use Rattle.std.proofs.lemmas.List.Elements.{Contains-append_right, Contains-push_cases}
 use Rattle.rc_model.specs.declared.Event.{Event}
 use Rattle.rc_model.specs.declared.Event.TheVariants.{Take, Done, Stop}
 use Rattle.rc_model.specs.declared.Outcome.{Outcome}
 use Rattle.rc_model.specs.declared.Standing.{Standing}
-use Rattle.rc_model.specs.Run.{CanMove, Course, IsLegal, IsLive, IsRun, IsStopped, after_event, standing_at_first, standing_of}
+use Rattle.rc_model.specs.Run.{CanMove, Course, IsLegal, IsLive, IsRun, IsStopped, after_event}
+use Rattle.rc_model.specs.Run.{standing_at_first, standing_of}
 use Rattle.rc_model.proofs.RunLemmas.{run_empty, run_induction, run_push}
 use Rattle.rc_core.proofs.Opening.{none_happened}
 use Rattle.rc_recovery.specs.Reordered.{without_stops}

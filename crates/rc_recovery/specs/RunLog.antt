@@ -1,5 +1,6 @@
 -- What a run log says, and what is entered of it.
-use Rattle.std.specs.Prelude.{◌≡◌, ◌≢◌, ◌⊎◌, ◌++◌, ◌∷◌, ◌<◌, [], ℕ, List, Ok, Err, false, All, length}
+use Rattle.std.specs.Prelude.{◌≡◌, ◌≢◌, ◌⊎◌, ◌++◌, ◌∷◌, ◌<◌, [], ℕ, List, Ok, Err, false, All}
+use Rattle.std.specs.Prelude.{length}
 use Rattle.rc_model.specs.declared.Refusal.{Refusal}
 use Rattle.rc_model.specs.declared.Refusal.TheVariants as refusal
 use Rattle.rc_model.specs.Database.{Database}

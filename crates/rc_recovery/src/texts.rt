@@ -1,10 +1,13 @@
 //! Recovery from the texts of the two files, the file of a session and its run log, to a new text.
-ghost use Rattle.std.specs.Prelude.{◌≡◌, ◌≢◌, ◌++◌, ℕ, List, [], map, IfNone, IfOk, IfSome, IsErrOf, IsFalse, IsTrue, MatchBool, MatchOption};
+ghost use Rattle.std.specs.Prelude.{◌≡◌, ◌≢◌, ◌++◌, ℕ, List, [], map, IfNone, IfOk, IfSome};
+ghost use Rattle.std.specs.Prelude.{IsErrOf, IsFalse, IsTrue, MatchBool, MatchOption};
 ghost use Rattle.rc_model.specs.Headline.{HasRun};
 ghost use Rattle.rc_model.specs.Session.{IsLineOf, events_of};
 ghost use Rattle.rc_livetext.specs.Spelling.{Spells};
 ghost use Rattle.rc_session.specs.Commands.{command_of};
-ghost use Rattle.rc_recovery.specs.RunLog.{AreLines, AreNone, AreUnfit, EntersOne, HasNothing, IsEntered, IsEnteredAs, IsOther, IsRefusedIn, IsUnfit, IsUnfitFor, session_on};
+ghost use Rattle.rc_recovery.specs.RunLog.{AreLines, AreNone, AreUnfit, EntersOne, HasNothing};
+ghost use Rattle.rc_recovery.specs.RunLog.{IsEntered, IsEnteredAs, IsOther, IsRefusedIn, IsUnfit};
+ghost use Rattle.rc_recovery.specs.RunLog.{IsUnfitFor, session_on};
 
 use crate::entering::recover;
 use memchr::memrchr;

@@ -1,9 +1,11 @@
 -- The journal of a line, as text: where the line stands, and what each entry altered.
-use Rattle.std.specs.Prelude.{◌≡◌, ℕ, suc, Bool, true, false, List, [], ◌∷◌, ◌++◌, length, Option, Some, None, codes}
+use Rattle.std.specs.Prelude.{◌≡◌, ℕ, suc, Bool, true, false, List, [], ◌∷◌, ◌++◌, length, Option}
+use Rattle.std.specs.Prelude.{Some, None, codes}
 use Rattle.std.specs.List.{flat_map, join_with_byte}
 use Rattle.std.specs.Fmt.{decimal}
 use Rattle.rc_model.specs.Names.{Holds}
-use Rattle.rc_model.specs.Line.{Alteration, IsEdit, State, Entry, IsEntry, IsGained, Line, states, cursor}
+use Rattle.rc_model.specs.Line.{Alteration, IsEdit, State, Entry, IsEntry, IsGained, Line, states}
+use Rattle.rc_model.specs.Line.{cursor}
 use Rattle.rc_render.specs.Lines.{line}
 use Rattle.rc_render.specs.Names.{names_in}
 

@@ -2,7 +2,10 @@
 use Rattle.std.specs.Prelude.{ℕ, List, [], ◌++◌, codes, slice_index_or}
 use Rattle.std.specs.Fmt.{decimal}
 use Rattle.rc_model.specs.declared.Refusal.{Refusal}
-use Rattle.rc_model.specs.declared.Refusal.TheVariants.{BadEvent, NotSettled, PruneNeedsUp, Unknown, IsAtomic, Exists, Missing, Full, NothingToUndo, NothingToRedo, NotEdit, Strange, Memory}
+use Rattle.rc_model.specs.declared.Refusal.TheVariants.{BadEvent, NotSettled, PruneNeedsUp, Unknown}
+use Rattle.rc_model.specs.declared.Refusal.TheVariants.{IsAtomic, Exists, Missing, Full}
+use Rattle.rc_model.specs.declared.Refusal.TheVariants.{NothingToUndo, NothingToRedo, NotEdit}
+use Rattle.rc_model.specs.declared.Refusal.TheVariants.{Strange, Memory}
 use Rattle.rc_render.specs.Lines.{line}
 
 -- the place of the word that a refusal speaks of, if it speaks of one; a bundle that is

@@ -1,12 +1,14 @@
 //! The journal: where a line stands, and its entries.
-ghost use Rattle.std.specs.Prelude.{◌≡◌, ◌<◌, ◌≤◌, ◌∷◌, ◌++◌, ◌↔◌, Bool, true, false, List, if◌then◌else◌, length, All, Contains, IsTrue, IfOk, OnOk};
+ghost use Rattle.std.specs.Prelude.{◌≡◌, ◌<◌, ◌≤◌, ◌∷◌, ◌++◌, ◌↔◌, Bool, true, false, List};
+ghost use Rattle.std.specs.Prelude.{if◌then◌else◌, length, All, Contains, IsTrue, IfOk, OnOk};
 ghost use Rattle.std.specs.Fmt.{decimal};
 ghost use Rattle.std.specs.List.{flat_map, join_with_byte};
 ghost use Rattle.std.specs.Option.{option_copied};
 ghost use Rattle.rc_model.specs.Names.{Holds};
 ghost use Rattle.rc_model.specs.Line.{State};
 ghost use Rattle.rc_model.specs.Session.{IsLineOf};
-ghost use Rattle.rc_render.specs.JournalText.{AreMoves, IsEntryBelow, IsEntryLine, IsJournalText, alteration_text, place_line, sign, signs, value_text};
+ghost use Rattle.rc_render.specs.JournalText.{AreMoves, IsEntryBelow, IsEntryLine, IsJournalText};
+ghost use Rattle.rc_render.specs.JournalText.{alteration_text, place_line, sign, signs, value_text};
 ghost use Rattle.rc_render.specs.Names.{names_in};
 
 use rc_bundle::Edit;

@@ -1,5 +1,6 @@
 //! Refusals as text.
-ghost use Rattle.std.specs.Prelude.{◌≡◌, [], ◌∷◌, ◌++◌, map, string_bytes, codes, slice_index_or, IfOk};
+ghost use Rattle.std.specs.Prelude.{◌≡◌, [], ◌∷◌, ◌++◌, map, string_bytes, codes, slice_index_or};
+ghost use Rattle.std.specs.Prelude.{IfOk};
 ghost use Rattle.rc_render.specs.Lines.{line};
 ghost use Rattle.rc_session.specs.Commands.{command_of};
 ghost use Rattle.rc_render.specs.AnswerText.{words_of};

@@ -1,5 +1,6 @@
 -- What is to be done for a transition, before anything is started.
-use Rattle.std.specs.Prelude.{◌≡◌, ◌≢◌, ◌==◌, ◌∷◌, ℕ, List, [], Option, Some, None, codes, if◌then◌else◌, slice_get}
+use Rattle.std.specs.Prelude.{◌≡◌, ◌≢◌, ◌==◌, ◌∷◌, ℕ, List, [], Option, Some, None, codes}
+use Rattle.std.specs.Prelude.{if◌then◌else◌, slice_get}
 use Rattle.std.specs.declared.process.command.Command.{Command}
 use Rattle.rc_model.specs.declared.Kind.{Kind}
 use Rattle.rc_model.specs.declared.Kind.TheVariants.{Oneshot, Longrun, Bundle}
@@ -10,7 +11,8 @@ use Rattle.rc_model.specs.Database.{Service}
 use Rattle.rc_runner.specs.declared.order.Order.{Order}
 use Rattle.rc_runner.specs.declared.order.Move.{Move}
 use Rattle.rc_runner.specs.declared.order.Move.TheVariants.{Known, Start}
-use Rattle.rc_runner.specs.Shell.{Scripts, Runs, IsTold, MayEnd, text_of, limit_for, seconds_of, word_of}
+use Rattle.rc_runner.specs.Shell.{Scripts, Runs, IsTold, MayEnd, text_of, limit_for, seconds_of}
+use Rattle.rc_runner.specs.Shell.{word_of}
 
 -- the words by which a program is started under a limit: with one it leads a session of its own, so
 -- that all that it starts can be ended

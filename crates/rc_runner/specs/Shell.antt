@@ -1,5 +1,6 @@
 -- What a gate that starts programs may answer.
-use Rattle.std.specs.Prelude.{◌≡◌, ◌≢◌, ◌+◌, ◌/◌, ◌≤◌, ◌++◌, ◌∷◌, ◌⊎◌, ℕ, List, [], Option, Some, None, slice_get, codes, decimal, ◌==◌, if◌then◌else◌}
+use Rattle.std.specs.Prelude.{◌≡◌, ◌≢◌, ◌+◌, ◌/◌, ◌≤◌, ◌++◌, ◌∷◌, ◌⊎◌, ℕ, List, [], Option, Some}
+use Rattle.std.specs.Prelude.{None, slice_get, codes, decimal, ◌==◌, if◌then◌else◌}
 use Rattle.std.specs.Process.{command_program, command_args, command_var}
 use Rattle.std.specs.declared.process.command.Command.{Command}
 use Rattle.rc_model.specs.declared.Kind.{Kind}

@@ -1,7 +1,8 @@
 //! What comes to services, and the text of the message that tells it.
 
 ghost use Rattle.std.specs.Prelude.{◌≡◌, IfOk, string_bytes};
-ghost use Rattle.rc_runner.specs.Progress.{event_text, gap_text, level_of, line_text, moment_text, zeros_text};
+ghost use Rattle.rc_runner.specs.Progress.{event_text, gap_text, level_of, line_text, moment_text};
+ghost use Rattle.rc_runner.specs.Progress.{zeros_text};
 
 use crate::task::word_towards;
 use log::Level;

@@ -3,7 +3,8 @@
 ghost use Rattle.std.specs.Prelude.{◌≡◌, IfOk, OnErr, map, string_bytes, option_map, slice_get};
 ghost use Rattle.rc_db.specs.Service.{limit_of};
 ghost use Rattle.rc_runner.specs.Orders.{IsControl, IsMoveFor, IsMoveOf, IsTextRun};
-ghost use Rattle.rc_runner.specs.Shell.{MayAnswer, MayCall, MayEnd, MayMove, MayRun, limit_or, scripts_of, seconds_of, text_of};
+ghost use Rattle.rc_runner.specs.Shell.{MayAnswer, MayCall, MayEnd, MayMove, MayRun, limit_or};
+ghost use Rattle.rc_runner.specs.Shell.{scripts_of, seconds_of, text_of};
 
 use crate::copy::{names_of, services_of, words_of};
 use crate::messages::tell;

@@ -1,6 +1,7 @@
 //! Programs that are started, waited for, and ended where they take too long.
 
-ghost use Rattle.std.specs.Prelude.{◌≡◌, ◌≤◌, ◌↔◌, ◌++◌, ◌∷◌, [], map, string_bytes, unwrap_or, IsTrue, IfOk, IfSome, OnOk, Ok, None};
+ghost use Rattle.std.specs.Prelude.{◌≡◌, ◌≤◌, ◌↔◌, ◌++◌, ◌∷◌, [], map, string_bytes, unwrap_or};
+ghost use Rattle.std.specs.Prelude.{IsTrue, IfOk, IfSome, OnOk, Ok, None};
 ghost use Rattle.std.specs.Process.{command_program, command_args, child_status};
 ghost use Rattle.rc_runner.specs.Ended.{CountsAs, IsEndOf, IsWaited, outcome_of};
 ghost use Rattle.rc_runner.specs.Orders.{IsCommandOf};

@@ -1,5 +1,6 @@
 -- Lines with their newline.
-use Rattle.std.proofs.Common.{◌≡◌, ◌∙◌, ◌++◌, ◌∷◌, [], ℕ, List, Contains, Option, Some, None, Result, Ok, Err, Global, ap, string_bytes}
+use Rattle.std.proofs.Common.{◌≡◌, ◌∙◌, ◌++◌, ◌∷◌, [], ℕ, List, Contains, Option, Some, None}
+use Rattle.std.proofs.Common.{Result, Ok, Err, Global, ap, string_bytes}
 use Rattle.std.specs.Prelude.{IfOk, IfSome, String}
 use Rattle.rc_script.specs.RunLines.{IsLine}
 

@@ -1,8 +1,11 @@
 -- A script gives one list of commands.
-use Rattle.std.proofs.Common.{◌≡◌, ◌∙◌, ◌≢◌, ℕ, List, [], ◌∷◌, ◌++◌, Option, Some, None, inl, inr, refl, sym, ap, subst}
+use Rattle.std.proofs.Common.{◌≡◌, ◌∙◌, ◌≢◌, ℕ, List, [], ◌∷◌, ◌++◌, Option, Some, None, inl, inr}
+use Rattle.std.proofs.Common.{refl, sym, ap, subst}
 use Rattle.rc_model.specs.Session.{Command}
-use Rattle.rc_script.specs.Says.{Saying, SaysNothing, SaysWrong, SaysStep, SaysDry, SaysLive, SaysBundles, SaysJournal}
-use Rattle.rc_script.specs.Script.{AddsLine, IsBadLine, IsItem, IsItemSaying, IsScript, Item, Reads, lines_in, with_item}
+use Rattle.rc_script.specs.Says.{Saying, SaysNothing, SaysWrong, SaysStep, SaysDry, SaysLive}
+use Rattle.rc_script.specs.Says.{SaysBundles, SaysJournal}
+use Rattle.rc_script.specs.Script.{AddsLine, IsBadLine, IsItem, IsItemSaying, IsScript, Item, Reads}
+use Rattle.rc_script.specs.Script.{lines_in, with_item}
 use Rattle.rc_script.proofs.Sayings.{line_once}
 
 -- what is one saying is one item
@@ -70,5 +73,6 @@ scripts_are_right names text commands n is wrong =
 
     added : with_item wrong.commands wrong.item ≡ Some (apart.2.0)
     added = ap (λ (cs : List Command). with_item cs wrong.item) (sym same)
-        ∙ ap (with_item apart.0) (item_once names wrong.line wrong.item apart.2.1.0 wrong.is apart.2.1.1)
+        ∙ ap (with_item apart.0)
+        (item_once names wrong.line wrong.item apart.2.1.0 wrong.is apart.2.1.1)
         ∙ apart.2.1.2

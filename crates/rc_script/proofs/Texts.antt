@@ -1,5 +1,6 @@
 -- Words as texts, and words from a place on.
-use Rattle.std.proofs.Common.{◌≡◌, ◌∙◌, ◌<◌, ◌≤◌, ◌+◌, ◌-◌, ℕ, List, [], ◌∷◌, ◌++◌, length, map, take, drop, get_or, All, ap, sym, subst}
+use Rattle.std.proofs.Common.{◌≡◌, ◌∙◌, ◌<◌, ◌≤◌, ◌+◌, ◌-◌, ℕ, List, [], ◌∷◌, ◌++◌, length, map}
+use Rattle.std.proofs.Common.{take, drop, get_or, All, ap, sym, subst}
 use Rattle.std.proofs.lemmas.List.{take_more, take_rest, take_all, get_or-map, length-map, drop-map}
 
 module _ {X Y : Type 0} (f : X → Y) (xs : List X) (i : ℕ) where
@@ -13,7 +14,9 @@ module _ {X Y : Type 0} (f : X → Y) (xs : List X) (i : ℕ) where
 
     -- the images up to one, and that one
     pub images_more : take (i + 1) (map f xs) ≡ take i (map f xs) ++ f (get_or xs i d) ∷ []
-    images_more = take_more (map f xs) i (f d) inside ∙ ap (λ y. take i (map f xs) ++ y ∷ []) (get_or-map f xs i d (f d) within)
+    images_more =
+        take_more (map f xs) i (f d) inside
+        ∙ ap (λ y. take i (map f xs) ++ y ∷ []) (get_or-map f xs i d (f d) within)
 
   -- all images
   pub images_all : length xs ≤ i → take i (map f xs) ≡ map f xs

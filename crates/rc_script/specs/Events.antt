@@ -1,5 +1,6 @@
 -- Event lines.
-use Rattle.std.specs.Prelude.{ℕ, List, [], ◌∷◌, Option, None, Some, codes, option_and_then, option_map, suc, if◌then◌else◌}
+use Rattle.std.specs.Prelude.{ℕ, List, [], ◌∷◌, Option, None, Some, codes, option_and_then}
+use Rattle.std.specs.Prelude.{option_map, suc, if◌then◌else◌}
 use Rattle.std.specs.Str.{bytes_eq}
 use Rattle.rc_model.specs.declared.Outcome.{Outcome}
 use Rattle.rc_model.specs.declared.Outcome.TheVariants as outcome

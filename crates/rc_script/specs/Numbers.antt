@@ -1,5 +1,6 @@
 -- Numbers in event lines.
-use Rattle.std.specs.Prelude.{◌==◌, ◌||◌, ◌&&◌, ◌^◌, codes, not, ℕ, Bool, List, Option, None, Some, length, slice_index, nat_lt, if◌then◌else◌}
+use Rattle.std.specs.Prelude.{◌==◌, ◌||◌, ◌&&◌, ◌^◌, codes, not, ℕ, Bool, List, Option, None, Some}
+use Rattle.std.specs.Prelude.{length, slice_index, nat_lt, if◌then◌else◌}
 use Rattle.std.specs.Str.{bytes_eq}
 use Rattle.std.specs.Str.Parse.{digits_value}
 use Rattle.rc_script.specs.Words.{is_digits}

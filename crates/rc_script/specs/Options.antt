@@ -1,11 +1,14 @@
 -- The options in front of the word that says what a line does.
-use Rattle.std.specs.Prelude.{◌≡◌, ◌<◌, ◌≤◌, ◌==◌, ◌||◌, ◌++◌, ℕ, Bool, true, false, List, [], ◌∷◌, Option, None, Some, codes, length, drop, slice_index, nat_lt, option_and_then, option_map, if◌then◌else◌}
+use Rattle.std.specs.Prelude.{◌≡◌, ◌<◌, ◌≤◌, ◌==◌, ◌||◌, ◌++◌, ℕ, Bool, true, false, List, [], ◌∷◌}
+use Rattle.std.specs.Prelude.{Option, None, Some, codes, length, drop, slice_index, nat_lt}
+use Rattle.std.specs.Prelude.{option_and_then, option_map, if◌then◌else◌}
 use Rattle.std.specs.Str.{bytes_eq}
 use Rattle.rc_model.specs.declared.Mode.{Mode}
 use Rattle.rc_model.specs.declared.Mode.TheVariants as mode
 use Rattle.rc_model.specs.Plan.{Ask}
 use Rattle.rc_script.specs.declared.options.Choice.{Choice}
-use Rattle.rc_script.specs.declared.options.Choice.TheVariants.{Up, Down, DownAll, Prune, All, Limit}
+use Rattle.rc_script.specs.declared.options.Choice.TheVariants.{Up, Down, DownAll, Prune, All}
+use Rattle.rc_script.specs.declared.options.Choice.TheVariants.{Limit}
 use Rattle.rc_script.specs.declared.options.Chosen.{Chosen}
 use Rattle.rc_script.specs.Words.{limit_of}
 

@@ -1,5 +1,6 @@
 -- The words of a session line, and numbers among them.
-use Rattle.std.specs.Prelude.{◌==◌, ◌||◌, ◌&&◌, ◌^◌, ℕ, Bool, true, List, [], ◌∷◌, Option, None, Some, length, filter, slice_index, nat_lt, if◌then◌else◌}
+use Rattle.std.specs.Prelude.{◌==◌, ◌||◌, ◌&&◌, ◌^◌, ℕ, Bool, true, List, [], ◌∷◌, Option, None}
+use Rattle.std.specs.Prelude.{Some, length, filter, slice_index, nat_lt, if◌then◌else◌}
 use Rattle.std.specs.List.{slice_split}
 use Rattle.std.specs.Str.{all_ascii_digits}
 use Rattle.std.specs.Str.Parse.{digits_value}

@@ -1,6 +1,7 @@
 //! Event lines.
 ghost use Rattle.std.specs.Prelude.{◌≡◌, map};
-ghost use Rattle.rc_script.specs.Events.{place_of, plain_outcome, outcome_in, take_in, done_in, stop_in, event_by, event_in};
+ghost use Rattle.rc_script.specs.Events.{place_of, plain_outcome, outcome_in, take_in, done_in};
+ghost use Rattle.rc_script.specs.Events.{stop_in, event_by, event_in};
 
 use crate::numbers::{byte_in, moment_in, status_in};
 use rc_core::{Event, Outcome};

@@ -1,6 +1,8 @@
 //! A session line, from bytes to what it says.
 ghost use Rattle.std.specs.Prelude.{◌≡◌, ◌∷◌, IfOk, map};
-ghost use Rattle.rc_script.specs.Says.{Says, IsSaid, HasName, limit_alone, saying_of, sentence, behind, said, plain, alone, addition_of, is_forced, unforced};
+ghost use Rattle.rc_script.specs.Says.{Says, IsSaid, HasName, limit_alone, saying_of, sentence};
+ghost use Rattle.rc_script.specs.Says.{behind, said, plain, alone, addition_of, is_forced};
+ghost use Rattle.rc_script.specs.Says.{unforced};
 
 use crate::options::{Choice, front_of, only_limit, request_of, strings_of};
 use crate::verb::Verb;

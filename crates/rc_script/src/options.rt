@@ -1,7 +1,10 @@
 //! The options in front of the word that says what a line does.
-ghost use Rattle.std.specs.Prelude.{◌≡◌, ◌<◌, false, true, ◌∷◌, None, map, option_map, length, slice_index, IfOk, MatchBool, MatchOption, string_bytes};
+ghost use Rattle.std.specs.Prelude.{◌≡◌, ◌<◌, false, true, ◌∷◌, None, map, option_map, length};
+ghost use Rattle.std.specs.Prelude.{slice_index, IfOk, MatchBool, MatchOption, string_bytes};
 ghost use Rattle.rc_select.specs.Ask.{ask_of};
-ghost use Rattle.rc_script.specs.Options.{IsOption, has_option, choice_of, choices_of, word_choices, front_of, none_chosen, with_choice, with_choices, mode_of, ask_chosen, only_limit};
+ghost use Rattle.rc_script.specs.Options.{IsOption, has_option, choice_of, choices_of};
+ghost use Rattle.rc_script.specs.Options.{word_choices, front_of, none_chosen, with_choice};
+ghost use Rattle.rc_script.specs.Options.{with_choices, mode_of, ask_chosen, only_limit};
 
 use crate::words::limit_of;
 use rc_names::NoMem;

@@ -1,6 +1,7 @@
 //! The lines of a run log: a step as a session line, and an event as a line of a script. Each line
 //! is read back before it is returned, so it says what it was made of.
-ghost use Rattle.std.specs.Prelude.{◌≡◌, ◌++◌, ◌∷◌, [], IfOk, IfSome, IsTrue, Contains, map, string_bytes};
+ghost use Rattle.std.specs.Prelude.{◌≡◌, ◌++◌, ◌∷◌, [], IfOk, IfSome, IsTrue, Contains, map};
+ghost use Rattle.std.specs.Prelude.{string_bytes};
 ghost use Rattle.rc_select.specs.Ask.{ask_of};
 ghost use Rattle.rc_session.specs.Commands.{command_of};
 ghost use Rattle.rc_script.specs.RunLines.{IsEventLine, IsStepLine, least_limited};

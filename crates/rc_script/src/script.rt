@@ -2,7 +2,8 @@
 ghost use Rattle.std.specs.Prelude.{◌≡◌, None, Some, IfOk, IfErr, MatchBool, map, option_map};
 ghost use Rattle.rc_session.specs.Commands.{command_of};
 ghost use Rattle.rc_script.specs.Says.{SaysWrong};
-ghost use Rattle.rc_script.specs.Script.{IsItemSaying, event_item, IsScript, IsScriptFault, AddsLine, CannotAdd, lines_in, taking, with_event};
+ghost use Rattle.rc_script.specs.Script.{IsItemSaying, event_item, IsScript, IsScriptFault};
+ghost use Rattle.rc_script.specs.Script.{AddsLine, CannotAdd, lines_in, taking, with_event};
 ghost use Rattle.rc_script.specs.declared.script.ScriptFault.TheVariants.{Memory};
 
 use crate::events::event_in;

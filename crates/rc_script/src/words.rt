@@ -1,5 +1,6 @@
 //! The words of a line, and numbers among them.
-ghost use Rattle.std.specs.Prelude.{◌≡◌, ◌==◌, ◌||◌, ◌↔◌, ◌<◌, ◌^◌, map, filter, length, nat_lt, All, IfOk, IsTrue, MatchOption};
+ghost use Rattle.std.specs.Prelude.{◌≡◌, ◌==◌, ◌||◌, ◌↔◌, ◌<◌, ◌^◌, map, filter, length, nat_lt};
+ghost use Rattle.std.specs.Prelude.{All, IfOk, IsTrue, MatchOption};
 ghost use Rattle.std.specs.List.{slice_split};
 ghost use Rattle.std.specs.Str.{IsUtf8, all_ascii_digits};
 ghost use Rattle.std.specs.Str.Parse.{digits_value};

@@ -1,19 +1,22 @@
 -- What sets have of the places passed, one more of which is passed.
-use Rattle.std.proofs.Common.{◌≡◌, ◌+◌, ◌<◌, ◌≤◌, ◌⊎◌, ⊎_elim, inl, inr, ℕ, Bool, List, subst, arith}
+use Rattle.std.proofs.Common.{◌≡◌, ◌+◌, ◌<◌, ◌≤◌, ◌⊎◌, ⊎_elim, inl, inr, ℕ, Bool, List, subst}
+use Rattle.std.proofs.Common.{arith}
 use Rattle.std.proofs.lemmas.Bool.{cases_lt}
 use Rattle.rc_model.specs.Names.{Has, Holds}
 use Rattle.rc_set.specs.Next.{HasNoneFrom}
 use Rattle.rc_db.proofs.Pipelines.{one_more_passed}
 
 -- the next one is put in
-pub put_in : (P : ℕ → Type 0) (old new : List Bool) (i : ℕ) → P i → Holds old (λ s. (s < i) × P s) → Holds new (λ s. Has old s ⊎ (s ≡ i)) → Holds new (λ s. (s < i + 1) × P s)
+pub put_in : (P : ℕ → Type 0) (old new : List Bool) (i : ℕ) → P i → Holds old (λ s. (s < i) × P s)
+    → Holds new (λ s. Has old s ⊎ (s ≡ i)) → Holds new (λ s. (s < i + 1) × P s)
 put_in P old new i holds passed more = one_more_passed P old new i passed (λ s. (
   λ has. ⊎_elim (λ in_old. inl in_old) (λ is. inr (is, holds)) ((more s).0 has),
   λ cases. (more s).1 (⊎_elim (λ in_old. inl in_old) (λ is. inr is.0) cases),
 ))
 
 -- or it is left out
-pub left_out : (P : ℕ → Type 0) (set : List Bool) (i : ℕ) → (P i → ⊥) → Holds set (λ s. (s < i) × P s) → Holds set (λ s. (s < i + 1) × P s)
+pub left_out : (P : ℕ → Type 0) (set : List Bool) (i : ℕ) → (P i → ⊥)
+    → Holds set (λ s. (s < i) × P s) → Holds set (λ s. (s < i + 1) × P s)
 left_out P set i fails passed = one_more_passed P set set i passed
     (λ s. (λ has. inl has, λ cases. ⊎_elim (λ in_set. in_set) (λ is. absurd (fails is.1)) cases))
 

@@ -8,14 +8,17 @@ use Rattle.rc_model.specs.Plan.{Target, Kept}
 use Rattle.rc_select.specs.Sides.{MindsEssential}
 
 -- what needs a service that reaches a member reaches one too
-pub down_before : (needs : List (List ℕ)) (In : ℕ → Type 0) (s t : ℕ) → Needs needs s t → DownFrom needs In t → DownFrom needs In s
+pub down_before : (needs : List (List ℕ)) (In : ℕ → Type 0) (s t : ℕ) → Needs needs s t
+    → DownFrom needs In t → DownFrom needs In s
 down_before needs In s t need down = elim down [
   | inl member ↦ inr (t, member, reaches_one needs s t need)
   | inr r ↦ inr (r.0, r.1, reaches_first needs s t r.0 need r.2)
 ]
 
 -- the target of a closed set is closed
-pub target_closed : (needs : List (List ℕ)) (IsUp IsEssentialUp IsWanted : ℕ → Type 0) (mode : Mode) (prune : Bool) → IsClosed needs IsUp → IsClosed needs (Target needs IsUp IsEssentialUp mode prune IsWanted)
+pub target_closed : (needs : List (List ℕ)) (IsUp IsEssentialUp IsWanted : ℕ → Type 0) (mode : Mode)
+    (prune : Bool) → IsClosed needs IsUp
+    → IsClosed needs (Target needs IsUp IsEssentialUp mode prune IsWanted)
 target_closed needs IsUp IsEssentialUp IsWanted Up false closed s t target need = elim target [
   | inl up ↦ inl (closed s t up need)
   | inr wanted ↦ inr (up_is_closed needs IsWanted s t wanted need)
@@ -24,21 +27,31 @@ target_closed needs IsUp IsEssentialUp IsWanted Up true closed s t target need =
   | inl wanted ↦ inl (up_is_closed needs IsWanted s t wanted need)
   | inr held ↦ inr (up_is_closed needs IsEssentialUp s t held need)
 ]
-target_closed needs IsUp IsEssentialUp IsWanted Down prune closed s t target need =
-    (closed s t target.0 need, λ down. up_is_closed needs IsEssentialUp s t (target.1 (down_before needs IsWanted s t need down)) need)
+target_closed needs IsUp IsEssentialUp IsWanted Down prune closed s t target need = (
+  closed s t target.0 need,
+  λ down. up_is_closed needs IsEssentialUp s t (target.1 (down_before needs IsWanted s t need down))
+      need,
+)
 target_closed needs IsUp IsEssentialUp IsWanted DownAll prune closed s t target need =
     (closed s t target.0 need, λ down. target.1 (down_before needs IsWanted s t need down))
 
 -- and so is a set that has just the target's services
-pub same_closed : (needs : List (List ℕ)) (In Also : ℕ → Type 0) → ((s : ℕ) → In s → Also s) → ((s : ℕ) → Also s → In s) → IsClosed needs In → IsClosed needs Also
+pub same_closed : (needs : List (List ℕ)) (In Also : ℕ → Type 0) → ((s : ℕ) → In s → Also s)
+    → ((s : ℕ) → Also s → In s) → IsClosed needs In → IsClosed needs Also
 same_closed needs In Also there back closed s t also need = there t (closed s t (back s also) need)
 
 -- the closures of fewer members are smaller
-up_more : (needs : List (List ℕ)) (In Also : ℕ → Type 0) → ((s : ℕ) → In s → Also s) → (t : ℕ) → UpFrom needs In t → UpFrom needs Also t
-up_more needs In Also there t up = elim up [ inl here ↦ inl (there t here) | inr from ↦ inr (from.0, there from.0 from.1, from.2) ]
+up_more : (needs : List (List ℕ)) (In Also : ℕ → Type 0) → ((s : ℕ) → In s → Also s) → (t : ℕ)
+    → UpFrom needs In t → UpFrom needs Also t
+up_more needs In Also there t up =
+    elim up [ inl here ↦ inl (there t here) | inr from ↦ inr (from.0, there from.0 from.1, from.2) ]
 
-down_more : (needs : List (List ℕ)) (In Also : ℕ → Type 0) → ((s : ℕ) → In s → Also s) → (t : ℕ) → DownFrom needs In t → DownFrom needs Also t
-down_more needs In Also there t down = elim down [ inl here ↦ inl (there t here) | inr from ↦ inr (from.0, there from.0 from.1, from.2) ]
+down_more : (needs : List (List ℕ)) (In Also : ℕ → Type 0) → ((s : ℕ) → In s → Also s) → (t : ℕ)
+    → DownFrom needs In t → DownFrom needs Also t
+down_more needs In Also there t down = elim down [
+  | inl here ↦ inl (there t here)
+  | inr from ↦ inr (from.0, there from.0 from.1, from.2)
+]
 
 -- the same facts have the same target, and the same services are kept; of the essential services
 -- it is asked only where they make a difference
@@ -98,15 +111,19 @@ module _ (needs : List (List ℕ)) (IsUp E F V W : ℕ → Type 0) (mode : Mode)
   )
 
 -- what is kept is essential and up, and in the target
-pub kept_essential : (needs : List (List ℕ)) (IsEssentialUp IsWanted : ℕ → Type 0) (mode : Mode) (prune : Bool) (s : ℕ) → Kept needs IsEssentialUp mode prune IsWanted s → IsEssentialUp s
+pub kept_essential : (needs : List (List ℕ)) (IsEssentialUp IsWanted : ℕ → Type 0) (mode : Mode)
+    (prune : Bool) (s : ℕ) → Kept needs IsEssentialUp mode prune IsWanted s → IsEssentialUp s
 kept_essential needs IsEssentialUp IsWanted Up false s kept = absurd kept
 kept_essential needs IsEssentialUp IsWanted Up true s kept = kept.0
 kept_essential needs IsEssentialUp IsWanted Down prune s kept = kept.0
 kept_essential needs IsEssentialUp IsWanted DownAll prune s kept = absurd kept
 
-pub kept_stays : (needs : List (List ℕ)) (IsUp IsEssentialUp IsWanted : ℕ → Type 0) → ((s : ℕ) → IsEssentialUp s → IsUp s)
-    → (mode : Mode) (prune : Bool) (s : ℕ) → Kept needs IsEssentialUp mode prune IsWanted s → Target needs IsUp IsEssentialUp mode prune IsWanted s
+pub kept_stays : (needs : List (List ℕ)) (IsUp IsEssentialUp IsWanted : ℕ → Type 0)
+    → ((s : ℕ) → IsEssentialUp s → IsUp s)
+    → (mode : Mode) (prune : Bool) (s : ℕ) → Kept needs IsEssentialUp mode prune IsWanted s
+    → Target needs IsUp IsEssentialUp mode prune IsWanted s
 kept_stays needs IsUp IsEssentialUp IsWanted up Up false s kept = absurd kept
 kept_stays needs IsUp IsEssentialUp IsWanted up Up true s kept = inr (inl kept.0)
-kept_stays needs IsUp IsEssentialUp IsWanted up Down prune s kept = (up s kept.0, λ down. inl kept.0)
+kept_stays needs IsUp IsEssentialUp IsWanted up Down prune s kept =
+    (up s kept.0, λ down. inl kept.0)
 kept_stays needs IsUp IsEssentialUp IsWanted up DownAll prune s kept = absurd kept

@@ -1,9 +1,11 @@
-ghost use Rattle.std.specs.Prelude.{◌≡◌, ℕ, List, length, map, All, IfOk, IfErr, OnOk, string_bytes};
+ghost use Rattle.std.specs.Prelude.{◌≡◌, ℕ, List, length, map, All, IfOk, IfErr, OnOk};
+ghost use Rattle.std.specs.Prelude.{string_bytes};
 ghost use Rattle.rc_model.specs.Names.{Has, Holds};
 ghost use Rattle.rc_model.specs.Graph.{IsClosed};
 ghost use Rattle.rc_model.specs.Database.{HaveBound, Bundles, IsDatabase, IsKnown, IsUnknownAt};
 ghost use Rattle.rc_db.specs.QueryFaults.{IsNamesFault};
-ghost use Rattle.rc_model.specs.Plan.{IsPlanTo, Target, Kept, IsEssentialUp, IsWanted, IsPlanOf, CanPlan, IsPlanFault};
+ghost use Rattle.rc_model.specs.Plan.{IsPlanTo, Target, Kept, IsEssentialUp, IsWanted, IsPlanOf};
+ghost use Rattle.rc_model.specs.Plan.{CanPlan, IsPlanFault};
 ghost use Rattle.rc_select.specs.Ask.{ask_of};
 ghost use Rattle.rc_select.specs.PlanFaults.{IsWantedFault};
 ghost use Rattle.rc_select.specs.Sides.{MindsEssential};

@@ -1,5 +1,7 @@
 -- One line after another.
-use Rattle.std.proofs.Common.{◌≡◌, ◌∙◌, ◌⊎◌, inl, inr, ℕ, ◌+◌, ◌-◌, ◌<◌, ◌≤◌, Bool, true, false, List, [], ◌∷◌, ◌++◌, Option, Result, Err, IfErr, length, take, ap, sym, refl, subst, arith, append_assoc, length-append}
+use Rattle.std.proofs.Common.{◌≡◌, ◌∙◌, ◌⊎◌, inl, inr, ℕ, ◌+◌, ◌-◌, ◌<◌, ◌≤◌, Bool, true, false}
+use Rattle.std.proofs.Common.{List, [], ◌∷◌, ◌++◌, Option, Result, Err, IfErr, length, take, ap}
+use Rattle.std.proofs.Common.{sym, refl, subst, arith, append_assoc, length-append}
 use Rattle.std.proofs.lemmas.List.{append-nil}
 use Rattle.std.proofs.lemmas.List.Elements.{All-nil, All-push}
 use Rattle.std.specs.List.{flat_map}
@@ -12,16 +14,20 @@ use Rattle.rc_render.specs.Lines.{line}
 use Rattle.rc_render.proofs.LineLemmas.{one_more}
 use Rattle.rc_streams.specs.Exchange.{Exchange}
 use Rattle.rc_streams.specs.Input.{AppendsFront, ConsumesAtMost}
-use Rattle.rc_streams.specs.Taking.{Held, BeginsTooLong, HandsLine, HandsOut, IsLine, LacksLine, Takes, fresh}
+use Rattle.rc_streams.specs.Taking.{Held, BeginsTooLong, HandsLine, HandsOut, IsLine, LacksLine}
+use Rattle.rc_streams.specs.Taking.{Takes, fresh}
 use Rattle.rc_streams.specs.declared.input.Failure.{Failure}
 use Rattle.rc_streams.specs.declared.input.Failure.TheVariants as failures
 use Rattle.rc_serve.specs.declared.fault.ServeFault.{ServeFault}
-use Rattle.rc_serve.specs.declared.fault.ServeFault.TheVariants.{Read, Write, TooLong, Memory, NoThread, Strange, Workers, Io}
+use Rattle.rc_serve.specs.declared.fault.ServeFault.TheVariants.{Read, Write, TooLong, Memory}
+use Rattle.rc_serve.specs.declared.fault.ServeFault.TheVariants.{NoThread, Strange, Workers, Io}
 use Rattle.rc_serve.specs.declared.keeper.KeepFault.{KeepFault}
 use Rattle.rc_serve.specs.Faults.{EndsSession, IsOfLine, IsServeFault, Spoils, StandsAt, of_failure}
 use Rattle.rc_serve.specs.Meeting.{Doing}
-use Rattle.rc_serve.specs.Serving.{AreLines, BytesWantWork, IsServing, MayMeetBytes, MeetsBytes, NextWantsWork, Serves, ServesAll, ServesFront, ServesNext, Stays}
-use Rattle.rc_serve.specs.Keeping.{AltersNone, Keeping, EndsLine, IsKeptAt, IsKeptOn, IsKeptOrFails, IsKeptUp, IsOfKeeping, ServesFrontKept, StopsAt}
+use Rattle.rc_serve.specs.Serving.{AreLines, BytesWantWork, IsServing, MayMeetBytes, MeetsBytes}
+use Rattle.rc_serve.specs.Serving.{NextWantsWork, Serves, ServesAll, ServesFront, ServesNext, Stays}
+use Rattle.rc_serve.specs.Keeping.{AltersNone, Keeping, EndsLine, IsKeptAt, IsKeptOn, IsKeptOrFails}
+use Rattle.rc_serve.specs.Keeping.{IsKeptUp, IsOfKeeping, ServesFrontKept, StopsAt}
 use Rattle.rc_serve.proofs.Keeping.{kept_more, kept_none}
 
 -- the exchange of these
@@ -34,44 +40,87 @@ over input left written gained = record {
 }
 
 -- one more line is met
-pub serves_more : (Done : Doing) (d : Database) (here : Line) (lines : List (List ℕ)) (text : List ℕ) (mid : Line) (bytes first : List ℕ) (new : Line) → Serves Done d here lines text mid → MeetsBytes Done d mid bytes first new
+pub serves_more : (Done : Doing) (d : Database) (here : Line) (lines : List (List ℕ))
+    (text : List ℕ) (mid : Line) (bytes first : List ℕ) (new : Line)
+    → Serves Done d here lines text mid → MeetsBytes Done d mid bytes first new
     → Serves Done d here (lines ++ bytes ∷ []) (text ++ first) new
 serves_more Done d here [] text mid bytes first new served met =
-    let there = subst (λ (l : Line). MeetsBytes Done d l bytes first new) served.1 met in
-    (first, new, [], there, (refl, refl), ap (λ (t : List ℕ). t ++ first) served.0 ∙ sym (append-nil first))
+    let there = subst (λ (l : Line). MeetsBytes Done d l bytes first new) served.1 met in (
+      first,
+      new,
+      [],
+      there,
+      (refl, refl),
+      ap (λ (t : List ℕ). t ++ first) served.0
+          ∙ sym (append-nil first),
+    )
 serves_more Done d here (x ∷ lines) text mid bytes first new served met =
-    let (one, next, others, here_met, rest, whole) = served in
-    (one, next, others ++ first, here_met, serves_more Done d next lines others mid bytes first new rest met, ap (λ (t : List ℕ). t ++ first) whole ∙ append_assoc one others first)
+    let (one, next, others, here_met, rest, whole) = served in (
+      one,
+      next,
+      others ++ first,
+      here_met,
+      serves_more Done d next lines others mid bytes first new rest met,
+      ap (λ (t : List ℕ). t ++ first) whole ∙ append_assoc one others first,
+    )
 
 -- lines are served, and then others
-pub serves_both : (Done : Doing) (d : Database) (here : Line) (lines : List (List ℕ)) (text : List ℕ) (mid : Line) (more : List (List ℕ)) (answer : List ℕ) (new : Line)
-    → Serves Done d here lines text mid → Serves Done d mid more answer new → Serves Done d here (lines ++ more) (text ++ answer) new
+pub serves_both : (Done : Doing) (d : Database) (here : Line) (lines : List (List ℕ))
+    (text : List ℕ) (mid : Line) (more : List (List ℕ)) (answer : List ℕ) (new : Line)
+    → Serves Done d here lines text mid → Serves Done d mid more answer new
+    → Serves Done d here (lines ++ more) (text ++ answer) new
 serves_both Done d here [] text mid more answer new served next =
-    subst (λ (t : List ℕ). Serves Done d here more (t ++ answer) new) (sym served.0) (subst (λ (l : Line). Serves Done d l more answer new) served.1 next)
-serves_both Done d here (bytes ∷ lines) text mid more answer new (first, on, others, met, rest, whole) next =
-    (first, on, others ++ answer, met, serves_both Done d on lines others mid more answer new rest next, ap (λ (t : List ℕ). t ++ answer) whole ∙ append_assoc first others answer)
+    subst (λ (t : List ℕ). Serves Done d here more (t ++ answer) new) (sym served.0)
+    (subst (λ (l : Line). Serves Done d l more answer new) served.1 next)
+serves_both Done d here (bytes ∷ lines) text mid more answer new
+    (first, on, others, met, rest, whole) next = (
+      first,
+      on,
+      others ++ answer,
+      met,
+      serves_both Done d on lines others mid more answer new rest next,
+      ap (λ (t : List ℕ). t ++ answer) whole ∙ append_assoc first others answer,
+    )
 
 -- what was handed out, and then the next part
-pub hands_on : (old here new : Option (List ℕ)) (before held after : Held) (front more : List ℕ) → HandsOut old here before held front → HandsOut here new held after more → HandsOut old new before after (front ++ more)
+pub hands_on : (old here new : Option (List ℕ)) (before held after : Held) (front more : List ℕ)
+    → HandsOut old here before held front → HandsOut here new held after more
+    → HandsOut old new before after (front ++ more)
 hands_on old here new before held after front more first next = record {
   bytes = first.bytes ++ next.bytes;
   consumed = Consumes-trans old here new first.bytes next.bytes first.consumed next.consumed;
   counted = omega (arith, first.counted, next.counted, length-append first.bytes next.bytes);
-  split = sym (append_assoc before.pending first.bytes next.bytes) ∙ (ap (λ (t : List ℕ). t ++ next.bytes) first.split
-      ∙ (append_assoc front held.pending next.bytes ∙ (ap (λ (t : List ℕ). front ++ t) next.split ∙ sym (append_assoc front more after.pending))));
+  split =
+      sym (append_assoc before.pending first.bytes next.bytes)
+      ∙ (ap (λ (t : List ℕ). t ++ next.bytes) first.split
+      ∙ (append_assoc front held.pending next.bytes
+      ∙ (ap (λ (t : List ℕ). front ++ t) next.split
+      ∙ sym (append_assoc front more after.pending))));
 }
 
 -- one more line with its newline
-pub serving_on : (Done : Doing) (input here left : Option (List ℕ)) (held after : Held) (written mid gained : Option (List ℕ)) (old now new : Holding) → IsServing Done (over input here written mid) held old now
-    → ServesNext Done true (over here left mid gained) held after now new → Stays now new → new.spoiled ≡ now.spoiled → after.taken ≤ 16777217 → IsServing Done (over input left written gained) after old new
-serving_on Done input here left held after written mid gained old now new so next stays whole within =
+pub serving_on : (Done : Doing) (input here left : Option (List ℕ)) (held after : Held)
+    (written mid gained : Option (List ℕ)) (old now new : Holding)
+    → IsServing Done (over input here written mid) held old now
+    → ServesNext Done true (over here left mid gained) held after now new → Stays now new
+    → new.spoiled ≡ now.spoiled → after.taken ≤ 16777217
+    → IsServing Done (over input left written gained) after old new
+serving_on Done input here left held after written mid gained old now new so next
+    stays whole within =
     let (bytes, text, handed, met, told) = next in
     record {
       lines = so.lines ++ bytes ∷ [];
       text = so.text ++ text;
       each = All-push IsLine so.lines bytes so.each handed.0;
-      hands = subst (λ (t : List ℕ). HandsOut input left fresh after t) (sym (one_more line so.lines bytes)) (hands_on input here left fresh held after (flat_map line so.lines) (line bytes) so.hands handed.1);
-      met = serves_more Done old.database old.line so.lines so.text now.line bytes text new.line so.met (subst (λ (d : Database). MeetsBytes Done d now.line bytes text new.line) so.stays.0 met);
+      hands =
+          subst (λ (t : List ℕ). HandsOut input left fresh after t)
+          (sym (one_more line so.lines bytes))
+          (hands_on input here left fresh held after (flat_map line so.lines) (line bytes)
+          so.hands handed.1);
+      met =
+          serves_more Done old.database old.line so.lines so.text now.line bytes text new.line
+          so.met (subst (λ (d : Database). MeetsBytes Done d now.line bytes text new.line)
+          so.stays.0 met);
       told = Appends-trans written mid gained so.text text so.told told;
       stays = (stays.0 ∙ so.stays.0, stays.1);
       whole = whole ∙ so.whole;
@@ -79,13 +128,17 @@ serving_on Done input here left held after written mid gained old now new so nex
     }
 
 -- the input is at its end
-pub serves_all : (Done : Doing) (input here left : Option (List ℕ)) (held after : Held) (written mid gained : Option (List ℕ)) (old now new : Holding) → IsServing Done (over input here written mid) held old now
-    → ServesNext Done false (over here left mid gained) held after now new → ServesAll Done (over input left written gained) old new
+pub serves_all : (Done : Doing) (input here left : Option (List ℕ)) (held after : Held)
+    (written mid gained : Option (List ℕ)) (old now new : Holding)
+    → IsServing Done (over input here written mid) held old now
+    → ServesNext Done false (over here left mid gained) held after now new
+    → ServesAll Done (over input left written gained) old new
 serves_all Done input here left held after written mid gained old now new so (inl next) =
     let (bytes, text, handed, met, told) = next in
     let (one, hands, some, ended) = handed in
     let (none, end, within) = ended in
-    let all = hands_on input here left fresh held after (flat_map line so.lines) bytes so.hands hands in
+    let all =
+    hands_on input here left fresh held after (flat_map line so.lines) bytes so.hands hands in
     record {
       bytes = all.bytes;
       lines = so.lines ++ bytes ∷ [];
@@ -95,16 +148,28 @@ serves_all Done input here left held after written mid gained old now new so (in
       within = omega (arith, all.counted, within);
       spelled = (
         All-push IsLine so.lines bytes so.each one,
-        inr (so.lines, bytes, refl, some, all.split ∙ (ap (λ (t : List ℕ). (flat_map line so.lines ++ bytes) ++ t) none ∙ append-nil (flat_map line so.lines ++ bytes)), refl),
+        inr (
+          so.lines,
+          bytes,
+          refl,
+          some,
+          all.split ∙ (ap (λ (t : List ℕ). (flat_map line so.lines ++ bytes) ++ t) none
+              ∙ append-nil (flat_map line so.lines ++ bytes)),
+          refl,
+        ),
       );
-      met = serves_more Done old.database old.line so.lines so.text now.line bytes text new.line so.met (subst (λ (d : Database). MeetsBytes Done d now.line bytes text new.line) so.stays.0 met);
+      met =
+          serves_more Done old.database old.line so.lines so.text now.line bytes text new.line
+          so.met (subst (λ (d : Database). MeetsBytes Done d now.line bytes text new.line)
+          so.stays.0 met);
       told = Appends-trans written mid gained so.text text so.told told;
     }
 serves_all Done input here left held after written mid gained old now new so (inr next) =
     let (handed, same, kept) = next in
     let (hands, ended) = handed in
     let (none, end, within) = ended in
-    let all = hands_on input here left fresh held after (flat_map line so.lines) [] so.hands hands in
+    let all =
+    hands_on input here left fresh held after (flat_map line so.lines) [] so.hands hands in
     record {
       bytes = all.bytes;
       lines = so.lines;
@@ -112,37 +177,70 @@ serves_all Done input here left held after written mid gained old now new so (in
       consumed = all.consumed;
       end = end;
       within = omega (arith, all.counted, within);
-      spelled = (so.each, inl (all.split ∙ ap (λ (t : List ℕ). (flat_map line so.lines ++ []) ++ t) none ∙ append-nil (flat_map line so.lines ++ [])));
-      met = subst (λ (l : Line). Serves Done old.database old.line so.lines so.text l) (sym same) so.met;
+      spelled = (
+        so.each,
+        inl (all.split ∙ ap (λ (t : List ℕ). (flat_map line so.lines ++ []) ++ t) none
+            ∙ append-nil (flat_map line so.lines ++ [])),
+      );
+      met =
+          subst (λ (l : Line). Serves Done old.database old.line so.lines so.text l)
+          (sym same) so.met;
       told = subst (λ (c : Option (List ℕ)). Appends written c so.text) (sym kept) so.told;
     }
 
 -- a fault stands for other reasons that follow, where as many bytes were read
-stands_as : (fault : ServeFault) (P Q W X : Type 0) (taken count : ℕ) (rest : List ℕ) → (P → Q) → (W → X) → taken ≡ count → StandsAt fault P W taken rest → StandsAt fault Q X count rest
-stands_as Read P Q W X taken count rest spoiled work is stands = (stands.0, omega (arith, is, stands.1))
+stands_as : (fault : ServeFault) (P Q W X : Type 0) (taken count : ℕ) (rest : List ℕ) → (P → Q)
+    → (W → X) → taken ≡ count → StandsAt fault P W taken rest → StandsAt fault Q X count rest
+stands_as Read P Q W X taken count rest spoiled work is stands =
+    (stands.0, omega (arith, is, stands.1))
 stands_as Write P Q W X taken count rest spoiled work is stands = tt
-stands_as TooLong P Q W X taken count rest spoiled work is stands = subst (λ (n : ℕ). (IsLine rest × (16777216 < n)) ⊎ BeginsTooLong rest) is stands
+stands_as TooLong P Q W X taken count rest spoiled work is stands =
+    subst (λ (n : ℕ). (IsLine rest × (16777216 < n)) ⊎ BeginsTooLong rest) is stands
 stands_as Memory P Q W X taken count rest spoiled work is stands = tt
 stands_as NoThread P Q W X taken count rest spoiled work is stands = work stands
-stands_as Strange P Q W X taken count rest spoiled work is stands = elim stands [ inl was ↦ inl (spoiled was) | inr wants ↦ inr (work wants) ]
+stands_as Strange P Q W X taken count rest spoiled work is stands =
+    elim stands [ inl was ↦ inl (spoiled was) | inr wants ↦ inr (work wants) ]
 stands_as Workers P Q W X taken count rest spoiled work is stands = tt
 stands_as Io P Q W X taken count rest spoiled work is stands = tt
 
 -- one line is met
-serves_one : (Done : Doing) (d : Database) (here : Line) (bytes text : List ℕ) (new : Line) → MeetsBytes Done d here bytes text new → Serves Done d here (bytes ∷ []) text new
-serves_one Done d here bytes text new met = (text, new, [], met, (refl, refl), sym (append-nil text))
+serves_one : (Done : Doing) (d : Database) (here : Line) (bytes text : List ℕ) (new : Line)
+    → MeetsBytes Done d here bytes text new → Serves Done d here (bytes ∷ []) text new
+serves_one Done d here bytes text new met =
+    (text, new, [], met, (refl, refl), sym (append-nil text))
 
 -- the line that stands is kept, or the one before it, and nothing was written of the answer
-front_kept : (fault : ServeFault) (May : KeepFault → Type 0) (first was is : Keeping) (old now new : Holding) (n : ℕ) → now.database ≡ old.database → IsKeptUp was is now.database now.line new.line ⊎ (IsOfKeeping May fault × (n ≡ 0) × IsKeptOn was is)
-    → IsKeptUp first was old.database old.line now.line → IsKeptAt fault May first is old.database old.line now.line new.line n
-front_kept fault May first was is old now new n same (inl keeps) kept = inl (kept_more first was is old.database old.line now.line new.line kept (subst (λ (d : Database). IsKeptUp was is d now.line new.line) same keeps))
-front_kept fault May first was is old now new n same (inr (so, none, on)) kept = inr (so, none, kept_more first was is old.database old.line now.line now.line kept (inr (on, refl)))
+front_kept : (fault : ServeFault) (May : KeepFault → Type 0) (first was is : Keeping)
+    (old now new : Holding) (n : ℕ) → now.database ≡ old.database
+    → IsKeptUp was is now.database now.line new.line
+    ⊎ (IsOfKeeping May fault × (n ≡ 0) × IsKeptOn was is)
+    → IsKeptUp first was old.database old.line now.line
+    → IsKeptAt fault May first is old.database old.line now.line new.line n
+front_kept fault May first was is old now new n same (inl keeps) kept =
+    inl (kept_more first was is old.database old.line now.line new.line kept
+    (subst (λ (d : Database). IsKeptUp was is d now.line new.line) same keeps))
+front_kept fault May first was is old now new n same (inr (so, none, on)) kept =
+    inr (
+      so,
+      none,
+      kept_more first was is old.database old.line now.line now.line kept
+          (inr (on, refl)),
+    )
 
-front_line : (Done : Doing) (fault : ServeFault) (May : KeepFault → Type 0) (first was is : Keeping) (input here left : Option (List ℕ)) (held after : Held) (written mid gained : Option (List ℕ)) (old now new : Holding) (ends : Bool) (bytes text : List ℕ) → IsOfLine fault → IsServing Done (over input here written mid) held old now
-    → HandsLine ends here left held after bytes → MeetsBytes Done now.database now.line bytes text new.line → (told : AppendsFront mid gained text) → IsKeptUp was is now.database now.line new.line ⊎ (IsOfKeeping May fault × (told.0 ≡ 0) × IsKeptOn was is)
-    → IsKeptUp first was old.database old.line now.line → ServesFrontKept Done fault May first is (over input left written gained) old new
-front_line Done fault May first was is input here left held after written mid gained old now new true bytes text of so handed met told keeps kept =
-    let all = hands_on input here left fresh held after (flat_map line so.lines) (line bytes) so.hands handed.1 in (
+front_line : (Done : Doing) (fault : ServeFault) (May : KeepFault → Type 0) (first was is : Keeping)
+    (input here left : Option (List ℕ)) (held after : Held) (written mid gained : Option (List ℕ))
+    (old now new : Holding) (ends : Bool) (bytes text : List ℕ) → IsOfLine fault
+    → IsServing Done (over input here written mid) held old now
+    → HandsLine ends here left held after bytes
+    → MeetsBytes Done now.database now.line bytes text new.line
+    → (told : AppendsFront mid gained text) → IsKeptUp was is now.database now.line new.line
+    ⊎ (IsOfKeeping May fault × (told.0 ≡ 0) × IsKeptOn was is)
+    → IsKeptUp first was old.database old.line now.line
+    → ServesFrontKept Done fault May first is (over input left written gained) old new
+front_line Done fault May first was is input here left held after written mid gained old now new
+    true bytes text of so handed met told keeps kept =
+    let all = hands_on input here left fresh held after (flat_map line so.lines) (line bytes)
+    so.hands handed.1 in (
       record {
         bytes = all.bytes;
         rest = after.pending;
@@ -154,20 +252,26 @@ front_line Done fault May first was is input here left held after written mid ga
         consumed = all.consumed;
         spelled = (
           All-push IsLine so.lines bytes so.each handed.0,
-          inl (all.split ∙ ap (λ (t : List ℕ). t ++ after.pending) (sym (one_more line so.lines bytes))),
+          inl (all.split ∙ ap (λ (t : List ℕ). t ++ after.pending)
+              (sym (one_more line so.lines bytes))),
         );
         met = so.met;
         one = omega arith;
-        met_more = serves_one Done old.database now.line bytes text new.line (subst (λ (d : Database). MeetsBytes Done d now.line bytes text new.line) so.stays.0 met);
+        met_more =
+            serves_one Done old.database now.line bytes text new.line
+            (subst (λ (d : Database). MeetsBytes Done d now.line bytes text new.line)
+            so.stays.0 met);
         told = (told.0, Appends-trans written mid gained so.text (take told.0 text) so.told told.1);
         stands = inl of;
       },
       front_kept fault May first was is old now new told.0 so.stays.0 keeps kept,
     )
-front_line Done fault May first was is input here left held after written mid gained old now new false bytes text of so handed met told keeps kept =
+front_line Done fault May first was is input here left held after written mid gained old now new
+    false bytes text of so handed met told keeps kept =
     let (one, hands, some, ended) = handed in
     let (none, end, within) = ended in
-    let all = hands_on input here left fresh held after (flat_map line so.lines) bytes so.hands hands in (
+    let all =
+    hands_on input here left fresh held after (flat_map line so.lines) bytes so.hands hands in (
       record {
         bytes = all.bytes;
         rest = [];
@@ -179,11 +283,22 @@ front_line Done fault May first was is input here left held after written mid ga
         consumed = all.consumed;
         spelled = (
           All-push IsLine so.lines bytes so.each one,
-          inr (so.lines, bytes, refl, some, all.split ∙ (ap (λ (t : List ℕ). (flat_map line so.lines ++ bytes) ++ t) none ∙ append-nil (flat_map line so.lines ++ bytes)), refl),
+          inr (
+            so.lines,
+            bytes,
+            refl,
+            some,
+            all.split ∙ (ap (λ (t : List ℕ). (flat_map line so.lines ++ bytes) ++ t) none
+                ∙ append-nil (flat_map line so.lines ++ bytes)),
+            refl,
+          ),
         );
         met = so.met;
         one = omega arith;
-        met_more = serves_one Done old.database now.line bytes text new.line (subst (λ (d : Database). MeetsBytes Done d now.line bytes text new.line) so.stays.0 met);
+        met_more =
+            serves_one Done old.database now.line bytes text new.line
+            (subst (λ (d : Database). MeetsBytes Done d now.line bytes text new.line)
+            so.stays.0 met);
         told = (told.0, Appends-trans written mid gained so.text (take told.0 text) so.told told.1);
         stands = inl of;
       },
@@ -191,13 +306,22 @@ front_line Done fault May first was is input here left held after written mid ga
     )
 
 -- what the next line wants, it wants of the same database and line of states
-wants_as : (d e : Database) (here there : Line) (bytes : List ℕ) → d ≡ e → there ≡ here → NextWantsWork d here bytes → NextWantsWork e there bytes
-wants_as d e here there bytes same still wants = subst (λ (b : Database). NextWantsWork b there bytes) same (subst (λ (l : Line). NextWantsWork d l bytes) (sym still) wants)
+wants_as : (d e : Database) (here there : Line) (bytes : List ℕ) → d ≡ e → there ≡ here
+    → NextWantsWork d here bytes → NextWantsWork e there bytes
+wants_as d e here there bytes same still wants =
+    subst (λ (b : Database). NextWantsWork b there bytes) same
+    (subst (λ (l : Line). NextWantsWork d l bytes) (sym still) wants)
 
 -- a fault came
-pub serves_front : (Done : Doing) (fault : ServeFault) (May : KeepFault → Type 0) (first was is : Keeping) (input here left : Option (List ℕ)) (held after : Held) (written mid gained : Option (List ℕ)) (old now new : Holding) → IsServing Done (over input here written mid) held old now
-    → IsKeptUp first was old.database old.line now.line → StopsAt Done fault May was is (over here left mid gained) held after now new → ServesFrontKept Done fault May first is (over input left written gained) old new
-serves_front Done fault May first was is input here left held after written mid gained old now new so before (inl stop) =
+pub serves_front : (Done : Doing) (fault : ServeFault) (May : KeepFault → Type 0)
+    (first was is : Keeping) (input here left : Option (List ℕ)) (held after : Held)
+    (written mid gained : Option (List ℕ)) (old now new : Holding)
+    → IsServing Done (over input here written mid) held old now
+    → IsKeptUp first was old.database old.line now.line
+    → StopsAt Done fault May was is (over here left mid gained) held after now new
+    → ServesFrontKept Done fault May first is (over input left written gained) old new
+serves_front Done fault May first was is input here left held after written mid gained old now new
+    so before (inl stop) =
     let (takes, same, kept, stands, keeps) = stop in
     let told = subst (λ (c : Option (List ℕ)). Appends written c so.text) (sym kept) so.told in (
       record {
@@ -208,91 +332,217 @@ serves_front Done fault May first was is input here left held after written mid 
         here = now.line;
         more = [];
         answer = [];
-        consumed = Consumes-trans input here left so.hands.bytes takes.bytes so.hands.consumed takes.consumed;
-        spelled = subst (λ (all : List (List ℕ)). AreLines all (so.hands.bytes ++ takes.bytes) (held.pending ++ takes.bytes)) (sym (append-nil so.lines))
-            (so.each, inl (ap (λ (t : List ℕ). t ++ takes.bytes) so.hands.split ∙ append_assoc (flat_map line so.lines) held.pending takes.bytes));
+        consumed =
+            Consumes-trans input here left so.hands.bytes takes.bytes so.hands.consumed
+            takes.consumed;
+        spelled =
+            subst (λ (all : List (List ℕ)). AreLines all (so.hands.bytes ++ takes.bytes)
+            (held.pending ++ takes.bytes)) (sym (append-nil so.lines)) (
+              so.each,
+              inl (ap (λ (t : List ℕ). t ++ takes.bytes) so.hands.split
+                  ∙ append_assoc (flat_map line so.lines) held.pending takes.bytes),
+            );
         met = so.met;
         one = omega arith;
         met_more = (refl, same);
-        told = (0, subst (λ (t : List ℕ). Appends written gained t) (sym (append-nil so.text)) told);
+        told =
+            (0, subst (λ (t : List ℕ). Appends written gained t) (sym (append-nil so.text)) told);
         stands = inr (
           refl,
-          stands_as fault (now.spoiled ≡ true) (old.spoiled ≡ true) (NextWantsWork now.database now.line (held.pending ++ takes.bytes)) (NextWantsWork old.database new.line (held.pending ++ takes.bytes))
-              after.taken (length (so.hands.bytes ++ takes.bytes)) (held.pending ++ takes.bytes) (λ was. sym so.whole ∙ was) (wants_as now.database old.database now.line new.line (held.pending ++ takes.bytes) so.stays.0 same)
-              (omega (arith, so.hands.counted, takes.counted, length-append so.hands.bytes takes.bytes)) stands,
+          stands_as fault (now.spoiled ≡ true) (old.spoiled ≡ true)
+              (NextWantsWork now.database now.line (held.pending ++ takes.bytes))
+              (NextWantsWork old.database new.line (held.pending ++ takes.bytes))
+              after.taken (length (so.hands.bytes ++ takes.bytes)) (held.pending ++ takes.bytes)
+              (λ was. sym so.whole ∙ was)
+              (wants_as now.database old.database now.line new.line (held.pending ++ takes.bytes)
+              so.stays.0 same)
+              (omega (
+                arith,
+                so.hands.counted,
+                takes.counted,
+                length-append so.hands.bytes takes.bytes,
+              )) stands,
         );
       },
-      inl (kept_more first was is old.database old.line now.line new.line before (subst (λ (d : Database). IsKeptUp was is d now.line new.line) so.stays.0 keeps)),
+      inl (kept_more first was is old.database old.line now.line new.line before
+          (subst (λ (d : Database). IsKeptUp was is d now.line new.line) so.stays.0 keeps)),
     )
-serves_front Done fault May first was is input here left held after written mid gained old now new so before (inr stop) =
+serves_front Done fault May first was is input here left held after written mid gained old now new
+    so before (inr stop) =
     let (of, ends, bytes, text, handed, met, n, told, keeps) = stop in
-    front_line Done fault May first was is input here left held after written mid gained old now new ends bytes text of so handed met (n, told) keeps before
+    front_line Done fault May first was is input here left held after written mid gained old now new
+    ends bytes text of so handed met (n, told) keeps before
 
 -- the line that was handed out is the next one of what was held and read
-next_line : (ends : Bool) (input left : Option (List ℕ)) (held after : Held) (bytes : List ℕ) → HandsLine ends input left held after bytes
-    → (takes : Takes input left held.taken after.taken) × (rest : List ℕ) × AreLines (bytes ∷ []) (held.pending ++ takes.bytes) rest
+next_line : (ends : Bool) (input left : Option (List ℕ)) (held after : Held) (bytes : List ℕ)
+    → HandsLine ends input left held after bytes
+    → (takes : Takes input left held.taken after.taken) × (rest : List ℕ)
+    × AreLines (bytes ∷ []) (held.pending ++ takes.bytes) rest
 next_line true input left held after bytes (one, hands) = (
   record { bytes = hands.bytes; consumed = hands.consumed; counted = hands.counted },
   after.pending,
-  (All-push IsLine [] bytes (All-nil IsLine) one, inl (hands.split ∙ ap (λ (t : List ℕ). t ++ after.pending) (sym (one_more line [] bytes)))),
+  (
+    All-push IsLine [] bytes (All-nil IsLine) one,
+    inl (hands.split ∙ ap (λ (t : List ℕ). t ++ after.pending) (sym (one_more line [] bytes))),
+  ),
 )
 next_line false input left held after bytes (one, hands, some, ended) = (
   record { bytes = hands.bytes; consumed = hands.consumed; counted = hands.counted },
   [],
-  (All-push IsLine [] bytes (All-nil IsLine) one, inr ([], bytes, refl, some, hands.split ∙ (ap (λ (t : List ℕ). bytes ++ t) ended.0 ∙ append-nil bytes), refl)),
+  (
+    All-push IsLine [] bytes (All-nil IsLine) one,
+    inr (
+      [],
+      bytes,
+      refl,
+      some,
+      hands.split ∙ (ap (λ (t : List ℕ). bytes ++ t) ended.0 ∙ append-nil bytes),
+      refl,
+    ),
+  ),
 )
 
 -- what is kept where the line of states is as it was, and where nothing was written
-pub still_kept : (fault : ServeFault) (May : KeepFault → Type 0) (was is : Keeping) (d : Database) (here new : Line) → new ≡ here → IsKeptOrFails fault May was is d here new → IsKeptUp was is d here new
+pub still_kept : (fault : ServeFault) (May : KeepFault → Type 0) (was is : Keeping) (d : Database)
+    (here new : Line) → new ≡ here → IsKeptOrFails fault May was is d here new
+    → IsKeptUp was is d here new
 still_kept fault May was is d here new same (inl kept) = kept
 still_kept fault May was is d here new same (inr failed) = inr (failed.1, same)
 
-pub unwritten_kept : (fault : ServeFault) (May : KeepFault → Type 0) (was is : Keeping) (d : Database) (here new : Line) → IsKeptOrFails fault May was is d here new → IsKeptUp was is d here new ⊎ (IsOfKeeping May fault × (◌≡◌ {A = ℕ} 0 0) × IsKeptOn was is)
+pub unwritten_kept : (fault : ServeFault) (May : KeepFault → Type 0) (was is : Keeping)
+    (d : Database) (here new : Line) → IsKeptOrFails fault May was is d here new
+    → IsKeptUp was is d here new ⊎ (IsOfKeeping May fault × (◌≡◌ {A = ℕ} 0 0) × IsKeptOn was is)
 unwritten_kept fault May was is d here new (inl kept) = inl kept
 unwritten_kept fault May was is d here new (inr failed) = inr (failed.0, refl, failed.1)
 
 -- a line was handed out, and no answer came of it
-ends_short : (Done : Doing) (fault : ServeFault) (May : KeepFault → Type 0) (was is : Keeping) (ends : Bool) (input left : Option (List ℕ)) (held after : Held) (written : Option (List ℕ)) (old new : Holding) (bytes : List ℕ) → HandsLine ends input left held after bytes → Takes input left held.taken after.taken
-    → MayMeetBytes Done old.database old.line bytes new.line → IsKeptOrFails fault May was is old.database old.line new.line → EndsSession (BytesWantWork old.database old.line bytes) old new fault → StopsAt Done fault May was is (over input left written written) held after old new
-ends_short Done Read May was is ends input left held after written old new bytes handed takes may keeps end = absurd end
-ends_short Done Write May was is ends input left held after written old new bytes handed takes may keeps end = absurd end
-ends_short Done TooLong May was is ends input left held after written old new bytes handed takes may keeps end = absurd end
-ends_short Done Memory May was is ends input left held after written old new bytes handed takes (inl same) keeps end = inl (takes, same, refl, tt, still_kept Memory May was is old.database old.line new.line same keeps)
-ends_short Done Memory May was is ends input left held after written old new bytes handed takes (inr met) keeps end = inr (tt, ends, bytes, met.0, handed, met.1, 0, Appends-nil written, unwritten_kept Memory May was is old.database old.line new.line keeps)
-ends_short Done NoThread May was is ends input left held after written old new bytes handed takes may keeps end =
+ends_short : (Done : Doing) (fault : ServeFault) (May : KeepFault → Type 0) (was is : Keeping)
+    (ends : Bool) (input left : Option (List ℕ)) (held after : Held) (written : Option (List ℕ))
+    (old new : Holding) (bytes : List ℕ) → HandsLine ends input left held after bytes
+    → Takes input left held.taken after.taken
+    → MayMeetBytes Done old.database old.line bytes new.line
+    → IsKeptOrFails fault May was is old.database old.line new.line
+    → EndsSession (BytesWantWork old.database old.line bytes) old new fault
+    → StopsAt Done fault May was is (over input left written written) held after old new
+ends_short Done Read May was is ends input left held after written old new bytes handed takes may
+    keeps end = absurd end
+ends_short Done Write May was is ends input left held after written old new bytes handed takes may
+    keeps end = absurd end
+ends_short Done TooLong May was is ends input left held after written old new bytes handed takes may
+    keeps end = absurd end
+ends_short Done Memory May was is ends input left held after written old new bytes handed takes
+    (inl same) keeps end =
+    inl (
+      takes,
+      same,
+      refl,
+      tt,
+      still_kept Memory May was is old.database old.line new.line same keeps,
+    )
+ends_short Done Memory May was is ends input left held after written old new bytes handed takes
+    (inr met) keeps end = inr (
+      tt,
+      ends,
+      bytes,
+      met.0,
+      handed,
+      met.1,
+      0,
+      Appends-nil written,
+      unwritten_kept Memory May was is old.database old.line new.line keeps,
+    )
+ends_short Done NoThread May was is ends input left held after written old new bytes handed takes
+    may keeps end =
     let (taken, rest, spelled) = next_line ends input left held after bytes handed in
-    inl (taken, end.1, refl, (bytes, rest, spelled, end.0), still_kept NoThread May was is old.database old.line new.line end.1 keeps)
-ends_short Done Strange May was is ends input left held after written old new bytes handed takes may keeps end =
+    inl (
+      taken,
+      end.1,
+      refl,
+      (bytes, rest, spelled, end.0),
+      still_kept NoThread May was is old.database old.line new.line end.1 keeps,
+    )
+ends_short Done Strange May was is ends input left held after written old new bytes handed takes
+    may keeps end =
     let (taken, rest, spelled) = next_line ends input left held after bytes handed in
-    inl (taken, end.1, refl, elim end.0 [ inl spoiled ↦ inl spoiled | inr work ↦ inr (bytes, rest, spelled, work) ], still_kept Strange May was is old.database old.line new.line end.1 keeps)
-ends_short Done Workers May was is ends input left held after written old new bytes handed takes may keeps end = absurd end
-ends_short Done Io May was is ends input left held after written old new bytes handed takes may keeps end = absurd end
+    inl (
+      taken,
+      end.1,
+      refl,
+      elim end.0 [
+        | inl spoiled ↦ inl spoiled
+        | inr work ↦ inr (bytes, rest, spelled, work)
+      ],
+      still_kept Strange May was is old.database old.line new.line end.1 keeps,
+    )
+ends_short Done Workers May was is ends input left held after written old new bytes handed takes may
+    keeps end = absurd end
+ends_short Done Io May was is ends input left held after written old new bytes handed takes may
+    keeps end = absurd end
 
-io_short : (Done : Doing) (May : KeepFault → Type 0) (was is : Keeping) (ends : Bool) (input left : Option (List ℕ)) (held after : Held) (written : Option (List ℕ)) (old new : Holding) (bytes : List ℕ) → HandsLine ends input left held after bytes → Takes input left held.taken after.taken
-    → MayMeetBytes Done old.database old.line bytes new.line → IsKeptOrFails Io May was is old.database old.line new.line → StopsAt Done Io May was is (over input left written written) held after old new
-io_short Done May was is ends input left held after written old new bytes handed takes (inl same) keeps = inl (takes, same, refl, tt, still_kept Io May was is old.database old.line new.line same keeps)
-io_short Done May was is ends input left held after written old new bytes handed takes (inr met) keeps = inr (tt, ends, bytes, met.0, handed, met.1, 0, Appends-nil written, unwritten_kept Io May was is old.database old.line new.line keeps)
+io_short : (Done : Doing) (May : KeepFault → Type 0) (was is : Keeping) (ends : Bool)
+    (input left : Option (List ℕ)) (held after : Held) (written : Option (List ℕ))
+    (old new : Holding) (bytes : List ℕ) → HandsLine ends input left held after bytes
+    → Takes input left held.taken after.taken
+    → MayMeetBytes Done old.database old.line bytes new.line
+    → IsKeptOrFails Io May was is old.database old.line new.line
+    → StopsAt Done Io May was is (over input left written written) held after old new
+io_short Done May was is ends input left held after written old new bytes handed takes (inl same)
+    keeps =
+    inl (takes, same, refl, tt, still_kept Io May was is old.database old.line new.line same keeps)
+io_short Done May was is ends input left held after written old new bytes handed takes (inr met)
+    keeps = inr (
+      tt,
+      ends,
+      bytes,
+      met.0,
+      handed,
+      met.1,
+      0,
+      Appends-nil written,
+      unwritten_kept Io May was is old.database old.line new.line keeps,
+    )
 
-pub stops_short : (Done : Doing) (fault : ServeFault) (May : KeepFault → Type 0) (was is : Keeping) (keeper : Type 0) (ends : Bool) (input left : Option (List ℕ)) (held after : Held) (written : Option (List ℕ)) (old new : Holding) (bytes : List ℕ) → HandsLine ends input left held after bytes → Takes input left held.taken after.taken
-    → MayMeetBytes Done old.database old.line bytes new.line → IsKeptOrFails fault May was is old.database old.line new.line → EndsLine keeper (BytesWantWork old.database old.line bytes) old new fault → StopsAt Done fault May was is (over input left written written) held after old new
-stops_short Done fault May was is keeper ends input left held after written old new bytes handed takes may keeps (inl io) =
-    subst (λ (f : ServeFault). StopsAt Done f May was is (over input left written written) held after old new) (sym io.0) (io_short Done May was is ends input left held after written old new bytes handed takes may (subst (λ (f : ServeFault). IsKeptOrFails f May was is old.database old.line new.line) io.0 keeps))
-stops_short Done fault May was is keeper ends input left held after written old new bytes handed takes may keeps (inr end) = ends_short Done fault May was is ends input left held after written old new bytes handed takes may keeps end
+pub stops_short : (Done : Doing) (fault : ServeFault) (May : KeepFault → Type 0) (was is : Keeping)
+    (keeper : Type 0) (ends : Bool) (input left : Option (List ℕ)) (held after : Held)
+    (written : Option (List ℕ)) (old new : Holding) (bytes : List ℕ)
+    → HandsLine ends input left held after bytes → Takes input left held.taken after.taken
+    → MayMeetBytes Done old.database old.line bytes new.line
+    → IsKeptOrFails fault May was is old.database old.line new.line
+    → EndsLine keeper (BytesWantWork old.database old.line bytes) old new fault
+    → StopsAt Done fault May was is (over input left written written) held after old new
+stops_short Done fault May was is keeper ends input left held after written old new bytes handed
+    takes may keeps (inl io) =
+    subst (λ (f : ServeFault). StopsAt Done f May was is (over input left written written) held
+    after old new) (sym io.0)
+    (io_short Done May was is ends input left held after written old new bytes handed takes may
+    (subst (λ (f : ServeFault). IsKeptOrFails f May was is old.database old.line new.line) io.0
+    keeps))
+stops_short Done fault May was is keeper ends input left held after written old new bytes handed
+    takes may keeps (inr end) = ends_short Done fault May was is ends input left held after written
+    old new bytes handed takes may keeps end
 
 -- the answer could not be written
-pub write_fault : {A : Type 0} (failure : Failure) → ◌≡◌ {A = Result A Failure} (Err failure) (Err failures.Write) → IsOfLine (of_failure failure)
-write_fault {A} failure is = subst (λ (r : Result A Failure). IfErr r (λ f. IsOfLine (of_failure f))) (sym is) tt
+pub write_fault : {A : Type 0} (failure : Failure)
+    → ◌≡◌ {A = Result A Failure} (Err failure) (Err failures.Write) → IsOfLine (of_failure failure)
+write_fault {A} failure is =
+    subst (λ (r : Result A Failure). IfErr r (λ f. IsOfLine (of_failure f))) (sym is) tt
 
-pub stops_writing : (Done : Doing) (failure : Failure) (May : KeepFault → Type 0) (was is : Keeping) (ends : Bool) (io : Exchange) (held after : Held) (old new : Holding) (bytes text : List ℕ) → IsOfLine (of_failure failure) → HandsLine ends io.input io.left held after bytes
-    → MeetsBytes Done old.database old.line bytes text new.line → AppendsFront io.written io.gained text → IsKeptUp was is old.database old.line new.line → StopsAt Done (of_failure failure) May was is io held after old new
-stops_writing Done failure May was is ends io held after old new bytes text of handed met told kept = inr (of, ends, bytes, text, handed, met, told.0, told.1, inl kept)
+pub stops_writing : (Done : Doing) (failure : Failure) (May : KeepFault → Type 0) (was is : Keeping)
+    (ends : Bool) (io : Exchange) (held after : Held) (old new : Holding) (bytes text : List ℕ)
+    → IsOfLine (of_failure failure) → HandsLine ends io.input io.left held after bytes
+    → MeetsBytes Done old.database old.line bytes text new.line
+    → AppendsFront io.written io.gained text → IsKeptUp was is old.database old.line new.line
+    → StopsAt Done (of_failure failure) May was is io held after old new
+stops_writing Done failure May was is ends io held after old new bytes text of handed met told
+    kept = inr (of, ends, bytes, text, handed, met, told.0, told.1, inl kept)
 
 -- as the writer's
 pub fails_writing : {A : Type 0} (failure : Failure) (reader writer keeper : Type 0)
     → ◌≡◌ {A = Result A Failure} (Err failure) (Err failures.Write) → writer
     → IsServeFault reader writer keeper (of_failure failure)
 fails_writing {A} failure reader writer keeper is failed =
-    subst (λ (r : Result A Failure). IfErr r (λ f. IsServeFault reader writer keeper (of_failure f)))
+    subst (λ (r : Result A Failure). IfErr r
+    (λ f. IsServeFault reader writer keeper (of_failure f)))
     (sym is) failed
 
 -- and it was written
@@ -306,12 +556,18 @@ serves_next Done false io held after old new bytes text handed met told =
     inl (bytes, text, handed, met, told)
 
 -- there was no line to hand out
-pub stops_unread : (Done : Doing) (failed : Type 0) (failure : Failure) (May : KeepFault → Type 0) (k : Keeping) (input left : Option (List ℕ)) (held after : Held) (written : Option (List ℕ)) (old : Holding) → LacksLine failed input left held after failure
+pub stops_unread : (Done : Doing) (failed : Type 0) (failure : Failure) (May : KeepFault → Type 0)
+    (k : Keeping) (input left : Option (List ℕ)) (held after : Held) (written : Option (List ℕ))
+    (old : Holding) → LacksLine failed input left held after failure
     → StopsAt Done (of_failure failure) May k k (over input left written written) held after old old
-stops_unread Done failed failures.Read May k input left held after written old lacks = inl (lacks.takes, refl, refl, (lacks.fault.1, lacks.fault.2), kept_none k old.database old.line)
-stops_unread Done failed failures.Write May k input left held after written old lacks = absurd lacks.fault
-stops_unread Done failed failures.TooLong May k input left held after written old lacks = inl (lacks.takes, refl, refl, lacks.fault, kept_none k old.database old.line)
-stops_unread Done failed failures.Memory May k input left held after written old lacks = inl (lacks.takes, refl, refl, tt, kept_none k old.database old.line)
+stops_unread Done failed failures.Read May k input left held after written old lacks =
+    inl (lacks.takes, refl, refl, (lacks.fault.1, lacks.fault.2), kept_none k old.database old.line)
+stops_unread Done failed failures.Write May k input left held after written old lacks =
+    absurd lacks.fault
+stops_unread Done failed failures.TooLong May k input left held after written old lacks =
+    inl (lacks.takes, refl, refl, lacks.fault, kept_none k old.database old.line)
+stops_unread Done failed failures.Memory May k input left held after written old lacks =
+    inl (lacks.takes, refl, refl, tt, kept_none k old.database old.line)
 
 -- a device or its bound poisons no session
 pub spoils_failure : (failure : Failure) (h : Holding) → Spoils (of_failure failure) h h
@@ -321,7 +577,8 @@ spoils_failure failures.TooLong h = refl
 spoils_failure failures.Memory h = refl
 
 -- a session is poisoned as one before it was that is poisoned alike
-pub spoils_on : (fault : ServeFault) (old now new : Holding) → now.spoiled ≡ old.spoiled → Spoils fault now new → Spoils fault old new
+pub spoils_on : (fault : ServeFault) (old now new : Holding) → now.spoiled ≡ old.spoiled
+    → Spoils fault now new → Spoils fault old new
 spoils_on Read old now new same spoils = spoils ∙ same
 spoils_on Write old now new same spoils = spoils ∙ same
 spoils_on TooLong old now new same spoils = spoils ∙ same
@@ -352,7 +609,8 @@ inner_fault reader writer keeper work fault old new (inr end) =
     ends_inner reader writer keeper work fault old new end
 
 -- nothing was read yet
-pub serving_none : (Done : Doing) (input written : Option (List ℕ)) (old : Holding) → old.begun ≡ false → IsServing Done (over input input written written) fresh old old
+pub serving_none : (Done : Doing) (input written : Option (List ℕ)) (old : Holding)
+    → old.begun ≡ false → IsServing Done (over input input written written) fresh old old
 serving_none Done input written old closed = record {
   lines = [];
   text = [];
@@ -366,35 +624,52 @@ serving_none Done input written old closed = record {
 }
 
 -- of what is held and what is not read yet, each line takes some
-pub left_less : (input left : Option (List ℕ)) (held after : Held) (bytes : List ℕ) → HandsLine true input left held after bytes → after.taken ≤ 16777217 → length after.pending + (16777217 - after.taken) < length held.pending + (16777217 - held.taken)
+pub left_less : (input left : Option (List ℕ)) (held after : Held) (bytes : List ℕ)
+    → HandsLine true input left held after bytes → after.taken ≤ 16777217
+    → length after.pending + (16777217 - after.taken) < length held.pending
+    + (16777217 - held.taken)
 left_less input left held after bytes (one, hands) within =
     let grown = length-append held.pending hands.bytes in
     let gone = length-append (line bytes) after.pending in
     let whole = length-append bytes (10 ∷ []) in
     omega (arith, hands.counted, ap length hands.split, grown, gone, whole, within)
 
-takes_line : (ends : Bool) (here left : Option (List ℕ)) (held after : Held) (bytes : List ℕ) → HandsLine ends here left held after bytes → Takes here left held.taken after.taken
-takes_line true here left held after bytes (one, hands) = record { bytes = hands.bytes; consumed = hands.consumed; counted = hands.counted }
-takes_line false here left held after bytes (one, hands, some, ended) = record { bytes = hands.bytes; consumed = hands.consumed; counted = hands.counted }
+takes_line : (ends : Bool) (here left : Option (List ℕ)) (held after : Held) (bytes : List ℕ)
+    → HandsLine ends here left held after bytes → Takes here left held.taken after.taken
+takes_line true here left held after bytes (one, hands) =
+    record { bytes = hands.bytes; consumed = hands.consumed; counted = hands.counted }
+takes_line false here left held after bytes (one, hands, some, ended) =
+    record { bytes = hands.bytes; consumed = hands.consumed; counted = hands.counted }
 
 -- what was taken where a line was met, or none was left
-pub takes_next : (Done : Doing) (more : Bool) (io : Exchange) (held after : Held) (now new : Holding) → ServesNext Done more io held after now new → Takes io.input io.left held.taken after.taken
-takes_next Done true io held after now new next = takes_line true io.input io.left held after next.0 next.2
-takes_next Done false io held after now new (inl next) = takes_line false io.input io.left held after next.0 next.2
+pub takes_next : (Done : Doing) (more : Bool) (io : Exchange) (held after : Held)
+    (now new : Holding) → ServesNext Done more io held after now new
+    → Takes io.input io.left held.taken after.taken
+takes_next Done true io held after now new next =
+    takes_line true io.input io.left held after next.0 next.2
+takes_next Done false io held after now new (inl next) =
+    takes_line false io.input io.left held after next.0 next.2
 takes_next Done false io held after now new (inr next) =
     let (handed, same, kept) = next in
     let (hands, ended) = handed in
     record { bytes = hands.bytes; consumed = hands.consumed; counted = hands.counted }
 
 -- what was taken where a fault came
-pub takes_stop : (Done : Doing) (fault : ServeFault) (May : KeepFault → Type 0) (was is : Keeping) (io : Exchange) (held after : Held) (now new : Holding) → StopsAt Done fault May was is io held after now new → Takes io.input io.left held.taken after.taken
+pub takes_stop : (Done : Doing) (fault : ServeFault) (May : KeepFault → Type 0) (was is : Keeping)
+    (io : Exchange) (held after : Held) (now new : Holding)
+    → StopsAt Done fault May was is io held after now new
+    → Takes io.input io.left held.taken after.taken
 takes_stop Done fault May was is io held after now new (inl stop) = stop.0
 takes_stop Done fault May was is io held after now new (inr stop) =
     let (of, ends, bytes, text, handed, met, n, told, keeps) = stop in
     takes_line ends io.input io.left held after bytes handed
 
 -- what was taken in all
-pub takes_all : (Done : Doing) (input here left : Option (List ℕ)) (held after : Held) (written mid : Option (List ℕ)) (old now : Holding) → IsServing Done (over input here written mid) held old now → Takes here left held.taken after.taken → after.taken ≤ 16777217 → ConsumesAtMost input left 16777217
+pub takes_all : (Done : Doing) (input here left : Option (List ℕ)) (held after : Held)
+    (written mid : Option (List ℕ)) (old now : Holding)
+    → IsServing Done (over input here written mid) held old now
+    → Takes here left held.taken after.taken → after.taken ≤ 16777217
+    → ConsumesAtMost input left 16777217
 takes_all Done input here left held after written mid old now so takes within = (
   so.hands.bytes ++ takes.bytes,
   omega (arith, so.hands.counted, takes.counted, within, length-append so.hands.bytes takes.bytes),
@@ -402,11 +677,15 @@ takes_all Done input here left held after written mid old now so takes within = 
 )
 
 -- whether more follows, as it was tested
-pub where_more : (Done : Doing) (more test : Bool) (io : Exchange) (held after : Held) (now new : Holding) → more ≡ test → ServesNext Done more io held after now new → ServesNext Done test io held after now new
-where_more Done more test io held after now new is next = subst (λ (b : Bool). ServesNext Done b io held after now new) is next
+pub where_more : (Done : Doing) (more test : Bool) (io : Exchange) (held after : Held)
+    (now new : Holding) → more ≡ test → ServesNext Done more io held after now new
+    → ServesNext Done test io held after now new
+where_more Done more test io held after now new is next =
+    subst (λ (b : Bool). ServesNext Done b io held after now new) is next
 
 -- nothing was read and nothing written
-pub serves_none : (Done : Doing) (input written : Option (List ℕ)) (old : Holding) → ServesFront Done Workers (over input input written written) old old
+pub serves_none : (Done : Doing) (input written : Option (List ℕ)) (old : Holding)
+    → ServesFront Done Workers (over input input written written) old old
 serves_none Done input written old = record {
   bytes = [];
   rest = [];
@@ -425,13 +704,17 @@ serves_none Done input written old = record {
 }
 
 -- and nothing was kept
-pub none_kept : (Done : Doing) (May : KeepFault → Type 0) (k : Keeping) (input written : Option (List ℕ)) (old : Holding) → ServesFrontKept Done Workers May k k (over input input written written) old old
-none_kept Done May k input written old = (serves_none Done input written old, inl (kept_none k old.database old.line))
+pub none_kept : (Done : Doing) (May : KeepFault → Type 0) (k : Keeping)
+    (input written : Option (List ℕ)) (old : Holding)
+    → ServesFrontKept Done Workers May k k (over input input written written) old old
+none_kept Done May k input written old =
+    (serves_none Done input written old, inl (kept_none k old.database old.line))
 
 -- where no lines at the beginning of an input alter the line of states, none that were served did
 module _ (Done : Doing) (input : Option (List ℕ)) (old : Holding)
     (none : AltersNone Done input old.database old.line) where
-  pub unaltered_so : (here : Option (List ℕ)) (held : Held) (written mid : Option (List ℕ)) (now : Holding)
+  pub unaltered_so : (here : Option (List ℕ)) (held : Held) (written mid : Option (List ℕ))
+      (now : Holding)
       → IsServing Done (over input here written mid) held old now → now.line ≡ old.line
   unaltered_so here held written mid now so =
       none here so.hands.bytes held.pending so.lines so.text now.line so.hands.consumed
@@ -440,12 +723,15 @@ module _ (Done : Doing) (input : Option (List ℕ)) (old : Holding)
   pub unaltered_all : (left written gained : Option (List ℕ)) (new : Holding)
       → ServesAll Done (over input left written gained) old new → new.line ≡ old.line
   unaltered_all left written gained new served =
-      none left served.bytes [] served.lines served.text new.line served.consumed served.spelled served.met
+      none left served.bytes [] served.lines served.text new.line served.consumed
+      served.spelled served.met
 
   pub unaltered_front : (fault : ServeFault) (left written gained : Option (List ℕ)) (new : Holding)
       → ServesFront Done fault (over input left written gained) old new → new.line ≡ old.line
   unaltered_front fault left written gained new served =
-      none left served.bytes served.rest (served.lines ++ served.more) (served.text ++ served.answer) new.line
+      none left served.bytes served.rest (served.lines ++ served.more)
+      (served.text ++ served.answer) new.line
       served.consumed served.spelled
-      (serves_both Done old.database old.line served.lines served.text served.here served.more served.answer
+      (serves_both Done old.database old.line served.lines served.text served.here
+      served.more served.answer
       new.line served.met served.met_more)

@@ -8,7 +8,8 @@ use Rattle.rc_model.specs.declared.Refusal.TheVariants as refusals
 use Rattle.rc_session.specs.Holding.{Holding}
 use Rattle.rc_streams.specs.Taking.{BeginsTooLong, IsLine}
 use Rattle.rc_serve.specs.declared.fault.ServeFault.{ServeFault}
-use Rattle.rc_serve.specs.declared.fault.ServeFault.TheVariants.{Read, Write, TooLong, Memory, NoThread, Strange, Workers, Io}
+use Rattle.rc_serve.specs.declared.fault.ServeFault.TheVariants.{Read, Write, TooLong, Memory}
+use Rattle.rc_serve.specs.declared.fault.ServeFault.TheVariants.{NoThread, Strange, Workers, Io}
 
 -- a failure of a device, of its bounds or of memory, as it is told
 abbrev pub of_failure : Failure → ServeFault

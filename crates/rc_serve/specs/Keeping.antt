@@ -1,5 +1,6 @@
 -- What a keeper keeps, and what is kept as a session goes on.
-use Rattle.std.specs.Prelude.{◌≡◌, ◌⊎◌, ◌↔◌, ◌++◌, ℕ, Bool, true, List, Option, Result, MatchResult, take}
+use Rattle.std.specs.Prelude.{◌≡◌, ◌⊎◌, ◌↔◌, ◌++◌, ℕ, Bool, true, List, Option, Result, MatchResult}
+use Rattle.std.specs.Prelude.{take}
 use Rattle.std.specs.Io.KnownBytes.{Appends, Consumes}
 use Rattle.rc_streams.specs.Exchange.{Exchange}
 use Rattle.rc_streams.specs.Taking.{Held, HandsLine, Takes}

@@ -11,7 +11,8 @@ use Rattle.rc_model.specs.Run.{course_of, is_success}
 use Rattle.rc_core.specs.End.{EndOf}
 use Rattle.rc_core.specs.Failing.{WouldFail, IsTriedInVain, IsBlocked}
 use Rattle.rc_model.specs.Line.{IsGained, Line, Lists}
-use Rattle.rc_model.specs.Session.{Command, Change, Undo, Redo, Add, Delete, Reported, IsTask, MovesBy}
+use Rattle.rc_model.specs.Session.{Command, Change, Undo, Redo, Add, Delete, Reported, IsTask}
+use Rattle.rc_model.specs.Session.{MovesBy}
 use Rattle.rc_session.specs.Holding.{Holding}
 use Rattle.rc_render.specs.ReportText.{report_text}
 use Rattle.rc_script.specs.Says.{Saying, SaysStep, Says}

@@ -1,12 +1,14 @@
 //! A session over a reader and a writer.
-ghost use Rattle.std.specs.Prelude.{◌≡◌, ◌⊎◌, ◌≤◌, ◌↔◌, ℕ, Bool, true, false, Err, IfOk, OnOk, IfErr, MatchResult};
+ghost use Rattle.std.specs.Prelude.{◌≡◌, ◌⊎◌, ◌≤◌, ◌↔◌, ℕ, Bool, true, false, Err, IfOk, OnOk};
+ghost use Rattle.std.specs.Prelude.{IfErr, MatchResult};
 ghost use Rattle.rc_streams.specs.Exchange.{exchanged};
 ghost use Rattle.rc_streams.specs.Input.{ConsumesAtMost};
 ghost use Rattle.rc_streams.specs.Noting.{HasFailed, IsFlushed, inner_of};
 ghost use Rattle.rc_graph.specs.declared.Way.{Way};
 ghost use Rattle.rc_board.specs.Crew.{IsCrew};
 ghost use Rattle.rc_serve.specs.Faults.{IsOfAnswer, IsServeFault, IsSpoiledBy};
-ghost use Rattle.rc_serve.specs.Keeping.{AltersNone, IsKeptUp, ServesFrontFailingKept, ServesFrontKept, StopsAt};
+ghost use Rattle.rc_serve.specs.Keeping.{AltersNone, IsKeptUp, ServesFrontFailingKept};
+ghost use Rattle.rc_serve.specs.Keeping.{ServesFrontKept, StopsAt};
 ghost use Rattle.rc_serve.specs.Meeting.{IsDoneBy};
 ghost use Rattle.rc_serve.specs.Serving.{ServesAll, ServesNext, Stays};
 ghost use Rattle.rc_serve.specs.Playing.{PlaysInput};

@@ -1,4 +1,5 @@
--- Each task can be carried out with nothing failing: some events are a run of it, and they come to its target.
+-- Each task can be carried out with nothing failing: some events are a run of it, and they come to
+-- its target.
 use Rattle.std.proofs.Common.{◌≡◌, ◌∙◌, ℕ, Bool, true, false, List, [], length, refl, rules, sym}
 use Rattle.rc_model.specs.Names.{Has}
 use Rattle.rc_model.proofs.SetMembers.{has_or_lacks, has_within}
@@ -10,7 +11,8 @@ use Rattle.rc_core.proofs.Places.{planned_within}
 use Rattle.rc_model.specs.Line.{IsGained, Lists}
 use Rattle.rc_model.specs.Session.{Reported, IsReportOf, EndsWith}
 use Rattle.rc_session.proofs.Deciding.{Decided, both, not, set_of, holds_of, ids_of, ids_of_set}
-use Rattle.rc_session.proofs.WellRuns.{well_run, left_decided, ends_there, target_decided, target_within}
+use Rattle.rc_session.proofs.WellRuns.{well_run, left_decided, ends_there, target_decided}
+use Rattle.rc_session.proofs.WellRuns.{target_within}
 
 -- what a task comes to where all goes well
 pub record GoesThrough (c : Course) (plan : PlanSets) : Type 0 where
@@ -23,14 +25,18 @@ pub record GoesThrough (c : Course) (plan : PlanSets) : Type 0 where
   pub stopped : told.stopped ≡ false
 
 gained_decided : (from to : List Bool) (s : ℕ) → Decided (IsGained from to s)
-gained_decided from to s = both (Has to s) (Has from s → ⊥) (has_or_lacks to s) (not (Has from s) (has_or_lacks from s))
+gained_decided from to s =
+    both (Has to s) (Has from s → ⊥) (has_or_lacks to s) (not (Has from s) (has_or_lacks from s))
 
 -- the services that one set has and the other lacks
 gained : (from to : List Bool) → (ids : List ℕ) × Lists (IsGained from to) ids
-gained from to = ids_of (IsGained from to) (length to) (λ s low. gained_decided from to s) (λ s is. has_within to s is.0)
+gained from to =
+    ids_of (IsGained from to) (length to) (λ s low. gained_decided from to s)
+    (λ s is. has_within to s is.0)
 
 none_listed_of : (P : ℕ → Type 0) → ((s : ℕ) → P s → ⊥) → Lists P []
-none_listed_of P none = record { ascending = search rules; same = λ s. (search rules, λ h. absurd (none s h)) }
+none_listed_of P none =
+    record { ascending = search rules; same = λ s. (search rules, λ h. absurd (none s h)) }
 
 pub goes_through : (c : Course) (plan : PlanSets) → IsCourse c → GoesThrough c plan
 goes_through c plan course =
@@ -41,16 +47,29 @@ goes_through c plan course =
     let holds = holds_of (TargetOf c) (length c.needs) live.0 live.1 (target_within c course) in
     let lowered = gained live.0 c.up in
     let raised = gained c.up live.0 in
-    let left = ids_of (IsLeft c events) (length c.needs) (λ s low. left_decided c course events goes.run s) (λ s is. planned_within c s course is.0) in
+    let left = ids_of (IsLeft c events) (length c.needs)
+    (λ s low. left_decided c course events goes.run s) (λ s is. planned_within c s course is.0) in
     let kept = ids_of_set plan.kept in
     record {
       events = events;
       live = live.0;
-      told = record { opening = c.up; lowered = lowered.0; raised = raised.0; failed = []; blocked = left.0; untried = []; kept = kept.0; stopped = false; trace = events };
+      told = record {
+        opening = c.up;
+        lowered = lowered.0;
+        raised = raised.0;
+        failed = [];
+        blocked =
+            left.0;
+        untried = [];
+        kept = kept.0;
+        stopped = false;
+        trace = events;
+      };
       ends = record {
         settled = made.2;
         bound = live.1.bound ∙ sym course.up_bound;
-        members = λ s. let at = ends_there c course events goes made.2 s in (λ has. at.1 ((holds s).0 has), λ is. (holds s).1 (at.0 is));
+        members = λ s. let at = ends_there c course events goes made.2 s in
+            (λ has. at.1 ((holds s).0 has), λ is. (holds s).1 (at.0 is));
       };
       is_report = record {
         opening = refl;

@@ -1,5 +1,6 @@
 -- What a session has, and what it answers to commands.
-use Rattle.std.specs.Prelude.{◌≡◌, ◌⊎◌, ℕ, Bool, true, false, List, [], length, replicate, map, Option, Result, Ok, Err}
+use Rattle.std.specs.Prelude.{◌≡◌, ◌⊎◌, ℕ, Bool, true, false, List, [], length, replicate, map}
+use Rattle.std.specs.Prelude.{Option, Result, Ok, Err}
 use Rattle.rc_model.specs.Database.{Database}
 use Rattle.rc_model.specs.Plan.{PlanSets}
 use Rattle.rc_line.specs.declared.aim.Aim.{Aim}
@@ -8,7 +9,8 @@ use Rattle.rc_model.specs.Line.{Line}
 use Rattle.rc_line.specs.Opening.{Opening, IsOpened}
 use Rattle.rc_model.specs.declared.Refusal.{Refusal}
 use Rattle.rc_model.specs.declared.Refusal.TheVariants.{Strange, Memory}
-use Rattle.rc_model.specs.Session.{Command, Change, Undo, Redo, Add, Delete, Reported, IsTask, Does, IsOwnFault, IsRunFault, Plays}
+use Rattle.rc_model.specs.Session.{Command, Change, Undo, Redo, Add, Delete, Reported, IsTask, Does}
+use Rattle.rc_model.specs.Session.{IsOwnFault, IsRunFault, Plays}
 
 -- what a session has: its database, its line, whether a run was begun that is not ended
 -- yet, and whether it is poisoned

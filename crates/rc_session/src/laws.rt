@@ -1,6 +1,7 @@
 //! Laws of the definitions, the headline first. The functions do nothing when they run.
 
-ghost use Rattle.std.specs.Prelude.{◌≡◌, ◌↔◌, ℕ, Bool, false, List, [], Option, Some, length, take, drop, slice_get, Result};
+ghost use Rattle.std.specs.Prelude.{◌≡◌, ◌↔◌, ℕ, Bool, false, List, [], Option, Some, length, take};
+ghost use Rattle.std.specs.Prelude.{drop, slice_get, Result};
 ghost use Rattle.rc_model.specs.Database.{Database, IsDatabase};
 ghost use Rattle.rc_model.specs.Plan.{PlanSets};
 ghost use Rattle.rc_model.specs.Names.{Holds};
@@ -12,10 +13,14 @@ ghost use Rattle.rc_model.specs.Beside.{IsCourse, IsEditOnly, TargetOf};
 ghost use Rattle.rc_core.specs.Failing.{EndsAs};
 ghost use Rattle.rc_model.specs.Line.{Line, IsNext};
 ghost use Rattle.rc_model.specs.declared.Refusal.{Refusal};
-ghost use Rattle.rc_model.specs.Session.{Command, Undo, Redo, events_of, Reported, IsTask, deadline_of, DoesByRun, IsLineOf, Answers, Plays};
+ghost use Rattle.rc_model.specs.Session.{Command, Undo, Redo, events_of, Reported, IsTask};
+ghost use Rattle.rc_model.specs.Session.{deadline_of, DoesByRun, IsLineOf, Answers, Plays};
 ghost use Rattle.rc_session.specs.Alike.{IsEndOfFailing};
 ghost use Rattle.rc_session.specs.Existence.{WaysBack, WaysOn, EachIsAnswered};
-ghost use Rattle.rc_model.specs.Headline.{TargetOfCommand, RunsAreOrderly, ChangesAreEntered, EditsAreEntered, UndosRestore, RedosRestore, UndosLeaveWhatRemains, RedosLeaveWhatRemains, HistoryIsKept, UndosGoOn, RedosGoOn, Headline};
+ghost use Rattle.rc_model.specs.Headline.{TargetOfCommand, RunsAreOrderly, ChangesAreEntered};
+ghost use Rattle.rc_model.specs.Headline.{EditsAreEntered, UndosRestore, RedosRestore};
+ghost use Rattle.rc_model.specs.Headline.{UndosLeaveWhatRemains, RedosLeaveWhatRemains};
+ghost use Rattle.rc_model.specs.Headline.{HistoryIsKept, UndosGoOn, RedosGoOn, Headline};
 
 /// The headline. For every database, every line of it and every list of commands, with whatever
 /// events: each change runs in dependency order and keeps what is live strictly closed; its entry

@@ -1,5 +1,6 @@
 -- How a session that is launched ends.
-use Rattle.std.proofs.Common.{◌≡◌, ◌∙◌, ◌⊎◌, ℕ, Bool, List, [], Option, None, Some, Result, Ok, Err, IfErr, IfOk, inl, inr, ap, refl, sym, subst, false}
+use Rattle.std.proofs.Common.{◌≡◌, ◌∙◌, ◌⊎◌, ℕ, Bool, List, [], Option, None, Some, Result, Ok, Err}
+use Rattle.std.proofs.Common.{IfErr, IfOk, inl, inr, ap, refl, sym, subst, false}
 use Rattle.std.specs.Result.{MatchResult}
 use Rattle.rc_graph.specs.declared.Way.{Way}
 use Rattle.rc_model.specs.Database.{Database}
@@ -16,7 +17,8 @@ use Rattle.rc_streams.specs.declared.input.Failure.{Failure}
 use Rattle.rc_streams.specs.declared.input.Failure.TheVariants as failure
 use Rattle.rc_serve.specs.declared.ending.Ending.{Ending}
 use Rattle.rc_serve.specs.declared.fault.ServeFault.{ServeFault}
-use Rattle.rc_serve.specs.declared.fault.ServeFault.TheVariants.{Read, Write, TooLong, Memory, NoThread, Strange, Workers, Io}
+use Rattle.rc_serve.specs.declared.fault.ServeFault.TheVariants.{Read, Write, TooLong, Memory}
+use Rattle.rc_serve.specs.declared.fault.ServeFault.TheVariants.{NoThread, Strange, Workers, Io}
 use Rattle.rc_serve.specs.Ending.{EndsIn, IsDoneAs}
 use Rattle.rc_serve.specs.Faults.{IsServeFault}
 use Rattle.rc_serve.specs.Meeting.{Doing, IsDoneBy}
@@ -28,14 +30,18 @@ use Rattle.rc_base.specs.Opening.{Reads}
 use Rattle.rc_sessions.specs.Filing.{BeginsWith, CannotKeep, FailsToBegin, Filing, file_named}
 use Rattle.rc_sessions.specs.Gating.{IsGateFor, IsGateless}
 use Rattle.rc_sessions.specs.Launching.{Launches}
-use Rattle.rc_sessions.specs.Services.{IsDoneFor, Lets, MayEnd, OfLines, RunsGated, Served, ServesFor, StopsFor, done_by}
+use Rattle.rc_sessions.specs.Services.{IsDoneFor, Lets, MayEnd, OfLines, RunsGated, Served}
+use Rattle.rc_sessions.specs.Services.{ServesFor, StopsFor, done_by}
 use Rattle.rc_sessions.specs.Serving.{IsOfFile, session_on}
 use Rattle.rc_sessions.specs.Session.{Asked, Dealing, Opens, Runs, RunsOn, filing_by}
-use Rattle.rc_sessions.specs.SessionFaults.{AreAllFound, EndsAs, EndsBy, EndsOn, IsFileFault, IsTold, IsUnready, IsUnserved, IsUnspelled, reading_fault, serve_word, status_of}
+use Rattle.rc_sessions.specs.SessionFaults.{AreAllFound, EndsAs, EndsBy, EndsOn, IsFileFault}
+use Rattle.rc_sessions.specs.SessionFaults.{IsTold, IsUnready, IsUnserved, IsUnspelled}
+use Rattle.rc_sessions.specs.SessionFaults.{reading_fault, serve_word, status_of}
 use Rattle.rc_sessions.specs.declared.keeping.LiveFile.{LiveFile}
 use Rattle.rc_sessions.specs.declared.service.Service.{Service}
 use Rattle.rc_sessions.specs.declared.session_fault.SessionFault.{SessionFault}
-use Rattle.rc_sessions.specs.declared.session_fault.SessionFault.TheVariants.{OfText, Unknown, OfLive, Failed}
+use Rattle.rc_sessions.specs.declared.session_fault.SessionFault.TheVariants.{OfText, Unknown}
+use Rattle.rc_sessions.specs.declared.session_fault.SessionFault.TheVariants.{OfLive, Failed}
 use Rattle.rc_sessions.proofs.SessionLemmas.{begin_fault, clock_timeless, fault_wider, table_exact}
 
 -- how it ended, with the status that tells it

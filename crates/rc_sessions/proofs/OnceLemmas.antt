@@ -1,5 +1,6 @@
 -- How one line is served.
-use Rattle.std.proofs.Common.{◌≡◌, ◌≢◌, ◌∙◌, ◌⊎◌, ℕ, true, false, List, [], Option, None, Some, Result, Ok, Err, IfErr, IfOk, OnOk, inl, inr, ap, refl, sym, subst}
+use Rattle.std.proofs.Common.{◌≡◌, ◌≢◌, ◌∙◌, ◌⊎◌, ℕ, true, false, List, [], Option, None, Some}
+use Rattle.std.proofs.Common.{Result, Ok, Err, IfErr, IfOk, OnOk, inl, inr, ap, refl, sym, subst}
 use Rattle.std.specs.Io.KnownBytes.{Appends}
 use Rattle.clap.specs.Words.{Text as Path}
 use Rattle.rc_graph.specs.declared.Way.{Way}
@@ -8,19 +9,23 @@ use Rattle.rc_model.specs.Line.{Line}
 use Rattle.rc_model.specs.declared.Outcome.{Outcome}
 use Rattle.rc_model.specs.Session.{Command, Redo, Undo, events_of}
 use Rattle.rc_session.specs.Holding.{Holding}
-use Rattle.rc_script.specs.Says.{Saying, SaysNothing, SaysWrong, SaysStep, SaysDry, SaysLive, SaysBundles, SaysJournal}
+use Rattle.rc_script.specs.Says.{Saying, SaysNothing, SaysWrong, SaysStep, SaysDry, SaysLive}
+use Rattle.rc_script.specs.Says.{SaysBundles, SaysJournal}
 use Rattle.rc_serve.specs.declared.ending.Ending.{Ending}
 use Rattle.rc_serve.specs.declared.ending.Ending.TheVariants.{Done, Refused}
 use Rattle.rc_serve.specs.declared.fault.ServeFault.{ServeFault}
-use Rattle.rc_serve.specs.declared.fault.ServeFault.TheVariants.{Read, Write, TooLong, Memory, NoThread, Strange, Workers, Io}
+use Rattle.rc_serve.specs.declared.fault.ServeFault.TheVariants.{Read, Write, TooLong, Memory}
+use Rattle.rc_serve.specs.declared.fault.ServeFault.TheVariants.{NoThread, Strange, Workers, Io}
 use Rattle.rc_serve.specs.declared.keeper.KeepFault.{KeepFault}
 use Rattle.rc_serve.specs.declared.keeper.KeepFault.TheVariants as keep
-use Rattle.rc_serve.specs.Ending.{ArrivesSaying, Ends, EndsIn, EndsWay, FailsShowing, IsDoneAs, StopsOnce, ending_of}
+use Rattle.rc_serve.specs.Ending.{ArrivesSaying, Ends, EndsIn, EndsWay, FailsShowing, IsDoneAs}
+use Rattle.rc_serve.specs.Ending.{StopsOnce, ending_of}
 use Rattle.rc_serve.specs.Faults.{IsOfLine, IsServeFault, StandsAt}
 use Rattle.rc_serve.specs.Meeting.{IsDoneBy, Meets, WantsWork}
 use Rattle.rc_serve.specs.Keeping.{Keeping, of_keeping}
 use Rattle.rc_asked.specs.OnceAsked.{HasNoEvents, OnceSaying, Said, WantsDryRedo, WantsDryUndo}
-use Rattle.rc_sessions.specs.Once.{EndsOnce, HoldsOnce, IsCommand, ServesOnce, StopsLine, StopsServing, WantsWorkOnce}
+use Rattle.rc_sessions.specs.Once.{EndsOnce, HoldsOnce, IsCommand, ServesOnce, StopsLine}
+use Rattle.rc_sessions.specs.Once.{StopsServing, WantsWorkOnce}
 use Rattle.rc_sessions.specs.Storing.{HoldsText}
 use Rattle.rc_sessions.proofs.SessionLemmas.{fault_wider}
 use Rattle.rc_sessions.proofs.ServingLemmas.{kept_up, of_file}

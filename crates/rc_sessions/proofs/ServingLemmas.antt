@@ -1,5 +1,6 @@
 -- How the lines of a session are served, and how that is kept.
-use Rattle.std.proofs.Common.{◌≡◌, ◌≢◌, ◌∙◌, ℕ, Bool, List, Option, None, Some, option_map, Result, Ok, Err, IfErr, IfOk, OnOk, inl, inr, ap, refl, sym, subst}
+use Rattle.std.proofs.Common.{◌≡◌, ◌≢◌, ◌∙◌, ℕ, Bool, List, Option, None, Some, option_map, Result}
+use Rattle.std.proofs.Common.{Ok, Err, IfErr, IfOk, OnOk, inl, inr, ap, refl, sym, subst}
 use Rattle.clap.specs.Words.{Text as Path}
 use Rattle.rc_graph.specs.declared.Way.{Way}
 use Rattle.rc_model.specs.declared.Outcome.{Outcome}
@@ -9,11 +10,13 @@ use Rattle.rc_session.specs.Holding.{Holding}
 use Rattle.rc_streams.specs.Exchange.{Exchange}
 use Rattle.rc_serve.specs.declared.ending.Ending.{Ending}
 use Rattle.rc_serve.specs.declared.fault.ServeFault.{ServeFault}
-use Rattle.rc_serve.specs.declared.fault.ServeFault.TheVariants.{Read, Write, TooLong, Memory, NoThread, Strange, Workers, Io}
+use Rattle.rc_serve.specs.declared.fault.ServeFault.TheVariants.{Read, Write, TooLong, Memory}
+use Rattle.rc_serve.specs.declared.fault.ServeFault.TheVariants.{NoThread, Strange, Workers, Io}
 use Rattle.rc_serve.specs.declared.keeper.KeepFault.{KeepFault}
 use Rattle.rc_serve.specs.declared.keeper.KeepFault.TheVariants as keep
 use Rattle.rc_serve.specs.Ending.{EndsIn}
-use Rattle.rc_serve.specs.Keeping.{IsKeptAt, IsKeptUp, IsOfKeeping, Keeping, ServesFrontFailingKept, ServesFrontKept, of_keeping}
+use Rattle.rc_serve.specs.Keeping.{IsKeptAt, IsKeptUp, IsOfKeeping, Keeping, ServesFrontFailingKept}
+use Rattle.rc_serve.specs.Keeping.{ServesFrontKept, of_keeping}
 use Rattle.rc_serve.specs.Meeting.{Doing, IsDoneBy}
 use Rattle.rc_serve.specs.Playing.{PlaysInput}
 use Rattle.rc_serve.specs.Serving.{ServesAll}

@@ -4,7 +4,8 @@ use Rattle.rc_model.specs.Database.{Database}
 use Rattle.rc_runner.specs.Shell.{scripts_of}
 use Rattle.rc_runner.specs.declared.session_gate.SessionGate.{SessionGate}
 use Rattle.rc_runner.specs.declared.session_gate.SessionGate.TheVariants.{Table, Shell}
-use Rattle.rc_asked.specs.Programs.{ByPrograms, ByTable, MakingAsk, controller_in, listed_in, runner_in}
+use Rattle.rc_asked.specs.Programs.{ByPrograms, ByTable, MakingAsk, controller_in, listed_in}
+use Rattle.rc_asked.specs.Programs.{runner_in}
 use Rattle.rc_serve.specs.declared.fault.ServeFault.TheVariants.{Memory}
 use Rattle.rc_sessions.specs.Finding.{AreFound, IsFirstUnknown}
 use Rattle.rc_sessions.specs.declared.session_fault.SessionFault.{SessionFault}

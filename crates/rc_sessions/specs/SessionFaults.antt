@@ -19,7 +19,8 @@ use Rattle.rc_serve.specs.Faults.{IsServeFault}
 use Rattle.rc_serve.specs.declared.ending.Ending.{Ending}
 use Rattle.rc_serve.specs.declared.ending.Ending.TheVariants.{Done, Refused, Hindered}
 use Rattle.rc_serve.specs.declared.fault.ServeFault.{ServeFault}
-use Rattle.rc_serve.specs.declared.fault.ServeFault.TheVariants.{Read, Write, TooLong, Memory, NoThread, Strange, Workers, Io}
+use Rattle.rc_serve.specs.declared.fault.ServeFault.TheVariants.{Read, Write, TooLong, Memory}
+use Rattle.rc_serve.specs.declared.fault.ServeFault.TheVariants.{NoThread, Strange, Workers, Io}
 use Rattle.rc_asked.specs.Listed.{Listed}
 use Rattle.rc_asked.specs.Programs.{listed_in}
 use Rattle.rc_asked.specs.SessionAsked.{SessionAsk}
@@ -32,7 +33,8 @@ use Rattle.rc_sessions.specs.declared.failing.GateFault.TheVariants as gate
 use Rattle.rc_sessions.specs.declared.keeping.LiveFile.{LiveFile}
 use Rattle.rc_sessions.specs.declared.service.Service.{Service}
 use Rattle.rc_sessions.specs.declared.session_fault.SessionFault.{SessionFault}
-use Rattle.rc_sessions.specs.declared.session_fault.SessionFault.TheVariants.{OfText, Unknown, OfLive, Failed}
+use Rattle.rc_sessions.specs.declared.session_fault.SessionFault.TheVariants.{OfText, Unknown}
+use Rattle.rc_sessions.specs.declared.session_fault.SessionFault.TheVariants.{OfLive, Failed}
 
 -- it is a refusal, and no failure
 abbrev pub IsRefusal : SessionFault → Type 0

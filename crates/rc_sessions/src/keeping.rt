@@ -1,5 +1,6 @@
 //! Where a session is kept: a store of one text, which is replaced whole.
-ghost use Rattle.std.specs.Prelude.{◌≡◌, ◌⊎◌, ℕ, false, List, Option, IfSome, IfErr, IsSome, OnErr, OnOk};
+ghost use Rattle.std.specs.Prelude.{◌≡◌, ◌⊎◌, ℕ, false, List, Option, IfSome, IfErr, IsSome, OnErr};
+ghost use Rattle.std.specs.Prelude.{OnOk};
 ghost use Rattle.rc_livetext.specs.Spelling.{spelling};
 ghost use Rattle.rc_serve.specs.declared.keeper.KeepFault.TheVariants.{Io};
 ghost use Rattle.rc_sessions.specs.Storing.{HoldsText, kept_bytes, store_of};
@@ -45,8 +46,8 @@ pub trait Store {
     /// Whether it has failed.
     ghost failed: { Self → Type 0 };
 
-    /// Puts this text in the place of what stands there. Where that fails, what stood there does, or
-    /// the text does. A store of which that can be said stays one.
+    /// Puts this text in the place of what stands there. Where that fails, what stood there does,
+    /// or the text does. A store of which that can be said stays one.
     fn replace(&mut self, text: KeptText<'_>) -> Result<(), KeepFault>
         ensures put { OnOk result (IfSome (holds self.new) (λ held. held ≡ kept_bytes text.entry)) }
         ensures known { IsSome (holds self.old) → IsSome (holds self.new) }

@@ -8,7 +8,8 @@ ghost use Rattle.rc_serve.specs.Ending.{IsDoneAs};
 ghost use Rattle.rc_serve.specs.Faults.{IsServeFault};
 ghost use Rattle.rc_asked.specs.SessionAsked.{session_ask_of};
 ghost use Rattle.rc_sessions.specs.Serving.{as_done};
-ghost use Rattle.rc_sessions.specs.Services.{IsEventless, Lets, MayEnd, OfLines, ServesFor, StopsFor, done_by};
+ghost use Rattle.rc_sessions.specs.Services.{IsEventless, Lets, MayEnd, OfLines, ServesFor};
+ghost use Rattle.rc_sessions.specs.Services.{StopsFor, done_by};
 ghost use Rattle.rc_sessions.specs.Storing.{store_of};
 
 use crate::host::Host;

@@ -1,7 +1,9 @@
 //! Why a session of the program ends, and how that is told.
 ghost use Rattle.std.specs.Prelude.{◌≡◌, IfOk};
 ghost use Rattle.rc_streams.specs.Input.{AppendsFront, fault_line};
-ghost use Rattle.rc_sessions.specs.SessionFaults.{IsGateFailing, IsLiveFailing, IsRefusal, IsTextFailing, IsTold, serve_word, session_fault_text};
+ghost use Rattle.rc_sessions.specs.SessionFaults.{IsGateFailing, IsLiveFailing, IsRefusal};
+ghost use Rattle.rc_sessions.specs.SessionFaults.{IsTextFailing, IsTold, serve_word};
+ghost use Rattle.rc_sessions.specs.SessionFaults.{session_fault_text};
 ghost use Rattle.rc_sessions.specs.declared.session_fault.SessionFault.TheVariants.{Failed};
 ghost use Rattle.rc_serve.specs.declared.fault.ServeFault.TheVariants.{Memory};
 

@@ -1,10 +1,13 @@
 -- The next id of a set, by the lowest bit of a shifted word.
-use Rattle.std.proofs.Common.{◌≡◌, ◌≢◌, ℕ, ◌+◌, ◌-◌, ◌*◌, ◌/◌, ◌%◌, ◌^◌, ◌<◌, ◌≤◌, ◌↔◌, inl, inr, List, length, slice_index, bit_and, Option, Some, None, IfSome, IfNone, sym, ap, ◌∙◌, subst, arith}
+use Rattle.std.proofs.Common.{◌≡◌, ◌≢◌, ℕ, ◌+◌, ◌-◌, ◌*◌, ◌/◌, ◌%◌, ◌^◌, ◌<◌, ◌≤◌, ◌↔◌, inl, inr}
+use Rattle.std.proofs.Common.{List, length, slice_index, bit_and, Option, Some, None, IfSome}
+use Rattle.std.proofs.Common.{IfNone, sym, ap, ◌∙◌, subst, arith}
 use Rattle.std.specs.Int.{bit_at, trailing_zeros}
 use mir.Syntax.{w64}
 use Rattle.std.proofs.Math.Nat.{div-le_self}
 use Rattle.std.proofs.lemmas.Nat.{shr-shr, and_le_l}
-use Rattle.std.proofs.lemmas.Nat.Bits.{bit_at-trailing_zeros, bit_at-zero, bit_at_above, bit_at_not, bit_at-lt}
+use Rattle.std.proofs.lemmas.Nat.Bits.{bit_at-trailing_zeros, bit_at-zero, bit_at_above, bit_at_not}
+use Rattle.std.proofs.lemmas.Nat.Bits.{bit_at-lt}
 use Rattle.std.proofs.lemmas.Bool.{cases_lt}
 use Rattle.rc_set.specs.Words.{HasBit}
 use Rattle.rc_set.specs.Next.{IsNextFrom, HasNoneFrom}

@@ -1,5 +1,6 @@
 -- The ids of one word, listed by taking its lowest bit until none is left.
-use Rattle.std.proofs.Common.{◌≡◌, ℕ, ◌+◌, ◌-◌, ◌*◌, ◌%◌, ◌^◌, ◌<◌, ◌≤◌, List, [], ◌∷◌, ◌++◌, slice_index, bit_and, sym, ◌∙◌, subst, arith}
+use Rattle.std.proofs.Common.{◌≡◌, ℕ, ◌+◌, ◌-◌, ◌*◌, ◌%◌, ◌^◌, ◌<◌, ◌≤◌, List, [], ◌∷◌, ◌++◌}
+use Rattle.std.proofs.Common.{slice_index, bit_and, sym, ◌∙◌, subst, arith}
 use Rattle.std.specs.Int.{bit_at, trailing_zeros}
 use mir.Syntax.{w64}
 use Rattle.std.proofs.lemmas.Nat.Bits.{bit_at-zero}
@@ -7,7 +8,8 @@ use Rattle.rc_set.specs.Words.{HasBit}
 use Rattle.rc_set.specs.Listed.{ListsBelow, ListsWord}
 use Rattle.rc_set.proofs.Bits.{bit_of_word}
 use Rattle.rc_set.proofs.Listing.{one_listed, none_between}
-use Rattle.rc_set.proofs.WordBits.{place_low, place_ahead, set_there, none_before, next_bits, all_left}
+use Rattle.rc_set.proofs.WordBits.{place_low, place_ahead, set_there, none_before, next_bits}
+use Rattle.rc_set.proofs.WordBits.{all_left}
 
 -- ids of a word between two of its bits, of which none is set
 none_listed_between : (words : List ℕ) (at from to : ℕ) (ids : List ℕ) → from ≤ to → to ≤ 64

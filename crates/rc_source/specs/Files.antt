@@ -1,13 +1,16 @@
 -- The tests of one file: what is wrong with it, and where reading stops.
-use Rattle.std.specs.Prelude.{◌≡◌, ◌<◌, ◌⊎◌, ℕ, List, false, length, All, Contains, Option, Some, None}
+use Rattle.std.specs.Prelude.{◌≡◌, ◌<◌, ◌⊎◌, ℕ, List, false, length, All, Contains, Option, Some}
+use Rattle.std.specs.Prelude.{None}
 use Rattle.rc_model.specs.Names.{IsName}
 use Rattle.rc_source.specs.declared.fault.Flaw.{Flaw}
-use Rattle.rc_source.specs.declared.fault.Flaw.TheVariants.{Io, NotText, TooLong, BadName, NoType, BadType, NoUp, NoRun, BadTimeout}
+use Rattle.rc_source.specs.declared.fault.Flaw.TheVariants.{Io, NotText, TooLong, BadName, NoType}
+use Rattle.rc_source.specs.declared.fault.Flaw.TheVariants.{BadType, NoUp, NoRun, BadTimeout}
 use Rattle.rc_tree.specs.Tree.{Source, file_at, names_next}
 use Rattle.rc_tree.specs.TreeFaults.{IsTooLong}
 use Rattle.rc_source.specs.Texts.{IsText, IsLimit, without_newline, kind_of_word, names_in}
 use Rattle.rc_source.specs.Stops.{StopsFirst}
-use Rattle.rc_source.specs.Kinds.{Holds, KindWord, UpText, Anything, Limit, Flag, Names, NameEach, OneName, is_hidden}
+use Rattle.rc_source.specs.Kinds.{Holds, KindWord, UpText, Anything, Limit, Flag, Names, NameEach}
+use Rattle.rc_source.specs.Kinds.{OneName, is_hidden}
 
 -- the flaw of a file that is missing and may not be
 abbrev pub missing_flaw : Holds → Option Flaw

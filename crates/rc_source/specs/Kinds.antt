@@ -1,5 +1,6 @@
 -- The files of a service directory by its kind, and what each is to hold.
-use Rattle.std.specs.Prelude.{◌==◌, ℕ, Bool, List, [], ◌∷◌, ◌++◌, slice_index, Option, Some, None, option_and_then, codes}
+use Rattle.std.specs.Prelude.{◌==◌, ℕ, Bool, List, [], ◌∷◌, ◌++◌, slice_index, Option, Some, None}
+use Rattle.std.specs.Prelude.{option_and_then, codes}
 use Rattle.std.specs.Str.{bytes_eq}
 use Rattle.std.specs.List.{list_any}
 use Rattle.rc_model.specs.declared.Kind.{Kind}

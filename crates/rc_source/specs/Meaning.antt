@@ -1,5 +1,7 @@
 -- What the files of a service directory say of the service or bundle of its name.
-use Rattle.std.specs.Prelude.{◌≡◌, ◌≢◌, ◌<◌, ◌^◌, ◌↔◌, ◌⊎◌, ℕ, Bool, false, List, [], ◌++◌, All, AllPairs, Contains, Option, Some, None, IsSome, IfSome, IsTrue, codes, slice_get, map, flat_map, if◌then◌else◌}
+use Rattle.std.specs.Prelude.{◌≡◌, ◌≢◌, ◌<◌, ◌^◌, ◌↔◌, ◌⊎◌, ℕ, Bool, false, List, [], ◌++◌, All}
+use Rattle.std.specs.Prelude.{AllPairs, Contains, Option, Some, None, IsSome, IfSome, IsTrue, codes}
+use Rattle.std.specs.Prelude.{slice_get, map, flat_map, if◌then◌else◌}
 use Rattle.std.specs.Option.{is_some}
 use Rattle.std.specs.List.{AllZip}
 use Rattle.std.specs.Str.Parse.{digits_value}

@@ -1,5 +1,6 @@
 -- What was read of the files of an entry, part by part.
-use Rattle.std.specs.Prelude.{◌≡◌, ◌<◌, ◌^◌, ◌⊎◌, ◌↔◌, ℕ, List, All, Contains, IfSome, codes, slice_get, false, map, option_map, string_bytes}
+use Rattle.std.specs.Prelude.{◌≡◌, ◌<◌, ◌^◌, ◌⊎◌, ◌↔◌, ℕ, List, All, Contains, IfSome, codes}
+use Rattle.std.specs.Prelude.{slice_get, false, map, option_map, string_bytes}
 use Rattle.std.specs.Option.{is_some}
 use Rattle.rc_model.specs.Names.{IsName}
 use Rattle.rc_source.specs.declared.definition.Definition.{Definition}

@@ -1,8 +1,11 @@
 -- All tests of sources in the order in which they are made, and the flaw at which reading stops.
-use Rattle.std.specs.Prelude.{◌≡◌, ◌⊎◌, not, ℕ, List, [], ◌∷◌, ◌++◌, map, filter, All, Contains, codes, string_bytes, slice_get, Some}
+use Rattle.std.specs.Prelude.{◌≡◌, ◌⊎◌, not, ℕ, List, [], ◌∷◌, ◌++◌, map, filter, All, Contains}
+use Rattle.std.specs.Prelude.{codes, string_bytes, slice_get, Some}
 use Rattle.rc_model.specs.Names.{IsName}
 use Rattle.rc_source.specs.declared.fault.Flaw.{Flaw}
-use Rattle.rc_source.specs.declared.fault.Flaw.TheVariants.{Io, NotText, TooLong, BadName, Twice, NoType, BadType, NoUp, NoRun, BadTimeout, Memory}
+use Rattle.rc_source.specs.declared.fault.Flaw.TheVariants.{Io, NotText, TooLong, BadName, Twice}
+use Rattle.rc_source.specs.declared.fault.Flaw.TheVariants.{NoType, BadType, NoUp, NoRun}
+use Rattle.rc_source.specs.declared.fault.Flaw.TheVariants.{BadTimeout, Memory}
 use Rattle.rc_source.specs.declared.fault.SourceFault.{SourceFault}
 use Rattle.rc_source.specs.declared.fault.SourceFault.TheVariants as fault
 use Rattle.rc_tree.specs.Tree.{Source}

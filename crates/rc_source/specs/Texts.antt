@@ -1,5 +1,7 @@
 -- What a file's text gives: a kind, a limit, a script, or names.
-use Rattle.std.specs.Prelude.{◌≢◌, ◌<◌, ◌≤◌, ◌-◌, ◌||◌, ◌==◌, not, false, ℕ, Bool, List, [], ◌∷◌, length, map, filter, reverse, take, All, Option, Some, None, codes, slice_index, if◌then◌else◌}
+use Rattle.std.specs.Prelude.{◌≢◌, ◌<◌, ◌≤◌, ◌-◌, ◌||◌, ◌==◌, not, false, ℕ, Bool, List, [], ◌∷◌}
+use Rattle.std.specs.Prelude.{length, map, filter, reverse, take, All, Option, Some, None, codes}
+use Rattle.std.specs.Prelude.{slice_index, if◌then◌else◌}
 use Rattle.std.specs.Str.{IsUtf8, bytes_eq}
 use Rattle.std.specs.List.{slice_split}
 use Rattle.std.specs.Str.Parse.{digits_value}

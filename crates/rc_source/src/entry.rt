@@ -1,14 +1,17 @@
 // What the files of an entry say, read in the order of their tests.
-ghost use Rattle.std.specs.Prelude.{◌≡◌, ◌≢◌, ◌≤◌, ◌∷◌, [], false, All, Contains, IfOk, IfErr, OnOk, Some, None, codes, option_map, string_bytes};
+ghost use Rattle.std.specs.Prelude.{◌≡◌, ◌≢◌, ◌≤◌, ◌∷◌, [], false, All, Contains, IfOk, IfErr};
+ghost use Rattle.std.specs.Prelude.{OnOk, Some, None, codes, option_map, string_bytes};
 ghost use Rattle.rc_model.specs.Names.{IsName};
 ghost use Rattle.rc_model.specs.declared.Kind.TheVariants.{Oneshot, Longrun, Bundle};
 ghost use Rattle.rc_tree.specs.Tree.{Source, file_at};
 ghost use Rattle.rc_source.specs.Asked.{IsAsked};
-ghost use Rattle.rc_source.specs.Kinds.{Names, NameEach, limit_files, pipe_files, files_of_atomic, files_of_kind, kind_of};
+ghost use Rattle.rc_source.specs.Kinds.{Names, NameEach, limit_files, pipe_files, files_of_atomic};
+ghost use Rattle.rc_source.specs.Kinds.{files_of_kind, kind_of};
 ghost use Rattle.rc_source.specs.Files.{FilePasses, StopsAtFile, FilesPass, StopsInFiles};
 ghost use Rattle.rc_source.specs.Tests.{files_of_entry};
 ghost use Rattle.rc_source.specs.Meaning.{ListsNames, Means, IsMeaning, given_in};
-ghost use Rattle.rc_source.specs.Said.{meaning_of, IsNamedIn, SayLimits, AreLimits, SayPipes, ArePipes, SayService, IsSaid};
+ghost use Rattle.rc_source.specs.Said.{meaning_of, IsNamedIn, SayLimits, AreLimits, SayPipes};
+ghost use Rattle.rc_source.specs.Said.{ArePipes, SayService, IsSaid};
 
 use crate::definition::Definition;
 use crate::fault::Flaw;

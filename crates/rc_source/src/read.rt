@@ -1,12 +1,15 @@
 // The reading of whole trees.
-ghost use Rattle.std.specs.Prelude.{◌≡◌, ◌≢◌, ◌≤◌, ◌++◌, ◌∷◌, [], Contains, List, IfOk, IfErr, OnOk, Some, map, string_bytes};
+ghost use Rattle.std.specs.Prelude.{◌≡◌, ◌≢◌, ◌≤◌, ◌++◌, ◌∷◌, [], Contains, List, IfOk, IfErr};
+ghost use Rattle.std.specs.Prelude.{OnOk, Some, map, string_bytes};
 ghost use Rattle.std.specs.List.{AllZip};
 ghost use Rattle.rc_source.specs.declared.fault.Flaw.{Flaw};
 ghost use Rattle.rc_tree.specs.Tree.{Source, IsSource};
 ghost use Rattle.rc_tree.specs.TreeFaults.{HasFailed};
 ghost use Rattle.rc_source.specs.Asked.{IsAsked};
 ghost use Rattle.rc_model.specs.Names.{IsName};
-ghost use Rattle.rc_source.specs.Tests.{all_tests, tests_of_source, tests_of_entry, entries_of, AllPass, StopsInTests, IsNoNewName, SomeFailed, flaw_of, name_carried};
+ghost use Rattle.rc_source.specs.Tests.{all_tests, tests_of_source, tests_of_entry, entries_of};
+ghost use Rattle.rc_source.specs.Tests.{AllPass, StopsInTests, IsNoNewName, SomeFailed, flaw_of};
+ghost use Rattle.rc_source.specs.Tests.{name_carried};
 ghost use Rattle.rc_source.specs.Meaning.{Meaning, Means, MeanAll, AreMeanings, all_entries};
 ghost use Rattle.rc_source.specs.Said.{meaning_of, meant};
 

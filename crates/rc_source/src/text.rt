@@ -1,12 +1,15 @@
 // What the bytes of one file say.
-ghost use Rattle.std.specs.Prelude.{◌≡◌, ◌≢◌, ◌<◌, ◌≤◌, ◌+◌, ◌*◌, ◌↔◌, ◌==◌, ◌||◌, ◌∷◌, ◌++◌, [], IfOk, IfErr, IfSome, IfNone, OnOk, IsTrue, Some, None, All, filter, length, map, reverse, slice_get, string_bytes};
+ghost use Rattle.std.specs.Prelude.{◌≡◌, ◌≢◌, ◌<◌, ◌≤◌, ◌+◌, ◌*◌, ◌↔◌, ◌==◌, ◌||◌, ◌∷◌, ◌++◌, []};
+ghost use Rattle.std.specs.Prelude.{IfOk, IfErr, IfSome, IfNone, OnOk, IsTrue, Some, None, All};
+ghost use Rattle.std.specs.Prelude.{filter, length, map, reverse, slice_get, string_bytes};
 ghost use Rattle.std.specs.List.{slice_split};
 ghost use Rattle.std.specs.Char.{digit_value};
 ghost use Rattle.std.specs.Str.Parse.{digits_value};
 ghost use Rattle.rc_model.specs.Names.{IsName};
 ghost use Rattle.rc_source.specs.Kinds.{OneName};
 ghost use Rattle.rc_source.specs.Files.{IsWrong};
-ghost use Rattle.rc_source.specs.Texts.{IsText, IsLimit, without_newline, kind_of_word, without_blanks, trimmed_line, counts, names_in};
+ghost use Rattle.rc_source.specs.Texts.{IsText, IsLimit, without_newline, kind_of_word};
+ghost use Rattle.rc_source.specs.Texts.{without_blanks, trimmed_line, counts, names_in};
 
 use crate::fault::Flaw;
 use rc_names::{Kind, Name, NameFault, NoMem};

@@ -1,5 +1,6 @@
 -- What is taken from a reader, and what a writer gets.
-use Rattle.std.specs.Prelude.{◌≡◌, ◌<◌, ◌≤◌, ℕ, List, [], ◌∷◌, ◌++◌, Option, IfSome, length, take, codes}
+use Rattle.std.specs.Prelude.{◌≡◌, ◌<◌, ◌≤◌, ℕ, List, [], ◌∷◌, ◌++◌, Option, IfSome, length, take}
+use Rattle.std.specs.Prelude.{codes}
 use Rattle.std.specs.Io.KnownBytes.{Appends, Consumes}
 use Rattle.rc_streams.specs.declared.input.Failure.{Failure}
 use Rattle.rc_streams.specs.declared.input.Failure.TheVariants.{TooLong, Read, Write, Memory}

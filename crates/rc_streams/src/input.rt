@@ -1,8 +1,10 @@
 //! A whole input under a bound, and how a failure is told.
-ghost use Rattle.std.specs.Prelude.{◌≡◌, ◌⊎◌, ◌+◌, ◌<◌, ◌≤◌, Err, IfOk, IfErr, IfSome, OnOk, vec_len};
+ghost use Rattle.std.specs.Prelude.{◌≡◌, ◌⊎◌, ◌+◌, ◌<◌, ◌≤◌, Err, IfOk, IfErr, IfSome, OnOk};
+ghost use Rattle.std.specs.Prelude.{vec_len};
 ghost use Rattle.std.specs.Io.KnownBytes.{Appends, IsAtEnd};
 ghost use Rattle.rc_streams.specs.declared.input.Failure.TheVariants.{Memory};
-ghost use Rattle.rc_streams.specs.Input.{AppendsFront, ConsumesAtMost, IsCause, MovesPiece, fault_line, failure_text};
+ghost use Rattle.rc_streams.specs.Input.{AppendsFront, ConsumesAtMost, IsCause, MovesPiece};
+ghost use Rattle.rc_streams.specs.Input.{fault_line, failure_text};
 ghost use Rattle.rc_streams.specs.Noting.{HasFailed, inner_of};
 
 use crate::noted::{Noted, read_some};

@@ -1,7 +1,10 @@
 //! Lines of an input under bounds.
-ghost use Rattle.std.specs.Prelude.{◌≡◌, ◌⊎◌, ◌+◌, ◌<◌, ◌≤◌, ◌++◌, [], false, length, Err, IfOk, OnOk, OnErr, IfErr, MatchOption};
+ghost use Rattle.std.specs.Prelude.{◌≡◌, ◌⊎◌, ◌+◌, ◌<◌, ◌≤◌, ◌++◌, [], false, length, Err, IfOk};
+ghost use Rattle.std.specs.Prelude.{OnOk, OnErr, IfErr, MatchOption};
 ghost use Rattle.rc_streams.specs.Noting.{HasFailed, inner_of};
-ghost use Rattle.rc_streams.specs.Taking.{HandsLine, HandsNothing, BeginsTooLong, IsOneLine, IsPartFault, IsRefillFault, LacksLine, MovesPart, Refills, Takes, fresh};
+ghost use Rattle.rc_streams.specs.Taking.{HandsLine, HandsNothing, BeginsTooLong, IsOneLine};
+ghost use Rattle.rc_streams.specs.Taking.{IsPartFault, IsRefillFault, LacksLine, MovesPart};
+ghost use Rattle.rc_streams.specs.Taking.{Refills, Takes, fresh};
 
 use crate::input::{Failure, MAX_INPUT};
 use crate::noted::{Noted, read_some};

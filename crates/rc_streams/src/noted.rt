@@ -1,9 +1,11 @@
 //! Readers and writers whose failures are noted.
-ghost use Rattle.std.specs.Prelude.{◌≡◌, ◌⊎◌, ◌↔◌, false, length, Err, IsErr, IsOk, IsTrue, OnErr, OnOk};
+ghost use Rattle.std.specs.Prelude.{◌≡◌, ◌⊎◌, ◌↔◌, false, length, Err, IsErr, IsOk, IsTrue, OnErr};
+ghost use Rattle.std.specs.Prelude.{OnOk};
 ghost use Rattle.std.specs.IoError.{error_kind};
 ghost use Rattle.std.specs.Io.{ReadsAtMost, WritesAtMost};
 ghost use Rattle.std.specs.Io.KnownBytes.{Keeps, ReadConsumes, WriteAppends};
-ghost use Rattle.rc_streams.specs.Noting.{CountsRow, HasFailed, IsFlushed, IsReadFault, IsWriteFault, inner_of, interrupts_of};
+ghost use Rattle.rc_streams.specs.Noting.{CountsRow, HasFailed, IsFlushed, IsReadFault};
+ghost use Rattle.rc_streams.specs.Noting.{IsWriteFault, inner_of, interrupts_of};
 
 use crate::input::Failure;
 use std::io;

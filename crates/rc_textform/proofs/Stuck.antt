@@ -1,5 +1,6 @@
 -- Reading is stuck at one place.
-use Rattle.std.proofs.Common.{◌≡◌, ◌∙◌, ℕ, ◌+◌, ◌<◌, ◌≤◌, inl, inr, List, ◌∷◌, ◌++◌, length, take, drop}
+use Rattle.std.proofs.Common.{◌≡◌, ◌∙◌, ℕ, ◌+◌, ◌<◌, ◌≤◌, inl, inr, List, ◌∷◌, ◌++◌, length, take}
+use Rattle.std.proofs.Common.{drop}
 use Rattle.std.proofs.Common.{get_or, arith, sym, ap, subst, append_assoc, length-append}
 use Rattle.std.proofs.lemmas.Bool.{cases_lt}
 use Rattle.std.proofs.lemmas.List.{take-append-le, take-append-drop, take_all}
@@ -7,8 +8,8 @@ use Rattle.std.proofs.lemmas.List.Concat.{flat_map-append}
 use Rattle.std.proofs.Math.Seq.{get_or-append_seam}
 use Rattle.rc_textform.specs.Form.{spells, IsStuck}
 
--- values of which as many lines stand on the same bytes have one rest there, and their next lines are
--- alike
+-- values of which as many lines stand on the same bytes have one rest there, and their next lines
+-- are alike
 abbrev pub AreAligned : {L A : Type 0} → (L → List ℕ) → (A → Type 0) → (A → List L)
     → (L → L → Type 0) → L → Type 0
 AreAligned {L} {A} spell Is lines Alike end =
@@ -44,7 +45,8 @@ module _ {L A : Type 0} (spell : L → List ℕ) (Is : A → Type 0) (lines : A 
   -- not after another place
   not_behind : (bytes rest other : List ℕ) (due line : L)
       (stuck : IsStuck spell Is lines bytes rest due)
-      (more : IsStuck spell Is lines bytes other line) → length stuck.before < length more.before → ⊥
+      (more : IsStuck spell Is lines bytes other line) → length stuck.before < length more.before
+      → ⊥
   not_behind bytes rest other due line stuck more longer =
       let front = front_of bytes other line more (length stuck.before + 1) (omega arith) in
       stuck.none more.value front.0 more.is front.1
@@ -83,10 +85,12 @@ module _ {L A : Type 0} (spell : L → List ℕ) (Is : A → Type 0) (lines : A 
           | inl longer ↦ absurd (not_behind bytes other rest line due more stuck longer)
           | inr other_within ↦
               let long : length more.before ≡ length stuck.before = omega arith in
-              let stands : bytes ≡ spells spell (take (length stuck.before) (lines more.value)) ++ other =
+              let stands : bytes ≡ spells spell (take (length stuck.before) (lines more.value))
+              ++ other =
               all_before bytes other line more
               ∙ ap (λ (k : ℕ). spells spell (take k (lines more.value)) ++ other) long in
-              let both = aligned stuck.value more.value (length stuck.before) rest other stuck.is more.is
+              let both =
+              aligned stuck.value more.value (length stuck.before) rest other stuck.is more.is
               (long_enough bytes rest due stuck)
               (omega (arith, long_enough bytes other line more))
               (sym (all_before bytes rest due stuck) ∙ stands) in

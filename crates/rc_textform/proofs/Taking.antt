@@ -1,6 +1,8 @@
 -- Words taken from a line, one by one.
-use Rattle.std.proofs.Common.{◌≡◌, ◌≢◌, ◌∙◌, ◌==◌, ◌<◌, ◌+◌, ℕ, List, [], ◌∷◌, ◌++◌, All, length, take, drop, get_or, false, arith, refl, sym, ap, subst, append_assoc}
-use Rattle.std.proofs.lemmas.List.{take_more, take-append-drop, get_or-take, get_or_default, length-take}
+use Rattle.std.proofs.Common.{◌≡◌, ◌≢◌, ◌∙◌, ◌==◌, ◌<◌, ◌+◌, ℕ, List, [], ◌∷◌, ◌++◌, All, length}
+use Rattle.std.proofs.Common.{take, drop, get_or, false, arith, refl, sym, ap, subst, append_assoc}
+use Rattle.std.proofs.lemmas.List.{take_more, take-append-drop, get_or-take, get_or_default}
+use Rattle.std.proofs.lemmas.List.{length-take}
 use Rattle.std.proofs.lemmas.Bool.{ne_eqb}
 use Rattle.std.proofs.lemmas.List.Elements.{All-head, All-tail, All-weaker}
 use Rattle.std.proofs.lemmas.List.Splits.{slice_split_at, slice_split_none}
@@ -8,7 +10,8 @@ use Rattle.std.specs.List.{slice_split}
 
 no_space : (word : List ℕ) → All (λ byte. byte ≢ 32) word → All (λ byte. (byte == 32) ≡ false) word
 no_space word plain =
-    All-weaker (λ byte. byte ≢ 32) (λ byte. (byte == 32) ≡ false) (λ byte other. ne_eqb byte 32 other)
+    All-weaker (λ byte. byte ≢ 32) (λ byte. (byte == 32) ≡ false)
+    (λ byte other. ne_eqb byte 32 other)
     word plain
 
 -- a word in front of a space is the first word

@@ -1,5 +1,6 @@
 -- Lines of words with one space between them, and numbers among the words.
-use Rattle.std.specs.Prelude.{◌≡◌, ◌≢◌, ◌<◌, ◌≤◌, ◌==◌, ℕ, List, [], ◌∷◌, ◌++◌, length, All, slice_index}
+use Rattle.std.specs.Prelude.{◌≡◌, ◌≢◌, ◌<◌, ◌≤◌, ◌==◌, ℕ, List, [], ◌∷◌, ◌++◌, length, All}
+use Rattle.std.specs.Prelude.{slice_index}
 use Rattle.std.specs.Prelude.{Option, None, Some}
 use Rattle.std.specs.List.{join_with_byte, slice_split}
 

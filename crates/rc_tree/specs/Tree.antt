@@ -1,5 +1,6 @@
 -- What a tree of source files holds: its directories, its files, and what a look into it lists.
-use Rattle.std.specs.Prelude.{◌≡◌, ◌≢◌, ◌==◌, ◌↔◌, ℕ, List, [], ◌∷◌, ◌++◌, map, drop, length, Contains, Option, Some, None, nat_eq, if◌then◌else◌}
+use Rattle.std.specs.Prelude.{◌≡◌, ◌≢◌, ◌==◌, ◌↔◌, ℕ, List, [], ◌∷◌, ◌++◌, map, drop, length}
+use Rattle.std.specs.Prelude.{Contains, Option, Some, None, nat_eq, if◌then◌else◌}
 use Rattle.std.specs.Str.{bytes_eq}
 use Rattle.std.specs.List.{starts_with, before_first, filter_map}
 use Rattle.rc_model.specs.Names.{IsInByteOrder}

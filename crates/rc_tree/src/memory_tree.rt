@@ -1,4 +1,5 @@
-ghost use Rattle.std.specs.Prelude.{◌≡◌, [], OnOk, OnErr, IfOk, IfErr, Some, ◌==◌, ◌≤◌, ◌⊎◌, vec_len, map, option_map, string_bytes};
+ghost use Rattle.std.specs.Prelude.{◌≡◌, [], OnOk, OnErr, IfOk, IfErr, Some, ◌==◌, ◌≤◌, ◌⊎◌};
+ghost use Rattle.std.specs.Prelude.{vec_len, map, option_map, string_bytes};
 ghost use Rattle.rc_names.specs.Names.{Adds};
 ghost use Rattle.std.specs.BTreeMap.{keys};
 ghost use Rattle.std.specs.List.{filter_map, before_first};

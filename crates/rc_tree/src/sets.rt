@@ -1,5 +1,6 @@
 //! Sets of texts, as they stand in a `BTreeSet`.
-ghost use Rattle.std.specs.Prelude.{◌≡◌, ◌↔◌, ◌⊎◌, ℕ, List, All, map, Contains, OnOk, OnErr, IsTrue, IfOk, string_bytes};
+ghost use Rattle.std.specs.Prelude.{◌≡◌, ◌↔◌, ◌⊎◌, ℕ, List, All, map, Contains, OnOk, OnErr};
+ghost use Rattle.std.specs.Prelude.{IsTrue, IfOk, string_bytes};
 ghost use Rattle.rc_model.specs.Names.{IsName, IsInByteOrder};
 ghost use Rattle.rc_names.specs.Names.{Adds};
 

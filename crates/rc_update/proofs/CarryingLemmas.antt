@@ -98,7 +98,8 @@ pub left_by : (needs graph : List (List ℕ)) (live altered down before stays : 
     → Holds stays (λ s. Has live s × (DownFrom needs (Has altered) s → ⊥))
 left_by needs graph live altered down before stays is same closure left s =
     let falls = subst (λ (g : List (List ℕ)). Holds down (DownFrom g (Has altered))) is closure in
-    let rest = subst (λ (b : List Bool). Holds stays (λ k. Has b k × (Has down k → ⊥))) same left in (
+    let rest =
+    subst (λ (b : List Bool). Holds stays (λ k. Has b k × (Has down k → ⊥))) same left in (
       λ has. let at = (rest s).0 has in (at.0, λ goes. at.1 ((falls s).1 goes)),
       λ at. (rest s).1 (at.0, λ goes. at.1 ((falls s).0 goes)),
     )

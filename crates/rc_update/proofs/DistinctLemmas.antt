@@ -1,5 +1,6 @@
 -- Services that go on as one are one, where no two conversions share a name.
-use Rattle.std.proofs.Common.{◌≡◌, ◌∙◌, ◌++◌, ◌∷◌, ℕ, Bool, List, [], Option, None, Some, false, true}
+use Rattle.std.proofs.Common.{◌≡◌, ◌∙◌, ◌++◌, ◌∷◌, ℕ, Bool, List, [], Option, None, Some, false}
+use Rattle.std.proofs.Common.{true}
 use Rattle.std.proofs.Common.{if◌then◌else◌, ap, refl, subst, sym}
 use Rattle.std.proofs.lemmas.Bool.{false≢true}
 use Rattle.std.proofs.lemmas.Option.{same_Some}
@@ -39,7 +40,8 @@ later_taken first more name is = ap (λ (b : Bool). if b then true else is_taken
 -- what is taken in the rest is taken
 taken_later : (first : Conversion) (more : List Conversion) (name : List ℕ)
     → is_taken more name ≡ true → is_taken (first ∷ more) name ≡ true
-taken_later first more name rest = told (bytes_eq first.new name) (is_taken (first ∷ more) name ≡ true)
+taken_later first more name rest =
+    told (bytes_eq first.new name) (is_taken (first ∷ more) name ≡ true)
     (first_taken first more name) (λ no. later_taken first more name no ∙ rest)
 
 -- the new name of a conversion is taken

@@ -1,5 +1,6 @@
 -- Under which names services go on in another database.
-use Rattle.std.specs.Prelude.{Bool, List, [], ◌∷◌, Option, None, Some, ℕ, false, true, map, if◌then◌else◌}
+use Rattle.std.specs.Prelude.{Bool, List, [], ◌∷◌, Option, None, Some, ℕ, false, true, map}
+use Rattle.std.specs.Prelude.{if◌then◌else◌}
 use Rattle.std.specs.Str.{bytes_eq}
 use Rattle.rc_update.specs.declared.conversion.Conversion.{Conversion as Given}
 

@@ -1,5 +1,6 @@
 -- Whether two conversions share an old name, or a new one.
-use Rattle.std.specs.Prelude.{◌≡◌, ◌⊎◌, ◌++◌, ◌∷◌, ℕ, Bool, List, [], Option, None, Some, false, true}
+use Rattle.std.specs.Prelude.{◌≡◌, ◌⊎◌, ◌++◌, ◌∷◌, ℕ, Bool, List, [], Option, None, Some, false}
+use Rattle.std.specs.Prelude.{true}
 use Rattle.rc_update.specs.Conversions.{Conversion, conversion_for, is_taken}
 
 -- whether a conversion has this old name

@@ -1,5 +1,6 @@
 //! What is lowered by the old database, what is carried over, and what is raised by the new one.
-ghost use Rattle.std.specs.Prelude.{◌≡◌, ◌<◌, ◌⊎◌, ℕ, Some, length, map, slice_get, string_bytes, IfOk, OnOk};
+ghost use Rattle.std.specs.Prelude.{◌≡◌, ◌<◌, ◌⊎◌, ℕ, Some, length, map, slice_get, string_bytes};
+ghost use Rattle.std.specs.Prelude.{IfOk, OnOk};
 ghost use Rattle.rc_model.specs.Names.{Has, Holds};
 ghost use Rattle.rc_names.specs.Names.{ListsNames};
 ghost use Rattle.rc_model.specs.Graph.{DownFrom, IsClosed};

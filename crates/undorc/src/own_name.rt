@@ -1,5 +1,5 @@
-//! The words of the command line, with the program's own name as the first. The path by which it was
-//! started need not be a text.
+//! The words of the command line, with the program's own name as the first. The path by which it
+//! was started need not be a text.
 use std::env::{self, Env, FillError};
 use std::io;
 

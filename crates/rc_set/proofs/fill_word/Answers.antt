@@ -1,7 +1,8 @@
 use Rattle.std.proofs.Common.{◌+◌, ◌-◌, ◌*◌, ◌^◌, slice_index, refl, subst, arith, ℕ}
 use Rattle.std.specs.Int.{trailing_zeros}
 use mir.Syntax.{w64}
-use Rattle.rc_set.proofs.Fillings.{IsClearIn, FillsWord, none_filled, one_filled, none_more, clear_there, clear_more, clear_before, word_filled}
+use Rattle.rc_set.proofs.Fillings.{IsClearIn, FillsWord, none_filled, one_filled, none_more}
+use Rattle.rc_set.proofs.Fillings.{clear_there, clear_more, clear_before, word_filled}
 use Rattle.rc_set.proofs.WordBits.{all_left, next_bits, left_falls}
 use Rattle.rc_set.proofs.fill_word.Goals as goal
 use Rattle.rc_set.proofs.fill_word.Goals.{then-id-list, else-id-list}

@@ -19,7 +19,8 @@ returns-in-Some-clause-wrong c =
     c.db_in-asked.ensures.wrong
 
 pub returns-in-None-clause-wrong : goal.returns-in-None-clause-wrong
-returns-in-None-clause-wrong c = λ _. asked_none _ (c.in-Ok.ensures.rows (codes "db") ∙ sym c.in-None.ensures)
+returns-in-None-clause-wrong c =
+    λ _. asked_none _ (c.in-Ok.ensures.rows (codes "db") ∙ sym c.in-None.ensures)
 
 pub returns-in-Err-clause-wrong : goal.returns-in-Err-clause-wrong
 returns-in-Err-clause-wrong c = λ other. asked_none _ (c.in-Err.ensures.wrong other (codes "db"))

@@ -16,7 +16,8 @@ returns-then-is_on-clause-asked c = (
   (
     sym c.is_on.ensures ∙ c.if-is_on.true,
     (
-      unlimited (rows_of (found_of c.args.matches.now)) (ask_of c.in_ok-request.request) c.in_ok-request.ensures.asked,
+      unlimited (rows_of (found_of c.args.matches.now)) (ask_of c.in_ok-request.request)
+          c.in_ok-request.ensures.asked,
       limit_found c.args.matches.now _ c.in-Some.limit c.get_str.ensures c.in-Some.ensures.some,
     ),
   ),
@@ -29,7 +30,8 @@ returns-clause-asked c = (
     sym c.is_on.ensures ∙ c.if-is_on.false,
     c.new.ensures.items,
     (
-      unlimited (rows_of (found_of c.args.matches.now)) (ask_of c.in_ok-request.request) c.in_ok-request.ensures.asked,
+      unlimited (rows_of (found_of c.args.matches.now)) (ask_of c.in_ok-request.request)
+          c.in_ok-request.ensures.asked,
       limit_found c.args.matches.now _ c.in-Some.limit c.get_str.ensures c.in-Some.ensures.some,
     ),
   ),

@@ -12,7 +12,11 @@ returns-then-is_on-clause-asked c = (
   refl,
   (
     sym c.is_on.ensures ∙ c.if-is_on.true,
-    (c.in-Some.limit, limit_found c.args.matches.now _ c.in-Some.limit c.get_str.ensures c.in-Some.ensures.some),
+    (
+      c.in-Some.limit,
+      limit_found c.args.matches.now _ c.in-Some.limit c.get_str.ensures
+          c.in-Some.ensures.some,
+    ),
   ),
 )
 

@@ -43,7 +43,8 @@ returns-in-Some-limit_of-clause-asked c =
     m (codes "failing") None c.in-None.ensures (
       c.text_in.ensures,
       c.text_in-in-Some-limit_of.ensures,
-      found_as (λ (o : Option Text). IsLimitIn o limit) m (codes "usual") _ c.get_str-in-None.ensures
+      found_as (λ (o : Option Text). IsLimitIn o limit) m (codes "usual") _
+          c.get_str-in-None.ensures
           c.in-Some-limit_of.ensures.some,
     )
 

@@ -11,7 +11,9 @@ pub loop-word-preserved : goal.loop-word-preserved
 loop-word-preserved c =
     let words : List (List ℕ) = map (λ w. w.now) c.args.words.now in
     let i : ℕ = c.loop-word.word-index in
-    shown_more string_bytes c.loop-word.strings.items c.push.new.self.items c.in_ok-string.string c.in_ok-push.ensures.items
-    ∙ (ap (λ (xs : List (List ℕ)). xs ++ string_bytes c.in_ok-string.string ∷ []) c.loop-word.invariant
+    shown_more string_bytes c.loop-word.strings.items c.push.new.self.items c.in_ok-string.string
+    c.in_ok-push.ensures.items
+    ∙ (ap (λ (xs : List (List ℕ)). xs ++ string_bytes c.in_ok-string.string ∷ [])
+    c.loop-word.invariant
     ∙ (ap (λ (x : List ℕ). take i words ++ x ∷ []) c.in_ok-string.ensures.ok
     ∙ sym (mapped_more (λ w. w.now) c.args.words.now i none c.loop-word-test.true)))

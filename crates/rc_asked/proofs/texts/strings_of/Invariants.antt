@@ -3,4 +3,5 @@ use Rattle.rc_asked.proofs.texts.strings_of.Given as goal
 
 -- the texts so far
 abbrev pub invariant-loop-word : goal.invariant-loop-word
-invariant-loop-word l = map string_bytes l.strings.items ≡ take l.word-index (map (λ w. w.now) l.words)
+invariant-loop-word l =
+    map string_bytes l.strings.items ≡ take l.word-index (map (λ w. w.now) l.words)

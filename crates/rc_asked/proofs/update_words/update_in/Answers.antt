@@ -5,7 +5,8 @@ use Rattle.rc_asked.proofs.update_words.update_in.Goals as goal
 
 pub returns-in_default-clause-wrong : goal.returns-in_default-clause-wrong
 returns-in_default-clause-wrong c = λ _ ask asks.
-    let both : None ≡ Some ask.new = c.in_default.ensures ∙ first_value-rows (found_of c.args.matches.now) (codes "new") ∙ sym asks.new in cc
+    let both : None ≡ Some ask.new = c.in_default.ensures
+    ∙ first_value-rows (found_of c.args.matches.now) (codes "new") ∙ sym asks.new in cc
 
 pub returns-clause-asked : goal.returns-clause-asked
 returns-clause-asked c = record {

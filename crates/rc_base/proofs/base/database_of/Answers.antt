@@ -17,5 +17,10 @@ slice_bounds-result-count c =
 pub returns-in_ok-db-in-None-clause-spelled : goal.returns-in_ok-db-in-None-clause-spelled
 returns-in_ok-db-in-None-clause-spelled c =
     let read = c.in_ok-db-in-None.ensures.ok in
-    subst (λ base. Spells (bytes_of base) c.args.input.now c.in_ok-db-in-None.db (take (length c.args.input.now - c.in_ok-db-in-None.taken) (drop c.in_ok-db-in-None.taken c.args.input.now))) (sym c.in-None.is)
-    (c.names-names-in-None.ensures.database, read.0, after_front (spelling c.in_ok-db-in-None.db) read.2.0 _ _ read.2.1 read.1)
+    subst (λ base. Spells (bytes_of base) c.args.input.now c.in_ok-db-in-None.db
+    (take (length c.args.input.now - c.in_ok-db-in-None.taken)
+    (drop c.in_ok-db-in-None.taken c.args.input.now))) (sym c.in-None.is) (
+      c.names-names-in-None.ensures.database,
+      read.0,
+      after_front (spelling c.in_ok-db-in-None.db) read.2.0 _ _ read.2.1 read.1,
+    )

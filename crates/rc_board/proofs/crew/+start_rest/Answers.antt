@@ -1,4 +1,5 @@
-use Rattle.std.proofs.Common.{◌≡◌, ◌≢◌, ◌∙◌, ◌+◌, ◌-◌, ◌<◌, ◌≤◌, ℕ, List, [], Option, Some, vec_len, vec_capacity, ap, subst, sym, arith}
+use Rattle.std.proofs.Common.{◌≡◌, ◌≢◌, ◌∙◌, ◌+◌, ◌-◌, ◌<◌, ◌≤◌, ℕ, List, [], Option, Some, vec_len}
+use Rattle.std.proofs.Common.{vec_capacity, ap, subst, sym, arith}
 use Rattle.std.specs.List.{All}
 use Rattle.std.proofs.lemmas.List.Elements.{All-push, All-pop}
 use Rattle.rc_board.specs.declared.crew.Tools.{Tools}
@@ -110,7 +111,8 @@ returns-clause-said g t c =
     (g.G.Gate.gives c.in-Some-started.child.promise.gate.now) deadline c.join.result.notes)
     c.in-Some-started.ensures.deadline c.join.ensures) in
     subst (λ (pads : List Written). All said pads) (sym c.push_reserved-2.ensures.items)
-    (All-push said c.start_rest-all.new.pads.items c.join.result c.start_rest-all.ensures.said there)
+    (All-push said c.start_rest-all.new.pads.items c.join.result c.start_rest-all.ensures.said
+    there)
 
 pub returns-clause-bound : goal.returns-clause-bound
 returns-clause-bound g t c =
@@ -125,4 +127,5 @@ returns-clause-all g t c started =
     c.push_reserved-2.ensures.len
 
 pub returns-clause-capacity : goal.returns-clause-capacity
-returns-clause-capacity g t c = c.push_reserved-2.ensures.capacity ∙ c.start_rest-all.ensures.capacity
+returns-clause-capacity g t c =
+    c.push_reserved-2.ensures.capacity ∙ c.start_rest-all.ensures.capacity

@@ -1,4 +1,5 @@
-use Rattle.std.proofs.Common.{◌≡◌, ◌∙◌, ◌↔◌, ◌≤◌, ℕ, [], ◌∷◌, true, false, List, length, ap, sym, subst, arith}
+use Rattle.std.proofs.Common.{◌≡◌, ◌∙◌, ◌↔◌, ◌≤◌, ℕ, [], ◌∷◌, true, false, List, length, ap, sym}
+use Rattle.std.proofs.Common.{subst, arith}
 use Rattle.std.proofs.lemmas.List.{nil_from_length}
 use Rattle.rc_model.specs.declared.Event.{Event}
 use Rattle.rc_board.specs.Reading.{AreRest}

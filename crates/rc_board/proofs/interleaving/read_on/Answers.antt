@@ -1,4 +1,5 @@
-use Rattle.std.proofs.Common.{◌≡◌, ◌<◌, ◌+◌, ◌-◌, false, true, List, Option, length, get_or, sym, subst, arith, refl}
+use Rattle.std.proofs.Common.{◌≡◌, ◌<◌, ◌+◌, ◌-◌, false, true, List, Option, length, get_or, sym}
+use Rattle.std.proofs.Common.{subst, arith, refl}
 use Rattle.rc_graph.specs.declared.Way.{Way}
 use Rattle.rc_board.specs.declared.note.Note.{Note}
 use Rattle.rc_board.specs.Made.{worker_of}

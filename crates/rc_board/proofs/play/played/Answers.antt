@@ -4,7 +4,8 @@ use Rattle.rc_model.specs.Run.{IsPlanned, course_of, IsSettled}
 use Rattle.rc_model.specs.Beside.{planned_count}
 use Rattle.rc_core.specs.Settled.{RunSoFar}
 use Rattle.rc_board.specs.Made.{AreMadeInTime}
-use Rattle.rc_board.proofs.Counting.{idle_settled, none_planned, one_planned, few_planned, ok_always}
+use Rattle.rc_board.proofs.Counting.{idle_settled, none_planned, one_planned, few_planned}
+use Rattle.rc_board.proofs.Counting.{ok_always}
 use Rattle.rc_board.proofs.Making.{made_none, ok_by_more, may_halt}
 use Rattle.rc_board.proofs.play.played.Goals as goal
 
@@ -23,14 +24,16 @@ worked-requires-clause-work g c κs within =
     let course = course_of c.args.graph.now c.args.plan.now c.args.deadline in
     let some : 0 < c.planned-planned.result = search rules in
     one_planned course c.planned-planned.result
-    (c.planned-planned.ensures ∙ ap (λ (r : RunSoFar). planned_count r.course) c.in_ok-run.ensures) some
+    (c.planned-planned.ensures ∙ ap (λ (r : RunSoFar). planned_count r.course) c.in_ok-run.ensures)
+    some
 
 pub returns-in-Ok-clause-idle : goal.returns-in-Ok-clause-idle
 returns-in-Ok-clause-idle g c =
     let course = course_of c.args.graph.now c.args.plan.now c.args.deadline in
     let some : 0 < c.planned-planned.result = search rules in
     let one = one_planned course c.planned-planned.result
-    (c.planned-planned.ensures ∙ ap (λ (r : RunSoFar). planned_count r.course) c.in_ok-run.ensures) some in
+    (c.planned-planned.ensures ∙ ap (λ (r : RunSoFar). planned_count r.course) c.in_ok-run.ensures)
+    some in
     ok_always c.worked.result
     (λ ended. ((s : ℕ) → IsPlanned course s → ⊥) → ended.events ≡ [])
     (λ ended none. absurd (none one.0 one.1))
@@ -61,7 +64,8 @@ returns-in-Ok-clause-made g c =
     subst (λ (n : ℕ). n ≤ c.args.workers) (sym c.crew_for-crew.ensures.fewer)
     (min-le_left c.args.workers c.planned-planned.result) in
     ok_by_more (g.G.Gate.answers c.args.gate.now) (g.G.Gate.gives c.args.gate.now)
-    c.args.deadline c.args.plan.now.opening c.crew_for-crew.result c.args.workers c.worked.result fewer
+    c.args.deadline c.args.plan.now.opening c.crew_for-crew.result c.args.workers
+    c.worked.result fewer
     c.worked.ensures.made
 
 pub returns-then-planned-eq0-clause-course : goal.returns-then-planned-eq0-clause-course
@@ -76,7 +80,8 @@ returns-then-planned-eq0-clause-settled g c =
     sym (ap (λ (r : RunSoFar). planned_count r.course) c.in_ok-run.ensures)
     ∙ sym c.planned-planned.ensures ∙ zero in
     subst (λ (r : RunSoFar). IsSettled course r.events)
-    (sym (c.finish.ensures.run ∙ c.in_ok-run.ensures)) (idle_settled course (none_planned course none))
+    (sym (c.finish.ensures.run ∙ c.in_ok-run.ensures))
+    (idle_settled course (none_planned course none))
 
 pub returns-then-planned-eq0-clause-made : goal.returns-then-planned-eq0-clause-made
 returns-then-planned-eq0-clause-made g c =
@@ -105,7 +110,8 @@ pub returns-then-crew-eq1-clause-made : goal.returns-then-crew-eq1-clause-made
 returns-then-crew-eq1-clause-made g c =
     let answers = g.G.Gate.answers c.args.gate.now in
     let gives = g.G.Gate.gives c.args.gate.now in
-    ok_by_more answers gives c.args.deadline c.args.plan.now.opening 1 c.args.workers c.played_alone.result
+    ok_by_more answers gives c.args.deadline c.args.plan.now.opening 1 c.args.workers
+    c.played_alone.result
     c.requires.crew.0
     (subst (λ (r : RunSoFar). IfOk c.played_alone.result
     (λ ended. AreMadeInTime 1 answers gives r.course.deadline r.course.up ended.events))

@@ -6,7 +6,10 @@ pub loop-change-preserved : goal.loop-change-preserved
 loop-change-preserved c =
     c.in-Ok.ensures
     ∙ (λ i. c.loop-change.invariant i ++ c.change-item.is i ∷ [])
-    ∙ sym (take_more c.args.changes.now c.loop-change.change-index c.change-item.result c.loop-change-test.true)
+    ∙ sym (take_more c.args.changes.now c.loop-change.change-index c.change-item.result
+    c.loop-change-test.true)
 
 pub returns : goal.returns
-returns c = c.loop-change.invariant ∙ take_all c.loop-change.change-index c.args.changes.now c.loop-change-test.false
+returns c =
+    c.loop-change.invariant ∙ take_all c.loop-change.change-index c.args.changes.now
+    c.loop-change-test.false

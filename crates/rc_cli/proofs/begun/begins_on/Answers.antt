@@ -11,5 +11,6 @@ returns c =
     (λ answer says. begins_same c.args.from.now c.args.to.now (conversions_of c.args.list.now)
     c.args.file.now c.args.log.now c.in-Some.rest.now
     names answer c.names-names.ensures.database c.spelling_is_unique.ensures.value
-    c.in-Some.ensures (rw c.in-Some-2.is at c.in_ok-names.ensures.some) (rw c.deref.ensures.value at says))
+    c.in-Some.ensures (rw c.in-Some-2.is at c.in_ok-names.ensures.some)
+    (rw c.deref.ensures.value at says))
     c.says_lowering-begins.ensures

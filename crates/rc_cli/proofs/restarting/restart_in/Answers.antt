@@ -20,4 +20,5 @@ returns-clause-stopped g c =
     (g.W.Write.contents (inner_of c.serve_steps-ended.new.outputs.writer)) c.args.session.now))
     (ap Said c.step_line-line.ensures.says
     ∙ ap (λ (ns : List (List ℕ)). lowering false ns)
-    (c.in-Ok-copied.ensures ∙ ap (map string_bytes) c.deref.ensures.value)) c.serve_steps-ended.ensures.stopped
+    (c.in-Ok-copied.ensures ∙ ap (map string_bytes) c.deref.ensures.value))
+    c.serve_steps-ended.ensures.stopped

@@ -39,7 +39,8 @@ returns-in-Ok-ended-clause-done g c =
     let gained = g.W.Write.contents (inner_of c.restart_in-ended.new.outputs.writer) in
     runs_from c.args.db ask c.args.live c.in-Ok.gate c.in-Ok-begin.session
     (λ old As. EndsRestart c.in-Ok-ended.ending ask.session.live was is As
-    (lowering false ask.names) written gained old) c.in-Ok.ensures.made c.in-Ok-begin.ensures.begun c.in-Ok-ended.ensures.done
+    (lowering false ask.names) written gained old) c.in-Ok.ensures.made c.in-Ok-begin.ensures.begun
+    c.in-Ok-ended.ensures.done
 
 pub returns-in-Err-ended-clause-stopped : goal.returns-in-Err-ended-clause-stopped
 returns-in-Err-ended-clause-stopped g c =

@@ -28,4 +28,6 @@ returns-in-Ok-current-clause-sealed c = (
 )
 
 pub returns-in-Err-clause-fault : goal.returns-in-Err-clause-fault
-returns-in-Err-clause-fault c = live_fault c.args.db c.args.bytes.now c.in-Err.fault c.from.result c.from.ensures c.in-Err.ensures.fault
+returns-in-Err-clause-fault c =
+    live_fault c.args.db c.args.bytes.now c.in-Err.fault c.from.result c.from.ensures
+    c.in-Err.ensures.fault

@@ -34,7 +34,8 @@ returns-in-Ok-answer-clause-answer c =
       (spelled.0, spelled.1, spelled.2, refl),
       answers_on c.in-Ok.db (named_ask_of c.args.request.now) c.args.live
           c.file_named-live.result c.args.log.now c.in-Ok-begin.session
-          (map string_bytes c.deref.result.now) c.in-Ok-answer.answer.ending c.in-Ok-answer.answer.text.items c.file_named-live.ensures
+          (map string_bytes c.deref.result.now) c.in-Ok-answer.answer.ending
+          c.in-Ok-answer.answer.text.items c.file_named-live.ensures
           (ap (map string_bytes) c.deref.ensures.value) c.in-Ok-begin.ensures.begun
           c.in-Ok-answer.ensures,
     )

@@ -26,7 +26,8 @@ line_once-requires-in-Ok-Done-clause-closed g c κs within = c.requires.to.0
 pub line_once-requires-in-Ok-Done-clause-whole : goal.line_once-requires-in-Ok-Done-clause-whole
 line_once-requires-in-Ok-Done-clause-whole g c κs within = c.requires.to.1
 
-pub line_once-requires-in-Ok-Done-clause-eventless : goal.line_once-requires-in-Ok-Done-clause-eventless
+pub line_once-requires-in-Ok-Done-clause-eventless :
+    goal.line_once-requires-in-Ok-Done-clause-eventless
 line_once-requires-in-Ok-Done-clause-eventless g c κs within = c.requires.raising
 
 pub line_once-requires-in-Ok-Done-clause-writer : goal.line_once-requires-in-Ok-Done-clause-writer
@@ -47,7 +48,8 @@ returns-in-Ok-clause-done g c =
     (g.W.Write.contents (inner_of c.line_once.new.outputs.writer))
     (g.W.Write.contents (inner_of c.line_once-in-Ok-Done.new.outputs.writer))
     c.args.from.now c.line_once.new.session c.args.ahead.now.to c.line_once-in-Ok-Done.new.session
-    c.in-Ok-Done.field-0 c.in-Ok.raised c.behind.result c.in-Ok-Done.field-0-is c.behind.ensures c.in-Ok-Done.ensures.done c.in-Ok.ensures.done
+    c.in-Ok-Done.field-0 c.in-Ok.raised c.behind.result c.in-Ok-Done.field-0-is c.behind.ensures
+    c.in-Ok-Done.ensures.done c.in-Ok.ensures.done
 
 pub returns-in-Ok-clause-stopped : goal.returns-in-Ok-clause-stopped
 returns-in-Ok-clause-stopped g c = tt
@@ -73,7 +75,8 @@ returns-in-Err-line_once-clause-stopped g c =
     (g.W.Write.contents (inner_of c.line_once.new.outputs.writer))
     (g.W.Write.contents (inner_of c.line_once-in-Ok-Done.new.outputs.writer))
     c.args.from.now c.line_once.new.session c.args.ahead.now.to c.line_once-in-Ok-Done.new.session
-    c.in-Err-line_once.fault c.in-Ok-Done.field-0 c.in-Ok-Done.field-0-is c.in-Ok-Done.ensures.done c.in-Err-line_once.ensures.stopped
+    c.in-Err-line_once.fault c.in-Ok-Done.field-0 c.in-Ok-Done.field-0-is c.in-Ok-Done.ensures.done
+    c.in-Err-line_once.ensures.stopped
 
 pub returns-in-Err-line_once-clause-fault : goal.returns-in-Err-line_once-clause-fault
 returns-in-Err-line_once-clause-fault g c = c.in-Err-line_once.ensures.fault

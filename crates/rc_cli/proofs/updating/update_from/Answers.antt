@@ -22,7 +22,10 @@ pub returns-clause-done : goal.returns-clause-done
 returns-clause-done g c =
     let parts : Parts = parts_of c.in-Ok.update in
     let there : c.in-Ok-session_of.to ≡ session_with c.args.new parts c.args.from.now =
-    with_bound c.args.new parts c.bound-bound.result c.args.from.now c.in-Ok-session_of.to c.in-Ok-session_of.ensures (journal_bound c.journal.result.now c.args.from.now.line c.args.from.now.begun c.bound-bound.result c.journal.ensures.journal c.bound-bound.ensures) in
+    with_bound c.args.new parts c.bound-bound.result c.args.from.now c.in-Ok-session_of.to
+    c.in-Ok-session_of.ensures
+    (journal_bound c.journal.result.now c.args.from.now.line c.args.from.now.begun
+    c.bound-bound.result c.journal.ensures.journal c.bound-bound.ensures) in
     update_ends (session_ask_of c.args.request.now.session).live
     (g.S.Store.holds (store_of c.args.outputs.now.keeper)) _
     (IsDoneAs c.args.request.now.session.workers (g.G.Gate.answers c.args.gates.now.lowers)
@@ -46,7 +49,10 @@ pub returns-clause-stopped : goal.returns-clause-stopped
 returns-clause-stopped g c =
     let parts : Parts = parts_of c.in-Ok.update in
     let there : c.in-Ok-session_of.to ≡ session_with c.args.new parts c.args.from.now =
-    with_bound c.args.new parts c.bound-bound.result c.args.from.now c.in-Ok-session_of.to c.in-Ok-session_of.ensures (journal_bound c.journal.result.now c.args.from.now.line c.args.from.now.begun c.bound-bound.result c.journal.ensures.journal c.bound-bound.ensures) in
+    with_bound c.args.new parts c.bound-bound.result c.args.from.now c.in-Ok-session_of.to
+    c.in-Ok-session_of.ensures
+    (journal_bound c.journal.result.now c.args.from.now.line c.args.from.now.begun
+    c.bound-bound.result c.journal.ensures.journal c.bound-bound.ensures) in
     update_stops (session_ask_of c.args.request.now.session).live
     (g.S.Store.holds (store_of c.args.outputs.now.keeper)) _
     (IsDoneAs c.args.request.now.session.workers (g.G.Gate.answers c.args.gates.now.lowers)
@@ -75,19 +81,28 @@ session_of-requires-clause-closed g c = c.in-Ok.ensures.closed
 pub session_of-requires-clause-bound : goal.session_of-requires-clause-bound
 session_of-requires-clause-bound g c =
     line_bound c.args.from.now.line c.bound-bound.result (c.journal.ensures.states).is_line
-    (journal_bound c.journal.result.now c.args.from.now.line c.args.from.now.begun c.bound-bound.result c.journal.ensures.journal c.bound-bound.ensures)
+    (journal_bound c.journal.result.now c.args.from.now.line c.args.from.now.begun
+    c.bound-bound.result c.journal.ensures.journal c.bound-bound.ensures)
 
 pub serve_both-ended-requires-clause-from : goal.serve_both-ended-requires-clause-from
 serve_both-ended-requires-clause-from g c κs within = (c.requires.closed, c.requires.whole)
 
 pub serve_both-ended-requires-clause-to : goal.serve_both-ended-requires-clause-to
-serve_both-ended-requires-clause-to g c κs within = stands_closed c.in-Ok-session_of.to c.args.new (carried_line c.args.new c.in-Ok.update.kept c.bound-bound.result) c.in-Ok-session_of.ensures
+serve_both-ended-requires-clause-to g c κs within =
+    stands_closed c.in-Ok-session_of.to c.args.new
+    (carried_line c.args.new c.in-Ok.update.kept c.bound-bound.result) c.in-Ok-session_of.ensures
 
 pub serve_both-ended-requires-clause-lowering : goal.serve_both-ended-requires-clause-lowering
-serve_both-ended-requires-clause-lowering g c κs within = says_eventless c.args.request.now.dry (step_ask DownAll (map string_bytes c.in-Ok.update.lower.items)) (saying_of c.step_line-lowering.result) c.step_line-lowering.ensures.says
+serve_both-ended-requires-clause-lowering g c κs within =
+    says_eventless c.args.request.now.dry
+    (step_ask DownAll (map string_bytes c.in-Ok.update.lower.items))
+    (saying_of c.step_line-lowering.result) c.step_line-lowering.ensures.says
 
 pub serve_both-ended-requires-clause-raising : goal.serve_both-ended-requires-clause-raising
-serve_both-ended-requires-clause-raising g c κs within = says_eventless c.args.request.now.dry (step_ask Up (map string_bytes c.in-Ok.update.raise.items)) (saying_of c.step_line-raising.result) c.step_line-raising.ensures.says
+serve_both-ended-requires-clause-raising g c κs within =
+    says_eventless c.args.request.now.dry
+    (step_ask Up (map string_bytes c.in-Ok.update.raise.items))
+    (saying_of c.step_line-raising.result) c.step_line-raising.ensures.says
 
 pub serve_both-ended-requires-clause-writer : goal.serve_both-ended-requires-clause-writer
 serve_both-ended-requires-clause-writer g c κs within = c.requires.writer

@@ -7,4 +7,5 @@ use Rattle.rc_command.proofs.commands.with_commands.Given as goal
 -- the commands before this one are added
 abbrev pub invariant-loop-told : goal.invariant-loop-told
 invariant-loop-told l =
-    (app : App) → Reads l.fn.program app → Reads l.whole (with_told app (take l.told-index l.commands))
+    (app : App) → Reads l.fn.program app
+    → Reads l.whole (with_told app (take l.told-index l.commands))

@@ -46,7 +46,9 @@ graph_of-requires-clause-bundles c = c.requires.book.bundle
 
 pub graph_of-requires-clause-sets : goal.graph_of-requires-clause-sets
 graph_of-requires-clause-sets c =
-    let Of : List (List Bool) → Type 0 = AreSetsOf (StandsFor (map meaning_of c.args.definitions.now)) c.args.book.bundles c.args.book.services in subst Of (sym c.deref.ensures.value) c.in-Ok.ensures.sets
+    let Of : List (List Bool)
+    → Type 0 = AreSetsOf (StandsFor (map meaning_of c.args.definitions.now)) c.args.book.bundles
+    c.args.book.services in subst Of (sym c.deref.ensures.value) c.in-Ok.ensures.sets
 
 pub joined-db-requires-clause-meanings : goal.joined-db-requires-clause-meanings
 joined-db-requires-clause-meanings c = c.requires.meanings
@@ -65,13 +67,19 @@ joined-db-requires-clause-bounds c = rw c.deref-2.ensures.value c.in-Ok.ensures.
 
 pub joined-db-requires-clause-sets : goal.joined-db-requires-clause-sets
 joined-db-requires-clause-sets c =
-    let Of : List (List Bool) → Type 0 = AreSetsOf (StandsFor (map meaning_of c.args.definitions.now)) c.args.book.bundles c.args.book.services in subst Of (sym c.deref-2.ensures.value) c.in-Ok.ensures.sets
+    let Of : List (List Bool)
+    → Type 0 = AreSetsOf (StandsFor (map meaning_of c.args.definitions.now)) c.args.book.bundles
+    c.args.book.services in subst Of (sym c.deref-2.ensures.value) c.in-Ok.ensures.sets
 
 pub joined-db-requires-clause-types : goal.joined-db-requires-clause-types
-joined-db-requires-clause-types c s has = no_type (map meaning_of c.args.definitions.now) c.requires.before s has
+joined-db-requires-clause-types c s has =
+    no_type (map meaning_of c.args.definitions.now) c.requires.before s has
 
 pub joined-db-requires-clause-taken : goal.joined-db-requires-clause-taken
-joined-db-requires-clause-taken c s has = no_taken (map meaning_of c.args.definitions.now) c.requires.before s has
+joined-db-requires-clause-taken c s has =
+    no_taken (map meaning_of c.args.definitions.now) c.requires.before s has
 
 pub returns-clause-free : goal.returns-clause-free
-returns-clause-free c = no_flaw (map meaning_of c.args.definitions.now) c.requires.before (λ (names, ring). c.in-Ok-graph_of.ensures.free names ring)
+returns-clause-free c =
+    no_flaw (map meaning_of c.args.definitions.now) c.requires.before
+    (λ (names, ring). c.in-Ok-graph_of.ensures.free names ring)

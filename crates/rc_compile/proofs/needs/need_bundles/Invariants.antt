@@ -9,5 +9,7 @@ use Rattle.rc_compile.proofs.needs.need_bundles.Given as goal
 abbrev pub invariant-loop-s : goal.invariant-loop-s
 invariant-loop-s l = record {
   bound : length l.draft ≡ length l.fn.draft;
-  pairs : Gained (Needs l.fn.draft) (λ s t. (s < l.s) × ((b : ℕ) × Needs (rows l.lists) s b × Has (slice_index_or l.sets b []) t)) (Needs l.draft);
+  pairs : Gained (Needs l.fn.draft)
+      (λ s t. (s < l.s) × ((b : ℕ) × Needs (rows l.lists) s b × Has (slice_index_or l.sets b []) t))
+      (Needs l.draft);
 }

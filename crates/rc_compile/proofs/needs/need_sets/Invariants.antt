@@ -8,5 +8,7 @@ use Rattle.rc_compile.proofs.needs.need_sets.Given as goal
 abbrev pub invariant-loop-b : goal.invariant-loop-b
 invariant-loop-b l = record {
   bound : length l.draft ≡ length l.fn.draft;
-  pairs : Gained (Needs l.fn.draft) (Beside (λ b t. Has (slice_index_or l.sets b []) t) l.service (take l.b-index l.list)) (Needs l.draft);
+  pairs : Gained (Needs l.fn.draft)
+      (Beside (λ b t. Has (slice_index_or l.sets b []) t) l.service (take l.b-index l.list))
+      (Needs l.draft);
 }

@@ -17,9 +17,16 @@ returns c =
     let services = c.args.services.now in
     let d0 = c.in_ok-draft.draft in
     let (through, by_bundle, second) = c.in_ok-need_in_bundles.ensures.pairs in
-    let fresh : length d0 ≡ length c.args.services.now = ap length c.in_ok-draft.ensures ∙ length-replicate {A = List ℕ} c.len.result [] ∙ c.len.ensures.len in
-    needs_mirror ms c.requires.meanings c.args.services.now c.args.bundles.now through c.need_listed-2.new.draft sets c.requires.services c.requires.bundles by_bundle
+    let fresh : length d0 ≡ length c.args.services.now = ap length c.in_ok-draft.ensures
+    ∙ length-replicate {A = List ℕ} c.len.result [] ∙ c.len.ensures.len in
+    needs_mirror ms c.requires.meanings c.args.services.now c.args.bundles.now through
+    c.need_listed-2.new.draft sets c.requires.services c.requires.bundles by_bundle
     (λ b low. c.requires.bounds b [] (omega (arith, c.requires.few))) c.requires.sets
-    (c.need_listed-2.ensures.bound ∙ c.need_in_bundles.ensures.bound ∙ c.need_listed.ensures.bound ∙ fresh)
-    (gained_thrice d0 c.need_listed.new.draft c.need_in_bundles.new.draft c.need_listed-2.new.draft (AreAt (HasListed Dependencies ms) services services) (λ s t. (b : ℕ) × Needs through s b × Has (get_or sets b []) t) (AreAt (HasListed Producer ms) services services)
-    (none_needed d0 c.len.result c.in_ok-draft.ensures) c.in_ok-need_listed.ensures.pairs second c.in_ok-need_listed-2.ensures.pairs)
+    (c.need_listed-2.ensures.bound ∙ c.need_in_bundles.ensures.bound ∙ c.need_listed.ensures.bound
+    ∙ fresh)
+    (gained_thrice d0 c.need_listed.new.draft c.need_in_bundles.new.draft c.need_listed-2.new.draft
+    (AreAt (HasListed Dependencies ms) services services)
+    (λ s t. (b : ℕ) × Needs through s b × Has (get_or sets b []) t)
+    (AreAt (HasListed Producer ms) services services)
+    (none_needed d0 c.len.result c.in_ok-draft.ensures) c.in_ok-need_listed.ensures.pairs second
+    c.in_ok-need_listed-2.ensures.pairs)

@@ -6,5 +6,7 @@ use Rattle.rc_compile.proofs.pipes.insert_matched.Goals as goal
 
 pub returns-clause-members : goal.returns-clause-members
 returns-clause-members c =
-    subst (λ (from : List (List ℕ)). Holds c.insert_paired.new.set (λ s. Has c.args.set.now s ⊎ ArePairedAt c.args.names.now (rows c.args.feeds.now) from c.args.definition.now.name s))
+    subst (λ (from : List (List ℕ)). Holds c.insert_paired.new.set
+    (λ s. Has c.args.set.now s ⊎ ArePairedAt c.args.names.now (rows c.args.feeds.now) from
+    c.args.definition.now.name s))
     c.deref.ensures.value c.insert_paired.ensures.members

@@ -8,5 +8,6 @@ use Rattle.rc_compile.proofs.pipes.insert_paired.Given as goal
 abbrev pub invariant-loop-name : goal.invariant-loop-name
 invariant-loop-name l = record {
   bound : length l.set ≡ length l.fn.set;
-  members : Holds l.set (λ s. Has l.fn.set s ⊎ ArePairedAt l.names (rows l.lists) (take l.name-index l.from) l.to s);
+  members : Holds l.set
+      (λ s. Has l.fn.set s ⊎ ArePairedAt l.names (rows l.lists) (take l.name-index l.from) l.to s);
 }

@@ -9,5 +9,6 @@ use Rattle.rc_compile.proofs.pipes.longruns_of.Given as goal
 abbrev pub invariant-loop-definition : goal.invariant-loop-definition
 invariant-loop-definition l = record {
   bound : length l.longruns ≡ length l.services;
-  members : SeenBelow (IsLongrunAt l.services) (map meaning_of l.definitions) (Has l.longruns) l.definition-index;
+  members : SeenBelow (IsLongrunAt l.services) (map meaning_of l.definitions) (Has l.longruns)
+      l.definition-index;
 }

@@ -10,5 +10,6 @@ use Rattle.rc_compile.proofs.pipes.matched_of.Given as goal
 abbrev pub invariant-loop-definition : goal.invariant-loop-definition
 invariant-loop-definition l = record {
   bound : length l.matched ≡ length l.services;
-  members : SeenBelow (IsMatchedAt l.services (rows l.feeds)) (map meaning_of l.definitions) (Has l.matched) l.definition-index;
+  members : SeenBelow (IsMatchedAt l.services (rows l.feeds)) (map meaning_of l.definitions)
+      (Has l.matched) l.definition-index;
 }

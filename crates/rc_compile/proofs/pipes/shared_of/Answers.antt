@@ -25,16 +25,23 @@ loop-definition-preserved c =
     let names = c.args.bundles.now in
     let i = c.loop-definition.definition-index in
     let m = meaning_of c.definition-item.result in
-    let here = mapped_at meaning_of c.args.definitions.now i c.definition-item.result (omega arith) c.definition-item.is in
+    let here = mapped_at meaning_of c.args.definitions.now i c.definition-item.result (omega arith)
+    c.definition-item.is in
     let before = c.loop-definition.invariant in
     record {
       bound_seen = c.mark.ensures.bound_seen ∙ before.bound_seen;
       bound_shared = c.mark.ensures.bound_shared ∙ before.bound_shared;
-      seen = seen_next (GivesAt names) ms (Has c.loop-definition.seen) (Has c.mark.new.seen) i m here before.seen c.mark.ensures.seen;
-      shared = twice_next ms names i m c.loop-definition.seen c.loop-definition.shared c.mark.new.shared here before.seen before.shared c.mark.ensures.shared;
+      seen =
+          seen_next (GivesAt names) ms (Has c.loop-definition.seen) (Has c.mark.new.seen) i m here
+          before.seen c.mark.ensures.seen;
+      shared =
+          twice_next ms names i m c.loop-definition.seen c.loop-definition.shared c.mark.new.shared
+          here before.seen before.shared c.mark.ensures.shared;
     }
 
 pub returns-clause-members : goal.returns-clause-members
 returns-clause-members c =
-    twice_whole (map meaning_of c.args.definitions.now) c.args.bundles.now c.loop-definition.definition-index c.loop-definition.shared
-    (omega (arith, length-map c.args.definitions.now meaning_of)) c.requires c.loop-definition.invariant.shared
+    twice_whole (map meaning_of c.args.definitions.now) c.args.bundles.now
+    c.loop-definition.definition-index c.loop-definition.shared
+    (omega (arith, length-map c.args.definitions.now meaning_of)) c.requires
+    c.loop-definition.invariant.shared

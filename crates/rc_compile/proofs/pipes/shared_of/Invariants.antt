@@ -11,6 +11,7 @@ abbrev pub invariant-loop-definition : goal.invariant-loop-definition
 invariant-loop-definition l = record {
   bound_seen : length l.seen ≡ length l.bundles;
   bound_shared : length l.shared ≡ length l.bundles;
-  seen : Holds l.seen (λ s. IsBelow (λ m. GivesAt l.bundles m s) (map meaning_of l.definitions) l.definition-index);
+  seen : Holds l.seen
+      (λ s. IsBelow (λ m. GivesAt l.bundles m s) (map meaning_of l.definitions) l.definition-index);
   shared : Holds l.shared (TwiceBelow (map meaning_of l.definitions) l.bundles l.definition-index);
 }

@@ -1,4 +1,5 @@
-use Rattle.std.proofs.Common.{◌≡◌, ◌↔◌, List, [], ℕ, map, Contains, Option, Some, None, IfSome, IfNone, sym, subst}
+use Rattle.std.proofs.Common.{◌≡◌, ◌↔◌, List, [], ℕ, map, Contains, Option, Some, None, IfSome}
+use Rattle.std.proofs.Common.{IfNone, sym, subst}
 use Rattle.std.proofs.lemmas.Option.{IfSome_then}
 use Rattle.std.proofs.lemmas.Result.{IfOk-weaker}
 use Rattle.rc_source.specs.Said.{meaning_of}
@@ -15,15 +16,22 @@ none_then (Some x) f h = h
 pub returns-clause-some : goal.returns-clause-some
 returns-clause-some c =
     let Has : List ℕ → Type 0 = IsSought (map meaning_of c.args.definitions.now) c.args.sought in
-    let listed : (s : List ℕ) → Contains c.deref.result.now s ↔ Has s = subst (λ (l : List (List ℕ)). (s : List ℕ) → Contains l s ↔ Has s) (sym c.deref.ensures.value) c.in_ok-names.ensures in
-    IfOk-weaker c.least.result (λ found. IfSome found (IsLeast (Contains c.deref.result.now))) (λ found. IfSome found (IsLeast Has))
-    (λ found some. IfSome_then found {P = IsLeast (Contains c.deref.result.now)} {Q = IsLeast Has} some (same_least (Contains c.deref.result.now) Has listed)) c.least.ensures.some
+    let listed : (s : List ℕ)
+    → Contains c.deref.result.now s
+    ↔ Has s = subst (λ (l : List (List ℕ)). (s : List ℕ) → Contains l s ↔ Has s)
+    (sym c.deref.ensures.value) c.in_ok-names.ensures in
+    IfOk-weaker c.least.result (λ found. IfSome found (IsLeast (Contains c.deref.result.now)))
+    (λ found. IfSome found (IsLeast Has))
+    (λ found some. IfSome_then found {P = IsLeast (Contains c.deref.result.now)} {Q = IsLeast Has}
+    some (same_least (Contains c.deref.result.now) Has listed)) c.least.ensures.some
 
 pub returns-clause-none : goal.returns-clause-none
 returns-clause-none c =
     let Has : List ℕ → Type 0 = IsSought (map meaning_of c.args.definitions.now) c.args.sought in
-    IfOk-weaker c.least.result (λ found. IfNone found (c.deref.result.now ≡ [])) (λ found. IfNone found ((s : List ℕ) → Has s → ⊥))
+    IfOk-weaker c.least.result (λ found. IfNone found (c.deref.result.now ≡ []))
+    (λ found. IfNone found ((s : List ℕ) → Has s → ⊥))
     (λ found none. none_then found (λ empty s has.
     let there = (c.in_ok-names.ensures s).1 has in
     let gone : c.in_ok-names.names.items ≡ [] = cc (empty, c.deref.ensures.value) in
-    Contains-nil s (subst (λ (l : List (List ℕ)). Contains l s) gone there)) none) c.least.ensures.none
+    Contains-nil s (subst (λ (l : List (List ℕ)). Contains l s) gone there)) none)
+    c.least.ensures.none

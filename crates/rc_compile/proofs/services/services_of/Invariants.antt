@@ -5,4 +5,5 @@ use Rattle.rc_compile.proofs.services.services_of.Given as goal
 
 -- the services of the names passed
 abbrev pub invariant-loop-place : goal.invariant-loop-place
-invariant-loop-place l = AreDefinedBelow (map meaning_of l.definitions) l.names l.place-index l.services.items
+invariant-loop-place l =
+    AreDefinedBelow (map meaning_of l.definitions) l.names l.place-index l.services.items

@@ -6,4 +6,6 @@ use Rattle.rc_compile.proofs.tables.names_of.Given as goal
 
 -- the table has what the definitions passed give
 abbrev pub invariant-loop-definition : goal.invariant-loop-definition
-invariant-loop-definition l = (name : List ℕ) → Contains l.names name ↔ IsBelow (λ m. Gives l.which m name) (map meaning_of l.definitions) l.definition-index
+invariant-loop-definition l = (name : List ℕ)
+    → Contains l.names name ↔ IsBelow (λ m. Gives l.which m name) (map meaning_of l.definitions)
+    l.definition-index

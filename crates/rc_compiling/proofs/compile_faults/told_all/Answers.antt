@@ -6,10 +6,13 @@ use Rattle.rc_compiling.specs.CompileRefusals.{word_with_names}
 use Rattle.rc_compiling.proofs.compile_faults.told_all.Goals as goal
 
 -- one more name
-one_more : (word : List ℕ) (before : List (List ℕ)) (name : List ℕ) → word_with_names word (before ++ name ∷ []) ≡ word_with_names word before ++ 32 ∷ name
+one_more : (word : List ℕ) (before : List (List ℕ)) (name : List ℕ)
+    → word_with_names word (before ++ name ∷ []) ≡ word_with_names word before ++ 32 ∷ name
 one_more word before name =
     let told : List (List ℕ) → List ℕ = λ names. flat_map (λ n. 32 ∷ n) names in
-    ap (λ (t : List ℕ). word ++ t) (flat_map-append (λ n. 32 ∷ n) before (name ∷ []) ∙ ap (λ (t : List ℕ). told before ++ t) (append-nil (32 ∷ name)))
+    ap (λ (t : List ℕ). word ++ t)
+    (flat_map-append (λ n. 32 ∷ n) before (name ∷ [])
+    ∙ ap (λ (t : List ℕ). told before ++ t) (append-nil (32 ∷ name)))
     ∙ sym (append_assoc word (told before) (32 ∷ name))
 
 pub loop-name-preserved : goal.loop-name-preserved
@@ -21,7 +24,12 @@ loop-name-preserved c =
     ∙ (ap (λ (n : List ℕ). c.loop-name.text.items ++ 32 ∷ n) c.text.ensures.bytes
     ∙ (ap (λ (t : List ℕ). t ++ 32 ∷ name) c.loop-name.invariant
     ∙ (sym (one_more c.args.word.now (take i names) name)
-    ∙ sym (ap (word_with_names c.args.word.now) (take_more names i name c.loop-name-test.true ∙ ap (λ (n : List ℕ). take i names ++ n ∷ []) (sym c.name-item.is))))))
+    ∙ sym (ap (word_with_names c.args.word.now)
+    (take_more names i name c.loop-name-test.true ∙ ap (λ (n : List ℕ). take i names ++ n ∷ [])
+    (sym c.name-item.is))))))
 
 pub returns : goal.returns
-returns c = c.loop-name.invariant ∙ ap (word_with_names c.args.word.now) (take_all c.loop-name.name-index c.args.names.now c.loop-name-test.false)
+returns c =
+    c.loop-name.invariant
+    ∙ ap (word_with_names c.args.word.now)
+    (take_all c.loop-name.name-index c.args.names.now c.loop-name-test.false)

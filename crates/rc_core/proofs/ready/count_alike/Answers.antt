@@ -1,10 +1,12 @@
 use Rattle.std.proofs.Common.{◌≡◌, ◌∙◌, ◌<◌, ℕ, false, length, slice_index_or, sym, arith}
-use Rattle.rc_core.proofs.Arriving.{beq-true, beq-false, short_list, all_counted, none_of_them, each_listed}
+use Rattle.rc_core.proofs.Arriving.{beq-true, beq-false, short_list, all_counted, none_of_them}
+use Rattle.rc_core.proofs.Arriving.{each_listed}
 use Rattle.rc_core.proofs.ready.count_alike.Goals as goal
 
 pub overflow_cast-result : goal.overflow_cast-result
 overflow_cast-result c =
-    let short = short_list c.args.list.now (length c.args.set.now) c.requires.list c.requires.known in
+    let short =
+    short_list c.args.list.now (length c.args.set.now) c.requires.list c.requires.known in
     record { fits = omega (arith, short, c.requires.few) }
 
 pub returns-then-all-inside : goal.returns-then-all-inside

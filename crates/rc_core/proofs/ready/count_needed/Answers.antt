@@ -1,4 +1,5 @@
-use Rattle.std.proofs.Common.{◌≡◌, ◌<◌, ℕ, List, false, Contains, length, slice_index_or, subst, arith}
+use Rattle.std.proofs.Common.{◌≡◌, ◌<◌, ℕ, List, false, Contains, length, slice_index_or, subst}
+use Rattle.std.proofs.Common.{arith}
 use Rattle.rc_core.specs.Ready.{IsCount, IsCountUp}
 use Rattle.rc_core.proofs.MoveLemmas.{needs_within}
 use Rattle.rc_core.proofs.Passing.{none_count, next_counts, all_count}

@@ -1,6 +1,7 @@
 use Rattle.std.proofs.Common.{[]}
 use Rattle.rc_model.specs.declared.Event.TheVariants.{Take}
-use Rattle.rc_crash.proofs.Possible.{held, lowered, one_service, possible, raised, the_command, the_files, the_text}
+use Rattle.rc_crash.proofs.Possible.{held, lowered, one_service, possible, raised, the_command}
+use Rattle.rc_crash.proofs.Possible.{the_files, the_text}
 use Rattle.rc_crash.proofs.Resting.{files}
 use Rattle.rc_crash.proofs.laws.crashes_are_possible.Goals as goal
 

@@ -43,7 +43,8 @@ returns-clause-unfit g c = λ is.
     let same : c.in-Err.fault ≡ Log = let e = is in cc in
     let f : Files = g.F.TwoFiles.holds c.args.files.now in
     let file : c.deref.result.now ≡ f.file = c.deref.ensures.value ∙ c.in_ok-file.ensures.bytes in
-    let log : c.deref-2.result.now ≡ f.log = c.deref-2.ensures.value ∙ c.in_ok-log.ensures.bytes in (
+    let log : c.deref-2.result.now ≡ f.log =
+    c.deref-2.ensures.value ∙ c.in_ok-log.ensures.bytes in (
       of_files (IsUnfit c.args.db) c.deref.result.now c.deref-2.result.now f file log
           (c.in-Err.ensures.unfit (ap Err same)),
       refl,

@@ -7,4 +7,5 @@ use Rattle.rc_db.proofs.fit.all_feed_needed_longruns.Given as goal
 
 -- those passed write for needed longruns
 abbrev pub invariant-loop-s : goal.invariant-loop-s
-invariant-loop-s l = (k t : ℕ) → k < l.s → Feeds (database_of l.parts) k t → IsKind (database_of l.parts) t Longrun × Needs l.parts.graph k t
+invariant-loop-s l = (k t : ℕ) → k < l.s → Feeds (database_of l.parts) k t
+    → IsKind (database_of l.parts) t Longrun × Needs l.parts.graph k t

@@ -6,6 +6,8 @@ use Rattle.rc_db.proofs.fit.are_services.Given as goal
 -- those passed are no bundles
 abbrev pub invariant-loop-service : goal.invariant-loop-service
 invariant-loop-service l = record {
-  services : (k : ℕ) (s : Service) → k < l.service-index → slice_get l.services k ≡ Some s → s.kind ≢ Bundle;
-  limits : (k : ℕ) (s : Service) → k < l.service-index → slice_get l.services k ≡ Some s → HasLimits s;
+  services : (k : ℕ) (s : Service) → k < l.service-index → slice_get l.services k ≡ Some s
+      → s.kind ≢ Bundle;
+  limits : (k : ℕ) (s : Service) → k < l.service-index → slice_get l.services k ≡ Some s
+      → HasLimits s;
 }

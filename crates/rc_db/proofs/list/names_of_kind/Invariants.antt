@@ -5,4 +5,5 @@ use Rattle.rc_db.proofs.list.names_of_kind.Given as goal
 
 -- the names of those passed that are of the kind
 abbrev pub invariant-loop-id : goal.invariant-loop-id
-invariant-loop-id l = Passed (λ k. IsKind l.db k l.kind) l.names l.id (map (λ name. name.now) l.all.items)
+invariant-loop-id l =
+    Passed (λ k. IsKind l.db k l.kind) l.names l.id (map (λ name. name.now) l.all.items)

@@ -5,4 +5,5 @@ use Rattle.rc_db.proofs.named.first_unknown.Given as goal
 
 -- the words passed are names
 abbrev pub invariant-loop-place : goal.invariant-loop-place
-invariant-loop-place l = (k : ℕ) → (word : List ℕ) → k < l.place → slice_get (map string_bytes l.words) k ≡ Some word → IsKnown l.names l.table word
+invariant-loop-place l = (k : ℕ) → (word : List ℕ) → k < l.place
+    → slice_get (map string_bytes l.words) k ≡ Some word → IsKnown l.names l.table word

@@ -17,13 +17,23 @@ add_bundle-requires c =
 pub loop-word-preserved : goal.loop-word-preserved
 loop-word-preserved c =
     let words = map string_bytes c.args.words.now in
-    let here = mapped_at string_bytes c.args.words.now c.loop-word.word-index c.word-item.result (omega arith) c.word-item.is in
-    let Service : List ℕ → Type 0 = λ w. Holds c.add_service.new.set (λ s. Has c.loop-word.set s ⊎ (slice_get c.args.names.now s ≡ Some w)) in
-    let Bundle : List ℕ → Type 0 = λ w. Holds c.add_bundle.new.set (λ s. Has c.add_service.new.set s ⊎ ((bundle : List Bool) × (value_of c.args.table.now w ≡ Some bundle) × Has bundle s)) in
+    let here = mapped_at string_bytes c.args.words.now c.loop-word.word-index c.word-item.result
+    (omega arith) c.word-item.is in
+    let Service : List ℕ
+    → Type 0 = λ w. Holds c.add_service.new.set
+    (λ s. Has c.loop-word.set s ⊎ (slice_get c.args.names.now s ≡ Some w)) in
+    let Bundle : List ℕ
+    → Type 0 = λ w. Holds c.add_bundle.new.set
+    (λ s. Has c.add_service.new.set s
+    ⊎ ((bundle : List Bool) × (value_of c.args.table.now w ≡ Some bundle) × Has bundle s)) in
     record {
-      bound = c.add_bundle.ensures.bound ∙ c.add_service.ensures.bound ∙ c.loop-word.invariant.bound;
-      members = one_more_word c.args.names.now c.args.table.now words c.loop-word.word-index (string_bytes c.word-item.result)
-          c.loop-word.set c.add_service.new.set c.add_bundle.new.set here c.loop-word.invariant.members
+      bound =
+          c.add_bundle.ensures.bound ∙ c.add_service.ensures.bound ∙ c.loop-word.invariant.bound;
+      members =
+          one_more_word c.args.names.now c.args.table.now words c.loop-word.word-index
+          (string_bytes c.word-item.result)
+          c.loop-word.set c.add_service.new.set c.add_bundle.new.set here
+          c.loop-word.invariant.members
           (subst Service c.as_str.ensures.value c.add_service.ensures.members)
           (subst Bundle c.as_str-in-loop-word.ensures.value c.add_bundle.ensures.members);
     }
@@ -31,6 +41,8 @@ loop-word-preserved c =
 pub returns-clause-members : goal.returns-clause-members
 returns-clause-members c =
     let words = map string_bytes c.args.words.now in
-    let all = take_all c.loop-word.word-index words (omega (arith, length-map c.args.words.now string_bytes)) in
-    let P : List (List ℕ) → Type 0 = λ ws. Holds c.loop-word.set (Selected c.args.names.now c.args.table.now ws) in
+    let all = take_all c.loop-word.word-index words
+    (omega (arith, length-map c.args.words.now string_bytes)) in
+    let P : List (List ℕ) → Type 0 =
+    λ ws. Holds c.loop-word.set (Selected c.args.names.now c.args.table.now ws) in
     subst P all c.loop-word.invariant.members

@@ -8,7 +8,10 @@ use Rattle.rc_db.proofs.pipeline.is_in_pipeline.Goals as goal
 pub returns-then-ends-id : goal.returns-then-ends-id
 returns-then-ends-id c = (
   λ no. absurd (true≢false (sym no)),
-  λ within. absurd (c.if-ends-id.true (same_end c.args.db.now c.args.ends.now c.args.id c.args.s c.requires.id c.requires.service c.requires.ends within)),
+  λ within. absurd
+      (c.if-ends-id.true
+      (same_end c.args.db.now c.args.ends.now c.args.id c.args.s c.requires.id c.requires.service
+      c.requires.ends within)),
 )
 
 pub returns : goal.returns
@@ -19,7 +22,8 @@ returns c =
         (
           last,
           c.requires.ends c.args.id c.requires.id,
-          subst (IsLastConsumer c.args.db.now c.args.s) (sym c.if-ends-id.false) (c.requires.ends c.args.s c.requires.service),
+          subst (IsLastConsumer c.args.db.now c.args.s) (sym c.if-ends-id.false)
+              (c.requires.ends c.args.s c.requires.service),
         ),
       ),
       λ within.

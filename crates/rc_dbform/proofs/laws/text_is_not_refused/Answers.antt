@@ -4,4 +4,5 @@ use Rattle.rc_dbform.proofs.Sequences.{never_refused}
 use Rattle.rc_dbform.proofs.laws.text_is_not_refused.Goals as goal
 
 pub returns : goal.returns
-returns c t rest fault is refused = never_refused IsDbText db_lines t (db_text t ++ rest) rest fault is refl refused
+returns c t rest fault is refused =
+    never_refused IsDbText db_lines t (db_text t ++ rest) rest fault is refl refused

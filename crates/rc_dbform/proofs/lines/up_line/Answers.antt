@@ -10,16 +10,21 @@ use Rattle.rc_dbform.proofs.lines.up_line.Goals as goal
 pub returns-in_err-words-clause-fault : goal.returns-in_err-words-clause-fault
 returns-in_err-words-clause-fault c =
     let p = err_from_is_err_and c.from_residual.result c.from_residual.ensures.1 in
-    rw (p.1, p.2) (no_line_here IsScript OfUp up_kind c.args.bytes.now c.in_err-words.field-0.0 c.in_err-words.ensures.fault)
+    rw (p.1, p.2)
+    (no_line_here IsScript OfUp up_kind c.args.bytes.now c.in_err-words.field-0.0
+    c.in_err-words.ensures.fault)
 
 pub returns-in_default-clause-fault : goal.returns-in_default-clause-fault
 returns-in_default-clause-fault c =
     let none = c.in_default.ensures in
-    other_line IsScript OfUp up_kind c.args.bytes.now c.in_ok-words.rest.now _ c.in_ok-words.ensures.ok (λ value tail is same behind. none (decimal (length value)) same)
+    other_line IsScript OfUp up_kind c.args.bytes.now c.in_ok-words.rest.now _
+    c.in_ok-words.ensures.ok (λ value tail is same behind. none (decimal (length value)) same)
 
 pub returns-in-None-clause-fault : goal.returns-in-None-clause-fault
 returns-in-None-clause-fault c =
     let none = c.in-None.ensures in
     let long = c.in-Some.ensures in
-    other_line IsScript OfUp up_kind c.args.bytes.now c.in_ok-words.rest.now _ c.in_ok-words.ensures.ok
-    (λ value tail is same behind. none value tail is (ap (λ (l : List (List ℕ)). get_or l 1 []) (sym long ∙ same)) behind)
+    other_line IsScript OfUp up_kind c.args.bytes.now c.in_ok-words.rest.now _
+    c.in_ok-words.ensures.ok
+    (λ value tail is same behind. none value tail is
+    (ap (λ (l : List (List ℕ)). get_or l 1 []) (sym long ∙ same)) behind)

@@ -1,4 +1,5 @@
-use Rattle.std.proofs.Common.{◌≡◌, ◌∙◌, ◌<◌, ◌+◌, List, ℕ, [], ◌∷◌, ◌++◌, All, Contains, length, take, arith, sym, ap, refl, Some, subst}
+use Rattle.std.proofs.Common.{◌≡◌, ◌∙◌, ◌<◌, ◌+◌, List, ℕ, [], ◌∷◌, ◌++◌, All, Contains, length}
+use Rattle.std.proofs.Common.{take, arith, sym, ap, refl, Some, subst}
 use Rattle.std.proofs.lemmas.Bool.{false≢true}
 use Rattle.std.proofs.lemmas.List.{take_more, take_all}
 use Rattle.std.proofs.lemmas.List.Elements.{All-push}
@@ -43,7 +44,8 @@ loop-need-preserved c =
           c.need.new.self front c.need-item.result c.in-Some.id c.len-count.ensures.names.order
           c.loop-need.invariant.added found c.need.ensures.bound c.in_ok-need.ensures.pairs);
       known = subst P (sym more) (All-push (Contains c.args.names.now) front c.need-item.result
-          c.loop-need.invariant.known (member_at c.args.names.now c.in-Some.id c.need-item.result found));
+          c.loop-need.invariant.known
+          (member_at c.args.names.now c.in-Some.id c.need-item.result found));
     }
 
 pub returns-clause-known : goal.returns-clause-known

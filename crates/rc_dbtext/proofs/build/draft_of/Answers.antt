@@ -1,8 +1,10 @@
-use Rattle.std.proofs.Common.{◌≡◌, ◌∙◌, List, ℕ, All, Contains, get_or, length, arith, sym, ap, subst}
+use Rattle.std.proofs.Common.{◌≡◌, ◌∙◌, List, ℕ, All, Contains, get_or, length, arith, sym, ap}
+use Rattle.std.proofs.Common.{subst}
 use Rattle.std.proofs.lemmas.Bool.{false≢true}
 use Rattle.std.proofs.lemmas.List.{get_or_default, length-map}
 use Rattle.rc_dbform.specs.Text.{ServiceText}
-use Rattle.rc_dbtext.proofs.Drafting.{HasAdded, HasDrafted, drafted_all, drafted_none, drafted_one, known_all, known_one, no_service}
+use Rattle.rc_dbtext.proofs.Drafting.{HasAdded, HasDrafted, drafted_all, drafted_none, drafted_one}
+use Rattle.rc_dbtext.proofs.Drafting.{known_all, known_one, no_service}
 use Rattle.rc_dbtext.proofs.build.draft_of.Goals as goal
 
 pub loop-s-init : goal.loop-s-init

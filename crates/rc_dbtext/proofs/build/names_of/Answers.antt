@@ -1,4 +1,5 @@
-use Rattle.std.proofs.Common.{◌≡◌, ◌∙◌, ◌<◌, ◌+◌, ◌++◌, ◌∷◌, [], ℕ, List, length, get_or, take, arith, ap, sym, subst}
+use Rattle.std.proofs.Common.{◌≡◌, ◌∙◌, ◌<◌, ◌+◌, ◌++◌, ◌∷◌, [], ℕ, List, length, get_or, take}
+use Rattle.std.proofs.Common.{arith, ap, sym, subst}
 use Rattle.std.proofs.lemmas.List.{get_or-map, get_or-take, length-map, length-take, take_more}
 use Rattle.rc_dbform.specs.Text.{ServiceText}
 use Rattle.rc_model.specs.Names.{IsBefore}
@@ -21,7 +22,8 @@ append-requires-clause-last c = λ k d within.
     omega (arith, length-map c.args.services.now (λ (s : ServiceText). s.head.name)) in
     let low : k < i = omega (arith, ap length c.loop-service.invariant, length-take i names) in
     let first : get_or c.loop-service.names k d ≡ get_or names k d =
-    ap (λ (ns : List (List ℕ)). get_or ns k d) c.loop-service.invariant ∙ get_or-take i names k d low in
+    ap (λ (ns : List (List ℕ)). get_or ns k d) c.loop-service.invariant
+    ∙ get_or-take i names k d low in
     let here : get_or names i d ≡ c.in-Ok.name =
     get_or-map (λ (s : ServiceText). s.head.name) c.args.services.now i c.service-item.result d
     c.loop-service-test.true

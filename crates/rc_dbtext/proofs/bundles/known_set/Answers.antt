@@ -1,4 +1,5 @@
-use Rattle.std.proofs.Common.{◌≡◌, ◌∙◌, ◌<◌, ◌+◌, ◌∷◌, ◌++◌, [], ℕ, List, Some, All, Contains, length, take, slice_get, arith, sym, ap, subst}
+use Rattle.std.proofs.Common.{◌≡◌, ◌∙◌, ◌<◌, ◌+◌, ◌∷◌, ◌++◌, [], ℕ, List, Some, All, Contains}
+use Rattle.std.proofs.Common.{length, take, slice_get, arith, sym, ap, subst}
 use Rattle.std.proofs.lemmas.List.{take_all, take_more}
 use Rattle.std.proofs.lemmas.List.Elements.{All-push}
 use Rattle.std.proofs.lemmas.Option.{slice_get_within}
@@ -54,7 +55,8 @@ pub returns-clause-members : goal.returns-clause-members
 returns-clause-members c =
     let all = take_all c.loop-text.text-index c.args.texts.now c.loop-text-test.false in
     let Known : List (List ℕ) → Type 0 = λ ws. All (Contains c.args.names.now) ws in
-    let Named : List (List ℕ) → Type 0 = λ ws. Holds c.loop-text.set (IsNamed c.args.names.now ws) in
+    let Named : List (List ℕ) → Type 0 =
+    λ ws. Holds c.loop-text.set (IsNamed c.args.names.now ws) in
     members_back c.args.names.now c.args.texts.now c.loop-text.set c.len.ensures.names.order
     c.requires (subst Known all c.loop-text.invariant.known)
     (subst Named all c.loop-text.invariant.members)

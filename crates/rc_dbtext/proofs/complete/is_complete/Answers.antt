@@ -12,8 +12,10 @@ returns-then-all_feed_well c =
     ∙ ap (λ (t : DbText). t.bundles) c.form.view_is in
     let P : List ServiceText → Type 0 = λ ss. All (λ s. AreKnown c.args.names.now s.needs) ss in (
       λ yes. complete_from c.args.form.now c.args.names.now c.as_slice.result.now
-          c.as_slice-then-all_feed_well.result.now c.requires.names services bundles
-          (subst P (sym services) c.requires.known, c.all_feed_well.ensures.0 c.if-all_feed_well.true)
+          c.as_slice-then-all_feed_well.result.now c.requires.names services bundles (
+            subst P (sym services) c.requires.known,
+            c.all_feed_well.ensures.0 c.if-all_feed_well.true,
+          )
           (c.bundles_are_complete.ensures.0 yes),
       λ complete. c.bundles_are_complete.ensures.1 (complete_bundles c.args.form.now
           c.args.names.now c.as_slice.result.now c.as_slice-then-all_feed_well.result.now

@@ -8,4 +8,6 @@ use Rattle.rc_dbtext.proofs.sorted.bundles_ascend.Goals as goal
 pub returns : goal.returns
 returns c =
     sorted_by_name (λ (b : BundleText). b.name) c.args.bundles.now c.is_sorted_by.result
-    (c.is_sorted_by.ensures.cases (λ s t. before s.name t.name) (answers_always _ _ _ (λ f a r g called. answers_before a.0.now.name a.1.0.now.name r (search rules))))
+    (c.is_sorted_by.ensures.cases (λ s t. before s.name t.name)
+    (answers_always _ _ _
+    (λ f a r g called. answers_before a.0.now.name a.1.0.now.name r (search rules))))

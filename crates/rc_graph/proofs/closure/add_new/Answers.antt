@@ -28,4 +28,5 @@ loop-t-preserved c =
     ])
 
 pub returns : goal.returns
-returns c = rw (take_all c.loop-t.t-index c.args.list.now c.loop-t-test.false) at (c.loop-t.invariant)
+returns c =
+    rw (take_all c.loop-t.t-index c.args.list.now c.loop-t-test.false) at (c.loop-t.invariant)

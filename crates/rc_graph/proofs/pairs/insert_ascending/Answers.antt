@@ -1,9 +1,13 @@
 use Rattle.std.proofs.Common.{◌<◌, ℕ, List, Contains, refl, arith, subst}
-use Rattle.rc_graph.proofs.PairLemmas.{ascending_gap, below_lacks, contains_insert, found_searched, gap_searched, gap_lacks, none_new}
+use Rattle.rc_graph.proofs.PairLemmas.{ascending_gap, below_lacks, contains_insert, found_searched}
+use Rattle.rc_graph.proofs.PairLemmas.{gap_searched, gap_lacks, none_new}
 use Rattle.rc_graph.proofs.pairs.insert_ascending.Goals as goal
 
 pub insert-requires : goal.insert-requires
-insert-requires c = (omega arith, (gap_searched _ _ _ _ c.requires c.deref.ensures c.in-Err.ensures.position).within)
+insert-requires c = (
+  omega arith,
+  (gap_searched _ _ _ _ c.requires c.deref.ensures c.in-Err.ensures.position).within,
+)
 
 pub returns-in_err-insert-clause-ascending : goal.returns-in_err-insert-clause-ascending
 returns-in_err-insert-clause-ascending c = rw c.in_err-insert.ensures.err c.requires
@@ -31,7 +35,8 @@ pub returns-in_default-clause-ascending : goal.returns-in_default-clause-ascendi
 returns-in_default-clause-ascending c = c.requires
 
 pub returns-in_default-clause-members : goal.returns-in_default-clause-members
-returns-in_default-clause-members c = none_new _ _ (found_searched _ _ _ _ c.requires c.deref.ensures c.in_default.ensures.position)
+returns-in_default-clause-members c =
+    none_new _ _ (found_searched _ _ _ _ c.requires c.deref.ensures c.in_default.ensures.position)
 
 pub returns-in_default-clause-err : goal.returns-in_default-clause-err
 returns-in_default-clause-err c = tt

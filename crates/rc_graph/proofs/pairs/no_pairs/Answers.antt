@@ -8,7 +8,10 @@ loop-init c = ap rows c.in_ok-lists.ensures.items
 
 pub loop-preserved : goal.loop-preserved
 loop-preserved c =
-    one_empty c.loop.lists.items c.push.new.self.items c.new.result c.loop.counter c.loop.invariant c.in_ok-push.ensures.items c.new.ensures.items
+    one_empty c.loop.lists.items c.push.new.self.items c.new.result c.loop.counter c.loop.invariant
+    c.in_ok-push.ensures.items c.new.ensures.items
 
 pub returns : goal.returns
-returns c = all_empty c.loop.lists.items c.loop.counter c.args.services c.loop.invariant c.loop.auto.counter-end c.loop-test.false
+returns c =
+    all_empty c.loop.lists.items c.loop.counter c.args.services c.loop.invariant
+    c.loop.auto.counter-end c.loop-test.false

@@ -10,10 +10,14 @@ loop-t-preserved c =
     let i = c.loop-t.t-index in
     record {
       bound = c.need.ensures.bound ∙ c.loop-t.invariant.bound;
-      pairs = rw (take_more list i 0 c.loop-t-test.true) (needs_more c.args.draft.now c.loop-t.draft c.need.new.self c.args.id (get_or list i 0) (take i list) c.loop-t.invariant.pairs c.in_ok-need.ensures.pairs);
+      pairs =
+          rw (take_more list i 0 c.loop-t-test.true)
+          (needs_more c.args.draft.now c.loop-t.draft c.need.new.self c.args.id (get_or list i 0)
+          (take i list) c.loop-t.invariant.pairs c.in_ok-need.ensures.pairs);
     }
 
 pub returns-clause-pairs : goal.returns-clause-pairs
 returns-clause-pairs c =
-    subst (λ (ids : List ℕ). (s t : ℕ) → Needs c.loop-t.draft s t ↔ (Needs c.args.draft.now s t ⊎ ((s ≡ c.args.id) × Contains ids t)))
+    subst (λ (ids : List ℕ). (s t : ℕ)
+    → Needs c.loop-t.draft s t ↔ (Needs c.args.draft.now s t ⊎ ((s ≡ c.args.id) × Contains ids t)))
     (take_all c.loop-t.t-index c.args.list.now c.loop-t-test.false) c.loop-t.invariant.pairs

@@ -6,5 +6,7 @@ use Rattle.rc_holds.proofs.graph.need_all.Given as goal
 abbrev pub invariant-loop-t : goal.invariant-loop-t
 invariant-loop-t l = record {
   bound : length l.draft ≡ length l.fn.draft;
-  pairs : (s t : ℕ) → Needs l.draft s t ↔ (Needs l.fn.draft s t ⊎ ((s ≡ l.id) × Contains (take l.t-index l.list) t));
+  pairs : (s t : ℕ)
+      → Needs l.draft s t
+      ↔ (Needs l.fn.draft s t ⊎ ((s ≡ l.id) × Contains (take l.t-index l.list) t));
 }

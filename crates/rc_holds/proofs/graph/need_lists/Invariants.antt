@@ -7,5 +7,6 @@ use Rattle.rc_holds.proofs.graph.need_lists.Given as goal
 abbrev pub invariant-loop-s : goal.invariant-loop-s
 invariant-loop-s l = record {
   bound : length l.draft ≡ length l.fn.draft;
-  pairs : (a b : ℕ) → Needs l.draft a b ↔ (Needs l.fn.draft a b ⊎ ((a < l.s) × Needs (rows l.lists) a b));
+  pairs : (a b : ℕ)
+      → Needs l.draft a b ↔ (Needs l.fn.draft a b ⊎ ((a < l.s) × Needs (rows l.lists) a b));
 }

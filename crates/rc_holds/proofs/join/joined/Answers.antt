@@ -20,10 +20,13 @@ loop-t-preserved c =
     record {
       bound = c.join.ensures.bound ∙ c.loop-t.invariant.bound;
       members = rw (take_more c.args.list.now c.loop-t.t-index 0 c.loop-t-test.true)
-          (joins_more c.args.sets.now c.args.id t _ c.loop-t.set c.join.new.self c.index-sets-t.result c.loop-t.invariant.members c.join.ensures.members
-          (set_at c.args.sets.now t c.index-sets-t.result (c.requires.known c.loop-t.t-index 0 c.loop-t-test.true) c.index-sets-t.is));
+          (joins_more c.args.sets.now c.args.id t _ c.loop-t.set c.join.new.self
+          c.index-sets-t.result c.loop-t.invariant.members c.join.ensures.members
+          (set_at c.args.sets.now t c.index-sets-t.result
+          (c.requires.known c.loop-t.t-index 0 c.loop-t-test.true) c.index-sets-t.is));
     }
 
 pub returns-clause-members : goal.returns-clause-members
 returns-clause-members c =
-    subst (λ (ids : List ℕ). Holds c.loop-t.set (HasJoined c.args.sets.now c.args.id ids)) (take_all c.loop-t.t-index c.args.list.now c.loop-t-test.false) c.loop-t.invariant.members
+    subst (λ (ids : List ℕ). Holds c.loop-t.set (HasJoined c.args.sets.now c.args.id ids))
+    (take_all c.loop-t.t-index c.args.list.now c.loop-t-test.false) c.loop-t.invariant.members

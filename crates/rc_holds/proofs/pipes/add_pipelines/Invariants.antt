@@ -11,5 +11,7 @@ abbrev pub invariant-loop-definition : goal.invariant-loop-definition
 invariant-loop-definition l = record {
   few : length l.sets ≡ length l.fn.sets;
   bounds : AllWithin (length l.services) l.sets;
-  sets : Gain (λ b s. (n : List ℕ) × (slice_get l.bundles b ≡ Some n) × HasPiped (map meaning_of (take l.definition-index l.definitions)) l.services (rows l.readers) n s) l.fn.sets l.sets;
+  sets : Gain (λ b s. (n : List ℕ) × (slice_get l.bundles b ≡ Some n)
+      × HasPiped (map meaning_of (take l.definition-index l.definitions)) l.services
+      (rows l.readers) n s) l.fn.sets l.sets;
 }

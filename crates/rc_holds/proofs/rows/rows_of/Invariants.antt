@@ -6,4 +6,6 @@ use Rattle.rc_holds.proofs.rows.rows_of.Given as goal
 
 -- what the definitions passed list is in
 abbrev pub invariant-loop-definition : goal.invariant-loop-definition
-invariant-loop-definition l = Mirrors (HasListed l.which (map meaning_of (take l.definition-index l.definitions))) l.from l.to (rows l.lists.items)
+invariant-loop-definition l =
+    Mirrors (HasListed l.which (map meaning_of (take l.definition-index l.definitions))) l.from l.to
+    (rows l.lists.items)

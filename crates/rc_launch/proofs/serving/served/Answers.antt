@@ -7,7 +7,8 @@ use Rattle.rc_launch.proofs.ServingLemmas.{line_carried, status_carried, update_
 use Rattle.rc_launch.proofs.serving.served.Goals as goal
 
 pub returns-in-Line : goal.returns-in-Line
-returns-in-Line g c = rw c.in-Line.is (line_carried (logged_of c.args.opened.now.note) _ _ _ _ _ _ _ _
+returns-in-Line g c =
+    rw c.in-Line.is (line_carried (logged_of c.args.opened.now.note) _ _ _ _ _ _ _ _
     c.in-Line.request c.in-Line.base _ _ c.base_in-in-Line.ensures refl
     c.launch-in-Line.ensures.ended)
 

@@ -5,7 +5,8 @@ use Rattle.rc_livetext.proofs.OneText.{text_once}
 use Rattle.rc_livetext.proofs.form_laws.text_is_unique.Goals as goal
 
 pub returns-clause-front : goal.returns-clause-front
-returns-clause-front c a b rest is_a is_b same = (text_once a b rest [] is_a is_b (same ∙ sym (append-nil (live_text b)))).1
+returns-clause-front c a b rest is_a is_b same =
+    (text_once a b rest [] is_a is_b (same ∙ sym (append-nil (live_text b)))).1
 
 pub returns-clause-value : goal.returns-clause-value
 returns-clause-value c a b x y is_a is_b same = (text_once a b x y is_a is_b same).0

@@ -5,4 +5,5 @@ use Rattle.rc_livetext.proofs.write.push_services.Given as goal
 
 -- the word and the names so far
 abbrev pub invariant-loop-id : goal.invariant-loop-id
-invariant-loop-id l = l.out.items ≡ (l.fn.out.items ++ codes "services") ++ words_after_spaces (take l.id l.names)
+invariant-loop-id l =
+    l.out.items ≡ (l.fn.out.items ++ codes "services") ++ words_after_spaces (take l.id l.names)

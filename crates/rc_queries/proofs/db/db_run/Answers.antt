@@ -17,17 +17,27 @@ returns-in-Ok g c =
     let remaining = g.R.Read.remaining (inner_of c.args.reader.now) in
     record {
       statuses = status_wider _ run.statuses;
-      done = λ zero. if_read_then base remaining _ _ (λ input h. answer_written words ask base shown input _ _ asked h) (run.done zero);
+      done = λ zero. if_read_then base remaining _ _
+          (λ input h. answer_written words ask base shown input _ _ asked h) (run.done zero);
       untold = run.untold;
-      refused = λ one. if_read_then base remaining _ _ (λ input told. (ask, asked, told)) (run.refused one);
+      refused = λ one. if_read_then base remaining _ _ (λ input told. (ask, asked, told))
+          (run.refused one);
       wrong = λ wrong. absurd (never_wrong _ run.statuses wrong);
       right = λ other more. (ask, asked);
       unread = λ wrong. absurd (never_wrong _ run.statuses wrong);
       failed = run.failed;
       read = run.read;
       written = run.written;
-      begun = λ failed. elim (run.begun failed) [ inl same ↦ inl same | inr front ↦ inr (if_read_then base remaining _ _ (λ input h. answer_begun words ask base shown input _ _ asked h) front) ];
-      unwritten = λ cases. elim cases [ inl one ↦ run.unwritten one | inr wrong ↦ absurd (never_wrong _ run.statuses wrong) ];
+      begun = λ failed. elim (run.begun failed) [
+        | inl same ↦ inl same
+        | inr front ↦
+            inr (if_read_then base remaining _ _
+            (λ input h. answer_begun words ask base shown input _ _ asked h) front)
+      ];
+      unwritten = λ cases. elim cases [
+        | inl one ↦ run.unwritten one
+        | inr wrong ↦ absurd (never_wrong _ run.statuses wrong)
+      ];
       base = run.base;
       within = run.within;
       end = run.end;

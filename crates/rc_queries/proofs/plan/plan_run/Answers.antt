@@ -3,7 +3,8 @@ use Rattle.rc_select.specs.Ask.{ask_of}
 use Rattle.rc_base.specs.Base.{bytes_of}
 use Rattle.rc_streams.specs.Noting.{inner_of}
 use Rattle.rc_queries.proofs.PlanLemmas.{if_some_then}
-use Rattle.rc_queries.proofs.RunLemmas.{never_wrong, plan_begun, plan_written, some_asked, status_wider}
+use Rattle.rc_queries.proofs.RunLemmas.{never_wrong, plan_begun, plan_written, some_asked}
+use Rattle.rc_queries.proofs.RunLemmas.{status_wider}
 use Rattle.rc_queries.proofs.plan.plan_run.Goals as goal
 
 pub returns-in-Ok : goal.returns-in-Ok
@@ -16,17 +17,27 @@ returns-in-Ok g c =
     let remaining = g.R.Read.remaining (inner_of c.args.reader.now) in
     record {
       statuses = status_wider _ run.statuses;
-      done = λ zero. if_some_then remaining _ _ (λ input h. plan_written words ask base input _ _ asked h) (run.done zero);
+      done = λ zero. if_some_then remaining _ _
+          (λ input h. plan_written words ask base input _ _ asked h) (run.done zero);
       untold = run.untold;
-      refused = λ one. if_some_then remaining _ _ (λ input told. (ask, asked, told)) (run.refused one);
+      refused =
+          λ one. if_some_then remaining _ _ (λ input told. (ask, asked, told)) (run.refused one);
       wrong = λ wrong. absurd (never_wrong _ run.statuses wrong);
       right = λ other more none. some_asked _ ask asked none;
       unread = λ wrong. absurd (never_wrong _ run.statuses wrong);
       failed = run.failed;
       read = run.read;
       written = run.written;
-      begun = λ failed. elim (run.begun failed) [ inl same ↦ inl same | inr front ↦ inr (if_some_then remaining _ _ (λ input h. plan_begun words ask base input _ _ asked h) front) ];
-      unwritten = λ cases. elim cases [ inl one ↦ run.unwritten one | inr wrong ↦ absurd (never_wrong _ run.statuses wrong) ];
+      begun = λ failed. elim (run.begun failed) [
+        | inl same ↦ inl same
+        | inr front ↦
+            inr (if_some_then remaining _ _ (λ input h. plan_begun words ask base input _ _ asked h)
+            front)
+      ];
+      unwritten = λ cases. elim cases [
+        | inl one ↦ run.unwritten one
+        | inr wrong ↦ absurd (never_wrong _ run.statuses wrong)
+      ];
       first = run.first;
       based = run.based;
       untrue = λ one wrong. (ask, asked, run.untrue one wrong);

@@ -10,7 +10,9 @@ returns-then-closed-clause-up c =
     record {
       are_up = record {
         known = c.in_ok-up.ensures.known;
-        closed = same_closed c.args.graph.now (Has c.in_ok-up.up) (IsNamed c.args.names.now (map (λ w. w.now) c.args.ups.now))
+        closed =
+            same_closed c.args.graph.now (Has c.in_ok-up.up)
+            (IsNamed c.args.names.now (map (λ w. w.now) c.args.ups.now))
             (λ s. (c.in_ok-up.ensures.members s).0) (λ s. (c.in_ok-up.ensures.members s).1) closed;
       };
       bound = c.in_ok-up.ensures.bound;
@@ -21,6 +23,9 @@ returns-then-closed-clause-up c =
 pub returns-clause-fault : goal.returns-clause-fault
 returns-clause-fault c = (
   c.in_ok-up.ensures.known,
-  λ closed. let yes : c.closed.result ≡ true = c.closed.ensures.1 (same_closed c.args.graph.now (IsNamed c.args.names.now (map (λ w. w.now) c.args.ups.now)) (Has c.in_ok-up.up)
+  λ closed. let yes : c.closed.result ≡ true =
+      c.closed.ensures.1
+      (same_closed c.args.graph.now (IsNamed c.args.names.now (map (λ w. w.now) c.args.ups.now))
+      (Has c.in_ok-up.up)
       (λ s. (c.in_ok-up.ensures.members s).1) (λ s. (c.in_ok-up.ensures.members s).0) closed) in cc,
 )

@@ -6,4 +6,6 @@ use Rattle.rc_queries.proofs.played.answers_text.Given as goal
 
 abbrev pub invariant-loop-place : goal.invariant-loop-place
 invariant-loop-place l =
-    l.text.items ++ answers_text l.names (map command_of (drop l.place l.steps)) (map answer_of (drop l.place l.answers)) ≡ answers_text l.names (map command_of l.steps) (map answer_of l.answers)
+    l.text.items ++ answers_text l.names (map command_of (drop l.place l.steps))
+    (map answer_of (drop l.place l.answers)) ≡ answers_text l.names (map command_of l.steps)
+    (map answer_of l.answers)

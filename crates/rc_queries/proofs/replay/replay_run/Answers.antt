@@ -17,7 +17,10 @@ returns-in-Ok g c =
       read = run.read;
       written = run.written;
       begun = run.begun;
-      unwritten = λ cases. elim cases [ inl one ↦ run.unwritten one | inr wrong ↦ absurd (never_wrong _ run.statuses wrong) ];
+      unwritten = λ cases. elim cases [
+        | inl one ↦ run.unwritten one
+        | inr wrong ↦ absurd (never_wrong _ run.statuses wrong)
+      ];
       first = run.first;
       based = run.based;
       untrue = run.untrue;

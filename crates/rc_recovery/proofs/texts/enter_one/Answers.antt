@@ -28,7 +28,9 @@ returns-in-Err-entered-clause-unfit c = λ is.
     let is = c.in-Ok-resume.is in let made = c.resume.ensures in cc
     in (
       c.if-not-has_events.ensures.events,
-      inr (by_text (λ (d : Database) (text : List ℕ). IsRefusedIn d text (command_of c.args.step.now))
+      inr
+          (by_text (λ (d : Database) (text : List ℕ). IsRefusedIn d text
+          (command_of c.args.step.now))
           c.args.db c.in-Ok.line.line session c.args.text.now same c.in-Ok.ensures.text
           (c.in-Err-entered.ensures.refused (ap Err log))),
     )

@@ -7,7 +7,8 @@ use Rattle.rc_recovery.proofs.texts.recover_text.Goals as goal
 pub returns-in-Ok-clause-unfit : goal.returns-in-Ok-clause-unfit
 returns-in-Ok-clause-unfit c = λ unfit.
     let script = c.whole_lines-script.result.now in
-    let says : List Step → Type 0 = λ steps. IsScript c.args.db.names script (map command_of steps) in
+    let says : List Step → Type 0 =
+    λ steps. IsScript c.args.db.names script (map command_of steps) in
     inr (
       map command_of c.deref.result.now,
       (

@@ -14,7 +14,11 @@ loop-place-preserved c =
     let name = c.at.result.0.now in
     let set = c.at.result.1.now in
     let edges = edge_lines member_end name (names_in c.args.names.now set) in
-    grown_behind c.add_members.new.text.items c.loop-place.text.items c.args.text.now.items (flat_map lines (take c.loop-place.place c.args.table.now)) _ (lines (name, set))
-    (c.in_ok-add_members.ensures ∙ (ap (λ (t : List ℕ). t ++ edges) c.in_ok-add_node.ensures ∙ append_assoc c.loop-place.text.items (node_line name (look Bundle false false)) edges))
+    grown_behind c.add_members.new.text.items c.loop-place.text.items c.args.text.now.items
+    (flat_map lines (take c.loop-place.place c.args.table.now)) _ (lines (name, set))
+    (c.in_ok-add_members.ensures
+    ∙ (ap (λ (t : List ℕ). t ++ edges) c.in_ok-add_node.ensures
+    ∙ append_assoc c.loop-place.text.items (node_line name (look Bundle false false)) edges))
     c.loop-place.invariant
-    (ap (flat_map lines) (take_next c.args.table.now c.loop-place.place (name, set) c.at.ensures) ∙ one_more lines (take c.loop-place.place c.args.table.now) (name, set))
+    (ap (flat_map lines) (take_next c.args.table.now c.loop-place.place (name, set) c.at.ensures)
+    ∙ one_more lines (take c.loop-place.place c.args.table.now) (name, set))

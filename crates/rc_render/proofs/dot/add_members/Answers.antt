@@ -1,4 +1,5 @@
-use Rattle.std.proofs.Common.{◌≡◌, ◌∙◌, ◌<◌, ◌++◌, ℕ, List, length, ap, sym, take, false, true, arith}
+use Rattle.std.proofs.Common.{◌≡◌, ◌∙◌, ◌<◌, ◌++◌, ℕ, List, length, ap, sym, take, false, true}
+use Rattle.std.proofs.Common.{arith}
 use Rattle.std.specs.List.{flat_map}
 use Rattle.rc_render.specs.DotText.{edge_line, edge_lines, member_end}
 use Rattle.rc_render.specs.Names.{names_in}
@@ -18,15 +19,22 @@ loop-id-preserved c =
     let within : c.loop-id.id < length c.args.set.now = omega arith in
     elim c.if-contains.branch [
       | then-contains+in_ok-add_edge w ↦ rw w.text-is (
-          grown_behind w.add_edge.new.text.items c.loop-id.text.items c.args.text.now.items (flat_map edge (names_in (take i names) (take i set))) _ (edge w.name_of.result.now)
+          grown_behind w.add_edge.new.text.items c.loop-id.text.items c.args.text.now.items
+          (flat_map edge (names_in (take i names) (take i set))) _ (edge w.name_of.result.now)
           w.in_ok-add_edge.ensures c.loop-id.invariant
-          (ap (flat_map edge) (names_in_has names set i w.name_of.result.now w.name_of.ensures (c.contains.ensures.0 w.if-contains.true))
+          (ap (flat_map edge)
+          (names_in_has names set i w.name_of.result.now w.name_of.ensures
+          (c.contains.ensures.0 w.if-contains.true))
           ∙ one_more edge (names_in (take i names) (take i set)) w.name_of.result.now))
       | else-contains w ↦ rw w.text-is (c.loop-id.invariant
-          ∙ ap (λ (xs : List (List ℕ)). c.args.text.now.items ++ edge_lines member_end c.args.name.now xs) (sym (names_in_lacks names set i low within
-          (λ has. let bad : false ≡ true = sym w.if-contains.false ∙ c.contains.ensures.1 has in cc))))
+          ∙ ap (λ (xs : List (List ℕ)). c.args.text.now.items ++ edge_lines member_end
+          c.args.name.now xs) (sym (names_in_lacks names set i low within
+          (λ has. let bad : false ≡ true = sym w.if-contains.false ∙ c.contains.ensures.1 has in
+          cc))))
     ]
 
 pub returns : goal.returns
 returns c =
-    c.loop-id.invariant ∙ ap (λ (xs : List (List ℕ)). c.args.text.now.items ++ edge_lines member_end c.args.name.now xs) (names_in_all c.args.names.now c.args.set.now c.loop-id.id (λ l w. omega arith))
+    c.loop-id.invariant
+    ∙ ap (λ (xs : List (List ℕ)). c.args.text.now.items ++ edge_lines member_end c.args.name.now xs)
+    (names_in_all c.args.names.now c.args.set.now c.loop-id.id (λ l w. omega arith))

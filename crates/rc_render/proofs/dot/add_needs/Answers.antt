@@ -9,6 +9,9 @@ pub loop-need-preserved : goal.loop-need-preserved
 loop-need-preserved c =
     let edge = edge_line need_end c.args.name.now in
     grown_behind c.add_edge.new.text.items c.loop-need.text.items c.args.text.now.items
-    (edge_lines need_end c.args.name.now (names_at c.args.names.now (take c.loop-need.need-index c.args.needs.now))) _ (edge c.name_of.result.now)
+    (edge_lines need_end c.args.name.now
+    (names_at c.args.names.now (take c.loop-need.need-index c.args.needs.now))) _
+    (edge c.name_of.result.now)
     c.in_ok-add_edge.ensures c.loop-need.invariant
-    (one_more_id edge c.args.names.now c.args.needs.now c.loop-need.need-index c.name_of.result.now c.loop-need-test.true c.name_of.ensures)
+    (one_more_id edge c.args.names.now c.args.needs.now c.loop-need.need-index c.name_of.result.now
+    c.loop-need-test.true c.name_of.ensures)

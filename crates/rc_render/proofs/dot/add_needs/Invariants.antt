@@ -5,4 +5,6 @@ use Rattle.rc_render.proofs.dot.add_needs.Given as goal
 
 -- the edges so far
 abbrev pub invariant-loop-need : goal.invariant-loop-need
-invariant-loop-need l = l.text.items ≡ l.fn.text.items ++ edge_lines need_end l.name (names_at l.names (take l.need-index l.needs))
+invariant-loop-need l =
+    l.text.items ≡ l.fn.text.items ++ edge_lines need_end l.name
+    (names_at l.names (take l.need-index l.needs))

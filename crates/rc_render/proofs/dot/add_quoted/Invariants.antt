@@ -5,4 +5,5 @@ use Rattle.rc_render.proofs.dot.add_quoted.Given as goal
 
 -- the bytes so far
 abbrev pub invariant-loop-byte : goal.invariant-loop-byte
-invariant-loop-byte l = l.text.items ≡ l.fn.text.items ++ 34 ∷ flat_map quoted_byte (take l.byte-index l.name)
+invariant-loop-byte l =
+    l.text.items ≡ l.fn.text.items ++ 34 ∷ flat_map quoted_byte (take l.byte-index l.name)

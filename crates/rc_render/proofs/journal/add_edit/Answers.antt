@@ -11,7 +11,13 @@ use Rattle.rc_render.proofs.journal.add_edit.Goals as goal
 pub loop-place-preserved : goal.loop-place-preserved
 loop-place-preserved c =
     let text = alteration_text c.args.names.now in
-    let x : Alteration = record { name = c.at.result.0.now; before = option_copied c.at.result.1; after = option_copied c.at.result.2 } in
-    grown_behind c.add_alteration.new.text.items c.loop-place.text.items c.args.text.now.items (flat_map text (take c.loop-place.place c.args.edit.now)) _ (text x)
+    let x : Alteration = record {
+      name = c.at.result.0.now;
+      before = option_copied c.at.result.1;
+      after = option_copied c.at.result.2;
+    } in
+    grown_behind c.add_alteration.new.text.items c.loop-place.text.items c.args.text.now.items
+    (flat_map text (take c.loop-place.place c.args.edit.now)) _ (text x)
     c.in_ok-add_alteration.ensures c.loop-place.invariant
-    (ap (flat_map text) (take_next c.args.edit.now c.loop-place.place x c.at.ensures) ∙ one_more text (take c.loop-place.place c.args.edit.now) x)
+    (ap (flat_map text) (take_next c.args.edit.now c.loop-place.place x c.at.ensures)
+    ∙ one_more text (take c.loop-place.place c.args.edit.now) x)

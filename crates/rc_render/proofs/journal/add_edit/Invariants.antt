@@ -5,4 +5,5 @@ use Rattle.rc_render.proofs.journal.add_edit.Given as goal
 
 -- the bundles so far
 abbrev pub invariant-loop-place : goal.invariant-loop-place
-invariant-loop-place l = l.text.items ≡ l.fn.text.items ++ flat_map (alteration_text l.names) (take l.place l.edit)
+invariant-loop-place l =
+    l.text.items ≡ l.fn.text.items ++ flat_map (alteration_text l.names) (take l.place l.edit)

@@ -6,4 +6,7 @@ use Rattle.rc_render.proofs.journal.add_members.Given as goal
 
 -- the names so far
 abbrev pub invariant-loop-id : goal.invariant-loop-id
-invariant-loop-id l = (l.text.items ≡ l.fn.text.items ++ join_with_byte 44 (names_in (take l.id l.names) (take l.id l.set))) × (l.is_first ≡ is_none (names_in (take l.id l.names) (take l.id l.set)))
+invariant-loop-id l =
+    (l.text.items ≡ l.fn.text.items ++ join_with_byte 44
+    (names_in (take l.id l.names) (take l.id l.set)))
+    × (l.is_first ≡ is_none (names_in (take l.id l.names) (take l.id l.set)))

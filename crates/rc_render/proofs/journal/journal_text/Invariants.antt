@@ -5,4 +5,6 @@ use Rattle.rc_render.proofs.journal.journal_text.Given as goal
 
 -- the lines of the entries so far
 abbrev pub invariant-loop-place : goal.invariant-loop-place
-invariant-loop-place l = (entries : List ℕ) × AreEntryLines l.db.names 0 (take (l.place + 1) (states l.line.line)) entries × (l.text.items ≡ place_line l.line.line ++ entries)
+invariant-loop-place l = (entries : List ℕ)
+    × AreEntryLines l.db.names 0 (take (l.place + 1) (states l.line.line)) entries
+    × (l.text.items ≡ place_line l.line.line ++ entries)

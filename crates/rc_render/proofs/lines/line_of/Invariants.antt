@@ -5,4 +5,5 @@ use Rattle.rc_render.proofs.lines.line_of.Given as goal
 
 -- the word and the names so far
 abbrev pub invariant-loop-id : goal.invariant-loop-id
-invariant-loop-id l = l.text.items ≡ l.word ++ flat_map (λ name. 32 ∷ name) (names_at l.names (take l.id-index l.ids))
+invariant-loop-id l =
+    l.text.items ≡ l.word ++ flat_map (λ name. 32 ∷ name) (names_at l.names (take l.id-index l.ids))

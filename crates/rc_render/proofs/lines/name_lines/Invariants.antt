@@ -4,4 +4,5 @@ use Rattle.rc_render.proofs.lines.name_lines.Given as goal
 
 -- the lines so far
 abbrev pub invariant-loop-name : goal.invariant-loop-name
-invariant-loop-name l = l.text.items ≡ name_lines (map (λ name. name.now) (take l.name-index l.names))
+invariant-loop-name l =
+    l.text.items ≡ name_lines (map (λ name. name.now) (take l.name-index l.names))

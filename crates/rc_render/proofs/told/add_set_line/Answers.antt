@@ -1,4 +1,5 @@
-use Rattle.std.proofs.Common.{◌≡◌, ◌∙◌, ◌<◌, [], ◌∷◌, ◌++◌, ℕ, List, length, ap, sym, take, false, true, arith}
+use Rattle.std.proofs.Common.{◌≡◌, ◌∙◌, ◌<◌, [], ◌∷◌, ◌++◌, ℕ, List, length, ap, sym, take, false}
+use Rattle.std.proofs.Common.{true, arith}
 use Rattle.std.specs.List.{flat_map}
 use Rattle.rc_render.proofs.LineLemmas.{one_more}
 use Rattle.rc_render.specs.Names.{names_in}
@@ -14,18 +15,30 @@ loop-id-preserved c =
     elim c.if-contains.branch [
       | then-contains+in_ok-add_word w ↦ rw w.text-is (
           grown w.add_word.new.text.items c.loop-id.text.items c.args.text.now.items c.args.word.now
-          (flat_map spaced (names_in (take c.loop-id.id c.args.names.now) (take c.loop-id.id c.args.set.now))) _ (32 ∷ w.name_of.result.now)
-          (w.in_ok-add_word.ensures ∙ ap (λ (name : List ℕ). c.loop-id.text.items ++ 32 ∷ name) (w.as_bytes.ensures.value ∙ w.text.ensures.bytes))
+          (flat_map spaced
+          (names_in (take c.loop-id.id c.args.names.now) (take c.loop-id.id c.args.set.now))) _
+          (32 ∷ w.name_of.result.now)
+          (w.in_ok-add_word.ensures ∙ ap (λ (name : List ℕ). c.loop-id.text.items ++ 32 ∷ name)
+          (w.as_bytes.ensures.value ∙ w.text.ensures.bytes))
           c.loop-id.invariant
-          (ap (flat_map spaced) (names_in_has c.args.names.now c.args.set.now c.loop-id.id w.name_of.result.now w.name_of.ensures (c.contains.ensures.0 w.if-contains.true))
-          ∙ one_more spaced (names_in (take c.loop-id.id c.args.names.now) (take c.loop-id.id c.args.set.now)) w.name_of.result.now))
+          (ap (flat_map spaced)
+          (names_in_has c.args.names.now c.args.set.now c.loop-id.id w.name_of.result.now
+          w.name_of.ensures (c.contains.ensures.0 w.if-contains.true))
+          ∙ one_more spaced
+          (names_in (take c.loop-id.id c.args.names.now) (take c.loop-id.id c.args.set.now))
+          w.name_of.result.now))
       | else-contains w ↦ rw w.text-is (c.loop-id.invariant
-          ∙ ap (λ (names : List (List ℕ)). c.args.text.now.items ++ (c.args.word.now ++ flat_map spaced names)) (sym (names_in_lacks c.args.names.now c.args.set.now c.loop-id.id low within
-          (λ has. let bad : false ≡ true = sym w.if-contains.false ∙ c.contains.ensures.1 has in cc))))
+          ∙ ap (λ (names : List (List ℕ)). c.args.text.now.items
+          ++ (c.args.word.now ++ flat_map spaced names))
+          (sym (names_in_lacks c.args.names.now c.args.set.now c.loop-id.id low within
+          (λ has. let bad : false ≡ true = sym w.if-contains.false ∙ c.contains.ensures.1 has in
+          cc))))
     ]
 
 pub returns : goal.returns
 returns c =
-    ended c.push.new.self.items c.loop-id.text.items c.args.text.now.items c.args.word.now _ _ (10 ∷ [])
+    ended c.push.new.self.items c.loop-id.text.items c.args.text.now.items
+    c.args.word.now _ _ (10 ∷ [])
     c.in_ok-push.ensures.items c.loop-id.invariant
-    (ap (flat_map (λ name. 32 ∷ name)) (names_in_all c.args.names.now c.args.set.now c.loop-id.id (λ l w. omega arith)))
+    (ap (flat_map (λ name. 32 ∷ name))
+    (names_in_all c.args.names.now c.args.set.now c.loop-id.id (λ l w. omega arith)))

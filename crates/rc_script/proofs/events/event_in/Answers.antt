@@ -9,5 +9,6 @@ text b = b.now
 
 pub returns-in_default : goal.returns-in_default
 returns-in_default c =
-    let few : length (map text c.args.words.now) < 3 = omega (arith, length-map c.args.words.now text, c.in_default.len_below) in
+    let few : length (map text c.args.words.now) < 3 =
+    omega (arith, length-map c.args.words.now text, c.in_default.len_below) in
     too_few c.args.names.now (map text c.args.words.now) few

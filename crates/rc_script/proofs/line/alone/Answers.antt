@@ -1,8 +1,10 @@
-use Rattle.std.proofs.Common.{◌≡◌, ◌==◌, inl, ℕ, true, false, List, [], ◌∷◌, length, map, refl, sym, arith}
+use Rattle.std.proofs.Common.{◌≡◌, ◌==◌, inl, ℕ, true, false, List, [], ◌∷◌, length, map, refl, sym}
+use Rattle.std.proofs.Common.{arith}
 use Rattle.std.proofs.lemmas.Bool.{eqb-true}
 use Rattle.rc_script.specs.declared.options.Choice.{Choice}
 use Rattle.rc_script.specs.Says.{Saying, SaysWrong, HasName, IsSaid, alone, plain, saying_of}
-use Rattle.rc_script.proofs.line.alone.Goals.{else-is_empty-via-else-is_empty, else-is_empty-via-then-is_empty+else-is_empty-2}
+use Rattle.rc_script.proofs.line.alone.Goals.{else-is_empty-via-else-is_empty}
+use Rattle.rc_script.proofs.line.alone.Goals.{else-is_empty-via-then-is_empty+else-is_empty-2}
 use Rattle.rc_script.proofs.line.alone.Goals as goal
 
 module _ {X : Type 0} (text : X → List ℕ) (saying : Saying) where

@@ -14,6 +14,8 @@ returns-in-Some-of c =
     let choices = c.args.choices.now in
     let others : List (List ℕ) = map text c.in-Some.others.now in
     let front : c.in-Some.word.now.now ∷ others ≡ map text c.args.words.now = search rules in
-    let found : Some c.in-Some-of.verb ≡ verb_of c.in-Some.word.now.now = sym c.in-Some-of.is ∙ c.of.ensures in
+    let found : Some c.in-Some-of.verb ≡ verb_of c.in-Some.word.now.now =
+    sym c.in-Some-of.is ∙ c.of.ensures in
     said_as saying_of c.said.result _ _
-    (ap (λ (o : Option Verb). option_map_or (λ v. said v choices others) o SaysWrong) found ∙ ap (behind choices) front) c.said.ensures
+    (ap (λ (o : Option Verb). option_map_or (λ v. said v choices others) o SaysWrong) found
+    ∙ ap (behind choices) front) c.said.ensures

@@ -14,6 +14,9 @@ pub returns-in-Some : goal.returns-in-Some
 returns-in-Some c =
     let rest : List (List ℕ) = map text c.in-Some.rest.now in
     let front : Front = record { choices = c.in-Some.choices.items; words = rest } in
-    let found : Some front ≡ front_of false (map text c.args.words.now) = rw c.in-Some.is at c.in_ok-choices.ensures in
+    let found : Some front ≡ front_of false (map text c.args.words.now) =
+    rw c.in-Some.is at c.in_ok-choices.ensures in
     said_as saying_of c.behind.result _ _
-    (ap (λ (choices : List Choice). behind choices rest) c.deref.ensures.value ∙ ap (λ (o : Option Front). option_map_or (λ f. behind f.choices f.words) o SaysWrong) found) c.behind.ensures
+    (ap (λ (choices : List Choice). behind choices rest) c.deref.ensures.value
+    ∙ ap (λ (o : Option Front). option_map_or (λ f. behind f.choices f.words) o SaysWrong) found)
+    c.behind.ensures

@@ -1,7 +1,8 @@
 use Rattle.std.proofs.Common.{◌∙◌, ◌++◌, ℕ, List, sym, ap}
 use denote.Ref.{Bor}
 use Rattle.rc_script.specs.declared.options.Choice.{Choice}
-use Rattle.rc_script.proofs.Fronts.{words_some, first_filled, limit_option, limit_fails, letters_option}
+use Rattle.rc_script.proofs.Fronts.{words_some, first_filled, limit_option, limit_fails}
+use Rattle.rc_script.proofs.Fronts.{letters_option}
 use Rattle.rc_script.proofs.Texts.{images_from}
 use Rattle.rc_script.proofs.options.add_option.Goals as goal
 
@@ -22,7 +23,8 @@ letters_of-requires c = first_filled text c.args.words.now _ c.requires
 
 pub returns-in-Ok-true : goal.returns-in-Ok-true
 returns-in-Ok-true c =
-    limit_option text c.args.words.now _ _ c.args.choices.now.items c.add_limit.new.choices.items c.requires (sym c.eq.ensures ∙ c.if-eq.true)
+    limit_option text c.args.words.now _ _ c.args.choices.now.items c.add_limit.new.choices.items
+    c.requires (sym c.eq.ensures ∙ c.if-eq.true)
     (images_from text c.args.words.now 1) (rw c.in-Ok-true.field-0-test at c.in-Ok-true.ensures)
 
 pub returns-in-Ok-false : goal.returns-in-Ok-false
@@ -32,5 +34,8 @@ returns-in-Ok-false c =
 
 pub returns-in-Ok : goal.returns-in-Ok
 returns-in-Ok c =
-    letters_option text c.args.words.now _ c.in-Some.letters.items c.args.choices.now.items c.extend_from_slice-added.new.self.items c.requires (sym c.eq.ensures ∙ c.if-eq.false)
-    (rw c.in-Some.is at c.in_ok-letters.ensures) (c.in-Ok.ensures.items ∙ ap (λ (l : List Choice). c.args.choices.now.items ++ l) c.deref.ensures.value)
+    letters_option text c.args.words.now _ c.in-Some.letters.items c.args.choices.now.items
+    c.extend_from_slice-added.new.self.items c.requires (sym c.eq.ensures ∙ c.if-eq.false)
+    (rw c.in-Some.is at c.in_ok-letters.ensures)
+    (c.in-Ok.ensures.items ∙ ap (λ (l : List Choice). c.args.choices.now.items ++ l)
+    c.deref.ensures.value)

@@ -1,4 +1,5 @@
-use Rattle.std.proofs.Common.{◌≡◌, ◌∙◌, ◌+◌, ◌<◌, ◌≤◌, ℕ, List, [], ◌∷◌, ◌++◌, Option, Some, None, length, drop, get_or, refl, sym, ap, subst, append-nil, append_assoc}
+use Rattle.std.proofs.Common.{◌≡◌, ◌∙◌, ◌+◌, ◌<◌, ◌≤◌, ℕ, List, [], ◌∷◌, ◌++◌, Option, Some, None}
+use Rattle.std.proofs.Common.{length, drop, get_or, refl, sym, ap, subst, append-nil, append_assoc}
 use Rattle.std.specs.Option.{option_map, option_and_then}
 use Rattle.std.proofs.Math.ListN.{drop_of_length-le}
 use Rattle.std.proofs.lemmas.List.{drop_more}
@@ -27,17 +28,20 @@ module _ (letters : List ℕ) (i : ℕ) (choices : List Choice)
     (so : choices_of letters ≡ in_front choices (choices_of (drop i letters))) where
   -- at a letter
   at_letter : i < length letters → (first : Option Choice) → first ≡ choice_of (get_or letters i 0)
-      → choices_of letters ≡ in_front choices (chosen_first first (choices_of (drop (i + 1) letters)))
+      → choices_of letters
+      ≡ in_front choices (chosen_first first (choices_of (drop (i + 1) letters)))
   at_letter low first is =
       so ∙ ap (λ (rest : List ℕ). in_front choices (choices_of rest)) (drop_more letters i 0 low)
-      ∙ ap (λ (o : Option Choice). in_front choices (chosen_first o (choices_of (drop (i + 1) letters))))
+      ∙ ap (λ (o : Option Choice). in_front choices
+      (chosen_first o (choices_of (drop (i + 1) letters))))
       (sym is)
 
   -- and at the end
   at_end : length letters ≤ i → Some choices ≡ choices_of letters
   at_end high =
       let whole = so
-      ∙ ap (λ (rest : List ℕ). in_front choices (choices_of rest)) (drop_of_length-le letters high) in
+      ∙ ap (λ (rest : List ℕ). in_front choices (choices_of rest))
+      (drop_of_length-le letters high) in
       sym (whole ∙ ap Some (append-nil choices))
 
 pub loop-letter-init : goal.loop-letter-init

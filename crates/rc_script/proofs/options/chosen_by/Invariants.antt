@@ -3,4 +3,5 @@ use Rattle.rc_script.specs.Options.{none_chosen, with_choices}
 use Rattle.rc_script.proofs.options.chosen_by.Given as goal
 
 abbrev pub invariant-loop-choice : goal.invariant-loop-choice
-invariant-loop-choice l = with_choices l.chosen (drop l.choice-index l.choices) ≡ with_choices none_chosen l.choices
+invariant-loop-choice l =
+    with_choices l.chosen (drop l.choice-index l.choices) ≡ with_choices none_chosen l.choices

@@ -11,15 +11,20 @@ text b = b.now
 
 pub returns-in-Some : goal.returns-in-Some
 returns-in-Some c =
-    let are : map text c.deref.result.now ≡ words_in c.args.line.now = ap (map text) c.deref.ensures.value ∙ c.in_ok-words.ensures in
+    let are : map text c.deref.result.now ≡ words_in c.args.line.now =
+    ap (map text) c.deref.ensures.value ∙ c.in_ok-words.ensures in
     let found = rw c.in-Some.is at c.in_ok-texts.ensures in
     inl (
       subst (λ (ws : List (List ℕ)). All IsUtf8 ws) are found.1,
-      ap event_item (c.event_in.ensures ∙ ap (event_in c.args.names.now) (ap (map text) c.deref-in-Some.ensures.value ∙ found.0 ∙ are)),
+      ap event_item
+          (c.event_in.ensures
+          ∙ ap (event_in c.args.names.now)
+          (ap (map text) c.deref-in-Some.ensures.value ∙ found.0 ∙ are)),
     )
 
 pub returns : goal.returns
 returns c =
-    let are : map text c.deref.result.now ≡ words_in c.args.line.now = ap (map text) c.deref.ensures.value ∙ c.in_ok-words.ensures in
+    let are : map text c.deref.result.now ≡ words_in c.args.line.now =
+    ap (map text) c.deref.ensures.value ∙ c.in_ok-words.ensures in
     let found = rw c.in-None.is at c.in_ok-texts.ensures in
     inr ((λ all. found (subst (λ (ws : List (List ℕ)). All IsUtf8 ws) (sym are) all)), refl)

@@ -5,4 +5,6 @@ use Rattle.rc_script.proofs.script.read_script.Given as goal
 
 -- the lines so far make these commands
 abbrev pub invariant-loop-place : goal.invariant-loop-place
-invariant-loop-place l = Reads l.names (take l.place (map (λ line. line.now) l.line-items)) [] (map command_of l.steps.items)
+invariant-loop-place l =
+    Reads l.names (take l.place (map (λ line. line.now) l.line-items)) []
+    (map command_of l.steps.items)

@@ -9,13 +9,17 @@ use Rattle.rc_select.proofs.plans.plan_up.Goals as goal
 
 pub between-requires-clause-to_closed : goal.between-requires-clause-to_closed
 between-requires-clause-to_closed c =
-    same_closed c.args.graph.now (Target c.args.graph.now (Has c.args.up.now) Nothing Up false (Has c.args.wanted.now)) (Has c.join.new.self)
+    same_closed c.args.graph.now
+    (Target c.args.graph.now (Has c.args.up.now) Nothing Up false (Has c.args.wanted.now))
+    (Has c.join.new.self)
     (λ s target. elim target [
       | inl up ↦ (c.join.ensures.members s).1 (inr up)
-      | inr wanted ↦ (c.join.ensures.members s).1 (inl ((c.in_ok-target.ensures.members s).1 wanted))
+      | inr wanted ↦
+          (c.join.ensures.members s).1 (inl ((c.in_ok-target.ensures.members s).1 wanted))
     ])
     (λ s has. elim ((c.join.ensures.members s).0 has) [
       | inl closure ↦ inr ((c.in_ok-target.ensures.members s).0 closure)
       | inr up ↦ inl up
     ])
-    (target_closed c.args.graph.now (Has c.args.up.now) Nothing (Has c.args.wanted.now) Up false c.requires.up_closed)
+    (target_closed c.args.graph.now (Has c.args.up.now) Nothing (Has c.args.wanted.now) Up false
+    c.requires.up_closed)

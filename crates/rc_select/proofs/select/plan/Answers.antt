@@ -7,13 +7,19 @@ use Rattle.rc_select.proofs.SidesLemmas.{leads_same}
 use Rattle.rc_select.proofs.select.plan.Goals as goal
 
 pub planned-requires-clause-up_bound : goal.planned-requires-clause-up_bound
-planned-requires-clause-up_bound c = c.requires.bound ∙ sym c.graph.ensures.database.fit.graph ∙ sym (ap length c.graph.ensures.graph)
+planned-requires-clause-up_bound c =
+    c.requires.bound ∙ sym c.graph.ensures.database.fit.graph
+    ∙ sym (ap length c.graph.ensures.graph)
 
 pub planned-requires-clause-essential_bound : goal.planned-requires-clause-essential_bound
-planned-requires-clause-essential_bound c = c.in_ok-essential.ensures.bound ∙ sym c.graph.ensures.database.fit.graph ∙ sym (ap length c.graph.ensures.graph)
+planned-requires-clause-essential_bound c =
+    c.in_ok-essential.ensures.bound ∙ sym c.graph.ensures.database.fit.graph
+    ∙ sym (ap length c.graph.ensures.graph)
 
 pub planned-requires-clause-wanted_bound : goal.planned-requires-clause-wanted_bound
-planned-requires-clause-wanted_bound c = c.in_ok-wanted.ensures.bound ∙ sym c.graph.ensures.database.fit.graph ∙ sym (ap length c.graph.ensures.graph)
+planned-requires-clause-wanted_bound c =
+    c.in_ok-wanted.ensures.bound ∙ sym c.graph.ensures.database.fit.graph
+    ∙ sym (ap length c.graph.ensures.graph)
 
 pub planned-requires-clause-essential_up : goal.planned-requires-clause-essential_up
 planned-requires-clause-essential_up c = c.in_ok-essential.ensures.up

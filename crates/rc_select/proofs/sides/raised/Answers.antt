@@ -7,8 +7,10 @@ join-requires c = c.requires.up_bound ∙ sym c.in_ok-target.ensures.bound
 pub returns : goal.returns
 returns c = record {
   leads = λ s. (
-    λ has. ⊎_elim (λ more. inr ((c.in_ok-target.ensures.members s).0 more)) (λ up. inl up) ((c.join.ensures.members s).0 has),
-    λ target. (c.join.ensures.members s).1 (⊎_elim (λ up. inr up) (λ more. inl ((c.in_ok-target.ensures.members s).1 more)) target),
+    λ has. ⊎_elim (λ more. inr ((c.in_ok-target.ensures.members s).0 more)) (λ up. inl up)
+        ((c.join.ensures.members s).0 has),
+    λ target. (c.join.ensures.members s).1
+        (⊎_elim (λ up. inr up) (λ more. inl ((c.in_ok-target.ensures.members s).1 more)) target),
   );
   keeps = λ s. (λ has. absurd (c.in_ok-kept.ensures.members s has), λ none. absurd none);
   target_bound = c.join.ensures.bound ∙ c.in_ok-target.ensures.bound;

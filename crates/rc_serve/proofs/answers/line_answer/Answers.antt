@@ -13,26 +13,51 @@ pub said_answer-requires-clause-crew : goal.said_answer-requires-clause-crew
 said_answer-requires-clause-crew g c κs within = c.requires.crew
 
 pub said_answer-requires-clause-eventless : goal.said_answer-requires-clause-eventless
-said_answer-requires-clause-eventless g c κs within = λ command is. c.lines_give_no_events.ensures c.args.line.now command (subst (λ (s : Saying). Says c.args.line.now s) is (read_says _ c.args.line.now c.read_line.result c.in-Ok.said c.in-Ok.is c.read_line.ensures.said))
+said_answer-requires-clause-eventless g c κs within = λ command is. c.lines_give_no_events.ensures
+    c.args.line.now command
+    (subst (λ (s : Saying). Says c.args.line.now s) is
+    (read_says _ c.args.line.now c.read_line.result c.in-Ok.said c.in-Ok.is
+    c.read_line.ensures.said))
 
 pub returns-in-Ok-clause-met : goal.returns-in-Ok-clause-met
-returns-in-Ok-clause-met g c = bytes_met c.args.workers (g.G.Gate.answers c.args.gate.now) (g.G.Gate.gives c.args.gate.now) c.args.line.now (saying_of c.in-Ok.said) c.args.session.now.database c.args.session.now.line c.said_answer.result c.said_answer.new.session.line (read_says _ c.args.line.now c.read_line.result c.in-Ok.said c.in-Ok.is c.read_line.ensures.said) c.said_answer.ensures.met
+returns-in-Ok-clause-met g c =
+    bytes_met c.args.workers (g.G.Gate.answers c.args.gate.now) (g.G.Gate.gives c.args.gate.now)
+    c.args.line.now (saying_of c.in-Ok.said) c.args.session.now.database c.args.session.now.line
+    c.said_answer.result c.said_answer.new.session.line
+    (read_says _ c.args.line.now c.read_line.result c.in-Ok.said c.in-Ok.is
+    c.read_line.ensures.said) c.said_answer.ensures.met
 
 pub returns-in-Ok-clause-may : goal.returns-in-Ok-clause-may
-returns-in-Ok-clause-may g c = bytes_may (IsDoneBy c.args.workers (g.G.Gate.answers c.args.gate.now) (g.G.Gate.gives c.args.gate.now)) c.args.line.now (saying_of c.in-Ok.said) c.args.session.now.database c.args.session.now.line c.said_answer.new.session.line (read_says _ c.args.line.now c.read_line.result c.in-Ok.said c.in-Ok.is c.read_line.ensures.said) c.said_answer.ensures.may
+returns-in-Ok-clause-may g c =
+    bytes_may (IsDoneBy c.args.workers (g.G.Gate.answers c.args.gate.now)
+    (g.G.Gate.gives c.args.gate.now)) c.args.line.now (saying_of c.in-Ok.said)
+    c.args.session.now.database c.args.session.now.line c.said_answer.new.session.line
+    (read_says _ c.args.line.now c.read_line.result c.in-Ok.said c.in-Ok.is
+    c.read_line.ensures.said) c.said_answer.ensures.may
 
 pub returns-in-Ok-clause-stays : goal.returns-in-Ok-clause-stays
 returns-in-Ok-clause-stays g c = c.said_answer.ensures.stays
 
 pub returns-in-Ok-clause-fault : goal.returns-in-Ok-clause-fault
-returns-in-Ok-clause-fault g c = ends_line_as (g.K.Keeper.failed c.said_answer.new.keeper) (WantsWork c.args.session.now.database c.args.session.now.line (saying_of c.in-Ok.said)) (BytesWantWork c.args.session.now.database c.args.session.now.line c.args.line.now) c.said_answer.result c.args.session.now c.said_answer.new.session
-    (λ work. (saying_of c.in-Ok.said, read_says _ c.args.line.now c.read_line.result c.in-Ok.said c.in-Ok.is c.read_line.ensures.said, work)) c.said_answer.ensures.fault
+returns-in-Ok-clause-fault g c =
+    ends_line_as (g.K.Keeper.failed c.said_answer.new.keeper)
+    (WantsWork c.args.session.now.database c.args.session.now.line (saying_of c.in-Ok.said))
+    (BytesWantWork c.args.session.now.database c.args.session.now.line c.args.line.now)
+    c.said_answer.result c.args.session.now c.said_answer.new.session
+    (λ work. (
+      saying_of c.in-Ok.said,
+      read_says _ c.args.line.now c.read_line.result c.in-Ok.said c.in-Ok.is
+          c.read_line.ensures.said,
+      work,
+    )) c.said_answer.ensures.fault
 
 pub returns-in-Ok-clause-kept : goal.returns-in-Ok-clause-kept
 returns-in-Ok-clause-kept g c = c.said_answer.ensures.kept
 
 pub returns-in-Err-clause-kept : goal.returns-in-Err-clause-kept
-returns-in-Err-clause-kept g c = inl (kept_none (g.K.Keeper.keeps c.args.keeper.now) c.args.session.now.database c.args.session.now.line)
+returns-in-Err-clause-kept g c =
+    inl (kept_none (g.K.Keeper.keeps c.args.keeper.now) c.args.session.now.database
+    c.args.session.now.line)
 
 pub returns-in-Err-clause-fault : goal.returns-in-Err-clause-fault
 returns-in-Err-clause-fault g c = inr tt

@@ -17,20 +17,43 @@ pub kept_answer-requires-clause-crew : goal.kept_answer-requires-clause-crew
 kept_answer-requires-clause-crew g c κs within = c.requires.crew
 
 pub shown-requires : goal.shown-requires
-shown-requires g c = record { closed = c.requires.closed; shows = λ command is. not_step c.args.said.now command c.in_default.not-Step is }
+shown-requires g c = record {
+  closed = c.requires.closed;
+  shows = λ command is. not_step c.args.said.now command c.in_default.not-Step is;
+}
 
 pub returns-in-Step-clause-met : goal.returns-in-Step-clause-met
-returns-in-Step-clause-met g c = step_met (IsDoneAs c.args.workers (g.G.Gate.answers c.args.gate.now) (g.G.Gate.gives c.args.gate.now)) (saying_of c.args.said.now) (command_of c.in-Step.step) c.args.session.now.database c.args.session.now.line c.kept_answer.result c.kept_answer.new.session.line (ap saying_of c.in-Step.is) (c.requires.eventless (command_of c.in-Step.step) (ap saying_of c.in-Step.is)) c.kept_answer.ensures.met
+returns-in-Step-clause-met g c =
+    step_met (IsDoneAs c.args.workers (g.G.Gate.answers c.args.gate.now)
+    (g.G.Gate.gives c.args.gate.now)) (saying_of c.args.said.now) (command_of c.in-Step.step)
+    c.args.session.now.database c.args.session.now.line c.kept_answer.result
+    c.kept_answer.new.session.line (ap saying_of c.in-Step.is)
+    (c.requires.eventless (command_of c.in-Step.step) (ap saying_of c.in-Step.is))
+    c.kept_answer.ensures.met
 
 pub returns-in-Step-clause-may : goal.returns-in-Step-clause-may
-returns-in-Step-clause-may g c = step_may (IsDoneBy c.args.workers (g.G.Gate.answers c.args.gate.now) (g.G.Gate.gives c.args.gate.now)) (saying_of c.args.said.now) (command_of c.in-Step.step) c.args.session.now.database c.args.session.now.line c.kept_answer.new.session.line (ap saying_of c.in-Step.is) (c.requires.eventless (command_of c.in-Step.step) (ap saying_of c.in-Step.is)) c.kept_answer.ensures.may
+returns-in-Step-clause-may g c =
+    step_may (IsDoneBy c.args.workers (g.G.Gate.answers c.args.gate.now)
+    (g.G.Gate.gives c.args.gate.now)) (saying_of c.args.said.now) (command_of c.in-Step.step)
+    c.args.session.now.database c.args.session.now.line c.kept_answer.new.session.line
+    (ap saying_of c.in-Step.is)
+    (c.requires.eventless (command_of c.in-Step.step) (ap saying_of c.in-Step.is))
+    c.kept_answer.ensures.may
 
 pub returns-in-Step-clause-stays : goal.returns-in-Step-clause-stays
 returns-in-Step-clause-stays g c = c.kept_answer.ensures.stays
 
 pub returns-in-Step-clause-fault : goal.returns-in-Step-clause-fault
-returns-in-Step-clause-fault g c = ends_line_as (g.K.Keeper.failed c.kept_answer.new.keeper) (HasWork c.args.session.now.database c.args.session.now.line (with_events (command_of c.in-Step.step) [])) (WantsWork c.args.session.now.database c.args.session.now.line (saying_of c.args.said.now)) c.kept_answer.result c.args.session.now c.kept_answer.new.session
-    (step_wants (saying_of c.args.said.now) (command_of c.in-Step.step) c.args.session.now.database c.args.session.now.line (ap saying_of c.in-Step.is) (c.requires.eventless (command_of c.in-Step.step) (ap saying_of c.in-Step.is))) c.kept_answer.ensures.fault
+returns-in-Step-clause-fault g c =
+    ends_line_as (g.K.Keeper.failed c.kept_answer.new.keeper)
+    (HasWork c.args.session.now.database c.args.session.now.line
+    (with_events (command_of c.in-Step.step) []))
+    (WantsWork c.args.session.now.database c.args.session.now.line (saying_of c.args.said.now))
+    c.kept_answer.result c.args.session.now c.kept_answer.new.session
+    (step_wants (saying_of c.args.said.now) (command_of c.in-Step.step) c.args.session.now.database
+    c.args.session.now.line (ap saying_of c.in-Step.is)
+    (c.requires.eventless (command_of c.in-Step.step) (ap saying_of c.in-Step.is)))
+    c.kept_answer.ensures.fault
 
 pub returns-in-Step-clause-kept : goal.returns-in-Step-clause-kept
 returns-in-Step-clause-kept g c = c.kept_answer.ensures.kept
@@ -43,11 +66,29 @@ returns-in-Step-clause-unaltered g c = c.kept_answer.ensures.unaltered
 
 pub returns-in_default : goal.returns-in_default
 returns-in_default g c = record {
-  met = said_met_on IsEditedAs (IsDoneAs c.args.workers (g.G.Gate.answers c.args.gate.now) (g.G.Gate.gives c.args.gate.now)) c.args.session.now.database c.args.session.now.line (saying_of c.args.said.now) c.shown.result c.args.session.now.line (λ ending command text done. edited_as c.args.workers (g.G.Gate.answers c.args.gate.now) (g.G.Gate.gives c.args.gate.now) ending c.args.session.now.database c.args.session.now.line command text c.args.session.now.line done) c.shown.ensures.met;
-  may = may_stay (IsDoneBy c.args.workers (g.G.Gate.answers c.args.gate.now) (g.G.Gate.gives c.args.gate.now)) c.args.session.now.database c.args.session.now.line (saying_of c.args.said.now);
+  met =
+      said_met_on IsEditedAs
+      (IsDoneAs c.args.workers (g.G.Gate.answers c.args.gate.now) (g.G.Gate.gives c.args.gate.now))
+      c.args.session.now.database c.args.session.now.line (saying_of c.args.said.now) c.shown.result
+      c.args.session.now.line
+      (λ ending command text done. edited_as c.args.workers (g.G.Gate.answers c.args.gate.now)
+      (g.G.Gate.gives c.args.gate.now) ending c.args.session.now.database c.args.session.now.line
+      command text c.args.session.now.line done) c.shown.ensures.met;
+  may =
+      may_stay (IsDoneBy c.args.workers (g.G.Gate.answers c.args.gate.now)
+      (g.G.Gate.gives c.args.gate.now)) c.args.session.now.database c.args.session.now.line
+      (saying_of c.args.said.now);
   stays = (refl, c.requires.closed);
-  fault = ends_line (g.K.Keeper.failed c.args.keeper.now) (WantsWork c.args.session.now.database c.args.session.now.line (saying_of c.args.said.now)) c.shown.result c.args.session.now c.args.session.now (ends_as ⊥ (WantsWork c.args.session.now.database c.args.session.now.line (saying_of c.args.said.now)) c.args.session.now c.args.session.now c.shown.result (λ none. absurd none) c.shown.ensures.fault);
-  kept = line_still c.shown.result g.K.Keeper.fails (g.K.Keeper.keeps c.args.keeper.now) c.args.session.now.database c.args.session.now.line c.args.session.now.line refl;
+  fault =
+      ends_line (g.K.Keeper.failed c.args.keeper.now)
+      (WantsWork c.args.session.now.database c.args.session.now.line (saying_of c.args.said.now))
+      c.shown.result c.args.session.now c.args.session.now
+      (ends_as ⊥ (WantsWork c.args.session.now.database c.args.session.now.line
+      (saying_of c.args.said.now)) c.args.session.now c.args.session.now c.shown.result
+      (λ none. absurd none) c.shown.ensures.fault);
+  kept =
+      line_still c.shown.result g.K.Keeper.fails (g.K.Keeper.keeps c.args.keeper.now)
+      c.args.session.now.database c.args.session.now.line c.args.session.now.line refl;
   unaltered = λ same. refl;
   whole = shown_spoils c.args.session.now c.shown.result c.shown.ensures.fault;
 }

@@ -3,4 +3,5 @@ use Rattle.rc_serve.proofs.Playing.{played}
 use Rattle.rc_serve.proofs.laws.served_lines_are_a_play.Goals as goal
 
 pub returns : goal.returns
-returns _ d here new lines text is_db of served = played IsDone (λ _ _ _ _ _ done. done) d here new lines text is_db of served
+returns _ d here new lines text is_db of served =
+    played IsDone (λ _ _ _ _ _ done. done) d here new lines text is_db of served

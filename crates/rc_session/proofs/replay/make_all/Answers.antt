@@ -11,11 +11,13 @@ returns-then-not-settled-clause-fault c =
 
 pub returns-in-Err-clause-fault : goal.returns-in-Err-clause-fault
 returns-in-Err-clause-fault c =
-    illegal_at c.args.run.now.course c.loop-place.run c.args.events.now c.loop-place.place (Take 0 0)
+    illegal_at c.args.run.now.course c.loop-place.run c.args.events.now
+    c.loop-place.place (Take 0 0)
     c.loop-place.invariant.0 c.loop-place.invariant.1 c.loop-place-test.true c.in-Err.ensures.err
 
 pub loop-place-preserved : goal.loop-place-preserved
 loop-place-preserved c =
-    made_at c.args.run.now.course c.loop-place.run c.step.new.self c.args.events.now c.loop-place.place (Take 0 0)
+    made_at c.args.run.now.course c.loop-place.run c.step.new.self c.args.events.now
+    c.loop-place.place (Take 0 0)
     c.loop-place.invariant.0 c.loop-place.invariant.1 c.loop-place-test.true
     c.in_default.ensures.ok c.in_default.ensures.made

@@ -11,4 +11,6 @@ pub returns-in-Err-clause-begun : goal.returns-in-Err-clause-begun
 returns-in-Err-clause-begun c = tt
 
 pub returns-in-Err-clause-fault : goal.returns-in-Err-clause-fault
-returns-in-Err-clause-fault c = live_fault c.args.db c.args.bytes.now c.in-Err.fault c.from.result c.from.ensures c.in-Err.ensures.fault
+returns-in-Err-clause-fault c =
+    live_fault c.args.db c.args.bytes.now c.in-Err.fault c.from.result c.from.ensures
+    c.in-Err.ensures.fault

@@ -1,4 +1,5 @@
-use Rattle.std.proofs.Common.{◌≡◌, ◌+◌, ◌++◌, ◌∷◌, [], ℕ, List, map, take, drop, get_or, All, Contains, sym, subst, refl}
+use Rattle.std.proofs.Common.{◌≡◌, ◌+◌, ◌++◌, ◌∷◌, [], ℕ, List, map, take, drop, get_or, All}
+use Rattle.std.proofs.Common.{Contains, sym, subst, refl}
 use Rattle.rc_graph.specs.declared.Way.TheVariants.{Raise}
 use Rattle.rc_asked.specs.declared.transitions.Transition.{Transition}
 use Rattle.rc_asked.specs.Listed.{Listed}
@@ -30,10 +31,18 @@ loop-one-preserved c =
     let i : ℕ = c.loop-one.one-index in
     let all : List Listed = map listed_of c.args.listed.now in
     let one : Transition = get_or c.args.listed.now i none in
-    let more : take (i + 1) all ≡ take i all ++ listed_of one ∷ [] = mapped_more listed_of c.args.listed.now i none c.loop-one-test.true in
+    let more : take (i + 1) all ≡ take i all ++ listed_of one ∷ [] =
+    mapped_more listed_of c.args.listed.now i none c.loop-one-test.true in
     record {
-      found = subst (λ (l : List Listed). AreFound c.args.names.now l c.add.new.failing.items) (sym more)
-          (subst (AreFound c.args.names.now (take i all ++ listed_of one ∷ [])) (sym c.in_ok-add-in-Some.ensures)
-          (found_on c.args.names.now (take i all) c.loop-one.failing.items (listed_of one) (c.in-Some.service, one.way) c.loop-one.invariant.found c.in-Some.ensures.found refl));
-      known = subst (λ (l : List Listed). All (λ known. Contains c.args.names.now known.name) l) (sym more) (known_one c.args.names.now (take i all) (listed_of one) c.in-Some.service c.in-Some.ensures.found c.loop-one.invariant.known);
+      found =
+          subst (λ (l : List Listed). AreFound c.args.names.now l c.add.new.failing.items)
+          (sym more)
+          (subst (AreFound c.args.names.now (take i all ++ listed_of one ∷ []))
+          (sym c.in_ok-add-in-Some.ensures)
+          (found_on c.args.names.now (take i all) c.loop-one.failing.items (listed_of one)
+          (c.in-Some.service, one.way) c.loop-one.invariant.found c.in-Some.ensures.found refl));
+      known =
+          subst (λ (l : List Listed). All (λ known. Contains c.args.names.now known.name) l)
+          (sym more) (known_one c.args.names.now (take i all) (listed_of one) c.in-Some.service
+          c.in-Some.ensures.found c.loop-one.invariant.known);
     }

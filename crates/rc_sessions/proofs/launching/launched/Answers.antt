@@ -1,4 +1,5 @@
-use Rattle.std.proofs.Common.{◌≤◌, ℕ, List, [], Bor, None, Some, ap, arith, inl, inr, length, refl, subst, sym}
+use Rattle.std.proofs.Common.{◌≤◌, ℕ, List, [], Bor, None, Some, ap, arith, inl, inr, length, refl}
+use Rattle.std.proofs.Common.{subst, sym}
 use Rattle.std.proofs.lemmas.Result.{IfErr-weaker, IfOk-weaker}
 use Rattle.rc_streams.specs.Noting.{HasFailed, inner_of}
 use Rattle.rc_base.specs.Base.{Spells, bytes_of}
@@ -7,7 +8,8 @@ use Rattle.rc_sessions.specs.Session.{asked_of, dealt}
 use Rattle.rc_sessions.specs.SessionFaults.{IsUnspelled}
 use Rattle.rc_sessions.specs.declared.service.Service.{Service}
 use Rattle.rc_sessions.specs.declared.service.Service.TheVariants.{Lines, Line as OneLine}
-use Rattle.rc_sessions.proofs.LaunchLemmas.{ends_in, reading_ends, runs_in, unread_told, unspelled_ends}
+use Rattle.rc_sessions.proofs.LaunchLemmas.{ends_in, reading_ends, runs_in, unread_told}
+use Rattle.rc_sessions.proofs.LaunchLemmas.{unspelled_ends}
 use Rattle.rc_sessions.proofs.launching.launched.Goals as goal
 
 -- what holds of lines alone does so by another word

@@ -4,7 +4,8 @@ use Rattle.rc_script.specs.Says.{saying_of}
 use Rattle.rc_asked.specs.SessionAsked.{session_ask_of}
 use Rattle.rc_serve.specs.Ending.{IsDoneAs}
 use Rattle.rc_sessions.specs.Storing.{HoldsText, store_of}
-use Rattle.rc_sessions.proofs.OnceLemmas.{fault_with, holds_alone, holds_text, no_events, served_alone, served_kept, stops_met}
+use Rattle.rc_sessions.proofs.OnceLemmas.{fault_with, holds_alone, holds_text, no_events}
+use Rattle.rc_sessions.proofs.OnceLemmas.{served_alone, served_kept, stops_met}
 use Rattle.rc_sessions.proofs.ServingLemmas.{keep_of_file, kept_ok}
 use Rattle.rc_sessions.proofs.one_line.line_once.Goals as goal
 

@@ -6,7 +6,8 @@ use Rattle.rc_asked.specs.declared.once_words.Once.{Once}
 use Rattle.rc_serve.specs.Ending.{IsDoneAs}
 use Rattle.rc_sessions.specs.Once.{ServesOnce, StopsServing}
 use Rattle.rc_sessions.specs.Storing.{store_of}
-use Rattle.rc_sessions.proofs.OnceLemmas.{fault_with, shown_redo, shown_undo, stops_redo, stops_undo}
+use Rattle.rc_sessions.proofs.OnceLemmas.{fault_with, shown_redo, shown_undo, stops_redo}
+use Rattle.rc_sessions.proofs.OnceLemmas.{stops_undo}
 use Rattle.rc_sessions.proofs.one_line.serve_once.Goals as goal
 
 pub returns-in-DryUndo-clause-done : goal.returns-in-DryUndo-clause-done

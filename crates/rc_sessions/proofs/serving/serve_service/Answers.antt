@@ -6,7 +6,8 @@ use Rattle.rc_serve.specs.Ending.{IsDoneAs}
 use Rattle.rc_asked.specs.SessionAsked.{session_ask_of}
 use Rattle.rc_sessions.specs.Services.{done_by}
 use Rattle.rc_sessions.specs.Storing.{HoldsText, store_of}
-use Rattle.rc_sessions.proofs.ServingLemmas.{all_lines, any_ok, front_lines, holds_named, holds_none, kept_ok, lets_all, lets_front, named_some}
+use Rattle.rc_sessions.proofs.ServingLemmas.{all_lines, any_ok, front_lines, holds_named}
+use Rattle.rc_sessions.proofs.ServingLemmas.{holds_none, kept_ok, lets_all, lets_front, named_some}
 use Rattle.rc_sessions.proofs.serving.serve_service.Goals as goal
 
 pub returns-in-None-clause-done : goal.returns-in-None-clause-done

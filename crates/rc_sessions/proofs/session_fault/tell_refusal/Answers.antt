@@ -2,7 +2,8 @@ use Rattle.std.proofs.Common.{inr, refl}
 use Rattle.rc_serve.specs.declared.fault.ServeFault.TheVariants.{Memory}
 use Rattle.rc_sessions.specs.SessionFaults.{IsRefusal, IsToldAs}
 use Rattle.rc_sessions.specs.declared.session_fault.SessionFault.{SessionFault}
-use Rattle.rc_sessions.specs.declared.session_fault.SessionFault.TheVariants.{OfText, Unknown, OfLive, Failed}
+use Rattle.rc_sessions.specs.declared.session_fault.SessionFault.TheVariants.{OfText, Unknown}
+use Rattle.rc_sessions.specs.declared.session_fault.SessionFault.TheVariants.{OfLive, Failed}
 use Rattle.rc_sessions.proofs.session_fault.tell_refusal.Goals as goal
 
 -- a refusal that can't be told is told as out of memory

@@ -9,69 +9,104 @@ use Rattle.rc_source.proofs.Folders.{lists_both}
 use Rattle.rc_source.proofs.entry.joined_at.Goals as goal
 
 pub returns-in_err-add_names_at-clause-fault : goal.returns-in_err-add_names_at-clause-fault
-returns-in_err-add_names_at-clause-fault g c = exit c.from_residual.result c.in_err-add_names_at.field-0.0 _ c.from_residual.ensures.1
+returns-in_err-add_names_at-clause-fault g c =
+    exit c.from_residual.result c.in_err-add_names_at.field-0.0 _ c.from_residual.ensures.1
     (λ no_memory source known. inl (c.in_err-add_names_at.ensures.fault no_memory source known))
 
 pub returns-in_err-add_folder_at-clause-fault : goal.returns-in_err-add_folder_at-clause-fault
-returns-in_err-add_folder_at-clause-fault g c = exit c.from_residual-in_err-add_folder_at.result c.in_err-add_folder_at.field-0.0 _ c.from_residual-in_err-add_folder_at.ensures.1
-    (λ no_memory source known. inr (c.in_ok-add_names_at.ensures.passes source known, inl (c.in_err-add_folder_at.ensures.fault no_memory source (c.in_ok-add_names_at.ensures.asked.same ∙ known))))
+returns-in_err-add_folder_at-clause-fault g c =
+    exit c.from_residual-in_err-add_folder_at.result c.in_err-add_folder_at.field-0.0 _
+    c.from_residual-in_err-add_folder_at.ensures.1
+    (λ no_memory source known. inr (
+      c.in_ok-add_names_at.ensures.passes source known,
+      inl (c.in_err-add_folder_at.ensures.fault no_memory source
+          (c.in_ok-add_names_at.ensures.asked.same ∙ known)),
+    ))
 
 pub returns-in_err-names-clause-fault : goal.returns-in_err-names-clause-fault
-returns-in_err-names-clause-fault g c = exit_memory c.from_residual-in_err-names.result _ c.from_residual-in_err-names.ensures.1
+returns-in_err-names-clause-fault g c =
+    exit_memory c.from_residual-in_err-names.result _ c.from_residual-in_err-names.ensures.1
 
 pub returns-clause-names : goal.returns-clause-names
 returns-clause-names g c = λ source known.
-    lists_both (Contains (given_in (file_at source c.args.entry.now c.args.file.now))) (λ name. Contains (names_next source c.args.entry.now c.args.folder.now) name × (is_hidden name ≡ false))
-    (map string_bytes c.new-set.result.keys) (map string_bytes c.add_names_at.new.set.keys) (map string_bytes c.add_folder_at.new.set.keys) c.in_ok-names.field-0.items
-    (ap (map string_bytes) c.new-set.ensures.empty) c.in_ok-names.ensures.names c.in_ok-names.ensures.order
-    (c.in_ok-add_names_at.ensures.names source known) (c.in_ok-add_folder_at.ensures.names source (c.in_ok-add_names_at.ensures.asked.same ∙ known))
+    lists_both (Contains (given_in (file_at source c.args.entry.now c.args.file.now)))
+    (λ name. Contains (names_next source c.args.entry.now c.args.folder.now) name
+    × (is_hidden name ≡ false))
+    (map string_bytes c.new-set.result.keys) (map string_bytes c.add_names_at.new.set.keys)
+    (map string_bytes c.add_folder_at.new.set.keys) c.in_ok-names.field-0.items
+    (ap (map string_bytes) c.new-set.ensures.empty) c.in_ok-names.ensures.names
+    c.in_ok-names.ensures.order
+    (c.in_ok-add_names_at.ensures.names source known)
+    (c.in_ok-add_folder_at.ensures.names source (c.in_ok-add_names_at.ensures.asked.same ∙ known))
 
 pub returns-clause-passes : goal.returns-clause-passes
-returns-clause-passes g c = λ source known. two_pass source c.args.entry.now (c.args.file.now, Names) (c.args.folder.now, NameEach)
-    (c.in_ok-add_names_at.ensures.passes source known) (c.in_ok-add_folder_at.ensures.passes source (c.in_ok-add_names_at.ensures.asked.same ∙ known))
+returns-clause-passes g c = λ source known. two_pass source c.args.entry.now
+    (c.args.file.now, Names) (c.args.folder.now, NameEach)
+    (c.in_ok-add_names_at.ensures.passes source known)
+    (c.in_ok-add_folder_at.ensures.passes source (c.in_ok-add_names_at.ensures.asked.same ∙ known))
 
 pub returns-in_err-add_names_at-clause-names : goal.returns-in_err-add_names_at-clause-names
-returns-in_err-add_names_at-clause-names g c = no_value c.from_residual.result c.in_err-add_names_at.field-0.0 _ c.from_residual.ensures.1
+returns-in_err-add_names_at-clause-names g c =
+    no_value c.from_residual.result c.in_err-add_names_at.field-0.0 _ c.from_residual.ensures.1
 
 pub returns-in_err-add_names_at-clause-each : goal.returns-in_err-add_names_at-clause-each
-returns-in_err-add_names_at-clause-each g c = no_value c.from_residual.result c.in_err-add_names_at.field-0.0 _ c.from_residual.ensures.1
+returns-in_err-add_names_at-clause-each g c =
+    no_value c.from_residual.result c.in_err-add_names_at.field-0.0 _ c.from_residual.ensures.1
 
 pub returns-in_err-add_names_at-clause-passes : goal.returns-in_err-add_names_at-clause-passes
-returns-in_err-add_names_at-clause-passes g c = no_success c.from_residual.result c.in_err-add_names_at.field-0.0 _ c.from_residual.ensures.1
+returns-in_err-add_names_at-clause-passes g c =
+    no_success c.from_residual.result c.in_err-add_names_at.field-0.0 _ c.from_residual.ensures.1
 
 pub returns-in_err-add_names_at-clause-asked : goal.returns-in_err-add_names_at-clause-asked
-returns-in_err-add_names_at-clause-asked g c = asked_on c.from_residual.result c.in_err-add_names_at.field-0.0 _ _ _ _ c.from_residual.ensures.1 c.in_err-add_names_at.ensures.asked
+returns-in_err-add_names_at-clause-asked g c =
+    asked_on c.from_residual.result c.in_err-add_names_at.field-0.0 _ _ _ _
+    c.from_residual.ensures.1 c.in_err-add_names_at.ensures.asked
 
 pub returns-in_err-add_folder_at-clause-names : goal.returns-in_err-add_folder_at-clause-names
-returns-in_err-add_folder_at-clause-names g c = no_value c.from_residual-in_err-add_folder_at.result c.in_err-add_folder_at.field-0.0 _ c.from_residual-in_err-add_folder_at.ensures.1
+returns-in_err-add_folder_at-clause-names g c =
+    no_value c.from_residual-in_err-add_folder_at.result c.in_err-add_folder_at.field-0.0 _
+    c.from_residual-in_err-add_folder_at.ensures.1
 
 pub returns-in_err-add_folder_at-clause-each : goal.returns-in_err-add_folder_at-clause-each
-returns-in_err-add_folder_at-clause-each g c = no_value c.from_residual-in_err-add_folder_at.result c.in_err-add_folder_at.field-0.0 _ c.from_residual-in_err-add_folder_at.ensures.1
+returns-in_err-add_folder_at-clause-each g c =
+    no_value c.from_residual-in_err-add_folder_at.result c.in_err-add_folder_at.field-0.0 _
+    c.from_residual-in_err-add_folder_at.ensures.1
 
 pub returns-in_err-add_folder_at-clause-passes : goal.returns-in_err-add_folder_at-clause-passes
-returns-in_err-add_folder_at-clause-passes g c = no_success c.from_residual-in_err-add_folder_at.result c.in_err-add_folder_at.field-0.0 _ c.from_residual-in_err-add_folder_at.ensures.1
+returns-in_err-add_folder_at-clause-passes g c =
+    no_success c.from_residual-in_err-add_folder_at.result c.in_err-add_folder_at.field-0.0 _
+    c.from_residual-in_err-add_folder_at.ensures.1
 
 pub returns-in_err-add_folder_at-clause-asked : goal.returns-in_err-add_folder_at-clause-asked
 returns-in_err-add_folder_at-clause-asked g c =
-    asked_then _ _ _ _ _ _ _ c.in_ok-add_names_at.ensures.asked.same c.in_ok-add_names_at.ensures.asked.quiet
-    (asked_on c.from_residual-in_err-add_folder_at.result c.in_err-add_folder_at.field-0.0 _ _ _ _ c.from_residual-in_err-add_folder_at.ensures.1 c.in_err-add_folder_at.ensures.asked)
+    asked_then _ _ _ _ _ _ _ c.in_ok-add_names_at.ensures.asked.same
+    c.in_ok-add_names_at.ensures.asked.quiet
+    (asked_on c.from_residual-in_err-add_folder_at.result c.in_err-add_folder_at.field-0.0 _ _ _ _
+    c.from_residual-in_err-add_folder_at.ensures.1 c.in_err-add_folder_at.ensures.asked)
 
 pub returns-in_err-names-clause-names : goal.returns-in_err-names-clause-names
-returns-in_err-names-clause-names g c = no_value c.from_residual-in_err-names.result _ _ c.from_residual-in_err-names.ensures.1
+returns-in_err-names-clause-names g c =
+    no_value c.from_residual-in_err-names.result _ _ c.from_residual-in_err-names.ensures.1
 
 pub returns-in_err-names-clause-each : goal.returns-in_err-names-clause-each
-returns-in_err-names-clause-each g c = no_value c.from_residual-in_err-names.result _ _ c.from_residual-in_err-names.ensures.1
+returns-in_err-names-clause-each g c =
+    no_value c.from_residual-in_err-names.result _ _ c.from_residual-in_err-names.ensures.1
 
 pub returns-in_err-names-clause-passes : goal.returns-in_err-names-clause-passes
-returns-in_err-names-clause-passes g c = no_success c.from_residual-in_err-names.result _ _ c.from_residual-in_err-names.ensures.1
+returns-in_err-names-clause-passes g c =
+    no_success c.from_residual-in_err-names.result _ _ c.from_residual-in_err-names.ensures.1
 
 pub returns-in_err-names-clause-asked : goal.returns-in_err-names-clause-asked
-returns-in_err-names-clause-asked g c = asked_memory c.from_residual-in_err-names.result _ _ _ _ c.from_residual-in_err-names.ensures.1
-    (c.in_ok-add_folder_at.ensures.asked.same ∙ c.in_ok-add_names_at.ensures.asked.same) (c.in_ok-add_folder_at.ensures.asked.quiet ∙ c.in_ok-add_names_at.ensures.asked.quiet)
+returns-in_err-names-clause-asked g c =
+    asked_memory c.from_residual-in_err-names.result _ _ _ _ c.from_residual-in_err-names.ensures.1
+    (c.in_ok-add_folder_at.ensures.asked.same ∙ c.in_ok-add_names_at.ensures.asked.same)
+    (c.in_ok-add_folder_at.ensures.asked.quiet ∙ c.in_ok-add_names_at.ensures.asked.quiet)
 
 pub returns-clause-each : goal.returns-clause-each
 returns-clause-each g c = c.in_ok-names.ensures.each
 
 pub returns-clause-asked : goal.returns-clause-asked
-returns-clause-asked g c = asked_ok _ _ _ _ _ (c.in_ok-add_folder_at.ensures.asked.same ∙ c.in_ok-add_names_at.ensures.asked.same)
+returns-clause-asked g c =
+    asked_ok _ _ _ _ _
+    (c.in_ok-add_folder_at.ensures.asked.same ∙ c.in_ok-add_names_at.ensures.asked.same)
     (c.in_ok-add_folder_at.ensures.asked.quiet ∙ c.in_ok-add_names_at.ensures.asked.quiet)

@@ -3,4 +3,5 @@ use Rattle.std.specs.Str.Parse.{digits_value, digits_value_after}
 use Rattle.rc_source.proofs.text.number_of.Given as goal
 
 abbrev pub invariant-loop-digit : goal.invariant-loop-digit
-invariant-loop-digit l = digits_value_after 10 l.number (drop l.digit-index l.digits) ≡ digits_value 10 l.digits
+invariant-loop-digit l =
+    digits_value_after 10 l.number (drop l.digit-index l.digits) ≡ digits_value 10 l.digits

@@ -7,7 +7,8 @@ use Rattle.rc_streams.proofs.noted.read_some.Given as goal
 abbrev pub invariant-again : goal.invariant-again
 invariant-again g l = record {
   sound : HasFailed l.reader → HasFailed l.initial.reader;
-  kept : Keeps (g.R.Read.remaining (inner_of l.initial.reader)) (g.R.Read.remaining (inner_of l.reader));
+  kept : Keeps (g.R.Read.remaining (inner_of l.initial.reader))
+      (g.R.Read.remaining (inner_of l.reader));
   long : length l.buffer ≡ length l.initial.buffer;
 }
 

@@ -21,19 +21,23 @@ loop-rest-preserved g c =
 pub returns-in_default-clause-front : goal.returns-in_default-clause-front
 returns-in_default-clause-front g c =
     let inv = c.loop-rest.invariant in
-    AppendsFront-last _ _ _ _ inv.done _ inv.split inv.written (c.in-Ok.count, c.in-Ok.ensures.bytes)
+    AppendsFront-last _ _ _ _ inv.done _ inv.split inv.written
+    (c.in-Ok.count, c.in-Ok.ensures.bytes)
 
 pub returns-in_default-2-clause-front : goal.returns-in_default-2-clause-front
 returns-in_default-2-clause-front g c =
     let inv = c.loop-rest.invariant in
-    AppendsFront-split _ _ _ inv.done _ inv.split (Appends-kept _ _ _ _ inv.written c.in_default.ensures.bytes)
+    AppendsFront-split _ _ _ inv.done _ inv.split
+    (Appends-kept _ _ _ _ inv.written c.in_default.ensures.bytes)
 
 pub returns-in-Ok-flush-clause-front : goal.returns-in-Ok-flush-clause-front
 returns-in-Ok-flush-clause-front g c =
     let inv = c.loop-rest.invariant in
-    AppendsFront-split _ _ _ inv.done _ inv.split (Appends-kept _ _ _ _ inv.written c.in-Ok-flush.ensures.bytes)
+    AppendsFront-split _ _ _ inv.done _ inv.split
+    (Appends-kept _ _ _ _ inv.written c.in-Ok-flush.ensures.bytes)
 
 pub returns-in-Err-clause-front : goal.returns-in-Err-clause-front
 returns-in-Err-clause-front g c =
     let inv = c.loop-rest.invariant in
-    AppendsFront-split _ _ _ inv.done _ inv.split (Appends-kept _ _ _ _ inv.written c.in-Err.ensures.bytes)
+    AppendsFront-split _ _ _ inv.done _ inv.split
+    (Appends-kept _ _ _ _ inv.written c.in-Err.ensures.bytes)

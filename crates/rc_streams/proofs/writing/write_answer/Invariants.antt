@@ -8,7 +8,8 @@ abbrev pub invariant-loop-rest : goal.invariant-loop-rest
 invariant-loop-rest g l = record {
   done : List ℕ;
   split : l.answer ≡ done ++ l.rest;
-  written : Appends (g.W.Write.contents (inner_of l.initial.writer)) (g.W.Write.contents (inner_of l.writer)) done;
+  written : Appends (g.W.Write.contents (inner_of l.initial.writer))
+      (g.W.Write.contents (inner_of l.writer)) done;
   sound : HasFailed l.writer → HasFailed l.initial.writer;
 }
 

@@ -21,7 +21,8 @@ loop-word-preserved c =
     record {
       so_far = c.loop-word.invariant.so_far
           ∙ ap (λ (l : List (List ℕ)). c.loop-word.names.items ++ l) c.in-Some.ensures
-          ∙ sym (append_assoc c.loop-word.names.items (c.in-Some.word.now ∷ []) c.next_word.new.self)
+          ∙ sym (append_assoc c.loop-word.names.items (c.in-Some.word.now ∷ [])
+          c.next_word.new.self)
           ∙ ap (λ (n : List ℕ). (c.loop-word.names.items ++ n ∷ []) ++ c.next_word.new.self)
           (sym found.0)
           ∙ ap (λ (l : List (List ℕ)). l ++ c.next_word.new.self) (sym pushed);

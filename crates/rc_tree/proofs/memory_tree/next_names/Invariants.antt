@@ -5,4 +5,7 @@ use Rattle.rc_tree.specs.Tree.{next_name}
 use Rattle.rc_tree.proofs.memory_tree.next_names.Given as goal
 
 abbrev pub invariant-loop-path : goal.invariant-loop-path
-invariant-loop-path l = map string_bytes l.names.items ++ filter_map (next_name l.beginning) (map string_bytes l.path-iterator) ≡ filter_map (next_name l.beginning) (map string_bytes (keys l.files))
+invariant-loop-path l =
+    map string_bytes l.names.items ++ filter_map (next_name l.beginning)
+    (map string_bytes l.path-iterator) ≡ filter_map (next_name l.beginning)
+    (map string_bytes (keys l.files))

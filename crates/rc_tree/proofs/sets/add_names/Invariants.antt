@@ -2,4 +2,6 @@ use Rattle.std.proofs.Common.{ℕ, List, ◌↔◌, ◌⊎◌, Contains, map, ta
 use Rattle.rc_tree.proofs.sets.add_names.Given as goal
 
 abbrev pub invariant-loop-name : goal.invariant-loop-name
-invariant-loop-name l = (text : List ℕ) → Contains (map string_bytes l.set.keys) text ↔ (Contains (map string_bytes l.initial.set.keys) text ⊎ Contains (take l.name-index l.names) text)
+invariant-loop-name l = (text : List ℕ) → Contains (map string_bytes l.set.keys) text
+    ↔ (Contains (map string_bytes l.initial.set.keys) text
+    ⊎ Contains (take l.name-index l.names) text)

@@ -4,7 +4,9 @@ use Rattle.std.proofs.lemmas.Str.Pattern.{split_once_first}
 use Rattle.rc_tree.proofs.tree.first_part.Goals as goal
 
 pub returns-in-Some : goal.returns-in-Some
-returns-in-Some c = (split_once_first 47 c.args.path.now (Some (c.in-Some.part, c.in-Some.field-0-1)) c.in-Some.ensures.cases (lit< tt)).1
+returns-in-Some c =
+    (split_once_first 47 c.args.path.now (Some (c.in-Some.part, c.in-Some.field-0-1))
+    c.in-Some.ensures.cases (lit< tt)).1
 
 pub returns-in-None : goal.returns-in-None
 returns-in-None c =

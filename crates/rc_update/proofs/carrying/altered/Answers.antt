@@ -11,12 +11,17 @@ use Rattle.rc_update.proofs.carrying.altered.Goals.{then-contains+in_ok-add_alte
 pub loop-id-init : goal.loop-id-init
 loop-id-init c = record {
   bound = c.in_ok-set.ensures.bound ∙ c.len.ensures.len ∙ ap length c.names.ensures.names;
-  members = λ s. (λ has. absurd (c.in_ok-set.ensures.members s has), λ passed. absurd (omega (arith, passed.0)));
+  members = λ s. (
+    λ has. absurd (c.in_ok-set.ensures.members s has),
+    λ passed. absurd (omega (arith, passed.0)),
+  );
   spared = λ s none. absurd (omega arith);
 }
 
 pub contains-requires : goal.contains-requires
-contains-requires c = let long : length c.names-2.result.now ≡ length c.args.old.now.names = ap length c.names-2.ensures.names in omega arith
+contains-requires c =
+    let long : length c.names-2.result.now ≡ length c.args.old.now.names =
+    ap length c.names-2.ensures.names in omega arith
 
 pub add_altered-requires-clause-id : goal.add_altered-requires-clause-id
 add_altered-requires-clause-id c =
@@ -57,11 +62,14 @@ loop-id-preserved c =
 
 pub returns-clause-members : goal.returns-clause-members
 returns-clause-members c =
-    let long : length c.names-2.result.now ≡ length c.args.old.now.names = ap length c.names-2.ensures.names in
-    all_passed (IsAlteredUp c.args.old.now c.args.new.now (conversions_of c.args.list.now) (Has c.args.live.now)) c.loop-id.set c.loop-id.id (length c.args.live.now) (omega arith)
+    let long : length c.names-2.result.now ≡ length c.args.old.now.names =
+    ap length c.names-2.ensures.names in
+    all_passed (IsAlteredUp c.args.old.now c.args.new.now (conversions_of c.args.list.now)
+    (Has c.args.live.now)) c.loop-id.set c.loop-id.id (length c.args.live.now) (omega arith)
     (λ s altered. has_within c.args.live.now s altered.0) c.loop-id.invariant.members
 
 pub returns-clause-spared : goal.returns-clause-spared
 returns-clause-spared c s live lacks =
-    let long : length c.names-2.result.now ≡ length c.args.old.now.names = ap length c.names-2.ensures.names in
+    let long : length c.names-2.result.now ≡ length c.args.old.now.names =
+    ap length c.names-2.ensures.names in
     c.loop-id.invariant.spared s (omega (arith, has_within c.args.live.now s live)) live lacks

@@ -8,6 +8,8 @@ use Rattle.rc_update.proofs.carrying.altered.Given as goal
 abbrev pub invariant-loop-id : goal.invariant-loop-id
 invariant-loop-id l = record {
   bound : length l.set ≡ length l.old.names;
-  members : Holds l.set (λ s. (s < l.id) × IsAlteredUp l.old l.new (conversions_of l.list) (Has l.live) s);
-  spared : (s : ℕ) → s < l.id → Has l.live s → (Has l.set s → ⊥) → IsUnaltered l.old l.new (conversions_of l.list) s;
+  members : Holds l.set
+      (λ s. (s < l.id) × IsAlteredUp l.old l.new (conversions_of l.list) (Has l.live) s);
+  spared : (s : ℕ) → s < l.id → Has l.live s → (Has l.set s → ⊥)
+      → IsUnaltered l.old l.new (conversions_of l.list) s;
 }

@@ -8,5 +8,6 @@ use Rattle.rc_update.proofs.carrying.carried.Given as goal
 abbrev pub invariant-loop-id : goal.invariant-loop-id
 invariant-loop-id l = record {
   bound : length l.carried ≡ length l.new.names;
-  members : Holds l.carried (λ t. (s : ℕ) × (s < l.id) × Has l.set s × IsTwin l.old l.new (conversions_of l.list) s t);
+  members : Holds l.carried
+      (λ t. (s : ℕ) × (s < l.id) × Has l.set s × IsTwin l.old l.new (conversions_of l.list) s t);
 }

@@ -16,7 +16,9 @@ kept-kept-requires-clause-altered c = c.in_ok-altered.ensures.members
 
 pub returns-clause-lower : goal.returns-clause-lower
 returns-clause-lower c =
-    names_hold c.args.old.now c.names.result.now c.in_ok-altered.altered (IsAlteredUp c.args.old.now c.args.new.now (conversions_of c.args.list.now) (Has c.args.live.now)) _
+    names_hold c.args.old.now c.names.result.now c.in_ok-altered.altered
+    (IsAlteredUp c.args.old.now c.args.new.now (conversions_of c.args.list.now)
+    (Has c.args.live.now)) _
     c.names.ensures.names c.in_ok-altered.ensures.members c.in_ok-lower.ensures
 
 pub returns-clause-kept : goal.returns-clause-kept
@@ -27,9 +29,14 @@ returns-clause-bound c = c.in_ok-kept.ensures.bound
 
 pub returns-clause-closed : goal.returns-clause-closed
 returns-clause-closed c =
-    closed_by c.args.new.now.needs c.in_ok-kept.field-0 (Carried c.args.old.now c.args.new.now (conversions_of c.args.list.now) (StaysUp c.args.old.now c.args.new.now (conversions_of c.args.list.now) (Has c.args.live.now))) c.in_ok-kept.ensures.members
-    (kept_closed c.args.old.now c.args.new.now (conversions_of c.args.list.now) (Has c.args.live.now) c.in_ok-kept.ensures.database c.requires.closed
-    (kept_unaltered c.args.old.now c.args.new.now (conversions_of c.args.list.now) c.args.live.now c.in_ok-altered.altered c.in_ok-altered.ensures.members c.in_ok-altered.ensures.spared))
+    closed_by c.args.new.now.needs c.in_ok-kept.field-0
+    (Carried c.args.old.now c.args.new.now (conversions_of c.args.list.now)
+    (StaysUp c.args.old.now c.args.new.now (conversions_of c.args.list.now) (Has c.args.live.now)))
+    c.in_ok-kept.ensures.members
+    (kept_closed c.args.old.now c.args.new.now (conversions_of c.args.list.now)
+    (Has c.args.live.now) c.in_ok-kept.ensures.database c.requires.closed
+    (kept_unaltered c.args.old.now c.args.new.now (conversions_of c.args.list.now) c.args.live.now
+    c.in_ok-altered.altered c.in_ok-altered.ensures.members c.in_ok-altered.ensures.spared))
 
 pub returns-clause-raise : goal.returns-clause-raise
 returns-clause-raise c = c.in_ok-raised.ensures

@@ -12,6 +12,8 @@ names_of-requires c = c.in_ok-there.ensures.bound ∙ sym (ap length c.names.ens
 
 pub returns : goal.returns
 returns c = IfOk-weaker c.names_of.result _ _
-    (λ raise lists. names_hold c.args.new.now c.names.result.now c.in_ok-there.there (Carried c.args.old.now c.args.new.now (conversions_of c.args.list.now) (Has c.args.live.now)) (map string_bytes raise.items)
+    (λ raise lists. names_hold c.args.new.now c.names.result.now c.in_ok-there.there
+    (Carried c.args.old.now c.args.new.now (conversions_of c.args.list.now) (Has c.args.live.now))
+    (map string_bytes raise.items)
     c.names.ensures.names c.in_ok-there.ensures.members lists)
     c.names_of.ensures

@@ -1,4 +1,5 @@
-use Rattle.std.proofs.Common.{◌∙◌, ◌+◌, List, [], Bool, Some, if◌then◌else◌, drop, get_or, ap, false}
+use Rattle.std.proofs.Common.{◌∙◌, ◌+◌, List, [], Bool, Some, if◌then◌else◌, drop, get_or, ap}
+use Rattle.std.proofs.Common.{false}
 use Rattle.std.proofs.Common.{sym, arith}
 use Rattle.std.proofs.lemmas.List.{at_drop_all, at_drop_more}
 use Rattle.rc_update.specs.Conversions.{conversion_for, conversion_of, conversions_of}

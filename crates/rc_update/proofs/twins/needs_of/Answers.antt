@@ -1,4 +1,5 @@
-use Rattle.std.proofs.Common.{◌∙◌, ◌<◌, ℕ, List, [], ap, get_or, length, refl, slice_index_or, arith}
+use Rattle.std.proofs.Common.{◌∙◌, ◌<◌, ℕ, List, [], ap, get_or, length, refl, slice_index_or}
+use Rattle.std.proofs.Common.{arith}
 use Rattle.rc_update.proofs.NeedsLemmas.{needs_low}
 use Rattle.rc_update.proofs.twins.needs_of.Goals as goal
 

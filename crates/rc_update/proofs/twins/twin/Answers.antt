@@ -1,4 +1,5 @@
-use Rattle.std.proofs.Common.{◌≡◌, ◌∙◌, ℕ, List, [], Option, Some, None, IfSome, IfNone, Contains, ap}
+use Rattle.std.proofs.Common.{◌≡◌, ◌∙◌, ℕ, List, [], Option, Some, None, IfSome, IfNone, Contains}
+use Rattle.std.proofs.Common.{ap}
 use Rattle.std.proofs.Common.{slice_get, sym}
 use Rattle.std.proofs.lemmas.Option.{same_Some}
 use Rattle.rc_model.specs.Database.{Database}

@@ -1,4 +1,5 @@
-use Rattle.std.proofs.Common.{◌≡◌, ◌∙◌, ◌≤◌, ◌+◌, ◌*◌, List, length, vec_capacity, ap, sym, subst, arith}
+use Rattle.std.proofs.Common.{◌≡◌, ◌∙◌, ◌≤◌, ◌+◌, ◌*◌, List, length, vec_capacity, ap, sym, subst}
+use Rattle.std.proofs.Common.{arith}
 use Rattle.rc_model.specs.declared.Event.{Event}
 use Rattle.rc_model.specs.Beside.{planned_count}
 use Rattle.rc_board.specs.Sight.{Sight}

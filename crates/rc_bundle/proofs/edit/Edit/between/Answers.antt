@@ -8,7 +8,8 @@ loop-i-init c = rw c.new-changes.ensures.items (walked_none _ _)
 pub loop-i-preserved : goal.loop-i-preserved
 loop-i-preserved c =
     rw (c.place_after-i.ensures, c.place_after-j.ensures)
-    (walked_on _ _ _ _ _ _ _ _ _ c.len-from_len.ensures.table c.len-to_len.ensures.table c.loop-i.invariant c.next_name.ensures c.in-Ok.ensures)
+    (walked_on _ _ _ _ _ _ _ _ _ c.len-from_len.ensures.table c.len-to_len.ensures.table
+    c.loop-i.invariant c.next_name.ensures c.in-Ok.ensures)
 
 pub loop-i-smaller : goal.loop-i-smaller
 loop-i-smaller c =

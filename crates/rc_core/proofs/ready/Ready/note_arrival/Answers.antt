@@ -1,4 +1,5 @@
-use Rattle.std.proofs.Common.{◌≡◌, ℕ, List, inl, inr, true, false, Contains, length, refl, sym, subst}
+use Rattle.std.proofs.Common.{◌≡◌, ℕ, List, inl, inr, true, false, Contains, length, refl, sym}
+use Rattle.std.proofs.Common.{subst}
 use Rattle.rc_model.specs.Names.{Has}
 use Rattle.rc_core.proofs.MoveLemmas.{needs_within, needers_within}
 use Rattle.rc_core.proofs.ready.Ready.note_arrival.Goals as goal

@@ -4,11 +4,13 @@ use Rattle.rc_core.specs.Settled.{RunSoFar}
 use Rattle.rc_core.proofs.Places.{move_is_left, planned_within}
 use Rattle.rc_core.proofs.Readying.{ready_moves}
 use Rattle.rc_core.proofs.run.Run.can_move.Goals as goal
-use Rattle.rc_core.proofs.run.Run.can_move.Goals.{then-service-len-via-then-service-len, then-service-len-via-else-service-len+then-not-contains}
+use Rattle.rc_core.proofs.run.Run.can_move.Goals.{then-service-len-via-then-service-len}
+use Rattle.rc_core.proofs.run.Run.can_move.Goals.{then-service-len-via-else-service-len+then-not-contains}
 
 pub returns-then-service-len : goal.returns-then-service-len
 returns-then-service-len c =
-    subst (λ (r : RunSoFar). IsTrue false ↔ CanMove r.course r.events c.args.service) c.self.view_is (
+    subst (λ (r : RunSoFar). IsTrue false ↔ CanMove r.course r.events c.args.service)
+    c.self.view_is (
       λ yes. absurd (let bad : false ≡ true = yes in cc),
       λ move.
           let left = move_is_left _ _ c.args.service move in

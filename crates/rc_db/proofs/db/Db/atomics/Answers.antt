@@ -12,15 +12,22 @@ use Rattle.rc_db.proofs.db.Db.atomics.Goals as goal
 
 pub returns-clause-ids : goal.returns-clause-ids
 returns-clause-ids c =
-    let In : ℕ → Type 0 = Selected c.args.self.now.names c.args.self.now.table (map string_bytes c.args.names.now) in
-    IfOk-weaker c.ids_of.result (λ ids. Lists (Has c.in_ok-set.set) ids.items) (λ ids. Lists In ids.items)
-    (λ ids. lists_as (Has c.in_ok-set.set) In ids.items c.in_ok-set.ensures.members) c.ids_of.ensures.ids
+    let In : ℕ → Type 0 =
+    Selected c.args.self.now.names c.args.self.now.table (map string_bytes c.args.names.now) in
+    IfOk-weaker c.ids_of.result (λ ids. Lists (Has c.in_ok-set.set) ids.items)
+    (λ ids. Lists In ids.items)
+    (λ ids. lists_as (Has c.in_ok-set.set) In ids.items c.in_ok-set.ensures.members)
+    c.ids_of.ensures.ids
 
 pub returns-clause-known : goal.returns-clause-known
 returns-clause-known c =
-    IfOk-weaker c.ids_of.result _ (λ _. All (IsKnown c.args.self.now.names c.args.self.now.table) (map string_bytes c.args.names.now)) (λ _ _. c.in_ok-set.ensures.known) c.ids_of.ensures.ids
+    IfOk-weaker c.ids_of.result _
+    (λ _. All (IsKnown c.args.self.now.names c.args.self.now.table)
+    (map string_bytes c.args.names.now)) (λ _ _. c.in_ok-set.ensures.known) c.ids_of.ensures.ids
 
 pub returns-clause-fault : goal.returns-clause-fault
 returns-clause-fault c =
-    let Fault : QueryFault → Type 0 = IsNamesFault c.args.self.now.names c.args.self.now.table (map string_bytes c.args.names.now) in
-    IfErr-weaker c.ids_of.result (λ fault. fault ≡ Memory) Fault (λ fault is. subst Fault (sym is) c.in_ok-set.ensures.known) c.ids_of.ensures.fault
+    let Fault : QueryFault → Type 0 =
+    IsNamesFault c.args.self.now.names c.args.self.now.table (map string_bytes c.args.names.now) in
+    IfErr-weaker c.ids_of.result (λ fault. fault ≡ Memory) Fault
+    (λ fault is. subst Fault (sym is) c.in_ok-set.ensures.known) c.ids_of.ensures.fault

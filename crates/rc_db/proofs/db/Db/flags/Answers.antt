@@ -5,7 +5,8 @@ use Rattle.rc_db.proofs.db.Db.flags.Goals as goal
 
 pub service-service-requires : goal.service-service-requires
 service-service-requires c =
-    slice_get_within c.args.self.now.names c.in_ok-service_named.field-0 c.args.name.now c.in_ok-service_named.ensures.service
+    slice_get_within c.args.self.now.names c.in_ok-service_named.field-0 c.args.name.now
+    c.in_ok-service_named.ensures.service
 
 pub returns-clause-flags : goal.returns-clause-flags
 returns-clause-flags c = (

@@ -16,7 +16,11 @@ returns-else-has_bundle-clause-fault c =
     let InTable : Bundles → Type 0 = λ table. Contains (names_of table) c.args.name.now in (
       refl,
       λ known. ⊎_elim
-          (λ in_names. c.in-None.ensures.missing (subst InNames (sym c.names.ensures.names) in_names))
-          (λ in_table. absurd (true≢false (sym (c.has_bundle.ensures.1 (subst InTable (sym c.table.ensures.table) in_table)) ∙ c.if-has_bundle.false)))
+          (λ in_names. c.in-None.ensures.missing
+          (subst InNames (sym c.names.ensures.names) in_names))
+          (λ in_table. absurd
+          (true≢false
+          (sym (c.has_bundle.ensures.1 (subst InTable (sym c.table.ensures.table) in_table))
+          ∙ c.if-has_bundle.false)))
           known,
     )

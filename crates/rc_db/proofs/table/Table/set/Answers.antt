@@ -1,4 +1,5 @@
-use Rattle.std.proofs.Common.{◌≡◌, ◌∙◌, ◌<◌, ⊎_elim, length, insert, get_or, set as put, Some, ap, sym, subst}
+use Rattle.std.proofs.Common.{◌≡◌, ◌∙◌, ◌<◌, ⊎_elim, length, insert, get_or, set as put, Some, ap}
+use Rattle.std.proofs.Common.{sym, subst}
 use Rattle.rc_model.specs.Database.{names_of, value_of}
 use Rattle.rc_model.specs.Line.{IsChangedAt}
 use Rattle.rc_names.specs.Names.{IsGap}

@@ -3,7 +3,8 @@ use Rattle.std.proofs.lemmas.Bool.{false≢true}
 use Rattle.std.specs.String.{string_bytes}
 use Rattle.std.specs.HashMap.{keys, values}
 use Rattle.rc_names.proofs.Inserting.{names_after, IsSorted-from_order, HasGrown}
-use Rattle.rc_names.proofs.Adding.{is_there, is_absent, adds_none, as_long, no_value, no_success, on_refusal, shown_still, same_still}
+use Rattle.rc_names.proofs.Adding.{is_there, is_absent, adds_none, as_long, no_value, no_success}
+use Rattle.rc_names.proofs.Adding.{on_refusal, shown_still, same_still}
 use Rattle.rc_model.specs.Names.{IsInByteOrder, AreNames}
 use Rattle.rc_names.proofs.names.Names.add.Goals as goal
 

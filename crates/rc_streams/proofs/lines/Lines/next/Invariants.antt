@@ -8,8 +8,10 @@ abbrev pub invariant-loop-line : goal.invariant-loop-line
 invariant-loop-line g l = record {
   sound : HasFailed l.reader → ⊥;
   one : IsLine l.line.items;
-  waits : IsOneLine l.initial.self.pending ⊎ ((l.self ≡ l.initial.self) × (l.reader ≡ l.initial.reader));
-  hands : HandsOut (g.R.Read.remaining (inner_of l.initial.reader)) (g.R.Read.remaining (inner_of l.reader)) l.initial.self l.self l.line.items;
+  waits : IsOneLine l.initial.self.pending
+      ⊎ ((l.self ≡ l.initial.self) × (l.reader ≡ l.initial.reader));
+  hands : HandsOut (g.R.Read.remaining (inner_of l.initial.reader))
+      (g.R.Read.remaining (inner_of l.reader)) l.initial.self l.self l.line.items;
 }
 
 abbrev pub decreases-loop-line : goal.decreases-loop-line

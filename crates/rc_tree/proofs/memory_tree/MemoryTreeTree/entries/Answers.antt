@@ -8,13 +8,23 @@ use Rattle.rc_tree.proofs.memory_tree.MemoryTreeTree.entries.Goals as goal
 
 -- equal lists have the same elements
 alike : (a b : List (List ℕ)) → a ≡ b → (name : List ℕ) → Contains a name ↔ Contains b name
-alike a b e name = (λ h. subst (λ l. Contains l name) e h, λ h. subst (λ l. Contains l name) (sym e) h)
+alike a b e name =
+    (λ h. subst (λ l. Contains l name) e h, λ h. subst (λ l. Contains l name) (sym e) h)
 
 pub returns-clause-names : goal.returns-clause-names
 returns-clause-names c =
-    let P : Source → Type 0 = λ source. IsSource source × AreEntries source (map string_bytes c.in_ok-texts.field-0.items) in
+    let P : Source → Type 0 =
+    λ source. IsSource source × AreEntries source (map string_bytes c.in_ok-texts.field-0.items) in
     let files = c.self.inside.files.entries in
-    let ordered = subst IsInByteOrder (sym (names_of-shown string_bytes (λ v. v.items) files)) (IsInByteOrder-from_keys string_bytes (map (λ e. e.0) files) c.len-count.ensures.ordered) in
-    let seen : P (record { entries = map string_bytes c.self.inside.entries.keys; files = shown_files files }) =
-    (record { entries = c.in_ok-texts.ensures.order; files = ordered }, alike _ _ c.in_ok-texts.ensures.texts) in
+    let ordered = subst IsInByteOrder (sym (names_of-shown string_bytes (λ v. v.items) files))
+    (IsInByteOrder-from_keys string_bytes (map (λ e. e.0) files) c.len-count.ensures.ordered) in
+    let seen : P
+    (record {
+      entries = map string_bytes c.self.inside.entries.keys;
+      files =
+          shown_files files;
+    }) = (
+      record { entries = c.in_ok-texts.ensures.order; files = ordered },
+      alike _ _ c.in_ok-texts.ensures.texts,
+    ) in
     of_known P c.args.self.now (subst P c.self.view_is seen)
