@@ -216,7 +216,7 @@ compiled new.pipe
 rm -f pipe.live
 expect 0 'raised first other writer\nok\n' '' '' change writer -b old.pipe -x none -l pipe.live
 expect 0 'ok\nok\n' '' '' update -n -b old.pipe -B old.pipe -l pipe.live
-told='undorc: writer moves: its pipeline is another one\n'
+told='undorc: writer moves: its pipeline changed\n'
 expect 0 'lower writer\nok\nraise writer\nok\n' "$told" '' update -n -b old.pipe -B new.pipe -l pipe.live
 old_tree
 
@@ -337,15 +337,15 @@ rm -r tree/d
 mv tree/d.new tree/d
 compiled new
 fresh
-told='undorc: a moves: its needs are others\nundorc: b moves: it needs a, which moves\n'
-told=$told'undorc: c moves: it needs b, which moves\nundorc: d moves: its kind is another one\n'
+told='undorc: a moves: its dependencies changed\nundorc: b moves: its dependency a moves\n'
+told=$told'undorc: c moves: its dependency b moves\nundorc: d moves: its kind changed\n'
 told=$told'undorc: e moves: it is gone\n'
 update 0 'lower a b c d e\nok\nraise a b c d\nok\n' "$told" -n
 update 0 'lower a b c d e\nok\nraise a b c d\nok\n' '' -n -q
 same 'what update -n with reasons leaves' live.old live
 cp old new
 update 0 'lower c e\nok\nraise c e\nok\n' \
-    'undorc: c moves: it is to be restarted\nundorc: e moves: it is to be restarted\n' -n -R c -R e
+    'undorc: c moves: a restart is requested\nundorc: e moves: a restart is requested\n' -n -R c -R e
 
 # What is refused of conversions: the first line of another form, the first name that stands twice, and then the first
 # name that its database lacks; nothing has moved.
@@ -464,7 +464,7 @@ wrong update
 fresh
 UNDORC_DB=old UNDORC_LIVE=live
 export UNDORC_DB UNDORC_LIVE
-told='undorc: b moves: its needs are others\nundorc: c moves: it needs b, which moves\nundorc: e moves: it is gone\n'
+told='undorc: b moves: its dependencies changed\nundorc: c moves: its dependency b moves\nundorc: e moves: it is gone\n'
 expect 0 'lower b c e\nok\nraise b c\nok\n' "$told" '' update -B new -n
 expect 0 'lowered b c e\nok\nraised b c\nok\n' '' '' update -B new -x none -l live
 wrong update -B new -x none

@@ -51,22 +51,22 @@ class Passage:
         if name not in self.names:
             return b"it is gone"
         if name in self.restarts:
-            return b"it is to be restarted"
+            return b"a restart is requested"
         was, now = self.old.services[name], self.new.services[self.names[name]]
         on = lambda other: self.names.get(other, (other,))
         if was.kind != now.kind:
-            return b"its kind is another one"
+            return b"its kind changed"
         if (was.producer and on(was.producer)) != now.producer:
-            return b"its pipeline is another one"
+            return b"its pipeline changed"
         if {on(need) for need in was.needs} != set(now.needs):
-            return b"its needs are others"
+            return b"its dependencies changed"
         return None
 
     def reasons(self, falls):
         """What is said of each service that goes down."""
         for name in sorted(falls):
             need = min((need for need in self.old.services[name].needs if need in falls), default=b"")
-            why = self.difference(name) or b"it needs %s, which moves" % need
+            why = self.difference(name) or b"its dependency %s moves" % need
             yield b"undorc: %s moves: %s\n" % (name, why)
 
 

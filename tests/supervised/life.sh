@@ -152,7 +152,7 @@ numbers app log slow spare > numbers.before
 echo spare >> services/web/dependencies
 "$program" compile -o new services
 "$folder/manage" update -B "$room/new" -n > out 2> err
-wants 'lower web\nok\nraise web\nok\n' 'undorc: web moves: its needs are others\n'
+wants 'lower web\nok\nraise web\nok\n' 'undorc: web moves: its dependencies changed\n'
 echo 0 > status
 judges 'an update that is shown' 0
 : > err

@@ -10,7 +10,7 @@ use rc_set::Set;
 use rc_streams::messages::{HINT, MESSAGE, Messages};
 use rc_update::{Conversion, Difference, difference_of, staying};
 
-/// The status of what is refused.
+/// The status of a refusal.
 const REFUSED: u8 = 1;
 
 /// Reports why conversions are refused, with the file of the renames, and returns the status.
@@ -20,7 +20,7 @@ pub fn tell_renames(rt: &HostRuntime, path: Option<&str>, fault: &RenameFault<'_
             error!(Messages(rt); target: MESSAGE, "BadLine {line}");
             if let Some(path) = path {
                 info!(Messages(rt); target: HINT,
-                    "{path}:{line}: `OLD -> NEW`, `OLD -> NEW restart` or `NAME restart` is due");
+                    "{path}:{line}: expected `OLD -> NEW`, `OLD -> NEW restart` or `NAME restart`");
             }
             REFUSED
         }
@@ -86,7 +86,7 @@ fn tell_move(rt: &HostRuntime, old: &Db, id: u16, new: &Db, list: &[Conversion<'
         }
         Ok(None) => {
             if let Some(need) = moving_need(old, id, stays) {
-                info!(Messages(rt); target: MESSAGE, "{name} moves: it needs {need}, which moves");
+                info!(Messages(rt); target: MESSAGE, "{name} moves: its dependency {need} moves");
             }
         }
         Err(_) => {}
@@ -97,10 +97,10 @@ fn tell_move(rt: &HostRuntime, old: &Db, id: u16, new: &Db, list: &[Conversion<'
 fn reason_of(difference: Difference) -> &'static str {
     match difference {
         Difference::Gone => "it is gone",
-        Difference::Restart => "it is to be restarted",
-        Difference::OtherKind => "its kind is another one",
-        Difference::OtherPipeline => "its pipeline is another one",
-        Difference::OtherNeeds => "its needs are others",
+        Difference::Restart => "a restart is requested",
+        Difference::OtherKind => "its kind changed",
+        Difference::OtherPipeline => "its pipeline changed",
+        Difference::OtherNeeds => "its dependencies changed",
     }
 }
 

@@ -139,7 +139,7 @@ fn store_in<W: Drop, S: Store>(outputs: Outputs<W, S>) -> S {
     keeper.into_store()
 }
 
-/// What is read whole, as a person at a terminal is told.
+/// The input that is read before the command, as the prompt at a terminal names it.
 fn reads(opened: &Opened<'_>) -> Option<&'static str> {
     if opened.base().is_some() {
         return None;

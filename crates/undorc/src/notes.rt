@@ -1,4 +1,4 @@
-//! What is told of the files beside that of a session.
+//! Messages about the lock and the run log beside the file of a session.
 use log::info;
 use rc_asked::tell_words;
 use rc_console::{tell_failure, tell_file};
