@@ -26,7 +26,7 @@ model:
 crates:
 	@python3 tests/crates.py
 
-# The lists of the man pages that are tables of docs/FORMATS.md.
+# The lists of the man pages that are tables of docs/FORMATS.md and docs/COMMANDS.md.
 pages:
 	@python3 tests/manual.py
 

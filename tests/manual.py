@@ -1,5 +1,5 @@
 #!/usr/bin/env python3
-"""Makes the lists of the man pages that stand as tables in docs/FORMATS.md.
+"""Makes the lists of the man pages that are tables of docs/FORMATS.md and docs/COMMANDS.md.
 
     tests/manual.py            writes them (`make pages`)
     tests/manual.py --check    prints how the pages differ from what would be made (status 1), and writes nothing
@@ -21,6 +21,7 @@ import sys
 
 TOP = pathlib.Path(__file__).resolve().parent.parent
 MADE = re.compile(r'(\.\\" made from docs/FORMATS\.md by make pages: (\w\w), (\w+) of (.*)\n)(?:.*\n)*?(\.\\" end\n)')
+DOCUMENTS = ("FORMATS.md", "COMMANDS.md")
 PLACE = r"[A-Z]+"
 WIDTH = 79
 
@@ -28,7 +29,7 @@ WIDTH = 79
 def tables():
     """The rows of each table below its heading, as lists of cells, by the heading of its section and its first column."""
     found, section, rows = {}, None, None
-    for line in (TOP / "docs" / "FORMATS.md").read_text().splitlines():
+    for line in [it for name in DOCUMENTS for it in (TOP / "docs" / name).read_text().splitlines()]:
         if line.startswith("## "):
             section = line[3:]
         if not line.startswith("| "):

@@ -1,7 +1,7 @@
 #!/bin/sh
 # Compares the man pages and the completion with the program, and the documents with the sources: tests/pages.sh PROGRAM.
-# What must stand there is taken from the help texts of the program, from docs/FORMATS.md, from crates.txt and from the
-# sources. The last line is 'N passed, M failed, K skipped', and the status is 0 where none failed.
+# What must stand there is taken from the help texts of the program, from docs/FORMATS.md and docs/COMMANDS.md, from
+# crates.txt and from the sources. The last line is 'N passed, M failed, K skipped', and the status is 0 where none failed.
 set -eu
 here=$(realpath "$(dirname "$0")")
 program=$(realpath "$1")
@@ -97,7 +97,7 @@ equals 'the queries of docs/FORMATS.md'
 
 # Statuses: of the table of one-shot commands, and of that of `status`.
 for part in 'One-shot commands' 'Where services stand'; do
-    sed -n "/^## $part/,/^## /s/^| \([0-9][0-9]*\) .*/\1/p" "$top/docs/FORMATS.md"
+    sed -n "/^## $part/,/^## /s/^| \([0-9][0-9]*\) .*/\1/p" "$top/docs/COMMANDS.md"
 done > wanted
 section undorc.1 'EXIT STATUS' | sed -n 's/^\.It \([0-9]*\)$/\1/p' > found
 equals 'statuses'
@@ -121,13 +121,19 @@ for page in undorc.1 undorc-sources.5 undorc-live.5 undorc-session.5; do
     holds "the sources, of the diagnostics of $page,"
 done
 
-# What the tables of docs/FORMATS.md list first is in the page that names the section in a
+# What the tables of the two documents list first is in the page that names the section in a
 # comment, and each section with such a table is named by a page.
-sed -n 's/^\.\\" docs\/FORMATS.md: //p' "$pages"/*.[15] > found
-awk '/^## / { name = substr($0, 4) } /^\| `/ { print name }' "$top/docs/FORMATS.md" | sort -u > wanted
+sections() {
+    sed -n 's/^\.\\" \(docs\/[A-Z]*\.md: .*\)/\1/p' "$@"
+}
+sections "$pages"/*.[15] > found
+for document in docs/FORMATS.md docs/COMMANDS.md; do
+    awk -v document="$document" '
+        /^## / { name = substr($0, 4) } /^\| `/ { print document ": " name }' "$top/$document"
+done > wanted
 holds 'comments of man pages'
 for page in "$pages"/*.[15]; do
-    sed -n 's/^\.\\" docs\/FORMATS.md: //p' "$page" > named
+    sections "$page" | sed 's/^[^:]*: //' > named
     awk '
         FNR == NR { named[$0] = 1; next }
         /^## / { inside = (substr($0, 4) in named) }
@@ -137,10 +143,10 @@ for page in "$pages"/*.[15]; do
                 print substr(cells[1], RSTART + 1, RLENGTH - 2)
                 cells[1] = substr(cells[1], RSTART + RLENGTH)
             }
-        }' named "$top/docs/FORMATS.md" |
+        }' named "$top/docs/FORMATS.md" "$top/docs/COMMANDS.md" |
         sed -e 's/\[[^]]*\] *//g' -e 's/^refused //' -e 's/^undorc //' -e 's/ .*//' > wanted
     grep '^\.' "$page" | tr -s ' ' '\n' > found
-    [ ! -s wanted ] || holds "$(basename "$page"), of the tables of docs/FORMATS.md,"
+    [ ! -s wanted ] || holds "$(basename "$page"), of the tables of the documents,"
 done
 
 # Lists of the pages that are made from these tables.
@@ -148,7 +154,7 @@ if python3 "$here/manual.py" --check; then
     passed=$((passed + 1))
 else
     failed=$((failed + 1))
-    echo 'FAILED: lists of the man pages are not those of docs/FORMATS.md: run make pages'
+    echo 'FAILED: lists of the man pages are not those of the documents: run make pages'
 fi
 
 # Words of answers: in the page of sessions.

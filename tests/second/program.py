@@ -1,6 +1,6 @@
 """The whole program: words, standard input and files in; a status, what is written, and files out.
 
-It is written from docs/FORMATS.md and docs/MODEL.md, and shares no code with the program that is proved.
+It is written from docs/FORMATS.md, docs/COMMANDS.md and docs/MODEL.md, and shares no code with the program that is proved.
 It is plain and slow, and reads no wrong command line.
 """
 
