@@ -82,10 +82,10 @@ second() {
     ! built crates/undorc/out/undorc || within 600 sh tests/fuzz.sh 30 "$seed" crates/undorc/out/undorc
 }
 
-# Whether each crate that has edits is proved, as far as the proofs have come.
+# Whether each crate that has mutants is proved, as far as the proofs have come.
 are_proved() {
-    for edits in crates/*/edits; do
-        crate=$(basename "$(dirname "$edits")")
+    for mutants in crates/*/mutants; do
+        crate=$(basename "$(dirname "$mutants")")
         grep -Eqs "rt: $crate (proved|is kept)" "$room"/*/said || return 1
     done
 }
@@ -97,26 +97,26 @@ are_proved() {
     : > "$room/ended"
 } &
 proofs=$!
-# What is proved last is programs, one after the other, so the edits need not wait for them.
+# What is proved last is programs, one after the other, so the mutants need not wait for them.
 until [ -f "$room/ended" ] || are_proved; do
     sleep 2
 done
 # Of some crates the bodies are tried as they are, too: none of them may be refused.
 {
-    within 7200 tests/edits.py
-    within 1800 tests/edits.py --right rc_names rc_textform rc_bundle rc_session
-} > "$room/edits" 2>&1 &
-edits=$!
+    within 7200 tests/mutants.py
+    within 1800 tests/mutants.py --right rc_names rc_textform rc_bundle rc_session
+} > "$room/mutants" 2>&1 &
+mutants=$!
 wait "$proofs"
-# The edits keep the processors busy, and the runs from outside mostly wait, so they go side by side; what
-# they say comes when the edits have been tried. Supervisors are given the machine for themselves, since
+# The mutants keep the processors busy, and the runs from outside mostly wait, so they go side by side; what
+# they say comes when the mutants have been tried. Supervisors are given the machine for themselves, since
 # how soon they answer is what is looked at.
 first > "$room/first" 2>&1 &
 first=$!
 second > "$room/second" 2>&1 &
 second=$!
-wait "$edits"
-cat "$room/edits"
+wait "$mutants"
+cat "$room/mutants"
 wait "$first"
 cat "$room/first"
 wait "$second"

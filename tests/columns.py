@@ -9,7 +9,7 @@ Without a FILE it takes all files of `src`, `specs` and `proofs`. The status is 
 A list of names is split into several `use` lines, the end of a comment goes on below, and code is broken at a space:
 behind `in`, `=` and `↦`, before an arrow or an operator, else between two arguments, outside of brackets first.
 `rattle`, which stands beside `rt`, lays the text out. A line stays if `rattle` refuses the break, or if a mutant in
-`edits` names a part of it. A text is kept only if `words` finds the same words as before, so only white space, the
+`mutants` names a part of it. A text is kept only if `words` finds the same words as before, so only white space, the
 heads of `use` lines and comments, and separators next to a bracket can differ.
 
 Not counted are lines that have no break: an attribute, a `use` line of one name, a string that fits in no line.
@@ -187,8 +187,8 @@ def fits(path, old, new):
 def named(path):
     """What mutants name in a file."""
     crate = next(it for it in path.parents if it.parent.name == "crates")
-    for edit in sorted(crate.glob("edits/*.edit")):
-        text = edit.read_text(encoding="utf-8")
+    for mutant in sorted(crate.glob("mutants/*.edit")):
+        text = mutant.read_text(encoding="utf-8")
         if f"file: {path.relative_to(crate)}\n" in text:
             yield from (it.strip() for it in re.findall(r"^old: (.*)$", text, re.M))
 

@@ -18,7 +18,7 @@ import sys
 import tempfile
 import time
 
-from edits import KIT, TOP, Crates
+from mutants import KIT, TOP, Crates
 
 # What stands behind a function's path in the name of a module: `Lts` is its code with the goals, `Proof` the answers
 # that are searched for.

@@ -18,7 +18,7 @@ look() {
     awk -v gate="$gate" '
         FILENAME ~ /provers$/ {
             for (i = 2; i < NF; i++) if ($i == "--crate-name") crate[$1] = $(i + 1)
-            work[$1] = / --only/ ? "edits" : $3 == "build" && / --backend/ ? "built" : "proof"
+            work[$1] = / --only/ ? "mutants" : $3 == "build" && / --backend/ ? "built" : "proof"
             next
         }
         {
@@ -64,23 +64,23 @@ echo
 echo '| Crate | Code | Specs | Proofs | Proof, s | Building, s | Edits |'
 echo '|---|---|---|---|---|---|---|'
 sed -n 's/^\([a-z][a-z0-9_]*\)[^:#]*:.*/\1/p' crates.txt | while read -r crate; do
-    edits=$(find "crates/$crate/edits" -name '*.edit' 2> /dev/null | wc -l)
-    echo "$crate $(lines "$crate" src '*.rt') $(lines "$crate" specs '*.antt') $(lines "$crate" proofs '*.antt') $edits"
+    mutants=$(find "crates/$crate/mutants" -name '*.edit' 2> /dev/null | wc -l)
+    echo "$crate $(lines "$crate" src '*.rt') $(lines "$crate" specs '*.antt') $(lines "$crate" proofs '*.antt') $mutants"
 done | awk '
     FNR == NR {
         seconds[$1, $2] = $3
-        if ($2 == "edits") tried += $3
+        if ($2 == "mutants") tried += $3
         next
     }
     {
         printf "| `%s` | %d | %d | %d | %.0f | %.0f | %d |\n", $1, $2, $3, $4,
             seconds[$1, "proof"], seconds[$1, "built"], $5
-        code += $2; specs += $3; proofs += $4; edits += $5
+        code += $2; specs += $3; proofs += $4; mutants += $5
         proof += seconds[$1, "proof"]; built += seconds[$1, "built"]
     }
     END {
-        printf "| all | %d | %d | %d | %.0f | %.0f | %d |\n", code, specs, proofs, proof, built, edits
-        printf "\nThe edits, of which crates that do not stand on each other are tried together: %.0f s.\n", tried
+        printf "| all | %d | %d | %d | %.0f | %.0f | %d |\n", code, specs, proofs, proof, built, mutants
+        printf "\nThe mutants, of which crates that do not stand on each other are tried together: %.0f s.\n", tried
     }
 ' "$room/sums" -
 awk '{ printf "\nThe whole: %.0f processor minutes, %.0f minutes by the clock.\n", ($1 + $2) / 60, $3 / 60 }' \

@@ -17,7 +17,7 @@ import subprocess
 import sys
 import tempfile
 
-from edits import KIT, TOP, Copy, Crates, Edit
+from mutants import KIT, TOP, Copy, Crates, Mutant
 from function_times import modules, prover
 
 
@@ -41,10 +41,10 @@ def copy_of(name, function, goals, uses, wanted, room):
     text = answers.read_text() if answers.exists() else "\n".join(uses).replace(f"Rattle.{name}.", f"Rattle.{copy.name}.")
     own = f"Rattle.{copy.name}.proofs."
     for goal in [None, *wanted]:
-        path = copy.takes_beside(Edit(name, "", function, None, [])) if goal else function
+        path = copy.takes_beside(Mutant(name, "", function, None, [])) if goal else function
         if path is None:
             sys.exit(f"goal_times.py: {function} has a proof of its own, or stands in a cycle of calls")
-        copy.edits.append(Edit(name, "", function, None, []))
+        copy.mutants.append(Mutant(name, "", function, None, []))
         copy.functions.append(path)
         holes = "".join(f"\n\npub {it} : goal.{it}\n{it} = ?" for it in goals if it != goal)
         to = copy.folder / "proofs" / path.replace("::", "/") / "Answers.antt"

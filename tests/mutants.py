@@ -1,26 +1,26 @@
 #!/usr/bin/env python3
-"""Tries the edits crates/NAME/edits/*.edit, each of which the prover must refuse.
+"""Tries the mutants crates/NAME/mutants/*.edit, each of which the prover must refuse.
 
-    tests/edits.py [NAME..]
-    tests/edits.py --right [NAME..]
+    tests/mutants.py [NAME..]
+    tests/mutants.py --right [NAME..]
 
 With --right the bodies are tried as they are, in the same way, and none may be refused: so it is seen that
-a goal which an edit names is proved where nothing is wrong. An edit for which it is not names no goal.
+a goal which a mutant names is proved where nothing is wrong. A mutant for which it is not names no goal.
 
-It stands over the libraries that `rt ci` has just proved; those that `rt lib` keeps do too. An edit
+It stands over the libraries that `rt ci` has just proved; those that `rt lib` keeps do too. A mutant
 makes a body wrong. Its lines are 'refuses: FUNCTION', the function whose proof must fail, by its path
 below the crate; 'goal: NAME', the goal of it that is left open, as the run tells it; 'file: src/..'; and
 pairs 'old: TEXT' and 'new: TEXT', of which each old text stands in the file once.
 
 Many are tried in one run of the prover, in copies of their crates with names of their own. A run proves
 the named functions alone: in the copies all others have a hole for a proof, so that they stand for their
-contracts, and no body. A further edit of one function stands beside the first in a function of its own,
+contracts, and no body. A further mutant of one function stands beside the first in a function of its own,
 with the same contract and the same proof files, or, where it changes more than that, in a further copy.
-Of an edited function the goal that the edit names is tried, and no other that has no written answer: by
-what the prover would try of itself, each under a name of its own. So an edit costs one goal, and not all
+Of a mutated function the goal that the mutant names is tried, and no other that has no written answer: by
+what the prover would try of itself, each under a name of its own. So a mutant costs one goal, and not all
 that its function has.
-Where an edit names no goal, or its function says in an attribute how its goals are tried, all are.
-An edit is refused where a goal of its function's own is open, the named one or one with a written
+Where a mutant names no goal, or its function says in an attribute how its goals are tried, all are.
+A mutant is refused where a goal of its function's own is open, the named one or one with a written
 answer. One that is not, as where the named goal is proved or there is none of that name, is tried once
 more by itself, with each proof as it is. A copy that cannot be read is named, with the error, and the
 others go on without it.
@@ -41,19 +41,19 @@ from dataclasses import dataclass, field, replace
 
 TOP = pathlib.Path(__file__).resolve().parent.parent
 KIT = pathlib.Path(subprocess.check_output(["rt", "doc"], text=True).strip()).parent
-# So many edits are tried in one run, which takes up to 5 GB: a run reads all libraries first, so few are cheaper.
-EDITS = 130
+# So many mutants are tried in one run, which takes up to 5 GB: a run reads all libraries first, so few are cheaper.
+MUTANTS = 130
 RUN_BYTES = 5_000_000_000
 # The second of the two ways in which a goal without a written answer is tried.
 BY_GRIND = "by_grind"
-# Errors that only miss a name that the edit took away show nothing of a contract.
+# Errors that only miss a name that the mutant took away show nothing of a contract.
 MISSING = re.compile(
     r"defines no `|has no `|has no field|is not in scope|was not admitted|was rejected"
 )
 
 
 @dataclass
-class Edit:
+class Mutant:
     """What is written in one file: the function that must be refused, and the texts to replace."""
 
     crate: str
@@ -77,8 +77,8 @@ class Edit:
         return any(re.match(r"(pub(\([a-z]+\))? )?(const|static) ", old) for _, old, _ in self.changes)
 
 
-def read_edit(path):
-    """The edit in a file; a ValueError that says why it is none."""
+def read_mutant(path):
+    """The mutant in a file; a ValueError that says why it is none."""
     if path.suffix != ".edit":
         raise ValueError("its name does not end in .edit")
     functions, goals, file, old, changes = [], [], None, None, []
@@ -97,24 +97,24 @@ def read_edit(path):
             changes.append((file, old, text))
             old = None
         else:
-            raise ValueError(f"this is no line of an edit: {line}")
+            raise ValueError(f"this is no line of a mutant: {line}")
     if len(functions) != 1:
         raise ValueError("it has not one line that says what is refused")
     if len(goals) > 1:
         raise ValueError("it has more than one line that says which goal is left open")
     if not changes or old is not None:
         raise ValueError("it has no whole pair of an old and a new text")
-    return Edit(path.parent.parent.name, path.stem, functions[0], goals[0] if goals else None, changes)
+    return Mutant(path.parent.parent.name, path.stem, functions[0], goals[0] if goals else None, changes)
 
 
 @dataclass
 class Copy:
-    """A copy of a crate's texts under a name of its own, with edits, and the function of the copy that each is to fail."""
+    """A copy of a crate's texts under a name of its own, with mutants, and the function of the copy that each is to fail."""
 
     crate: str
     name: str
     folder: pathlib.Path
-    edits: list[Edit] = field(default_factory=list)
+    mutants: list[Mutant] = field(default_factory=list)
     functions: list[str] = field(default_factory=list)
     # Of a function of which one goal alone is tried: the answers by which it is, none where one is written.
     attempts: dict[str, list[str]] = field(default_factory=dict)
@@ -129,46 +129,46 @@ class Copy:
                     to.parent.mkdir(parents=True, exist_ok=True)
                     to.write_text(own.sub(f"Rattle.{self.name}", file.read_text()))
 
-    def takes(self, edit):
-        """Puts the edit in, where it still applies: a further one of a function in a function of its own beside that."""
-        if self.edits and any(it.is_of_constant() for it in [*self.edits, edit]):
+    def takes(self, mutant):
+        """Puts the mutant in, where it still applies: a further one of a function in a function of its own beside that."""
+        if self.mutants and any(it.is_of_constant() for it in [*self.mutants, mutant]):
             return False
-        function = edit.function
-        if any(it.function == function for it in self.edits):
-            function = self.takes_beside(edit)
+        function = mutant.function
+        if any(it.function == function for it in self.mutants):
+            function = self.takes_beside(mutant)
         else:
             try:
-                texts = edit.apply(self.folder)
+                texts = mutant.apply(self.folder)
             except ValueError:
                 return False
             for file, text in texts.items():
                 (self.folder / file).write_text(text)
         if function is None:
             return False
-        self.edits.append(edit)
+        self.mutants.append(mutant)
         self.functions.append(function)
         return True
 
-    def takes_beside(self, edit):
-        """Puts the edit into a function of another name, with the same contract and the same proof files; gives its path."""
-        plain = self.found(edit.function, TOP / "crates" / self.crate)
-        edited = self.found(edit.function, self.folder)
-        proof = self.folder / "proofs" / edit.function.replace("::", "/")
-        if plain is None or edited is None or (proof / "Proof.antt").exists():
+    def takes_beside(self, mutant):
+        """Puts the mutant into a function of another name, with the same contract and the same proof files; gives its path."""
+        plain = self.found(mutant.function, TOP / "crates" / self.crate)
+        mutated = self.found(mutant.function, self.folder)
+        proof = self.folder / "proofs" / mutant.function.replace("::", "/")
+        if plain is None or mutated is None or (proof / "Proof.antt").exists():
             return None
         text = "\n".join(plain.file.read_text().splitlines()[plain.begin : plain.end])
-        for file, old, new in edit.changes:
-            if file != f"src/{edited.file.relative_to(self.folder / 'src')}" or text.count(old) != 1:
+        for file, old, new in mutant.changes:
+            if file != f"src/{mutated.file.relative_to(self.folder / 'src')}" or text.count(old) != 1:
                 return None
             text = text.replace(old, new)
-        path = f"{edit.function}_{1 + sum(it.function == edit.function for it in self.edits)}"
-        old, new = edit.function.split("::")[-1], path.split("::")[-1]
+        path = f"{mutant.function}_{1 + sum(it.function == mutant.function for it in self.mutants)}"
+        old, new = mutant.function.split("::")[-1], path.split("::")[-1]
         text = re.sub(rf"\bfn {old}\b", f"fn {new}", text, count=1)
         text = re.sub(rf"\bRattle\.{self.crate}\b", f"Rattle.{self.name}", text)
-        lines = edited.file.read_text().splitlines()
-        lines[edited.end : edited.end] = ["", *text.splitlines()]
-        edited.file.write_text("\n".join(lines) + "\n")
-        own = f"Rattle.{self.name}.proofs.{edit.function.replace('::', '.')}."
+        lines = mutated.file.read_text().splitlines()
+        lines[mutated.end : mutated.end] = ["", *text.splitlines()]
+        mutated.file.write_text("\n".join(lines) + "\n")
+        own = f"Rattle.{self.name}.proofs.{mutant.function.replace('::', '.')}."
         for file in proof.glob("*.antt"):
             to = self.folder / "proofs" / path.replace("::", "/") / file.name
             to.parent.mkdir(exist_ok=True)
@@ -186,7 +186,7 @@ class Copy:
         return None
 
     def leave_out_others(self):
-        """Gives each function but the edited ones a hole for a proof, and no body: so it calls no others, and costs little."""
+        """Gives each function but the mutated ones a hole for a proof, and no body: so it calls no others, and costs little."""
         for it in reversed([*functions_in(self.folder)]):
             if it.path in self.functions:
                 continue
@@ -209,9 +209,9 @@ class Copy:
 
 
     def leave_out_goals(self):
-        """Has the goal that an edit names tried, and those with a written answer, and no other of its function."""
-        for edit, function in zip(self.edits, self.functions):
-            it = edit.goal and self.found(function, self.folder)
+        """Has the goal that a mutant names tried, and those with a written answer, and no other of its function."""
+        for mutant, function in zip(self.mutants, self.functions):
+            it = mutant.goal and self.found(function, self.folder)
             lines = it.file.read_text().splitlines() if it else []
             # What a function asks for by an attribute of its own, an attempt would lack.
             if not it or any("#[tactic(" in line for line in lines[it.begin : it.end]):
@@ -222,10 +222,10 @@ class Copy:
             answers = self.folder / "proofs" / path / "Answers.antt"
             text = answers.read_text() if answers.exists() else ""
             self.attempts[function] = []
-            if not re.search(rf"^pub {re.escape(edit.goal)} :", text, re.M):
+            if not re.search(rf"^pub {re.escape(mutant.goal)} :", text, re.M):
                 answers.parent.mkdir(parents=True, exist_ok=True)
-                answers.write_text(self.attempts_at(edit.goal, function, text))
-                self.attempts[function] = [edit.goal, BY_GRIND]
+                answers.write_text(self.attempts_at(mutant.goal, function, text))
+                self.attempts[function] = [mutant.goal, BY_GRIND]
 
     def attempts_at(self, goal, function, text):
         """Written answers, and behind them what the prover tries of itself of a goal without one."""
@@ -334,7 +334,7 @@ class Crates:
 
 
 def check(crates, copies, room, has_holes):
-    """What the prover says of the edited functions of these copies."""
+    """What the prover says of the mutated functions of these copies."""
     root = room / "root"
     (root / "src").mkdir(parents=True, exist_ok=True)
     (root / "src" / "lib.rt").write_text("//! Nothing: what is tried stands in its libraries.\n")
@@ -384,7 +384,7 @@ def own_errors(copy, function, said):
 
 
 class Trial:
-    """The edits of some crates, and how each was answered; with the right bodies, none may be refused."""
+    """The mutants of some crates, and how each was answered; with the right bodies, none may be refused."""
 
     def __init__(self, names, room, is_right):
         self.crates = Crates()
@@ -395,14 +395,14 @@ class Trial:
         self.numbers = itertools.count()
         for name in names:
             missing = [it for it in self.crates.below(name) if not self.crates.lib(it).is_dir()]
-            for path in sorted((TOP / "crates" / name / "edits").iterdir()):
+            for path in sorted((TOP / "crates" / name / "mutants").iterdir()):
                 if missing:
                     self.fail(name, path.stem, f"there is no proved library of {missing[0]}: run rt ci, or rt all check")
                     continue
                 try:
-                    edit = read_edit(path)
-                    edit.apply(TOP / "crates" / name)
-                    self.place(replace(edit, changes=[]) if is_right else edit)
+                    mutant = read_mutant(path)
+                    mutant.apply(TOP / "crates" / name)
+                    self.place(replace(mutant, changes=[]) if is_right else mutant)
                 except ValueError as why:
                     self.fail(name, path.stem, why)
 
@@ -413,12 +413,12 @@ class Trial:
         copy.make()
         return copy
 
-    def place(self, edit):
-        """Puts the edit into the first copy of its crate that takes it, or into a new one."""
-        if any(it.crate == edit.crate and it.takes(edit) for it in self.copies):
+    def place(self, mutant):
+        """Puts the mutant into the first copy of its crate that takes it, or into a new one."""
+        if any(it.crate == mutant.crate and it.takes(mutant) for it in self.copies):
             return
-        copy = self.new_copy(edit.crate)
-        if not copy.takes(edit):
+        copy = self.new_copy(mutant.crate)
+        if not copy.takes(mutant):
             raise ValueError("it does not apply where the crate names itself")
         self.copies.append(copy)
 
@@ -429,31 +429,31 @@ class Trial:
         print(f"{crate}/{name}: FAILED: {' '.join(str(why).split()[:25])}", flush=True)
         self.failed += 1
 
-    def refused(self, edit, goal):
+    def refused(self, mutant, goal):
         goal = " ".join(goal.split()[:25])
         if self.is_right:
-            self.fail(edit.crate, edit.name, f"{edit.function} is refused as it is: {goal}")
+            self.fail(mutant.crate, mutant.name, f"{mutant.function} is refused as it is: {goal}")
             return
-        print(f"{edit.crate}/{edit.name}: refused, as it must be: {edit.function}: {goal}", flush=True)
+        print(f"{mutant.crate}/{mutant.name}: refused, as it must be: {mutant.function}: {goal}", flush=True)
         self.passed += 1
 
     def try_together(self, copies):
-        """One run with these copies; gives the edits that were not refused."""
+        """One run with these copies; gives the mutants that were not refused."""
         number = next(self.numbers)
         said = check(self.crates, copies, self.room / f"run_{number}", True)
         left = []
         for copy in copies:
-            for edit, function in zip(copy.edits, copy.functions):
-                is_open, what = open_goal(copy, function, said, edit.goal)
+            for mutant, function in zip(copy.mutants, copy.functions):
+                is_open, what = open_goal(copy, function, said, mutant.goal)
                 if is_open:
-                    self.refused(edit, what)
+                    self.refused(mutant, what)
                 elif verdict_of(copy, function, said) is not None or len(copies) == 1:
                     if not self.is_right:
-                        self.tell(f"{edit.crate}/{edit.name}: is tried once more alone: {what}")
+                        self.tell(f"{mutant.crate}/{mutant.name}: is tried once more alone: {what}")
                     elif verdict_of(copy, function, said) is None:
-                        self.fail(edit.crate, edit.name, what)
+                        self.fail(mutant.crate, mutant.name, what)
                         continue
-                    left.append(edit)
+                    left.append(mutant)
         silent = [it for it in copies if all(verdict_of(it, function, said) is None for function in it.functions)]
         if not silent or len(copies) == 1:
             return left
@@ -469,29 +469,29 @@ class Trial:
             left += self.try_together(part) if part else []
         return left
 
-    def try_alone(self, edit, number):
-        """The edit by itself, with each proof as it is."""
-        name = f"{edit.crate}_alone_{number}"
-        copy = Copy(edit.crate, name, self.room / name)
+    def try_alone(self, mutant, number):
+        """The mutant by itself, with each proof as it is."""
+        name = f"{mutant.crate}_alone_{number}"
+        copy = Copy(mutant.crate, name, self.room / name)
         copy.make()
-        copy.takes(edit)
+        copy.takes(mutant)
         said = check(self.crates, [copy], self.room / f"alone_{number}", False)
-        is_open, what = open_goal(copy, edit.function, said, edit.goal)
+        is_open, what = open_goal(copy, mutant.function, said, mutant.goal)
         if is_open:
-            self.refused(edit, what)
+            self.refused(mutant, what)
         else:
-            self.fail(edit.crate, edit.name, what)
+            self.fail(mutant.crate, mutant.name, what)
 
     def batches(self, lanes):
         """The copies by runs: as few as may be, but as many for each lane, each with crates that stand on much the same."""
         order = [*self.crates.uses]
         copies = sorted(self.copies, key=lambda it: order.index(it.crate))
-        total = sum(len(it.edits) for it in copies)
-        count = min(len(copies), -(-total // (EDITS * lanes)) * lanes)
+        total = sum(len(it.mutants) for it in copies)
+        count = min(len(copies), -(-total // (MUTANTS * lanes)) * lanes)
         batches, done = [[] for _ in range(count)], 0
         for copy in copies:
             batches[done * count // total].append(copy)
-            done += len(copy.edits)
+            done += len(copy.mutants)
         return [it for it in reversed(batches) if it]
 
     def run(self, lanes):
@@ -499,7 +499,7 @@ class Trial:
             copy.leave_out_others()
             copy.leave_out_goals()
         with ThreadPoolExecutor(lanes) as pool:
-            left = [edit for some in pool.map(self.try_together, self.batches(lanes)) for edit in some]
+            left = [mutant for some in pool.map(self.try_together, self.batches(lanes)) for mutant in some]
             if self.is_right:
                 self.passed += len(left)
             else:
@@ -517,7 +517,7 @@ def lanes():
 def main():
     is_right = sys.argv[1:2] == ["--right"]
     names = sys.argv[1 + is_right :] or sorted(it.name for it in (TOP / "crates").iterdir())
-    names = [it for it in names if (TOP / "crates" / it / "edits").is_dir()]
+    names = [it for it in names if (TOP / "crates" / it / "mutants").is_dir()]
     room = pathlib.Path(tempfile.mkdtemp())
     try:
         trial = Trial(names, room, is_right)
@@ -525,7 +525,7 @@ def main():
     finally:
         shutil.rmtree(room)
     if trial.passed + trial.failed == 0:
-        print("FAILED: there is no edit to try")
+        print("FAILED: there is no mutant to try")
         trial.failed = 1
     print(f"{trial.passed} passed, {trial.failed} failed")
     return 1 if trial.failed else 0
