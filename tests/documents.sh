@@ -9,12 +9,12 @@ grep -v -E '^(samples|scenarios)' crates > product
 
 # firsts_of FILE: the names of crates in the first cells of its tables.
 firsts_of() {
-    sed -n 's/^| \(`[^|]*\) |.*/\1/p' "$1" | grep -o '`[a-z_]*`' | tr -d '`' | grep -E '^(rc_[a-z]*|undorc)$'
+    sed -n 's/^| \(`[^|]*\) |.*/\1/p' "$1" | grep -o '`[a-z_]*`' | tr -d '`' | grep -E '^((rc|cmd)_[a-z]*|undorc)$'
 }
 
 echo documents
 cp product wanted
-awk '/^```/ { if (inside) exit; inside = 1; next } inside && $1 ~ /^(rc_|undorc)/ { print $1 }' \
+awk '/^```/ { if (inside) exit; inside = 1; next } inside && $1 ~ /^(rc_|cmd_|undorc)/ { print $1 }' \
     "$top/docs/ARCHITECTURE.md" > found
 equals 'the tree of docs/ARCHITECTURE.md'
 cp testing wanted
@@ -28,7 +28,7 @@ equals 'the crates of docs/PROOF.md'
 while read -r crate; do
     [ ! -d "$top/crates/$crate/specs" ] || echo "$crate"
 done < product > wanted
-grep -o '`rc_[a-z]*`' "$top/docs/MODEL.md" | tr -d '`' > found
+grep -o -E '`(rc|cmd)_[a-z]*`' "$top/docs/MODEL.md" | tr -d '`' > found
 holds 'docs/MODEL.md'
 cp found wanted
 cp product found
@@ -137,7 +137,7 @@ awk '
     /^## / {
         count = 0
         text = $0
-        while (match(text, /`rc_[a-z]*`/)) {
+        while (match(text, /`(rc|cmd)_[a-z]*`/)) {
             heads[++count] = substr(text, RSTART + 1, RLENGTH - 2)
             text = substr(text, RSTART + RLENGTH)
         }
@@ -156,7 +156,7 @@ awk '
             word = substr(text, i + 1)
             word = substr(word, 1, index(word, "`") - 1)
             i += length(word) + 1
-            if (word ~ /^rc_[a-z]*$/) crate = word
+            if (word ~ /^(rc|cmd)_[a-z]*$/) crate = word
             else if (word ~ /^specs\//) { module = substr(word, 7); stands(module) }
             else look(word)
         }
