@@ -18,12 +18,12 @@ use Rattle.rc_session.specs.Holding.{Holding}
 use Rattle.rc_runner.specs.Gates.{gate_answers, gate_gives}
 use Rattle.rc_runner.specs.declared.session_gate.SessionGate.{SessionGate}
 use Rattle.rc_serve.specs.Ending.{EndsIn, IsDoneAs}
-use Rattle.rc_asked.specs.NamedAsked.{NamedAsk}
-use Rattle.rc_sessions.specs.Filing.{BeginsBy, file_named}
-use Rattle.rc_sessions.specs.Gating.{IsGateFor}
-use Rattle.rc_sessions.specs.Serving.{session_on}
-use Rattle.rc_sessions.specs.declared.keeping.LiveFile.{LiveFile}
-use Rattle.rc_sessions.proofs.LaunchLemmas.{past_gate}
+use Rattle.rc_args.specs.NamedAsked.{NamedAsk}
+use Rattle.cmd_session.specs.Filing.{BeginsBy, file_named}
+use Rattle.cmd_session.specs.Gating.{IsGateFor}
+use Rattle.cmd_session.specs.Serving.{session_on}
+use Rattle.cmd_session.specs.declared.keeping.LiveFile.{LiveFile}
+use Rattle.cmd_session.proofs.LaunchLemmas.{past_gate}
 use Rattle.rc_cli.specs.Restarting.{RunsFrom, WentDown}
 use Rattle.rc_cli.specs.Updating.{step_ask}
 use Rattle.rc_cli.proofs.SparingLemmas.{wanted_back, wanted_in}

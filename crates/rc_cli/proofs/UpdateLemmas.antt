@@ -18,24 +18,24 @@ use Rattle.rc_serve.specs.declared.ending.Ending.{Ending}
 use Rattle.rc_serve.specs.declared.ending.Ending.TheVariants.{Done, Refused, Hindered}
 use Rattle.rc_serve.specs.declared.fault.ServeFault.{ServeFault}
 use Rattle.rc_serve.specs.Ending.{EndsIn, IsDoneAs}
-use Rattle.rc_asked.specs.Listed.{Listed}
-use Rattle.rc_asked.specs.OnceAsked.{HasNoEvents, OnceSaying, Said}
-use Rattle.rc_asked.specs.Programs.{MakingAsk}
-use Rattle.rc_sessions.specs.Filing.{BeginsBy, file_named}
-use Rattle.rc_sessions.specs.Gating.{IsGateFor, IsGateless}
-use Rattle.rc_sessions.specs.Once.{ServesOnce, StopsServing}
-use Rattle.rc_sessions.specs.Services.{IsDoneFor}
-use Rattle.rc_sessions.specs.Serving.{session_on}
-use Rattle.rc_sessions.specs.SessionFaults.{IsFileFault}
-use Rattle.rc_sessions.specs.declared.keeping.LiveFile.{LiveFile}
-use Rattle.rc_sessions.specs.declared.session_fault.SessionFault.{SessionFault}
-use Rattle.rc_sessions.specs.declared.session_fault.SessionFault.TheVariants.{OfText, Unknown}
-use Rattle.rc_sessions.specs.declared.session_fault.SessionFault.TheVariants.{OfLive, Failed}
-use Rattle.rc_sessions.proofs.LaunchLemmas.{past_found, past_gate}
+use Rattle.rc_args.specs.Listed.{Listed}
+use Rattle.rc_args.specs.OnceAsked.{HasNoEvents, OnceSaying, Said}
+use Rattle.rc_args.specs.Programs.{MakingAsk}
+use Rattle.cmd_session.specs.Filing.{BeginsBy, file_named}
+use Rattle.cmd_session.specs.Gating.{IsGateFor, IsGateless}
+use Rattle.cmd_session.specs.Once.{ServesOnce, StopsServing}
+use Rattle.cmd_session.specs.Services.{IsDoneFor}
+use Rattle.cmd_session.specs.Serving.{session_on}
+use Rattle.cmd_session.specs.SessionFaults.{IsFileFault}
+use Rattle.cmd_session.specs.declared.keeping.LiveFile.{LiveFile}
+use Rattle.cmd_session.specs.declared.session_fault.SessionFault.{SessionFault}
+use Rattle.cmd_session.specs.declared.session_fault.SessionFault.TheVariants.{OfText, Unknown}
+use Rattle.cmd_session.specs.declared.session_fault.SessionFault.TheVariants.{OfLive, Failed}
+use Rattle.cmd_session.proofs.LaunchLemmas.{past_found, past_gate}
 use Rattle.rc_update.specs.Conversions.{Conversion, conversions_of}
 use Rattle.rc_update.specs.Knowing.{AreKnown, IsFirstStranger}
 use Rattle.rc_update.specs.declared.conversion.Conversion.{Conversion as Given}
-use Rattle.rc_asked.specs.UpdateAsked.{UpdateAsk}
+use Rattle.rc_args.specs.UpdateAsked.{UpdateAsk}
 use Rattle.rc_cli.specs.Updating.{AreDoneFor, EndsBoth, EndsUpdate, IsUpdate, Parts, ServesBoth}
 use Rattle.rc_cli.specs.Updating.{carried_line, ending_behind, listed_by, listed_on, lowering}
 use Rattle.rc_cli.specs.Updating.{making_on, raising, session_with, step_by}

@@ -7,12 +7,12 @@ use Rattle.rc_model.specs.Plan.{PlanSets}
 use Rattle.rc_model.specs.Session.{Command, IsTask}
 use Rattle.rc_model.specs.declared.Kind.TheVariants.{Longrun}
 use Rattle.rc_script.specs.Says.{SaysStep}
-use Rattle.rc_asked.specs.OnceAsked.{OnceSaying, Said}
-use Rattle.rc_asked.specs.Programs.{ByPrograms, ByTable, MakingAsk}
-use Rattle.rc_asked.specs.SessionAsked.{SessionAsk}
-use Rattle.rc_base.specs.Base.{Spells}
-use Rattle.rc_sessions.specs.Filing.{BeginsBy, file_named}
-use Rattle.rc_sessions.specs.declared.keeping.LiveFile.{LiveFile}
+use Rattle.rc_args.specs.OnceAsked.{OnceSaying, Said}
+use Rattle.rc_args.specs.Programs.{ByPrograms, ByTable, MakingAsk}
+use Rattle.rc_args.specs.SessionAsked.{SessionAsk}
+use Rattle.rc_input.specs.Base.{Spells}
+use Rattle.cmd_session.specs.Filing.{BeginsBy, file_named}
+use Rattle.cmd_session.specs.declared.keeping.LiveFile.{LiveFile}
 
 -- programs are started, and none is named that controls longruns
 abbrev pub LacksControllerBy : MakingAsk → Type 0

@@ -10,18 +10,18 @@ use Rattle.rc_serve.specs.declared.ending.Ending.TheVariants.{Done, Refused, Hin
 use Rattle.rc_serve.specs.declared.fault.ServeFault.{ServeFault}
 use Rattle.rc_serve.specs.Ending.{EndsIn}
 use Rattle.rc_serve.specs.Faults.{IsServeFault}
-use Rattle.rc_asked.specs.NamedAsked.{NamedAsk}
-use Rattle.rc_asked.specs.OnceAsked.{OnceSaying}
-use Rattle.rc_base.specs.Base.{Spells}
+use Rattle.rc_args.specs.NamedAsked.{NamedAsk}
+use Rattle.rc_args.specs.OnceAsked.{OnceSaying}
+use Rattle.rc_input.specs.Base.{Spells}
 use Rattle.rc_update.specs.Carrying.{AreNamesOf}
-use Rattle.rc_sessions.specs.Filing.{BeginsBy, CannotKeep, file_named}
-use Rattle.rc_sessions.specs.Once.{ServesOnce, StopsServing}
-use Rattle.rc_sessions.specs.Services.{IsDoneFor}
-use Rattle.rc_sessions.specs.Serving.{session_on}
-use Rattle.rc_sessions.specs.SessionFaults.{EndsAs, IsUnready, IsUnspelled}
-use Rattle.rc_sessions.specs.declared.keeping.LiveFile.{LiveFile}
-use Rattle.rc_sessions.specs.declared.session_fault.SessionFault.{SessionFault}
-use Rattle.rc_sessions.specs.declared.session_fault.SessionFault.TheVariants.{Failed}
+use Rattle.cmd_session.specs.Filing.{BeginsBy, CannotKeep, file_named}
+use Rattle.cmd_session.specs.Once.{ServesOnce, StopsServing}
+use Rattle.cmd_session.specs.Services.{IsDoneFor}
+use Rattle.cmd_session.specs.Serving.{session_on}
+use Rattle.cmd_session.specs.SessionFaults.{EndsAs, IsUnready, IsUnspelled}
+use Rattle.cmd_session.specs.declared.keeping.LiveFile.{LiveFile}
+use Rattle.cmd_session.specs.declared.session_fault.SessionFault.{SessionFault}
+use Rattle.cmd_session.specs.declared.session_fault.SessionFault.TheVariants.{Failed}
 use Rattle.rc_cli.specs.Updating.{ending_behind, lowering, raising}
 use Rattle.rc_cli.specs.UpdateEnds.{IsShort}
 

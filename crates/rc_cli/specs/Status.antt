@@ -16,16 +16,16 @@ use Rattle.rc_model.specs.Run.{after_event, is_success}
 use Rattle.rc_render.specs.Lines.{line}
 use Rattle.rc_render.specs.RefusalText.{refusal_text}
 use Rattle.rc_recovery.specs.Logged.{AreLogged}
-use Rattle.rc_base.specs.Base.{Spells}
+use Rattle.rc_input.specs.Base.{Spells}
 use Rattle.rc_streams.specs.Input.{AppendsFront}
 use Rattle.rc_serve.specs.declared.fault.ServeFault.TheVariants.{Memory, Write}
-use Rattle.rc_asked.specs.NamedAsked.{NamedAsk}
-use Rattle.rc_sessions.specs.Filing.{BeginsBy, file_named}
-use Rattle.rc_sessions.specs.SessionFaults.{IsFileFault, IsTold, IsUnspelled}
-use Rattle.rc_sessions.specs.declared.keeping.LiveFile.{LiveFile}
-use Rattle.rc_sessions.specs.declared.keeping.LiveFile.TheVariants as file
-use Rattle.rc_sessions.specs.declared.session_fault.SessionFault.{SessionFault}
-use Rattle.rc_sessions.specs.declared.session_fault.SessionFault.TheVariants.{Failed}
+use Rattle.rc_args.specs.NamedAsked.{NamedAsk}
+use Rattle.cmd_session.specs.Filing.{BeginsBy, file_named}
+use Rattle.cmd_session.specs.SessionFaults.{IsFileFault, IsTold, IsUnspelled}
+use Rattle.cmd_session.specs.declared.keeping.LiveFile.{LiveFile}
+use Rattle.cmd_session.specs.declared.keeping.LiveFile.TheVariants as file
+use Rattle.cmd_session.specs.declared.session_fault.SessionFault.{SessionFault}
+use Rattle.cmd_session.specs.declared.session_fault.SessionFault.TheVariants.{Failed}
 use Rattle.rc_cli.specs.declared.status.Shown.{Shown}
 use Rattle.rc_cli.specs.declared.status.Shown.TheVariants as shown
 

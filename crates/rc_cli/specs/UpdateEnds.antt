@@ -11,22 +11,22 @@ use Rattle.rc_serve.specs.declared.fault.ServeFault.{ServeFault}
 use Rattle.rc_serve.specs.declared.fault.ServeFault.TheVariants.{Memory}
 use Rattle.rc_serve.specs.Ending.{EndsIn}
 use Rattle.rc_serve.specs.Faults.{IsServeFault}
-use Rattle.rc_asked.specs.OnceAsked.{OnceSaying}
-use Rattle.rc_asked.specs.Programs.{MakingAsk, listed_in}
-use Rattle.rc_asked.specs.SessionAsked.{SessionAsk}
-use Rattle.rc_asked.specs.UpdateAsked.{UpdateAsk}
+use Rattle.rc_args.specs.OnceAsked.{OnceSaying}
+use Rattle.rc_args.specs.Programs.{MakingAsk, listed_in}
+use Rattle.rc_args.specs.SessionAsked.{SessionAsk}
+use Rattle.rc_args.specs.UpdateAsked.{UpdateAsk}
 use Rattle.rc_update.specs.Conversions.{Conversion}
 use Rattle.rc_update.specs.Knowing.{AreKnown, IsFirstStranger}
-use Rattle.rc_base.specs.Base.{Spells}
-use Rattle.rc_sessions.specs.Filing.{BeginsBy, CannotKeep, FailsToBegin, IsFileRefused, file_named}
-use Rattle.rc_sessions.specs.Finding.{IsFirstUnknown}
-use Rattle.rc_sessions.specs.Once.{ServesOnce, StopsServing}
-use Rattle.rc_sessions.specs.Serving.{session_on}
-use Rattle.rc_sessions.specs.SessionFaults.{AreAllFound, EndsAs, IsUnspelled}
-use Rattle.rc_sessions.specs.declared.keeping.LiveFile.{LiveFile}
-use Rattle.rc_sessions.specs.declared.session_fault.SessionFault.{SessionFault}
-use Rattle.rc_sessions.specs.declared.session_fault.SessionFault.TheVariants.{OfText, Unknown}
-use Rattle.rc_sessions.specs.declared.session_fault.SessionFault.TheVariants.{OfLive, Failed}
+use Rattle.rc_input.specs.Base.{Spells}
+use Rattle.cmd_session.specs.Filing.{BeginsBy, CannotKeep, FailsToBegin, IsFileRefused, file_named}
+use Rattle.cmd_session.specs.Finding.{IsFirstUnknown}
+use Rattle.cmd_session.specs.Once.{ServesOnce, StopsServing}
+use Rattle.cmd_session.specs.Serving.{session_on}
+use Rattle.cmd_session.specs.SessionFaults.{AreAllFound, EndsAs, IsUnspelled}
+use Rattle.cmd_session.specs.declared.keeping.LiveFile.{LiveFile}
+use Rattle.cmd_session.specs.declared.session_fault.SessionFault.{SessionFault}
+use Rattle.cmd_session.specs.declared.session_fault.SessionFault.TheVariants.{OfText, Unknown}
+use Rattle.cmd_session.specs.declared.session_fault.SessionFault.TheVariants.{OfLive, Failed}
 use Rattle.rc_cli.specs.Updating.{AreDoneFor, EndsUpdate, IsUpdate, Parts, lowering, making_on}
 use Rattle.rc_cli.specs.Updating.{raising, session_with}
 

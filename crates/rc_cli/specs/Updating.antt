@@ -17,12 +17,12 @@ use Rattle.rc_script.specs.Says.{Saying, SaysDry, SaysStep}
 use Rattle.rc_serve.specs.declared.ending.Ending.{Ending}
 use Rattle.rc_serve.specs.declared.ending.Ending.TheVariants.{Done, Refused, Hindered}
 use Rattle.rc_serve.specs.Ending.{EndsIn}
-use Rattle.rc_asked.specs.Listed.{Listed}
-use Rattle.rc_asked.specs.OnceAsked.{OnceSaying, Said}
-use Rattle.rc_asked.specs.Programs.{ByPrograms, ByTable, MakingAsk}
-use Rattle.rc_sessions.specs.Once.{ServesOnce}
-use Rattle.rc_sessions.specs.Services.{IsDoneFor}
-use Rattle.rc_sessions.specs.Serving.{session_on}
+use Rattle.rc_args.specs.Listed.{Listed}
+use Rattle.rc_args.specs.OnceAsked.{OnceSaying, Said}
+use Rattle.rc_args.specs.Programs.{ByPrograms, ByTable, MakingAsk}
+use Rattle.cmd_session.specs.Once.{ServesOnce}
+use Rattle.cmd_session.specs.Services.{IsDoneFor}
+use Rattle.cmd_session.specs.Serving.{session_on}
 use Rattle.rc_update.specs.Carrying.{AreNamesOf, Carried, IsAlteredUp, StaysUp}
 use Rattle.rc_update.specs.Conversions.{Conversion}
 use Rattle.rc_update.specs.declared.carrying.Update.{Update}

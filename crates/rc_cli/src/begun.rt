@@ -1,7 +1,7 @@
 //! Whether a command that was cut short is the first step of an update.
 ghost use Rattle.std.specs.Prelude.{◌≡◌, ◌≢◌, ◌++◌, ◌∷◌, ◌↔◌, [], ℕ, List, All, IsTrue, IfOk};
 ghost use Rattle.std.specs.Prelude.{IfNone, IfSome, MatchOption, Some, map, string_bytes};
-ghost use Rattle.rc_base.specs.Base.{Spells};
+ghost use Rattle.rc_input.specs.Base.{Spells};
 ghost use Rattle.rc_model.specs.Database.{Database};
 ghost use Rattle.rc_model.specs.Line.{Line};
 ghost use Rattle.rc_model.specs.declared.Mode.TheVariants.{DownAll};
@@ -14,7 +14,7 @@ ghost use Rattle.rc_cli.specs.Begun.{AreLowered, BeginsOn, BeginsUpdate, SaysLow
 ghost use Rattle.rc_cli.specs.Updating.{step_ask};
 
 use memchr::memchr;
-use rc_base::database_of;
+use rc_input::database_of;
 use rc_db::Db;
 use rc_dbtext::{TextFault, laws as text_laws};
 use rc_livetext::{LiveFault, laws as live_laws, read_live};

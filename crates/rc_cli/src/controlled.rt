@@ -1,8 +1,8 @@
 //! Whether a command would move a longrun that no program controls.
 ghost use Rattle.std.specs.Prelude.{◌≡◌, ◌<◌, Some, false, length, slice_get, string_bytes, IfSome};
 ghost use Rattle.std.specs.Prelude.{IsTrue};
-ghost use Rattle.rc_asked.specs.OnceAsked.{once_saying_of};
-ghost use Rattle.rc_asked.specs.SessionAsked.{session_ask_of};
+ghost use Rattle.rc_args.specs.OnceAsked.{once_saying_of};
+ghost use Rattle.rc_args.specs.SessionAsked.{session_ask_of};
 ghost use Rattle.rc_model.specs.Database.{IsKind};
 ghost use Rattle.rc_model.specs.Headline.{HasRun};
 ghost use Rattle.rc_model.specs.Names.{Has};
@@ -11,13 +11,13 @@ ghost use Rattle.rc_session.specs.Commands.{command_of};
 ghost use Rattle.rc_cli.specs.Controlled.{IsLongrunOf, LacksController, MovesLongrun};
 ghost use Rattle.rc_cli.specs.Controlled.{MovesLongrunOn};
 
-use rc_asked::{Making, Once, SessionRequest};
+use rc_args::{Making, Once, SessionRequest};
 use rc_db::Db;
 use rc_names::Kind;
 use rc_script::SessionLine;
 use rc_select::Plan;
 use rc_session::{Session, Step};
-use rc_sessions::{LiveFile, begin, spelled};
+use cmd_session::{LiveFile, begin, spelled};
 use rc_set::Set;
 use std::alloc::Global;
 

@@ -6,11 +6,11 @@ ghost use Rattle.rc_serve.specs.Ending.{IsDoneAs};
 ghost use Rattle.rc_serve.specs.Faults.{IsServeFault};
 ghost use Rattle.rc_streams.specs.Noting.{HasFailed, inner_of};
 ghost use Rattle.rc_script.specs.Says.{saying_of};
-ghost use Rattle.rc_asked.specs.NamedAsked.{named_ask_of};
-ghost use Rattle.rc_asked.specs.OnceAsked.{HasNoEvents, Said};
-ghost use Rattle.rc_asked.specs.SessionAsked.{session_ask_of};
-ghost use Rattle.rc_sessions.specs.Filing.{CannotKeep};
-ghost use Rattle.rc_sessions.specs.Storing.{store_of};
+ghost use Rattle.rc_args.specs.NamedAsked.{named_ask_of};
+ghost use Rattle.rc_args.specs.OnceAsked.{HasNoEvents, Said};
+ghost use Rattle.rc_args.specs.SessionAsked.{session_ask_of};
+ghost use Rattle.cmd_session.specs.Filing.{CannotKeep};
+ghost use Rattle.cmd_session.specs.Storing.{store_of};
 ghost use Rattle.rc_cli.specs.Controlled.{LacksController, MovesLongrun};
 ghost use Rattle.rc_cli.specs.Restarting.{AnswersRestart, EndsRestart, EndsRestartOn, FailsRestart};
 ghost use Rattle.rc_cli.specs.Restarting.{Restarts};
@@ -22,14 +22,14 @@ ghost use Rattle.rc_cli.specs.Updating.{lowering};
 use crate::controlled::uncontrolled;
 use crate::updating::step_line;
 use log::Log;
-use rc_asked::{NamedRequest, Once, SessionRequest};
+use rc_args::{NamedRequest, Once, SessionRequest};
 use rc_board::Gate;
 use rc_db::Db;
 use rc_script::SessionLine;
 use rc_select::Mode;
 use rc_serve::{Ending, ServeFault};
 use rc_session::Session;
-use rc_sessions::{
+use cmd_session::{
     Devices, Host, LiveFile, Outputs, SessionFault, Store, begin, gate_for, line_once, spelled,
     tell_ended,
 };

@@ -1,17 +1,17 @@
 //! `update`: what is live is carried over from one database to another.
 ghost use Rattle.std.specs.Prelude.{◌≡◌, IfErr, IfOk};
 ghost use Rattle.rc_streams.specs.Noting.{HasFailed, inner_of};
-ghost use Rattle.rc_asked.specs.SessionAsked.{session_ask_of};
-ghost use Rattle.rc_asked.specs.UpdateAsked.{update_ask_of};
-ghost use Rattle.rc_sessions.specs.Filing.{CannotKeep};
-ghost use Rattle.rc_sessions.specs.Storing.{store_of};
+ghost use Rattle.rc_args.specs.SessionAsked.{session_ask_of};
+ghost use Rattle.rc_args.specs.UpdateAsked.{update_ask_of};
+ghost use Rattle.cmd_session.specs.Filing.{CannotKeep};
+ghost use Rattle.cmd_session.specs.Storing.{store_of};
 ghost use Rattle.rc_cli.specs.UpdateEnds.{AnswersUpdate, EndsUpdateBy, Updates};
 
 use crate::updating::update_on;
 use log::Log;
-use rc_asked::UpdateRequest;
+use rc_args::UpdateRequest;
 use rc_serve::Ending;
-use rc_sessions::{Devices, Host, LiveFile, Outputs, SessionFault, Store, spelled, tell_ended};
+use cmd_session::{Devices, Host, LiveFile, Outputs, SessionFault, Store, spelled, tell_ended};
 use std::io::Write;
 use std::sync::Wait;
 use std::thread::Threads;

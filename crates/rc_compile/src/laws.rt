@@ -4,9 +4,9 @@ ghost use Rattle.std.specs.Prelude.{◌≡◌, ℕ, List, Contains};
 ghost use Rattle.rc_source.specs.Meaning.{Meaning};
 ghost use Rattle.rc_model.specs.Database.{Database, IsDatabase};
 ghost use Rattle.rc_compile.specs.declared.CompileFault.{CompileFault};
-ghost use Rattle.rc_holds.specs.Along.{IsShownCycle};
-ghost use Rattle.rc_holds.specs.Pipelines.{IsDefined, IsService, IsLongrun, WritesTo, InPipelineOf};
-ghost use Rattle.rc_holds.specs.Standing.{HoldsName, StandsFor, NeedsNamed};
+ghost use Rattle.rc_members.specs.Along.{IsShownCycle};
+ghost use Rattle.rc_members.specs.Pipelines.{IsDefined, IsService, IsLongrun, WritesTo, InPipelineOf};
+ghost use Rattle.rc_members.specs.Standing.{HoldsName, StandsFor, NeedsNamed};
 ghost use Rattle.rc_compile.specs.Compiled.{IsDatabaseOf};
 ghost use Rattle.rc_compile.specs.CompileFaults.{HaveNoFlaw, IsCompileFault};
 

@@ -2,8 +2,8 @@
 ghost use Rattle.std.specs.Prelude.{map, IfOk, IfErr, OnOk};
 ghost use Rattle.rc_source.specs.Meaning.{AreMeanings};
 ghost use Rattle.rc_source.specs.Said.{meaning_of};
-ghost use Rattle.rc_holds.specs.Standing.{HasContent};
-ghost use Rattle.rc_holds.specs.Mirror.{Mirrors};
+ghost use Rattle.rc_members.specs.Standing.{HasContent};
+ghost use Rattle.rc_members.specs.Mirror.{Mirrors};
 ghost use Rattle.rc_compile.specs.Book.{IsBook};
 ghost use Rattle.rc_compile.specs.CompileFaults.{AreFreeBefore, BundleCycle, Cycle, HaveFlaw};
 ghost use Rattle.rc_compile.specs.CompileFaults.{IsCompileFault, TooMany, Unknown};
@@ -13,7 +13,7 @@ use crate::book::Book;
 use crate::flaws::entry_flaws;
 use crate::scan::{test_entries, test_unknown};
 use rc_graph::Graph;
-use rc_holds::{CycleFault, bundle_graph};
+use rc_members::{CycleFault, bundle_graph};
 use rc_source::Definition;
 use std::alloc::Global;
 

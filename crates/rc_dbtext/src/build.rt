@@ -6,17 +6,17 @@ ghost use Rattle.std.specs.List.{AllZip};
 ghost use Rattle.std.specs.Option.{option_map};
 ghost use Rattle.rc_model.specs.Names.{AreNames, IsInByteOrder};
 ghost use Rattle.rc_model.specs.Graph.{Needs};
-ghost use Rattle.rc_dbform.specs.Text.{IsHead, IsServiceText};
+ghost use Rattle.rc_dbsyntax.specs.Text.{IsHead, IsServiceText};
 ghost use Rattle.rc_graph.specs.Cycle.{IsCycle};
 ghost use Rattle.rc_dbtext.specs.Meaning.{service_names};
 ghost use Rattle.rc_dbtext.specs.Parts.{AreNeedsOf, FeedsKnown, IsNamed, IsServiceOf};
 ghost use Rattle.rc_dbtext.specs.Spelling.{head_of};
 
 use rc_db::{NoMem, Service};
-use rc_dbform::{BodyForm, Head, ServiceForm};
+use rc_dbsyntax::{BodyForm, Head, ServiceForm};
 use rc_graph::{Draft, Graph, GraphFault};
 use rc_names::Names;
-use rc_textform::NameWord;
+use rc_lexer::NameWord;
 use std::alloc::{AllocError, Global};
 
 /// The table of the names of services, which ascend.

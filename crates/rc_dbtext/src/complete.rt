@@ -3,9 +3,9 @@ ghost use Rattle.std.specs.Prelude.{◌≡◌, ◌↔◌, All, Contains, IsTrue}
 ghost use Rattle.rc_dbtext.specs.Meaning.{FeedsWell, IsComplete, IsLongrunName, service_names};
 ghost use Rattle.rc_dbtext.specs.Parts.{AreBundlesComplete, AreKnown, IsApart, IsKnown};
 
-use rc_dbform::{BodyForm, BundleForm, DbForm, ServiceForm};
+use rc_dbsyntax::{BodyForm, BundleForm, DbForm, ServiceForm};
 use rc_names::{Kind, Names};
-use rc_textform::NameWord;
+use rc_lexer::NameWord;
 
 /// Whether each member is a service, what is fed is a longrun that is needed, and no bundle has the
 /// name of a service, where each need is a service.

@@ -1,17 +1,17 @@
 -- What was read is what a command is carried out on.
 use Rattle.std.proofs.Common.{◌≡◌, ℕ, List, Option, option_map, subst}
-use Rattle.rc_asked.specs.NamedAsked.{named_ask_of}
-use Rattle.rc_asked.specs.SessionAsked.{session_ask_of}
-use Rattle.rc_asked.specs.UpdateAsked.{update_ask_of}
-use Rattle.rc_asked.specs.declared.named_words.NamedRequest.{NamedRequest}
-use Rattle.rc_asked.specs.declared.once_words.OnceRequest.{OnceRequest}
-use Rattle.rc_asked.specs.declared.update_words.UpdateRequest.{UpdateRequest}
+use Rattle.rc_args.specs.NamedAsked.{named_ask_of}
+use Rattle.rc_args.specs.SessionAsked.{session_ask_of}
+use Rattle.rc_args.specs.UpdateAsked.{update_ask_of}
+use Rattle.rc_args.specs.declared.named_words.NamedRequest.{NamedRequest}
+use Rattle.rc_args.specs.declared.once_words.OnceRequest.{OnceRequest}
+use Rattle.rc_args.specs.declared.update_words.UpdateRequest.{UpdateRequest}
 use Rattle.rc_cli.specs.Status.{TellsStatus}
 use Rattle.rc_cli.specs.UpdateEnds.{Updates}
-use Rattle.rc_sessions.specs.Launching.{Launches}
-use Rattle.rc_sessions.specs.Session.{Dealing, asked_with}
-use Rattle.rc_sessions.specs.declared.keeping.LiveFile.{LiveFile}
-use Rattle.rc_sessions.specs.declared.service.Service.{Service}
+use Rattle.cmd_session.specs.Launching.{Launches}
+use Rattle.cmd_session.specs.Session.{Dealing, asked_with}
+use Rattle.cmd_session.specs.declared.keeping.LiveFile.{LiveFile}
+use Rattle.cmd_session.specs.declared.service.Service.{Service}
 use Rattle.rc_launch.specs.Serving.{Carries, IsLineOf}
 use Rattle.rc_launch.specs.Works.{bytes_in}
 use Rattle.rc_launch.specs.declared.loading.Loaded.TheVariants as loaded

@@ -2,24 +2,24 @@
 use Rattle.std.specs.Prelude.{◌≡◌, ℕ, List, [], Option, Some, false}
 use Rattle.std.specs.Prelude.{option_map, IfOk, OnErr}
 use Rattle.std.specs.Prelude.{Result}
-use Rattle.rc_asked.specs.NamedAsked.{named_ask_of}
-use Rattle.rc_asked.specs.OnceAsked.{once_saying_of}
-use Rattle.rc_asked.specs.SessionAsked.{session_ask_of}
-use Rattle.rc_asked.specs.UpdateAsked.{update_ask_of}
-use Rattle.rc_asked.specs.declared.once_words.OnceRequest.{OnceRequest}
+use Rattle.rc_args.specs.NamedAsked.{named_ask_of}
+use Rattle.rc_args.specs.OnceAsked.{once_saying_of}
+use Rattle.rc_args.specs.SessionAsked.{session_ask_of}
+use Rattle.rc_args.specs.UpdateAsked.{update_ask_of}
+use Rattle.rc_args.specs.declared.once_words.OnceRequest.{OnceRequest}
 use Rattle.rc_cli.specs.Controlled.{LacksController, MovesLongrun}
 use Rattle.rc_cli.specs.Restarting.{Restarts}
 use Rattle.rc_cli.specs.Sealing.{SealsAs}
 use Rattle.rc_cli.specs.Status.{TellsStatus}
 use Rattle.rc_cli.specs.UpdateEnds.{Updates}
 use Rattle.rc_cli.specs.Updating.{lowering}
-use Rattle.rc_sessions.specs.Deciding.{IsFound}
-use Rattle.rc_sessions.specs.Filing.{IsUnread}
-use Rattle.rc_sessions.specs.Launching.{Launches}
-use Rattle.rc_sessions.specs.Session.{Dealing, asked_with}
-use Rattle.rc_sessions.specs.declared.keeping.LiveFile.{LiveFile}
-use Rattle.rc_sessions.specs.declared.service.Service.{Service}
-use Rattle.rc_sessions.specs.declared.service.Service.TheVariants.{Lines, Line as OneLine}
+use Rattle.cmd_session.specs.Deciding.{IsFound}
+use Rattle.cmd_session.specs.Filing.{IsUnread}
+use Rattle.cmd_session.specs.Launching.{Launches}
+use Rattle.cmd_session.specs.Session.{Dealing, asked_with}
+use Rattle.cmd_session.specs.declared.keeping.LiveFile.{LiveFile}
+use Rattle.cmd_session.specs.declared.service.Service.{Service}
+use Rattle.cmd_session.specs.declared.service.Service.TheVariants.{Lines, Line as OneLine}
 use Rattle.rc_launch.specs.declared.loading.Loaded.{Loaded}
 use Rattle.rc_launch.specs.declared.loading.Loaded.TheVariants as loaded
 use Rattle.rc_launch.specs.declared.opened.Note.{Note}

@@ -2,10 +2,10 @@
 use Rattle.std.specs.Prelude.{◌≡◌, ◌≢◌, ℕ, List, Option, None, Some, false}
 use Rattle.std.specs.Prelude.{option_map}
 use Rattle.std.specs.Borrow.{Bor}
-use Rattle.rc_asked.specs.OnceAsked.{HasNoEvents, once_ask_of, once_saying_of}
-use Rattle.rc_asked.specs.UpdateAsked.{update_ask_of}
-use Rattle.rc_asked.specs.declared.session_request.SessionRequest.{SessionRequest}
-use Rattle.rc_sessions.specs.Deciding.{Moves}
+use Rattle.rc_args.specs.OnceAsked.{HasNoEvents, once_ask_of, once_saying_of}
+use Rattle.rc_args.specs.UpdateAsked.{update_ask_of}
+use Rattle.rc_args.specs.declared.session_request.SessionRequest.{SessionRequest}
+use Rattle.cmd_session.specs.Deciding.{Moves}
 use Rattle.rc_launch.specs.declared.loading.Loaded.{Loaded}
 use Rattle.rc_launch.specs.declared.loading.Loaded.TheVariants as loaded
 use Rattle.rc_launch.specs.declared.texts.FileText.{FileText}

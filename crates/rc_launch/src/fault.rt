@@ -1,5 +1,5 @@
 //! Why the files of a command are not opened.
-use rc_asked::WordsFault;
+use rc_args::WordsFault;
 use std::io;
 use thiserror::Error;
 

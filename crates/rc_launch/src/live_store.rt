@@ -5,9 +5,9 @@ ghost use Rattle.rc_launch.specs.Opening.{LocksFor};
 
 use crate::texts::LiveText;
 use crate::tried_lock::TriedLock;
-use rc_asked::Making;
+use rc_args::Making;
 use rc_serve::KeepFault;
-use rc_sessions::{KeptText, RunFiles, Store, keep_fault};
+use cmd_session::{KeptText, RunFiles, Store, keep_fault};
 use rc_streams::live_lock::LockFault;
 use rc_streams::replaced_file::{probe, replace};
 use std::io;

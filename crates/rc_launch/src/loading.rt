@@ -7,7 +7,7 @@ ghost use Rattle.rc_launch.specs.declared.work.Work.TheVariants.{Update};
 use crate::fault::OpenFault;
 use crate::texts::FileText;
 use crate::work::Work;
-use rc_asked::{NamedRequest, OnceRequest, SessionRequest, UpdateRequest, WordsFault};
+use rc_args::{NamedRequest, OnceRequest, SessionRequest, UpdateRequest, WordsFault};
 
 /// A command on the file of a session, with the databases that it names.
 #[derive(Drop)]

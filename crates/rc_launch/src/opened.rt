@@ -4,8 +4,8 @@ ghost use Rattle.rc_launch.specs.Works.{session_in};
 
 use crate::loading::Loaded;
 use crate::texts::{FileText, LiveText, LogText};
-use rc_asked::{Once, SessionRequest, UpdateRequest};
-use rc_sessions::RunFiles;
+use rc_args::{Once, SessionRequest, UpdateRequest};
+use cmd_session::RunFiles;
 
 /// What was found beside the file of a session.
 #[derive(Drop)]

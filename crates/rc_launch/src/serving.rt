@@ -1,11 +1,11 @@
 //! A command is carried out on its files.
 ghost use Rattle.std.specs.Prelude.{◌≡◌, IfSome, option_map, string_bytes};
 ghost use Rattle.rc_streams.specs.Noting.{HasFailed};
-ghost use Rattle.rc_sessions.specs.Session.{dealt};
-ghost use Rattle.rc_sessions.specs.Storing.{store_of};
+ghost use Rattle.cmd_session.specs.Session.{dealt};
+ghost use Rattle.cmd_session.specs.Storing.{store_of};
 ghost use Rattle.rc_launch.specs.Serving.{Carries, IsReadAs, LacksItsControllerBy, logged_of};
 ghost use Rattle.rc_launch.specs.Works.{IsEventless, bytes_in};
-ghost use Rattle.rc_sessions.specs.declared.keeping.LiveFile.{LiveFile};
+ghost use Rattle.cmd_session.specs.declared.keeping.LiveFile.{LiveFile};
 
 use crate::loading::Loaded;
 use crate::opened::{Note, Opened};
@@ -15,7 +15,7 @@ use rc_cli::{
     restart_as_asked, seal_as_asked, status_as_asked, uncontrolled, uncontrolled_restart,
     update_as_asked,
 };
-use rc_sessions::{Devices, Host, LiveFile, Service, Store, launch, live_file, log_for};
+use cmd_session::{Devices, Host, LiveFile, Service, Store, launch, live_file, log_for};
 use std::io::{Read, Write};
 use std::sync::Wait;
 use std::thread::Threads;

@@ -2,7 +2,7 @@
 ghost use Rattle.std.specs.Prelude.{◌≡◌, ◌↔◌, IsTrue};
 
 use rc_names::Names;
-use rc_textform::NameWord;
+use rc_lexer::NameWord;
 
 /// Whether these are the names of the services, in their order.
 pub(crate) fn are_services(texts: &[NameWord<'_>], names: &Names) -> bool

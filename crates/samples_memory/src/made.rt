@@ -6,7 +6,7 @@ ghost use Rattle.std.specs.Prelude.{◌≡◌, length};
 use crate::told::go_on_to;
 use rc_core::{Event, Outcome};
 use rc_db::Db;
-use rc_dbform::{FormFault, read_form};
+use rc_dbsyntax::{FormFault, read_form};
 use rc_dbtext::{
     TextFault, known_set, push_bundle, push_line, push_set, push_word, read_db, read_db_front,
     write_db,
@@ -16,7 +16,7 @@ use rc_recovery::{with_ends, with_stop};
 use rc_script::{texts_of, words_of};
 use rc_set::NoMem;
 use rc_streams::{Failure, Lines, Noted, read_all};
-use rc_textform::{ascend, names_of};
+use rc_lexer::{ascend, names_of};
 use samples::{LOG, NET, is_same};
 use std::alloc::{AllocError, AllocGlobal, Global};
 use std::io::Print;
@@ -120,7 +120,7 @@ fn is_read_back(rt: &(impl Print + AllocGlobal), db: &Db) -> Result<bool, NoMem>
     text.push(b'\n')?;
     go_on_to(rt, "read_db_front");
     let is_front = is_at_front(rt.alloc(), &text, long, db)?;
-    go_on_to(rt, "rc_dbform::read_form");
+    go_on_to(rt, "rc_dbsyntax::read_form");
     let is_form = is_form(rt.alloc(), &text)?;
     Ok(is_whole && is_front && is_form)
 }
@@ -187,7 +187,7 @@ fn is_first_line(next: Result<Option<(Vec<u8>, bool)>, Failure>) -> Result<bool,
 
 /// Whether the words of a line are two names, the first of which is copied, and those of services.
 fn are_names(rt: &(impl Print + AllocGlobal), db: &Db) -> Result<bool, NoMem> {
-    let Some((words, _)) = rc_textform::words_of(INPUT) else {
+    let Some((words, _)) = rc_lexer::words_of(INPUT) else {
         return Ok(false);
     };
     let Some(names) = names_of(rt.alloc(), words)? else {

@@ -179,7 +179,7 @@ pub(crate) static ROWS: [Row; 123] = [
     ("read_live", &[UP, Add], Of(ReadLive), &[]),
     ("rc_livetext::read_form", &[UP, Add], Of(LiveForm), &[]),
     ("rc_streams::read_all", &[], Make(Made::Input), &[]),
-    ("rc_textform::names_of", &[], Make(Made::Names), &[]),
+    ("rc_lexer::names_of", &[], Make(Made::Names), &[]),
     (
         "rc_script::words_of and texts_of",
         &[],

@@ -2,7 +2,7 @@
 #![tactic(auto)]
 
 ghost use Rattle.std.specs.Prelude.{IfOk};
-ghost use Rattle.rc_asked.specs.Task.{IsEventless};
+ghost use Rattle.rc_args.specs.Task.{IsEventless};
 
 mod commands;
 mod history;
@@ -18,8 +18,8 @@ use crate::stopping::stop;
 use crate::updates::update;
 use crate::usual::{UsualTexts, usual_at};
 use log::error;
-use rc_asked::{Task, WordsFault, asks_help, task_of, tell_words};
-use rc_console::{compile, db, plan, replay, tell_failure};
+use rc_args::{Task, WordsFault, asks_help, task_of, tell_words};
+use rc_frontend::{compile, db, plan, replay, tell_failure};
 use rc_launch::Work;
 use rc_streams::messages::{MESSAGE, Messages};
 use std::alloc::Global;

@@ -1,8 +1,8 @@
 //! `stop`: the command that goes on with a session is called off.
 
 use log::info;
-use rc_asked::{WordsFault, tell_words};
-use rc_console::tell_file;
+use rc_args::{WordsFault, tell_words};
+use rc_frontend::tell_file;
 use rc_streams::ending::{DONE, REFUSED};
 use rc_streams::messages::{MESSAGE, Messages};
 use rc_streams::{live_lock, stop_file};

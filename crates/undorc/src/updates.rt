@@ -2,8 +2,8 @@
 //! why services move.
 
 use crate::commands::carry_out;
-use rc_asked::{UpdateRequest, renames_in};
-use rc_console::{tell_file, tell_moves, tell_renames};
+use rc_args::{UpdateRequest, renames_in};
+use rc_frontend::{tell_file, tell_moves, tell_renames};
 use rc_launch::{Opened, Work};
 use rc_streams::whole_file;
 use std::sync::Wait;

@@ -1,6 +1,6 @@
 //! The files of `-b` and `-l`, and the programs of `-r` and `-c`, where the words name none: the
 //! environment's UNDORC_DB, UNDORC_LIVE, UNDORC_RUNNER and UNDORC_CONTROLLER.
-use rc_asked::Usual;
+use rc_args::Usual;
 use std::env::{self, VarError};
 use std::io::{self, ErrorKind};
 

@@ -1,9 +1,9 @@
 use Rattle.std.proofs.Common.{◌∙◌, ℕ, List, IfErr, ap, false, map, string_bytes, subst}
 use Rattle.rc_serve.specs.Ending.{IsDoneAs}
 use Rattle.rc_streams.specs.Noting.{inner_of}
-use Rattle.rc_asked.specs.OnceAsked.{OnceSaying, Said}
-use Rattle.rc_asked.specs.SessionAsked.{session_ask_of}
-use Rattle.rc_sessions.specs.Storing.{store_of}
+use Rattle.rc_args.specs.OnceAsked.{OnceSaying, Said}
+use Rattle.rc_args.specs.SessionAsked.{session_ask_of}
+use Rattle.cmd_session.specs.Storing.{store_of}
 use Rattle.rc_cli.specs.Restarting.{StopsRestart}
 use Rattle.rc_cli.specs.Updating.{lowering}
 use Rattle.rc_cli.proofs.restarting.restart_in.Goals as goal

@@ -1,11 +1,11 @@
 use Rattle.std.proofs.Common.{false, inl, inr, refl}
 use Rattle.rc_streams.specs.Noting.{inner_of}
-use Rattle.rc_asked.specs.NamedAsked.{named_ask_of}
-use Rattle.rc_asked.specs.SessionAsked.{session_ask_of}
-use Rattle.rc_sessions.specs.Filing.{file_named}
-use Rattle.rc_sessions.specs.Storing.{store_of}
-use Rattle.rc_sessions.proofs.LaunchLemmas.{begin_unready, gateless_unready, past_found}
-use Rattle.rc_sessions.proofs.SessionLemmas.{fault_wider}
+use Rattle.rc_args.specs.NamedAsked.{named_ask_of}
+use Rattle.rc_args.specs.SessionAsked.{session_ask_of}
+use Rattle.cmd_session.specs.Filing.{file_named}
+use Rattle.cmd_session.specs.Storing.{store_of}
+use Rattle.cmd_session.proofs.LaunchLemmas.{begin_unready, gateless_unready, past_found}
+use Rattle.cmd_session.proofs.SessionLemmas.{fault_wider}
 use Rattle.rc_cli.specs.Restarting.{EndsRestart, StopsRestart}
 use Rattle.rc_cli.specs.Updating.{lowering}
 use Rattle.rc_cli.proofs.RestartLemmas.{runs_from}

@@ -1,6 +1,6 @@
 use Rattle.std.proofs.Common.{◌∙◌, ℕ, List, IfSome, ap, false, map, string_bytes, subst}
-use Rattle.rc_asked.specs.NamedAsked.{named_ask_of}
-use Rattle.rc_asked.specs.OnceAsked.{OnceSaying, Said}
+use Rattle.rc_args.specs.NamedAsked.{named_ask_of}
+use Rattle.rc_args.specs.OnceAsked.{OnceSaying, Said}
 use Rattle.rc_cli.specs.Controlled.{LacksController, MovesLongrun}
 use Rattle.rc_cli.specs.Updating.{lowering}
 use Rattle.rc_cli.proofs.restarting.uncontrolled_restart.Goals as goal

@@ -1,4 +1,4 @@
-use Rattle.rc_sessions.proofs.LaunchLemmas.{ends_as}
+use Rattle.cmd_session.proofs.LaunchLemmas.{ends_as}
 use Rattle.rc_cli.proofs.sealing.seal_as_asked.Goals as goal
 
 pub returns-clause-ended : goal.returns-clause-ended

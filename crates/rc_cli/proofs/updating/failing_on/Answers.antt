@@ -2,9 +2,9 @@ use Rattle.std.proofs.Common.{◌∙◌, ◌≤◌, ◌+◌, ◌++◌, [], ℕ, 
 use Rattle.std.proofs.Common.{arith}
 use Rattle.std.proofs.lemmas.List.{take_all, length-map}
 use Rattle.rc_graph.specs.declared.Way.TheVariants.{Raise}
-use Rattle.rc_asked.specs.Listed.{Listed}
-use Rattle.rc_asked.specs.Reading.{listed_of}
-use Rattle.rc_asked.specs.declared.transitions.Transition.{Transition}
+use Rattle.rc_args.specs.Listed.{Listed}
+use Rattle.rc_args.specs.Reading.{listed_of}
+use Rattle.rc_args.specs.declared.transitions.Transition.{Transition}
 use Rattle.rc_model.proofs.Mapped.{mapped_more}
 use Rattle.rc_cli.specs.Updating.{listed_by, listed_on}
 use Rattle.rc_cli.proofs.UpdateLemmas.{listed_next}

@@ -1,5 +1,5 @@
 use Rattle.std.proofs.Common.{◌≡◌, map, take}
-use Rattle.rc_asked.specs.Reading.{listed_of}
+use Rattle.rc_args.specs.Reading.{listed_of}
 use Rattle.rc_cli.specs.Updating.{listed_on}
 use Rattle.rc_cli.proofs.updating.failing_on.Given as goal
 

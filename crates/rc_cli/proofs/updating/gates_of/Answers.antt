@@ -1,4 +1,4 @@
-use Rattle.rc_asked.specs.Making.{making_ask_of}
+use Rattle.rc_args.specs.Making.{making_ask_of}
 use Rattle.rc_cli.proofs.UpdateLemmas.{first_gateless, second_gateless}
 use Rattle.rc_cli.proofs.updating.gates_of.Goals as goal
 

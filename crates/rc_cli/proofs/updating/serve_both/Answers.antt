@@ -2,9 +2,9 @@ use Rattle.std.proofs.Common.{inl}
 use Rattle.rc_streams.specs.Noting.{inner_of}
 use Rattle.rc_script.specs.Says.{saying_of}
 use Rattle.rc_serve.specs.Ending.{IsDoneAs}
-use Rattle.rc_asked.specs.OnceAsked.{Said}
-use Rattle.rc_asked.specs.SessionAsked.{session_ask_of}
-use Rattle.rc_sessions.specs.Storing.{store_of}
+use Rattle.rc_args.specs.OnceAsked.{Said}
+use Rattle.rc_args.specs.SessionAsked.{session_ask_of}
+use Rattle.cmd_session.specs.Storing.{store_of}
 use Rattle.rc_cli.proofs.UpdateLemmas.{both_ended, both_stopped, first_hindered, first_refused}
 use Rattle.rc_cli.proofs.updating.serve_both.Goals as goal
 

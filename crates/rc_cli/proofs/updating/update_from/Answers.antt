@@ -6,11 +6,11 @@ use Rattle.rc_model.specs.Database.{Database}
 use Rattle.rc_model.specs.declared.Mode.TheVariants.{DownAll, Up}
 use Rattle.rc_streams.specs.Noting.{inner_of}
 use Rattle.rc_script.specs.Says.{saying_of}
-use Rattle.rc_asked.specs.OnceAsked.{Said}
-use Rattle.rc_asked.specs.SessionAsked.{session_ask_of}
+use Rattle.rc_args.specs.OnceAsked.{Said}
+use Rattle.rc_args.specs.SessionAsked.{session_ask_of}
 use Rattle.rc_serve.specs.Ending.{IsDoneAs}
 use Rattle.rc_session.proofs.States.{current_state}
-use Rattle.rc_sessions.specs.Storing.{store_of}
+use Rattle.cmd_session.specs.Storing.{store_of}
 use Rattle.rc_update.specs.Conversions.{conversions_of}
 use Rattle.rc_cli.specs.Updating.{Parts, carried_line, parts_of, session_with, step_ask}
 use Rattle.rc_cli.proofs.UpdateLemmas.{journal_bound, line_bound, says_eventless, stands_closed}

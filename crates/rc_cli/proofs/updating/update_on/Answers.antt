@@ -4,13 +4,13 @@ use Rattle.rc_session.specs.Holding.{Holding}
 use Rattle.rc_runner.specs.Gates.{gate_answers, gate_gives}
 use Rattle.rc_serve.specs.Ending.{IsDoneAs}
 use Rattle.rc_streams.specs.Noting.{inner_of}
-use Rattle.rc_asked.specs.Making.{making_ask_of}
-use Rattle.rc_asked.specs.SessionAsked.{session_ask_of}
-use Rattle.rc_asked.specs.UpdateAsked.{update_ask_of}
-use Rattle.rc_sessions.specs.Filing.{file_named}
-use Rattle.rc_sessions.specs.Storing.{store_of}
-use Rattle.rc_sessions.proofs.LaunchLemmas.{past_found}
-use Rattle.rc_sessions.proofs.SessionLemmas.{fault_wider}
+use Rattle.rc_args.specs.Making.{making_ask_of}
+use Rattle.rc_args.specs.SessionAsked.{session_ask_of}
+use Rattle.rc_args.specs.UpdateAsked.{update_ask_of}
+use Rattle.cmd_session.specs.Filing.{file_named}
+use Rattle.cmd_session.specs.Storing.{store_of}
+use Rattle.cmd_session.proofs.LaunchLemmas.{past_found}
+use Rattle.cmd_session.proofs.SessionLemmas.{fault_wider}
 use Rattle.rc_cli.specs.Updating.{EndsUpdate, making_on}
 use Rattle.rc_cli.specs.UpdateEnds.{StopsUpdate}
 use Rattle.rc_cli.proofs.UpdateLemmas.{begin_unready, begun_closed, from_start, gates_unready}

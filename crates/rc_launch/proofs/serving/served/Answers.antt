@@ -1,6 +1,6 @@
 use Rattle.std.proofs.Common.{refl}
-use Rattle.rc_sessions.specs.Session.{dealt}
-use Rattle.rc_sessions.specs.Storing.{store_of}
+use Rattle.cmd_session.specs.Session.{dealt}
+use Rattle.cmd_session.specs.Storing.{store_of}
 use Rattle.rc_streams.specs.Noting.{HasFailed}
 use Rattle.rc_launch.specs.Serving.{logged_of}
 use Rattle.rc_launch.proofs.ServingLemmas.{line_carried, status_carried, update_carried}

@@ -1,0 +1,161 @@
+-- What the words ask of a session of one line, by the matches that `clap` makes of them.
+use Rattle.std.proofs.Common.{◌≡◌, ◌∙◌, ◌∷◌, ℕ, Bool, List, [], Option, None, Some, false}
+use Rattle.std.proofs.Common.{option_map, ap, refl, sym, unwrap_or, codes}
+use Rattle.std.specs.Str.{bytes_eq}
+use Rattle.clap.specs.Matches.{first_value, found_of}
+use Rattle.clap.specs.Words.{Row, Text, first_of, rows_of}
+use Rattle.clap.specs.declared.ArgMatches.{ArgMatches}
+use Rattle.rc_model.specs.declared.Mode.{Mode}
+use Rattle.rc_model.specs.Plan.{Ask}
+use Rattle.rc_model.specs.Session.{Add, Change, Delete, Redo, Undo}
+use Rattle.rc_script.specs.Says.{SaysBundles, SaysDry, SaysJournal, SaysLive, SaysNothing, SaysStep}
+use Rattle.rc_script.specs.Says.{SaysWrong}
+use Rattle.rc_cmdline.specs.Words.{is_on, words_in}
+use Rattle.rc_args.specs.Asked.{ask_in, mode_of}
+use Rattle.rc_args.specs.Limits.{IsRunLimitIn}
+use Rattle.rc_args.specs.OnceAsked.{Adds, AsksWhat, OnceSaying, Said, WantsDryRedo, WantsDryUndo}
+use Rattle.rc_args.proofs.SessionWordsLemmas.{found_as, found_back}
+use Rattle.rc_args.proofs.TaskLemmas.{apart}
+
+-- what the matches ask of a plan has no limit
+unlimited_by : (rows : List Row) (mode : Option Mode) (ask : Ask)
+    → option_map
+    (λ m. record {
+      mode = m;
+      prune = is_on (codes "prune") rows;
+      all = is_on (codes "all") rows;
+      words = words_in rows;
+      limit = 0;
+    }) mode ≡ Some ask
+    → ask.limit ≡ 0
+unlimited_by rows None ask is = cc
+unlimited_by rows (Some mode) ask is = sym (ap (λ (o : Option Ask). (unwrap_or o ask).limit) is)
+
+pub unlimited : (rows : List Row) (ask : Ask) → ask_in rows ≡ Some ask
+    → ask_in rows ≡ Some (record ask { limit = 0 })
+unlimited rows ask is =
+    let zero =
+    unlimited_by rows
+    (mode_of (is_on (codes "up") rows) (is_on (codes "down") rows) (is_on (codes "down-all") rows))
+    ask is in
+    is ∙ ap (λ (l : ℕ). Some (record ask { limit = l })) zero
+
+-- the limit in the matches, by the text that is found in them
+abbrev says_limit : ℕ → Option Text → Type 0
+says_limit limit given = IsRunLimitIn given limit
+
+pub limit_found : (m : ArgMatches) (given : Option Text) (limit : ℕ)
+    → given ≡ first_value (found_of m) (codes "limit")
+    → IsRunLimitIn given limit → IsRunLimitIn (first_of (codes "limit") (rows_of (found_of m)))
+    limit
+limit_found m given limit is says = found_as (says_limit limit) m (codes "limit") given is says
+
+limit_back : (m : ArgMatches) (given : Option Text) (limit : ℕ)
+    → given ≡ first_value (found_of m) (codes "limit")
+    → IsRunLimitIn (first_of (codes "limit") (rows_of (found_of m))) limit
+    → IsRunLimitIn given limit
+limit_back m given limit is says = found_back (says_limit limit) m (codes "limit") given is says
+
+-- matches whose limit is none ask no change, no undo and no redo
+pub limit_none : (name : Text) (m : ArgMatches) (given : Option Text)
+    → bytes_eq name (codes "add") ≡ false → bytes_eq name (codes "delete") ≡ false
+    → bytes_eq name (codes "live") ≡ false → bytes_eq name (codes "bundles") ≡ false
+    → bytes_eq name (codes "journal") ≡ false
+    → given ≡ first_value (found_of m) (codes "limit")
+    → ((limit : ℕ) → IsRunLimitIn given limit → ⊥)
+    → (what : OnceSaying) → AsksWhat name (rows_of (found_of m)) what → ⊥
+limit_none name m given add delete live bundles journal is none (Said SaysNothing) asks =
+    asks.1
+limit_none name m given add delete live bundles journal is none (Said SaysWrong) asks =
+    asks.1
+limit_none name m given add delete live bundles journal is none
+    (Said (SaysStep (Change ask events))) asks =
+    none ask.limit (limit_back m given ask.limit is asks.1.2.1)
+limit_none name m given add delete live bundles journal is none
+    (Said (SaysStep (Undo limit events))) asks =
+    none limit (limit_back m given limit is asks.1.2)
+limit_none name m given add delete live bundles journal is none
+    (Said (SaysStep (Redo limit events))) asks =
+    none limit (limit_back m given limit is asks.1.2)
+limit_none name m given add delete live bundles journal is none
+    (Said (SaysStep (Add word contents force))) asks =
+    apart name (codes "add") add asks.0
+limit_none name m given add delete live bundles journal is none
+    (Said (SaysStep (Delete words force))) asks =
+    apart name (codes "delete") delete asks.0
+limit_none name m given add delete live bundles journal is none (Said (SaysDry ask)) asks =
+    none ask.limit (limit_back m given ask.limit is asks.1.1.1)
+limit_none name m given add delete live bundles journal is none (Said SaysLive) asks =
+    apart name (codes "live") live asks.0
+limit_none name m given add delete live bundles journal is none (Said SaysBundles) asks =
+    apart name (codes "bundles") bundles asks.0
+limit_none name m given add delete live bundles journal is none (Said SaysJournal) asks =
+    apart name (codes "journal") journal asks.0
+limit_none name m given add delete live bundles journal is none WantsDryUndo asks =
+    none asks.1.1.0 (limit_back m given asks.1.1.0 is asks.1.1.1)
+limit_none name m given add delete live bundles journal is none WantsDryRedo asks =
+    none asks.1.1.0 (limit_back m given asks.1.1.0 is asks.1.1.1)
+
+-- what the words of `add` add is what its matches ask, and only that
+pub adds_asks : (rows : List Row) (words : List Text) (force : Bool) (what : OnceSaying)
+    → words ≡ words_in rows → force ≡ is_on (codes "force") rows → Adds words force what
+    → AsksWhat (codes "add") rows what
+adds_asks rows words force (Said SaysNothing) is flag adds = absurd adds
+adds_asks rows words force (Said SaysWrong) is flag adds = absurd adds
+adds_asks rows words force (Said (SaysStep (Change ask events))) is flag adds = absurd adds
+adds_asks rows words force (Said (SaysStep (Undo limit events))) is flag adds = absurd adds
+adds_asks rows words force (Said (SaysStep (Redo limit events))) is flag adds = absurd adds
+adds_asks rows words force (Said (SaysStep (Add name contents forced))) is flag adds =
+    (refl, (sym is ∙ adds.0, adds.1, adds.2 ∙ flag))
+adds_asks rows words force (Said (SaysStep (Delete names forced))) is flag adds = absurd adds
+adds_asks rows words force (Said (SaysDry ask)) is flag adds = absurd adds
+adds_asks rows words force (Said SaysLive) is flag adds = absurd adds
+adds_asks rows words force (Said SaysBundles) is flag adds = absurd adds
+adds_asks rows words force (Said SaysJournal) is flag adds = absurd adds
+adds_asks rows words force WantsDryUndo is flag adds = absurd adds
+adds_asks rows words force WantsDryRedo is flag adds = absurd adds
+
+pub asks_adds : (rows : List Row) (words : List Text) (force : Bool) (what : OnceSaying)
+    → words ≡ words_in rows → force ≡ is_on (codes "force") rows
+    → AsksWhat (codes "add") rows what → Adds words force what
+asks_adds rows words force (Said SaysNothing) is flag asks = asks.1
+asks_adds rows words force (Said SaysWrong) is flag asks = asks.1
+asks_adds rows words force (Said (SaysStep (Change ask events))) is flag asks =
+    absurd (apart (codes "add") (codes "change") refl asks.0)
+asks_adds rows words force (Said (SaysStep (Undo limit events))) is flag asks =
+    absurd (apart (codes "add") (codes "undo") refl asks.0)
+asks_adds rows words force (Said (SaysStep (Redo limit events))) is flag asks =
+    absurd (apart (codes "add") (codes "redo") refl asks.0)
+asks_adds rows words force (Said (SaysStep (Add name contents forced))) is flag asks =
+    (is ∙ asks.1.0, asks.1.1, asks.1.2 ∙ sym flag)
+asks_adds rows words force (Said (SaysStep (Delete names forced))) is flag asks =
+    absurd (apart (codes "add") (codes "delete") refl asks.0)
+asks_adds rows words force (Said (SaysDry ask)) is flag asks =
+    absurd (apart (codes "add") (codes "change") refl asks.0)
+asks_adds rows words force (Said SaysLive) is flag asks =
+    absurd (apart (codes "add") (codes "live") refl asks.0)
+asks_adds rows words force (Said SaysBundles) is flag asks =
+    absurd (apart (codes "add") (codes "bundles") refl asks.0)
+asks_adds rows words force (Said SaysJournal) is flag asks =
+    absurd (apart (codes "add") (codes "journal") refl asks.0)
+asks_adds rows words force WantsDryUndo is flag asks =
+    absurd (apart (codes "add") (codes "undo") refl asks.0)
+asks_adds rows words force WantsDryRedo is flag asks =
+    absurd (apart (codes "add") (codes "redo") refl asks.0)
+
+-- without a word nothing is added
+pub adds_nothing : (force : Bool) (what : OnceSaying) → Adds [] force what → ⊥
+adds_nothing force (Said SaysNothing) adds = adds
+adds_nothing force (Said SaysWrong) adds = adds
+adds_nothing force (Said (SaysStep (Change ask events))) adds = adds
+adds_nothing force (Said (SaysStep (Undo limit events))) adds = adds
+adds_nothing force (Said (SaysStep (Redo limit events))) adds = adds
+adds_nothing force (Said (SaysStep (Add name contents forced))) adds =
+    let both : [] ≡ name ∷ contents = adds.0 in cc
+adds_nothing force (Said (SaysStep (Delete names forced))) adds = adds
+adds_nothing force (Said (SaysDry ask)) adds = adds
+adds_nothing force (Said SaysLive) adds = adds
+adds_nothing force (Said SaysBundles) adds = adds
+adds_nothing force (Said SaysJournal) adds = adds
+adds_nothing force WantsDryUndo adds = adds
+adds_nothing force WantsDryRedo adds = adds

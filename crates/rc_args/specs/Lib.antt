@@ -1,0 +1,36 @@
+-- The definitions of rc_args, in reading order.
+
+-- What the words ask of a command.
+pub mod Asked
+-- What may be asked of a database, and the words that ask it.
+pub mod Query
+-- What the words ask of `db`.
+pub mod DbAsked
+-- The numbers of milliseconds among the words.
+pub mod Limits
+-- Lists of transitions as an option spells them: the words between commas.
+pub mod Listed
+-- How the transitions of a session are made, by its options.
+pub mod Programs
+-- A transition that was read, by its way and the name of its service.
+pub mod Reading
+-- What a request of the program says about how transitions are made.
+pub mod Making
+-- What the words ask of `session`.
+pub mod SessionAsked
+-- What the words ask of a session of one line.
+pub mod OnceAsked
+-- What the words ask of `update`.
+pub mod UpdateAsked
+-- What the file of the renames says.
+pub mod Renames
+-- What the words ask of `restart` and `status`.
+pub mod NamedAsked
+-- What the words ask of `compile`.
+pub mod CompileAsked
+-- What the words ask of `replay`.
+pub mod ReplayAsked
+-- What a command is given where its words name nothing.
+pub mod Usual
+-- What the words ask, of whichever command.
+pub mod Task

@@ -1,0 +1,25 @@
+-- What the words ask of `restart` and `status`.
+use Rattle.std.specs.Prelude.{◌≡◌, List, map, string_bytes}
+use Rattle.clap.specs.Words.{Row, Text}
+use Rattle.rc_cmdline.specs.Words.{words_in}
+use Rattle.rc_args.specs.OnceAsked.{AreOneLine}
+use Rattle.rc_args.specs.SessionAsked.{AsksSessionIn, SessionAsk, session_ask_of}
+use Rattle.rc_args.specs.declared.named_words.NamedRequest.{NamedRequest}
+
+-- what is asked of a session, and names of services and bundles
+pub record NamedAsk : Type 0 where
+  pub session : SessionAsk
+  pub names : List Text
+
+-- the matches of the command ask this
+pub record AsksNamesIn (rows : List Row) (ask : NamedAsk) : Type 0 where
+  pub session : AsksSessionIn rows ask.session
+  pub names : ask.names ≡ words_in rows
+  pub one_line : AreOneLine (words_in rows)
+
+-- what a request of the program asks
+abbrev pub named_ask_of : NamedRequest → NamedAsk
+named_ask_of request = record {
+  session = session_ask_of request.session;
+  names = map string_bytes request.names.items;
+}

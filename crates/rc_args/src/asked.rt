@@ -1,0 +1,192 @@
+//! What the words ask of a command.
+ghost use Rattle.std.specs.Prelude.{◌≡◌, ◌≢◌, ◌⊎◌, ◌↔◌, map, None, Some, string_bytes, IfErr, IfOk};
+ghost use Rattle.std.specs.Prelude.{IsTrue};
+ghost use Rattle.clap.specs.Words.{found_of, rows_of};
+ghost use Rattle.rc_select.specs.Ask.{ask_of};
+ghost use Rattle.rc_args.specs.Asked.{AsksHelp, ask_in, mode_of, plan_asked};
+ghost use Rattle.rc_streams.specs.Input.{AppendsFront, failure_text, fault_line};
+ghost use Rattle.rc_args.specs.declared.asked.WordsFault.TheVariants.{Memory};
+
+use crate::matched::{command_in, matches_in};
+use crate::texts::words_in;
+use clap::error::ErrorKind;
+use clap::{ArgMatches, Error as ClapError};
+use rc_cmdline::is_on;
+use rc_select::{Mode, Request};
+use rc_streams::ending::{WRONG_LINE, fail};
+use rc_streams::{Failure, tell};
+use std::alloc::{AllocError, Global};
+use std::fmt;
+use std::io::Write;
+use thiserror::Error;
+
+/// Why words ask nothing of a command.
+#[derive(Debug, Drop, Error)]
+pub enum WordsFault {
+    /// `clap` finds a fault in them, or they ask for help.
+    Found(ClapError),
+    /// They name another command.
+    OtherCommand,
+    /// They name more than one way.
+    Ways,
+    /// They ask no question of a database.
+    Query,
+    /// They name the file of a session, and ask for no picture.
+    Live,
+    /// They name no file that an update wants.
+    Files,
+    /// They name no file of the session whose command is to be called off.
+    Session,
+    /// They name no file that keeps what is up.
+    NoFile,
+    /// They name no file of the session or of its database, and the command wants both.
+    Both,
+    /// Their first word is no name that a bundle may have.
+    Name,
+    /// One of them has a newline.
+    Newline,
+    /// Their number of workers is none from 1 to 64.
+    Workers,
+    /// Their bound on how many states there are is none of at least 3.
+    Bound,
+    /// Their limit is no number of milliseconds.
+    Limit,
+    /// Their list of transitions that fail has not the form of one.
+    List,
+    Memory,
+}
+
+impl From<AllocError> for WordsFault {
+    ghost from_gives = { λ _ fault. fault ≡ Memory };
+
+    fn from(_: AllocError) -> Self {
+        WordsFault::Memory
+    }
+}
+
+/// What the words ask of `plan`. The first word is the program's own name.
+pub fn plan_asked(alloc: Global, words: &[String]) -> Result<Request, WordsFault>
+    ensures asked { IfOk result (λ request.
+        plan_asked (map string_bytes words.now) ≡ Some (ask_of request)) }
+    ensures wrong { IfErr result (λ fault.
+        fault ≢ Memory → plan_asked (map string_bytes words.now) ≡ None) }
+{
+    match matches_in(alloc, words) {
+        Ok(matches) => match command_in(&matches, "plan") {
+            Some(inner) => {
+                let asked = plan_in(alloc, inner);
+                drop(matches);
+                asked
+            }
+            None => {
+                drop(matches);
+                Err(WordsFault::OtherCommand)
+            }
+        },
+        Err(fault) => Err(fault),
+    }
+}
+
+/// What the matches of `plan` ask.
+pub(crate) fn plan_in(alloc: Global, matches: &ArgMatches<'_>) -> Result<Request, WordsFault>
+    ensures asked { IfOk result (λ request.
+        ask_in (rows_of (found_of matches.now)) ≡ Some (ask_of request)) }
+    ensures wrong { IfErr result (λ fault.
+        fault ≢ Memory → ask_in (rows_of (found_of matches.now)) ≡ None) }
+{
+    let up = is_on(matches, "up");
+    let down = is_on(matches, "down");
+    let down_all = is_on(matches, "down-all");
+    match mode_of(up, down, down_all) {
+        Some(mode) => Ok(Request {
+            mode,
+            prune: is_on(matches, "prune"),
+            all: is_on(matches, "all"),
+            names: words_in(alloc, matches)?,
+            limit: 0,
+        }),
+        None => Err(WordsFault::Ways),
+    }
+}
+
+// The mode of the flags of the ways, of which one at most may be given.
+fn mode_of(up: bool, down: bool, down_all: bool) -> Option<Mode>
+    ensures { result ≡ mode_of up down down_all }
+{
+    match (up, down, down_all) {
+        (_, false, false) => Some(Mode::Up),
+        (false, true, false) => Some(Mode::Down),
+        (false, false, true) => Some(Mode::DownAll),
+        _ => None,
+    }
+}
+
+/// Whether the words ask for help. What `tell_words` writes then is what was asked for, and belongs
+/// on standard output.
+pub fn asks_help(fault: &WordsFault) -> bool
+    ensures { IsTrue result ↔ AsksHelp fault.now }
+{
+    match fault {
+        WordsFault::Found(error) => error.kind() == ErrorKind::DisplayHelp,
+        _ => false,
+    }
+}
+
+/// Tells why the words ask nothing, and answers the status.
+pub fn tell_words<F: Write>(faults: &mut F, fault: &WordsFault) -> u8
+    ensures statuses { (result ≡ 100) ⊎ (result ≡ 111) }
+    ensures wrong { result ≡ 100 → fault.now ≢ Memory }
+    ensures failed { result ≡ 111 → AppendsFront (F.contents faults.old) (F.contents faults.new)
+        (fault_line (failure_text Failure.Memory)) }
+{
+    match fault {
+        WordsFault::Memory => fail(faults, Failure::Memory),
+        WordsFault::Found(error) => {
+            write_usage(error, faults);
+            WRONG_LINE
+        }
+        other => {
+            tell(faults, words_of(other).as_bytes());
+            WRONG_LINE
+        }
+    }
+}
+
+// The words for each fault except one that `clap` finds.
+fn words_of(fault: &WordsFault) -> &'static str {
+    match fault {
+        WordsFault::Found(_) => "the command line is wrong",
+        WordsFault::OtherCommand => "another command is named",
+        WordsFault::Ways => "-u, -d and -D exclude each other",
+        WordsFault::Query => {
+            "db has no such query, or it takes other words; `undorc db --help` lists the queries"
+        }
+        WordsFault::Live => "-l of db goes with the query dot alone",
+        WordsFault::Files => "update wants -b and -l, or UNDORC_DB and UNDORC_LIVE, and -B",
+        WordsFault::Both => "this command wants -b and -l, or UNDORC_DB and UNDORC_LIVE",
+        WordsFault::Session => "stop wants -l, or UNDORC_LIVE",
+        WordsFault::NoFile => "-l is missing, or UNDORC_LIVE: the file that keeps what is up",
+        WordsFault::Name => "add wants a name first: 1 to 255 bytes, without spaces and newlines",
+        WordsFault::Newline => "a name has no newline",
+        WordsFault::Workers => "-w wants a number from 1 to 64",
+        WordsFault::Bound => "-n wants a number from 3 to 4294967295",
+        WordsFault::Limit => "-t and -T want a number from 0 to 4294967295",
+        WordsFault::List => "-x wants `none`, or `up:NAME` and `down:NAME` joined by commas",
+        WordsFault::Memory => "out of memory",
+    }
+}
+
+impl fmt::Display for WordsFault {
+    fn fmt<W: fmt::Write>(&self, f: &mut fmt::Formatter<W>) -> fmt::Result {
+        match self {
+            WordsFault::Found(error) => write!(f, "{error}"),
+            fault => f.write_str(words_of(fault)),
+        }
+    }
+}
+
+// Writes what `clap` has to say to the user, which ends in a newline. A writer that fails is
+// ignored.
+fn write_usage<F: Write>(error: &ClapError, faults: &mut F) {
+    let _ = write!(faults, "{error}");
+}

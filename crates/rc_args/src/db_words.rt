@@ -1,0 +1,238 @@
+//! What the words ask of `db`.
+ghost use Rattle.std.specs.Prelude.{◌≡◌, ◌≢◌, ◌↔◌, ◌∷◌, [], codes, if◌then◌else◌, map};
+ghost use Rattle.std.specs.Prelude.{string_bytes, IfErr, IfNone, IfOk, IfSome, IsTrue};
+ghost use Rattle.clap.specs.Words.{found_of, rows_of};
+ghost use Rattle.rc_args.specs.DbAsked.{AsksDb, AsksIn, AsksNothing, DbAsk, ShowsByPicture};
+ghost use Rattle.rc_args.specs.DbAsked.{ask_by, db_ask_of};
+ghost use Rattle.rc_args.specs.Query.{Dot, Question, list_word, question_of, words_of_query};
+ghost use Rattle.rc_cmdline.specs.QueryWords.{names_word};
+ghost use Rattle.rc_cmdline.specs.Words.{words_in};
+ghost use Rattle.rc_args.specs.declared.asked.WordsFault.TheVariants.{Memory};
+ghost use Rattle.rc_cmdline.specs.declared.query_words.NamesQuery.{NamesQuery as OfMany};
+ghost use Rattle.rc_db.specs.declared.which.Which.{Which as Sort};
+
+use crate::asked::WordsFault;
+use crate::matched::{command_in, matches_in};
+use crate::texts::{strings_of, text_in};
+use clap::ArgMatches;
+use rc_cmdline::{NameQuery, NamesQuery, is_on, name_query, names_query};
+use rc_db::{NoMem, Which};
+use rc_graph::Way;
+use std::alloc::Global;
+
+/// What the words ask of `db`.
+#[derive(Drop)]
+pub struct DbRequest<'a> {
+    pub query: Query<'a>,
+    /// The way that is asked about, where the query has one.
+    pub way: Way,
+    /// The file of a session, of which a picture shows what is up.
+    pub live: Option<&'a str>,
+}
+
+impl<'a> DbRequest<'a> {
+    /// A query with none of the options.
+    pub fn of(query: Query<'a>) -> DbRequest<'a>
+        ensures { db_ask_of result ≡ ask_by [] (question_of query.entry) }
+    {
+        DbRequest {
+            query,
+            way: Way::Raise,
+            live: None,
+        }
+    }
+}
+
+/// What is asked of a database.
+#[derive(Drop)]
+pub enum Query<'a> {
+    /// Whether it is one.
+    Check,
+    /// Its picture.
+    Dot,
+    /// The names of one sort.
+    List(Which),
+    /// What is said of one name.
+    OfName(NameQuery, &'a str),
+    /// Which services any number of names stand for, need, or are needed by.
+    OfNames(NamesQuery, Vec<String>),
+}
+
+/// What the words ask of `db`. The first word is the program's own name.
+pub fn db_asked<'a>(alloc: Global, words: &'a [String]) -> Result<DbRequest<'a>, WordsFault>
+    ensures asked { IfOk result (λ request.
+        AsksDb (map string_bytes words.entry.now) (db_ask_of request)) }
+    ensures wrong { IfErr result (λ fault.
+        fault ≢ Memory → AsksNothing (map string_bytes words.entry.now)) }
+{
+    match matches_in(alloc, words) {
+        Ok(matches) => match command_in(&matches, "db") {
+            Some(inner) => {
+                let asked = db_in(alloc, inner);
+                drop(matches);
+                asked
+            }
+            None => {
+                drop(matches);
+                Err(WordsFault::OtherCommand)
+            }
+        },
+        Err(fault) => Err(fault),
+    }
+}
+
+/// What the matches of `db` ask.
+pub(crate) fn db_in<'a>(
+    alloc: Global,
+    matches: &ArgMatches<'a>,
+) -> Result<DbRequest<'a>, WordsFault>
+    ensures asked { IfOk result (λ request.
+        AsksIn (rows_of (found_of matches.now)) (db_ask_of request)) }
+    ensures wrong { IfErr result (λ fault.
+        fault ≢ Memory → (ask : DbAsk) → AsksIn (rows_of (found_of matches.now)) ask → ⊥) }
+{
+    let Some(word) = matches.get_str("query") else {
+        return Err(WordsFault::Query);
+    };
+    match query_in(alloc, word, matches)? {
+        Some(query) => shown(request_in(query, matches)),
+        None => Err(WordsFault::Query),
+    }
+}
+
+// A query with the options of the matches.
+fn request_in<'a>(query: Query<'a>, matches: &ArgMatches<'a>) -> DbRequest<'a>
+    ensures { db_ask_of result ≡ ask_by (rows_of (found_of matches.now)) (question_of query.entry) }
+{
+    DbRequest {
+        query,
+        way: way_of(is_on(matches, "down")),
+        live: text_in(matches, "live"),
+    }
+}
+
+// The request, unless it is to show a session, and asks for no picture.
+fn shown<'a>(request: DbRequest<'a>) -> Result<DbRequest<'a>, WordsFault>
+    ensures asked { IfOk result (λ same. (same ≡ request.entry)
+        × ShowsByPicture (db_ask_of request.entry)) }
+    ensures wrong { IfErr result (λ fault. ShowsByPicture (db_ask_of request.entry) → ⊥) }
+{
+    if request.live.is_some() && !is_picture(&request.query) {
+        return Err(WordsFault::Live);
+    }
+    Ok(request)
+}
+
+// Whether a query is that of a picture.
+fn is_picture(query: &Query<'_>) -> bool
+    ensures { IsTrue result ↔ (question_of query.now ≡ Dot) }
+{
+    matches!(query, Query::Dot)
+}
+
+// The way that is asked about.
+fn way_of(down: bool) -> Way
+    ensures { result ≡ (if down then Way.Lower else Way.Raise) }
+{
+    if down { Way::Lower } else { Way::Raise }
+}
+
+// The question of a query's word and of the other words of the matches.
+fn query_in<'a>(
+    alloc: Global,
+    word: &str,
+    matches: &ArgMatches<'a>,
+) -> Result<Option<Query<'a>>, NoMem>
+    ensures some { IfOk result (λ found. IfSome found (λ query.
+        word.now ∷ words_in (rows_of (found_of matches.now))
+        ≡ words_of_query (question_of query))) }
+    ensures none { IfOk result (λ found. IfNone found
+        ((question : Question) → word.now ∷ words_in (rows_of (found_of matches.now))
+        ≡ words_of_query question → ⊥)) }
+{
+    match matches.get_strs("words") {
+        Some(words) => query_of(alloc, word, words),
+        None => query_of(alloc, word, &[]),
+    }
+}
+
+// The question of a query's word and of the words after it.
+fn query_of<'a>(alloc: Global, word: &str, words: &[&'a str]) -> Result<Option<Query<'a>>, NoMem>
+    ensures some { IfOk result (λ found. IfSome found (λ query.
+        word.now ∷ map (λ w. w.now) words.now ≡ words_of_query (question_of query))) }
+    ensures none { IfOk result (λ found. IfNone found
+        ((question : Question) → word.now ∷ map (λ w. w.now) words.now ≡ words_of_query question →
+        ⊥)) }
+{
+    match names_query(word) {
+        Some(query) => Ok(Some(Query::OfNames(query, strings_of(alloc, words)?))),
+        None => Ok(small_query(word, words)),
+    }
+}
+
+// The same, where the query is not of any number of names.
+fn small_query<'a>(word: &str, words: &[&'a str]) -> Option<Query<'a>>
+    requires { (query : OfMany) → word.now ≡ names_word query → ⊥ }
+    ensures some { IfSome result (λ query.
+        word.now ∷ map (λ w. w.now) words.now ≡ words_of_query (question_of query)) }
+    ensures none { IfNone result ((question : Question) →
+        word.now ∷ map (λ w. w.now) words.now ≡ words_of_query question → ⊥) }
+{
+    match words {
+        [] => {
+            if word == "check" {
+                Some(Query::Check)
+            } else if word == "dot" {
+                Some(Query::Dot)
+            } else {
+                None
+            }
+        }
+        [name] => query_of_one(word, name),
+        _ => None,
+    }
+}
+
+// The question of a query's word and of the one word after it.
+fn query_of_one<'a>(word: &str, name: &'a str) -> Option<Query<'a>>
+    requires { (query : OfMany) → word.now ≡ names_word query → ⊥ }
+    ensures some { IfSome result (λ query.
+        word.now ∷ name.now ∷ [] ≡ words_of_query (question_of query)) }
+    ensures none { IfNone result ((question : Question) →
+        word.now ∷ name.now ∷ [] ≡ words_of_query question → ⊥) }
+{
+    if word == "list" {
+        return list_of(name);
+    }
+    match name_query(word) {
+        Some(query) => Some(Query::OfName(query, name)),
+        None => None,
+    }
+}
+
+// The list of a word.
+fn list_of<'a>(word: &str) -> Option<Query<'a>>
+    ensures some { IfSome result (λ query.
+        codes "list" ∷ word.now ∷ [] ≡ words_of_query (question_of query)) }
+    ensures none { IfNone result ((which : Sort) → word.now ≡ list_word which → ⊥) }
+{
+    match which_of(word) {
+        Some(which) => Some(Query::List(which)),
+        None => None,
+    }
+}
+
+// The sort of a list.
+fn which_of(word: &str) -> Option<Which>
+    ensures some { IfSome result (λ which. word.now ≡ list_word which) }
+    ensures none { IfNone result ((which : Sort) → word.now ≡ list_word which → ⊥) }
+{
+    match word {
+        "all" => Some(Which::All),
+        "services" => Some(Which::Services),
+        "oneshots" => Some(Which::Oneshots),
+        "longruns" => Some(Which::Longruns),
+        "bundles" => Some(Which::Bundles),
+        _ => None,
+    }
+}

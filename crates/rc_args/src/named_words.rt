@@ -1,0 +1,57 @@
+//! What the words ask of a session about services and bundles that they name.
+ghost use Rattle.std.specs.Prelude.{◌≡◌, ◌≢◌, IfErr, IfOk};
+ghost use Rattle.clap.specs.Words.{found_of, rows_of};
+ghost use Rattle.rc_args.specs.NamedAsked.{AsksNamesIn, NamedAsk, named_ask_of};
+ghost use Rattle.rc_args.specs.Usual.{session_by, usual_ask_of};
+ghost use Rattle.rc_args.specs.declared.asked.WordsFault.TheVariants.{Memory};
+
+use crate::asked::WordsFault;
+use crate::once_words::are_one_line;
+use crate::session_request::SessionRequest;
+use crate::session_words::session_in;
+use crate::texts::words_in;
+use crate::usual::Usual;
+use clap::ArgMatches;
+use std::alloc::Global;
+
+/// What the words ask of `restart` or `status`.
+#[derive(Drop)]
+pub struct NamedRequest<'a> {
+    /// What is asked of the session.
+    pub session: SessionRequest<'a>,
+    /// The names of services and bundles.
+    pub names: Vec<String>,
+}
+
+impl<'a> NamedRequest<'a> {
+    /// The same, with these where the words name nothing.
+    pub fn with_usual(self, usual: Usual<'a>) -> NamedRequest<'a>
+        ensures { named_ask_of result ≡ record (named_ask_of self.entry) {
+          session = session_by (usual_ask_of usual.entry) (named_ask_of self.entry).session;
+        } }
+    {
+        let NamedRequest { session, names } = self;
+        NamedRequest {
+            session: session.with_usual(usual),
+            names,
+        }
+    }
+}
+
+/// What the matches of `restart` or `status` ask.
+pub(crate) fn named_in<'a>(
+    alloc: Global,
+    matches: &ArgMatches<'a>,
+) -> Result<NamedRequest<'a>, WordsFault>
+    ensures asked { IfOk result (λ request.
+        AsksNamesIn (rows_of (found_of matches.now)) (named_ask_of request)) }
+    ensures wrong { IfErr result (λ fault. fault ≢ Memory → (ask : NamedAsk) →
+        AsksNamesIn (rows_of (found_of matches.now)) ask → ⊥) }
+{
+    if !are_one_line(matches) {
+        return Err(WordsFault::Newline);
+    }
+    let session = session_in(alloc, matches)?;
+    let names = words_in(alloc, matches)?;
+    Ok(NamedRequest { session, names })
+}

@@ -1,0 +1,241 @@
+//! What the words ask of a session of one line.
+ghost use Rattle.std.specs.Prelude.{◌≡◌, ◌≢◌, ◌↔◌, codes, map, option_map, All, IfErr, IfOk};
+ghost use Rattle.std.specs.Prelude.{IsTrue};
+ghost use Rattle.clap.specs.Words.{found_of, rows_of};
+ghost use Rattle.rc_args.specs.Usual.{session_by, usual_ask_of};
+ghost use Rattle.rc_args.specs.OnceAsked.{AreOneLine, IsOneLine, IsShown, LacksFile};
+ghost use Rattle.rc_cmdline.specs.Words.{words_in as words_rows};
+ghost use Rattle.rc_args.specs.OnceAsked.{Adds, AsksOnceIn, AsksWhat, AsksWhatIn, OnceAsk};
+ghost use Rattle.rc_args.specs.OnceAsked.{OnceSaying};
+ghost use Rattle.rc_args.specs.OnceAsked.{once_ask_of, once_command, once_saying_of};
+ghost use Rattle.rc_args.specs.declared.asked.WordsFault.TheVariants.{Memory};
+
+use crate::asked::{WordsFault, plan_in};
+use crate::limits::run_limit_of;
+use crate::session_request::SessionRequest;
+use crate::session_words::session_in;
+use crate::texts::{strings_of, words_in};
+use crate::usual::Usual;
+use clap::ArgMatches;
+use rc_cmdline::is_on;
+use rc_names::{Name, NameFault};
+use rc_script::SessionLine;
+use rc_session::Step;
+use std::alloc::Global;
+
+/// What a session of one line is to do.
+#[derive(Drop)]
+pub enum Once {
+    /// What this line says.
+    Line(SessionLine),
+    /// To show what an undo would move.
+    DryUndo,
+    /// To show what a redo would move.
+    DryRedo,
+}
+
+/// What the words ask of a session of one line.
+#[derive(Drop)]
+pub struct OnceRequest<'a> {
+    /// What it is to do.
+    pub once: Once,
+    /// What is asked of the session.
+    pub session: SessionRequest<'a>,
+}
+
+impl<'a> OnceRequest<'a> {
+    /// The same, with these where the words name nothing.
+    pub fn with_usual(self, usual: Usual<'a>) -> OnceRequest<'a>
+        ensures { once_ask_of result ≡ record (once_ask_of self.entry) {
+          session = session_by (usual_ask_of usual.entry) (once_ask_of self.entry).session;
+        } }
+    {
+        let OnceRequest { once, session } = self;
+        OnceRequest {
+            once,
+            session: session.with_usual(usual),
+        }
+    }
+
+    /// Whether it needs a file and has none: what it starts would be known to nobody.
+    pub fn lacks_file(&self) -> bool
+        ensures { IsTrue result ↔ LacksFile (once_ask_of self.now) }
+    {
+        self.session.live.is_none() && self.session.starts() && !self.once.is_shown()
+    }
+}
+
+impl Once {
+    /// Whether it shows what would move.
+    fn is_shown(&self) -> bool
+        ensures { IsTrue result ↔ IsShown (once_saying_of self.now) }
+    {
+        match self {
+            Once::Line(SessionLine::Dry(_)) | Once::DryUndo | Once::DryRedo => true,
+            Once::Line(_) => false,
+        }
+    }
+}
+
+/// What the matches of the command of this name ask of a session of one line.
+pub(crate) fn once_in<'a>(
+    alloc: Global,
+    name: &str,
+    matches: &ArgMatches<'a>,
+) -> Result<OnceRequest<'a>, WordsFault>
+    ensures named { IfOk result (λ request. name.now ≡ once_command (once_saying_of request.once)) }
+    ensures asked { IfOk result (λ request.
+        AsksOnceIn (rows_of (found_of matches.now)) (once_ask_of request)) }
+    ensures wrong { IfErr result (λ fault. fault ≢ Memory → (ask : OnceAsk) →
+        name.now ≡ once_command ask.what →
+        AsksOnceIn (rows_of (found_of matches.now)) ask → ⊥) }
+{
+    if !are_one_line(matches) {
+        return Err(WordsFault::Newline);
+    }
+    let once = what_in(alloc, name, matches)?;
+    let session = session_in(alloc, matches)?;
+    Ok(OnceRequest { once, session })
+}
+
+/// Whether the words have no newline.
+pub(crate) fn are_one_line(matches: &ArgMatches<'_>) -> bool
+    ensures { IsTrue result ↔ AreOneLine (words_rows (rows_of (found_of matches.now))) }
+{
+    match matches.get_strs("words") {
+        Some(words) => are_all_one_line(words),
+        None => true,
+    }
+}
+
+// Whether these have no newline.
+fn are_all_one_line(words: &[&str]) -> bool
+    ensures { IsTrue result ↔ All (λ (word : _). IsOneLine word.now) words.now }
+{
+    words.iter().all(|word| is_one_line(word))
+}
+
+// Whether a word has no newline.
+#[tactic(auto, unfolding(crate::specs::OnceAsked::IsOneLine))]
+fn is_one_line(word: &str) -> bool
+    ensures { IsTrue result ↔ IsOneLine word.now }
+{
+    !word.as_bytes().contains(&b'\n')
+}
+
+// What the matches of the command of this name ask to be done.
+fn what_in(alloc: Global, name: &str, matches: &ArgMatches<'_>) -> Result<Once, WordsFault>
+    ensures asked { IfOk result (λ once.
+        AsksWhat name.now (rows_of (found_of matches.now)) (once_saying_of once)) }
+    ensures wrong { IfErr result (λ fault. fault ≢ Memory → (what : OnceSaying) →
+        AsksWhat name.now (rows_of (found_of matches.now)) what → ⊥) }
+{
+    match name {
+        "change" => change_in(alloc, matches),
+        "undo" => undo_in(alloc, matches),
+        "redo" => redo_in(alloc, matches),
+        "add" => add_in(alloc, matches),
+        "delete" => delete_in(alloc, matches),
+        "live" => Ok(Once::Line(SessionLine::Live)),
+        "bundles" => Ok(Once::Line(SessionLine::Bundles)),
+        "journal" => Ok(Once::Line(SessionLine::Journal)),
+        _ => Err(WordsFault::OtherCommand),
+    }
+}
+
+// What the matches of `change` ask to be done.
+fn change_in(alloc: Global, matches: &ArgMatches<'_>) -> Result<Once, WordsFault>
+    ensures asked { IfOk result (λ once.
+        AsksWhat (codes "change") (rows_of (found_of matches.now)) (once_saying_of once)) }
+    ensures wrong { IfErr result (λ fault. fault ≢ Memory → (what : OnceSaying) →
+        AsksWhat (codes "change") (rows_of (found_of matches.now)) what → ⊥) }
+{
+    let Some(limit) = run_limit_of(matches.get_str("limit")) else {
+        return Err(WordsFault::Limit);
+    };
+    let mut request = plan_in(alloc, matches)?;
+    request.limit = limit;
+    if is_on(matches, "dry") {
+        return Ok(Once::Line(SessionLine::Dry(request)));
+    }
+    let step = Step::Change(request, Vec::new(alloc));
+    Ok(Once::Line(SessionLine::Step(step)))
+}
+
+// What the matches of `undo` ask to be done.
+fn undo_in(alloc: Global, matches: &ArgMatches<'_>) -> Result<Once, WordsFault>
+    ensures asked { IfOk result (λ once.
+        AsksWhat (codes "undo") (rows_of (found_of matches.now)) (once_saying_of once)) }
+    ensures wrong { IfErr result (λ fault. fault ≢ Memory → (what : OnceSaying) →
+        AsksWhat (codes "undo") (rows_of (found_of matches.now)) what → ⊥) }
+{
+    let Some(limit) = run_limit_of(matches.get_str("limit")) else {
+        return Err(WordsFault::Limit);
+    };
+    if is_on(matches, "dry") {
+        return Ok(Once::DryUndo);
+    }
+    let step = Step::Undo(limit, Vec::new(alloc));
+    Ok(Once::Line(SessionLine::Step(step)))
+}
+
+// What the matches of `redo` ask to be done.
+fn redo_in(alloc: Global, matches: &ArgMatches<'_>) -> Result<Once, WordsFault>
+    ensures asked { IfOk result (λ once.
+        AsksWhat (codes "redo") (rows_of (found_of matches.now)) (once_saying_of once)) }
+    ensures wrong { IfErr result (λ fault. fault ≢ Memory → (what : OnceSaying) →
+        AsksWhat (codes "redo") (rows_of (found_of matches.now)) what → ⊥) }
+{
+    let Some(limit) = run_limit_of(matches.get_str("limit")) else {
+        return Err(WordsFault::Limit);
+    };
+    if is_on(matches, "dry") {
+        return Ok(Once::DryRedo);
+    }
+    let step = Step::Redo(limit, Vec::new(alloc));
+    Ok(Once::Line(SessionLine::Step(step)))
+}
+
+// What the matches of `add` ask to be done.
+fn add_in(alloc: Global, matches: &ArgMatches<'_>) -> Result<Once, WordsFault>
+    ensures asked { IfOk result (λ once.
+        AsksWhat (codes "add") (rows_of (found_of matches.now)) (once_saying_of once)) }
+    ensures wrong { IfErr result (λ fault. fault ≢ Memory → (what : OnceSaying) →
+        AsksWhat (codes "add") (rows_of (found_of matches.now)) what → ⊥) }
+{
+    let force = is_on(matches, "force");
+    match matches.get_strs("words") {
+        Some(words) => bundle_of(alloc, words, force),
+        None => Err(WordsFault::Name),
+    }
+}
+
+// A bundle of the first word, which holds what the others name.
+fn bundle_of(alloc: Global, words: &[&str], force: bool) -> Result<Once, WordsFault>
+    ensures asked { IfOk result (λ once.
+        Adds (map (λ word. word.now) words.now) force (once_saying_of once)) }
+    ensures wrong { IfErr result (λ fault. fault ≢ Memory → (what : OnceSaying) →
+        Adds (map (λ word. word.now) words.now) force what → ⊥) }
+{
+    let Some((first, rest)) = words.split_first() else {
+        return Err(WordsFault::Name);
+    };
+    let name = match Name::read(alloc, first) {
+        Ok(name) => name,
+        Err(NameFault::Memory) => return Err(WordsFault::Memory),
+        Err(_) => return Err(WordsFault::Name),
+    };
+    let contents = strings_of(alloc, rest)?;
+    Ok(Once::Line(SessionLine::Step(Step::Add(name, contents, force))))
+}
+
+// What the matches of `delete` ask to be done.
+fn delete_in(alloc: Global, matches: &ArgMatches<'_>) -> Result<Once, WordsFault>
+    ensures asked { IfOk result (λ once.
+        AsksWhat (codes "delete") (rows_of (found_of matches.now)) (once_saying_of once)) }
+    ensures wrong { IfErr result (λ fault. fault ≡ Memory) }
+{
+    let names = words_in(alloc, matches)?;
+    let step = Step::Delete(names, is_on(matches, "force"));
+    Ok(Once::Line(SessionLine::Step(step)))
+}

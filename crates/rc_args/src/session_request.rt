@@ -1,0 +1,62 @@
+//! What is asked of a session.
+ghost use Rattle.std.specs.Prelude.{◌≤◌};
+
+use crate::program_words::{Making, Programs};
+use crate::usual::{Usual, named_or};
+
+/// What the words ask of `session`.
+#[derive(Drop)]
+pub struct SessionRequest<'a> {
+    /// How many transitions are made at once.
+    pub workers: u8,
+    /// How they are made.
+    pub making: Making<'a>,
+    /// Whether to report each transition.
+    pub tells: bool,
+    /// Whether not even those are reported that do not succeed.
+    pub quiet: bool,
+    /// How many states a new session has at most.
+    pub bound: u32,
+    /// The file that the session goes on with, and is kept in.
+    pub live: Option<&'a str>,
+    /// Whether that file is waited for where another program holds it.
+    pub waits: bool,
+    ghost crew: { (1 ≤ workers) × (workers ≤ 64) },
+    ghost states: { 3 ≤ bound },
+}
+
+impl<'a> SessionRequest<'a> {
+    ghost use Rattle.std.specs.Prelude.{◌≡◌, ◌↔◌, IsTrue};
+    ghost use Rattle.rc_args.specs.SessionAsked.{Starts, session_ask_of};
+    ghost use Rattle.rc_args.specs.Usual.{session_by, usual_ask_of};
+
+    /// The same, with these where the words name nothing. Where nothing is started the usual file
+    /// is left alone.
+    pub fn with_usual(mut self, usual: Usual<'a>) -> SessionRequest<'a>
+        ensures { session_ask_of result
+            ≡ session_by (usual_ask_of usual.entry) (session_ask_of self.entry) }
+    {
+        match self.making {
+            Making::Table(_) => self,
+            Making::Programs(programs) => {
+                self.live = named_or(self.live, usual.live);
+                self.making = Making::Programs(Programs {
+                    runner: named_or(programs.runner, usual.runner),
+                    controller: named_or(programs.controller, usual.controller),
+                    limit: programs.limit,
+                });
+                self
+            }
+        }
+    }
+
+    /// Whether it starts programs.
+    pub fn starts(&self) -> bool
+        ensures { IsTrue result ↔ Starts (session_ask_of self.now) }
+    {
+        match self.making {
+            Making::Table(_) => false,
+            Making::Programs(_) => true,
+        }
+    }
+}

@@ -1,0 +1,148 @@
+//! What the words ask of `session`.
+ghost use Rattle.std.specs.Prelude.{◌≢◌, ◌≤◌, ℕ, map, option_map, string_bytes, IfErr, IfNone};
+ghost use Rattle.std.specs.Prelude.{IfOk, IfSome};
+ghost use Rattle.clap.specs.Words.{found_of, rows_of};
+ghost use Rattle.rc_args.specs.SessionAsked.{AsksNoSession, AsksSession, AsksSessionIn, IsBoundIn};
+ghost use Rattle.rc_args.specs.SessionAsked.{IsCrewIn, SessionAsk, SpellsBound, SpellsCrew};
+ghost use Rattle.rc_args.specs.SessionAsked.{session_ask_of};
+ghost use Rattle.rc_args.specs.declared.asked.WordsFault.TheVariants.{Memory};
+
+use crate::asked::WordsFault;
+use crate::matched::{command_in, matches_in};
+use crate::program_words::making_in;
+use crate::session_request::SessionRequest;
+use crate::texts::text_in;
+use clap::ArgMatches;
+use rc_cmdline::is_on;
+use rc_line::USUAL_BOUND;
+use std::alloc::Global;
+
+/// The workers of a session, where no number is given.
+const USUAL_WORKERS: u8 = 4;
+
+/// The most workers of a session.
+const MAX_WORKERS: u8 = 64;
+
+/// The least number that a session may have as the most of its states.
+const LEAST_BOUND: u32 = 3;
+
+/// What the words ask of `session`. The first word is the program's own name.
+pub fn session_asked<'a>(
+    alloc: Global,
+    words: &'a [String],
+) -> Result<SessionRequest<'a>, WordsFault>
+    ensures asked { IfOk result (λ request.
+        AsksSession (map string_bytes words.entry.now) (session_ask_of request)) }
+    ensures wrong { IfErr result (λ fault.
+        fault ≢ Memory → AsksNoSession (map string_bytes words.entry.now)) }
+{
+    match matches_in(alloc, words) {
+        Ok(matches) => match command_in(&matches, "session") {
+            Some(inner) => {
+                let asked = session_in(alloc, inner);
+                drop(matches);
+                asked
+            }
+            None => {
+                drop(matches);
+                Err(WordsFault::OtherCommand)
+            }
+        },
+        Err(fault) => Err(fault),
+    }
+}
+
+/// What the matches of `session` ask.
+pub(crate) fn session_in<'a>(
+    alloc: Global,
+    matches: &ArgMatches<'a>,
+) -> Result<SessionRequest<'a>, WordsFault>
+    ensures asked { IfOk result (λ request.
+        AsksSessionIn (rows_of (found_of matches.now)) (session_ask_of request)) }
+    ensures wrong { IfErr result (λ fault.
+        fault ≢ Memory → (ask : SessionAsk) → AsksSessionIn (rows_of (found_of matches.now)) ask →
+        ⊥) }
+{
+    let Some(workers) = workers_of(matches.get_str("workers")) else {
+        return Err(WordsFault::Workers);
+    };
+    let Some(bound) = bound_of(matches.get_str("bound")) else {
+        return Err(WordsFault::Bound);
+    };
+    let tells = is_on(matches, "verbose");
+    let quiet = is_on(matches, "quiet");
+    match making_in(alloc, matches) {
+        Ok(making) => Ok(SessionRequest {
+            workers,
+            making,
+            tells,
+            quiet,
+            bound,
+            live: text_in(matches, "live"),
+            waits: is_on(matches, "wait"),
+        }),
+        Err(fault) => Err(fault),
+    }
+}
+
+// The number of workers that is given, if it is one.
+fn workers_of(given: Option<&str>) -> Option<u8>
+    ensures some { IfSome result (λ workers.
+        IsCrewIn (option_map (λ text. text.now) given.entry) workers) }
+    ensures none { IfNone result ((workers : ℕ) →
+        IsCrewIn (option_map (λ text. text.now) given.entry) workers → ⊥) }
+    ensures crew { IfSome result (λ workers. (1 ≤ workers) × (workers ≤ 64)) }
+{
+    match given {
+        Some(text) => crew_of(text),
+        None => Some(USUAL_WORKERS),
+    }
+}
+
+// The number of workers that a text spells.
+fn crew_of(text: &str) -> Option<u8>
+    ensures some { IfSome result (λ workers. SpellsCrew text.now workers) }
+    ensures none { IfNone result ((workers : ℕ) → SpellsCrew text.now workers → ⊥) }
+{
+    match text.parse::<u8>() {
+        Ok(workers) => {
+            if 1 <= workers && workers <= MAX_WORKERS {
+                Some(workers)
+            } else {
+                None
+            }
+        }
+        Err(_) => None,
+    }
+}
+
+// The bound that is given, if it is one.
+fn bound_of(given: Option<&str>) -> Option<u32>
+    ensures some { IfSome result (λ bound.
+        IsBoundIn (option_map (λ text. text.now) given.entry) bound) }
+    ensures none { IfNone result ((bound : ℕ) →
+        IsBoundIn (option_map (λ text. text.now) given.entry) bound → ⊥) }
+    ensures least { IfSome result (λ bound. 3 ≤ bound) }
+{
+    match given {
+        Some(text) => most_of(text),
+        None => Some(USUAL_BOUND),
+    }
+}
+
+// The bound that a text spells.
+fn most_of(text: &str) -> Option<u32>
+    ensures some { IfSome result (λ bound. SpellsBound text.now bound) }
+    ensures none { IfNone result ((bound : ℕ) → SpellsBound text.now bound → ⊥) }
+{
+    match text.parse::<u32>() {
+        Ok(bound) => {
+            if LEAST_BOUND <= bound {
+                Some(bound)
+            } else {
+                None
+            }
+        }
+        Err(_) => None,
+    }
+}

@@ -1,0 +1,38 @@
+//! The words of a command, as texts of one's own, and the text of an option.
+ghost use Rattle.std.specs.Prelude.{◌≡◌, map, option_map, string_bytes, IfOk};
+ghost use Rattle.clap.specs.Words.{first_of, found_of, rows_of};
+ghost use Rattle.rc_cmdline.specs.Words.{words_in};
+
+use clap::ArgMatches;
+use std::alloc::{AllocError, Global};
+
+/// The words of a command.
+pub fn words_in(alloc: Global, matches: &ArgMatches<'_>) -> Result<Vec<String>, AllocError>
+    ensures { IfOk result (λ words.
+        map string_bytes words.items ≡ words_in (rows_of (found_of matches.now))) }
+{
+    match matches.get_strs("words") {
+        Some(words) => strings_of(alloc, words),
+        None => Ok(Vec::new(alloc)),
+    }
+}
+
+/// Texts of one's own.
+pub fn strings_of(alloc: Global, words: &[&str]) -> Result<Vec<String>, AllocError>
+    ensures { IfOk result (λ strings. map string_bytes strings.items ≡ map (λ w. w.now) words.now) }
+{
+    let mut strings = Vec::new(alloc);
+    for word in words {
+        let string = String::from_str(alloc, word)?;
+        strings.push(string)?;
+    }
+    Ok(strings)
+}
+
+/// The text of an option that is given.
+pub fn text_in<'a>(matches: &ArgMatches<'a>, id: &str) -> Option<&'a str>
+    ensures { option_map (λ text. text.now) result
+        ≡ first_of id.now (rows_of (found_of matches.now)) }
+{
+    matches.get_str(id)
+}

@@ -1,0 +1,170 @@
+//! What the words ask of `update`.
+ghost use Rattle.std.specs.Prelude.{◌≡◌, ◌≢◌, codes, map, IfErr, IfOk};
+ghost use Rattle.clap.specs.Words.{found_of, rows_of};
+ghost use Rattle.rc_cmdline.specs.Words.{values_in};
+ghost use Rattle.rc_args.specs.UpdateAsked.{AsksUpdateIn, UpdateAsk, restart_of, update_ask_of};
+ghost use Rattle.rc_args.specs.Usual.{session_by, usual_ask_of};
+ghost use Rattle.rc_args.specs.declared.asked.WordsFault.TheVariants.{Memory};
+ghost use Rattle.rc_update.specs.Conversions.{conversion_of, conversions_of};
+
+use crate::asked::WordsFault;
+use crate::session_request::SessionRequest;
+use crate::session_words::session_in;
+use crate::texts::text_in;
+use crate::usual::Usual;
+use clap::ArgMatches;
+use rc_cmdline::is_on;
+use rc_update::Conversion;
+use std::alloc::{AllocError, Global};
+
+/// What the words ask of `update`.
+#[derive(Drop)]
+pub struct UpdateRequest<'a> {
+    /// What is asked of the sessions that it makes: its file is that of what is live.
+    pub session: SessionRequest<'a>,
+    /// The file of the new database.
+    pub new: &'a str,
+    /// The file of the renames, if there is one.
+    pub renames: Option<&'a str>,
+    /// What goes on by another name, or is restarted anyway: of the words, what is restarted.
+    pub conversions: Vec<Conversion<'a>>,
+    /// Whether it is shown, and not done.
+    pub dry: bool,
+    /// Whether it was begun before, and was cut short in its first step, which is the last entry of
+    /// its session. No words say so.
+    pub again: bool,
+}
+
+impl<'a> UpdateRequest<'a> {
+    /// The same request, with these where the words name nothing.
+    pub fn with_usual(self, usual: Usual<'a>) -> UpdateRequest<'a>
+        ensures { update_ask_of result ≡ record (update_ask_of self.entry) {
+          session = session_by (usual_ask_of usual.entry) (update_ask_of self.entry).session;
+        } }
+    {
+        let UpdateRequest {
+            session,
+            new,
+            renames,
+            conversions,
+            dry,
+            again,
+        } = self;
+        UpdateRequest {
+            session: session.with_usual(usual),
+            new,
+            renames,
+            conversions,
+            dry,
+            again,
+        }
+    }
+
+    /// The same request, begun before or not.
+    pub fn with_again(self, again: bool) -> UpdateRequest<'a>
+        ensures { update_ask_of result ≡ record (update_ask_of self.entry) { again = again } }
+    {
+        let UpdateRequest {
+            session,
+            new,
+            renames,
+            conversions,
+            dry,
+            again: _,
+        } = self;
+        UpdateRequest {
+            session,
+            new,
+            renames,
+            conversions,
+            dry,
+            again,
+        }
+    }
+
+    /// The same request with these conversions.
+    pub fn with_conversions(self, conversions: Vec<Conversion<'a>>) -> UpdateRequest<'a>
+        ensures { update_ask_of result ≡ record (update_ask_of self.entry) {
+          conversions = conversions_of conversions.entry.items;
+        } }
+    {
+        let UpdateRequest {
+            session,
+            new,
+            renames,
+            conversions: _,
+            dry,
+            again,
+        } = self;
+        UpdateRequest {
+            session,
+            new,
+            renames,
+            conversions,
+            dry,
+            again,
+        }
+    }
+}
+
+/// What the matches of `update` ask.
+pub(crate) fn update_in<'a>(
+    alloc: Global,
+    matches: &ArgMatches<'a>,
+) -> Result<UpdateRequest<'a>, WordsFault>
+    ensures asked { IfOk result (λ request.
+        AsksUpdateIn (rows_of (found_of matches.now)) (update_ask_of request)) }
+    ensures wrong { IfErr result (λ fault. fault ≢ Memory → (ask : UpdateAsk) →
+        AsksUpdateIn (rows_of (found_of matches.now)) ask → ⊥) }
+{
+    let Some(new) = matches.get_str("new") else {
+        return Err(WordsFault::Files);
+    };
+    let session = session_in(alloc, matches)?;
+    let conversions = restarts_in(alloc, matches)?;
+    Ok(UpdateRequest {
+        session,
+        new,
+        renames: text_in(matches, "renames"),
+        conversions,
+        dry: is_on(matches, "dry"),
+        again: false,
+    })
+}
+
+// What is restarted anyway.
+fn restarts_in<'a>(
+    alloc: Global,
+    matches: &ArgMatches<'a>,
+) -> Result<Vec<Conversion<'a>>, AllocError>
+    ensures { IfOk result (λ list. conversions_of list.items
+        ≡ map restart_of (values_in (codes "restarts") (rows_of (found_of matches.now)))) }
+{
+    match matches.get_strs("restarts") {
+        Some(names) => restarts_of(alloc, names),
+        None => Ok(Vec::new(alloc)),
+    }
+}
+
+// These are restarted.
+fn restarts_of<'a>(alloc: Global, names: &[&'a str]) -> Result<Vec<Conversion<'a>>, AllocError>
+    ensures { IfOk result (λ list.
+        conversions_of list.items ≡ map (λ name. restart_of name.now) names.now) }
+{
+    let mut list = Vec::new(alloc);
+    for name in names {
+        list.push(restart_of(name))?;
+    }
+    Ok(list)
+}
+
+// This is restarted.
+fn restart_of<'a>(name: &'a str) -> Conversion<'a>
+    ensures { conversion_of result ≡ restart_of name.entry.now }
+{
+    Conversion {
+        old: name.as_bytes(),
+        new: name.as_bytes(),
+        restart: true,
+    }
+}

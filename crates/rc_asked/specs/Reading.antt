@@ -1,7 +1,0 @@
--- A transition that was read, by its way and the name of its service.
-use Rattle.rc_asked.specs.declared.transitions.Transition.{Transition}
-use Rattle.rc_asked.specs.Listed.{Listed}
-
--- the transition that was read
-abbrev pub listed_of : Transition → Listed
-listed_of one = record { way = one.way; name = one.name.now }

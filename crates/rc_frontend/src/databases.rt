@@ -1,0 +1,216 @@
+//! What helps where a text is no database, or no session's, or a name is not in a database.
+use rc_diagnostics::{Hint, Said, cut_at, first_word, is_one_edit, line_at, text_of};
+use rc_names::NoMem;
+use std::alloc::Global;
+
+/// A sort of text, as people are told of it.
+struct Form {
+    front: &'static [u8],
+    name: &'static str,
+    help: &'static str,
+}
+
+const DATABASE: Form = Form {
+    front: b"undorc-db ",
+    name: "database",
+    help: "undorc compile makes one",
+};
+
+const SESSION: Form = Form {
+    front: b"undorc-live ",
+    name: "file of a session",
+    help: "where there is none, a session makes one",
+};
+
+/// What helps after a refusal of the database in a file, or on standard input: the refusal's word
+/// and what stands after it.
+pub fn database_hint(alloc: Global, path: &str, bytes: &[u8], word: &str, rest: &str) -> Hint {
+    let what = match word {
+        "Bad" => return bad_line(alloc, path, bytes, rest, &DATABASE),
+        "Unknown" => return near_hint(alloc, bytes, rest),
+        "Version" => ":1: this program reads 'undorc-db 1'",
+        "NotSorted" => ": names do not ascend in byte order",
+        "Dangling" => ": a line names what it may not",
+        "Cyclic" => ": a service needs itself along a path",
+        _ => return Ok(None),
+    };
+    hint_of(alloc, path, what, ": undorc compile makes it anew")
+}
+
+/// What helps after a refusal of the text that a session was to go on with.
+pub fn live_hint(alloc: Global, path: &str, bytes: &[u8], word: &str, rest: &str) -> Hint {
+    let what = match word {
+        "Bad" => return bad_line(alloc, path, bytes, rest, &SESSION),
+        "Version" => ":1: this program reads 'undorc-live 2' and 'undorc-live 1'",
+        "OtherDb" =>
+            ": the session of another database; name that one by -b, also for undorc update",
+        "Unknown" if rest.is_empty() => ": a state names what is no service of the database",
+        "NotClosed" => ": a service is up without one that it needs, in state ",
+        "SameState" => ": two states in a row are the same",
+        "OverBound" => ": there are more states than its line 'bound' says",
+        _ => return Ok(None),
+    };
+    hint_of(alloc, path, what, rest)
+}
+
+/// The line that is not due.
+fn bad_line(alloc: Global, path: &str, bytes: &[u8], offset: &str, form: &Form) -> Hint {
+    let Ok(offset) = offset.parse::<usize>() else {
+        return Ok(None);
+    };
+    let mut said = Said::new(alloc);
+    said.add(path);
+    if bytes.starts_with(form.front) {
+        said.add_number(line_at(bytes, offset));
+        said.add_row(": ", not_due(bytes, offset), "");
+    } else {
+        let what = if bytes.is_empty() {
+            ": an empty file is no "
+        } else {
+            " is no "
+        };
+        said.add(what);
+        said.add_row(form.name, ": ", form.help);
+    }
+    said.hint()
+}
+
+/// A hint of these texts in a row.
+fn hint_of(alloc: Global, front: &str, middle: &str, back: &str) -> Hint {
+    let mut said = Said::new(alloc);
+    said.add_row(front, middle, back);
+    said.hint()
+}
+
+/// What is wrong with the line that begins at an offset.
+fn not_due(bytes: &[u8], offset: usize) -> &'static str {
+    let rest = bytes.get(offset..).unwrap_or(&[]);
+    if rest.is_empty() {
+        return "the text ends here, before its line 'end'";
+    }
+    if bytes.get(..offset).unwrap_or(&[]).ends_with(b"\nend\n") {
+        return "nothing may stand behind the line 'end'";
+    }
+    let (line, _) = cut_at(rest, b'\n');
+    if line.ends_with(b"\r") {
+        return "this line has not the form that is due (a Windows line end?)";
+    }
+    "this line has not the form that is due"
+}
+
+/// The name of a database that may have been meant, or how all of them are printed.
+pub fn near_hint(alloc: Global, database: &[u8], name: &str) -> Hint {
+    let mut rest = database;
+    for _ in 0..database.len() {
+        let (line, behind) = next_line(rest);
+        rest = behind;
+        if line == "end" {
+            let mut said = Said::new(alloc);
+            said.add_row(
+                "nothing is named ",
+                name,
+                "; undorc db list all prints the names",
+            );
+            return said.hint();
+        }
+        if let Some(("service" | "bundle", words)) = line.split_once(' ') {
+            let near = first_word(words);
+            if is_one_edit(name.as_bytes(), near.as_bytes()) {
+                let mut said = Said::new(alloc);
+                said.add_row("nothing is named ", name, "; is ");
+                said.add_row(near, " meant?", "");
+                return said.hint();
+            }
+        }
+    }
+    Ok(None)
+}
+
+/// What stands after the database at the beginning of a text.
+pub fn behind_end(bytes: &[u8]) -> &[u8] {
+    let mut rest = bytes;
+    for _ in 0..bytes.len() {
+        let (line, behind) = next_line(rest);
+        rest = behind;
+        if line == "end" {
+            return rest;
+        }
+    }
+    rest
+}
+
+/// A service that is up, a name a line, and one that it needs and that is not among them.
+pub fn lacking_hint<'a>(alloc: Global, database: &'a [u8], up: &'a [u8]) -> Hint {
+    let mut listed = Vec::new(alloc);
+    let sorted = add_sorted(text_of(up), &mut listed);
+    let lacking = lacking_of(database, &listed);
+    drop(listed);
+    sorted?;
+    match lacking {
+        Some((service, need)) => {
+            let mut said = Said::new(alloc);
+            said.add_row(service, " is up and needs ", need);
+            said.add(", which is not among those listed");
+            said.hint()
+        }
+        None => Ok(None),
+    }
+}
+
+/// Adds the lines of a text, in byte order.
+fn add_sorted<'a>(text: &'a str, lines: &mut Vec<&'a str>) -> Result<(), NoMem> {
+    for line in text.split('\n') {
+        lines.push(line)?;
+    }
+    lines.sort()
+}
+
+/// The first service of a database that is listed, and its first need
+/// that is not. The list ascends.
+fn lacking_of<'a>(database: &'a [u8], listed: &[&'a str]) -> Option<(&'a str, &'a str)> {
+    let mut rest = database;
+    for _ in 0..database.len() {
+        let (line, behind) = next_line(rest);
+        rest = behind;
+        let (needs, _) = next_line(rest);
+        let (Some(("service", words)), Some((_, needs))) = (
+            line.split_once(' '),
+            needs.split_once(' '),
+        ) else {
+            continue;
+        };
+        let service = first_word(words);
+        if listed.binary_search(&service).is_ok() {
+            if let Some(need) = first_missing(listed, needs) {
+                return Some((service, need));
+            }
+        }
+    }
+    None
+}
+
+/// The first of these words that is not listed. The list ascends.
+fn first_missing<'a>(listed: &[&'a str], words: &'a str) -> Option<&'a str> {
+    for word in words.split(' ') {
+        if listed.binary_search(&word).is_err() {
+            return Some(word);
+        }
+    }
+    None
+}
+
+/// The line in front, and what stands after it and after the text that it announces.
+fn next_line(bytes: &[u8]) -> (&str, &[u8]) {
+    let (line, rest) = cut_at(bytes, b'\n');
+    let line = std::str::from_utf8(line).unwrap_or("");
+    let Some(("up" | "down", length)) = line.split_once(' ') else {
+        return (line, rest);
+    };
+    let Ok(length) = length.parse::<usize>() else {
+        return (line, rest);
+    };
+    match rest.get(length..) {
+        Some([_, behind @ ..]) => (line, behind),
+        _ => (line, &[]),
+    }
+}
