@@ -12,26 +12,26 @@ SOURCES := $(shell find crates -name out -prune -o -type f -print) crates.txt
 build: $(PROGRAM)
 
 $(PROGRAM): $(SOURCES)
-	@sh tests/build.sh
+	@tests/gate/build.sh
 
 # Shows the proved program where it is there, else the program as it stands, with nothing proved.
 demo:
-	@sh tests/demo.sh $(PROGRAM)
+	@tests/gate/demo.sh $(PROGRAM)
 
 # The list of definitions with the contracts that name them, from the sources; it is not kept in git.
 model:
-	@python3 tests/words.py > docs/WORDS.md
+	@tests/gate/words.py > docs/WORDS.md
 
 # The descriptions of the crates, from the heads of their root files.
 crates:
-	@python3 tests/crates.py
+	@tests/gate/crates.py
 
 # The lists of the man pages that are tables of docs/FORMATS.md and docs/COMMANDS.md.
 pages:
-	@python3 tests/manual.py
+	@tests/gate/manual.py
 
 test:
-	@sh tests/all.sh
+	@tests/gate/all.sh
 
 # The program, the man pages, the completion, contrib and the documents.
 install: build

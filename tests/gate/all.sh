@@ -3,9 +3,9 @@
 # The last line is 'N passed, M failed, K skipped' over all. The status is 0 where none failed; with UNDORC_NO_SKIPS set,
 # where none was skipped either.
 set -eu
-cd "$(dirname "$0")/.."
-# shellcheck source=tally.sh
-. tests/tally.sh
+cd "$(dirname "$0")/../.."
+# shellcheck source=../lib/tally.sh
+. tests/lib/tally.sh
 room=$(mktemp -d)
 trap 'rm -rf "$room"' EXIT
 : > "$room/spent"
@@ -41,7 +41,7 @@ count() {
 
 # within SECONDS COMMAND..: the same under a limit; the command leaves no process behind
 within() {
-    count tests/within.py "$@"
+    count tests/lib/within.py "$@"
 }
 
 # built PROGRAM: whether a build is there; where it is missing, that is one failure
@@ -56,30 +56,30 @@ built() {
 # What LLVM built.
 first() {
     if built crates/undorc/out/undorc; then
-        within 1800 sh tests/program.sh crates/undorc/out/undorc
-        within 900 sh tests/wrong.sh crates/undorc/out/undorc
-        within 900 tests/kills.py crates/undorc/out/undorc 200 "$seed"
-        within 300 sh tests/pages.sh crates/undorc/out/undorc
-        within 300 sh tests/packaging.sh crates/undorc/out/undorc
-        within 300 sh tests/tutorial.sh crates/undorc/out/undorc
+        within 1800 tests/outside/program.sh crates/undorc/out/undorc
+        within 900 tests/outside/wrong.sh crates/undorc/out/undorc
+        within 900 tests/outside/kills.py crates/undorc/out/undorc 200 "$seed"
+        within 300 tests/gate/pages.sh crates/undorc/out/undorc
+        within 300 tests/gate/packaging.sh crates/undorc/out/undorc
+        within 300 tests/gate/tutorial.sh crates/undorc/out/undorc
     fi
     if built crates/scenarios_memory/out/scenarios_memory; then
-        within 900 sh tests/growths.sh crates/scenarios_memory/out/scenarios_memory
+        within 900 tests/outside/growths.sh crates/scenarios_memory/out/scenarios_memory
     fi
-    within 300 sh tests/shells.sh
-    within 60 sh tests/codes.sh
+    within 300 tests/gate/shells.sh
+    within 60 tests/gate/codes.sh
 }
 
 # What Rattle's own compiler built, and drawn cases on the first program, which take as long.
 second() {
     if built crates/undorc/out/undorc.by-rattle; then
-        within 1800 sh tests/program.sh crates/undorc/out/undorc.by-rattle
-        within 600 sh tests/fuzz.sh 30 $((seed + 500000)) crates/undorc/out/undorc.by-rattle
+        within 1800 tests/outside/program.sh crates/undorc/out/undorc.by-rattle
+        within 600 tests/outside/fuzz.sh 30 $((seed + 500000)) crates/undorc/out/undorc.by-rattle
     fi
     if built crates/scenarios_memory/out/scenarios_memory.by-rattle; then
-        within 900 sh tests/growths.sh crates/scenarios_memory/out/scenarios_memory.by-rattle
+        within 900 tests/outside/growths.sh crates/scenarios_memory/out/scenarios_memory.by-rattle
     fi
-    ! built crates/undorc/out/undorc || within 600 sh tests/fuzz.sh 30 "$seed" crates/undorc/out/undorc
+    ! built crates/undorc/out/undorc || within 600 tests/outside/fuzz.sh 30 "$seed" crates/undorc/out/undorc
 }
 
 # Whether each crate that has mutants is proved, as far as the proofs have come.
@@ -103,8 +103,8 @@ until [ -f "$room/ended" ] || are_proved; do
 done
 # Of some crates the bodies are tried as they are, too: none of them may be refused.
 {
-    within 7200 tests/mutants.py
-    within 1800 tests/mutants.py --right rc_names rc_lexer rc_bundle rc_session
+    within 7200 tests/gate/mutants.py
+    within 1800 tests/gate/mutants.py --right rc_names rc_lexer rc_bundle rc_session
 } > "$room/mutants" 2>&1 &
 mutants=$!
 wait "$proofs"
@@ -122,8 +122,8 @@ cat "$room/first"
 wait "$second"
 cat "$room/second"
 if [ -f crates/undorc/out/undorc ]; then
-    within 600 sh tests/supervised.sh crates/undorc/out/undorc
-    within 600 sh tests/machine.sh crates/undorc/out/undorc
+    within 600 tests/outside/supervised.sh crates/undorc/out/undorc
+    within 600 tests/outside/machine.sh crates/undorc/out/undorc
 fi
 
 # What it cost: the clock, and of the processors user and system time of the last line of `times`.

@@ -3,7 +3,7 @@
 # builds the program. A crate begins once all that it stands on is proved, and of those that may begin
 # first the one with the most to prove after it. A line tells when each begins and when it has ended.
 set -eu
-cd "$(dirname "$0")/.."
+cd "$(dirname "$0")/../.."
 if ! command -v rt > /dev/null; then
     echo 'rt is not on PATH. It is the command of the Rattle kit, which README.md names.' >&2
     exit 127

@@ -1,11 +1,11 @@
 #!/bin/sh
-# The words and codes of refusals, as tests/codes.txt lists them, beside the enums of the sources: a variant's code is its
+# The words and codes of refusals, as codes.txt lists them, beside the enums of the sources: a variant's code is its
 # number, or where the enum holds data, and so can have no numbers, its place. A struct stands for code 1. The last line
 # is 'N passed, M failed, K skipped', and the status is 0 where none failed.
 set -eu
-cd "$(dirname "$0")/.."
-# shellcheck source=tally.sh
-. tests/tally.sh
+cd "$(dirname "$0")/../.."
+# shellcheck source=../lib/tally.sh
+. tests/lib/tally.sh
 passed=0 failed=0 skipped=0
 
 # declared CRATE NAME: the words of an enum of a crate, each with its code
@@ -31,5 +31,5 @@ while IFS=: read -r enum words; do
         failed=$((failed + 1))
         printf 'FAILED: the codes of %s are\n%s, and are to be\n%s\n' "$enum" "$found" "$words"
     fi
-done < tests/codes.txt
+done < tests/gate/codes.txt
 tally

@@ -1,8 +1,8 @@
 #!/usr/bin/env python3
 """Keeps the lines of the crates' .rt and .antt files within 100 characters.
 
-    tests/columns.py [FILE..]          breaks the lines that are too long, and lays the files out as `rt fmt` does
-    tests/columns.py --check [FILE..]  names each line that is too long, and writes nothing
+    tests/gate/columns.py [FILE..]          breaks the lines that are too long, and formats as `rt fmt` does
+    tests/gate/columns.py --check [FILE..]  names each line that is too long, and writes nothing
 
 Without a FILE it takes all files of `src`, `specs` and `proofs`. The status is 1 if a line is too long at the end.
 
@@ -23,7 +23,7 @@ import subprocess
 import sys
 import tempfile
 
-TOP = pathlib.Path(__file__).resolve().parent.parent
+TOP = pathlib.Path(__file__).resolve().parents[2]
 WIDTH, ROUNDS = 100, 60
 COMMENT = re.compile(r"(\s*)(--|///|//!|//)( |$)")
 USE = re.compile(r"(\s*(?:pub |ghost )?use )([^{}]*)\{([^{}]*)\}(;?)$")

@@ -1,5 +1,5 @@
 # Completion against the program and the sample: what is offered in bash without a terminal, in fish
-# where it is there, and what zsh, where it is there, hands to its own functions. tests/pages.sh reads
+# where it is there, and what zsh, where it is there, hands to its own functions. pages.sh reads
 # this file: `own`, `commands`, `options` and `queries` are what the program has.
 printf '%b' "$sample" > base
 {

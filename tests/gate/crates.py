@@ -1,8 +1,8 @@
 #!/usr/bin/env python3
 """Makes docs/CRATES.md from the `//!` heads of the crates' root files.
 
-    tests/crates.py            writes it (`make crates`)
-    tests/crates.py --check    prints how it differs from what would be made (status 1), and writes nothing
+    tests/gate/crates.py            writes it (`make crates`)
+    tests/gate/crates.py --check    prints how it differs from what would be made (status 1), and writes nothing
 
 The crates stand in the order of crates.txt, each with the crates and libraries that it depends on.
 """
@@ -11,7 +11,7 @@ import difflib
 import pathlib
 import sys
 
-TOP = pathlib.Path(__file__).resolve().parent.parent
+TOP = pathlib.Path(__file__).resolve().parents[2]
 MADE = TOP / "docs" / "CRATES.md"
 HEAD = """# Crates
 

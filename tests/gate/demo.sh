@@ -1,10 +1,10 @@
 #!/bin/sh
 # Shows the main job on the sample: a query, a plan, a session with a failure and its undo, a replay.
-#   tests/demo.sh PROGRAM
+#   tests/gate/demo.sh PROGRAM
 # The proved program is run where it is there and no source is newer. Else the program is compiled
 # as it stands, with nothing proved, which takes a minute or two.
 set -eu
-cd "$(dirname "$0")/.."
+cd "$(dirname "$0")/../.."
 program=$1
 cases=docs/samples/demo
 base=docs/samples/sample.txt

@@ -1,6 +1,6 @@
 # What the documents say of the sources: each crate of crates.txt stands in the tree of docs/ARCHITECTURE.md and in the
 # tables of docs/PROOF.md, and each definition and call that docs/MODEL.md names is there, and each file that any names.
-# tests/pages.sh reads this file.
+# pages.sh reads this file.
 
 # The crates of the product, and those that test.
 grep -v '^#' "$top/crates.txt" | sed 's/:.*//' > crates
@@ -73,23 +73,23 @@ done
 equals 'the scripts of samples, which can run twice'
 
 # Lengths of paragraphs, sentences, cells and documents, and what scripts make.
-if python3 "$top/tests/prose.py"; then
+if python3 "$top/tests/gate/prose.py"; then
     passed=$((passed + 1))
 else
     failed=$((failed + 1))
-    echo 'FAILED: documents are too long, or not what is made (make crates; tests/figures.sh)'
+    echo 'FAILED: documents are too long, or not what is made (make crates; tests/bench/figures.sh)'
 fi
 
 # Lines of sources and proofs have at most 100 columns.
-if python3 "$top/tests/columns.py" --check; then
+if python3 "$top/tests/gate/columns.py" --check; then
     passed=$((passed + 1))
 else
     failed=$((failed + 1))
-    echo 'FAILED: lines are too long (tests/columns.py breaks them)'
+    echo 'FAILED: lines are too long (tests/gate/columns.py breaks them)'
 fi
 
 # The list of definitions, which is not kept, can be made: it has each module of rc_model with a definition.
-python3 "$top/tests/words.py" > words.md
+python3 "$top/tests/gate/words.py" > words.md
 sed -n 's/^## `rc_model`: `\(.*\)`/\1/p' words.md > found
 sed -n 's/^pub mod //p' "$top/crates/rc_model/specs/Lib.antt" > wanted
 holds 'the list of make model'

@@ -1,7 +1,7 @@
 #!/usr/bin/env python3
 """Proves one crate from nothing, and lists the functions that took longest, and the parts of a proof.
 
-    tests/function_times.py NAME [COUNT]
+    tests/gate/function_times.py NAME [COUNT]
 
 It stands over the libraries that `rt ci` has proved, and keeps nothing. The prover writes each module
 as soon as it has checked it, so the time of a module is that since the one before it, by the clock: run
@@ -57,7 +57,7 @@ def named():
     crates = Crates()
     name, count = [*sys.argv[1:], "20"][:2] if len(sys.argv) in (2, 3) else ("", "")
     if name not in crates.uses or not count.isdigit():
-        sys.exit("function_times.py: name a crate of crates.txt: tests/function_times.py NAME [COUNT]")
+        sys.exit("function_times.py: name a crate of crates.txt, as in function_times.py NAME [COUNT]")
     for below in crates.below(name):
         if not crates.lib(below).is_dir():
             sys.exit(f"function_times.py: there is no proved library of {below}: run rt ci, or rt all check")

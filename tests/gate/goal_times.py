@@ -1,7 +1,7 @@
 #!/usr/bin/env python3
 """Lists what the search for each goal of a function costs, of those that have no written answer.
 
-    tests/goal_times.py NAME FUNCTION [PATTERN]
+    tests/gate/goal_times.py NAME FUNCTION [PATTERN]
 
 NAME is a library of crates.txt, FUNCTION a path below it, as `line::Line::close`, and PATTERN a regular
 expression for the goals that are asked for. It stands over the libraries that `rt ci` has proved, and
@@ -56,7 +56,7 @@ def copy_of(name, function, goals, uses, wanted, room):
 
 def main():
     if len(sys.argv) not in (3, 4) or sys.argv[1] not in Crates().uses:
-        sys.exit("goal_times.py: name a library and a function of it: tests/goal_times.py NAME FUNCTION [PATTERN]")
+        sys.exit("goal_times.py: name a library and a function of it, as in goal_times.py NAME FUNCTION [PATTERN]")
     crates, (name, function, pattern) = Crates(), [*sys.argv[1:], ""][:3]
     with tempfile.TemporaryDirectory() as folder:
         room = pathlib.Path(folder)

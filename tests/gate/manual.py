@@ -1,8 +1,8 @@
 #!/usr/bin/env python3
 """Makes the lists of the man pages that are tables of docs/FORMATS.md and docs/COMMANDS.md.
 
-    tests/manual.py            writes them (`make pages`)
-    tests/manual.py --check    prints how the pages differ from what would be made (status 1), and writes nothing
+    tests/gate/manual.py            writes them (`make pages`)
+    tests/gate/manual.py --check    prints how the pages differ from what would be made (status 1), and writes nothing
 
 A list in a page stands between two comments, and is made anew from the table that the first one names, by the heading
 of its section and that of its first column; MACRO is what the words of its items are set in:
@@ -19,7 +19,7 @@ import pathlib
 import re
 import sys
 
-TOP = pathlib.Path(__file__).resolve().parent.parent
+TOP = pathlib.Path(__file__).resolve().parents[2]
 MADE = re.compile(r'(\.\\" made from docs/FORMATS\.md by make pages: (\w\w), (\w+) of (.*)\n)(?:.*\n)*?(\.\\" end\n)')
 DOCUMENTS = ("FORMATS.md", "COMMANDS.md")
 PLACE = r"[A-Z]+"

@@ -1,8 +1,8 @@
 #!/usr/bin/env python3
 """Tries the mutants crates/NAME/mutants/*.edit, each of which the prover must refuse.
 
-    tests/mutants.py [NAME..]
-    tests/mutants.py --right [NAME..]
+    tests/gate/mutants.py [NAME..]
+    tests/gate/mutants.py --right [NAME..]
 
 With --right the bodies are tried as they are, in the same way, and none may be refused: so it is seen that
 a goal which a mutant names is proved where nothing is wrong. A mutant for which it is not names no goal.
@@ -39,7 +39,7 @@ import tempfile
 from concurrent.futures import ThreadPoolExecutor
 from dataclasses import dataclass, field, replace
 
-TOP = pathlib.Path(__file__).resolve().parent.parent
+TOP = pathlib.Path(__file__).resolve().parents[2]
 KIT = pathlib.Path(subprocess.check_output(["rt", "doc"], text=True).strip()).parent
 # So many mutants are tried in one run, which takes up to 5 GB: a run reads all libraries first, so few are cheaper.
 MUTANTS = 130

@@ -1,11 +1,11 @@
 #!/bin/sh
 # What is installed, from the repository and from an archive of a release:
-# tests/packaging.sh PROGRAM. The last line is 'N passed, M failed, K skipped', and the status is 0 where none failed.
+# tests/gate/packaging.sh PROGRAM. The last line is 'N passed, M failed, K skipped', and the status is 0 where none
+# failed.
 set -eu
 here=$(realpath "$(dirname "$0")")
 program=$(realpath "$1")
-top=$(realpath "$here/..")
-. "$here/library.sh"
+. "$here/../lib/library.sh"
 
 # told WHAT: the files `out` and `out.wanted` agree, and nothing went wrong.
 told() {
@@ -60,7 +60,7 @@ told 'nothing is installed beside the prefix'
 # The scripts call the program by its full path, whatever PATH has.
 (
     UNDORC_SUPERVISOR=s6
-    # shellcheck source=../contrib/machine/settings
+    # shellcheck source=../../contrib/machine/settings
     . "$to/share/undorc/machine/settings"
     echo "$UNDORC_PROGRAM"
 ) > out

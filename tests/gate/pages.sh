@@ -1,12 +1,11 @@
 #!/bin/sh
-# Compares the man pages and the completion with the program, and the documents with the sources: tests/pages.sh PROGRAM.
-# What must stand there is taken from the help texts of the program, from docs/FORMATS.md and docs/COMMANDS.md, from
+# Compares the man pages and the completion with the program, and the documents with the sources:
+# tests/gate/pages.sh PROGRAM. What must stand there is taken from the help texts of the program, from docs/FORMATS.md and docs/COMMANDS.md, from
 # crates.txt and from the sources. The last line is 'N passed, M failed, K skipped', and the status is 0 where none failed.
 set -eu
 here=$(realpath "$(dirname "$0")")
 program=$(realpath "$1")
-top=$(realpath "$here/..")
-. "$here/library.sh"
+. "$here/../lib/library.sh"
 pages=$top/man
 contrib=$top/contrib/completion
 

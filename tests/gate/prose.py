@@ -1,7 +1,7 @@
 #!/usr/bin/env python3
 """Checks how the documents read, and that generated ones are what their scripts make.
 
-    tests/prose.py [FILE..]    the documents of the repository without a FILE; with one, no generated ones
+    tests/gate/prose.py [FILE..]    the documents of the repository without a FILE; with one, no generated ones
 
 A paragraph has at most 600 characters (six lines of 100 columns), a sentence 40 words, a table cell 200 characters, and
 a document the length that LENGTHS gives. Each line that is printed is one place that breaks a rule; the status is 1 then.
@@ -12,7 +12,7 @@ import re
 import subprocess
 import sys
 
-TOP = pathlib.Path(__file__).resolve().parent.parent
+TOP = pathlib.Path(__file__).resolve().parents[2]
 PARAGRAPH, SENTENCE, CELL = 600, 40, 200
 KB = 1024
 LENGTHS = {
@@ -31,7 +31,10 @@ LENGTHS = {
 }
 # Their cells are items of man pages, which may be longer.
 LISTS = {"docs/COMMANDS.md", "docs/FORMATS.md"}
-GENERATED = {"docs/CRATES.md": ["tests/crates.py", "--check"], "docs/FIGURES.md": ["sh", "tests/figures.sh", "--check"]}
+GENERATED = {
+    "docs/CRATES.md": ["tests/gate/crates.py", "--check"],
+    "docs/FIGURES.md": ["tests/bench/figures.sh", "--check"],
+}
 ITEM = re.compile(r"^\s*([-*]|\d+\.) ")
 
 

@@ -1,13 +1,12 @@
 #!/bin/sh
 # Follows docs/TUTORIAL.md and docs/S6RC.md word by word, each in an empty folder, with what `make install` copies:
-# tests/tutorial.sh PROGRAM. Each answer is compared with what stands there, but for times and
+# tests/gate/tutorial.sh PROGRAM. Each answer is compared with what stands there, but for times and
 # process numbers; lines with a time that stand together may come in another order. The last line
 # is 'N passed, M failed, K skipped', and the status is 0 where none failed.
 set -eu
 here=$(realpath "$(dirname "$0")")
 program=$(realpath "$1")
-top=$(realpath "$here/..")
-. "$here/library.sh"
+. "$here/../lib/library.sh"
 if ! command -v s6-svscan > /dev/null || ! command -v execlineb > /dev/null; then
     skip 'the tutorials, since s6 or execline is missing (the packages s6 and execline)'
     tally

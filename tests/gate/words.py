@@ -1,7 +1,7 @@
 #!/usr/bin/env python3
 """Prints docs/WORDS.md: each definition that a public contract names, with what its comment says, and the contracts.
 
-    tests/words.py > docs/WORDS.md        (`make model`; git does not keep it)
+    tests/gate/words.py > docs/WORDS.md        (`make model`; git does not keep it)
 
 Of rc_model, which is read as a whole, each definition is listed; of other crates those that the contract of a public
 call or type names. A contract names a word where the file imports it, and it stands in a clause of the call or type.
@@ -11,7 +11,7 @@ import pathlib
 import re
 from dataclasses import dataclass, field
 
-TOP = pathlib.Path(__file__).resolve().parent.parent
+TOP = pathlib.Path(__file__).resolve().parents[2]
 HEAD = """# Words of the contracts
 
 Made by `make model` from the sources; `docs/MODEL.md` says how to read it. Each definition of `rc_model`, in the order of \

@@ -1,6 +1,6 @@
 """What a run of the program may come to, in which something was refused or failed: what it wrote, its
 status, the file of its session, and what its scripts noted (a line `up NAME` or `down NAME` of each).
-tests/refusals.py makes the runs.
+refusals.py makes the runs.
 
 What a whole run writes stands in `whole.none`, and the file of its session after so many commands in
 `text.none.NUMBER`; in place of `none` stand the transitions that can't be started, as `-x` takes them.

@@ -1,6 +1,7 @@
 # What the tests of the built program share: a folder of their own, texts, runs, and what is wanted of them. The script that
-# reads this file has set `here` to the folder tests and `program` to the built program's path.
-samples=$(realpath "$here/../docs/samples")
+# reads this file has set `here` to a folder in tests and `program` to the built program's path.
+top=$(realpath "$here/../..")
+samples=$top/docs/samples
 room=$(mktemp -d)
 trap 'rm -rf "$room"' EXIT
 trap 'exit 143' TERM
@@ -10,7 +11,7 @@ failed=0
 skipped=0
 patience=30
 # shellcheck source=tally.sh
-. "$here/tally.sh"
+. "$top/tests/lib/tally.sh"
 
 # Texts are written as printf's %b reads them, each on one line.
 sample=$(sed 's/$/\\n/' "$samples/sample.txt" | tr -d '\n')
@@ -177,21 +178,21 @@ worked_in() {
     rm -rf "$work"
 }
 
-# preloads NAME: makes the library tests/NAME.c, which `refusing` puts before the C library.
+# preloads NAME: makes the library tests/lib/NAME.c, which `refusing` puts before the C library.
 preloads() {
     preload=$room/$1.so
-    if ! "${CC:-cc}" -shared -fPIC -o "$preload" "$here/$1.c" -ldl > made 2>&1; then
+    if ! "${CC:-cc}" -shared -fPIC -o "$preload" "$top/tests/lib/$1.c" -ldl > made 2>&1; then
         failed=$((failed + 1))
-        echo "FAILED: tests/$1.c was not made:"
+        echo "FAILED: tests/lib/$1.c was not made:"
         cat made
     fi
     # What `python3` stands for may be a script, which takes longer than what is run.
     python=$(python3 -c 'import sys; print(sys.executable)')
 }
 
-# refusing NAME=VALUE.. -- WORDS..: what tests/refusals.py says of runs in each of which something is refused.
+# refusing NAME=VALUE.. -- WORDS..: what tests/lib/refusals.py says of runs in each of which something is refused.
 refusing() {
-    "$python" -BES "$here/refusals.py" "program=$program" "preload=$preload" "$@"
+    "$python" -BES "$top/tests/lib/refusals.py" "program=$program" "preload=$preload" "$@"
 }
 
 # all_end ENDS WHAT NAME=VALUE.. -- WORDS..: the same, judged: none is to be wrong, and ENDS are the lines of how

@@ -1,12 +1,12 @@
 """Runs a program again and again, and in each run one thing is refused or fails, in turn. Says which runs
 are not as they are to be, and then how they ended, once each: refusals.py NAME=VALUE.. -- WORDS..
 
-The words are those of the program, which reads the file `in`. The names, beside those of tests/ended.py:
+The words are those of the program, which reads the file `in`. The names, beside those of ended.py:
     program, preload  the program, and the library that is put before the C library, by their paths
     ways     variables for that library, one after another. The run N has in them the number N, and the
              last run is that in which so many growths, or starts of threads, have not come any more
     from     how many growths before the first that is refused are left out
-    device   a variable of tests/devices.c. The run N has in it
+    device   a variable of devices.c. The run N has in it
     does     these words and N - 1, and the last runs are ten that end well one after the other
     least    how many runs there are at least
     runs     how many there are, where that is known

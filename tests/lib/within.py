@@ -1,7 +1,7 @@
 #!/usr/bin/env python3
 """Runs a command within a time limit, and ends whatever it leaves behind.
 
-    tests/within.py SECONDS COMMAND..
+    tests/lib/within.py SECONDS COMMAND..
 
 At the limit all processes of the command get TERM, and KILL where they have not ended five seconds
 later. So do processes that the command has left behind where it has ended by itself, which is an

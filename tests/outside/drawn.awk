@@ -3,7 +3,7 @@
 # Of each session N it writes the database (N.base), its first K commands with the events of their
 # runs (N.K), for each K, and what these come to, one K after the other (N.wanted). It prints in
 # how many sessions an undo or a redo failed in part.
-#   awk -v seed=NUMBER -v sessions=NUMBER -v commands=NUMBER -f tests/drawn.awk
+#   awk -v seed=NUMBER -v sessions=NUMBER -v commands=NUMBER -f tests/outside/drawn.awk
 # With -v bounded=1 each command is a run of `undorc session` of its own, on a line of 3 to 5 states at
 # most that a file keeps from run to run. Of each it writes the words for it (N.K.words) and its lines,
 # after which what is live and the journal are looked at (N.K), and what all of them come to

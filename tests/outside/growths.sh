@@ -1,16 +1,16 @@
 #!/bin/sh
 # The calls of the built program scenarios_memory with each growth refused in turn, and each start of a
-# thread: tests/growths.sh PROGRAM. tests/growths.txt names each call with the number of its growths, and
+# thread: tests/outside/growths.sh PROGRAM. growths.txt names each call with the number of its growths, and
 # of the threads that it starts. A call of which one is refused tells that, and all is as before; where the
-# last are for the answer to what is done by then, all is as after it. The last line is 'N passed, M failed, K skipped', and the status is 0
-# where none failed.
+# last are for the answer to what is done by then, all is as after it. The last line is
+# 'N passed, M failed, K skipped', and the status is 0 where none failed.
 set -eu
 here=$(realpath "$(dirname "$0")")
 program=$(realpath "$1")
-. "$here/library.sh"
-whole=$here/../crates/scenarios_memory/stdout
+. "$here/../lib/library.sh"
+whole=$top/crates/scenarios_memory/stdout
 preloads refuse
-cp -r "$here/../crates/scenarios_memory/data/." .
+cp -r "$top/crates/scenarios_memory/data/." .
 export GROWTH=0 GROWTHS=0 THREAD=0 MARKED=1 COUNTS=counts
 
 # counted: a run; `out` is what it wrote, and `counts` has a line for each call.

@@ -1,7 +1,7 @@
 #!/usr/bin/env python3
 """Kills commands at random moments, and looks at what the next command makes of it.
 
-    tests/kills.py PROGRAM [ROUNDS [SEED]]
+    tests/outside/kills.py PROGRAM [ROUNDS [SEED]]
 
 Scripts of 40 services record what they did. Each round begins a change, an undo, a redo, an update, or a session of
 three lines, and kills it, or the recovery of an earlier one, at a random moment. After the next command the file of the

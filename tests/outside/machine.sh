@@ -1,7 +1,7 @@
 #!/bin/sh
-# Runs the scripts of contrib/machine on whole machines: tests/machine.sh PROGRAM [CASE..]. A
+# Runs the scripts of contrib/machine on whole machines: tests/outside/machine.sh PROGRAM [CASE..]. A
 # machine has its own processes, mounts and network, and a root of its own over that of the host
-# (tests/machine/root.sh), in which s6 or runit is the first process. The last line is
+# (machine/root.sh), in which s6 or runit is the first process. The last line is
 # 'N passed, M failed, K skipped', and the status is 0 where none failed.
 #
 # It needs root, and says `skipped` without it, and where a tool is missing. All runs in namespaces
@@ -36,8 +36,8 @@ inner() {
     passed=0
     failed=0
     skipped=$UNDORC_SKIPPED
-    # shellcheck source=tally.sh
-    . "$tests/tally.sh"
+    # shellcheck source=../lib/tally.sh
+    . "$tests/../lib/tally.sh"
     for said in "$room"/*.said; do
         adds "$said" || sed "s/^/$(basename "$said" .said): /" "$said"
     done

@@ -1,7 +1,7 @@
 #!/bin/sh
-# Runs the built program from outside: tests/program.sh PROGRAM [TOPIC..]. The topic `rows` is the rows of text; others
-# are what is no plain run, as shell, a file a topic: `compile`, and those of tests/outside. Without a topic all are run.
-# The last line is 'N passed, M failed, K skipped', and the status is 0 where none failed.
+# Runs the built program from outside: tests/outside/program.sh PROGRAM [TOPIC..]. The topic `rows` is the rows of text;
+# others are what is no plain run, as shell, a file of topics each. Without a topic all are run. The last line is
+# 'N passed, M failed, K skipped', and the status is 0 where none failed.
 set -eu
 here=$(realpath "$(dirname "$0")")
 program=$(realpath "$1")
@@ -9,7 +9,7 @@ shift
 [ $# -gt 0 ] || set -- rows words inputs bounds pictures messages sessions scripts schedules starting live order \
     locking recovery oneshots reports seals restarts status update readme devices keeping memory held drawn compile
 topics=$*
-. "$here/library.sh"
+. "$here/../lib/library.sh"
 
 # rows_of_text: all of them; a failed one says for itself why
 rows_of_text() {
@@ -26,10 +26,9 @@ rows_of_text() {
 for topic in $topics; do
     case $topic in
         rows) rows_of_text ;;
-        compile) . "$here/compile.sh" ;;
         *)
             # shellcheck source=/dev/null
-            . "$here/outside/$topic.sh"
+            . "$here/topics/$topic.sh"
             ;;
     esac
 done

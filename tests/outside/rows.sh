@@ -1,6 +1,6 @@
 #!/bin/sh
-# Runs rows of text on the built program: tests/rows.sh PROGRAM [TOPIC..]. A topic is a file tests/rows/TOPIC.rows; without
-# one, all are run. The last line is 'N passed, M failed, K skipped', and the status is 0 where none failed.
+# Runs rows of text on the built program: tests/outside/rows.sh PROGRAM [TOPIC..]. A topic is a file rows/TOPIC.rows;
+# without one, all are run. The last line is 'N passed, M failed, K skipped', and the status is 0 where none failed.
 #
 # A row reads like a terminal session. Rows are separated by empty lines; each line begins with a mark and a space:
 #
@@ -27,7 +27,7 @@ set -eu
 here=$(realpath "$(dirname "$0")")
 program=$(realpath "$1")
 shift
-. "$here/library.sh"
+. "$here/../lib/library.sh"
 
 # translate TOPIC FILE: rows as shell, which makes what is given and wanted of each run, and runs it.
 translate() {

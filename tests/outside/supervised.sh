@@ -1,9 +1,9 @@
 #!/bin/sh
-# Runs the built program under real supervisors, with the scripts of contrib: tests/supervised.sh PROGRAM. The last line is
-# 'N passed, M failed, K skipped', and the status is 0 where none failed. Machines whose supervisor is
+# Runs the built program under real supervisors, with the scripts of contrib: tests/outside/supervised.sh PROGRAM. The
+# last line is 'N passed, M failed, K skipped', and the status is 0 where none failed. Machines whose supervisor is
 # not installed are skipped.
 #
-# A machine is a supervisor in a folder of its own, with services that are made for it (tests/supervised/machine.sh). They
+# A machine is a supervisor in a folder of its own, with services that are made for it (supervised/machine.sh). They
 # run side by side: of each supervisor one whose controller is called by itself, one that is set up as its README says, and
 # one for each number of workers. What contrib/lint says needs none.
 set -eu
@@ -26,8 +26,8 @@ trap 'exit 143' TERM HUP
 passed=0
 failed=0
 skipped=0
-# shellcheck source=tally.sh
-. "$here/tally.sh"
+# shellcheck source=../lib/tally.sh
+. "$here/../lib/tally.sh"
 names=
 for supervisor in s6 runit; do
     # shellcheck source=supervised/s6.sh

@@ -1,5 +1,5 @@
-# Definitions of services in a folder, and sessions on them; and tests of what these leave. Files of
-# tests/outside read this file.
+# Definitions of services in a folder, and sessions on them; and tests of what these leave. Topics
+# read this file.
 
 # begin_tree: no definitions yet. oneshot NAME TEXT [NEED..], longrun NAME [NEED..]: one more. down NAME
 # TEXT, limit NAME MILLISECONDS: more of one.

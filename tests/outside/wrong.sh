@@ -1,13 +1,13 @@
 #!/bin/sh
-# Runs programs that do one thing wrong, each over a topic of tests/program.sh, and looks whether a row
-# fails: tests/wrong.sh PROGRAM [NAME..]. Such a program is tests/wrong/NAME.sh, over the right one. Its
+# Runs programs that do one thing wrong, each over a topic of program.sh, and looks whether a row
+# fails: tests/outside/wrong.sh PROGRAM [NAME..]. Such a program is wrong/NAME.sh, over the right one. Its
 # head has the topic, and a text that stands in the title of the row. With a program over the right one
 # that does nothing wrong, no such row fails. The last line is 'N passed, M failed, K skipped'.
 set -eu
 here=$(realpath "$(dirname "$0")")
 right=$(realpath "$1")
 shift
-. "$here/library.sh"
+. "$here/../lib/library.sh"
 if [ $# -eq 0 ]; then
     for wrong in "$here"/wrong/*.sh; do
         name=${wrong##*/}
@@ -29,7 +29,7 @@ makes() {
 
 # run NAME TOPIC: the topic over a program that was made; what a wrong one leaves behind is ended
 run() {
-    "$here/within.py" 600 sh "$here/program.sh" "$1/undorc" "$2" > "$1/said" 2>&1 || true
+    "$here/../lib/within.py" 600 sh "$here/program.sh" "$1/undorc" "$2" > "$1/said" 2>&1 || true
 }
 
 chmod 755 .

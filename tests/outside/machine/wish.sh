@@ -2,9 +2,9 @@
 # Runs in a machine: asks for flaky-1 to be down while its supervisor is stopped, with the daemon
 # crashed and wanted up. The answer must not come before the supervisor has read that.
 here=/etc/undorc/machine
-# shellcheck source=../../contrib/machine/settings
+# shellcheck source=../../../contrib/machine/settings
 . "$here/settings"
-# shellcheck source=../../contrib/machine/s6.sh
+# shellcheck source=../../../contrib/machine/s6.sh
 . "$here/$UNDORC_SUPERVISOR.sh"
 # want_down calls it.
 # shellcheck disable=SC2317

@@ -1,6 +1,6 @@
 # shellcheck shell=sh
 # Two ends of a pipeline that share a fifo, services that are added to a machine that is up, a name that shells read
-# otherwise, and a controller without a script. tests/supervised/machine.sh reads this file.
+# otherwise, and a controller without a script. machine.sh reads this file.
 # Loggers have their own ways to end: svlogd may drop the line that it reads as TERM comes. So a shell reads here.
 longrun reads "trap 'is_over=yes' TERM; is_over=; exec 0<> $room/fifo
 while [ -z \"\$is_over\" ] && read -r line; do echo \"read \$line\" >> $room/logged/current; done"

@@ -1,5 +1,5 @@
 # shellcheck shell=sh
-# The controller by itself on each kind of daemon: its status, and what it leaves behind. tests/supervised/machine.sh reads
+# The controller by itself on each kind of daemon: its status, and what it leaves behind. machine.sh reads
 # this file.
 longrun plain 'exec sleep 1000'
 ready_after slow 1

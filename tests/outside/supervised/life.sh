@@ -1,6 +1,6 @@
 # shellcheck shell=sh
 # The life of a machine: a boot, services that fail, an undo and a redo, what is killed, what somebody does by hand, and a
-# shutdown. After each command the supervisor says what live says. tests/supervised/machine.sh reads this file.
+# shutdown. After each command the supervisor says what live says. machine.sh reads this file.
 oneshot root
 : > services/root/flag-essential
 oneshot net root

@@ -3,9 +3,9 @@
 set -eu
 here=$(realpath "$(dirname "$0")/..")
 program=$(realpath "$1")
-# shellcheck source=../library.sh
-. "$here/library.sh"
-program=$here/../contrib/lint
+# shellcheck source=../../lib/library.sh
+. "$here/../lib/library.sh"
+program=$here/../../contrib/lint
 
 # entry KIND NAME: one that has all that lint asks for
 entry() {

@@ -1,15 +1,15 @@
 #!/bin/sh
-# One machine of tests/supervised.sh: machine.sh PROGRAM SUPERVISOR KIND, where KIND is `controllers`, `readme`, or
+# One machine of supervised.sh: machine.sh PROGRAM SUPERVISOR KIND, where KIND is `controllers`, `readme`, or
 # how many transitions are made at once. The last line is 'N passed, M failed, K skipped'.
 set -eu
 here=$(realpath "$(dirname "$0")/..")
 program=$(realpath "$1")
 supervisor=$2
 kind=$3
-folder=$(realpath "$here/../contrib/machine")
+folder=$(realpath "$here/../../contrib/machine")
 export UNDORC_SUPERVISOR="$supervisor"
-# shellcheck source=../library.sh
-. "$here/library.sh"
+# shellcheck source=../../lib/library.sh
+. "$here/../lib/library.sh"
 # shellcheck source=s6.sh
 . "$here/supervised/$supervisor.sh"
 # shellcheck source=services.sh

@@ -1,6 +1,6 @@
 # shellcheck shell=sh
 # The commands of contrib/SUPERVISOR/README.md, in an empty folder, with what they print; times are masked.
-# tests/supervised/machine.sh reads this file.
+# machine.sh reads this file.
 mkdir bin try said
 ln -s "$program" bin/undorc
 

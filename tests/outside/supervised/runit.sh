@@ -1,5 +1,5 @@
 # shellcheck shell=sh
-# What tests/supervised.sh asks of runit.
+# What supervised.sh asks of runit.
 
 # there: whether it is installed
 there() {

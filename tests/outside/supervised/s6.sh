@@ -1,5 +1,5 @@
 # shellcheck shell=sh
-# What tests/supervised.sh asks of s6.
+# What supervised.sh asks of s6.
 
 # there: whether it is installed
 there() {

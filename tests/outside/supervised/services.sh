@@ -1,5 +1,5 @@
 # shellcheck shell=sh
-# Services of a machine of tests/supervised.sh, what is asked of it, and its end.
+# Services of a machine of supervised.sh, what is asked of it, and its end.
 
 # entry KIND NAME [NEED..]
 entry() {

@@ -1,4 +1,4 @@
-# Texts at their bounds, and files that others own, or alter while they are read. tests/program.sh reads
+# Texts at their bounds, and files that others own, or alter while they are read. program.sh reads
 # this file.
 mkdir bounds
 cd bounds

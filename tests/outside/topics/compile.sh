@@ -1,4 +1,4 @@
-# Rows of `undorc compile` on real directories, in a folder of their own; tests/program.sh reads this file,
+# Rows of `undorc compile` on real directories, in a folder of their own; program.sh reads this file,
 # and has its functions.
 mkdir compiled
 cd compiled

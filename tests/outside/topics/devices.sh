@@ -1,5 +1,5 @@
 # Outputs that are full or closed, inputs that are closed or can't be read, and devices that give
-# and take pieces, are interrupted or fail at a certain call. tests/program.sh reads this file.
+# and take pieces, are interrupted or fail at a certain call. program.sh reads this file.
 
 # fault WHAT FAULT STATUS: the run before wrote nothing.
 fault() {
@@ -83,7 +83,7 @@ echo 0 > status
 "$program" session -x up:nosuch < in > /dev/full 2> err || echo $? > status
 fault 'a refusal where the output is full' 'undorc: Unknown nosuch\n' 1
 
-# Devices made for it: tests/devices.c says what their words mean.
+# Devices made for it: tests/lib/devices.c says what their words mean.
 preloads devices
 
 # over READS WRITES TELLS WORDS..: a run on the file `in`, whose streams are such devices.

@@ -1,4 +1,4 @@
-# Sessions that are drawn, and what a plain program says that they come to. tests/program.sh reads
+# Sessions that are drawn, and what a plain program says that they come to. program.sh reads
 # this file.
 
 # Each session is replayed up to each of its commands, with the failures, stops and altered events

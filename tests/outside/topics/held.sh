@@ -1,5 +1,5 @@
-# Memory that is given back: where a command ends, it holds no block. tests/program.sh reads this file;
-# tests/held.c counts. Of more workers than one the C library keeps what it made for their threads.
+# Memory that is given back: where a command ends, it holds no block. program.sh reads this file;
+# tests/lib/held.c counts. Of more workers than one the C library keeps what it made for their threads.
 works_in held
 printf '%b' "$sample" > base
 preloads held

@@ -1,4 +1,4 @@
-# How much of an input is read, texts that are cut short, and inputs at their bounds. tests/program.sh reads this file.
+# How much of an input is read, texts that are cut short, and inputs at their bounds. program.sh reads this file.
 printf '%b' "$sample" > base
 
 # A text that is cut short is bad at its last line, wherever it is cut, by the reader of a front and by that of a whole

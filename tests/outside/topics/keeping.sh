@@ -1,6 +1,6 @@
 # The file of a session, and scripts, over devices that fail: at each of the calls about files, of the
-# reads and writes, of the starts of scripts and of the waits for them. tests/program.sh reads this
-# file; tests/devices.c makes the devices.
+# reads and writes, of the starts of scripts and of the waits for them. program.sh reads this
+# file; tests/lib/devices.c makes the devices.
 works_in keeping
 preloads devices
 three_scripts
@@ -11,7 +11,7 @@ expects none
 
 # failing LEAST ENDS DEVICE WORDS OPTIONS: runs of `command` whose DEVICE does what WORDS say at one call after the
 # other, until none is left: LEAST at least. ENDS are the lines of how they end. OPTIONS are words for
-# tests/refusals.py. What one leaves beside its file where all calls fail, that of removing it among them, the next
+# tests/lib/refusals.py. What one leaves beside its file where all calls fail, that of removing it among them, the next
 # one removes.
 failing() {
     # shellcheck disable=SC2086

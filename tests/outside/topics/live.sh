@@ -1,5 +1,5 @@
 # The file of `session -l`: what is read and written there, which files are refused and left alone, and
-# what is left of it by a program that is killed. tests/program.sh reads this file.
+# what is left of it by a program that is killed. program.sh reads this file.
 mkdir live
 cd live
 printf '%b' "$sample" > base

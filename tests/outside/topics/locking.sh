@@ -1,4 +1,4 @@
-# The lock of the file of `session -l`: one program at a time. tests/program.sh reads this file.
+# The lock of the file of `session -l`: one program at a time. program.sh reads this file.
 # shellcheck source=../trees.sh
 . "$here/trees.sh"
 mkdir locks

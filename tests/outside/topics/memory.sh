@@ -1,5 +1,5 @@
-# Memory that is refused, growth after growth, and threads that can't be started. tests/program.sh
-# reads this file; tests/refuse.c refuses.
+# Memory that is refused, growth after growth, and threads that can't be started. program.sh
+# reads this file; tests/lib/refuse.c refuses.
 works_in memory
 printf '%b' "$sample" > base
 preloads refuse
@@ -10,7 +10,7 @@ export ARMED=0
 
 # each LEAST ENDS OPTIONS WORDS..: one growth after the other is refused, alone and then with all that follow, until
 # a run comes to no such growth: LEAST runs of each way at least. ENDS are the lines of how they end. OPTIONS are
-# words for tests/refusals.py.
+# words for tests/lib/refusals.py.
 each() {
     least=$1 ends=$2 options=$3
     shift 3

@@ -1,5 +1,5 @@
 # What stands after a fault: the mistakes of a newcomer, each with its first line, which scripts read, and with words
-# that must stand after it, for people. tests/program.sh reads this file.
+# that must stand after it, for people. program.sh reads this file.
 mkdir messages
 cd messages
 

@@ -1,5 +1,5 @@
 # One-shot commands: how they end, that they answer and keep what a session of the same line does, and that
-# what only shows something writes nothing. tests/program.sh reads this file.
+# what only shows something writes nothing. program.sh reads this file.
 # shellcheck source=../trees.sh
 . "$here/trees.sh"
 mkdir oneshots

@@ -1,4 +1,4 @@
-# In which order a file is written, synced and renamed, by a trace of the calls. tests/program.sh reads this file.
+# In which order a file is written, synced and renamed, by a trace of the calls. program.sh reads this file.
 # shellcheck source=../trees.sh
 . "$here/trees.sh"
 mkdir order

@@ -1,4 +1,4 @@
-# Pictures: the stored one of the sample, the environment, and what graphviz shows. tests/program.sh reads this file.
+# Pictures: the stored one of the sample, the environment, and what graphviz shows. program.sh reads this file.
 mkdir pictures
 cd pictures
 printf '%b' "$sample" > base

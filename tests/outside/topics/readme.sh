@@ -1,4 +1,4 @@
-# README's commands: each in a shell of its own place, and all that it writes. tests/program.sh reads this file.
+# README's commands: each in a shell of its own place, and all that it writes. program.sh reads this file.
 mkdir readme
 cd readme
 
@@ -9,12 +9,12 @@ awk '
     text { print > "run"; if ($0 == "END") text = 0; next }
     /^\$ / { print substr($0, 3) > "run"; text = /<<\047END\047$/; told = 1; next }
     told { print > "wanted" }
-' "$here/../README.md"
+' "$top/README.md"
 masked() {
     sed 's/^undorc: *[0-9]*\.[0-9]* s  /undorc: TIME s  /' "$1"
 }
 sed -e "s|^undorc=[^ ]*|undorc='$program'|" -e "s|^crates/undorc/out/undorc |'$program' |" run > run.here
-TMPDIR=$PWD sh -c 'cd "$1" && . "$2"' sh "$here/.." "$PWD/run.here" > written 2>&1 || echo "status $?" >> written
+TMPDIR=$PWD sh -c 'cd "$1" && . "$2"' sh "$top" "$PWD/run.here" > written 2>&1 || echo "status $?" >> written
 masked wanted > out.wanted
 masked written > out
 : > err

@@ -1,5 +1,5 @@
 # A command that is cut short: its run log, and what the next command enters of it; and one that is called off.
-# tests/program.sh reads this file.
+# program.sh reads this file.
 # shellcheck source=../trees.sh
 . "$here/trees.sh"
 mkdir recovery
@@ -341,7 +341,7 @@ echo 0 > status
 judge '^C at a terminal ends a change' 0
 expect 0 'at 1 of 2\n0 +a +b\nok\n' 'undorc: Recovered\n' 'journal\n' session -b base -l live -x none
 rm -f live ran go begun
-UNDORC_PROGRAM=$program python3 press.py "$here/../contrib/orderly" change -w 1 b top -b base -l live > out
+UNDORC_PROGRAM=$program python3 press.py "$top/contrib/orderly" change -w 1 b top -b base -l live > out
 wants '2\n' ''
 : > err
 echo 0 > status
@@ -354,7 +354,7 @@ printf '#!/bin/sh\nexit 1\n' > plain/env
 chmod 755 plain/env
 rm -f live ran go begun
 echo 0 > status
-PATH=$PWD/plain:$PATH UNDORC_PROGRAM=$program sh "$here/../contrib/orderly" change -w 1 top -b base -l live < /dev/null > out 2> err &
+PATH=$PWD/plain:$PATH UNDORC_PROGRAM=$program sh "$top/contrib/orderly" change -w 1 top -b base -l live < /dev/null > out 2> err &
 called=$!
 until_begun
 kill -TERM "$called"
@@ -373,7 +373,7 @@ echo 0 > status
 "$program" change -w 1 top -b base -l live < /dev/null > out 2> err &
 called=$!
 until_begun
-PATH=$PWD/plain:$PATH UNDORC_PROGRAM=$program sh "$here/../contrib/orderly" change -W b -b base -l live < /dev/null > cut.out 2> cut.err &
+PATH=$PWD/plain:$PATH UNDORC_PROGRAM=$program sh "$top/contrib/orderly" change -W b -b base -l live < /dev/null > cut.out 2> cut.err &
 waiting=$!
 for turn in $(seq 250); do
     ! grep -q waits cut.err || break

@@ -1,5 +1,5 @@
 # What one-shot commands report, which of them are refused before anything moves, and what the log of their file says of
-# them. tests/program.sh reads this file.
+# them. program.sh reads this file.
 # shellcheck source=../trees.sh
 . "$here/trees.sh"
 mkdir reports

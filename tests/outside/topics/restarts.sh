@@ -1,4 +1,4 @@
-# `restart`: what is named goes down with all that needs it, and what went down comes up again. tests/program.sh reads this
+# `restart`: what is named goes down with all that needs it, and what went down comes up again. program.sh reads this
 # file.
 # shellcheck source=../trees.sh
 . "$here/trees.sh"

@@ -1,5 +1,5 @@
 # Transitions of the sample by several workers: how often each is made, and which of them run at the
-# same time. tests/program.sh reads this file.
+# same time. program.sh reads this file.
 # shellcheck source=../trees.sh
 . "$here/trees.sh"
 mkdir schedules

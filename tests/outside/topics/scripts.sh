@@ -1,4 +1,4 @@
-# Sessions that start real scripts. tests/program.sh reads this file.
+# Sessions that start real scripts. program.sh reads this file.
 # shellcheck source=../trees.sh
 . "$here/trees.sh"
 

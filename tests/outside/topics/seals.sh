@@ -1,4 +1,4 @@
-# `seal`: the history of a session is forgotten, and all else stays. tests/program.sh reads this file.
+# `seal`: the history of a session is forgotten, and all else stays. program.sh reads this file.
 mkdir seals
 cd seals
 cp "$samples/sample.txt" base

@@ -1,5 +1,5 @@
 # Sessions whose lines come otherwise than one by one, long ones, and one on what was compiled just
-# before. tests/program.sh reads this file.
+# before. program.sh reads this file.
 printf '%b' "$sample" > base
 
 # A session on what is compiled, whose bundle is empty.

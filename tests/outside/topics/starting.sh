@@ -1,5 +1,5 @@
 # What scripts are told and how long they may take, what they write, and what is told of them while they run.
-# tests/program.sh reads this file.
+# program.sh reads this file.
 # shellcheck source=../trees.sh
 . "$here/trees.sh"
 

@@ -1,4 +1,4 @@
-# `status`: where services stand, by FILE and, while a command is under way, by its run log. tests/program.sh reads this
+# `status`: where services stand, by FILE and, while a command is under way, by its run log. program.sh reads this
 # file.
 # shellcheck source=../trees.sh
 . "$here/trees.sh"

@@ -1,4 +1,4 @@
-# `update`: what is lowered, what is raised, what is never moved, what is kept, and how it ends. tests/program.sh reads
+# `update`: what is lowered, what is raised, what is never moved, what is kept, and how it ends. program.sh reads
 # this file.
 mkdir updates
 cd updates

@@ -1,4 +1,4 @@
-# Wrong command lines: nothing of the input is read. tests/program.sh reads this file.
+# Wrong command lines: nothing of the input is read. program.sh reads this file.
 printf '%b' "$sample" > base
 
 # Plans, and commands that are none.
