@@ -1,15 +1,13 @@
 #!/bin/sh
-# How each command does at the bound of its input: tests/measure-bounds.sh [PROGRAM]. Of the greatest input
+# How each command does at the bound of its input: tests/bench/bounds.sh [PROGRAM]. Of the greatest input
 # and of one half as large, how many times the processor time and the peak memory of the half the whole
 # takes, the least of three runs; twice is linear. And the peak memory as a multiple of the bytes that are
 # read.
 set -eu
 here=$(realpath "$(dirname "$0")")
-program=$(realpath "${1:-$here/../crates/undorc/out/undorc}")
-room=$(mktemp -d)
-trap 'rm -rf "$room"' EXIT
-cd "$room"
-cp "$here/../docs/samples/sample.txt" base
+# shellcheck source=lib.sh
+. "$here/lib.sh"
+cp "$top/docs/samples/sample.txt" base
 
 # bundles MANY: 4,096 services, and so many bundles of them all
 bundles() {
@@ -72,8 +70,8 @@ on() {
     row "$what"
 }
 
-echo '| Command, and what is at its bound | Time, times half the input | Peak memory, times half the input | Peak memory, times the bytes |'
-echo '|---|---|---|---|'
+titles 'Command, and what is at its bound' 'Time, times half the input' 'Peak memory, times half the input' \
+    'Peak memory, times the bytes'
 : > in
 for size in 2048 4096; do bundles "$size" > "$size.db"; done
 spent "$program" db -b 2048.db contents b1000 > half

@@ -1,23 +1,22 @@
 #!/bin/sh
-# measure-compile.sh [PROGRAM [ROUNDS]]: how much processor time `undorc compile` takes on 4,096 services as directories,
-# as a multiple of `ninja -n` and of `make -n` on the same graph as one file each, and the most memory that each of them
-# takes. A round runs each of the three ten times, one after another, and each time is the least of ROUNDS rounds (5
-# without ROUNDS), since other work disturbs them. tests/graph.sh has the graphs.
+# tests/bench/compile.sh [PROGRAM [ROUNDS]]: how much processor time `undorc compile` takes on 4,096 services as
+# directories, as a multiple of `ninja -n` and of `make -n` on the same graph as one file each, and the most memory
+# that each of them takes. A round runs each of the three ten times, one after another, and each time is the least of
+# ROUNDS rounds (5 without ROUNDS), since other work disturbs them. graph.sh has the graphs.
 set -eu
-cd "$(dirname "$0")/.."
-program=${1:-crates/undorc/out/undorc}
+here=$(realpath "$(dirname "$0")")
+# shellcheck source=lib.sh
+. "$here/lib.sh"
 rounds=${2:-5}
-room=$(mktemp -d)
-trap 'rm -rf "$room"' EXIT
 
 # ten WHAT COMMAND..: ten runs, whose processor time in seconds and peak memory in kilobytes go to `took`
 ten() {
     what=$1
     shift
-    /usr/bin/time -a -f "$what %U %S %M" -o "$room/took" sh -c '
+    /usr/bin/time -a -f "$what %U %S %M" -o took sh -c '
         out=$1
         shift
-        for _ in 1 2 3 4 5 6 7 8 9 10; do "$@" < /dev/null > "$out"; done' ten "$room/out" "$@"
+        for _ in 1 2 3 4 5 6 7 8 9 10; do "$@" < /dev/null > "$out"; done' ten out "$@"
 }
 
 # folders FILE FOLDER: the services of a file for ninja as oneshots in a folder
@@ -40,14 +39,14 @@ makefile() {
 
 # measure KIND WHAT: the line of a graph
 measure() {
-    sh tests/graph.sh ninja "$1" > "$room/$1.ninja"
-    folders "$room/$1.ninja" "$room/$1"
-    makefile "$room/$1.ninja" > "$room/$1.make"
-    : > "$room/took"
+    graph ninja "$1" > "$1.ninja"
+    folders "$1.ninja" "$1"
+    makefile "$1.ninja" > "$1.make"
+    : > took
     for _ in $(seq "$rounds"); do
-        ten undorc "$program" compile "$room/$1"
-        ten ninja ninja -C "$room" -n --quiet -f "$1.ninja"
-        ten make make -n -C "$room" -f "$1.make" all
+        ten undorc "$program" compile "$1"
+        ten ninja ninja -n --quiet -f "$1.ninja"
+        ten make make -n -f "$1.make" all
     done
     awk -v graph="$2" '
         { took = $2 + $3; if (!($1 in least) || took < least[$1]) least[$1] = took }
@@ -56,12 +55,11 @@ measure() {
             ours = least["undorc"]
             printf "| %s | %.1f | %.1f |", graph, ours / least["ninja"], ours / least["make"]
             printf " %.1f MB | %.1f MB | %.1f MB |\n", peak["undorc"] / 1024, peak["ninja"] / 1024, peak["make"] / 1024
-        }' "$room/took"
-    rm -r "${room:?}/$1" "$room/$1".*
+        }' took
+    rm -r "$1" "$1".*
 }
 
-echo '| Graph | Times `ninja -n` | Times `make -n` | Peak memory | Peak of ninja | Peak of make |'
-echo '|---|---|---|---|---|---|'
+titles Graph 'Times `ninja -n`' 'Times `make -n`' 'Peak memory' 'Peak of ninja' 'Peak of make'
 measure none 'none needs another'
 measure next 'each needs the next'
 measure before 'each needs the one before'

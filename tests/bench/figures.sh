@@ -1,24 +1,14 @@
 #!/bin/sh
-# Writes docs/FIGURES.md: tests/figures.sh [NAME..]. Runs the named measurements, or all but `gate`,
-# on the built program, and puts what they print into the document with commit and date. A section
-# that is not measured now keeps its figures. `tests/figures.sh --check` measures nothing, and prints
+# Writes docs/FIGURES.md: tests/bench/figures.sh [NAME..]. Runs the scripts NAME.sh of this folder, or all but
+# `gate`, on the built program, and puts what they print into the document with commit and date. A section
+# that is not measured now keeps its figures. `tests/bench/figures.sh --check` measures nothing, and prints
 # how heads and texts differ from what would be written (status 1).
 set -eu
-here=$(realpath "$(dirname "$0")")
-document=$here/../docs/FIGURES.md
-cd "$here/.."
+cd "$(dirname "$0")/../.."
+document=docs/FIGURES.md
 room=$(mktemp -d)
 trap 'rm -rf "$room"' EXIT
 all='instructions lines reading plans compile scripts changes session live bounds gate'
-
-# script NAME: the script that prints these figures
-script() {
-    case $1 in
-        plans) echo tests/measure.sh ;;
-        gate) echo tests/gate-times.sh ;;
-        *) echo "tests/measure-$1.sh" ;;
-    esac
-}
 
 # says NAME: what the figures are
 says() {
@@ -28,23 +18,23 @@ says() {
 
 Instructions by `valgrind --tool=callgrind`, so other work does not disturb them. The first two tables
 compare one worker, and in one column four, that changes 4,096 services, undoes and redoes that with
-`tests/plain.c`, a plain loop over services and pairs; the second one is in thousands of instructions. Reading the database is
-left out. The third one compares with `ninja -n`: `plan all` raises every service, `plan one` the one
-that needs most. The last one is the peak memory of a session.
+`tests/bench/plain.c`, a plain loop over services and pairs; the second one is in thousands of
+instructions. Reading the database is left out. The third one compares with `ninja -n`: `plan all`
+raises every service, `plan one` the one that needs most. The last one is the peak memory of a session.
 END
             ;;
         lines) cat <<'END'
 # One line of a session, and one event: instructions
 
 A session line that changes one of 4,096 services, by one worker, compared with a plain loop
-(`tests/plain.c`); and `replay` for each event.
+(`tests/bench/plain.c`); and `replay` for each event.
 END
             ;;
         reading) cat <<'END'
 # Reading texts: instructions
 
 `db check` compared with a plain Rust program that parses and checks the same text
-(`tests/plain-reader.rs`), and `live` on the file of a session with 1,024 states of 4,096 services.
+(`tests/bench/plain_reader.rs`), and `live` on the file of a session with 1,024 states of 4,096 services.
 END
             ;;
         plans) cat <<'END'
@@ -115,13 +105,13 @@ kept() {
 
 # measured NAME: commit, date and what the script prints now
 measured() {
-    echo "Printed by \`$(script "$1")\` at commit $(git rev-parse --short=8 HEAD), $(date -u +%F)."
+    echo "Printed by \`tests/bench/$1.sh\` at commit $(git rev-parse --short=8 HEAD), $(date -u +%F)."
     echo
     # Behind what the gate itself prints stands a table.
     if [ "$1" = gate ]; then
-        sh "$(script gate)" | sed -n '/^| Crate /,$p'
+        tests/bench/gate.sh | sed -n '/^| Crate /,$p'
     else
-        sh "$(script "$1")"
+        "tests/bench/$1.sh"
     fi
 }
 
@@ -133,18 +123,18 @@ now=$*
     cat <<'END'
 # Figures
 
-Made by `tests/figures.sh`, which runs the measure scripts on the built program; nobody edits it by
-hand. Each section names its script, the commit and the date. `tests/figures.sh NAME..` measures some
-sections anew: `lines` is `tests/measure-lines.sh`. Times are from machines with other work; figures
-of instructions and bytes do not depend on that. "Times" means a multiple.
+Made by `tests/bench/figures.sh`, which runs the scripts beside it on the built program; nobody edits
+it by hand. Each section names its script, the commit and the date. `tests/bench/figures.sh NAME..`
+measures some sections anew: `lines` is `tests/bench/lines.sh`. Times are from machines with other
+work; figures of instructions and bytes do not depend on that. "Times" means a multiple.
 
-A section that says "Taken over" was not made by a run of `tests/figures.sh`. Its figures were recorded
-by hand in an earlier document, in the commit that it names; its columns may differ from what the
-script prints today.
+A section that says "Taken over" was not made by a run of `tests/bench/figures.sh`. Its figures were
+recorded by hand in an earlier document, in the commit that it names; its columns may differ from what
+the script prints today.
 
-Graphs, as `tests/graph.sh` makes them: `none` has no dependencies; in `next` each service needs the
-next one, in `before` the one before; in `fan` one needs all others; `layers` are layers of 64, each
-service needing the whole layer below; in `random` each needs some four.
+Graphs, as `tests/bench/graph.sh` makes them: `none` has no dependencies; in `next` each service needs
+the next one, in `before` the one before; in `fan` one needs all others; `layers` are layers of 64,
+each service needing the whole layer below; in `random` each needs some four.
 END
     for name in $all; do
         case " $now " in

@@ -1,11 +1,11 @@
 #!/bin/sh
 # Runs the gate once, and prints what it cost by crate as a table: processor time (user and system) in
 # seconds. Run it on a machine with nothing else to do.
-#   tests/gate-times.sh [COMMAND..]     the command is `make test` where none is given
+#   tests/bench/gate.sh [COMMAND..]     the command is `make test` where none is given
 # The processes of the prover are looked at once a second, with those that they start, so a figure may
 # lack the last second of each. What else the gate does (layout, linking, runs) is in the last line alone.
 set -eu
-cd "$(dirname "$0")/.."
+cd "$(dirname "$0")/../.."
 room=$(mktemp -d)
 trap 'rm -rf "$room"' EXIT
 [ $# -gt 0 ] || set -- make test

@@ -1,14 +1,12 @@
 #!/bin/sh
 # How reading and writing the file of a session does, on databases of up to 4,096 services and lines of
-# up to 1,024 states: tests/measure-live.sh [PROGRAM]. A session without lines reads the file and writes it
+# up to 1,024 states: tests/bench/live.sh [PROGRAM]. A session without lines reads the file and writes it
 # once. Processor time, the least of three runs, as a multiple of that on the first text, beside the
 # length of the text as such a multiple: where both grow alike, time is linear in the text.
 set -eu
 here=$(realpath "$(dirname "$0")")
-program=$(realpath "${1:-$here/../crates/undorc/out/undorc}")
-room=$(mktemp -d)
-trap 'rm -rf "$room"' EXIT
-cd "$room"
+# shellcheck source=lib.sh
+. "$here/lib.sh"
 
 # database SERVICES: that many oneshots, none needing another
 database() {
@@ -46,7 +44,7 @@ spent() {
     echo "$least"
 }
 
-printf '| Services | States | Bytes, times the first | Time, times the first |\n|---|---|---|---|\n'
+titles Services States 'Bytes, times the first' 'Time, times the first'
 first=
 for services in 4096 2048; do
     database "$services" > base

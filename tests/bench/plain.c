@@ -4,8 +4,8 @@
 // and ends it under a lock, and keeps where each service stands and what happened, as a session does.
 // With `one` all are up but NAME and what needs it, and it raises NAME and lowers it again with what
 // needs it, so many times: it follows what is reached with a stack, and looks at all services once,
-// eight at a time, to write what moved. tests/measure-changes.sh and tests/measure-lines.sh compare the
-// time and the instructions, and what it writes, with a session's.
+// eight at a time, to write what moved. changes.sh and lines.sh compare the time and the instructions,
+// and what it writes, with a session's.
 #define _GNU_SOURCE
 #include <pthread.h>
 #include <stdint.h>

@@ -1,6 +1,6 @@
 //! Reads the text of a database from standard input as `undorc db check` does, in plain Rust: form,
 //! order, known names and cycles, and all of it into tables. It prints the fault, if there is one,
-//! and exits with status 1 then. `tests/measure-reading.sh` counts its instructions.
+//! and exits with status 1 then. `reading.sh` counts its instructions.
 use std::collections::HashMap;
 use std::hash::{BuildHasherDefault, Hasher};
 use std::io::Read;

@@ -1,13 +1,12 @@
 #!/bin/sh
-# measure-session.sh [PROGRAM [RUNS]]: how the processor time of a line of `undorc session` grows: with the lines before
-# it, with the journal, and with the database. All figures are ratios. Each time is the least of RUNS (5 without RUNS),
-# since other work disturbs them. tests/graph.sh has the graphs.
+# tests/bench/session.sh [PROGRAM [RUNS]]: how the processor time of a line of `undorc session` grows: with the lines
+# before it, with the journal, and with the database. All figures are ratios. Each time is the least of RUNS (5 without
+# RUNS), since other work disturbs them. graph.sh has the graphs.
 set -eu
-cd "$(dirname "$0")/.."
-program=${1:-crates/undorc/out/undorc}
+here=$(realpath "$(dirname "$0")")
+# shellcheck source=lib.sh
+. "$here/lib.sh"
 runs=${2:-5}
-room=$(mktemp -d)
-trap 'rm -rf "$room"' EXIT
 
 # mix COUNT: lines that go on and back, on 200 services: five states more for each ten lines
 mix() {
@@ -38,24 +37,22 @@ pairs() {
 # took TIMES BASE LINES: the least processor time of so many sessions, in seconds
 took() {
     for _ in $(seq "$runs"); do
-        /usr/bin/time -f '%U %S' -o "$room/took" sh -ec '
+        /usr/bin/time -f '%U %S' -o took sh -ec '
             for _ in $(seq "$1"); do "$2" session -x none -n 100000 -b "$3" < "$4" > "$5"; done' \
-            times "$1" "$program" "$2" "$3" "$room/out"
-        tail -n 1 "$room/took"
+            times "$1" "$program" "$2" "$3" out
+        tail -n 1 took
     done | awk '{ took = $1 + $2; if (NR == 1 || took < best) best = took } END { print best }'
 }
 
-: > "$room/nothing"
-sh tests/graph.sh text random 200 > "$room/random"
+graph text random 200 > small
 
-echo '| Lines | States | Time a line, as a multiple of that of 1,000 lines |'
-echo '|---|---|---|'
+titles Lines States 'Time a line, as a multiple of that of 1,000 lines'
 for count in 1000 2000 4000 8000 10000 16000 32000; do
-    mix $count > "$room/lines"
+    mix $count > lines
     times=$((64000 / count))
-    all=$(took $times "$room/random" "$room/lines")
-    none=$(took $times "$room/random" "$room/nothing")
-    states=$({ cat "$room/lines"; echo journal; } | "$program" session -x none -n 100000 -b "$room/random" | sed -n 's/^at .* of //p')
+    all=$(took $times small lines)
+    none=$(took $times small nothing)
+    states=$({ cat lines; echo journal; } | "$program" session -x none -n 100000 -b small | sed -n 's/^at .* of //p')
     echo "$count $states $all $none $times"
 done | awk '{
     each = ($3 - $4) / $5 / $1
@@ -66,9 +63,9 @@ done | awk '{
 # behind STATES COUNT FIRST SECOND: the time of one of these lines behind so many states, in microseconds. What the second
 # line undoes, or what shows alone, leaves their number as it is.
 behind() {
-    pairs $(($1 / 2)) '-u change s1000' '-D change s1000' > "$room/front"
-    { cat "$room/front"; pairs "$2" "$3" "$4"; } > "$room/lines"
-    echo "$(took 1 "$room/random" "$room/lines") $(took 1 "$room/random" "$room/front") $2" |
+    pairs $(($1 / 2)) '-u change s1000' '-D change s1000' > front
+    { cat front; pairs "$2" "$3" "$4"; } > lines
+    echo "$(took 1 small lines) $(took 1 small front) $2" |
         awk '{ print ($1 - $2) / $3 * 500000 }'
 }
 
@@ -79,8 +76,7 @@ grown() {
 }
 
 echo
-echo '| Lines | Time behind 10,000 states, as a multiple of that behind 100 |'
-echo '|---|---|'
+titles Lines 'Time behind 10,000 states, as a multiple of that behind 100'
 grown '-u change s1000' undo 20000 20000
 grown undo redo 20000 20000
 grown 'add -f b s1000' undo 20000 20000
@@ -90,20 +86,19 @@ grown journal journal 2000 20
 # moved GRAPH NAME COUNT: the times of so many pairs of a change of this name up and down, of a change and so many pairs of
 # its undo and redo, and of that change alone
 moved() {
-    pairs "$3" "-u change $2" "-D change $2" > "$room/lines"
-    changes=$(took 1 "$room/$1" "$room/lines")
-    echo "-u change $2" > "$room/front"
-    { cat "$room/front"; pairs "$3" undo redo; } > "$room/lines"
-    echo "$changes $(took 1 "$room/$1" "$room/lines") $(took 1 "$room/$1" "$room/front") $3"
+    pairs "$3" "-u change $2" "-D change $2" > lines
+    changes=$(took 1 "$1" lines)
+    echo "-u change $2" > front
+    { cat front; pairs "$3" undo redo; } > lines
+    echo "$changes $(took 1 "$1" lines) $(took 1 "$1" front) $3"
 }
 
 echo
-echo '| Graph of 4,096 | A change of one | An undo or redo of it | A change of all | An undo or redo of it |'
-echo '|---|---|---|---|---|'
+titles 'Graph of 4,096' 'A change of one' 'An undo or redo of it' 'A change of all' 'An undo or redo of it'
 for kind in none next before fan layers random; do
-    sh tests/graph.sh text $kind > "$room/$kind"
-    one=$(awk '/^service/ { name = $2 } /^needs$/ { print name; exit }' "$room/$kind")
-    echo "$kind $(took 10 "$room/$kind" "$room/nothing") $(moved $kind "$one" 500) $(moved $kind all 5)"
+    graph text $kind > "$kind"
+    one=$(awk '/^service/ { name = $2 } /^needs$/ { print name; exit }' "$kind")
+    echo "$kind $(took 10 "$kind" nothing) $(moved $kind "$one" 500) $(moved $kind all 5)"
 done | awk '{
     read = $2 / 10
     printf "| %s | %.3f | %.3f | %.2f | %.2f |\n", $1, ($3 - read) / 2 / $6 / read, ($4 - $5) / 2 / $6 / read,
