@@ -7,9 +7,9 @@ ghost use Rattle.rc_args.specs.Query.{names_in, question_of};
 ghost use Rattle.cmd_query.specs.declared.db_fault.DbFault.TheVariants.{Memory};
 
 use rc_args::Query;
-use rc_input::{live_word, text_word, unknown_word};
 use rc_db::{NoMem, QueryFault};
 use rc_dbtext::TextFault;
+use rc_input::{live_word, text_word, unknown_word};
 use rc_livetext::LiveFault;
 use rc_streams::ending::{REFUSED, fail};
 use rc_streams::{Failure, tell};

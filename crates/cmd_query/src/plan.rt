@@ -20,10 +20,10 @@ ghost use Rattle.cmd_query.specs.declared.plan.PlanFault.TheVariants.{Memory};
 
 use crate::named::{NamedFault, named_set, word_lines};
 use rc_args::{plan_asked, tell_words};
-use rc_input::{OpenFault, open, unknown_word};
 use rc_db::Db;
 use rc_dbtext::TextFault;
 use rc_graph::Graph;
+use rc_input::{OpenFault, open, unknown_word};
 use rc_names::Names;
 use rc_render::plan_text;
 use rc_select::{NoMem, Plan, PlanFault as WantFault, Request, plan};

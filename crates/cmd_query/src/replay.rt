@@ -15,9 +15,9 @@ ghost use Rattle.cmd_query.specs.declared.replay.ReplayFault.TheVariants.{Memory
 
 use crate::played::replay_text;
 use rc_args::{replay_asked, tell_words};
-use rc_input::{OpenFault, Opened, open, text_word};
 use rc_db::NoMem;
 use rc_dbtext::TextFault;
+use rc_input::{OpenFault, Opened, open, text_word};
 use rc_script::ScriptFault;
 use rc_streams::ending::{REFUSED, fail, write_answer};
 use rc_streams::{Failure, MAX_INPUT, Noted, tell};

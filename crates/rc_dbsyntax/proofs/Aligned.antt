@@ -14,7 +14,8 @@ use Rattle.rc_model.specs.Names.{IsName}
 use Rattle.rc_db.specs.Service.{IsScript}
 use Rattle.rc_dbsyntax.specs.Text.{Line, First, ServiceCount, OfService, OfNeeds, OfProducer, OfUp}
 use Rattle.rc_dbsyntax.specs.Text.{OfDown, BundleCount, OfBundle, Last, Body, OfLongrun, OfOneshot}
-use Rattle.rc_dbsyntax.specs.Text.{body_lines, service_lines, bundle_lines, count_and_lines, db_lines}
+use Rattle.rc_dbsyntax.specs.Text.{body_lines, service_lines, bundle_lines, count_and_lines}
+use Rattle.rc_dbsyntax.specs.Text.{db_lines}
 use Rattle.rc_dbsyntax.specs.Text.{spells, IsHead, IsBody, IsServiceText, IsBundleText, AreFew}
 use Rattle.rc_dbsyntax.specs.Text.{IsDbText}
 use Rattle.rc_dbsyntax.specs.Reading.{one, AreSo}
@@ -25,7 +26,8 @@ use Rattle.rc_dbsyntax.proofs.KindLines.{once_needs, once_producer, once_up, onc
 use Rattle.rc_dbsyntax.proofs.Grammar.{Always, no_lines, oneshot_sequence, longrun_sequence}
 use Rattle.rc_dbsyntax.proofs.Grammar.{tail_sequence, tail_lines, IsTail, service_sequence}
 use Rattle.rc_dbsyntax.proofs.Grammar.{once_service, end_sequence, end_lines, inner_sequence}
-use Rattle.rc_dbsyntax.proofs.Grammar.{inner_lines, db_sequence, once_all_services, once_all_bundles}
+use Rattle.rc_dbsyntax.proofs.Grammar.{inner_lines, db_sequence, once_all_services}
+use Rattle.rc_dbsyntax.proofs.Grammar.{once_all_bundles}
 
 -- what a line may be refused for, beside its form
 pub data Place : Type 0 where

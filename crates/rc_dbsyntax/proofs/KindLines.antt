@@ -12,7 +12,8 @@ use Rattle.rc_model.specs.declared.Kind.{Kind}
 use Rattle.rc_model.specs.declared.Kind.TheVariants as kinds
 use Rattle.rc_model.specs.Names.{IsName, IsNameByte}
 use Rattle.rc_db.specs.Service.{IsScript}
-use Rattle.rc_dbsyntax.specs.Text.{First, ServiceCount, OfService, OfNeeds, OfProducer, OfUp, OfDown}
+use Rattle.rc_dbsyntax.specs.Text.{First, ServiceCount, OfService, OfNeeds, OfProducer, OfUp}
+use Rattle.rc_dbsyntax.specs.Text.{OfDown}
 use Rattle.rc_dbsyntax.specs.Text.{BundleCount, OfBundle, Last, Head, BundleText, IsHead}
 use Rattle.rc_dbsyntax.specs.Text.{IsBundleText, words, text_behind, kind_word, flag_word, or_dash}
 use Rattle.rc_dbsyntax.specs.Text.{length_word}

@@ -9,7 +9,8 @@ use Rattle.rc_model.specs.declared.Kind.{Kind}
 use Rattle.rc_model.specs.declared.Kind.TheVariants as kinds
 use Rattle.rc_model.specs.Names.{IsName}
 use Rattle.rc_db.specs.Service.{IsScript}
-use Rattle.rc_dbsyntax.specs.Text.{OfService, OfNeeds, OfProducer, OfUp, OfDown, OfBundle, Last, Head}
+use Rattle.rc_dbsyntax.specs.Text.{OfService, OfNeeds, OfProducer, OfUp, OfDown, OfBundle, Last}
+use Rattle.rc_dbsyntax.specs.Text.{Head}
 use Rattle.rc_dbsyntax.specs.Text.{BundleText, IsHead, IsBundleText, words, kind_word, flag_word}
 use Rattle.rc_dbsyntax.specs.Text.{or_dash, length_word}
 use Rattle.rc_lexer.proofs.Texts.{one_text, text_decimal, text_from, text_names}

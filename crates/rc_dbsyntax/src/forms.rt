@@ -13,8 +13,8 @@ use crate::lines::{
     Head, bundle_line, count_line, down_line, first_line, head_line, last_line, needs_line,
     producer_line, up_line,
 };
-use rc_names::Kind;
 use rc_lexer::{BundleForm, NameWord};
+use rc_names::Kind;
 use std::alloc::Global;
 use std::marker::Model;
 

@@ -8,18 +8,20 @@ ghost use Rattle.rc_model.specs.declared.Kind.{Kind};
 ghost use Rattle.rc_model.specs.declared.Kind.TheVariants as kinds;
 ghost use Rattle.rc_db.specs.Service.{IsScript};
 ghost use Rattle.rc_dbsyntax.specs.Text.{First, OfService, OfNeeds, OfProducer, OfUp, OfDown};
-ghost use Rattle.rc_dbsyntax.specs.Text.{OfBundle, Last, IsHead, IsBundleText, line_of_words, spell};
+ghost use Rattle.rc_dbsyntax.specs.Text.{OfBundle, Last, IsHead, IsBundleText};
+ghost use Rattle.rc_dbsyntax.specs.Text.{line_of_words, spell};
 ghost use Rattle.rc_dbsyntax.specs.Text.{kind_word, flag_word, or_dash, text_behind};
-ghost use Rattle.rc_dbsyntax.specs.Reading.{IsNumber, IsNoNumber, IsNoCount, IsRead, IsRefused, one};
+ghost use Rattle.rc_dbsyntax.specs.Reading.{IsNumber, IsNoNumber, IsNoCount};
+ghost use Rattle.rc_dbsyntax.specs.Reading.{IsRead, IsRefused, one};
 ghost use Rattle.rc_dbsyntax.specs.Words.{IsPlain, IsOfWords, IsOfNoWords};
 
 use crate::fault::FormFault;
 use crate::words::{MAX_TEXT, number_line, text_of, words_of};
 use rc_db::NoMem;
-use rc_names::Kind;
 use rc_lexer::{
     BundleForm, NameWord, Words, argument, arguments, is, names_of, number_of, value_of,
 };
+use rc_names::Kind;
 use std::alloc::Global;
 use std::marker::Model;
 

@@ -5,7 +5,8 @@ use Rattle.std.specs.Option.{option_map}
 use Rattle.rc_model.specs.declared.Kind.{Kind}
 use Rattle.rc_model.specs.declared.Kind.TheVariants as kinds
 use Rattle.rc_model.specs.Database.{Service, Database}
-use Rattle.rc_dbsyntax.specs.Text.{Head, Body, OfLongrun, OfOneshot, ServiceText, BundleText, DbText}
+use Rattle.rc_dbsyntax.specs.Text.{Head, Body, OfLongrun, OfOneshot, ServiceText, BundleText}
+use Rattle.rc_dbsyntax.specs.Text.{DbText}
 use Rattle.rc_dbsyntax.specs.Text.{db_text}
 
 -- the members of a set, ascending

@@ -15,8 +15,8 @@ ghost use Rattle.rc_dbtext.specs.Spelling.{head_of};
 use rc_db::{NoMem, Service};
 use rc_dbsyntax::{BodyForm, Head, ServiceForm};
 use rc_graph::{Draft, Graph, GraphFault};
-use rc_names::Names;
 use rc_lexer::NameWord;
+use rc_names::Names;
 use std::alloc::{AllocError, Global};
 
 /// The table of the names of services, which ascend.

@@ -9,9 +9,9 @@ ghost use Rattle.rc_dbtext.specs.Spelling.{bundle_text, members, name_at};
 use rc_db::laws::tables_are_their_values;
 use rc_db::{NoMem, Table};
 use rc_dbsyntax::BundleForm;
+use rc_lexer::NameWord;
 use rc_names::Names;
 use rc_set::Set;
-use rc_lexer::NameWord;
 use std::alloc::Global;
 
 /// The table of the bundles, whose names and members ascend.

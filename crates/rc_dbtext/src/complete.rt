@@ -4,8 +4,8 @@ ghost use Rattle.rc_dbtext.specs.Meaning.{FeedsWell, IsComplete, IsLongrunName, 
 ghost use Rattle.rc_dbtext.specs.Parts.{AreBundlesComplete, AreKnown, IsApart, IsKnown};
 
 use rc_dbsyntax::{BodyForm, BundleForm, DbForm, ServiceForm};
-use rc_names::{Kind, Names};
 use rc_lexer::NameWord;
+use rc_names::{Kind, Names};
 
 /// Whether each member is a service, what is fed is a longrun that is needed, and no bundle has the
 /// name of a service, where each need is a service.

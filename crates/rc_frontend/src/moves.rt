@@ -2,9 +2,9 @@
 use crate::hints::tell_failure;
 use log::{error, info};
 use rc_args::RenameFault;
-use rc_input::database_of;
 use rc_db::Db;
 use rc_diagnostics::text_of;
+use rc_input::database_of;
 use rc_livetext::read_live;
 use rc_set::Set;
 use rc_streams::messages::{HINT, MESSAGE, Messages};

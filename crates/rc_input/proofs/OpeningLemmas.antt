@@ -8,7 +8,8 @@ use Rattle.rc_dbtext.specs.Spelling.{spelling}
 use Rattle.rc_dbtext.specs.declared.fault.TextFault.{TextFault}
 use Rattle.rc_streams.specs.declared.input.Failure.TheVariants.{Read}
 use Rattle.rc_input.specs.Base.{IsTextFault}
-use Rattle.rc_input.specs.Opening.{IsBaseFault, IsInputFault, IsOpenFault, IsWrongBase, Opens, Reads}
+use Rattle.rc_input.specs.Opening.{IsBaseFault, IsInputFault, IsOpenFault, IsWrongBase, Opens}
+use Rattle.rc_input.specs.Opening.{Reads}
 use Rattle.rc_input.specs.Opening.{ReadsAll}
 use Rattle.rc_input.specs.declared.opening.OpenFault.{OpenFault}
 use Rattle.rc_input.specs.declared.opening.OpenFault.TheVariants.{OfText, Failed}

@@ -2,7 +2,8 @@
 //! database stands at the beginning.
 ghost use Rattle.std.specs.Prelude.{◌≡◌, ◌⊎◌, ◌+◌, Err, None, Some, IfErr, IfOk};
 ghost use Rattle.rc_input.specs.Base.{bytes_of};
-ghost use Rattle.rc_input.specs.Opening.{IsBaseFault, IsInputFault, IsOpenFault, IsWrongBase, Opens};
+ghost use Rattle.rc_input.specs.Opening.{IsBaseFault, IsInputFault, IsOpenFault, IsWrongBase};
+ghost use Rattle.rc_input.specs.Opening.{Opens};
 ghost use Rattle.rc_input.specs.Opening.{ReadsAll};
 ghost use Rattle.rc_model.specs.Database.{IsDatabase};
 ghost use Rattle.rc_db.specs.Database.{IsWritable};

@@ -1,8 +1,8 @@
 //! Whether the names of a text are those of a database.
 ghost use Rattle.std.specs.Prelude.{◌≡◌, ◌↔◌, IsTrue};
 
-use rc_names::Names;
 use rc_lexer::NameWord;
+use rc_names::Names;
 
 /// Whether these are the names of the services, in their order.
 pub(crate) fn are_services(texts: &[NameWord<'_>], names: &Names) -> bool

@@ -12,11 +12,11 @@ use rc_dbtext::{
     write_db,
 };
 use rc_graph::{Draft, Graph, GraphFault};
+use rc_lexer::{ascend, names_of};
 use rc_recovery::{with_ends, with_stop};
 use rc_script::{texts_of, words_of};
 use rc_set::NoMem;
 use rc_streams::{Failure, Lines, Noted, read_all};
-use rc_lexer::{ascend, names_of};
 use samples::{LOG, NET, is_same};
 use std::alloc::{AllocError, AllocGlobal, Global};
 use std::io::Print;

@@ -3,7 +3,8 @@ use Rattle.std.proofs.lemmas.Result.{err_from_is_err_and}
 use Rattle.std.specs.List.{flat_map}
 use Rattle.rc_dbsyntax.specs.Text.{BundleCount, IsBundleText, AreFew, bundle_lines, count_and_lines}
 use Rattle.rc_dbsyntax.specs.Reading.{IsStuck, AreSo, one}
-use Rattle.rc_dbsyntax.proofs.Sequences.{refused_where, stuck_first, stuck_second, read_both, so_many}
+use Rattle.rc_dbsyntax.proofs.Sequences.{refused_where, stuck_first, stuck_second, read_both}
+use Rattle.rc_dbsyntax.proofs.Sequences.{so_many}
 use Rattle.rc_dbsyntax.proofs.Sequences.{counted_sequence}
 use Rattle.rc_dbsyntax.proofs.KindLines.{once_bundles, bundle_kind}
 use Rattle.rc_dbsyntax.proofs.NumberLines.{bundles_count, count_read, no_count}

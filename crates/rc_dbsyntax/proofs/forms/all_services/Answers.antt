@@ -4,7 +4,8 @@ use Rattle.std.specs.List.{flat_map}
 use Rattle.rc_dbsyntax.specs.Text.{ServiceCount, IsServiceText, AreFew, service_lines}
 use Rattle.rc_dbsyntax.specs.Text.{count_and_lines}
 use Rattle.rc_dbsyntax.specs.Reading.{IsStuck, AreSo, one}
-use Rattle.rc_dbsyntax.proofs.Sequences.{refused_where, stuck_first, stuck_second, read_both, so_many}
+use Rattle.rc_dbsyntax.proofs.Sequences.{refused_where, stuck_first, stuck_second, read_both}
+use Rattle.rc_dbsyntax.proofs.Sequences.{so_many}
 use Rattle.rc_dbsyntax.proofs.Sequences.{counted_sequence}
 use Rattle.rc_dbsyntax.proofs.Grammar.{some_service}
 use Rattle.rc_dbsyntax.proofs.KindLines.{once_services}

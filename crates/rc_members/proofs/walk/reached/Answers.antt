@@ -1,7 +1,8 @@
 use Rattle.std.proofs.Common.{◌≡◌, ◌∙◌, ◌<◌, [], length, slice_index_or, sym, arith}
 use Rattle.rc_members.specs.Rows.{rows}
 use Rattle.rc_members.proofs.RowLemmas.{length-rows, row_is, row_needs, row_known}
-use Rattle.rc_members.proofs.Walks.{walk_begins, walk_follows, walk_ends, followed_within, none_left}
+use Rattle.rc_members.proofs.Walks.{walk_begins, walk_follows, walk_ends, followed_within}
+use Rattle.rc_members.proofs.Walks.{none_left}
 use Rattle.rc_members.proofs.walk.reached.Goals as goal
 
 pub loop-at-init : goal.loop-at-init
