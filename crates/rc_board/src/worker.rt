@@ -118,6 +118,7 @@ fn transit<G: Gate, R: Wait>(
 
 /// Reports to the board how a transition ended, in a hold of its own. It wakes nobody, since this
 /// worker asks for the next job after it.
+#[inline(always)]
 fn tell<R: Wait>(rt: &R, shared: &Shared, worker: u8, pad: &mut Pad, made: Made)
     ensures { NotesEnd pad.old worker made pad.new }
 {
@@ -141,6 +142,7 @@ fn ask<G: Gate, R: Wait>(rt: &R, gate: &G, shared: &Shared, worker: u8, pad: &mu
 
 /// Lets the board go: wakes one that waits, if any does, where a job was taken, and waits for a
 /// change where there is none yet.
+#[inline(always)]
 fn let_go<R: Wait>(rt: &R, shared: &Shared, guard: MutexGuard<Board>, asked: &Asked) {
     match asked {
         Asked::Job(_) => {
@@ -163,6 +165,7 @@ fn await_change<R: Wait>(rt: &R, shared: &Shared, mut guard: MutexGuard<Board>) 
 }
 
 /// Stops the run where it is late, else asks for a job, and gives the leave up for it.
+#[inline(always)]
 fn next_on(board: &mut Board, pad: &mut Pad, worker: u8, time: Time) -> Asked
     ensures { NotesAsked pad.old worker time result pad.new }
 {
@@ -183,6 +186,7 @@ fn next_on(board: &mut Board, pad: &mut Pad, worker: u8, time: Time) -> Asked
 }
 
 /// Shows the board to the watch, where looks are wanted.
+#[inline(always)]
 fn show<R: Wait, W: Watch>(
     rt: &R,
     shared: &Shared,
