@@ -1,7 +1,6 @@
 -- How a session that is launched ends.
 use Rattle.std.proofs.Common.{◌≡◌, ◌∙◌, ◌⊎◌, ℕ, Bool, List, [], Option, None, Some, Result, Ok, Err}
-use Rattle.std.proofs.Common.{IfErr, IfOk, inl, inr, ap, refl, sym, subst, false}
-use Rattle.std.specs.Result.{MatchResult}
+use Rattle.std.proofs.Common.{inl, inr, refl, sym, subst}
 use Rattle.rc_graph.specs.declared.Way.{Way}
 use Rattle.rc_model.specs.Database.{Database}
 use Rattle.rc_model.specs.Line.{Line}
@@ -27,16 +26,15 @@ use Rattle.rc_args.specs.Programs.{ByPrograms, ByTable, MakingAsk, listed_in}
 use Rattle.rc_args.specs.SessionAsked.{SessionAsk}
 use Rattle.rc_input.specs.Base.{Spells}
 use Rattle.rc_input.specs.Opening.{Reads}
-use Rattle.cmd_session.specs.Filing.{BeginsWith, CannotKeep, FailsToBegin, Filing, file_named}
+use Rattle.cmd_session.specs.Filing.{BeginsWith, CannotKeep, FailsToBegin, file_named}
 use Rattle.cmd_session.specs.Gating.{IsGateFor, IsGateless}
-use Rattle.cmd_session.specs.Launching.{Launches}
-use Rattle.cmd_session.specs.Services.{IsDoneFor, Lets, MayEnd, OfLines, RunsGated, Served}
-use Rattle.cmd_session.specs.Services.{ServesFor, StopsFor, done_by}
+use Rattle.cmd_session.specs.Services.{ComesFor, IsDoneFor, Lets, OfLines, RunsGated, Served}
+use Rattle.cmd_session.specs.Services.{done_by}
 use Rattle.cmd_session.specs.Serving.{IsOfFile, session_on}
 use Rattle.cmd_session.specs.Session.{Asked, Dealing, Opens, Runs, RunsOn, filing_by}
-use Rattle.cmd_session.specs.SessionFaults.{AreAllFound, EndsAs, EndsBy, EndsOn, IsFileFault}
+use Rattle.cmd_session.specs.SessionFaults.{AreAllFound, ComesBy, ComesOn, IsEndTold, IsFileFault}
 use Rattle.cmd_session.specs.SessionFaults.{IsTold, IsUnready, IsUnserved, IsUnspelled}
-use Rattle.cmd_session.specs.SessionFaults.{reading_fault, serve_word, status_of}
+use Rattle.cmd_session.specs.SessionFaults.{reading_fault, serve_word}
 use Rattle.cmd_session.specs.declared.keeping.LiveFile.{LiveFile}
 use Rattle.cmd_session.specs.declared.service.Service.{Service}
 use Rattle.cmd_session.specs.declared.session_fault.SessionFault.{SessionFault}
@@ -44,53 +42,12 @@ use Rattle.cmd_session.specs.declared.session_fault.SessionFault.TheVariants.{Of
 use Rattle.cmd_session.specs.declared.session_fault.SessionFault.TheVariants.{OfLive, Failed}
 use Rattle.cmd_session.proofs.SessionLemmas.{begin_fault, clock_timeless, fault_wider, table_exact}
 
--- how it ended, with the status that tells it
-pub ends_as : (ended : Result Ending SessionFault) (Answered : Ending → Type 0)
-    (Fails : SessionFault → Type 0) (status : ℕ) (before after : Option (List ℕ))
-    → IfOk ended Answered → IfErr ended Fails
-    → MatchResult ended (λ ending. (status ≡ status_of ending) × (after ≡ before))
-    (λ fault. IsTold fault status before after)
-    → EndsAs Answered Fails status before after
-ends_as (Ok ending) Answered Fails status before after done fails told =
-    inl (ending, done, told.0, told.1)
-ends_as (Err fault) Answered Fails status before after done fails told =
-    inr (fault, fails, told)
-
-both_ok : {A E : Type 0} (result : Result A E) (P Q : A → Type 0) → IfOk result P
-    → IfOk result Q → IfOk result (λ x. P x × Q x)
-both_ok (Ok x) P Q p q = (p, q)
-both_ok (Err e) P Q p q = tt
-
--- and so it is launched, where what is launched is known by another name
-pub launches_as : (service inner : Service) (asked other : Asked) (deal : Dealing)
-    (ended : Result Ending SessionFault) (status : ℕ) (reader writer keeper : Type 0)
-    (before after : Option (List ℕ)) → inner ≡ service → other ≡ asked
-    → IfOk ended (MayEnd inner)
-    → IfOk ended (λ ending. Runs (ServesFor inner ending) other deal)
-    → IfErr ended (λ fault. EndsBy fault inner other deal
-    (reader ⊎ OfLines inner (other.base ≡ None)) writer (CannotKeep other.ask other.file keeper))
-    → MatchResult ended (λ ending. (status ≡ status_of ending) × (after ≡ before))
-    (λ fault. IsTold fault status before after)
-    → Launches service asked status deal reader writer keeper before after
-launches_as service inner asked other deal ended status reader writer keeper before after same so
-    may done fails told =
-    subst (λ (s : Service). Launches s asked status deal reader writer keeper before after) same
-    (subst (λ (a : Asked). Launches inner a status deal reader writer keeper before after) so
-    (ends_as ended (λ ending. MayEnd inner ending × Runs (ServesFor inner ending) other deal) _
-    status before after
-    (both_ok ended (MayEnd inner) (λ ending. Runs (ServesFor inner ending) other deal) may done)
-    fails told))
-
 -- a failed read is told as that
 pub told_read : (ended : Result Ending SessionFault) (status : ℕ) (before after : Option (List ℕ))
-    → ended ≡ Err (Failed Read)
-    → MatchResult ended (λ ending. (status ≡ status_of ending) × (after ≡ before))
-    (λ fault. IsTold fault status before after)
+    → ended ≡ Err (Failed Read) → IsEndTold ended status before after
     → (status ≡ 111) × AppendsFront before after (fault_line (serve_word Read))
 told_read ended status before after is told =
-    by (subst (λ (r : Result Ending SessionFault). MatchResult r
-    (λ ending. (status ≡ status_of ending) × (after ≡ before))
-    (λ fault. IsTold fault status before after)) is told)
+    by (subst (λ (r : Result Ending SessionFault). IsEndTold r status before after) is told)
   where
     by : IsTold (Failed Read) status before after
         → (status ≡ 111) × AppendsFront before after (fault_line (serve_word Read))
@@ -171,20 +128,13 @@ runs_past Comes asked d deal gate old new is (start, begins, from) served =
           from (served fails lets);
     })
 
--- a session on a database has no run begun, and is not poisoned
-pub begins_whole : (d : Database) (filing : Filing) (old : Holding)
-    → ((start : Line) × BeginsWith d filing start × (old ≡ session_on d start))
-    → (old.begun ≡ false) × (old.spoiled ≡ false)
-begins_whole d filing old (start, begins, is) =
-    (ap (λ (h : Holding). h.begun) is, ap (λ (h : Holding). h.spoiled) is)
-
 -- why there is no database of a text ends it
 module _ (service : Service) (asked : Asked) (deal : Dealing) (base : Option (List ℕ))
     (reader writer keeper : Type 0) (same : asked.base ≡ base)
     (none : deal.io.gained ≡ deal.io.written) (left : deal.is ≡ deal.was) where
   pub unspelled_ends : (fault : SessionFault) (input : List ℕ)
       → Reads base deal.io.input deal.io.left input → IsUnspelled base input fault
-      → EndsBy fault service asked deal reader writer keeper
+      → ComesBy (Err fault) service asked deal reader writer keeper
   unspelled_ends (OfText fault) input reads is = (
     (
       input,
@@ -197,7 +147,7 @@ module _ (service : Service) (asked : Asked) (deal : Dealing) (base : Option (Li
   unspelled_ends (Unknown word) input reads is = absurd is
   unspelled_ends (OfLive fault) input reads is = absurd is
   unspelled_ends (Failed fault) input reads is =
-      subst (λ (f : ServeFault). EndsBy (Failed f) service asked deal reader writer keeper)
+      subst (λ (f : ServeFault). ComesBy (Err (Failed f)) service asked deal reader writer keeper)
       (sym is) (tt, inl (tt, none, left))
 
 -- and so does an input that was not read whole
@@ -205,13 +155,15 @@ pub reading_ends : (fault : ServeFault) (why : Failure) (service : Service) (ask
     (deal : Dealing) (failed more writer keeper : Type 0) → asked.base ≡ None
     → deal.io.gained ≡ deal.io.written → deal.is ≡ deal.was → fault ≡ reading_fault why
     → IsCause deal.io.input failed ⊥ why
-    → EndsBy (Failed fault) service asked deal (failed ⊎ more) writer keeper
+    → ComesBy (Err (Failed fault)) service asked deal (failed ⊎ more) writer keeper
 reading_ends fault why service asked deal failed more writer keeper base none left is cause =
-    subst (λ (f : ServeFault). EndsBy (Failed f) service asked deal (failed ⊎ more) writer keeper)
+    subst (λ (f : ServeFault). ComesBy (Err (Failed f)) service asked deal (failed ⊎ more) writer
+    keeper)
     (sym is) (by why cause)
   where
     by : (why : Failure) → IsCause deal.io.input failed ⊥ why
-        → EndsBy (Failed (reading_fault why)) service asked deal (failed ⊎ more) writer keeper
+        → ComesBy (Err (Failed (reading_fault why))) service asked deal
+        (failed ⊎ more) writer keeper
     by failure.TooLong cause = (tt, inl ((base, cause), none, left))
     by failure.Memory cause = (tt, inl (tt, none, left))
     by failure.Read cause = (inl cause, inl (base, none, left))
@@ -273,7 +225,7 @@ module _ (service : Service) (asked : Asked) (deal inner : Dealing) (base : Opti
         gained = deal.io.gained;
       };
     }) where
-  pub runs_in : (Comes : Served) → RunsOn Comes asked d inner → Runs Comes asked deal
+  runs_in : (Comes : Served) → RunsOn Comes asked d inner → Runs Comes asked deal
   runs_in Comes run = record {
     database = d;
     input = inner.io.input;
@@ -283,12 +235,13 @@ module _ (service : Service) (asked : Asked) (deal inner : Dealing) (base : Opti
     run = subst (RunsOn Comes asked d) through run;
   }
 
-  pub ends_in : (fault : SessionFault) (reader more writer failed : Type 0)
+  pub comes_in : (result : Result Ending SessionFault) (reader more writer failed : Type 0)
       → (OfLines service reader → more)
-      → EndsOn fault service asked d inner (OfLines service reader) writer
+      → ComesOn result service asked d inner (OfLines service reader) writer
       (CannotKeep asked.ask asked.file failed)
-      → EndsBy fault service asked deal more writer (CannotKeep asked.ask asked.file failed)
-  ends_in fault reader more writer failed so (inl (un, alone)) = by fault un
+      → ComesBy result service asked deal more writer (CannotKeep asked.ask asked.file failed)
+  comes_in (Ok ending) reader more writer failed so run = runs_in (ComesFor service (Ok ending)) run
+  comes_in (Err fault) reader more writer failed so (inl (un, alone)) = by fault un
     where
       none : deal.io.gained ≡ deal.io.written
       none = subst (λ (n : Dealing). n.io.gained ≡ n.io.written) through alone.1
@@ -303,7 +256,8 @@ module _ (service : Service) (asked : Asked) (deal inner : Dealing) (base : Opti
           (stands_in base deal.io.input deal.io.left inner.io.input inner.io.left d opened alone.0)
 
       by : (fault : SessionFault) → IsUnready asked.ask asked.file d fault
-          → EndsBy fault service asked deal more writer (CannotKeep asked.ask asked.file failed)
+          → ComesBy (Err fault) service asked deal more writer
+          (CannotKeep asked.ask asked.file failed)
       by (OfText fault) un = absurd un
       by (Unknown word) un =
           ((stands.0, stands.2, (d, stands.1, stands.3, un)), none, left)
@@ -312,9 +266,10 @@ module _ (service : Service) (asked : Asked) (deal inner : Dealing) (base : Opti
       by (Failed fault) un =
           let of = unready_fault asked.ask asked.file fault more writer failed un in
           (of.1, inl (unserved fault asked.base deal.io.input of.0, none, left))
-  ends_in fault reader more writer failed so (inr (why, is, wrong, run)) =
+  comes_in (Err fault) reader more writer failed so (inr (why, is, wrong, run)) =
       subst (λ (f : SessionFault).
-      EndsBy f service asked deal more writer (CannotKeep asked.ask asked.file failed)) (sym is) (
+      ComesBy (Err f) service asked deal more writer (CannotKeep asked.ask asked.file failed))
+      (sym is) (
         fault_wider why _ _ _ _ _ _ so (λ w. w) (λ k. k) wrong,
-        inr (runs_in (StopsFor service why) run),
+        inr (runs_in (ComesFor service (Err why)) run),
       )

@@ -10,3 +10,5 @@ pub mod LaunchLemmas
 mod ServingLemmas
 -- How one line is served.
 mod OnceLemmas
+-- The names of what went down.
+mod RestartLemmas

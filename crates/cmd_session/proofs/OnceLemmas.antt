@@ -7,7 +7,7 @@ use Rattle.rc_graph.specs.declared.Way.{Way}
 use Rattle.rc_model.specs.Database.{Database}
 use Rattle.rc_model.specs.Line.{Line}
 use Rattle.rc_model.specs.declared.Outcome.{Outcome}
-use Rattle.rc_model.specs.Session.{Command, Redo, Undo, events_of}
+use Rattle.rc_model.specs.Session.{Command, events_of}
 use Rattle.rc_session.specs.Holding.{Holding}
 use Rattle.rc_script.specs.Says.{Saying, SaysNothing, SaysWrong, SaysStep, SaysDry, SaysLive}
 use Rattle.rc_script.specs.Says.{SaysBundles, SaysJournal}
@@ -17,15 +17,14 @@ use Rattle.rc_serve.specs.declared.fault.ServeFault.{ServeFault}
 use Rattle.rc_serve.specs.declared.fault.ServeFault.TheVariants.{Read, Write, TooLong, Memory}
 use Rattle.rc_serve.specs.declared.fault.ServeFault.TheVariants.{NoThread, Strange, Workers, Io}
 use Rattle.rc_serve.specs.declared.keeper.KeepFault.{KeepFault}
-use Rattle.rc_serve.specs.declared.keeper.KeepFault.TheVariants as keep
 use Rattle.rc_serve.specs.Ending.{ArrivesSaying, Ends, EndsIn, EndsWay, FailsShowing, IsDoneAs}
 use Rattle.rc_serve.specs.Ending.{StopsOnce, ending_of}
 use Rattle.rc_serve.specs.Faults.{IsOfLine, IsServeFault, StandsAt}
 use Rattle.rc_serve.specs.Meeting.{IsDoneBy, Meets, WantsWork}
-use Rattle.rc_serve.specs.Keeping.{Keeping, of_keeping}
-use Rattle.rc_args.specs.OnceAsked.{HasNoEvents, OnceSaying, Said, WantsDryRedo, WantsDryUndo}
-use Rattle.cmd_session.specs.Once.{EndsOnce, HoldsOnce, IsCommand, ServesOnce, StopsLine}
-use Rattle.cmd_session.specs.Once.{StopsServing, WantsWorkOnce}
+use Rattle.rc_serve.specs.Keeping.{IsKeptUp, Keeping}
+use Rattle.rc_args.specs.OnceAsked.{HasNoEvents, OnceSaying, Said}
+use Rattle.cmd_session.specs.Once.{ArrivesOnce, EndsOnce, HoldsOnce, IsCommand, ServedOnce}
+use Rattle.cmd_session.specs.Once.{StopsLine, WantsWorkOnce}
 use Rattle.cmd_session.specs.Storing.{HoldsText}
 use Rattle.cmd_session.proofs.SessionLemmas.{fault_wider}
 use Rattle.cmd_session.proofs.ServingLemmas.{kept_up, of_file}
@@ -34,12 +33,6 @@ use Rattle.cmd_session.proofs.ServingLemmas.{kept_up, of_file}
 pub no_events : (saying : Saying) (command : Command) → HasNoEvents (Said saying)
     → saying ≡ SaysStep command → events_of command ≡ []
 no_events saying command none is = subst (λ (s : Saying). HasNoEvents (Said s)) is none
-
--- a fault of keeping is one of serving
-pub keep_fails : (failed writer : Type 0) (fault : KeepFault) → (fault ≡ keep.Io → failed)
-    → IsServeFault ⊥ writer failed (of_keeping fault)
-keep_fails failed writer keep.Io so = so refl
-keep_fails failed writer keep.Memory so = tt
 
 -- a store that is left alone holds what one line that is not kept asks of it
 pub holds_alone : (path : Option Path) (held : Option (List ℕ)) (d : Database) (saying : Saying)
@@ -141,121 +134,69 @@ module _ (workers : ℕ) (Answers : ℕ → Way → Outcome → Type 0) (Gives :
         ],
       )
 
-  pub stops_met : (result : Result Ending ServeFault) → old.spoiled ≡ false
+  -- one line that was answered, or at which a fault came, was served
+  pub served_line : (result : Result Ending ServeFault) → old.spoiled ≡ false
       → was old.database old.line
       → ((line : Line) → next old.database line
       → HoldsOnce path held is old.database (Said saying) line)
+      → IfOk result (λ ending. (text : List ℕ) × Ends (IsDoneAs workers Answers Gives) ending
+      old.database old.line saying text new.line × Appends written gained text)
+      → (result ≡ Ok Done → ArrivesSaying old.database old.line saying new.line)
+      → OnOk result (IsKeptUp was next old.database old.line new.line)
       → IfErr result (λ fault.
       StopsOnce (IsDoneBy workers Answers Gives) fault May was next saying written gained old new)
-      → IfErr result (λ fault. StopsServing fault path held is
-      (IsDoneAs workers Answers Gives) (Said saying) written gained old)
-  stops_met (Ok ending) whole begun holds stops = tt
-  stops_met (Err fault) whole begun holds stops = inr (stops_line fault whole begun holds stops)
+      → ServedOnce result path held is (IsDoneAs workers Answers Gives) (Said saying) written gained
+      old new
+  served_line (Ok ending) whole begun holds ended arrives up stops = record {
+    text = ended.0;
+    ends = ended.1;
+    told = ended.2;
+    arrives = λ all. arrives (ap Ok all);
+    kept = holds new.line (kept_up was next old.database old.line new.line begun up);
+  }
+  served_line (Err fault) whole begun holds ended arrives up stops =
+      inr (stops_line fault whole begun holds stops)
 
--- one line that was answered was served
-module _ (path : Option Path) (was is : Option (List ℕ)) (As : EndsIn) (saying : Saying)
-    (written gained : Option (List ℕ)) (old new : Holding) where
-  served : (ending : Ending) → ((text : List ℕ)
-      × Ends As ending old.database old.line saying text new.line × Appends written gained text)
-      → (ending ≡ Done → ArrivesSaying old.database old.line saying new.line)
-      → HoldsOnce path was is old.database (Said saying) new.line
-      → ServesOnce path was is As ending (Said saying) written gained old new
-  served ending (text, ends, told) arrives kept =
-      record { text = text; ends = ends; told = told; arrives = arrives; kept = kept }
+-- what is shown of an undo or a redo, or could not be
+module _ (what : OnceSaying) (command : Command) (path : Option Path) (held : Option (List ℕ))
+    (As : EndsIn) (written gained : Option (List ℕ)) (h : Holding)
+    (ends : (ending : Ending) (text : List ℕ) → EndsWay ending h.database h.line command text
+    → EndsOnce As ending h.database h.line what text h.line)
+    (arrives : ArrivesOnce h.database h.line what h.line)
+    (kept : HoldsOnce path held held h.database what h.line) where
+  stops_shown : (fault : ServeFault) → FailsShowing fault h.database h.line command written gained
+      → StopsLine fault (λ d line. HoldsOnce path held held d what line) As h.database h.line what
+      written gained
+  stops_shown fault (inl (is, none)) = inl (
+    none,
+    subst (λ (f : ServeFault). StandsAt f ⊥ (WantsWorkOnce h.database h.line what) 0 [])
+        (sym is) tt,
+    kept,
+  )
+  stops_shown fault (inr (is, ending, text, way, front)) = inr (
+    subst IsOfLine (sym is) tt,
+    ending,
+    text,
+    h.line,
+    ends ending text way,
+    front.0,
+    front.1,
+    inl kept,
+  )
 
-  pub served_kept : (result : Result Ending ServeFault) → path ≢ None → IsCommand saying
-      → IfOk result (λ ending. (text : List ℕ)
-      × Ends As ending old.database old.line saying text new.line × Appends written gained text)
-      → (result ≡ Ok Done → ArrivesSaying old.database old.line saying new.line)
-      → OnOk result (HoldsText is old.database new.line)
-      → IfOk result (λ ending. ServesOnce path was is As ending (Said saying) written gained
-      old new)
-  served_kept (Ok ending) named command ends arrives held =
-      served ending ends (λ all. arrives (ap Ok all))
-      (holds_text path was is old.database saying new.line named command held)
-  served_kept (Err fault) named command ends arrives held = tt
-
-  pub served_alone : (result : Result Ending ServeFault) → is ≡ was
-      → (path ≡ None) ⊎ (IsCommand saying → ⊥)
-      → IfOk result (λ ending. (text : List ℕ)
-      × Ends As ending old.database old.line saying text new.line
+  pub shown_way : (result : Result Ending ServeFault)
+      → IfOk result (λ ending. (text : List ℕ) × EndsWay ending h.database h.line command text
       × Appends written gained text)
-      → (result ≡ Ok Done → ArrivesSaying old.database old.line saying new.line)
-      → IfOk result (λ ending. ServesOnce path was is As ending (Said saying) written gained old
-      new)
-  served_alone (Ok ending) left alone ends arrives =
-      served ending ends (λ all. arrives (ap Ok all))
-      (subst (λ (held : Option (List ℕ)). HoldsOnce path was held old.database (Said saying)
-      new.line) (sym left) (holds_alone path was old.database saying new.line alone))
-  served_alone (Err fault) left alone ends arrives = tt
-
--- what is shown of an undo or a redo
-pub shown_undo : (path : Option Path) (held : Option (List ℕ)) (As : EndsIn)
-    (written gained : Option (List ℕ)) (h : Holding) (result : Result Ending ServeFault)
-    → IfOk result (λ ending. (text : List ℕ) × EndsWay ending h.database h.line (Undo 0 []) text
-    × Appends written gained text)
-    → IfOk result (λ ending. ServesOnce path held held As ending WantsDryUndo written gained
-    h h)
-shown_undo path held As written gained h (Ok ending) (text, way, told) =
-    record { text = text; ends = (way, refl); told = told; arrives = λ _. tt; kept = refl }
-shown_undo path held As written gained h (Err fault) shown = tt
-
-pub shown_redo : (path : Option Path) (held : Option (List ℕ)) (As : EndsIn)
-    (written gained : Option (List ℕ)) (h : Holding) (result : Result Ending ServeFault)
-    → IfOk result (λ ending. (text : List ℕ) × EndsWay ending h.database h.line (Redo 0 []) text
-    × Appends written gained text)
-    → IfOk result (λ ending. ServesOnce path held held As ending WantsDryRedo written gained
-    h h)
-shown_redo path held As written gained h (Ok ending) (text, way, told) =
-    record { text = text; ends = (way, refl); told = told; arrives = λ _. tt; kept = refl }
-shown_redo path held As written gained h (Err fault) shown = tt
-
--- what could not be shown
-stops_shown : (fault : ServeFault) (what : OnceSaying) (command : Command) (kept : Keeping)
-    (As : EndsIn) (written gained : Option (List ℕ)) (h : Holding)
-    → ((ending : Ending) (text : List ℕ) → EndsWay ending h.database h.line command text
-    → EndsOnce As ending h.database h.line what text h.line) → kept h.database h.line
-    → FailsShowing fault h.database h.line command written gained
-    → StopsLine fault kept As h.database h.line what written gained
-stops_shown fault what command kept As written gained h ends held (inl (is, none)) =
-    inl (
-      none,
-      subst (λ (f : ServeFault). StandsAt f ⊥ (WantsWorkOnce h.database h.line what) 0 [])
-          (sym is) tt,
-      held,
-    )
-stops_shown fault what command kept As written gained h ends held
-    (inr (is, ending, text, way, front)) =
-    inr (
-      subst IsOfLine (sym is) tt,
-      ending,
-      text,
-      h.line,
-      ends ending text way,
-      front.0,
-      front.1,
-      inl held,
-    )
-
-pub stops_undo : (result : Result Ending ServeFault) (path : Option Path) (held : Option (List ℕ))
-    (As : EndsIn) (written gained : Option (List ℕ)) (h : Holding)
-    → IfErr result (λ fault. FailsShowing fault h.database h.line (Undo 0 []) written gained)
-    → IfErr result (λ fault. StopsServing fault path held held As WantsDryUndo written gained h)
-stops_undo (Ok ending) path held As written gained h fails = tt
-stops_undo (Err fault) path held As written gained h fails =
-    inr (stops_shown fault WantsDryUndo (Undo 0 [])
-    (λ d line. HoldsOnce path held held d WantsDryUndo line) As written gained h
-    (λ ending text way. (way, refl)) refl fails)
-
-pub stops_redo : (result : Result Ending ServeFault) (path : Option Path) (held : Option (List ℕ))
-    (As : EndsIn) (written gained : Option (List ℕ)) (h : Holding)
-    → IfErr result (λ fault. FailsShowing fault h.database h.line (Redo 0 []) written gained)
-    → IfErr result (λ fault. StopsServing fault path held held As WantsDryRedo written gained h)
-stops_redo (Ok ending) path held As written gained h fails = tt
-stops_redo (Err fault) path held As written gained h fails =
-    inr (stops_shown fault WantsDryRedo (Redo 0 [])
-    (λ d line. HoldsOnce path held held d WantsDryRedo line) As written gained h
-    (λ ending text way. (way, refl)) refl fails)
+      → IfErr result (λ fault. FailsShowing fault h.database h.line command written gained)
+      → ServedOnce result path held held As what written gained h h
+  shown_way (Ok ending) (text, way, told) fails = record {
+    text = text;
+    ends = ends ending text way;
+    told = told;
+    arrives = λ _. arrives;
+    kept = kept;
+  }
+  shown_way (Err fault) shown fails = inr (stops_shown fault fails)
 
 -- a fault stays one where more counts as a failure
 pub fault_with : {A : Type 0} (result : Result A ServeFault)

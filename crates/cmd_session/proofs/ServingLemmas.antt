@@ -20,37 +20,13 @@ use Rattle.rc_serve.specs.Keeping.{ServesFrontKept, of_keeping}
 use Rattle.rc_serve.specs.Meeting.{Doing, IsDoneBy}
 use Rattle.rc_serve.specs.Playing.{PlaysInput}
 use Rattle.rc_serve.specs.Serving.{ServesAll}
-use Rattle.rc_serve.specs.SessionText.{FailsExactly, IsTimeless, ServesFailing}
+use Rattle.rc_serve.specs.SessionText.{FailsExactly, IsDoneFailing, IsTimeless, ServesFailing}
 use Rattle.cmd_session.specs.Filing.{HoldsBy}
-use Rattle.cmd_session.specs.Services.{Lets, ServesFor, StopsFor, done_by}
-use Rattle.cmd_session.specs.Serving.{IsOfFile, KeepsAt, Serves, StopsUpTo, as_done}
+use Rattle.cmd_session.specs.Services.{ComesFor, Lets, done_by}
+use Rattle.cmd_session.specs.Serving.{IsOfFile, KeepsAt, as_done}
 use Rattle.cmd_session.specs.Storing.{HoldsText}
 use Rattle.cmd_session.specs.declared.service.Service.{Service}
 use Rattle.cmd_session.specs.declared.service.Service.TheVariants.{Lines}
-
--- what holds by events and as certain transitions fail holds either way
-module _ {A : Type 0} (result : Result A ServeFault) (workers : ℕ)
-    (Answers : ℕ → Way → Outcome → Type 0) (Gives : ℕ → Type 0) (input : Option (List ℕ))
-    (io : Exchange) (old new : Holding) where
-  pub lets_all : (fails : Option (ℕ → Way → Bool))
-      → OnOk result (ServesAll (IsDoneBy workers Answers Gives) io old new)
-      → ((f : ℕ → Way → Bool) → FailsExactly Answers f → IsTimeless Gives input
-      → OnOk result (ServesFailing f io old new))
-      → Lets Answers Gives input fails
-      → OnOk result (ServesAll (done_by workers Answers Gives fails) io old new)
-  lets_all None by failing lets = by
-  lets_all (Some f) by failing lets = failing f lets.0 lets.1
-
-  pub lets_front : (May : KeepFault → Type 0) (was is : Keeping) (fails : Option (ℕ → Way → Bool))
-      → IfErr result (λ fault.
-      ServesFrontKept (IsDoneBy workers Answers Gives) fault May was is io old new)
-      → ((f : ℕ → Way → Bool) → FailsExactly Answers f → IsTimeless Gives input
-      → IfErr result (λ fault. ServesFrontFailingKept fault May was is f io old new))
-      → Lets Answers Gives input fails
-      → IfErr result (λ fault.
-      ServesFrontKept (done_by workers Answers Gives fails) fault May was is io old new)
-  lets_front May was is None by failing lets = by
-  lets_front May was is (Some f) by failing lets = failing f lets.0 lets.1
 
 -- a store that holds a text is that of a file that is named, and one that was left alone of none
 pub holds_named : (path : Option Path) (was is : Option (List ℕ)) → path ≢ None
@@ -62,11 +38,6 @@ pub holds_none : (path : Option Path) (held : Option (List ℕ)) → path ≡ No
     → (d : Database) (line : Line) → HoldsBy path held held d line
 holds_none None held none d line = refl
 holds_none (Some path) held none d line = let bad : Some path ≡ None = none in cc
-
--- what holds whatever the result
-pub any_ok : {A E : Type 0} (result : Result A E) (P : Type 0) → P → OnOk result P
-any_ok (Ok a) P p = p
-any_ok (Err e) P p = tt
 
 -- a file that is named is so as what is asked has it
 pub named_some : {A B : Type 0} (f : A → B) (o : Option A) (x : A) → o ≡ Some x
@@ -97,13 +68,6 @@ kept_up was is d first line begun (inl now) = now
 kept_up was is d first line begun (inr still) =
     subst (is d) (sym still.1) ((still.0 d first).0 begun)
 
-pub kept_ok : {A E : Type 0} (result : Result A E) (was is kept : Keeping) (d : Database)
-    (first line : Line) → was d first → ((d : Database) (line : Line) → is d line → kept d line)
-    → OnOk result (IsKeptUp was is d first line) → OnOk result (kept d line)
-kept_ok (Ok a) was is kept d first line begun wider up =
-    wider d line (kept_up was is d first line begun up)
-kept_ok (Err e) was is kept d first line begun wider up = tt
-
 kept_at : (fault : ServeFault) (May : KeepFault → Type 0) (was is kept : Keeping) (d : Database)
     (first here line : Line) (written : ℕ) → was d first
     → ((d : Database) (line : Line) → is d line → kept d line)
@@ -116,45 +80,56 @@ kept_at fault May was is kept d first here line written begun wider (inr fails) 
   wider d here (kept_up was is d first here begun fails.2),
 )
 
--- where lines are launched, what was served of them is what is served
-module _ {A : Type 0} (result : Result A ServeFault) (ended : Result Ending ServeFault)
-    (service : Service) (path : Option Path) (held is : Option (List ℕ)) (Does : Doing)
-    (As : EndsIn) (io : Exchange) (old new : Holding)
-    (lines : service ≡ Lines) (told : ended ≡ as_done result) where
-  of_lines : (P : Service → Result Ending ServeFault → Type 0) → P Lines (as_done result)
-      → P service ended
-  of_lines P p = subst (λ (s : Service). P s ended) (sym lines) (subst (P Lines) (sym told) p)
-
-  pub all_lines : OnOk result (ServesAll Does io old new) → PlaysInput io.input io.left old new
-      → OnOk result (HoldsBy path held is old.database new.line)
-      → IfOk ended (λ ending. ServesFor service ending path held is Does As io old new)
-  all_lines all play kept = of_lines
-      (λ s r. IfOk r (λ ending. ServesFor s ending path held is Does As io old new))
-      (by result all kept)
-    where
-      by : (r : Result A ServeFault) → OnOk r (ServesAll Does io old new)
-          → OnOk r (HoldsBy path held is old.database new.line)
-          → IfOk (as_done r) (λ ending. Serves (HoldsBy path held is) Does io old new)
-      by (Ok a) all kept = (all, play, kept)
-      by (Err fault) all kept = tt
-
-  pub front_lines : (May : KeepFault → Type 0) (was next : Keeping) → was old.database old.line
-      → ((d : Database) (line : Line) → next d line → HoldsBy path held is d line)
+-- where lines are launched, what was served of them by events, or as certain transitions fail, is
+-- what is served
+module _ {A : Type 0} (workers : ℕ) (Answers : ℕ → Way → Outcome → Type 0) (Gives : ℕ → Type 0)
+    (As : EndsIn) (io : Exchange) (old new : Holding) (May : KeepFault → Type 0)
+    (was next : Keeping) (path : Option Path) (held is : Option (List ℕ))
+    (begun : was old.database old.line)
+    (wider : (d : Database) (line : Line) → next d line → HoldsBy path held is d line)
+    (play : PlaysInput io.input io.left old new) where
+  by_result : (result : Result A ServeFault) (Does : Doing)
+      → OnOk result (ServesAll Does io old new)
       → IfErr result (λ fault. ServesFrontKept Does fault May was next io old new)
-      → PlaysInput io.input io.left old new
-      → IfErr ended (λ fault. StopsFor service fault path held is Does As io old new)
-  front_lines May was next begun wider front play = of_lines
-      (λ s r. IfErr r (λ fault. StopsFor s fault path held is Does As io old new))
-      (by result front)
+      → OnOk result (IsKeptUp was next old.database old.line new.line)
+      → ComesFor Lines (as_done result) path held is Does As io old new
+  by_result (Ok a) Does all front up = (
+    refl,
+    (
+      all,
+      play,
+      wider old.database new.line (kept_up was next old.database old.line new.line begun up),
+    ),
+  )
+  by_result (Err fault) Does all front up = inr (
+    front.0,
+    play,
+    kept_at fault May was next (HoldsBy path held is) old.database old.line front.0.here new.line
+        front.0.told.0 begun wider front.1,
+  )
+
+  pub lines_come : (result : Result A ServeFault) (ended : Result Ending ServeFault)
+      (service : Service) (fails : Option (ℕ → Way → Bool)) → service ≡ Lines
+      → ended ≡ as_done result
+      → OnOk result (ServesAll (IsDoneBy workers Answers Gives) io old new)
+      → ((f : ℕ → Way → Bool) → FailsExactly Answers f → IsTimeless Gives io.input
+      → OnOk result (ServesFailing f io old new))
+      → IfErr result (λ fault.
+      ServesFrontKept (IsDoneBy workers Answers Gives) fault May was next io old new)
+      → ((f : ℕ → Way → Bool) → FailsExactly Answers f → IsTimeless Gives io.input
+      → IfErr result (λ fault. ServesFrontFailingKept fault May was next f io old new))
+      → OnOk result (IsKeptUp was next old.database old.line new.line)
+      → Lets Answers Gives io.input fails
+      → ComesFor service ended path held is (done_by workers Answers Gives fails) As io old new
+  lines_come result ended service fails lines told all text begun front up lets =
+      subst (λ (s : Service). ComesFor s ended path held is (done_by workers Answers Gives fails) As
+      io old new) (sym lines)
+      (subst (λ (r : Result Ending ServeFault). ComesFor Lines r path held is
+      (done_by workers Answers Gives fails) As io old new) (sym told) (by fails lets))
     where
-      by : (r : Result A ServeFault)
-          → IfErr r (λ fault. ServesFrontKept Does fault May was next io old new)
-          → IfErr (as_done r) (λ fault.
-          StopsUpTo fault (is ≡ held) (HoldsBy path held is) Does io old new)
-      by (Ok a) front = tt
-      by (Err fault) front = inr (
-        front.0,
-        play,
-        kept_at fault May was next (HoldsBy path held is) old.database old.line front.0.here
-            new.line front.0.told.0 begun wider front.1,
-      )
+      by : (fails : Option (ℕ → Way → Bool)) → Lets Answers Gives io.input fails
+          → ComesFor Lines (as_done result) path held is (done_by workers Answers Gives fails) As io
+          old new
+      by None lets = by_result result (IsDoneBy workers Answers Gives) all begun up
+      by (Some f) lets =
+          by_result result (IsDoneFailing f) (text f lets.0 lets.1) (front f lets.0 lets.1) up

@@ -5,9 +5,9 @@ use Rattle.rc_streams.specs.Input.{AppendsFront, fault_line}
 use Rattle.rc_serve.specs.declared.fault.ServeFault.TheVariants.{Memory}
 use Rattle.rc_args.specs.SessionAsked.{AsksNoSession, AsksSession, SessionAsk}
 use Rattle.cmd_session.specs.Filing.{CannotKeep}
-use Rattle.cmd_session.specs.Services.{MayEnd, OfLines, ServesFor}
-use Rattle.cmd_session.specs.Session.{Asked, Dealing, IsUntouched, Runs, asked_with}
-use Rattle.cmd_session.specs.SessionFaults.{EndsAs, EndsBy, serve_word}
+use Rattle.cmd_session.specs.Services.{OfLines}
+use Rattle.cmd_session.specs.Session.{Asked, Dealing, IsUntouched, asked_with}
+use Rattle.cmd_session.specs.SessionFaults.{ComesBy, EndsAs, serve_word}
 use Rattle.cmd_session.specs.declared.keeping.LiveFile.{LiveFile}
 use Rattle.cmd_session.specs.declared.service.Service.{Service}
 use Rattle.cmd_session.specs.declared.service.Service.TheVariants.{Lines}
@@ -18,8 +18,7 @@ use Rattle.cmd_session.specs.declared.service.Service.TheVariants.{Lines}
 abbrev pub Launches : Service → Asked → (status : ℕ) → Dealing → (reader writer keeper : Type 0)
     → (before after : Option (List ℕ)) → Type 0
 Launches service asked status deal reader writer keeper before after = EndsAs
-    (λ ending. MayEnd service ending × Runs (ServesFor service ending) asked deal)
-    (λ fault. EndsBy fault service asked deal (reader ⊎ OfLines service (asked.base ≡ None)) writer
+    (λ ended. ComesBy ended service asked deal (reader ⊎ OfLines service (asked.base ≡ None)) writer
     (CannotKeep asked.ask asked.file keeper))
     status before after
 

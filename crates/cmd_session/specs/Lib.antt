@@ -12,6 +12,10 @@ pub mod Gating
 pub mod Serving
 -- What one line comes to, as a command of its own, and where it has no answer.
 pub mod Once
+-- The lines of a command of several steps, such as an update or a restart.
+pub mod Steps
+-- The two steps of a restart: both by one session.
+pub mod Restarting
 -- What a session is launched for, and what it comes to.
 pub mod Services
 -- What keeps the text of a session.

@@ -1,5 +1,5 @@
 -- What one line comes to, as a command of its own, and where it has no answer.
-use Rattle.std.specs.Prelude.{◌≡◌, ◌⊎◌, ℕ, List, [], Option, take}
+use Rattle.std.specs.Prelude.{◌≡◌, ◌⊎◌, ℕ, List, [], Option, Result, MatchResult, take}
 use Rattle.std.specs.Io.KnownBytes.{Appends}
 use Rattle.clap.specs.Words.{Text as Path}
 use Rattle.rc_model.specs.Database.{Database}
@@ -80,3 +80,10 @@ StopsServing fault path was is As what written gained old =
     × ((is ≡ was) ⊎ HoldsOnce path was is old.database what old.line))
     ⊎ StopsLine fault (λ d line. HoldsOnce path was is d what line) As
     old.database old.line what written gained
+
+-- one line was served on a session, to its end or up to a fault
+abbrev pub ServedOnce : Result Ending ServeFault → Option Path → (was is : Option (List ℕ))
+    → EndsIn → OnceSaying → (written gained : Option (List ℕ)) → (old new : Holding) → Type 0
+ServedOnce result path was is As what written gained old new = MatchResult result
+    (λ ending. ServesOnce path was is As ending what written gained old new)
+    (λ fault. StopsServing fault path was is As what written gained old)

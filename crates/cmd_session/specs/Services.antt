@@ -1,5 +1,6 @@
 -- What a session is launched for, and what it comes to.
-use Rattle.std.specs.Prelude.{◌≡◌, ℕ, Bool, List, [], Option, None, Some}
+use Rattle.std.specs.Prelude.{◌≡◌, ℕ, Bool, List, [], Option, None, Some, Result, Ok, Err, false}
+use Rattle.std.specs.Prelude.{map, string_bytes}
 use Rattle.clap.specs.Words.{Text as Path}
 use Rattle.rc_graph.specs.declared.Way.{Way}
 use Rattle.rc_model.specs.Database.{Database}
@@ -20,10 +21,12 @@ use Rattle.rc_args.specs.OnceAsked.{HasNoEvents, once_saying_of}
 use Rattle.rc_args.specs.Programs.{ByPrograms, ByTable, MakingAsk, controller_in, runner_in}
 use Rattle.cmd_session.specs.Filing.{BeginsWith, Filing, HoldsBy}
 use Rattle.cmd_session.specs.Finding.{AreFound}
-use Rattle.cmd_session.specs.Once.{ServesOnce, StopsServing}
+use Rattle.cmd_session.specs.Once.{ServedOnce}
+use Rattle.cmd_session.specs.Restarting.{Restarted}
 use Rattle.cmd_session.specs.Serving.{Serves, StopsUpTo, session_on}
+use Rattle.cmd_session.specs.Steps.{lowering}
 use Rattle.cmd_session.specs.declared.service.Service.{Service}
-use Rattle.cmd_session.specs.declared.service.Service.TheVariants.{Lines, Line as OneLine}
+use Rattle.cmd_session.specs.declared.service.Service.TheVariants.{Lines, Line as OneLine, Restart}
 
 -- what a session comes to where commands are done so and end so: the file that is named, what its
 -- store held and holds, what went through its devices, and the session before and after
@@ -34,30 +37,25 @@ Served = Option Path → (was is : Option (List ℕ)) → Doing → EndsIn → E
 -- it is of lines, and then this holds
 abbrev pub OfLines : Service → Type 0 → Type 0
 OfLines Lines P = P
-OfLines (OneLine once) P = ⊥
+OfLines other P = ⊥
 
 -- what one line is to do brings no events
 abbrev pub IsEventless : Service → Type 0
-IsEventless Lines = Unit {0}
 IsEventless (OneLine once) = HasNoEvents (once_saying_of once.now)
+IsEventless other = Unit {0}
 
--- how it may end: lines as done, one line as that ends
-abbrev pub MayEnd : Service → Ending → Type 0
-MayEnd Lines ending = ending ≡ Done
-MayEnd (OneLine once) ending = Unit {0}
-
--- it was served: all lines of the input; or one line, which ended so, with nothing read
-abbrev pub ServesFor : Service → Ending → Served
-ServesFor Lines ending path was is Does As io old new = Serves (HoldsBy path was is) Does io old new
-ServesFor (OneLine once) ending path was is Does As io old new = (io.left ≡ io.input)
-    × ServesOnce path was is As ending (once_saying_of once.now) io.written io.gained old new
-
--- it was served up to a fault, or not begun
-abbrev pub StopsFor : Service → ServeFault → Served
-StopsFor Lines fault path was is Does As io old new =
+-- it was served, to its end, or up to a fault if it was begun: all lines of the input, which end as
+-- done; or one line or a restart, with nothing read
+abbrev pub ComesFor : Service → Result Ending ServeFault → Served
+ComesFor Lines (Ok ending) path was is Does As io old new =
+    (ending ≡ Done) × Serves (HoldsBy path was is) Does io old new
+ComesFor Lines (Err fault) path was is Does As io old new =
     StopsUpTo fault (is ≡ was) (HoldsBy path was is) Does io old new
-StopsFor (OneLine once) fault path was is Does As io old new = (io.left ≡ io.input)
-    × StopsServing fault path was is As (once_saying_of once.now) io.written io.gained old
+ComesFor (OneLine once) result path was is Does As io old new = (io.left ≡ io.input)
+    × ServedOnce result path was is As (once_saying_of once.now) io.written io.gained old new
+ComesFor (Restart names) result path was is Does As io old new = (io.left ≡ io.input)
+    × Restarted result path was is As (lowering false (map string_bytes names.now))
+    io.written io.gained old
 
 -- commands are done with events that so many workers make with a gate of these answers and moments;
 -- or as certain transitions fail, whoever makes them

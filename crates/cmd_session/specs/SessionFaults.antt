@@ -1,5 +1,6 @@
 -- When a session is refused or fails, and how it tells that.
 use Rattle.std.specs.Prelude.{◌≡◌, ◌≢◌, ◌⊎◌, ℕ, List, Option, codes, ◌<◌, None, IfSome, length}
+use Rattle.std.specs.Prelude.{Result, Ok, Err}
 use Rattle.rc_graph.specs.declared.Way.{Way}
 use Rattle.rc_livetext.specs.LiveFaults.{IsLiveFault}
 use Rattle.rc_livetext.specs.declared.fault.LiveFault.{LiveFault}
@@ -26,7 +27,7 @@ use Rattle.rc_args.specs.Programs.{listed_in}
 use Rattle.rc_args.specs.SessionAsked.{SessionAsk}
 use Rattle.cmd_session.specs.Filing.{FailsToBegin, IsFileRefused, file_named}
 use Rattle.cmd_session.specs.Finding.{AreFound, IsFirstUnknown}
-use Rattle.cmd_session.specs.Services.{StopsFor}
+use Rattle.cmd_session.specs.Services.{ComesFor}
 use Rattle.cmd_session.specs.Session.{Asked, Dealing, IsUntouched, Runs, RunsOn}
 use Rattle.cmd_session.specs.declared.failing.GateFault.{GateFault}
 use Rattle.cmd_session.specs.declared.failing.GateFault.TheVariants as gate
@@ -119,23 +120,28 @@ abbrev pub IsNotBegun : ServeFault → Option (List ℕ) → Dealing → Type 0
 IsNotBegun fault base deal = IsUnserved fault base deal.io.input
     × (deal.io.gained ≡ deal.io.written) × (deal.is ≡ deal.was)
 
--- how a session on a database ends that is not served to its end: not begun, with nothing read,
--- nothing written and its store left alone; or by a fault, served up to it
-abbrev pub EndsOn : SessionFault → Service → Asked → Database → Dealing
+-- what a session on a database comes to: it was served to its end; or it was not begun, with
+-- nothing read, nothing written and its store left alone; or a fault came, and it was served up to
+-- it
+abbrev pub ComesOn : Result Ending SessionFault → Service → Asked → Database → Dealing
     → (reader writer keeper : Type 0) → Type 0
-EndsOn fault service asked d deal reader writer keeper =
+ComesOn (Ok ending) service asked d deal reader writer keeper =
+    RunsOn (ComesFor service (Ok ending)) asked d deal
+ComesOn (Err fault) service asked d deal reader writer keeper =
     (IsUnready asked.ask asked.file d fault × IsUntouched deal)
     ⊎ ((why : ServeFault) × (fault ≡ Failed why) × IsServeFault reader writer keeper why
-    × RunsOn (StopsFor service why) asked d deal)
+    × RunsOn (ComesFor service (Err why)) asked d deal)
 
--- how a session ends that is not served to its end: it is refused, with nothing written and its
+-- what a session comes to: it was served to its end; or it is refused, with nothing written and its
 -- store left alone; or a fault came, before it was begun or where it was served
-abbrev pub EndsBy : SessionFault → Service → Asked → Dealing → (reader writer keeper : Type 0)
-    → Type 0
-EndsBy (Failed fault) service asked deal reader writer keeper =
+abbrev pub ComesBy : Result Ending SessionFault → Service → Asked → Dealing
+    → (reader writer keeper : Type 0) → Type 0
+ComesBy (Ok ending) service asked deal reader writer keeper =
+    Runs (ComesFor service (Ok ending)) asked deal
+ComesBy (Err (Failed fault)) service asked deal reader writer keeper =
     IsServeFault reader writer keeper fault
-    × (IsNotBegun fault asked.base deal ⊎ Runs (StopsFor service fault) asked deal)
-EndsBy fault service asked deal reader writer keeper =
+    × (IsNotBegun fault asked.base deal ⊎ Runs (ComesFor service (Err fault)) asked deal)
+ComesBy (Err fault) service asked deal reader writer keeper =
     IsRefusedBy fault asked deal.io.input deal.io.left
     × (deal.io.gained ≡ deal.io.written) × (deal.is ≡ deal.was)
 
@@ -195,10 +201,21 @@ status_of Done = 0
 status_of Refused = 1
 status_of Hindered = 2
 
--- the status and what is told by it: of how a command ended that was answered, with nothing told;
--- or of the fault by which it ended
-abbrev pub EndsAs : (Answered : Ending → Type 0) → (Fails : SessionFault → Type 0) → (status : ℕ)
+-- the status of what a command came to, and what is told of it: nothing where it was answered, else
+-- the fault
+abbrev pub IsEndTold : Result Ending SessionFault → (status : ℕ)
     → (before after : Option (List ℕ)) → Type 0
-EndsAs Answered Fails status before after =
-    ((ending : Ending) × Answered ending × (status ≡ status_of ending) × (after ≡ before))
-    ⊎ ((fault : SessionFault) × Fails fault × IsTold fault status before after)
+IsEndTold (Ok ending) status before after = (status ≡ status_of ending) × (after ≡ before)
+IsEndTold (Err fault) status before after = IsTold fault status before after
+
+-- nothing was done, for a reason of this kind: nothing was written, and the store was left alone
+abbrev pub IsUndone : Result Ending SessionFault → (Why : SessionFault → Type 0)
+    → (was is written gained : Option (List ℕ)) → Type 0
+IsUndone ended Why was is written gained = (fault : SessionFault) × (ended ≡ Err fault) × Why fault
+    × (gained ≡ written) × (is ≡ was)
+
+-- a command came to this, and that is told
+abbrev pub EndsAs : (Comes : Result Ending SessionFault → Type 0) → (status : ℕ)
+    → (before after : Option (List ℕ)) → Type 0
+EndsAs Comes status before after =
+    (ended : Result Ending SessionFault) × Comes ended × IsEndTold ended status before after

@@ -1,18 +1,17 @@
 //! A session is launched: its database, its gate and where it begins are found, it is served, and
 //! its status is returned.
-ghost use Rattle.std.specs.Prelude.{◌≡◌, ◌⊎◌, ◌+◌, None, Err, IfErr, IfOk, MatchResult};
+ghost use Rattle.std.specs.Prelude.{◌≡◌, ◌+◌, IfErr, IfOk};
 ghost use Rattle.rc_streams.specs.Input.{AppendsFront, ConsumesAtMost, fault_line};
 ghost use Rattle.rc_streams.specs.Noting.{HasFailed, inner_of};
 ghost use Rattle.rc_input.specs.Base.{Spells, bytes_of};
 ghost use Rattle.rc_args.specs.SessionAsked.{session_ask_of};
 ghost use Rattle.cmd_session.specs.Filing.{CannotKeep};
 ghost use Rattle.cmd_session.specs.Launching.{Launches};
-ghost use Rattle.cmd_session.specs.Services.{IsEventless, MayEnd, OfLines, ServesFor};
-ghost use Rattle.cmd_session.specs.Session.{Runs, RunsOn, asked_of, asked_with, dealt};
-ghost use Rattle.cmd_session.specs.SessionFaults.{EndsBy, EndsOn, IsTold, IsUnspelled};
+ghost use Rattle.cmd_session.specs.Services.{IsEventless, OfLines};
+ghost use Rattle.cmd_session.specs.Session.{asked_of, asked_with, dealt};
+ghost use Rattle.cmd_session.specs.SessionFaults.{ComesOn, EndsAs, IsEndTold, IsUnspelled};
 ghost use Rattle.cmd_session.specs.SessionFaults.{reading_fault, serve_word, status_of};
 ghost use Rattle.cmd_session.specs.Storing.{store_of};
-ghost use Rattle.cmd_session.specs.declared.session_fault.SessionFault.TheVariants.{Failed};
 ghost use Rattle.rc_serve.specs.declared.fault.ServeFault.TheVariants.{Read as Unread};
 
 use crate::beginning::begin;
@@ -24,8 +23,8 @@ use crate::serving::serve_service;
 use crate::session_fault::{SessionFault, tell_session_fault};
 use log::Log;
 use rc_args::SessionRequest;
-use rc_input::database_of;
 use rc_db::Db;
+use rc_input::database_of;
 use rc_serve::{Ending, ServeFault};
 use rc_streams::ending::{DONE, REFUSED};
 use rc_streams::{Failure, MAX_INPUT, Noted, read_all};
@@ -38,14 +37,14 @@ use std::thread::Threads;
 const HINDERED: u8 = 2;
 
 /// Launches a session, and returns the status: 0 where all is done or shown; 1 where it is refused,
-/// and nothing has moved; 2 where one line was carried out, and something failed, was blocked or
-/// was not tried; 111 for a failure.
+/// and nothing has moved; 2 where one line or a restart was carried out, and something failed, was
+/// blocked or was not tried; 111 for a failure.
 ///
 /// With a base each line of the input is answered before the next one is waited for, and one line
-/// reads nothing. Without one the input is read whole first: the database stands at its beginning,
-/// and the lines after it. The session goes on with the text that was found in its file. It is kept
-/// there from before its first line on, and each line before it is answered. Why it ended before
-/// its input is written to `faults`. The two devices must not have failed before.
+/// or a restart reads nothing. Without one the input is read whole first: the database stands at
+/// its beginning, and the lines after it. The session goes on with the text that was found in its
+/// file. It is kept there from before its first line on, and each line before it is answered. Why
+/// it ended before its input is written to `faults`. The two devices must not have failed before.
 pub fn launch<T: Threads + Wait + Sync, R: Read, W: Write, F: Write, S: Store, L: Log + Sync>(
     host: &Host<'_, T, L>,
     request: &SessionRequest<'_>,
@@ -74,9 +73,36 @@ pub fn launch<T: Threads + Wait + Sync, R: Read, W: Write, F: Write, S: Store, L
     ensures taken { ConsumesAtMost (R.remaining (inner_of devices.old.reader))
         (R.remaining (inner_of devices.new.reader)) (MAX_INPUT + 1) }
 {
-    let launch = Launch::new(request, service, base, live);
-    let ended = launched(host, launch, &mut devices.reader, &mut devices.outputs);
-    tell_ended(host.alloc, &mut devices.faults, ended)
+    let launch = Launch {
+        request,
+        service,
+        base,
+        live,
+    };
+    let alloc = host.alloc;
+    let outputs = &mut devices.outputs;
+    let faults = &mut devices.faults;
+    match base {
+        Some(bytes) => match spelled(alloc, Some(bytes), &[]) {
+            Ok((db, _none)) => launch_on(host, launch, db, &mut devices.reader, outputs, faults),
+            Err(fault) => tell_ended(alloc, faults, Err(fault)),
+        },
+        None => {
+            let input = match read_all(alloc, &mut devices.reader) {
+                Ok(input) => input,
+                Err(failure) => {
+                    let fault = SessionFault::Failed(reading_fault(failure));
+                    return tell_ended(alloc, faults, Err(fault));
+                }
+            };
+            match spelled(alloc, None, &input) {
+                Ok((db, lines)) => {
+                    launch_on(host, launch, db, &mut Noted::new(lines), outputs, faults)
+                }
+                Err(fault) => tell_ended(alloc, faults, Err(fault)),
+            }
+        }
+    }
 }
 
 /// Tells a fault, and returns the status.
@@ -85,10 +111,7 @@ pub fn tell_ended<F: Write>(
     faults: &mut F,
     ended: Result<Ending, SessionFault<'_>>,
 ) -> u8
-    ensures { MatchResult ended.entry
-        (λ ending. (result ≡ status_of ending)
-        × (F.contents faults.new ≡ F.contents faults.old))
-        (λ fault. IsTold fault result (F.contents faults.old) (F.contents faults.new)) }
+    ensures { IsEndTold ended.entry result (F.contents faults.old) (F.contents faults.new) }
 {
     match ended {
         Ok(ending) => status_of(ending),
@@ -107,77 +130,28 @@ fn status_of(ending: Ending) -> u8
     }
 }
 
-// Launches it on its database.
-fn launched<'a, T: Threads + Wait + Sync, R: Read, W: Write, S: Store, L: Log + Sync>(
-    host: &Host<'_, T, L>,
-    launch: Launch<'a>,
-    reader: &mut Noted<R>,
-    outputs: &mut Outputs<W, S>,
-) -> Result<Ending, SessionFault<'a>>
-    requires eventless { IsEventless launch.service }
-    requires reader { HasFailed reader.old → ⊥ }
-    requires writer { HasFailed outputs.old.writer → ⊥ }
-    ensures may_end { IfOk result (MayEnd launch.entry.service) }
-    ensures done { IfOk result (λ ending.
-        Runs (ServesFor launch.entry.service ending) (asked_of launch.entry)
-        (dealt R.remaining W.contents S.holds reader.old reader.new outputs.old outputs.new)) }
-    ensures stopped { IfErr result (λ fault.
-        EndsBy fault launch.entry.service (asked_of launch.entry)
-        (dealt R.remaining W.contents S.holds reader.old reader.new outputs.old outputs.new)
-        (HasFailed reader.new
-        ⊎ OfLines launch.entry.service ((asked_of launch.entry).base ≡ None))
-        (HasFailed outputs.new.writer)
-        (CannotKeep (asked_of launch.entry).ask (asked_of launch.entry).file
-        (S.failed (store_of outputs.new.keeper)))) }
-    ensures told { HasFailed reader.new → result ≡ Err (Failed Unread) }
-    ensures taken { ConsumesAtMost (R.remaining (inner_of reader.old))
-        (R.remaining (inner_of reader.new)) (MAX_INPUT + 1) }
-{
-    match launch.base {
-        Some(bytes) => {
-            let (db, _none) = match spelled(host.alloc, Some(bytes), &[]) {
-                Ok(read) => read,
-                Err(fault) => return Err(fault),
-            };
-            launch_on(host, launch, db, reader, outputs)
-        }
-        None => {
-            let input = match read_all(host.alloc, reader) {
-                Ok(input) => input,
-                Err(failure) => return Err(SessionFault::Failed(reading_fault(failure))),
-            };
-            let (db, lines) = match spelled(host.alloc, None, &input) {
-                Ok(read) => read,
-                Err(fault) => return Err(fault),
-            };
-            launch_on(host, launch, db, &mut Noted::new(lines), outputs)
-        }
-    }
-}
-
 // Launches it on a database, over its own input: past the gate that is asked for, from where it
 // begins.
-fn launch_on<'a, T: Threads + Wait + Sync, R: Read, W: Write, S: Store, L: Log + Sync>(
+fn launch_on<T: Threads + Wait + Sync, R: Read, W: Write, F: Write, S: Store, L: Log + Sync>(
     host: &Host<'_, T, L>,
-    launch: Launch<'a>,
+    launch: Launch<'_>,
     db: Db,
     reader: &mut Noted<R>,
     outputs: &mut Outputs<W, S>,
-) -> Result<Ending, SessionFault<'a>>
+    faults: &mut F,
+) -> u8
     requires eventless { IsEventless launch.service }
     requires reader { HasFailed reader.old → ⊥ }
     requires writer { HasFailed outputs.old.writer → ⊥ }
-    ensures may_end { IfOk result (MayEnd launch.entry.service) }
-    ensures done { IfOk result (λ ending. RunsOn (ServesFor launch.entry.service ending)
-        (asked_of launch.entry) db
-        (dealt R.remaining W.contents S.holds reader.old reader.new outputs.old outputs.new)) }
-    ensures stopped { IfErr result (λ fault. EndsOn fault launch.entry.service
-        (asked_of launch.entry) db
+    ensures ended { EndsAs (λ ended. ComesOn ended launch.entry.service (asked_of launch.entry) db
         (dealt R.remaining W.contents S.holds reader.old reader.new outputs.old outputs.new)
         (OfLines launch.entry.service (HasFailed reader.new)) (HasFailed outputs.new.writer)
         (CannotKeep (asked_of launch.entry).ask (asked_of launch.entry).file
-        (S.failed (store_of outputs.new.keeper)))) }
-    ensures told { HasFailed reader.new → result ≡ Err (Failed Unread) }
+        (S.failed (store_of outputs.new.keeper))))
+        result (F.contents faults.old) (F.contents faults.new) }
+    ensures cause { HasFailed reader.new → (result ≡ 111)
+        × AppendsFront (F.contents faults.old) (F.contents faults.new)
+        (fault_line (serve_word Unread)) }
     ensures taken { ConsumesAtMost (R.remaining (inner_of reader.old))
         (R.remaining (inner_of reader.new)) (MAX_INPUT + 1) }
 {
@@ -186,21 +160,21 @@ fn launch_on<'a, T: Threads + Wait + Sync, R: Read, W: Write, S: Store, L: Log +
         Ok(gate) => gate,
         Err(fault) => {
             drop(db);
-            return Err(fault);
+            return tell_ended(host.alloc, faults, Err(fault));
         }
     };
     let mut session = match begin(host.alloc, db, request, launch.live) {
         Ok(session) => session,
         Err(fault) => {
             drop(gate);
-            return Err(fault);
+            return tell_ended(host.alloc, faults, Err(fault));
         }
     };
     let ended = serve_service(host, launch, &mut session, &gate, reader, outputs);
     drop((session, gate));
     match ended {
-        Ok(ending) => Ok(ending),
-        Err(fault) => Err(SessionFault::Failed(fault)),
+        Ok(ending) => tell_ended(host.alloc, faults, Ok(ending)),
+        Err(fault) => tell_ended(host.alloc, faults, Err(SessionFault::Failed(fault))),
     }
 }
 

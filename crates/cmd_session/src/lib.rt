@@ -1,5 +1,5 @@
-//! Sessions, of the lines of an input or of one line: what each line says done, and its answer out;
-//! and that they are kept in a file, from which the next one goes on.
+//! Sessions, of the lines of an input, of one line or of a restart: what each line says done, and
+//! its answer out; and that they are kept in a file, from which the next one goes on.
 #![tactic(auto)]
 
 mod beginning;
@@ -10,10 +10,12 @@ mod host;
 mod keeping;
 mod launching;
 mod one_line;
+mod restarting;
 mod service;
 mod serving;
 mod session;
 mod session_fault;
+mod steps;
 
 pub use crate::beginning::begin;
 pub use crate::deciding::{keep_fault, live_file, log_for, moves};
@@ -25,3 +27,4 @@ pub use crate::one_line::line_once;
 pub use crate::service::{Devices, Outputs, Service};
 pub use crate::session::session_run;
 pub use crate::session_fault::SessionFault;
+pub use crate::steps::{copied, step_line};

@@ -1,5 +1,5 @@
 //! One line is served, as a command of its own, and it is kept.
-ghost use Rattle.std.specs.Prelude.{◌≡◌, ◌≢◌, ◌⊎◌, None, false, IsTrue, IfErr, IfOk, OnOk};
+ghost use Rattle.std.specs.Prelude.{◌≡◌, ◌≢◌, ◌⊎◌, None, false, IsTrue, IfErr, OnOk};
 ghost use Rattle.rc_streams.specs.Noting.{HasFailed, inner_of};
 ghost use Rattle.rc_script.specs.Says.{saying_of};
 ghost use Rattle.rc_serve.specs.Ending.{IsDoneAs};
@@ -7,7 +7,7 @@ ghost use Rattle.rc_serve.specs.Faults.{IsServeFault};
 ghost use Rattle.rc_serve.specs.Serving.{Stays};
 ghost use Rattle.rc_args.specs.OnceAsked.{HasNoEvents, Said, once_saying_of};
 ghost use Rattle.rc_args.specs.SessionAsked.{session_ask_of};
-ghost use Rattle.cmd_session.specs.Once.{IsCommand, ServesOnce, StopsServing};
+ghost use Rattle.cmd_session.specs.Once.{IsCommand, ServedOnce};
 ghost use Rattle.cmd_session.specs.Storing.{store_of};
 
 use crate::host::Host;
@@ -36,18 +36,12 @@ pub(crate) fn serve_once<T: Threads + Wait + Sync, W: Write, G: Gate, S: Store, 
     requires whole { session.old.spoiled ≡ false }
     requires eventless { HasNoEvents (once_saying_of once.now) }
     requires writer { HasFailed outputs.old.writer → ⊥ }
-    ensures done { IfOk result (λ ending. ServesOnce (session_ask_of request.now).live
-        (S.holds (store_of outputs.old.keeper)) (S.holds (store_of outputs.new.keeper))
-        (IsDoneAs request.now.workers (G.answers gate.now) (G.gives gate.now))
-        ending (once_saying_of once.now)
-        (W.contents (inner_of outputs.old.writer)) (W.contents (inner_of outputs.new.writer))
-        session.old session.new) }
-    ensures stopped { IfErr result (λ fault. StopsServing fault (session_ask_of request.now).live
+    ensures served { ServedOnce result (session_ask_of request.now).live
         (S.holds (store_of outputs.old.keeper)) (S.holds (store_of outputs.new.keeper))
         (IsDoneAs request.now.workers (G.answers gate.now) (G.gives gate.now))
         (once_saying_of once.now)
         (W.contents (inner_of outputs.old.writer)) (W.contents (inner_of outputs.new.writer))
-        session.old) }
+        session.old session.new }
     ensures fault { IfErr result (IsServeFault ⊥ (HasFailed outputs.new.writer)
         (((session_ask_of request.now).live ≢ None) × S.failed (store_of outputs.new.keeper))) }
 {
@@ -72,18 +66,12 @@ pub fn line_once<T: Threads + Wait + Sync, W: Write, G: Gate, S: Store, L>(
     requires whole { session.old.spoiled ≡ false }
     requires eventless { HasNoEvents (Said (saying_of said.now)) }
     requires writer { HasFailed outputs.old.writer → ⊥ }
-    ensures done { IfOk result (λ ending. ServesOnce (session_ask_of request.now).live
-        (S.holds (store_of outputs.old.keeper)) (S.holds (store_of outputs.new.keeper))
-        (IsDoneAs request.now.workers (G.answers gate.now) (G.gives gate.now))
-        ending (Said (saying_of said.now))
-        (W.contents (inner_of outputs.old.writer)) (W.contents (inner_of outputs.new.writer))
-        session.old session.new) }
-    ensures stopped { IfErr result (λ fault. StopsServing fault (session_ask_of request.now).live
+    ensures served { ServedOnce result (session_ask_of request.now).live
         (S.holds (store_of outputs.old.keeper)) (S.holds (store_of outputs.new.keeper))
         (IsDoneAs request.now.workers (G.answers gate.now) (G.gives gate.now))
         (Said (saying_of said.now))
         (W.contents (inner_of outputs.old.writer)) (W.contents (inner_of outputs.new.writer))
-        session.old) }
+        session.old session.new }
     ensures fault { IfErr result (IsServeFault ⊥ (HasFailed outputs.new.writer)
         (((session_ask_of request.now).live ≢ None) × S.failed (store_of outputs.new.keeper))) }
     ensures sound { OnOk result (HasFailed outputs.new.writer → ⊥) }

@@ -1,9 +1,4 @@
 //! What a session is launched for, and its devices.
-ghost use Rattle.std.specs.Prelude.{◌≡◌};
-ghost use Rattle.rc_input.specs.Base.{bytes_of};
-ghost use Rattle.rc_args.specs.SessionAsked.{session_ask_of};
-ghost use Rattle.cmd_session.specs.Session.{asked_of, asked_with};
-
 use crate::keeping::{LiveFile, TextKeeper};
 use rc_args::{Once, SessionRequest};
 use rc_streams::Noted;
@@ -15,6 +10,8 @@ pub enum Service<'a> {
     Lines,
     /// One line. What only shows something leaves the file of the session alone.
     Line(&'a Once),
+    /// A restart of these names: they go down, and what went down comes up again.
+    Restart(&'a [String]),
 }
 
 /// A session to be launched.
@@ -26,27 +23,6 @@ pub(crate) struct Launch<'a> {
     pub base: Option<&'a [u8]>,
     /// What stood in its file.
     pub live: LiveFile<'a>,
-}
-
-impl<'a> Launch<'a> {
-    /// The session of a request.
-    pub fn new(
-        request: &'a SessionRequest<'a>,
-        service: Service<'a>,
-        base: Option<&'a [u8]>,
-        live: LiveFile<'a>,
-    ) -> Launch<'a>
-        ensures asked { asked_of result
-            ≡ asked_with (session_ask_of request.now) (bytes_of base.entry) live.entry }
-        ensures service { result.service ≡ service.entry }
-    {
-        Launch {
-            request,
-            service,
-            base,
-            live,
-        }
-    }
 }
 
 /// Where the answers of a session go, and where it is kept.

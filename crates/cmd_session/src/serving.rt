@@ -1,5 +1,5 @@
-//! What a session is launched for is served: its lines, or one line; and it is kept.
-ghost use Rattle.std.specs.Prelude.{◌≡◌, ◌≢◌, ◌+◌, ℕ, Bool, Option, false, Err, None, IfErr, IfOk};
+//! What a session is launched for is served: its lines, one line or a restart; and it is kept.
+ghost use Rattle.std.specs.Prelude.{◌≡◌, ◌≢◌, ◌+◌, ℕ, Bool, Option, false, Err, None, IfErr};
 ghost use Rattle.rc_graph.specs.declared.Way.{Way};
 ghost use Rattle.rc_streams.specs.Exchange.{exchanged};
 ghost use Rattle.rc_streams.specs.Noting.{HasFailed, inner_of};
@@ -8,13 +8,13 @@ ghost use Rattle.rc_serve.specs.Ending.{IsDoneAs};
 ghost use Rattle.rc_serve.specs.Faults.{IsServeFault};
 ghost use Rattle.rc_args.specs.SessionAsked.{session_ask_of};
 ghost use Rattle.cmd_session.specs.Serving.{as_done};
-ghost use Rattle.cmd_session.specs.Services.{IsEventless, Lets, MayEnd, OfLines, ServesFor};
-ghost use Rattle.cmd_session.specs.Services.{StopsFor, done_by};
+ghost use Rattle.cmd_session.specs.Services.{ComesFor, IsEventless, Lets, OfLines, done_by};
 ghost use Rattle.cmd_session.specs.Storing.{store_of};
 
 use crate::host::Host;
 use crate::keeping::Store;
 use crate::one_line::serve_once;
+use crate::restarting::restart_in;
 use crate::service::{Launch, Outputs, Service};
 use rc_board::Gate;
 use rc_serve::{Ending, Keeper, ServeFault, Unkept, serve};
@@ -39,25 +39,14 @@ pub(crate) fn serve_service<T: Threads + Wait + Sync, R: Read, W: Write, G: Gate
     requires whole { session.old.spoiled ≡ false }
     requires reader { HasFailed reader.old → ⊥ }
     requires writer { HasFailed outputs.old.writer → ⊥ }
-    ensures may_end { IfOk result (MayEnd launch.entry.service) }
-    ensures done { (fails : Option (ℕ → Way → Bool)) →
+    ensures served { (fails : Option (ℕ → Way → Bool)) →
         Lets (G.answers gate.now) (G.gives gate.now) (R.remaining (inner_of reader.old)) fails →
-        IfOk result (λ ending. ServesFor launch.entry.service ending
-        (session_ask_of launch.entry.request.now).live
+        ComesFor launch.entry.service result (session_ask_of launch.entry.request.now).live
         (S.holds (store_of outputs.old.keeper)) (S.holds (store_of outputs.new.keeper))
         (done_by launch.entry.request.now.workers (G.answers gate.now) (G.gives gate.now) fails)
         (IsDoneAs launch.entry.request.now.workers (G.answers gate.now) (G.gives gate.now))
         (exchanged R.remaining W.contents reader.old reader.new
-        outputs.old.writer outputs.new.writer) session.old session.new) }
-    ensures stopped { (fails : Option (ℕ → Way → Bool)) →
-        Lets (G.answers gate.now) (G.gives gate.now) (R.remaining (inner_of reader.old)) fails →
-        IfErr result (λ fault. StopsFor launch.entry.service fault
-        (session_ask_of launch.entry.request.now).live
-        (S.holds (store_of outputs.old.keeper)) (S.holds (store_of outputs.new.keeper))
-        (done_by launch.entry.request.now.workers (G.answers gate.now) (G.gives gate.now) fails)
-        (IsDoneAs launch.entry.request.now.workers (G.answers gate.now) (G.gives gate.now))
-        (exchanged R.remaining W.contents reader.old reader.new
-        outputs.old.writer outputs.new.writer) session.old session.new) }
+        outputs.old.writer outputs.new.writer) session.old session.new }
     ensures fault { IfErr result (IsServeFault (OfLines launch.entry.service (HasFailed reader.new))
         (HasFailed outputs.new.writer) (((session_ask_of launch.entry.request.now).live ≢ None)
         × S.failed (store_of outputs.new.keeper))) }
@@ -68,6 +57,7 @@ pub(crate) fn serve_service<T: Threads + Wait + Sync, R: Read, W: Write, G: Gate
     let request = launch.request;
     match launch.service {
         Service::Line(once) => serve_once(host, request, session, gate, once, outputs),
+        Service::Restart(names) => restart_in(host, request, names, session, gate, outputs),
         Service::Lines => match request.live {
             None => as_done(serve(
                 host.threads,

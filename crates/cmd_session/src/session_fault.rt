@@ -8,9 +8,9 @@ ghost use Rattle.cmd_session.specs.declared.session_fault.SessionFault.TheVarian
 ghost use Rattle.rc_serve.specs.declared.fault.ServeFault.TheVariants.{Memory};
 
 use crate::failing::GateFault;
-use rc_input::{live_word, text_word, unknown_word};
 use rc_db::NoMem;
 use rc_dbtext::TextFault;
+use rc_input::{live_word, text_word, unknown_word};
 use rc_livetext::LiveFault;
 use rc_serve::ServeFault;
 use rc_streams::ending::{FAILED, REFUSED};

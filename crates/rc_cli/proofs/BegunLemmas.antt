@@ -20,7 +20,7 @@ use Rattle.rc_script.specs.Says.{Saying, SaysStep, Says}
 use Rattle.rc_update.specs.Carrying.{AreNamesOf, IsAlteredUp}
 use Rattle.rc_update.specs.Conversions.{Conversion}
 use Rattle.rc_cli.specs.Begun.{AreLowered, BeginsOn, BeginsUpdate, SaysLowering, lowering}
-use Rattle.rc_cli.specs.Updating.{step_ask}
+use Rattle.cmd_session.specs.Steps.{step_ask}
 use Rattle.rc_model.specs.Plan.{Ask}
 use Rattle.rc_model.specs.declared.Mode.TheVariants.{DownAll}
 use Rattle.rc_script.specs.declared.line.SessionLine.{SessionLine}
@@ -111,7 +111,7 @@ step_said bytes line rest names command answer one cut said is = (
     inside same = cc
 
 -- the names of services are one list
-one_list : (d : Database) (In : ℕ → Type 0) (xs ys : List (List ℕ)) → AreNamesOf d In xs
+pub one_list : (d : Database) (In : ℕ → Type 0) (xs ys : List (List ℕ)) → AreNamesOf d In xs
     → AreNamesOf d In ys → xs ≡ ys
 one_list d In xs ys first second =
     same_names xs ys first.order second.order
@@ -151,7 +151,7 @@ begins_same d e list file log rest names answer is one log_is lowered says = (
 )
 
 -- a text is of one database
-one_base : (text : List ℕ) (d e : Database)
+pub one_base : (text : List ℕ) (d e : Database)
     → ((a b : Database) (x y : List ℕ) → IsDatabase a → IsWritable a → IsDatabase b
     → IsWritable b → spelling_of a ++ x ≡ spelling_of b ++ y → a ≡ b)
     → Spells (Some text) [] d [] → Spells (Some text) [] e [] → d ≡ e

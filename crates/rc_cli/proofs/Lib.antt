@@ -12,3 +12,5 @@ mod BegunLemmas
 mod RestartLemmas
 -- Where services stand, and how that is printed.
 mod StatusLemmas
+-- What a command would move, and that there is no other.
+mod ControlledLemmas

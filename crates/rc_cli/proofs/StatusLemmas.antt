@@ -2,7 +2,6 @@
 use Rattle.std.proofs.Common.{◌≡◌, ◌≢◌, ◌∙◌, ◌<◌, ◌==◌, ◌+◌, ◌++◌, ◌∷◌, suc, arith, ℕ, Bool, true}
 use Rattle.std.proofs.Common.{false, List, [], Option, None, Some, Result, Ok, Err, IfOk, Bor, ap}
 use Rattle.std.proofs.Common.{inl, inr, length, map, refl, sym, subst, true≢false}
-use Rattle.clap.specs.Words.{Text as Path}
 use Rattle.rc_model.specs.declared.Event.{Event}
 use Rattle.rc_model.specs.Names.{Holds}
 use Rattle.rc_model.specs.declared.Refusal.TheVariants.{Unknown}
@@ -17,33 +16,24 @@ use Rattle.rc_recovery.specs.Logged.{AreLogged}
 use Rattle.rc_args.specs.NamedAsked.{NamedAsk}
 use Rattle.cmd_session.specs.Filing.{BeginsBy, file_named}
 use Rattle.cmd_session.specs.Serving.{session_on}
-use Rattle.cmd_session.specs.SessionFaults.{IsFileFault}
 use Rattle.cmd_session.specs.declared.keeping.LiveFile.{LiveFile}
 use Rattle.cmd_session.specs.declared.keeping.LiveFile.TheVariants as file
-use Rattle.cmd_session.specs.declared.session_fault.SessionFault.{SessionFault}
 use Rattle.rc_cli.specs.Status.{AnswersAt, AnswersOn, AnswersStatus, AreOfFile, IsTextOf, IsUpAs}
 use Rattle.rc_cli.specs.Status.{Stands, line_of, lines_to}
 use Rattle.rc_cli.specs.declared.status.Shown.{Shown}
 use Rattle.rc_cli.specs.declared.status.Shown.TheVariants as shown
 
--- what stood in the file that is named is looked for once
-pub named_twice : (path : Option Path) (file : LiveFile)
-    → file_named path (file_named path file) ≡ file_named path file
-named_twice None file = refl
-named_twice (Some path) file = refl
-
 -- an answer from where a session begins is one of its file
 pub answers_on : (d : Database) (ask : NamedAsk) (file live : LiveFile) (log : List ℕ)
     (session : Holding) (names : List (List ℕ)) (ending : Shown) (text : List ℕ)
     → live ≡ file_named ask.session.live file → names ≡ ask.names
-    → ((start : Line) × BeginsBy d ask.session.bound (file_named ask.session.live live) start
+    → ((start : Line) × BeginsBy d ask.session.bound (file_named ask.session.live file) start
     × (session ≡ session_on d start))
     → AnswersAt session.database session.line live log names ending text
     → AnswersOn d ask.session.bound (file_named ask.session.live file) log ask.names ending text
 answers_on d ask file live log session names ending text is same (start, begins, stands) answers = (
   start,
-  subst (λ (f : LiveFile). BeginsBy d ask.session.bound f start)
-      (ap (file_named ask.session.live) is ∙ named_twice ask.session.live file) begins,
+  begins,
   subst (λ (f : LiveFile). AnswersAt d start f log ask.names ending text) is
       (subst (λ (h : Holding). AnswersAt h.database h.line live log ask.names ending text) stands
       (subst (λ (ns : List (List ℕ)).
@@ -74,14 +64,6 @@ pub lines_next : (names : List (List ℕ)) (wanted live : List Bool) (events : L
     ≡ lines_to names wanted live events s ++ line_of names wanted live events s
 lines_next names wanted live events s =
     let next : s + 1 ≡ suc s = omega arith in ap (lines_to names wanted live events) next
-
--- why a session does not begin is why it does not begin by its file
-pub begun_fault : (d : Database) (path : Option Path) (file live : LiveFile) (fault : SessionFault)
-    → live ≡ file_named path file → IsFileFault (file_named path live) d fault
-    → IsFileFault (file_named path file) d fault
-begun_fault d path file live fault is fails =
-    subst (λ (f : LiveFile). IsFileFault f d fault) (ap (file_named path) is
-    ∙ named_twice path file) fails
 
 -- what is not empty is not empty by its texts
 pub not_empty : {A : Type 0} (f : A → List ℕ) (xs : List A) (empty : Bool)

@@ -1,6 +1,6 @@
 -- How the two steps of an update are served, and how it ends.
-use Rattle.std.proofs.Common.{All, ◌≡◌, ◌≤◌, ◌∙◌, ◌++◌, ◌∷◌, ℕ, Bool, true, false, List, [], None}
-use Rattle.std.proofs.Common.{Bor, MatchOption, OnOk, Option, Result, Ok, Err, IfErr, IfOk}
+use Rattle.std.proofs.Common.{All, ◌≡◌, ◌≢◌, ◌≤◌, ◌∙◌, ◌++◌, ◌∷◌, ℕ, Bool, true, false, List, []}
+use Rattle.std.proofs.Common.{Bor, MatchOption, None, Option, Result, Ok, Err, IfErr}
 use Rattle.std.proofs.Common.{inl, inr, ap, refl, sym, subst}
 use Rattle.std.proofs.lemmas.List.Elements.{All-cons, All-nil}
 use Rattle.clap.specs.Words.{Text as Path}
@@ -15,7 +15,7 @@ use Rattle.rc_script.specs.Says.{Saying}
 use Rattle.rc_runner.specs.Gates.{gate_answers, gate_gives}
 use Rattle.rc_runner.specs.declared.session_gate.SessionGate.{SessionGate}
 use Rattle.rc_serve.specs.declared.ending.Ending.{Ending}
-use Rattle.rc_serve.specs.declared.ending.Ending.TheVariants.{Done, Refused, Hindered}
+use Rattle.rc_serve.specs.declared.ending.Ending.TheVariants.{Done}
 use Rattle.rc_serve.specs.declared.fault.ServeFault.{ServeFault}
 use Rattle.rc_serve.specs.Ending.{EndsIn, IsDoneAs}
 use Rattle.rc_args.specs.Listed.{Listed}
@@ -23,10 +23,11 @@ use Rattle.rc_args.specs.OnceAsked.{HasNoEvents, OnceSaying, Said}
 use Rattle.rc_args.specs.Programs.{MakingAsk}
 use Rattle.cmd_session.specs.Filing.{BeginsBy, file_named}
 use Rattle.cmd_session.specs.Gating.{IsGateFor, IsGateless}
-use Rattle.cmd_session.specs.Once.{ServesOnce, StopsServing}
+use Rattle.cmd_session.specs.Once.{ServedOnce, ServesOnce}
 use Rattle.cmd_session.specs.Services.{IsDoneFor}
 use Rattle.cmd_session.specs.Serving.{session_on}
 use Rattle.cmd_session.specs.SessionFaults.{IsFileFault}
+use Rattle.cmd_session.specs.Steps.{ended_by, ending_behind, lowering, raising, step_by}
 use Rattle.cmd_session.specs.declared.keeping.LiveFile.{LiveFile}
 use Rattle.cmd_session.specs.declared.session_fault.SessionFault.{SessionFault}
 use Rattle.cmd_session.specs.declared.session_fault.SessionFault.TheVariants.{OfText, Unknown}
@@ -36,11 +37,9 @@ use Rattle.rc_update.specs.Conversions.{Conversion, conversions_of}
 use Rattle.rc_update.specs.Knowing.{AreKnown, IsFirstStranger}
 use Rattle.rc_update.specs.declared.conversion.Conversion.{Conversion as Given}
 use Rattle.rc_args.specs.UpdateAsked.{UpdateAsk}
-use Rattle.rc_cli.specs.Updating.{AreDoneFor, EndsBoth, EndsUpdate, IsUpdate, Parts, ServesBoth}
-use Rattle.rc_cli.specs.Updating.{carried_line, ending_behind, listed_by, listed_on, lowering}
-use Rattle.rc_cli.specs.Updating.{making_on, raising, session_with, step_by}
-use Rattle.rc_cli.specs.UpdateEnds.{AreFoundInBoth, AreGateless, IsUnreadyUpdate, StopsBoth}
-use Rattle.rc_cli.specs.UpdateEnds.{StopsUpdate}
+use Rattle.rc_cli.specs.Updating.{IsUpdate, Parts, ServedBoth, Updated, carried_line, listed_by}
+use Rattle.rc_cli.specs.Updating.{listed_on, making_on, session_with}
+use Rattle.rc_cli.specs.UpdateEnds.{AreFoundInBoth, AreGateless, IsUnreadyUpdate, RunsUpdate}
 
 -- a step brings no events
 pub step_eventless : (dry : Bool) (ask : Ask) → HasNoEvents (Said (step_by dry ask))
@@ -73,126 +72,66 @@ journal_bound journal line begun bound same is = is ∙ ap (λ (j : Journal). j.
 pub line_bound : (line : Line) (bound : ℕ) → IsLine line → bound ≡ line.bound → 3 ≤ bound
 line_bound line bound is_line is = subst (λ (n : ℕ). 3 ≤ n) (sym is) is_line.bound.0
 
--- two lines of which both were served
+-- two lines of which the first one alone was served, or both
 module _ (path : Option Path) (was held is : Option (List ℕ)) (As At : EndsIn)
     (what then : OnceSaying) (written shown gained : Option (List ℕ))
     (from middle to after : Holding) where
-  both : (ending : Ending) → ServesOnce path was held As Done what written shown from middle
-      → ServesOnce path held is At ending then shown gained to after
-      → ServesBoth path was is As At ending what then written gained from to
-  both ending first second = record {
+  pub first_alone : (told ending : Ending) → told ≡ ending → ending ≢ Done
+      → ServesOnce path was held As told what written shown from middle
+      → ServedBoth (Ok ending) path was held As At what then written shown from to
+  first_alone told ending is undone first = inl (
+    undone,
+    (
+      middle,
+      subst (λ (e : Ending). ServesOnce path was held As e what written shown from middle) is first,
+    ),
+  )
+
+  pub both_served : (result raised : Result Ending ServeFault) (told : Ending) → told ≡ Done
+      → result ≡ ended_by ending_behind raised
+      → ServesOnce path was held As told what written shown from middle
+      → ServedOnce raised path held is At then shown gained to after
+      → ServedBoth result path was is As At what then written gained from to
+  both_served result raised told done ends first second = inr (record {
+    raised = raised;
     middle = middle;
     after = after;
     held = held;
     shown = shown;
-    first = first;
+    ends = ends;
+    first = subst (λ (e : Ending). ServesOnce path was held As e what written shown from middle)
+        done first;
     second = second;
-  }
+  })
 
-  pub ends_behind : (ending : Ending)
-      → ServesOnce path was held As Done what written shown from middle
-      → ServesOnce path held is At ending then shown gained to after
-      → EndsBoth (ending_behind ending) path was is As At what then written gained from to
-  ends_behind Done first second = both Done first second
-  ends_behind Refused first second = inr (Refused, (λ bad. cc), both Refused first second)
-  ends_behind Hindered first second = inr (Hindered, (λ bad. cc), both Hindered first second)
-
-  pub both_ended : (told raised ending : Ending) → told ≡ Done → ending ≡ ending_behind raised
-      → ServesOnce path was held As told what written shown from middle
-      → ServesOnce path held is At raised then shown gained to after
-      → EndsBoth ending path was is As At what then written gained from to
-  both_ended told raised ending done ended first second =
-      subst (λ (e : Ending). EndsBoth e path was is As At what then written gained from to)
-      (sym ended)
-      (ends_behind raised
-      (subst (λ (e : Ending). ServesOnce path was held As e what written shown from middle)
-      done first) second)
-
-  pub stops_behind : (fault : ServeFault)
-      → ServesOnce path was held As Done what written shown from middle
-      → StopsServing fault path held is At then shown gained to
-      → StopsBoth fault path was is As At what then written gained from to
-  stops_behind fault first stops =
-      inr (record { middle = middle; held = held; shown = shown; first = first; stops = stops })
-
-  pub both_stopped : (fault : ServeFault) (told : Ending) → told ≡ Done
-      → ServesOnce path was held As told what written shown from middle
-      → StopsServing fault path held is At then shown gained to
-      → StopsBoth fault path was is As At what then written gained from to
-  both_stopped fault told done first stops =
-      stops_behind fault
-      (subst (λ (e : Ending). ServesOnce path was held As e what written shown from middle)
-      done first) stops
-
--- two lines of which the first was not done
-module _ (path : Option Path) (was is : Option (List ℕ)) (As At : EndsIn) (what then : OnceSaying)
-    (written gained : Option (List ℕ)) (from to after : Holding) where
-  pub first_refused : (told : Ending) → told ≡ Refused
-      → ServesOnce path was is As told what written gained from after
-      → EndsBoth Refused path was is As At what then written gained from to
-  first_refused told refused first = (
-    after,
-    subst (λ (e : Ending). ServesOnce path was is As e what written gained from after)
-        refused first,
-  )
-
-  pub first_hindered : (told : Ending) → told ≡ Hindered
-      → ServesOnce path was is As told what written gained from after
-      → EndsBoth Hindered path was is As At what then written gained from to
-  first_hindered told hindered first =
-      inl (
-        after,
-        subst (λ (e : Ending). ServesOnce path was is As e what written gained from after)
-            hindered first,
-      )
+-- a fault of the second one is that of both
+pub fault_behind : (result raised : Result Ending ServeFault) (P : ServeFault → Type 0)
+    → result ≡ ended_by ending_behind raised → IfErr raised P → IfErr result P
+fault_behind result (Ok ending) P ends fails =
+    subst (λ (r : Result Ending ServeFault). IfErr r P) (sym ends) tt
+fault_behind result (Err fault) P ends fails =
+    subst (λ (r : Result Ending ServeFault). IfErr r P) (sym ends) fails
 
 -- what two lines come to is what an update comes to, whose steps they are
-module _ (path : Option Path) (was is : Option (List ℕ)) (As At : EndsIn)
-    (list : List Conversion) (dry again : Bool)
+pub updated_by : (result : Result Ending ServeFault) (path : Option Path)
+    (was is : Option (List ℕ)) (As At : EndsIn) (list : List Conversion) (dry again : Bool)
     (what then : OnceSaying) (written gained : Option (List ℕ)) (from to : Holding) (new : Database)
-    (parts : Parts) where
-  pub update_ends : (result : Result Ending ServeFault)
-      → IsUpdate from.database new list again from.line parts → to ≡ session_with new parts from
-      → what ≡ lowering dry parts.lower → then ≡ raising dry parts.raise
-      → IfOk result (λ ending. EndsBoth ending path was is As At what then written gained from to)
-      → IfOk result (λ ending. EndsUpdate ending path was is As At list dry again written gained
-      from new)
-  update_ends (Ok ending) update there first second ends = record {
-    parts = parts;
-    update = update;
-    ends =
-        subst (λ (h : Holding). EndsBoth ending path was is As At (lowering dry parts.lower)
-        (raising dry parts.raise) written gained from h) there
-        (subst (λ (w : OnceSaying). EndsBoth ending path was is As At w (raising dry parts.raise)
-        written gained from to) first
-        (subst (λ (t : OnceSaying). EndsBoth ending path was is As At what t written gained from to)
-        second ends));
-  }
-  update_ends (Err fault) update there first second ends = tt
-
-  pub update_stops : (result : Result Ending ServeFault)
-      → IsUpdate from.database new list again from.line parts → to ≡ session_with new parts from
-      → what ≡ lowering dry parts.lower → then ≡ raising dry parts.raise
-      → IfErr result (λ fault. StopsBoth fault path was is As At what then written gained from to)
-      → IfErr result (λ fault. StopsUpdate fault path was is As At list dry again written gained
-      from new)
-  update_stops (Ok ending) update there first second stops = tt
-  update_stops (Err fault) update there first second stops = inr (
-    parts,
-    update,
-    subst (λ (h : Holding). StopsBoth fault path was is As At (lowering dry parts.lower)
-        (raising dry parts.raise) written gained from h) there
-        (subst (λ (w : OnceSaying). StopsBoth fault path was is As At w (raising dry parts.raise)
-        written gained from to) first
-        (subst (λ (t : OnceSaying). StopsBoth fault path was is As At what t written gained from to)
-        second stops)),
-  )
-
--- what follows of a value and of what holds where there is one
-pub both_ok : {X E : Type 0} (result : Result X E) (P R : X → Type 0) (Q : Type 0)
-    → ((x : X) → P x → Q → R x) → IfOk result P → OnOk result Q → IfOk result R
-both_ok (Ok x) P R Q more holds also = more x holds also
-both_ok (Err e) P R Q more holds also = tt
+    (parts : Parts) → IsUpdate from.database new list again from.line parts
+    → to ≡ session_with new parts from → what ≡ lowering dry parts.lower
+    → then ≡ raising dry parts.raise
+    → ServedBoth result path was is As At what then written gained from to
+    → Updated result path was is As At list dry again written gained from new
+updated_by result path was is As At list dry again what then written gained from to new parts update
+    there first second served = inr (
+      parts,
+      update,
+      subst (λ (h : Holding). ServedBoth result path was is As At (lowering dry parts.lower)
+          (raising dry parts.raise) written gained from h) there
+          (subst (λ (w : OnceSaying). ServedBoth result path was is As At w
+          (raising dry parts.raise) written gained from to) first
+          (subst (λ (t : OnceSaying). ServedBoth result path was is As At what t written gained
+          from to) second served)),
+    )
 
 -- the same update by the list that a slice is of
 pub update_with : (old new : Database) (xs ys : List Given) (again : Bool) (line : Line)
@@ -235,27 +174,46 @@ begin_unready (Unknown word) ask file old new known found is = absurd is
 begin_unready (OfLive fault) ask file old new known found is = (known, found, is)
 begin_unready (Failed fault) ask file old new known found is = inr is
 
--- what comes of both steps past their gates
-pub past_gates : {R L Q M : Type 0} (old new : Database) (workers : ℕ) (making : MakingAsk)
-    (gate : SessionGate R L) (other : SessionGate Q M) (Comes : EndsIn → EndsIn → Type 0)
-    → IsGateFor old (making_on Lower making) gate → IsGateFor new (making_on Raise making) other
-    → Comes (IsDoneAs workers (gate_answers gate) (gate_gives gate))
-    (IsDoneAs workers (gate_answers other) (gate_gives other))
-    → AreDoneFor old new workers making Comes
-past_gates old new workers making gate other Comes is also come =
+-- past the gates of both steps an update is carried out from where the session of the old database
+-- begins
+pub runs_update : {R L Q M : Type 0} (result : Result Ending ServeFault) (ask : UpdateAsk)
+    (file : LiveFile) (old new : Database) (gate : SessionGate R L) (other : SessionGate Q M)
+    (from : Holding) (was is written gained : Option (List ℕ))
+    → IsGateFor old (making_on Lower ask.session.making) gate
+    × IsGateFor new (making_on Raise ask.session.making) other
+    → ((start : Line) × BeginsBy old ask.session.bound (file_named ask.session.live file) start
+    × (from ≡ session_on old start))
+    → Updated result ask.session.live was is
+    (IsDoneAs ask.session.workers (gate_answers gate) (gate_gives gate))
+    (IsDoneAs ask.session.workers (gate_answers other) (gate_gives other))
+    ask.conversions ask.dry ask.again written gained from new
+    → RunsUpdate result ask file old new was is written gained
+runs_update result ask file old new gate other from was is written gained made
+    (start, begins, stands) updated =
     past_gate old workers (making_on Lower making) gate None
-    (λ Does As. IsDoneFor new workers (making_on Raise making) (λ Do At. Comes As At)) is
+    (λ Does As. IsDoneFor new workers (making_on Raise making) (λ Do At. Comes As At)) made.0
     (λ fails lets. past_gate new workers (making_on Raise making) other None
-    (λ Do At. Comes (IsDoneAs workers (gate_answers gate) (gate_gives gate)) At) also
-    (λ some let_some. come))
+    (λ Do At. Comes (IsDoneAs workers (gate_answers gate) (gate_gives gate)) At) made.1
+    (λ some let_some. (
+      start,
+      begins,
+      subst (λ (h : Holding). Updated result ask.session.live was is
+          (IsDoneAs workers (gate_answers gate) (gate_gives gate))
+          (IsDoneAs workers (gate_answers other) (gate_gives other))
+          ask.conversions ask.dry ask.again written gained h new) stands updated,
+    )))
+  where
+    workers : ℕ
+    workers = ask.session.workers
 
--- from where the session of the old database begins
-pub from_start : (old : Database) (bound : ℕ) (file : LiveFile) (from : Holding)
-    (Comes : Holding → Type 0)
-    → ((start : Line) × BeginsBy old bound file start × (from ≡ session_on old start))
-    → Comes from → (start : Line) × BeginsBy old bound file start × Comes (session_on old start)
-from_start old bound file from Comes (start, begins, is) come =
-    (start, begins, subst Comes is come)
+    making : MakingAsk
+    making = ask.session.making
+
+    Comes : EndsIn → EndsIn → Type 0
+    Comes As At = (begin : Line)
+        × BeginsBy old ask.session.bound (file_named ask.session.live file) begin
+        × Updated result ask.session.live was is As At ask.conversions ask.dry ask.again
+        written gained (session_on old begin) new
 
 -- why there is no gate of the first step, or of the second one, is why there are not both
 pub first_gateless : (fault : SessionFault) (old new : Database) (making : MakingAsk)

@@ -13,7 +13,7 @@ use Rattle.rc_script.specs.RunLines.{IsStepLine}
 use Rattle.rc_session.proofs.States.{current_state}
 use Rattle.rc_update.specs.Carrying.{AreNamesOf, Carried, IsAlteredUp, StaysUp}
 use Rattle.rc_update.specs.Conversions.{Conversion}
-use Rattle.rc_cli.specs.Updating.{IsBefore, IsUpdate, IsWantedUp, Parts, step_ask}
+use Rattle.rc_cli.specs.Updating.{IsBefore, IsUpdate, IsWantedUp, Parts}
 
 -- what holds of each of a list holds at a place
 at_place : {X : Type 0} (P : X → Type 0) (xs : List X) (i : ℕ) (x : X) → All P xs

@@ -10,7 +10,5 @@ pub mod Begun
 pub mod Controlled
 -- What `seal` makes of a session: a line of its current state alone.
 pub mod Sealing
--- The two steps of a restart: both by one session.
-pub mod Restarting
 -- Where services stand, as `status` prints it.
 pub mod Status

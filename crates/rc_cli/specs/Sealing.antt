@@ -1,5 +1,5 @@
 -- What `seal` makes of a session: a line of its current state alone.
-use Rattle.std.specs.Prelude.{◌≡◌, ◌⊎◌, ℕ, List, [], Option, Some}
+use Rattle.std.specs.Prelude.{◌≡◌, ◌⊎◌, ℕ, List, [], Option, Some, Result, Ok, Err}
 use Rattle.std.specs.Io.KnownBytes.{Appends}
 use Rattle.rc_model.specs.Database.{Database}
 use Rattle.rc_model.specs.Line.{Line}
@@ -14,7 +14,7 @@ use Rattle.rc_serve.specs.Faults.{IsServeFault}
 use Rattle.rc_input.specs.Base.{Spells}
 use Rattle.cmd_session.specs.Filing.{BeginsBy}
 use Rattle.cmd_session.specs.Serving.{IsOfFile, session_on}
-use Rattle.cmd_session.specs.SessionFaults.{EndsAs, IsFileFault, IsUnspelled}
+use Rattle.cmd_session.specs.SessionFaults.{EndsAs, IsFileFault, IsUndone, IsUnspelled}
 use Rattle.cmd_session.specs.Storing.{HoldsText}
 use Rattle.cmd_session.specs.declared.keeping.LiveFile.{LiveFile}
 use Rattle.cmd_session.specs.declared.session_fault.SessionFault.{SessionFault}
@@ -46,30 +46,26 @@ StopsKeeping fault d line was is written gained =
     (IsOfFile fault × (gained ≡ written) × ((is ≡ was) ⊎ HoldsText is d line))
     ⊎ ((fault ≡ Write) × AppendsFront written gained ok_line × HoldsText is d line)
 
--- why a session on a database is not sealed: its file is refused or can't be read, or out of
--- memory, with nothing done; or a fault came where it was kept and answered
-abbrev pub StopsSealing : SessionFault → Database → (bound : ℕ) → LiveFile
+-- what a seal on a database comes to: the session is sealed; or its file is refused or can't be
+-- read, or out of memory, with nothing done; or a fault came where it was kept and answered
+abbrev pub SealsOn : Result Ending SessionFault → Database → (bound : ℕ) → LiveFile
     → (was is written gained : Option (List ℕ)) → (writer keeper : Type 0) → Type 0
-StopsSealing fault d bound file was is written gained writer keeper =
+SealsOn (Ok ending) d bound file was is written gained writer keeper =
+    (ending ≡ Done) × Seals d bound file is written gained
+SealsOn (Err fault) d bound file was is written gained writer keeper =
     (IsFileFault file d fault × (gained ≡ written) × (is ≡ was))
     ⊎ ((why : ServeFault) × (fault ≡ Failed why) × IsServeFault ⊥ writer keeper why
     × ((start : Line) × BeginsBy d bound file start
     × StopsKeeping why d (sealed start) was is written gained))
 
--- a text is that of a database, and the session on it was sealed
-abbrev pub SealsText : Ending → (base : List ℕ) → (bound : ℕ) → LiveFile
-    → (is written gained : Option (List ℕ)) → Type 0
-SealsText ending base bound file is written gained = (ending ≡ Done)
-    × ((d : Database) × Spells (Some base) [] d [] × Seals d bound file is written gained)
-
--- why there is no answer: the text is that of no database, or out of memory, with nothing done; or
--- the session on it is not sealed
-abbrev pub FailsSealing : SessionFault → (base : List ℕ) → (bound : ℕ) → LiveFile
+-- what a seal comes to: the text is that of no database, or out of memory, with nothing done; or
+-- it is, and a seal on it comes to this
+abbrev pub SealsBy : Result Ending SessionFault → (base : List ℕ) → (bound : ℕ) → LiveFile
     → (was is written gained : Option (List ℕ)) → (writer keeper : Type 0) → Type 0
-FailsSealing fault base bound file was is written gained writer keeper =
-    (IsUnspelled (Some base) [] fault × (gained ≡ written) × (is ≡ was))
+SealsBy result base bound file was is written gained writer keeper =
+    IsUndone result (IsUnspelled (Some base) []) was is written gained
     ⊎ ((d : Database) × Spells (Some base) [] d []
-    × StopsSealing fault d bound file was is written gained writer keeper)
+    × SealsOn result d bound file was is written gained writer keeper)
 
 -- a seal was answered, with the status of how it ended, and nothing told; or a fault is told, of
 -- the writer or of the file only where that one has failed
@@ -77,6 +73,5 @@ abbrev pub SealsAs : (base : List ℕ) → (bound : ℕ) → LiveFile → (statu
     → (was is written gained : Option (List ℕ)) → (writer keeper : Type 0)
     → (before after : Option (List ℕ)) → Type 0
 SealsAs base bound file status was is written gained writer keeper before after = EndsAs
-    (λ ending. SealsText ending base bound file is written gained)
-    (λ fault. FailsSealing fault base bound file was is written gained writer keeper)
+    (λ ended. SealsBy ended base bound file was is written gained writer keeper)
     status before after

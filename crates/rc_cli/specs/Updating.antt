@@ -1,6 +1,6 @@
 -- The two steps of an update: one by the old database, and one by the new.
 use Rattle.std.specs.Prelude.{◌≡◌, ◌≢◌, ◌⊎◌, ◌∷◌, ◌+◌, ℕ, Bool, List, [], Option, Some, false, true}
-use Rattle.std.specs.Prelude.{length, map, slice_get}
+use Rattle.std.specs.Prelude.{Result, Ok, Err, length, map, slice_get}
 use Rattle.std.specs.String.{string_bytes}
 use Rattle.rc_graph.specs.declared.Way.{Way}
 use Rattle.rc_graph.specs.declared.Way.TheVariants.{Lower, Raise}
@@ -8,21 +8,18 @@ use Rattle.clap.specs.Words.{Text as Path}
 use Rattle.rc_model.specs.Names.{Has, Holds}
 use Rattle.rc_model.specs.Database.{Database}
 use Rattle.rc_model.specs.Line.{Line, State, cursor, states}
-use Rattle.rc_model.specs.Plan.{Ask}
-use Rattle.rc_model.specs.declared.Mode.{Mode}
-use Rattle.rc_model.specs.declared.Mode.TheVariants.{DownAll, Up}
-use Rattle.rc_model.specs.Session.{Change}
 use Rattle.rc_session.specs.Holding.{Holding}
-use Rattle.rc_script.specs.Says.{Saying, SaysDry, SaysStep}
 use Rattle.rc_serve.specs.declared.ending.Ending.{Ending}
-use Rattle.rc_serve.specs.declared.ending.Ending.TheVariants.{Done, Refused, Hindered}
+use Rattle.rc_serve.specs.declared.ending.Ending.TheVariants.{Done}
+use Rattle.rc_serve.specs.declared.fault.ServeFault.{ServeFault}
 use Rattle.rc_serve.specs.Ending.{EndsIn}
 use Rattle.rc_args.specs.Listed.{Listed}
-use Rattle.rc_args.specs.OnceAsked.{OnceSaying, Said}
+use Rattle.rc_args.specs.OnceAsked.{OnceSaying}
 use Rattle.rc_args.specs.Programs.{ByPrograms, ByTable, MakingAsk}
-use Rattle.cmd_session.specs.Once.{ServesOnce}
+use Rattle.cmd_session.specs.Once.{ServedOnce, ServesOnce}
 use Rattle.cmd_session.specs.Services.{IsDoneFor}
 use Rattle.cmd_session.specs.Serving.{session_on}
+use Rattle.cmd_session.specs.Steps.{IsShort, ended_by, ending_behind, lowering, raising}
 use Rattle.rc_update.specs.Carrying.{AreNamesOf, Carried, IsAlteredUp, StaysUp}
 use Rattle.rc_update.specs.Conversions.{Conversion}
 use Rattle.rc_update.specs.declared.carrying.Update.{Update}
@@ -51,24 +48,6 @@ abbrev pub AreDoneFor : (old new : Database) → (workers : ℕ) → MakingAsk
 AreDoneFor old new workers making Comes =
     IsDoneFor old workers (making_on Lower making) (λ Does As.
     IsDoneFor new workers (making_on Raise making) (λ Do At. Comes As At))
-
--- what the change of these names asks: the greatest limit, and nothing beyond the names
-abbrev pub step_ask : Mode → List (List ℕ) → Ask
-step_ask mode names =
-    record { mode = mode; prune = false; all = false; words = names; limit = 4294967295 }
-
--- the change of these names, or where it is only shown its plan
-abbrev pub step_by : (dry : Bool) → Ask → Saying
-step_by true ask = SaysDry ask
-step_by false ask = SaysStep (Change ask [])
-
--- the first step lowers these names with all that needs them, and the second one raises those
--- names with all that they need
-abbrev pub lowering : (dry : Bool) → List (List ℕ) → OnceSaying
-lowering dry names = Said (step_by dry (step_ask DownAll names))
-
-abbrev pub raising : (dry : Bool) → List (List ℕ) → OnceSaying
-raising dry names = Said (step_by dry (step_ask Up names))
 
 -- the line with which a database begins where these services are live: one state, and its bundles
 abbrev pub carried_line : Database → List Bool → ℕ → Line
@@ -116,45 +95,44 @@ pub record IsUpdate (old new : Database) (list : List Conversion) (again : Bool)
   pub bound : length parts.kept ≡ length new.names
   pub raise : AreNamesOf new (Carried old new list (IsWantedUp again line)) parts.raise
 
--- one line was served, and then, where all of it was done, another one on another session
-pub record ServesBoth (path : Option Path) (was is : Option (List ℕ)) (As At : EndsIn)
-    (ending : Ending) (what then : OnceSaying) (written gained : Option (List ℕ))
-    (from to : Holding) : Type 0 where
+-- the first of two lines was done, and the second one, on another session, came to this
+pub record ServesBoth (result : Result Ending ServeFault) (path : Option Path)
+    (was is : Option (List ℕ)) (As At : EndsIn) (what then : OnceSaying)
+    (written gained : Option (List ℕ)) (from to : Holding) : Type 0 where
+  pub raised : Result Ending ServeFault
   pub middle : Holding
   pub after : Holding
   pub held : Option (List ℕ)
   pub shown : Option (List ℕ)
+  pub ends : result ≡ ended_by ending_behind raised
   pub first : ServesOnce path was held As Done what written shown from middle
-  pub second : ServesOnce path held is At ending then shown gained to after
+  pub second : ServedOnce raised path held is At then shown gained to after
 
--- how two lines end of which the first is done
-abbrev pub ending_behind : Ending → Ending
-ending_behind Done = Done
-ending_behind Refused = Hindered
-ending_behind Hindered = Hindered
+-- not all of a line is done, or a fault came
+abbrev pub IsNotDone : Result Ending ServeFault → Type 0
+IsNotDone (Ok ending) = ending ≢ Done
+IsNotDone (Err fault) = Unit {0}
 
--- how two lines end: done where both are; where the first one is refused or hindered it ends so,
--- with nothing of the second; where the second one is, it is hindered
-abbrev pub EndsBoth : Ending → Option Path → (was is : Option (List ℕ)) → (As At : EndsIn)
-    → (what then : OnceSaying) → (written gained : Option (List ℕ)) → (from to : Holding) → Type 0
-EndsBoth Done path was is As At what then written gained from to =
-    ServesBoth path was is As At Done what then written gained from to
-EndsBoth Refused path was is As At what then written gained from to =
-    (after : Holding) × ServesOnce path was is As Refused what written gained from after
-EndsBoth Hindered path was is As At what then written gained from to =
-    ((after : Holding) × ServesOnce path was is As Hindered what written gained from after)
-    ⊎ ((ending : Ending) × (ending ≢ Done)
-    × ServesBoth path was is As At ending what then written gained from to)
+-- two lines came to this: the first one where not all of it is done, with nothing of the second;
+-- else both, and the update is hindered where the second one is not done
+abbrev pub ServedBoth : Result Ending ServeFault → Option Path → (was is : Option (List ℕ))
+    → (As At : EndsIn) → (what then : OnceSaying) → (written gained : Option (List ℕ))
+    → (from to : Holding) → Type 0
+ServedBoth result path was is As At what then written gained from to =
+    (IsNotDone result × ((after : Holding)
+    × ServedOnce result path was is As what written gained from after))
+    ⊎ ServesBoth result path was is As At what then written gained from to
 
 -- the session of the new database, with what stays live of the old one
 abbrev pub session_with : Database → Parts → Holding → Holding
 session_with new parts from = session_on new (carried_line new parts.kept from.line.bound)
 
--- an update from where a session stands ends so
-pub record EndsUpdate (ending : Ending) (path : Option Path) (was is : Option (List ℕ))
-    (As At : EndsIn) (list : List Conversion) (dry again : Bool)
-    (written gained : Option (List ℕ)) (from : Holding) (new : Database) : Type 0 where
-  pub parts : Parts
-  pub update : IsUpdate from.database new list again from.line parts
-  pub ends : EndsBoth ending path was is As At (lowering dry parts.lower)
-      (raising dry parts.raise) written gained from (session_with new parts from)
+-- an update from where a session stands came to this, or out of memory before its first step
+abbrev pub Updated : Result Ending ServeFault → Option Path → (was is : Option (List ℕ))
+    → (As At : EndsIn) → List Conversion → (dry again : Bool)
+    → (written gained : Option (List ℕ)) → Holding → Database → Type 0
+Updated result path was is As At list dry again written gained from new =
+    IsShort result was is written gained
+    ⊎ ((parts : Parts) × IsUpdate from.database new list again from.line parts
+    × ServedBoth result path was is As At (lowering dry parts.lower) (raising dry parts.raise)
+    written gained from (session_with new parts from))

@@ -11,12 +11,12 @@ ghost use Rattle.rc_select.specs.Ask.{ask_of};
 ghost use Rattle.rc_session.specs.Commands.{command_of};
 ghost use Rattle.rc_update.specs.Conversions.{conversions_of};
 ghost use Rattle.rc_cli.specs.Begun.{AreLowered, BeginsOn, BeginsUpdate, SaysLowering, lowering};
-ghost use Rattle.rc_cli.specs.Updating.{step_ask};
+ghost use Rattle.cmd_session.specs.Steps.{step_ask};
 
 use memchr::memchr;
-use rc_input::database_of;
 use rc_db::Db;
 use rc_dbtext::{TextFault, laws as text_laws};
+use rc_input::database_of;
 use rc_livetext::{LiveFault, laws as live_laws, read_live};
 use rc_script::laws::lines_say_one_thing;
 use rc_script::{SessionLine, read_line};
@@ -59,8 +59,8 @@ pub fn begins_update(
     begins
 }
 
-// The database of a text. None: the text is none of a database.
-fn database_in(alloc: Global, text: &[u8]) -> Result<Option<Db>, NoMem>
+/// The database of a text. None: the text is none of a database.
+pub(crate) fn database_in(alloc: Global, text: &[u8]) -> Result<Option<Db>, NoMem>
     ensures some { IfOk result (λ read. IfSome read (λ d. Spells (Some text.now) [] d [])) }
     ensures none { IfOk result (λ read. IfNone read (
         (d : Database) → Spells (Some text.now) [] d [] → ⊥)) }

@@ -13,13 +13,13 @@ mod update;
 mod updating;
 
 pub use crate::begun::begins_update;
-pub use crate::controlled::uncontrolled;
-pub use crate::restarting::{restart_as_asked, uncontrolled_restart};
+pub use crate::controlled::{uncontrolled, uncontrolled_update};
+pub use crate::restarting::uncontrolled_restart;
 pub use crate::sealing::seal_as_asked;
 pub use crate::status::status_as_asked;
 pub use crate::update::update_as_asked;
 pub use cmd_compile::compile_run;
 pub use cmd_query::{db_run, plan_run, replay_run};
-pub use rc_serve::{KeepFault, Keeper, ServeFault, Unkept, serve};
 pub use cmd_session::{LiveFile, Service, Store, TextKeeper, launch, session_run};
+pub use rc_serve::{KeepFault, Keeper, ServeFault, Unkept, serve};
 pub use rc_streams::{MAX_INPUT, Noted};

@@ -6,22 +6,19 @@ ghost use Rattle.rc_model.specs.Line.{IsLine, Line as States, states};
 ghost use Rattle.rc_model.specs.Session.{IsLineOf, IsStateOf};
 ghost use Rattle.rc_livetext.specs.Spelling.{Spells};
 ghost use Rattle.rc_serve.specs.Faults.{IsServeFault};
-ghost use Rattle.rc_serve.specs.declared.ending.Ending.TheVariants.{Done};
 ghost use Rattle.rc_streams.specs.Noting.{HasFailed, inner_of};
 ghost use Rattle.cmd_session.specs.Serving.{session_on};
 ghost use Rattle.cmd_session.specs.SessionFaults.{IsFileFault, IsTextFaultOf};
 ghost use Rattle.cmd_session.specs.Storing.{HoldsText, store_of};
-ghost use Rattle.rc_cli.specs.Sealing.{FailsSealing, IsSealedBy, Seals, SealsAs, SealsText};
-ghost use Rattle.rc_cli.specs.Sealing.{StopsKeeping};
-ghost use Rattle.rc_cli.specs.Sealing.{StopsSealing, sealed};
+ghost use Rattle.rc_cli.specs.Sealing.{IsSealedBy, SealsAs, SealsBy, SealsOn, StopsKeeping, sealed};
 
+use cmd_session::{Devices, LiveFile, Outputs, SessionFault, Store, spelled, tell_ended};
 use rc_args::SessionRequest;
 use rc_db::Db;
 use rc_line::Line;
 use rc_livetext::read_live;
 use rc_serve::{Ending, Keeper, ServeFault};
 use rc_session::Session;
-use cmd_session::{Devices, LiveFile, Outputs, SessionFault, Store, spelled, tell_ended};
 use rc_set::NoMem;
 use rc_streams::writing::write_answer;
 use std::alloc::Global;
@@ -63,13 +60,10 @@ fn seal_text<'a, W: Write, S: Store>(
     outputs: &mut Outputs<W, S>,
 ) -> Result<Ending, SessionFault<'a>>
     requires writer { HasFailed outputs.old.writer → ⊥ }
-    ensures done { IfOk result (λ ending. SealsText ending base.now request.now.bound live.entry
-        (S.holds (store_of outputs.new.keeper))
-        (W.contents (inner_of outputs.old.writer)) (W.contents (inner_of outputs.new.writer))) }
-    ensures stopped { IfErr result (λ fault. FailsSealing fault base.now request.now.bound
-        live.entry (S.holds (store_of outputs.old.keeper)) (S.holds (store_of outputs.new.keeper))
+    ensures ended { SealsBy result base.now request.now.bound live.entry
+        (S.holds (store_of outputs.old.keeper)) (S.holds (store_of outputs.new.keeper))
         (W.contents (inner_of outputs.old.writer)) (W.contents (inner_of outputs.new.writer))
-        (HasFailed outputs.new.writer) (S.failed (store_of outputs.new.keeper))) }
+        (HasFailed outputs.new.writer) (S.failed (store_of outputs.new.keeper)) }
 {
     match spelled(alloc, Some(base), &[]) {
         Ok((db, _none)) => seal_on(alloc, request, db, live, outputs),
@@ -86,13 +80,10 @@ fn seal_on<'a, W: Write, S: Store>(
     outputs: &mut Outputs<W, S>,
 ) -> Result<Ending, SessionFault<'a>>
     requires writer { HasFailed outputs.old.writer → ⊥ }
-    ensures done { IfOk result (λ ending. (ending ≡ Done) × Seals db request.now.bound live.entry
-        (S.holds (store_of outputs.new.keeper))
-        (W.contents (inner_of outputs.old.writer)) (W.contents (inner_of outputs.new.writer))) }
-    ensures stopped { IfErr result (λ fault. StopsSealing fault db request.now.bound live.entry
+    ensures ended { SealsOn result db request.now.bound live.entry
         (S.holds (store_of outputs.old.keeper)) (S.holds (store_of outputs.new.keeper))
         (W.contents (inner_of outputs.old.writer)) (W.contents (inner_of outputs.new.writer))
-        (HasFailed outputs.new.writer) (S.failed (store_of outputs.new.keeper))) }
+        (HasFailed outputs.new.writer) (S.failed (store_of outputs.new.keeper)) }
 {
     let session = match sealed_session(alloc, db, request.bound, live) {
         Ok(session) => session,

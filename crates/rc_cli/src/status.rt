@@ -15,6 +15,7 @@ ghost use Rattle.rc_cli.specs.Status.{IsUnanswered, IsUpAs};
 ghost use Rattle.rc_cli.specs.Status.{TellsStatus, fails, line_of, lines_to, standing_after};
 ghost use Rattle.rc_cli.specs.Status.{standing_word, status_of};
 
+use cmd_session::{Devices, LiveFile, SessionFault, begin, spelled, tell_ended};
 use rc_args::{NamedRequest, SessionRequest};
 use rc_core::{Event, Outcome, Standing};
 use rc_db::{Db, QueryFault};
@@ -23,7 +24,6 @@ use rc_recovery::logged_events;
 use rc_render::refusal_text;
 use rc_serve::ServeFault;
 use rc_session::{Refusal, Session};
-use cmd_session::{Devices, LiveFile, SessionFault, begin, spelled, tell_ended};
 use rc_set::{NoMem, Set};
 use rc_streams::ending::{DONE, REFUSED};
 use rc_streams::writing::write_answer;
@@ -116,11 +116,11 @@ fn text_answer<'a>(
         Ok((db, _none)) => db,
         Err(fault) => return Err(fault),
     };
-    let live = file_named(&request.session, live);
     let session = match begin(alloc, db, &request.session, live) {
         Ok(session) => session,
         Err(fault) => return Err(fault),
     };
+    let live = file_named(&request.session, live);
     let answer = session_answer(alloc, &session, live, log, &request.names);
     drop(session);
     match answer {

@@ -1,17 +1,17 @@
 //! `update`: what is live is carried over from one database to another.
-ghost use Rattle.std.specs.Prelude.{◌≡◌, IfErr, IfOk};
+ghost use Rattle.std.specs.Prelude.{◌≡◌};
 ghost use Rattle.rc_streams.specs.Noting.{HasFailed, inner_of};
 ghost use Rattle.rc_args.specs.SessionAsked.{session_ask_of};
 ghost use Rattle.rc_args.specs.UpdateAsked.{update_ask_of};
 ghost use Rattle.cmd_session.specs.Filing.{CannotKeep};
 ghost use Rattle.cmd_session.specs.Storing.{store_of};
-ghost use Rattle.rc_cli.specs.UpdateEnds.{AnswersUpdate, EndsUpdateBy, Updates};
+ghost use Rattle.rc_cli.specs.UpdateEnds.{Updates, UpdatesBy};
 
 use crate::updating::update_on;
+use cmd_session::{Devices, Host, LiveFile, Outputs, SessionFault, Store, spelled, tell_ended};
 use log::Log;
 use rc_args::UpdateRequest;
 use rc_serve::Ending;
-use cmd_session::{Devices, Host, LiveFile, Outputs, SessionFault, Store, spelled, tell_ended};
 use std::io::Write;
 use std::sync::Wait;
 use std::thread::Threads;
@@ -61,16 +61,11 @@ fn updated<'a, T: Threads + Wait + Sync, W: Write, S: Store, L: Log + Sync>(
     outputs: &mut Outputs<W, S>,
 ) -> Result<Ending, SessionFault<'a>>
     requires writer { HasFailed outputs.old.writer → ⊥ }
-    ensures done { IfOk result (λ ending. AnswersUpdate ending old.now new.now
-        (update_ask_of request.now) live.entry
-        (S.holds (store_of outputs.old.keeper)) (S.holds (store_of outputs.new.keeper))
-        (W.contents (inner_of outputs.old.writer)) (W.contents (inner_of outputs.new.writer))) }
-    ensures stopped { IfErr result (λ fault. EndsUpdateBy fault old.now new.now
-        (update_ask_of request.now) live.entry
+    ensures ended { UpdatesBy result old.now new.now (update_ask_of request.now) live.entry
         (S.holds (store_of outputs.old.keeper)) (S.holds (store_of outputs.new.keeper))
         (W.contents (inner_of outputs.old.writer)) (W.contents (inner_of outputs.new.writer))
         (HasFailed outputs.new.writer) (CannotKeep (session_ask_of request.now.session) live.entry
-        (S.failed (store_of outputs.new.keeper)))) }
+        (S.failed (store_of outputs.new.keeper))) }
 {
     let from = match spelled(host.alloc, Some(old), &[]) {
         Ok((from, _none)) => from,

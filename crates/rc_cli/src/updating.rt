@@ -1,12 +1,8 @@
 //! The two steps of an update: how their transitions are made, what they move, and that they are
 //! kept.
 ghost use Rattle.std.specs.Prelude.{◌≡◌, ◌≢◌, ◌≤◌, ◌++◌, [], None, false, length, map};
-ghost use Rattle.std.specs.Prelude.{string_bytes, IfErr, IfOk, MatchOption, OnOk};
+ghost use Rattle.std.specs.Prelude.{IfErr, IfOk, MatchOption, OnOk};
 ghost use Rattle.rc_graph.specs.declared.Way.TheVariants.{Lower, Raise};
-ghost use Rattle.rc_model.specs.declared.Mode.TheVariants.{DownAll};
-ghost use Rattle.rc_model.specs.Session.{Change};
-ghost use Rattle.rc_select.specs.Ask.{ask_of};
-ghost use Rattle.rc_session.specs.Commands.{command_of};
 ghost use Rattle.rc_model.specs.Graph.{IsClosed};
 ghost use Rattle.rc_model.specs.Names.{Has};
 ghost use Rattle.rc_streams.specs.Noting.{HasFailed, inner_of};
@@ -21,16 +17,18 @@ ghost use Rattle.rc_args.specs.UpdateAsked.{update_ask_of};
 ghost use Rattle.cmd_session.specs.Filing.{CannotKeep};
 ghost use Rattle.cmd_session.specs.Gating.{IsGateFor, IsGateless};
 ghost use Rattle.cmd_session.specs.Serving.{session_on};
+ghost use Rattle.cmd_session.specs.Steps.{ended_by, ending_behind};
 ghost use Rattle.cmd_session.specs.Storing.{store_of};
 ghost use Rattle.rc_update.specs.Conversions.{conversions_of};
 ghost use Rattle.rc_update.specs.Knowing.{AreKnown, IsFirstStranger};
-ghost use Rattle.rc_cli.specs.Updating.{AreDoneFor, EndsBoth, EndsUpdate, carried_line};
-ghost use Rattle.rc_cli.specs.Updating.{ending_behind, listed_by, listed_on, making_on, step_ask};
-ghost use Rattle.rc_cli.specs.Updating.{step_by};
-ghost use Rattle.rc_cli.specs.UpdateEnds.{AreGateless, EndsUpdateOn, RunsUpdate, StopsBoth};
-ghost use Rattle.rc_cli.specs.UpdateEnds.{StopsUpdate};
+ghost use Rattle.rc_cli.specs.Updating.{ServedBoth, Updated, carried_line, listed_by, listed_on};
+ghost use Rattle.rc_cli.specs.Updating.{making_on};
+ghost use Rattle.rc_cli.specs.UpdateEnds.{AreGateless, UpdatesOn};
 
 use crate::moving::update_of;
+use cmd_session::{
+    Host, LiveFile, Outputs, SessionFault, Store, begin, gate_for, line_once, step_line,
+};
 use log::Log;
 use rc_args::{Making, SessionRequest, Transition, UpdateRequest};
 use rc_board::Gate;
@@ -39,10 +37,9 @@ use rc_graph::Way;
 use rc_line::Line;
 use rc_runner::{SessionGate, Telling};
 use rc_script::SessionLine;
-use rc_select::{Mode, Request};
+use rc_select::Mode;
 use rc_serve::{Ending, ServeFault};
-use rc_session::{Session, Step};
-use cmd_session::{Host, LiveFile, Outputs, SessionFault, Store, begin, gate_for, line_once};
+use rc_session::Session;
 use rc_set::{NoMem, Set};
 use rc_update::first_unknown;
 use std::alloc::{AllocError, Global};
@@ -76,21 +73,11 @@ pub(crate) fn update_on<'a, T: Threads + Wait + Sync, W: Write, S: Store, L: Log
     outputs: &mut Outputs<W, S>,
 ) -> Result<Ending, SessionFault<'a>>
     requires writer { HasFailed outputs.old.writer → ⊥ }
-    ensures known { OnOk result (AreKnown old.names new.names
-        (conversions_of request.now.conversions.items)) }
-    ensures done { IfOk result (λ ending. AreDoneFor old new request.now.session.workers
-        (making_ask_of request.now.session.making) (λ As At.
-        RunsUpdate ending (update_ask_of request.now) live.entry
-        (S.holds (store_of outputs.old.keeper)) (S.holds (store_of outputs.new.keeper)) As At
-        old new (W.contents (inner_of outputs.old.writer))
-        (W.contents (inner_of outputs.new.writer)))) }
-    ensures stopped { IfErr result (λ fault.
-        EndsUpdateOn fault (update_ask_of request.now) live.entry
+    ensures ended { UpdatesOn result (update_ask_of request.now) live.entry old new
         (S.holds (store_of outputs.old.keeper)) (S.holds (store_of outputs.new.keeper))
-        old new (W.contents (inner_of outputs.old.writer))
-        (W.contents (inner_of outputs.new.writer))
+        (W.contents (inner_of outputs.old.writer)) (W.contents (inner_of outputs.new.writer))
         (HasFailed outputs.new.writer) (CannotKeep (session_ask_of request.now.session) live.entry
-        (S.failed (store_of outputs.new.keeper)))) }
+        (S.failed (store_of outputs.new.keeper))) }
 {
     if let Some(name) = stranger(request, &old, &new) {
         drop((old, new));
@@ -119,8 +106,8 @@ pub(crate) fn update_on<'a, T: Threads + Wait + Sync, W: Write, S: Store, L: Log
     }
 }
 
-// The first name of a conversion that its database lacks.
-fn stranger<'a>(request: &UpdateRequest<'a>, old: &Db, new: &Db) -> Option<&'a [u8]>
+/// The first name of a conversion that its database lacks.
+pub(crate) fn stranger<'a>(request: &UpdateRequest<'a>, old: &Db, new: &Db) -> Option<&'a [u8]>
     ensures { MatchOption result (AreKnown old.now.names new.now.names
         (conversions_of request.now.conversions.items))
         (λ name. IsFirstStranger old.now.names new.now.names
@@ -225,8 +212,7 @@ fn update_from<T: Threads + Wait + Sync, W: Write, G: Gate, S: Store, L>(
     requires closed { from.old.begun ≡ false }
     requires whole { from.old.spoiled ≡ false }
     requires writer { HasFailed outputs.old.writer → ⊥ }
-    ensures done { IfOk result (λ ending.
-        EndsUpdate ending (session_ask_of request.now.session).live
+    ensures served { Updated result (session_ask_of request.now.session).live
         (S.holds (store_of outputs.old.keeper)) (S.holds (store_of outputs.new.keeper))
         (IsDoneAs request.now.session.workers (G.answers gates.now.lowers)
         (G.gives gates.now.lowers))
@@ -234,17 +220,7 @@ fn update_from<T: Threads + Wait + Sync, W: Write, G: Gate, S: Store, L>(
         (G.gives gates.now.raises))
         (conversions_of request.now.conversions.items) request.now.dry request.now.again
         (W.contents (inner_of outputs.old.writer)) (W.contents (inner_of outputs.new.writer))
-        from.old new) }
-    ensures stopped { IfErr result (λ fault.
-        StopsUpdate fault (session_ask_of request.now.session).live
-        (S.holds (store_of outputs.old.keeper)) (S.holds (store_of outputs.new.keeper))
-        (IsDoneAs request.now.session.workers (G.answers gates.now.lowers)
-        (G.gives gates.now.lowers))
-        (IsDoneAs request.now.session.workers (G.answers gates.now.raises)
-        (G.gives gates.now.raises))
-        (conversions_of request.now.conversions.items) request.now.dry request.now.again
-        (W.contents (inner_of outputs.old.writer)) (W.contents (inner_of outputs.new.writer))
-        from.old new) }
+        from.old new }
     ensures fault { IfErr result (IsServeFault ⊥ (HasFailed outputs.new.writer)
         (((session_ask_of request.now.session).live ≢ None)
         × S.failed (store_of outputs.new.keeper))) }
@@ -282,8 +258,8 @@ fn update_from<T: Threads + Wait + Sync, W: Write, G: Gate, S: Store, L>(
     ended
 }
 
-// The session of a database whose line has one state, in which these services are live.
-fn session_of(alloc: Global, db: Db, live: Set, bound: u32) -> Result<Session, NoMem>
+/// The session of a database whose line has one state, in which these services are live.
+pub(crate) fn session_of(alloc: Global, db: Db, live: Set, bound: u32) -> Result<Session, NoMem>
     requires length { length live ≡ length db.names }
     requires closed { IsClosed db.needs (Has live) }
     requires bound { 3 ≤ bound }
@@ -294,38 +270,6 @@ fn session_of(alloc: Global, db: Db, live: Set, bound: u32) -> Result<Session, N
         return Err(AllocError);
     };
     Session::resume(db, Line::with_bound(alloc, live, table, bound))
-}
-
-/// The line of a step: the change of these names or, where it is only shown, its plan. It has the
-/// greatest limit that there is, so that it can be called off.
-pub(crate) fn step_line(alloc: Global, dry: bool, mode: Mode, names: Vec<String>) -> SessionLine
-    ensures says { saying_of result ≡ step_by dry (step_ask mode (map string_bytes names.items)) }
-{
-    let request = step_request(mode, names);
-    if dry {
-        return SessionLine::Dry(request);
-    }
-    SessionLine::Step(Step::Change(request, Vec::new(alloc)))
-}
-
-// What a step asks.
-fn step_request(mode: Mode, names: Vec<String>) -> Request
-    ensures { ask_of result ≡ step_ask mode (map string_bytes names.items) }
-{
-    Request {
-        mode,
-        prune: false,
-        all: false,
-        names,
-        limit: u32::MAX,
-    }
-}
-
-/// The first step, which lowers these names.
-pub(crate) fn lowering_step(alloc: Global, names: Vec<String>) -> Step
-    ensures { command_of result ≡ Change (step_ask DownAll (map string_bytes names.items)) [] }
-{
-    Step::Change(step_request(Mode::DownAll, names), Vec::new(alloc))
 }
 
 // Serves the line of the first step and, where all of it is done, that of the second one.
@@ -342,30 +286,20 @@ fn serve_both<T: Threads + Wait + Sync, W: Write, G: Gate, S: Store, L>(
     requires lowering { HasNoEvents (Said (saying_of ahead.old.lowering)) }
     requires raising { HasNoEvents (Said (saying_of ahead.old.raising)) }
     requires writer { HasFailed outputs.old.writer → ⊥ }
-    ensures done { IfOk result (λ ending. EndsBoth ending (session_ask_of request.now).live
+    ensures served { ServedBoth result (session_ask_of request.now).live
         (S.holds (store_of outputs.old.keeper)) (S.holds (store_of outputs.new.keeper))
         (IsDoneAs request.now.workers (G.answers gates.now.lowers) (G.gives gates.now.lowers))
         (IsDoneAs request.now.workers (G.answers gates.now.raises) (G.gives gates.now.raises))
         (Said (saying_of ahead.old.lowering)) (Said (saying_of ahead.old.raising))
         (W.contents (inner_of outputs.old.writer)) (W.contents (inner_of outputs.new.writer))
-        from.old ahead.old.to) }
-    ensures stopped { IfErr result (λ fault. StopsBoth fault (session_ask_of request.now).live
-        (S.holds (store_of outputs.old.keeper)) (S.holds (store_of outputs.new.keeper))
-        (IsDoneAs request.now.workers (G.answers gates.now.lowers) (G.gives gates.now.lowers))
-        (IsDoneAs request.now.workers (G.answers gates.now.raises) (G.gives gates.now.raises))
-        (Said (saying_of ahead.old.lowering)) (Said (saying_of ahead.old.raising))
-        (W.contents (inner_of outputs.old.writer)) (W.contents (inner_of outputs.new.writer))
-        from.old ahead.old.to) }
+        from.old ahead.old.to }
     ensures fault { IfErr result (IsServeFault ⊥ (HasFailed outputs.new.writer)
         (((session_ask_of request.now).live ≢ None) × S.failed (store_of outputs.new.keeper))) }
 {
     match line_once(host, request, from, &gates.lowers, &ahead.lowering, outputs) {
         Ok(Ending::Done) => {
             let to = &mut ahead.to;
-            match line_once(host, request, to, &gates.raises, &ahead.raising, outputs) {
-                Ok(raised) => Ok(behind(raised)),
-                Err(fault) => Err(fault),
-            }
+            behind(line_once(host, request, to, &gates.raises, &ahead.raising, outputs))
         }
         Ok(Ending::Refused) => Ok(Ending::Refused),
         Ok(Ending::Hindered) => Ok(Ending::Hindered),
@@ -373,12 +307,13 @@ fn serve_both<T: Threads + Wait + Sync, W: Write, G: Gate, S: Store, L>(
     }
 }
 
-// How an update ends whose first step is done.
-fn behind(raised: Ending) -> Ending
-    ensures { result ≡ ending_behind raised }
+// What an update comes to whose first step is done.
+fn behind(raised: Result<Ending, ServeFault>) -> Result<Ending, ServeFault>
+    ensures { result ≡ ended_by ending_behind raised }
 {
     match raised {
-        Ending::Done => Ending::Done,
-        Ending::Refused | Ending::Hindered => Ending::Hindered,
+        Ok(Ending::Done) => Ok(Ending::Done),
+        Ok(Ending::Refused | Ending::Hindered) => Ok(Ending::Hindered),
+        Err(fault) => Err(fault),
     }
 }

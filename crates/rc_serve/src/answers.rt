@@ -15,9 +15,9 @@ use crate::edits::{add_answer, delete_answer};
 use crate::ending::{Answer, done, refused};
 use crate::fault::ServeFault;
 use crate::keeper::Keeper;
-use crate::runs::{change_answer, redo_answer, undo_answer};
+use crate::runs::told;
 use crate::shows::{bundles_answer, dry_answer, journal_answer, live_answer};
-use rc_board::Gate;
+use rc_board::{Gate, NoWatch, change, redo, undo};
 use rc_db::Table;
 use rc_script::laws::lines_give_no_events;
 use rc_script::{SessionLine, read_line};
@@ -197,7 +197,6 @@ fn shown(alloc: Global, session: &Session, said: &SessionLine) -> Result<Answer,
 }
 
 /// Carries a command out, and answers. The events that the step has are not looked at.
-#[tactic(none)]
 fn step_answer<T: Threads + Wait + Sync, G: Gate>(
     rt: &T,
     alloc: Global,
@@ -222,9 +221,18 @@ fn step_answer<T: Threads + Wait + Sync, G: Gate>(
     ensures whole { IsSpoiledBy result session.old session.new }
 {
     match step {
-        Step::Change(request, _) => change_answer(rt, alloc, session, gate, workers, request),
-        Step::Undo(limit, _) => undo_answer(rt, alloc, session, gate, workers, *limit),
-        Step::Redo(limit, _) => redo_answer(rt, alloc, session, gate, workers, *limit),
+        Step::Change(request, _) => {
+            let outcome = change(rt, alloc, session, request, gate, workers, &NoWatch);
+            told(alloc, session.db().names(), &request.names, outcome)
+        }
+        Step::Undo(limit, _) => {
+            let outcome = undo(rt, alloc, session, *limit, gate, workers, &NoWatch);
+            told(alloc, session.db().names(), &[], outcome)
+        }
+        Step::Redo(limit, _) => {
+            let outcome = redo(rt, alloc, session, *limit, gate, workers, &NoWatch);
+            told(alloc, session.db().names(), &[], outcome)
+        }
         Step::Add(name, contents, force) => add_answer(alloc, session, name, contents, *force),
         Step::Delete(names, force) => delete_answer(alloc, session, names, *force),
     }

@@ -3,14 +3,14 @@ use Rattle.std.specs.String.{string_bytes}
 use Rattle.rc_args.specs.NamedAsked.{named_ask_of}
 use Rattle.rc_args.specs.SessionAsked.{session_ask_of}
 use Rattle.cmd_session.specs.Filing.{file_named}
-use Rattle.rc_cli.proofs.StatusLemmas.{answers_on, begun_fault}
+use Rattle.rc_cli.proofs.StatusLemmas.{answers_on}
 use Rattle.rc_cli.proofs.UpdateLemmas.{begun_closed}
 use Rattle.rc_cli.proofs.status.text_answer.Goals as goal
 
 pub session_answer-answer-requires : goal.session_answer-answer-requires
 session_answer-answer-requires c = record {
   closed = (begun_closed c.in-Ok-begin.session c.in-Ok.db c.args.request.now.session.bound
-      (file_named (session_ask_of c.args.request.now.session).live c.file_named-live.result)
+      (file_named (session_ask_of c.args.request.now.session).live c.args.live)
       c.in-Ok-begin.ensures.begun).0;
 }
 
@@ -22,9 +22,7 @@ returns-in-Err-begin-clause-none c =
     let spelled = c.in-Ok.ensures.spelled in inr (inl (
       c.in-Ok.db,
       (spelled.0, spelled.1, spelled.2, refl),
-      begun_fault c.in-Ok.db (session_ask_of c.args.request.now.session).live c.args.live
-          c.file_named-live.result c.in-Err-begin.fault c.file_named-live.ensures
-          c.in-Err-begin.ensures.fault,
+      c.in-Err-begin.ensures.fault,
     ))
 
 pub returns-in-Ok-answer-clause-answer : goal.returns-in-Ok-answer-clause-answer

@@ -2,10 +2,11 @@ use Rattle.std.proofs.Common.{inl}
 use Rattle.rc_streams.specs.Noting.{inner_of}
 use Rattle.rc_script.specs.Says.{saying_of}
 use Rattle.rc_serve.specs.Ending.{IsDoneAs}
+use Rattle.rc_serve.specs.declared.ending.Ending.TheVariants.{Refused, Hindered}
 use Rattle.rc_args.specs.OnceAsked.{Said}
 use Rattle.rc_args.specs.SessionAsked.{session_ask_of}
 use Rattle.cmd_session.specs.Storing.{store_of}
-use Rattle.rc_cli.proofs.UpdateLemmas.{both_ended, both_stopped, first_hindered, first_refused}
+use Rattle.rc_cli.proofs.UpdateLemmas.{both_served, fault_behind, first_alone}
 use Rattle.rc_cli.proofs.updating.serve_both.Goals as goal
 
 pub line_once-requires-clause-closed : goal.line_once-requires-clause-closed
@@ -33,9 +34,9 @@ line_once-requires-in-Ok-Done-clause-eventless g c κs within = c.requires.raisi
 pub line_once-requires-in-Ok-Done-clause-writer : goal.line_once-requires-in-Ok-Done-clause-writer
 line_once-requires-in-Ok-Done-clause-writer g c κs within = c.in-Ok-Done.ensures.sound
 
-pub returns-in-Ok-clause-done : goal.returns-in-Ok-clause-done
-returns-in-Ok-clause-done g c =
-    both_ended (session_ask_of c.args.request.now).live
+pub returns-in-Ok-Done-clause-served : goal.returns-in-Ok-Done-clause-served
+returns-in-Ok-Done-clause-served g c =
+    both_served (session_ask_of c.args.request.now).live
     (g.S.Store.holds (store_of c.args.outputs.now.keeper))
     (g.S.Store.holds (store_of c.line_once.new.outputs.keeper))
     (g.S.Store.holds (store_of c.line_once-in-Ok-Done.new.outputs.keeper))
@@ -46,88 +47,38 @@ returns-in-Ok-clause-done g c =
     (Said (saying_of c.args.ahead.now.lowering)) (Said (saying_of c.args.ahead.now.raising))
     (g.W.Write.contents (inner_of c.args.outputs.now.writer))
     (g.W.Write.contents (inner_of c.line_once.new.outputs.writer))
-    (g.W.Write.contents (inner_of c.line_once-in-Ok-Done.new.outputs.writer))
-    c.args.from.now c.line_once.new.session c.args.ahead.now.to c.line_once-in-Ok-Done.new.session
-    c.in-Ok-Done.field-0 c.in-Ok.raised c.behind.result c.in-Ok-Done.field-0-is c.behind.ensures
-    c.in-Ok-Done.ensures.done c.in-Ok.ensures.done
+    (g.W.Write.contents (inner_of c.line_once-in-Ok-Done.new.outputs.writer)) c.args.from.now
+    c.line_once.new.session c.args.ahead.now.to c.line_once-in-Ok-Done.new.session
+    c.behind.result c.line_once-in-Ok-Done.result c.in-Ok-Done.field-0 c.in-Ok-Done.field-0-is
+    c.behind.ensures c.in-Ok-Done.ensures.served c.line_once-in-Ok-Done.ensures.served
 
-pub returns-in-Ok-clause-stopped : goal.returns-in-Ok-clause-stopped
-returns-in-Ok-clause-stopped g c = tt
+pub returns-in-Ok-Done-clause-fault : goal.returns-in-Ok-Done-clause-fault
+returns-in-Ok-Done-clause-fault g c =
+    fault_behind c.behind.result c.line_once-in-Ok-Done.result _ c.behind.ensures
+    c.line_once-in-Ok-Done.ensures.fault
 
-pub returns-in-Ok-clause-fault : goal.returns-in-Ok-clause-fault
-returns-in-Ok-clause-fault g c = tt
-
-pub returns-in-Err-line_once-clause-done : goal.returns-in-Err-line_once-clause-done
-returns-in-Err-line_once-clause-done g c = tt
-
-pub returns-in-Err-line_once-clause-stopped : goal.returns-in-Err-line_once-clause-stopped
-returns-in-Err-line_once-clause-stopped g c =
-    both_stopped (session_ask_of c.args.request.now).live
-    (g.S.Store.holds (store_of c.args.outputs.now.keeper))
-    (g.S.Store.holds (store_of c.line_once.new.outputs.keeper))
-    (g.S.Store.holds (store_of c.line_once-in-Ok-Done.new.outputs.keeper))
-    (IsDoneAs c.args.request.now.workers (g.G.Gate.answers c.args.gates.now.lowers)
-    (g.G.Gate.gives c.args.gates.now.lowers))
-    (IsDoneAs c.args.request.now.workers (g.G.Gate.answers c.args.gates.now.raises)
-    (g.G.Gate.gives c.args.gates.now.raises))
-    (Said (saying_of c.args.ahead.now.lowering)) (Said (saying_of c.args.ahead.now.raising))
-    (g.W.Write.contents (inner_of c.args.outputs.now.writer))
-    (g.W.Write.contents (inner_of c.line_once.new.outputs.writer))
-    (g.W.Write.contents (inner_of c.line_once-in-Ok-Done.new.outputs.writer))
-    c.args.from.now c.line_once.new.session c.args.ahead.now.to c.line_once-in-Ok-Done.new.session
-    c.in-Err-line_once.fault c.in-Ok-Done.field-0 c.in-Ok-Done.field-0-is c.in-Ok-Done.ensures.done
-    c.in-Err-line_once.ensures.stopped
-
-pub returns-in-Err-line_once-clause-fault : goal.returns-in-Err-line_once-clause-fault
-returns-in-Err-line_once-clause-fault g c = c.in-Err-line_once.ensures.fault
-
-pub returns-in-Ok-Refused-clause-done : goal.returns-in-Ok-Refused-clause-done
-returns-in-Ok-Refused-clause-done g c =
-    first_refused (session_ask_of c.args.request.now).live
-    (g.S.Store.holds (store_of c.args.outputs.now.keeper))
-    (g.S.Store.holds (store_of c.line_once.new.outputs.keeper))
-    (IsDoneAs c.args.request.now.workers (g.G.Gate.answers c.args.gates.now.lowers)
-    (g.G.Gate.gives c.args.gates.now.lowers))
-    (IsDoneAs c.args.request.now.workers (g.G.Gate.answers c.args.gates.now.raises)
-    (g.G.Gate.gives c.args.gates.now.raises))
-    (Said (saying_of c.args.ahead.now.lowering)) (Said (saying_of c.args.ahead.now.raising))
-    (g.W.Write.contents (inner_of c.args.outputs.now.writer))
-    (g.W.Write.contents (inner_of c.line_once.new.outputs.writer)) c.args.from.now
-    c.args.ahead.now.to c.line_once.new.session
-    c.in-Ok-Refused.field-0 c.in-Ok-Refused.field-0-is c.in-Ok-Refused.ensures.done
-
-pub returns-in-Ok-Refused-clause-stopped : goal.returns-in-Ok-Refused-clause-stopped
-returns-in-Ok-Refused-clause-stopped g c = tt
+pub returns-in-Ok-Refused-clause-served : goal.returns-in-Ok-Refused-clause-served
+returns-in-Ok-Refused-clause-served g c =
+    first_alone _ _ _ (g.S.Store.holds (store_of c.line_once.new.outputs.keeper)) _ _ _ _ _ _
+    (g.W.Write.contents (inner_of c.line_once.new.outputs.writer)) _ _ _ c.line_once.new.session
+    c.in-Ok-Refused.field-0 Refused
+    c.in-Ok-Refused.field-0-is (λ bad. cc) c.in-Ok-Refused.ensures.served
 
 pub returns-in-Ok-Refused-clause-fault : goal.returns-in-Ok-Refused-clause-fault
 returns-in-Ok-Refused-clause-fault g c = tt
 
-pub returns-in-Ok-Hindered-clause-done : goal.returns-in-Ok-Hindered-clause-done
-returns-in-Ok-Hindered-clause-done g c =
-    first_hindered (session_ask_of c.args.request.now).live
-    (g.S.Store.holds (store_of c.args.outputs.now.keeper))
-    (g.S.Store.holds (store_of c.line_once.new.outputs.keeper))
-    (IsDoneAs c.args.request.now.workers (g.G.Gate.answers c.args.gates.now.lowers)
-    (g.G.Gate.gives c.args.gates.now.lowers))
-    (IsDoneAs c.args.request.now.workers (g.G.Gate.answers c.args.gates.now.raises)
-    (g.G.Gate.gives c.args.gates.now.raises))
-    (Said (saying_of c.args.ahead.now.lowering)) (Said (saying_of c.args.ahead.now.raising))
-    (g.W.Write.contents (inner_of c.args.outputs.now.writer))
-    (g.W.Write.contents (inner_of c.line_once.new.outputs.writer)) c.args.from.now
-    c.args.ahead.now.to c.line_once.new.session
-    c.in-Ok-Hindered.field-0 c.in-Ok-Hindered.field-0-is c.in-Ok-Hindered.ensures.done
-
-pub returns-in-Ok-Hindered-clause-stopped : goal.returns-in-Ok-Hindered-clause-stopped
-returns-in-Ok-Hindered-clause-stopped g c = tt
+pub returns-in-Ok-Hindered-clause-served : goal.returns-in-Ok-Hindered-clause-served
+returns-in-Ok-Hindered-clause-served g c =
+    first_alone _ _ _ (g.S.Store.holds (store_of c.line_once.new.outputs.keeper)) _ _ _ _ _ _
+    (g.W.Write.contents (inner_of c.line_once.new.outputs.writer)) _ _ _ c.line_once.new.session
+    c.in-Ok-Hindered.field-0 Hindered
+    c.in-Ok-Hindered.field-0-is (λ bad. cc) c.in-Ok-Hindered.ensures.served
 
 pub returns-in-Ok-Hindered-clause-fault : goal.returns-in-Ok-Hindered-clause-fault
 returns-in-Ok-Hindered-clause-fault g c = tt
 
-pub returns-in-Err-clause-done : goal.returns-in-Err-clause-done
-returns-in-Err-clause-done g c = tt
-
-pub returns-in-Err-clause-stopped : goal.returns-in-Err-clause-stopped
-returns-in-Err-clause-stopped g c = inl c.in-Err.ensures.stopped
+pub returns-in-Err-clause-served : goal.returns-in-Err-clause-served
+returns-in-Err-clause-served g c = inl (tt, (c.line_once.new.session, c.in-Err.ensures.served))
 
 pub returns-in-Err-clause-fault : goal.returns-in-Err-clause-fault
 returns-in-Err-clause-fault g c = c.in-Err.ensures.fault

@@ -2,7 +2,7 @@ use Rattle.std.proofs.Common.{◌≡◌, ◌∙◌, ◌+◌, ◌∷◌, ◌++◌
 use Rattle.std.proofs.Common.{take}
 use Rattle.rc_db.proofs.Listing.{shown_more}
 use Rattle.rc_model.proofs.Mapped.{mapped_more}
-use Rattle.rc_cli.proofs.restarting.copied.Goals as goal
+use Rattle.cmd_session.proofs.steps.copied.Goals as goal
 
 pub loop-name-preserved : goal.loop-name-preserved
 loop-name-preserved c =

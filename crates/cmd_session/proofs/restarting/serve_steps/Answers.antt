@@ -1,7 +1,7 @@
-use Rattle.std.proofs.Common.{◌∙◌, ap, length, sym}
+use Rattle.std.proofs.Common.{◌∙◌, ap, inl, inr, length, sym}
 use Rattle.rc_model.specs.Database.{Database}
 use Rattle.rc_session.proofs.States.{current_state}
-use Rattle.rc_cli.proofs.restarting.serve_steps.Goals as goal
+use Rattle.cmd_session.proofs.restarting.serve_steps.Goals as goal
 
 pub raise_again-requires-clause-bound : goal.raise_again-requires-clause-bound
 raise_again-requires-clause-bound g c κs within =
@@ -9,3 +9,7 @@ raise_again-requires-clause-bound g c κs within =
     c.journal-states.ensures.states in
     ap length c.requires.before ∙ (state.bound
     ∙ sym (ap (λ (d : Database). length d.names) c.line_once.ensures.stays.0))
+
+pub returns-in-Err-clause-served : goal.returns-in-Err-clause-served
+returns-in-Err-clause-served g c =
+    inr (inl (tt, (c.line_once.new.session, c.in-Err.ensures.served)))

@@ -1,5 +1,5 @@
 use Rattle.std.proofs.Common.{◌≡◌, map, take, string_bytes}
-use Rattle.rc_cli.proofs.restarting.copied.Given as goal
+use Rattle.cmd_session.proofs.steps.copied.Given as goal
 
 -- the names so far
 abbrev pub invariant-loop-name : goal.invariant-loop-name

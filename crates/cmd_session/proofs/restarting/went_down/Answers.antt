@@ -3,8 +3,8 @@ use Rattle.std.specs.String.{string_bytes}
 use Rattle.std.proofs.lemmas.Result.{IfOk-weaker}
 use Rattle.rc_model.specs.Database.{Database}
 use Rattle.rc_session.proofs.States.{current_state}
-use Rattle.rc_cli.proofs.RestartLemmas.{down_named}
-use Rattle.rc_cli.proofs.restarting.went_down.Goals as goal
+use Rattle.cmd_session.proofs.RestartLemmas.{down_named}
+use Rattle.cmd_session.proofs.restarting.went_down.Goals as goal
 
 pub without-requires : goal.without-requires
 without-requires c =
