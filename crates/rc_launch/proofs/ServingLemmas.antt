@@ -1,18 +1,21 @@
 -- What was read is what a command is carried out on.
-use Rattle.std.proofs.Common.{◌≡◌, ℕ, List, Option, option_map, subst}
+use Rattle.std.proofs.Common.{◌≡◌, ℕ, List, Option, Some, None, Result, Ok, Err, IfNone, IfOk}
+use Rattle.std.proofs.Common.{option_map, subst}
 use Rattle.rc_args.specs.NamedAsked.{named_ask_of}
 use Rattle.rc_args.specs.SessionAsked.{session_ask_of}
 use Rattle.rc_args.specs.UpdateAsked.{update_ask_of}
 use Rattle.rc_args.specs.declared.named_words.NamedRequest.{NamedRequest}
 use Rattle.rc_args.specs.declared.once_words.OnceRequest.{OnceRequest}
 use Rattle.rc_args.specs.declared.update_words.UpdateRequest.{UpdateRequest}
+use Rattle.rc_args.specs.declared.session_request.SessionRequest.{SessionRequest}
+use Rattle.rc_cli.specs.Sealing.{SealsAs}
 use Rattle.rc_cli.specs.Status.{TellsStatus}
 use Rattle.rc_cli.specs.UpdateEnds.{Updates}
 use Rattle.cmd_session.specs.Launching.{Launches}
 use Rattle.cmd_session.specs.Session.{Dealing, asked_with}
 use Rattle.cmd_session.specs.declared.keeping.LiveFile.{LiveFile}
 use Rattle.cmd_session.specs.declared.service.Service.{Service}
-use Rattle.rc_launch.specs.Serving.{Carries, IsLineOf}
+use Rattle.rc_launch.specs.Serving.{Carries, IsLineOf, IsRestartOf}
 use Rattle.rc_launch.specs.Works.{bytes_in}
 use Rattle.rc_launch.specs.declared.loading.Loaded.TheVariants as loaded
 use Rattle.rc_launch.specs.declared.texts.FileText.{FileText}
@@ -33,6 +36,20 @@ module _ (log : List ℕ) (file : LiveFile) (status : ℕ) (deal : Dealing)
         before after) same launched,
   )
 
+  -- a restart
+  pub restart_carried : (request : NamedRequest) (base : FileText) (service : Service)
+      (bytes : List ℕ) → bytes ≡ bytes_in base → IsRestartOf request service
+      → Launches service (asked_with (session_ask_of request.session) (Some bytes) file) status deal
+      reader writer keeper before after
+      → Carries (loaded.Restart request base) log file status deal reader writer keeper before after
+  restart_carried request base service bytes same is launched = (
+    service,
+    is,
+    subst (λ (text : List ℕ). Launches service
+        (asked_with (session_ask_of request.session) (Some text) file) status deal reader writer
+        keeper before after) same launched,
+  )
+
   -- an update
   pub update_carried : (request : UpdateRequest) (old new : FileText) (from to : List ℕ)
       → from ≡ bytes_in old → to ≡ bytes_in new
@@ -46,6 +63,16 @@ module _ (log : List ℕ) (file : LiveFile) (status : ℕ) (deal : Dealing)
       (subst (λ (bytes : List ℕ). Updates from bytes (update_ask_of request) file status deal.was
       deal.is deal.io.written deal.io.gained writer keeper before after) is_new updated)
 
+  -- a seal
+  pub seal_carried : (request : SessionRequest) (base : FileText) (bytes : List ℕ)
+      → bytes ≡ bytes_in base
+      → SealsAs bytes request.bound file status deal.was deal.is deal.io.written deal.io.gained
+      writer keeper before after
+      → Carries (loaded.Seal request base) log file status deal reader writer keeper before after
+  seal_carried request base bytes same sealed =
+      subst (λ (text : List ℕ). SealsAs text request.bound file status deal.was deal.is
+      deal.io.written deal.io.gained writer keeper before after) same sealed
+
   -- a question
   pub status_carried : (request : NamedRequest) (base : FileText) (bytes logged : List ℕ)
       → bytes ≡ bytes_in base → logged ≡ log
@@ -57,3 +84,13 @@ module _ (log : List ℕ) (file : LiveFile) (status : ℕ) (deal : Dealing)
       deal.io.written deal.io.gained before after) is_base
       (subst (λ (text : List ℕ). TellsStatus bytes (named_ask_of request) file text status writer
       deal.io.written deal.io.gained before after) is_log told)
+
+-- what moves no longrun without a controller, where nothing is found
+pub none_moves : {A E : Type 0} (r : Result (Option A) E) (lacks : Type 0)
+    (moves also : List ℕ → Type 0) → ((name : List ℕ) → also name → lacks × moves name)
+    → IfOk r (λ found. IfNone found (lacks → (name : List ℕ) → moves name → ⊥))
+    → IfOk r (λ found. IfNone found ((name : List ℕ) → also name → ⊥))
+none_moves (Ok None) lacks moves also both none = λ name is.
+    none (both name is).0 name (both name is).1
+none_moves (Ok (Some x)) lacks moves also both none = none
+none_moves (Err e) lacks moves also both none = none

@@ -2,9 +2,15 @@
 
 -- What is asked of the file of a session, and what is read for it.
 pub mod Works
+-- What a recovery makes of the two files of a session, by the text of a database.
+pub mod Recovering
+-- What a run log says of the text that stands in the file of its session.
+pub mod Logs
+-- What came of a run log beside the file of a session that is locked.
+pub mod Recovered
+-- What is found beside the file of a session, and that its runs are logged.
+pub mod Beside
 -- The files of a command are opened.
 pub mod Opening
 -- What a command comes to on what was read for it.
 pub mod Serving
--- What a recovery makes of the two files of a session, by the text of a database.
-pub mod Recovering

@@ -1,30 +1,31 @@
 -- What a command comes to on what was read for it.
-use Rattle.std.specs.Prelude.{◌≡◌, ℕ, List, [], Option, Some, false}
+use Rattle.std.specs.Prelude.{◌≡◌, ℕ, List, [], Option, Some, false, true}
 use Rattle.std.specs.Prelude.{option_map, IfOk, OnErr}
-use Rattle.std.specs.Prelude.{Result}
+use Rattle.std.specs.Prelude.{Result, map, string_bytes}
 use Rattle.rc_args.specs.NamedAsked.{named_ask_of}
 use Rattle.rc_args.specs.OnceAsked.{once_saying_of}
 use Rattle.rc_args.specs.SessionAsked.{session_ask_of}
 use Rattle.rc_args.specs.UpdateAsked.{update_ask_of}
+use Rattle.rc_args.specs.declared.named_words.NamedRequest.{NamedRequest}
 use Rattle.rc_args.specs.declared.once_words.OnceRequest.{OnceRequest}
-use Rattle.rc_cli.specs.Controlled.{LacksController, MovesLongrun}
-use Rattle.rc_cli.specs.Restarting.{Restarts}
+use Rattle.rc_cli.specs.Controlled.{LacksController, MovesLongrun, UpdateMovesLongrun}
 use Rattle.rc_cli.specs.Sealing.{SealsAs}
 use Rattle.rc_cli.specs.Status.{TellsStatus}
 use Rattle.rc_cli.specs.UpdateEnds.{Updates}
-use Rattle.rc_cli.specs.Updating.{lowering}
-use Rattle.cmd_session.specs.Deciding.{IsFound}
+use Rattle.log.specs.declared.level.LevelFilter.{LevelFilter}
+use Rattle.cmd_session.specs.Deciding.{IsFound, level_by}
 use Rattle.cmd_session.specs.Filing.{IsUnread}
 use Rattle.cmd_session.specs.Launching.{Launches}
 use Rattle.cmd_session.specs.Session.{Dealing, asked_with}
+use Rattle.cmd_session.specs.Steps.{lowering}
 use Rattle.cmd_session.specs.declared.keeping.LiveFile.{LiveFile}
 use Rattle.cmd_session.specs.declared.service.Service.{Service}
-use Rattle.cmd_session.specs.declared.service.Service.TheVariants.{Lines, Line as OneLine}
+use Rattle.cmd_session.specs.declared.service.Service.TheVariants.{Lines, Line as OneLine, Restart}
 use Rattle.rc_launch.specs.declared.loading.Loaded.{Loaded}
 use Rattle.rc_launch.specs.declared.loading.Loaded.TheVariants as loaded
 use Rattle.rc_launch.specs.declared.opened.Note.{Note}
 use Rattle.rc_launch.specs.declared.opened.Note.TheVariants as note
-use Rattle.rc_launch.specs.Works.{bytes_in}
+use Rattle.rc_launch.specs.Works.{bytes_in, session_in}
 
 -- the bytes of the run log that was read
 abbrev pub logged_of : Note → List ℕ
@@ -38,8 +39,20 @@ IsReadAs bytes found file = IfOk found (λ held. IsFound (option_map bytes held)
 
 -- a session of the one line of a request
 abbrev pub IsLineOf : OnceRequest → Service → Type 0
-IsLineOf request Lines = ⊥
 IsLineOf request (OneLine once) = once.now ≡ request.once
+IsLineOf request other = ⊥
+
+-- a restart of the names of a request
+abbrev pub IsRestartOf : NamedRequest → Service → Type 0
+IsRestartOf request (Restart names) = map string_bytes names.now ≡ (named_ask_of request).names
+IsRestartOf request other = ⊥
+
+-- up to which level messages are written: a session of lines reports no transition unless that is
+-- asked
+abbrev pub IsLogFor : Loaded → LevelFilter → Type 0
+IsLogFor (loaded.Lines request base) level = level ≡ level_by request.tells false request.quiet
+IsLogFor other level =
+    level ≡ level_by (session_in other).tells true (session_in other).quiet
 
 -- a command was carried out on what was read, with this status: as a session of lines, or of one
 -- line, as an update, a restart, a seal or a question
@@ -57,8 +70,9 @@ Carries (loaded.Update request old new) log file status deal reader writer keepe
     Updates (bytes_in old) (bytes_in new) (update_ask_of request) file status deal.was deal.is
     deal.io.written deal.io.gained writer keeper before after
 Carries (loaded.Restart request base) log file status deal reader writer keeper before after =
-    Restarts (bytes_in base) (named_ask_of request) file status deal.was deal.is deal.io.written
-    deal.io.gained writer keeper before after
+    (service : Service) × IsRestartOf request service
+    × Launches service (asked_with (session_ask_of request.session) (Some (bytes_in base)) file)
+    status deal reader writer keeper before after
 Carries (loaded.Seal request base) log file status deal reader writer keeper before after =
     SealsAs (bytes_in base) request.bound file status deal.was deal.is deal.io.written
     deal.io.gained writer keeper before after
@@ -72,6 +86,9 @@ LacksItsControllerBy (loaded.Line request (Some base)) file name =
     LacksController (session_ask_of request.session)
     × MovesLongrun (bytes_in base) (session_ask_of request.session) file
     (once_saying_of request.once) name
+LacksItsControllerBy (loaded.Update request old new) file name =
+    LacksController (session_ask_of request.session)
+    × UpdateMovesLongrun (bytes_in old) (bytes_in new) (update_ask_of request) file name
 LacksItsControllerBy (loaded.Restart request base) file name =
     LacksController (session_ask_of request.session)
     × MovesLongrun (bytes_in base) (session_ask_of request.session) file

@@ -1,9 +1,11 @@
 -- What is asked of the file of a session, and what is read for it.
-use Rattle.std.specs.Prelude.{◌≡◌, ◌≢◌, ℕ, List, Option, None, Some, false}
+use Rattle.std.specs.Prelude.{◌≡◌, ◌≢◌, ℕ, Bool, List, Option, None, Some, false}
 use Rattle.std.specs.Prelude.{option_map}
 use Rattle.std.specs.Borrow.{Bor}
 use Rattle.rc_args.specs.OnceAsked.{HasNoEvents, once_ask_of, once_saying_of}
 use Rattle.rc_args.specs.UpdateAsked.{update_ask_of}
+use Rattle.rc_args.specs.declared.once_words.Once.{Once}
+use Rattle.rc_args.specs.declared.update_words.UpdateRequest.{UpdateRequest}
 use Rattle.rc_args.specs.declared.session_request.SessionRequest.{SessionRequest}
 use Rattle.cmd_session.specs.Deciding.{Moves}
 use Rattle.rc_launch.specs.declared.loading.Loaded.{Loaded}
@@ -64,6 +66,36 @@ base_of (loaded.Update request old new) = Some old
 base_of (loaded.Restart request base) = Some base
 base_of (loaded.Seal request base) = Some base
 base_of (loaded.Status request base) = Some base
+
+-- the file of the new database of an update
+abbrev pub other_of : Loaded → Option FileText
+other_of (loaded.Update request old new) = Some new
+other_of other = None
+
+-- the one line that is served, if it is one
+abbrev pub once_in : Loaded → Option Once
+once_in (loaded.Line request base) = Some request.once
+once_in other = None
+
+-- what is asked of an update, if it is one
+abbrev pub update_in : Loaded → Option UpdateRequest
+update_in (loaded.Update request old new) = Some request
+update_in other = None
+
+-- it is an update
+abbrev pub IsUpdating : Loaded → Type 0
+IsUpdating (loaded.Update request old new) = Unit {0}
+IsUpdating other = ⊥
+
+-- an update was begun before, and was cut short
+abbrev pub again_in : Loaded → Bool
+again_in (loaded.Update request old new) = request.again
+again_in other = false
+
+-- the lines of an input are served
+abbrev pub IsOfLines : Loaded → Type 0
+IsOfLines (loaded.Lines request base) = Unit {0}
+IsOfLines other = ⊥
 
 -- a command with the files that it names, read
 abbrev pub IsLoaded : Work → Loaded → Type 0

@@ -1,14 +1,16 @@
 //! The two files of a session on a disk, as they were read while it was locked.
-ghost use Rattle.std.specs.Prelude.{◌≡◌, IsSome};
+ghost use Rattle.std.specs.Prelude.{◌≡◌, IfOk, IsSome, option_map, unwrap_or, []};
 
+use crate::texts::ReadFiles;
 use rc_files::{FileFault, TwoFiles};
 use rc_streams::replaced_file::replace;
 use rc_streams::run_file;
-use std::alloc::Global;
+use std::alloc::{AllocError, Global};
 use std::io;
 
-/// The file of a session and its run log, with what was read of them and, after a call that failed,
-/// why. Contracts see what was read and written: nobody else writes them while they are locked.
+/// The file of a session and its run log, with what they hold since they were read and, after a
+/// call that failed, why. Contracts see what was read and written: nobody else writes them while
+/// they are locked.
 #[derive(Drop)]
 pub struct HeldFiles<'a> {
     rt: &'a HostRuntime,
@@ -19,14 +21,29 @@ pub struct HeldFiles<'a> {
 }
 
 impl<'a> HeldFiles<'a> {
-    /// The files of the session that is kept at this path, of which this was read.
-    pub fn new(rt: &'a HostRuntime, path: &'a str, file: Vec<u8>, log: Vec<u8>) -> HeldFiles<'a> {
-        HeldFiles {
-            rt,
-            path,
-            file,
-            log,
-            error: None,
+    /// The files of which this was read, while they were locked.
+    pub(crate) fn new(
+        rt: &'a HostRuntime,
+        read: &ReadFiles<'a>,
+    ) -> Result<HeldFiles<'a>, AllocError>
+        ensures path { IfOk result (λ held. held.path ≡ read.now.logged.path) }
+        ensures file { IfOk result (λ held. held.file.items
+            ≡ unwrap_or (option_map (λ bytes. bytes.items) read.now.found) []) }
+        ensures log { IfOk result (λ held. held.log.items ≡ read.now.logged.bytes.items) }
+    {
+        let file = Vec::from_slice(rt.alloc(), read.text())?;
+        match Vec::from_slice(rt.alloc(), read.log()) {
+            Ok(log) => Ok(HeldFiles {
+                rt,
+                path: read.path(),
+                file,
+                log,
+                error: None,
+            }),
+            Err(short) => {
+                drop(file);
+                Err(short)
+            }
         }
     }
 

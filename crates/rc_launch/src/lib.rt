@@ -4,13 +4,16 @@
 #![tactic(auto)]
 
 mod fault;
+mod fronts;
 mod held_files;
 mod live_store;
 mod loading;
 mod opened;
 mod opening;
+mod recovered;
 mod recovering;
 mod recovery;
+mod runs;
 mod serving;
 mod texts;
 mod tried_lock;
@@ -21,7 +24,9 @@ pub use crate::held_files::HeldFiles;
 pub use crate::live_store::LiveStore;
 pub use crate::opened::{Note, Opened};
 pub use crate::opening::open;
+pub use crate::recovered::{Came, Recovery};
 pub use crate::recovering::{Unrecovered, left_report, recover_by};
+pub use crate::runs::Runs;
 pub use crate::serving::{Status, serve, uncontrolled_in};
-pub use crate::texts::{FileText, LiveText, LogText};
+pub use crate::texts::{FileText, LiveText, LogText, ReadFiles};
 pub use crate::work::Work;

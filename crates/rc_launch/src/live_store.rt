@@ -1,13 +1,17 @@
 //! The file in which a session is kept, and its lock. Its text is replaced whole. A text that
 //! stands there already is not written again: that it could be is found out by a file beside it.
-ghost use Rattle.std.specs.Prelude.{◌≡◌, None, option_map, if◌then◌else◌, IfOk, IfSome, IsSome};
+ghost use Rattle.std.specs.Prelude.{◌≡◌, ◌↔◌, None, option_map, if◌then◌else◌, IfOk, IfSome};
+ghost use Rattle.std.specs.Prelude.{IsSome, IsTrue};
+ghost use Rattle.rc_args.specs.Making.{making_ask_of};
+ghost use Rattle.rc_launch.specs.Beside.{AreRunsOf, IsLocked};
 ghost use Rattle.rc_launch.specs.Opening.{LocksFor};
 
+use crate::runs::Runs;
 use crate::texts::LiveText;
 use crate::tried_lock::TriedLock;
+use cmd_session::{KeptText, Store, keep_fault};
 use rc_args::Making;
 use rc_serve::KeepFault;
-use cmd_session::{KeptText, RunFiles, Store, keep_fault};
 use rc_streams::live_lock::LockFault;
 use rc_streams::replaced_file::{probe, replace};
 use std::io;
@@ -81,7 +85,9 @@ impl<'a> LiveStore<'a> {
     }
 
     /// Whether the file is locked.
-    pub fn is_locked(&self) -> bool {
+    pub fn is_locked(&self) -> bool
+        ensures { IsTrue result ↔ IsLocked self.now }
+    {
         match &self.lock {
             Some(lock) => lock.is_held(),
             None => false,
@@ -90,10 +96,13 @@ impl<'a> LiveStore<'a> {
 
     /// Makes the files of the runs of a session that is to start programs: those beside the file of
     /// `-l`, where that is locked.
-    pub fn run_files(&self, making: &Making<'_>) -> io::Result<Option<RunFiles>> {
-        match making {
-            Making::Programs(_) if self.is_locked() => Ok(Some(RunFiles::open(
-                self.rt, self.path,
+    pub fn runs(&self, making: &Making<'_>) -> io::Result<Option<Runs<'a>>>
+        ensures { IfOk result (AreRunsOf (making_ask_of making.now) self.now) }
+    {
+        match (making, &self.lock) {
+            (Making::Programs(_), Some(lock)) if lock.is_held() => Ok(Some(Runs::open(
+                self.rt,
+                lock.path(),
             )?)),
             _ => Ok(None),
         }

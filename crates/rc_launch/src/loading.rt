@@ -1,7 +1,8 @@
 //! The databases of a command are read.
-ghost use Rattle.std.specs.Prelude.{◌≡◌, ◌≢◌, None, Some, option_map, IfOk};
+ghost use Rattle.std.specs.Prelude.{◌≡◌, ◌≢◌, ◌↔◌, None, Some, true, option_map, IfOk, IsTrue};
 ghost use Rattle.rc_launch.specs.Works.{IsAsLoaded, IsEventless, IsEventlessWork, IsLoaded};
-ghost use Rattle.rc_launch.specs.Works.{base_of, path_of, session_in};
+ghost use Rattle.rc_launch.specs.Works.{IsUpdating};
+ghost use Rattle.rc_launch.specs.Works.{again_in, base_of, other_of, path_of, session_in};
 ghost use Rattle.rc_launch.specs.declared.work.Work.TheVariants.{Update};
 
 use crate::fault::OpenFault;
@@ -48,7 +49,9 @@ impl<'a> Loaded<'a> {
     }
 
     /// The file of the new database of an update.
-    pub fn other(&self) -> Option<&FileText<'a>> {
+    pub fn other(&self) -> Option<&FileText<'a>>
+        ensures { option_map (λ text. text.now) result ≡ other_of self.now }
+    {
         match self {
             Loaded::Update(_, _, new) => Some(new),
             _ => None,
@@ -58,6 +61,7 @@ impl<'a> Loaded<'a> {
     /// The same, of an update that was begun before or not.
     pub fn with_again(self, again: bool) -> Loaded<'a>
         ensures same { IsAsLoaded self.entry result }
+        ensures again { (again_in result ≡ true) ↔ (IsUpdating self.entry × IsTrue again) }
         ensures eventless { IsEventless self.entry → IsEventless result }
     {
         match self {
@@ -75,42 +79,27 @@ pub(crate) fn load<'a>(rt: &HostRuntime, work: Work<'a>) -> Result<Loaded<'a>, O
     ensures eventless { IsEventlessWork work.entry → IfOk result IsEventless }
 {
     match work {
-        Work::Lines(request, file) => match base_at(rt, file) {
-            Ok(base) => Ok(Loaded::Lines(request, base)),
-            Err(fault) => {
-                drop(request);
-                Err(fault)
-            }
-        },
-        Work::Line(request, file) => match base_at(rt, file) {
-            Ok(base) => Ok(Loaded::Line(request, base)),
-            Err(fault) => {
-                drop(request);
-                Err(fault)
-            }
-        },
+        Work::Lines(request, file) => {
+            let base = base_at(rt, file)?;
+            Ok(Loaded::Lines(request, base))
+        }
+        Work::Line(request, file) => {
+            let base = base_at(rt, file)?;
+            Ok(Loaded::Line(request, base))
+        }
         Work::Update(request, file) => load_update(rt, request, file),
-        Work::Restart(request, file) => match both_at(rt, file, request.session.live) {
-            Ok(base) => Ok(Loaded::Restart(request, base)),
-            Err(fault) => {
-                drop(request);
-                Err(fault)
-            }
-        },
-        Work::Status(request, file) => match both_at(rt, file, request.session.live) {
-            Ok(base) => Ok(Loaded::Status(request, base)),
-            Err(fault) => {
-                drop(request);
-                Err(fault)
-            }
-        },
-        Work::Seal(request, file) => match both_at(rt, file, request.live) {
-            Ok(base) => Ok(Loaded::Seal(request, base)),
-            Err(fault) => {
-                drop(request);
-                Err(fault)
-            }
-        },
+        Work::Restart(request, file) => {
+            let base = both_at(rt, file, request.session.live)?;
+            Ok(Loaded::Restart(request, base))
+        }
+        Work::Status(request, file) => {
+            let base = both_at(rt, file, request.session.live)?;
+            Ok(Loaded::Status(request, base))
+        }
+        Work::Seal(request, file) => {
+            let base = both_at(rt, file, request.live)?;
+            Ok(Loaded::Seal(request, base))
+        }
     }
 }
 

@@ -1,11 +1,13 @@
 //! A command whose files are opened.
-ghost use Rattle.std.specs.Prelude.{◌≡◌};
-ghost use Rattle.rc_launch.specs.Works.{session_in};
+ghost use Rattle.std.specs.Prelude.{◌≡◌, ◌↔◌, IsTrue, option_map};
+ghost use Rattle.rc_launch.specs.Works.{IsOfLines, base_of, once_in, other_of, session_in};
+ghost use Rattle.rc_launch.specs.Works.{update_in};
 
 use crate::loading::Loaded;
+use crate::recovered::Recovery;
+use crate::runs::Runs;
 use crate::texts::{FileText, LiveText, LogText};
 use rc_args::{Once, SessionRequest, UpdateRequest};
-use cmd_session::RunFiles;
 
 /// What was found beside the file of a session.
 #[derive(Drop)]
@@ -16,11 +18,11 @@ pub enum Note<'a> {
     UnderWay,
     /// A command was cut short. What it has moved is not entered yet.
     Cut,
-    /// What a command that was cut short has moved is entered, with this report.
-    Recovered(Vec<u8>),
     /// The run log, read before the file: a command that ends in between has put a new text into
     /// that file, of which the log is none.
     Logged(LogText<'a>),
+    /// The file is locked, and this came of its run log.
+    Locked(Recovery<'a>),
 }
 
 /// A command whose files are opened. Nothing but opening them makes one: what is asked, the
@@ -29,8 +31,8 @@ pub enum Note<'a> {
 pub struct Opened<'a> {
     pub(crate) loaded: Loaded<'a>,
     pub(crate) live: LiveText<'a>,
-    pub(crate) run_files: Option<RunFiles>,
     pub(crate) note: Note<'a>,
+    pub(crate) runs: Option<Runs<'a>>,
     pub(crate) moves: bool,
 }
 
@@ -43,12 +45,16 @@ impl<'a> Opened<'a> {
     }
 
     /// Whether something is to be done, and not only shown.
-    pub fn moves(&self) -> bool {
+    pub fn moves(&self) -> bool
+        ensures { result ≡ self.now.moves }
+    {
         self.moves
     }
 
     /// The one line that is served, if it is one.
-    pub fn once(&self) -> Option<&Once> {
+    pub fn once(&self) -> Option<&Once>
+        ensures { option_map (λ once. once.now) result ≡ once_in self.now.loaded }
+    {
         match &self.loaded {
             Loaded::Line(request, _) => Some(&request.once),
             _ => None,
@@ -56,7 +62,9 @@ impl<'a> Opened<'a> {
     }
 
     /// What is asked of an update, if it is one.
-    pub fn update(&self) -> Option<&UpdateRequest<'a>> {
+    pub fn update(&self) -> Option<&UpdateRequest<'a>>
+        ensures { option_map (λ request. request.now) result ≡ update_in self.now.loaded }
+    {
         match &self.loaded {
             Loaded::Update(request, _, _) => Some(request),
             _ => None,
@@ -64,32 +72,44 @@ impl<'a> Opened<'a> {
     }
 
     /// Whether the lines of an input are served.
-    pub fn is_of_lines(&self) -> bool {
+    pub fn is_of_lines(&self) -> bool
+        ensures { IsTrue result ↔ IsOfLines self.now.loaded }
+    {
         matches!(&self.loaded, Loaded::Lines(_, _))
     }
 
     /// The file of `-b`, if one is named.
-    pub fn base(&self) -> Option<&FileText<'a>> {
+    pub fn base(&self) -> Option<&FileText<'a>>
+        ensures { option_map (λ text. text.now) result ≡ base_of self.now.loaded }
+    {
         self.loaded.base()
     }
 
     /// The file of the new database of an update.
-    pub fn other(&self) -> Option<&FileText<'a>> {
+    pub fn other(&self) -> Option<&FileText<'a>>
+        ensures { option_map (λ text. text.now) result ≡ other_of self.now.loaded }
+    {
         self.loaded.other()
     }
 
     /// What stood in the file of the session.
-    pub fn live(&self) -> &LiveText<'a> {
+    pub fn live(&self) -> &LiveText<'a>
+        ensures { result.now ≡ self.now.live }
+    {
         &self.live
     }
 
     /// The files of its runs, if it has any.
-    pub fn run_files(&self) -> Option<&RunFiles> {
-        self.run_files.as_ref()
+    pub fn runs(&self) -> Option<&Runs<'a>>
+        ensures { option_map (λ runs. runs.now) result ≡ self.now.runs }
+    {
+        self.runs.as_ref()
     }
 
     /// What was found beside the file of the session.
-    pub fn note(&self) -> &Note<'a> {
+    pub fn note(&self) -> &Note<'a>
+        ensures { result.now ≡ self.now.note }
+    {
         &self.note
     }
 }

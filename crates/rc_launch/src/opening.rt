@@ -36,7 +36,7 @@ fn open_loaded<'a>(
     moves: bool,
 ) -> Result<(Opened<'a>, LiveStore<'a>), OpenFault<'a>>
     requires eventless { IsEventless loaded }
-    ensures { IfOk result (λ opened. IsOpenedAs loaded.entry moves opened.0
+    ensures { IfOk result (λ opened. IsOpenedAs loaded.entry moves opened.1 opened.0
         × LocksFor moves (session_in loaded.entry).live opened.1) }
 {
     let (live, waits) = (loaded.session().live, loaded.session().waits);
@@ -57,13 +57,13 @@ fn open_loaded<'a>(
 
 // Enters what a command that was cut short has moved, where the file is locked, and reads it.
 fn open_locked<'a>(
-    rt: &HostRuntime,
+    rt: &'a HostRuntime,
     loaded: Loaded<'a>,
-    store: &LiveStore<'_>,
+    store: &LiveStore<'a>,
     moves: bool,
 ) -> Result<Opened<'a>, OpenFault<'a>>
     requires eventless { IsEventless loaded }
-    ensures { IfOk result (IsOpenedAs loaded.entry moves) }
+    ensures { IfOk result (IsOpenedAs loaded.entry moves store.now) }
 {
     let live = loaded.session().live;
     let (note, again) = match note_of(rt, live, &loaded, store.is_locked()) {
@@ -73,12 +73,12 @@ fn open_locked<'a>(
             return Err(fault);
         }
     };
-    match store.run_files(&loaded.session().making) {
-        Ok(run_files) => Ok(Opened {
+    match store.runs(&loaded.session().making) {
+        Ok(runs) => Ok(Opened {
             loaded: loaded.with_again(again),
             live: LiveText::read(rt, live),
-            run_files,
             note,
+            runs,
             moves,
         }),
         Err(error) => {

@@ -5,10 +5,10 @@ ghost use Rattle.rc_files.specs.Files.{Files};
 ghost use Rattle.rc_launch.specs.Recovering.{IsNoBase, IsOn, IsUnread, Leaves, LeavesCut};
 ghost use Rattle.rc_launch.specs.Recovering.{LeavesNothing, LeavesUnfit};
 
-use rc_input::database_of;
 use rc_crash::{FilesFault, recover_files};
 use rc_dbtext::TextFault;
 use rc_files::TwoFiles;
+use rc_input::database_of;
 use rc_recovery::{RecoverFault, Recovered, recover_text};
 use std::alloc::Global;
 use thiserror::Error;

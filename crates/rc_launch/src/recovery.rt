@@ -1,14 +1,20 @@
 //! What a command that was cut short has moved is entered.
-ghost use Rattle.std.specs.Prelude.{IfOk};
-ghost use Rattle.rc_launch.specs.Opening.{IsLogged};
+ghost use Rattle.std.specs.Prelude.{◌≡◌, ◌↔◌, [], IfOk, IsErrOf, IsTrue, option_map};
+ghost use Rattle.rc_launch.specs.Beside.{GoesOnBy, IsNoted, IsSeen};
+ghost use Rattle.rc_launch.specs.Recovered.{ComesBy, ComesFor, GoesOn, HasLowered, IsCut};
+ghost use Rattle.rc_launch.specs.Recovered.{IsFirstStep, IsRecovered, files_held, files_read};
+ghost use Rattle.rc_launch.specs.Recovering.{LeavesUnfit};
 
 use crate::fault::OpenFault;
+use crate::fronts::{behind, is_of};
 use crate::held_files::HeldFiles;
 use crate::loading::Loaded;
 use crate::opened::Note;
+use crate::recovered::{Came, Recovery};
 use crate::recovering::{Unrecovered, recover_by};
-use crate::texts::{LiveText, LogText};
+use crate::texts::{LiveText, LogText, ReadFiles};
 use rc_cli::begins_update;
+use rc_files::TwoFiles;
 use rc_names::NoMem;
 use rc_streams::{live_lock, run_file, stop_file};
 
@@ -16,12 +22,14 @@ use rc_streams::{live_lock, run_file, stop_file};
 /// short has moved is entered; and where it is shown where services stand, the run log is read. The
 /// second value: whether what was entered is the first step of the update that is asked for.
 pub(crate) fn note_of<'a>(
-    rt: &HostRuntime,
+    rt: &'a HostRuntime,
     live: Option<&'a str>,
     loaded: &Loaded<'_>,
     is_locked: bool,
 ) -> Result<(Note<'a>, bool), OpenFault<'a>>
-    ensures { IfOk result (λ found. IsLogged loaded.now live.entry found.0) }
+    ensures noted { IfOk result (λ found.
+        IsNoted loaded.now live.entry (IsTrue is_locked) found.0) }
+    ensures again { IfOk result (λ found. IsTrue found.1 ↔ GoesOnBy loaded.now found.0) }
 {
     let Some(path) = live else {
         return Ok((Note::Nothing, false));
@@ -31,127 +39,186 @@ pub(crate) fn note_of<'a>(
             Ok(log) => Ok((Note::Logged(log), false)),
             Err(fault) => Err(fault),
         },
-        _ if is_locked => recover(rt, path, loaded),
+        _ if is_locked => match recover(rt, path, loaded) {
+            Ok((recovery, again)) => Ok((Note::Locked(recovery), again)),
+            Err(fault) => Err(fault),
+        },
         _ => Ok((cut_note(rt, path), false)),
     }
 }
 
-// Enters what the run log of a session leaves, by the first database that the log fits, and removes
-/// what called its command off. The second value: whether that was the first step of the update
-/// that is asked for.
+// Reads the run log of a session, and enters what it leaves. What called its command off is
+// removed. The second value: whether that was the first step of the update that is asked for.
 fn recover<'a>(
-    rt: &HostRuntime,
+    rt: &'a HostRuntime,
     path: &'a str,
     loaded: &Loaded<'_>,
-) -> Result<(Note<'a>, bool), OpenFault<'a>> {
-    match run_file::read(rt, path) {
-        Ok(Some(log)) => {
-            let _ = stop_file::remove(rt, path);
-            if log.is_empty() {
-                drop(log);
-                return Ok((Note::Nothing, false));
-            }
-            recover_log(rt, path, loaded, log)
-        }
-        Ok(None) => Ok((Note::Nothing, false)),
-        Err(error) => Err(OpenFault::Log(path, error)),
+) -> Result<(Recovery<'a>, bool), OpenFault<'a>>
+    ensures recovered { IfOk result (λ found. IsRecovered loaded.now path.entry found.0) }
+    ensures again { IfOk result (λ found. IsTrue found.1 ↔ GoesOn loaded.now found.0) }
+{
+    let log = match LogText::read(rt, path) {
+        Ok(log) => log,
+        Err(fault) => return Err(fault),
+    };
+    let _ = stop_file::remove(rt, path);
+    if log.bytes().is_empty() {
+        return Ok((Recovery::Bare(log), false));
+    }
+    match ReadFiles::read(rt, log) {
+        Ok(read) => recover_read(rt, loaded, read),
+        Err(fault) => Err(fault),
     }
 }
 
-// The same with the log. One that leaves nothing is removed, so that it never fits a later text.
-fn recover_log<'a>(
-    rt: &HostRuntime,
-    path: &'a str,
+// The same with both files. A log that leaves nothing is removed, so that it never fits a later
+// text.
+fn recover_read<'a>(
+    rt: &'a HostRuntime,
     loaded: &Loaded<'_>,
-    log: Vec<u8>,
-) -> Result<(Note<'a>, bool), OpenFault<'a>> {
-    match LiveText::read(rt, Some(path)).into_found() {
-        Ok(Some(text)) if is_of(&text, &log) => recover_text(rt, path, loaded, text, log),
-        Ok(text) => {
-            drop((text, log));
-            forget(rt, path)
-        }
-        Err(error) => {
-            drop(log);
-            Err(OpenFault::File(path, error))
-        }
-    }
-}
-
-// The same with the text of the session.
-fn recover_text<'a>(
-    rt: &HostRuntime,
-    path: &'a str,
-    loaded: &Loaded<'_>,
-    text: Vec<u8>,
-    log: Vec<u8>,
-) -> Result<(Note<'a>, bool), OpenFault<'a>> {
-    let Ok(again) = is_first_step(rt, loaded, &text, &log) else {
-        drop((text, log));
+    read: ReadFiles<'a>,
+) -> Result<(Recovery<'a>, bool), OpenFault<'a>>
+    ensures recovered { IfOk result (λ found.
+        IsRecovered loaded.now read.entry.logged.path found.0) }
+    ensures again { IfOk result (λ found. IsTrue found.1 ↔ GoesOn loaded.now found.0) }
+{
+    let Ok(mut held) = HeldFiles::new(rt, &read) else {
+        drop(read);
         return Err(OpenFault::Memory);
     };
-    let mut files = HeldFiles::new(rt, path, text, log);
-    let recovered = recovered(rt, loaded, &mut files);
-    let error = files.into_error();
-    match recovered {
-        Some(Ok(Some(report))) => {
-            // Where it lowered nothing, the last entry is that of an earlier command.
-            let lowers = report.starts_with(b"lowered ");
-            Ok((Note::Recovered(report), again && lowers))
+    if read.is_cut() {
+        return recover_cut(rt, loaded, read, held);
+    }
+    match held.empty_log() {
+        Ok(()) => Ok((Recovery::Made(read, held, Came::Stale), false)),
+        Err(_) => Err(log_fault(read, held)),
+    }
+}
+
+// The same with the log of a command that was cut short.
+fn recover_cut<'a>(
+    rt: &HostRuntime,
+    loaded: &Loaded<'_>,
+    read: ReadFiles<'a>,
+    mut held: HeldFiles<'a>,
+) -> Result<(Recovery<'a>, bool), OpenFault<'a>>
+    requires cut { IsCut read }
+    requires held { files_held held ≡ files_read read }
+    ensures recovered { IfOk result (λ found.
+        IsRecovered loaded.now read.entry.logged.path found.0) }
+    ensures again { IfOk result (λ found. IsTrue found.1 ↔ GoesOn loaded.now found.0) }
+{
+    let Ok(is_first) = is_first_step(rt, loaded, &read) else {
+        drop((read, held));
+        return Err(OpenFault::Memory);
+    };
+    match recovered(rt, loaded, &mut held) {
+        Ok(came) => {
+            let again = is_first && has_lowered(&came);
+            Ok((Recovery::Made(read, held, came), again))
         }
-        // There was nothing to enter; or the command itself is refused.
-        Some(Ok(None)) | Some(Err(Unrecovered::Database)) => Ok((Note::Nothing, false)),
-        Some(Err(Unrecovered::Log)) => Err(OpenFault::OtherBase(path)),
-        Some(Err(Unrecovered::Memory)) => Err(OpenFault::Memory),
-        Some(Err(Unrecovered::Io)) => match error {
-            Some(error) => Err(OpenFault::File(path, error)),
-            None => Err(OpenFault::Memory),
-        },
-        None => Err(OpenFault::NoBase(path)),
+        Err(fault) => Err(unrecovered(read, held, fault)),
     }
 }
 
 // Whether a log is that of the first step of the update that is asked for.
-fn is_first_step(
-    rt: &HostRuntime,
-    loaded: &Loaded<'_>,
-    text: &[u8],
-    log: &[u8],
-) -> Result<bool, NoMem> {
+fn is_first_step(rt: &HostRuntime, loaded: &Loaded<'_>, read: &ReadFiles<'_>) -> Result<bool, NoMem>
+    ensures { IfOk result (λ is. IsTrue is ↔ IsFirstStep loaded.now read.now) }
+{
     match loaded {
         Loaded::Update(request, old, new) => {
-            let (old, new, list) = (old.bytes(), new.bytes(), &request.conversions);
-            begins_update(rt.alloc(), old, new, list, text, log)
+            let (old, new, list) = (old.bytes(), new.bytes(), request.conversions.as_slice());
+            begins_update(rt.alloc(), old, new, list, read.text(), read.log())
         }
         _ => Ok(false),
     }
 }
 
-// Recovers the files by the first database that their log fits. None: there is no database.
-fn recovered(
-    rt: &HostRuntime,
-    loaded: &Loaded<'_>,
-    files: &mut HeldFiles<'_>,
-) -> Option<Result<Option<Vec<u8>>, Unrecovered>> {
-    match recover_by(rt.alloc(), loaded.base()?.bytes(), files) {
-        Err(Unrecovered::Log) => match loaded.other() {
-            Some(other) => Some(recover_by(rt.alloc(), other.bytes(), files)),
-            None => Some(Err(Unrecovered::Log)),
-        },
-        answer => Some(answer),
+// Whether what was entered has lowered something. Where it has not, the last entry of the session
+// is that of an earlier command.
+fn has_lowered(came: &Came) -> bool
+    ensures { IsTrue result ↔ HasLowered came.now }
+{
+    match came {
+        Came::Entered(report) => behind(b"lowered ", report).is_some(),
+        _ => false,
     }
 }
 
-// Removes a log that leaves nothing to enter.
-fn forget<'a>(rt: &HostRuntime, path: &'a str) -> Result<(Note<'a>, bool), OpenFault<'a>> {
-    match run_file::remove(rt, path) {
-        Ok(()) => Ok((Note::Nothing, false)),
-        Err(error) => Err(OpenFault::Log(path, error)),
+// Recovers the files by the first database that their log fits. The fault is none where there is
+// no database.
+fn recovered(
+    rt: &HostRuntime,
+    loaded: &Loaded<'_>,
+    held: &mut HeldFiles<'_>,
+) -> Result<Came, Option<Unrecovered>>
+    ensures { IfOk result (ComesFor loaded.now (files_held held.old) (files_held held.new)) }
+{
+    let Some(base) = loaded.base() else {
+        return Err(None);
+    };
+    match recovered_by(rt, base.bytes(), held) {
+        Ok(came) => Ok(came),
+        Err(Unrecovered::Log) => match loaded.other() {
+            Some(other) => match recovered_by(rt, other.bytes(), held) {
+                Ok(came) => Ok(came),
+                Err(fault) => Err(Some(fault)),
+            },
+            None => Err(Some(Unrecovered::Log)),
+        },
+        Err(fault) => Err(Some(fault)),
+    }
+}
+
+// Recovers them by the text of one database.
+fn recovered_by(
+    rt: &HostRuntime,
+    base: &[u8],
+    held: &mut HeldFiles<'_>,
+) -> Result<Came, Unrecovered>
+    ensures came { IfOk result (ComesBy base.now (files_held held.old) (files_held held.new)) }
+    ensures unfit { IsErrOf result Unrecovered.Log →
+        LeavesUnfit base.now (files_held held.old) (files_held held.new) }
+{
+    match recover_by(rt.alloc(), base, held) {
+        Ok(Some(report)) => Ok(Came::Entered(report)),
+        Ok(None) => Ok(Came::Nothing),
+        Err(Unrecovered::Database) => Ok(Came::NoDatabase),
+        Err(fault) => Err(fault),
+    }
+}
+
+// Why what a log says is not entered.
+fn unrecovered<'a>(
+    read: ReadFiles<'a>,
+    held: HeldFiles<'a>,
+    fault: Option<Unrecovered>,
+) -> OpenFault<'a> {
+    let path = read.path();
+    let error = held.into_error();
+    drop(read);
+    match (fault, error) {
+        (None, _) => OpenFault::NoBase(path),
+        (Some(Unrecovered::Log), _) => OpenFault::OtherBase(path),
+        (Some(Unrecovered::Io), Some(error)) => OpenFault::File(path, error),
+        _ => OpenFault::Memory,
+    }
+}
+
+// Why a log is not removed.
+fn log_fault<'a>(read: ReadFiles<'a>, held: HeldFiles<'a>) -> OpenFault<'a> {
+    let path = read.path();
+    drop(read);
+    match held.into_error() {
+        Some(error) => OpenFault::Log(path, error),
+        None => OpenFault::Memory,
     }
 }
 
 // What who only looks finds beside the file of a session.
-fn cut_note<'a>(rt: &HostRuntime, path: &str) -> Note<'a> {
+fn cut_note<'a>(rt: &HostRuntime, path: &str) -> Note<'a>
+    ensures { IsSeen result }
+{
     let (Ok(Some(text)), Ok(Some(log))) = (
         LiveText::read(rt, Some(path)).into_found(),
         run_file::read(rt, path),
@@ -168,9 +235,4 @@ fn cut_note<'a>(rt: &HostRuntime, path: &str) -> Note<'a> {
         Ok(false) => Note::Cut,
         Err(_) => Note::Nothing,
     }
-}
-
-// Whether a log begins with the text of a session, and has more.
-fn is_of(text: &[u8], log: &[u8]) -> bool {
-    log.len() > text.len() && log.starts_with(text)
 }

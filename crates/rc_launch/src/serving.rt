@@ -1,21 +1,26 @@
 //! A command is carried out on its files.
-ghost use Rattle.std.specs.Prelude.{◌≡◌, IfSome, option_map, string_bytes};
+ghost use Rattle.std.specs.Prelude.{◌≡◌, ℕ, List, IfNone, IfOk, IfSome, MatchOption, option_map};
+ghost use Rattle.std.specs.Prelude.{string_bytes};
 ghost use Rattle.rc_streams.specs.Noting.{HasFailed};
 ghost use Rattle.cmd_session.specs.Session.{dealt};
 ghost use Rattle.cmd_session.specs.Storing.{store_of};
-ghost use Rattle.rc_launch.specs.Serving.{Carries, IsReadAs, LacksItsControllerBy, logged_of};
+ghost use Rattle.log.specs.Handle.{max_level};
+ghost use Rattle.rc_launch.specs.Serving.{Carries, IsLogFor, IsReadAs};
+ghost use Rattle.rc_launch.specs.Serving.{LacksItsControllerBy, logged_of};
 ghost use Rattle.rc_launch.specs.Works.{IsEventless, bytes_in};
 ghost use Rattle.cmd_session.specs.declared.keeping.LiveFile.{LiveFile};
 
 use crate::loading::Loaded;
 use crate::opened::{Note, Opened};
 use crate::texts::FileText;
-use log::Log;
+use cmd_session::{Devices, Host, LiveFile, Service, Store, launch, live_file, log_for};
+use log::Logged;
 use rc_cli::{
-    restart_as_asked, seal_as_asked, status_as_asked, uncontrolled, uncontrolled_restart,
+    seal_as_asked, status_as_asked, uncontrolled, uncontrolled_restart, uncontrolled_update,
     update_as_asked,
 };
-use cmd_session::{Devices, Host, LiveFile, Service, Store, launch, live_file, log_for};
+use rc_names::NoMem;
+use rc_streams::messages::Messages;
 use std::io::{Read, Write};
 use std::sync::Wait;
 use std::thread::Threads;
@@ -39,10 +44,10 @@ impl Status {
 /// is done or shown; 1 where it is refused, and nothing has moved; 2 where it was carried out, and
 /// something failed, was blocked or was not tried; 111 for a failure. The devices must not have
 /// failed before.
-pub fn serve<T: Threads + Wait + Sync, R: Read, W: Write, F: Write, S: Store>(
-    rt: &HostRuntime,
-    threads: &T,
-    opened: &Opened<'_>,
+pub fn serve<'x, T: Threads + Wait + Sync, R: Read, W: Write, F: Write, S: Store>(
+    rt: &'x HostRuntime,
+    threads: &'x T,
+    opened: &'x Opened<'_>,
     devices: &mut Devices<R, W, F, S>,
 ) -> Status
     requires eventless { IsEventless opened.now.loaded }
@@ -56,64 +61,75 @@ pub fn serve<T: Threads + Wait + Sync, R: Read, W: Write, F: Write, S: Store>(
         (S.failed (store_of devices.new.outputs.keeper))
         (F.contents devices.old.faults) (F.contents devices.new.faults) }
 {
-    let log = log_for(rt, opened.session(), !opened.is_of_lines());
-    let host = Host {
-        threads,
-        runtime: rt,
-        log: &log,
-        run_files: opened.run_files(),
-        alloc: rt.alloc(),
-    };
-    let live = live_file(opened.live.found());
-    let code = served(&host, opened, live, devices);
-    Status { code }
-}
-
-// The same on a host.
-fn served<T: Threads + Wait + Sync, R: Read, W: Write, F: Write, S: Store, L: Log + Sync>(
-    host: &Host<'_, T, L>,
-    opened: &Opened<'_>,
-    live: LiveFile<'_>,
-    devices: &mut Devices<R, W, F, S>,
-) -> u8
-    requires eventless { IsEventless opened.now.loaded }
-    requires reader { HasFailed devices.old.reader → ⊥ }
-    requires writer { HasFailed devices.old.outputs.writer → ⊥ }
-    ensures { Carries opened.now.loaded (logged_of opened.now.note) live.entry result
-        (dealt R.remaining W.contents S.holds devices.old.reader devices.new.reader
-        devices.old.outputs devices.new.outputs)
-        (HasFailed devices.new.reader) (HasFailed devices.new.outputs.writer)
-        (S.failed (store_of devices.new.outputs.keeper))
-        (F.contents devices.old.faults) (F.contents devices.new.faults) }
-{
+    let log = log_of(&*rt, opened);
+    let host = host_of(&*rt, &*threads, &log, &*opened);
+    let live = read_of(opened);
     match &opened.loaded {
-        Loaded::Lines(request, base) => {
-            launch(host, request, Service::Lines, base_in(base), live, devices)
-        }
+        Loaded::Lines(request, base) => Status {
+            code: launch(&host, request, Service::Lines, base_in(base), live, devices),
+        },
         Loaded::Line(request, base) => {
-            let service = Service::Line(&request.once);
-            launch(
-                host,
-                &request.session,
-                service,
-                base_in(base),
-                live,
-                devices,
-            )
+            let (session, service) = (&request.session, Service::Line(&request.once));
+            let code = launch(&host, session, service, base_in(base), live, devices);
+            Status { code }
         }
-        Loaded::Update(request, old, new) => {
-            update_as_asked(host, request, old.bytes(), new.bytes(), live, devices)
-        }
+        Loaded::Update(request, old, new) => Status {
+            code: update_as_asked(&host, request, old.bytes(), new.bytes(), live, devices),
+        },
         Loaded::Restart(request, base) => {
-            restart_as_asked(host, request, base.bytes(), live, devices)
+            let (session, service) = (&request.session, Service::Restart(&request.names));
+            let code = launch(&host, session, service, Some(base.bytes()), live, devices);
+            Status { code }
         }
-        Loaded::Seal(request, base) => {
-            seal_as_asked(host.alloc, request, base.bytes(), live, devices)
-        }
+        Loaded::Seal(request, base) => Status {
+            code: seal_as_asked(rt.alloc(), request, base.bytes(), live, devices),
+        },
         Loaded::Status(request, base) => {
             let log = logged_in(&opened.note);
-            status_as_asked(host.alloc, request, base.bytes(), live, log, devices)
+            let code = status_as_asked(rt.alloc(), request, base.bytes(), live, log, devices);
+            Status { code }
         }
+    }
+}
+
+// What stood in the file of its session.
+fn read_of<'x>(opened: &'x Opened<'_>) -> LiveFile<'x>
+    ensures { IsReadAs (λ bytes. bytes.items) opened.now.live.found result }
+{
+    live_file(opened.live.found())
+}
+
+// The log of the command: of each transition where that is asked, and of one line alone those that
+// do not succeed.
+fn log_of<'h>(
+    rt: &'h HostRuntime,
+    opened: &Opened<'_>,
+) -> Logged<&'h HostRuntime, Messages<&'h HostRuntime>>
+    ensures { IsLogFor opened.now.loaded (max_level result) }
+{
+    log_for(rt, opened.session(), !opened.is_of_lines())
+}
+
+// What the command runs on: with the files of its runs, if it has any.
+fn host_of<'h, T, L>(
+    rt: &'h HostRuntime,
+    threads: &'h T,
+    log: &'h L,
+    opened: &'h Opened<'_>,
+) -> Host<'h, T, L>
+    ensures { option_map (λ files. files.now) result.run_files
+        ≡ option_map (λ runs. runs.files) opened.now.runs }
+{
+    let run_files = match opened.runs() {
+        Some(runs) => Some(runs.files()),
+        None => None,
+    };
+    Host {
+        threads,
+        runtime: rt,
+        log,
+        run_files,
+        alloc: rt.alloc(),
     }
 }
 
@@ -137,28 +153,39 @@ fn base_in<'b>(base: &'b Option<FileText<'_>>) -> Option<&'b [u8]>
     }
 }
 
-/// A longrun that a command of one line or a restart would move, where programs are started and
-/// none controls longruns.
-pub fn uncontrolled_in(rt: &HostRuntime, opened: &Opened<'_>) -> Option<String>
-    ensures { IfSome result (λ name. (file : LiveFile)
+/// A longrun that a command of one line, a restart or an update would move, where programs are
+/// started and none controls longruns. None: there is none, or the command is refused.
+pub fn uncontrolled_in(rt: &HostRuntime, opened: &Opened<'_>) -> Result<Option<String>, NoMem>
+    ensures { IfOk result (λ found. (file : LiveFile)
         × IsReadAs (λ bytes. bytes.items) opened.now.live.found file
-        × LacksItsControllerBy opened.now.loaded file (string_bytes name)) }
+        × MatchOption found
+        ((name : List ℕ) → LacksItsControllerBy opened.now.loaded file name → ⊥)
+        (λ name. LacksItsControllerBy opened.now.loaded file (string_bytes name))) }
 {
-    match &opened.loaded {
-        Loaded::Line(request, Some(base)) => {
-            let live = live_file(opened.live.found());
-            uncontrolled(
-                rt.alloc(),
-                base.bytes(),
-                live,
-                &request.session,
-                &request.once,
-            )
+    uncontrolled_by(rt, &opened.loaded, live_file(opened.live.found()))
+}
+
+// The same of what stood in the file of the session.
+fn uncontrolled_by(
+    rt: &HostRuntime,
+    loaded: &Loaded<'_>,
+    live: LiveFile<'_>,
+) -> Result<Option<String>, NoMem>
+    ensures some { IfOk result (λ found. IfSome found (λ name.
+        LacksItsControllerBy loaded.now live.entry (string_bytes name))) }
+    ensures none { IfOk result (λ found. IfNone found ((name : List ℕ)
+        → LacksItsControllerBy loaded.now live.entry name → ⊥)) }
+{
+    let alloc = rt.alloc();
+    match loaded {
+        Loaded::Line(request, base) => match base {
+            Some(base) => uncontrolled(alloc, base.bytes(), live, &request.session, &request.once),
+            None => Ok(None),
+        },
+        Loaded::Update(request, old, new) => {
+            uncontrolled_update(alloc, old.bytes(), new.bytes(), live, request)
         }
-        Loaded::Restart(request, base) => {
-            let live = live_file(opened.live.found());
-            uncontrolled_restart(rt.alloc(), base.bytes(), live, request)
-        }
-        _ => None,
+        Loaded::Restart(request, base) => uncontrolled_restart(alloc, base.bytes(), live, request),
+        _ => Ok(None),
     }
 }

@@ -1,8 +1,10 @@
 //! What was read of files. Nothing but a read makes these values: what is carried out on them is
 //! carried out on what the files had.
-ghost use Rattle.std.specs.Prelude.{◌≡◌, IfOk};
+ghost use Rattle.std.specs.Prelude.{◌≡◌, ◌↔◌, IfOk, IsTrue, option_map, unwrap_or, []};
+ghost use Rattle.rc_launch.specs.Logs.{IsCutBy};
 
 use crate::fault::OpenFault;
+use crate::fronts::is_of;
 use rc_streams::{run_file, whole_file};
 use std::io;
 
@@ -109,10 +111,81 @@ impl<'a> LogText<'a> {
         }
     }
 
+    /// The path of the file of its session.
+    pub fn path(&self) -> &'a str
+        ensures { result ≡ self.now.path }
+    {
+        self.path
+    }
+
     /// Its bytes.
     pub fn bytes(&self) -> &[u8]
         ensures { result.now ≡ self.now.bytes.items }
     {
         &self.bytes
+    }
+}
+
+/// The two files of a session: the text that stood in its own, if there is one, and its run log,
+/// which was read before it.
+#[derive(Drop)]
+pub struct ReadFiles<'a> {
+    found: Option<Vec<u8>>,
+    logged: LogText<'a>,
+}
+
+impl<'a> ReadFiles<'a> {
+    /// Reads the file whose log was read.
+    pub(crate) fn read(
+        rt: &HostRuntime,
+        logged: LogText<'a>,
+    ) -> Result<ReadFiles<'a>, OpenFault<'a>>
+        ensures { IfOk result (λ read. read.logged ≡ logged.entry) }
+    {
+        let path = logged.path();
+        match LiveText::read(rt, Some(path)).into_found() {
+            Ok(found) => Ok(ReadFiles { found, logged }),
+            Err(error) => {
+                drop(logged);
+                Err(OpenFault::File(path, error))
+            }
+        }
+    }
+
+    /// The path of the file.
+    pub fn path(&self) -> &'a str
+        ensures { result ≡ self.now.logged.path }
+    {
+        self.logged.path()
+    }
+
+    /// The text that stood there. An empty one, where there was none.
+    pub fn text(&self) -> &[u8]
+        ensures { result.now
+            ≡ unwrap_or (option_map (λ bytes. bytes.items) self.now.found) [] }
+    {
+        match &self.found {
+            Some(bytes) => bytes,
+            None => &[],
+        }
+    }
+
+    /// The bytes of the log.
+    pub fn log(&self) -> &[u8]
+        ensures { result.now ≡ self.now.logged.bytes.items }
+    {
+        self.logged.bytes()
+    }
+
+    /// Whether the log is that of a command on the text that stood there: it begins with that, and
+    /// has more.
+    pub fn is_cut(&self) -> bool
+        ensures { IsTrue result ↔ IsCutBy (option_map (λ bytes. bytes.items) self.now.found)
+            self.now.logged.bytes.items }
+    {
+        match &self.found {
+            Some(text) => is_of(text, self.logged.bytes()),
+            None => false,
+        }
     }
 }

@@ -1,5 +1,5 @@
 //! The lock of the file of a session, once it was asked for.
-ghost use Rattle.std.specs.Prelude.{◌≡◌, IfOk};
+ghost use Rattle.std.specs.Prelude.{◌≡◌, ◌↔◌, IfOk, IsSome, IsTrue};
 
 use rc_streams::live_lock::{LiveLock, LockFault};
 
@@ -23,8 +23,17 @@ impl<'a> TriedLock<'a> {
         })
     }
 
+    /// The path of the file.
+    pub fn path(&self) -> &'a str
+        ensures { result ≡ self.now.path }
+    {
+        self.path
+    }
+
     /// Whether it is held.
-    pub fn is_held(&self) -> bool {
+    pub fn is_held(&self) -> bool
+        ensures { IsTrue result ↔ IsSome self.now.lock }
+    {
         self.lock.is_some()
     }
 }

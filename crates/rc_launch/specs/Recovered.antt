@@ -1,0 +1,92 @@
+-- What came of a run log beside the file of a session that is locked.
+use Rattle.std.specs.Prelude.{◌≡◌, ◌⊎◌, ◌++◌, ℕ, List, [], Option, None, Some, codes, option_map}
+use Rattle.std.specs.Prelude.{unwrap_or}
+use Rattle.std.specs.Borrow.{Bor}
+use Rattle.rc_files.specs.Files.{Files}
+use Rattle.rc_update.specs.Conversions.{conversions_of}
+use Rattle.rc_cli.specs.Begun.{BeginsUpdate}
+use Rattle.rc_launch.specs.Logs.{IsCutBy}
+use Rattle.rc_launch.specs.Recovering.{IsNoBase, Leaves, LeavesNothing, LeavesUnfit}
+use Rattle.rc_launch.specs.Works.{base_of, bytes_in, other_of}
+use Rattle.rc_launch.specs.declared.held_files.HeldFiles.{HeldFiles}
+use Rattle.rc_launch.specs.declared.loading.Loaded.{Loaded}
+use Rattle.rc_launch.specs.declared.loading.Loaded.TheVariants as loaded
+use Rattle.rc_launch.specs.declared.recovered.Came.{Came}
+use Rattle.rc_launch.specs.declared.recovered.Came.TheVariants.{Entered, NoDatabase, Nothing}
+use Rattle.rc_launch.specs.declared.recovered.Came.TheVariants.{Stale}
+use Rattle.rc_launch.specs.declared.recovered.Recovery.{Recovery}
+use Rattle.rc_launch.specs.declared.recovered.Recovery.TheVariants as recovery
+use Rattle.rc_launch.specs.declared.texts.ReadFiles.{ReadFiles}
+
+-- the text that stood in the file, if there was one
+abbrev pub found_in : ReadFiles → Option (List ℕ)
+found_in read = option_map (λ bytes. bytes.items) read.found
+
+-- the bytes of both files, as they were read
+abbrev pub files_read : ReadFiles → Files
+files_read read =
+    record { file = unwrap_or (found_in read) []; log = read.logged.bytes.items }
+
+-- and what they hold since
+abbrev pub files_held : HeldFiles → Files
+files_held held = record { file = held.file.items; log = held.log.items }
+
+-- the log that was read is that of a command on the text that stood in the file
+abbrev pub IsCut : ReadFiles → Type 0
+IsCut read = IsCutBy (found_in read) read.logged.bytes.items
+
+-- what comes of a log by the text of one database
+abbrev pub ComesBy : (base : List ℕ) → (old new : Files) → Came → Type 0
+ComesBy base old new Stale = ⊥
+ComesBy base old new (Entered report) = Leaves base old new report.items
+ComesBy base old new Nothing = LeavesNothing base old new
+ComesBy base old new NoDatabase = IsNoBase base × (new ≡ old)
+
+-- what comes of it by the first of two databases that it fits; without any nothing does
+abbrev pub Comes : (base other : Option (List ℕ)) → (old new : Files) → Came → Type 0
+Comes None other old new came = ⊥
+Comes (Some base) None old new came = ComesBy base old new came
+Comes (Some base) (Some other) old new came = ComesBy base old new came
+    ⊎ (LeavesUnfit base old old × ComesBy other old new came)
+
+-- what comes of it by the databases of a command
+abbrev pub ComesFor : Loaded → (old new : Files) → Came → Type 0
+ComesFor loaded old new came = Comes (option_map bytes_in (base_of loaded))
+    (option_map bytes_in (other_of loaded)) old new came
+
+-- a log that is not empty was dealt with: it is removed where it is of another text, and else
+-- recovered by the databases of the command
+abbrev pub IsMade : Loaded → ReadFiles → HeldFiles → Came → Type 0
+IsMade loaded read held Stale = (IsCut read → ⊥)
+    × (files_held held ≡ record { file = (files_read read).file; log = [] })
+IsMade loaded read held other =
+    IsCut read × ComesFor loaded (files_read read) (files_held held) other
+
+-- the run log beside this file was read, and dealt with where it is not empty
+abbrev pub IsRecovered : Loaded → (path : Bor (List ℕ)) → Recovery → Type 0
+IsRecovered loaded path (recovery.Bare log) = (log.path ≡ path) × (log.bytes.items ≡ [])
+IsRecovered loaded path (recovery.Made read held came) =
+    (read.logged.path ≡ path) × IsMade loaded read held came
+
+-- the report of what was entered
+abbrev pub report_of : Recovery → Option (List ℕ)
+report_of (recovery.Bare log) = None
+report_of (recovery.Made read held (Entered report)) = Some report.items
+report_of (recovery.Made read held other) = None
+
+-- what was entered has lowered something
+abbrev pub HasLowered : Came → Type 0
+HasLowered (Entered report) = (rest : List ℕ) × (report.items ≡ codes "lowered " ++ rest)
+HasLowered other = ⊥
+
+-- the log that was read is that of the first step of the update that is asked for
+abbrev pub IsFirstStep : Loaded → ReadFiles → Type 0
+IsFirstStep (loaded.Update request old new) read = BeginsUpdate (bytes_in old) (bytes_in new)
+    (conversions_of request.conversions.items) (files_read read).file (files_read read).log
+IsFirstStep other read = ⊥
+
+-- the command goes on with an update that was cut short in its first step, which had lowered
+-- something: where it had not, the last entry of the session is that of an earlier command
+abbrev pub GoesOn : Loaded → Recovery → Type 0
+GoesOn loaded (recovery.Bare log) = ⊥
+GoesOn loaded (recovery.Made read held came) = IsFirstStep loaded read × HasLowered came
