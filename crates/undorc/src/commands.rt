@@ -6,13 +6,14 @@ ghost use Rattle.rc_launch.specs.Works.{IsEventless, IsEventlessWork};
 use crate::history;
 use crate::notes::{tell_left, tell_note, tell_opening};
 use crate::updates::tell_why;
+use crate::workers::tell_workers;
+use cmd_session::{Devices, Outputs, Store, TextKeeper};
 use log::{error, info, warn};
 use rc_args::Once;
-use rc_frontend::{Answers, Seen, Told, ToldErrors, Typed, behind_session};
+use rc_frontend::{Answers, Seen, Told, ToldErrors, Typed, behind_session, tell_failure};
 use rc_launch::{LiveStore, Opened, Work, open, serve, uncontrolled_in};
 use rc_names::NoMem;
 use rc_script::SessionLine;
-use cmd_session::{Devices, Outputs, Store, TextKeeper};
 use rc_streams::Noted;
 use rc_streams::ending::REFUSED;
 use rc_streams::messages::{HINT, MESSAGE, Messages};
@@ -43,10 +44,10 @@ fn carry_out_on<'x, T: Threads + Wait + Sync>(
 ) -> u8
     requires { IsEventless opened.now.loaded }
 {
-    if let Some(name) = uncontrolled_in(rt, opened) {
+    if let Some(status) = refused_as_uncontrolled(rt, opened) {
         close(rt, opened);
         drop(store);
-        return refuse_uncontrolled(rt, name);
+        return status;
     }
     let base = opened.base().map(|base| base.bytes());
     let mut typed = Typed::new(rt, reads(opened));
@@ -69,26 +70,34 @@ fn carry_out_on<'x, T: Threads + Wait + Sync>(
         let live = opened.live();
         behind_session(rt, live.path(), live.found(), store.error(), &seen, &told);
     }
+    tell_workers(rt, threads, &told);
     tell_why(rt, opened, status);
     tell_left(rt, opened);
     status
 }
 
-/// Refuses a command that would move a longrun where none is named that controls them, and returns
-/// the status.
-fn refuse_uncontrolled(rt: &HostRuntime, name: String) -> u8 {
-    error!(Messages(rt); target: MESSAGE, "NoController {name}");
-    info!(Messages(rt); target: HINT, "{name} is a longrun; -c names its controller");
-    drop(name);
-    REFUSED
+/// The status of a command that would move a longrun where none is named that controls them: it is
+/// refused, before anything has moved.
+fn refused_as_uncontrolled(rt: &HostRuntime, opened: &Opened<'_>) -> Option<u8> {
+    match uncontrolled_in(rt, opened) {
+        Ok(Some(name)) => {
+            error!(Messages(rt); target: MESSAGE, "NoController {name}");
+            info!(Messages(rt); target: HINT, "{name} is a longrun; -c names its controller");
+            drop(name);
+            Some(REFUSED)
+        }
+        Ok(None) => None,
+        Err(_) => Some(tell_failure(rt, "Memory")),
+    }
 }
 
 /// Removes the files of the runs of a command that is over, and tells where the log could not be
 /// written. The lock is still held.
 fn close(rt: &HostRuntime, opened: &Opened<'_>) {
-    if let (Some(path), Some(run_files)) = (opened.session().live, opened.run_files()) {
-        run_files.remove(rt, path);
-        if run_files.log.has_failed() {
+    if let Some(runs) = opened.runs() {
+        runs.remove(rt);
+        if runs.files().log.has_failed() {
+            let path = runs.path();
             warn!(Messages(rt); target: MESSAGE,
                 "{path}.run can't be written: what could not be logged was not started");
         }

@@ -11,6 +11,7 @@ mod own_name;
 mod stopping;
 mod updates;
 mod usual;
+mod workers;
 
 use crate::commands::carry_out;
 use crate::own_name::words;
@@ -29,7 +30,7 @@ use std::process::ExitCode;
 /// A wrong command line.
 const WRONG_LINE: u8 = 100;
 /// What `undorc version` prints.
-const VERSION: &str = "undorc 0.1.0";
+const VERSION: &str = "undorc 0.2.0";
 
 fn main(rt: HostRuntime) -> ExitCode {
     let status = match (words(&rt), usual_at(&rt)) {

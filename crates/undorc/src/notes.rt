@@ -14,9 +14,11 @@ pub fn tell_note(rt: &HostRuntime, note: &Note<'_>) {
         Note::UnderWay => info!(Messages(rt); target: MESSAGE, "a command is under way"),
         Note::Cut => info!(Messages(rt); target: MESSAGE,
             "a command was cut short: the next one enters what it has moved"),
-        Note::Recovered(report) => {
-            info!(Messages(rt); target: MESSAGE, "Recovered");
-            tell_report(rt, report);
+        Note::Locked(recovery) => {
+            if let Some(report) = recovery.report() {
+                info!(Messages(rt); target: MESSAGE, "Recovered");
+                tell_report(rt, report);
+            }
         }
     }
 }
@@ -24,13 +26,9 @@ pub fn tell_note(rt: &HostRuntime, note: &Note<'_>) {
 /// Tells what was moved of which the session does not know, since its file could not be written or
 /// memory ran out.
 pub fn tell_left(rt: &HostRuntime, opened: &Opened<'_>) {
-    if let (Some(path), Some(run_files), Some(base)) = (
-        opened.session().live,
-        opened.run_files(),
-        opened.base(),
-    ) {
-        if run_files.log.has_run() {
-            tell_log(rt, path, base);
+    if let (Some(runs), Some(base)) = (opened.runs(), opened.base()) {
+        if runs.files().log.has_run() {
+            tell_log(rt, runs.path(), base);
         }
     }
 }
