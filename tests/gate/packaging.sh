@@ -57,6 +57,11 @@ find copied -type f ! -path copied/usr/bin/undorc ! -path 'copied/usr/share/*' >
 : > out.wanted
 told 'nothing is installed beside the prefix'
 
+# No file of contrib is a copy of another one.
+find "$top/contrib" -type f -exec sha256sum {} + | sort | awk '$1 == last { print $2 } { last = $1 }' > out
+: > out.wanted
+told 'contrib has no copies'
+
 # The scripts call the program by its full path, whatever PATH has.
 (
     UNDORC_SUPERVISOR=s6

@@ -10,7 +10,7 @@ set -eu
 tests=$(realpath "$(dirname "$0")")
 program=$(realpath "$1")
 shift
-[ $# -gt 0 ] || set -- set contained first container update pipes force other flaky
+[ $# -gt 0 ] || set -- set contained first container update renames pipes force other flaky
 cases=$*
 limit=480
 

@@ -45,6 +45,12 @@ script "sleep 1
     sleep 0.5
     kill -KILL \$(pgrep -f '^/bin/sh ./run.own' | head -n 1)
     sleep 1.5"
+# The same while nothing else holds the fifos open.
+is 'a reader goes on after all its writers have ended' yes "$(script "
+    $(move down undorc-pipes); sleep 0.5; was=\$($(daemon_text mid))
+    $(move down p1); $(move down p2); sleep 1
+    $(move up p1); $(move up p2); $(move up undorc-pipes); sleep 0.5
+    [ \$($(daemon_text mid)) = \$was ] && echo yes")"
 step 'the producers go down' 'lowered p1 p2
 ok
 status 0' 'machine/manage change -d p1 p2'

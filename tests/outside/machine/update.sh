@@ -35,6 +35,12 @@ ok
 there
 status 0' 'undorc compile -o new services; machine/manage update -B new -n
     test -e new && echo there'
+step 'so it does where options are written in one word' 'lower a gone needy
+ok
+raise a needy
+ok
+there
+status 0' 'machine/manage update -qnBnew; test -e new && echo there'
 step 'update' 'lowered a gone needy
 ok
 raised a needy
@@ -88,7 +94,7 @@ is 'nothing of it is left' no "$(script 'ls -d /run/service/b/log 2> /dev/null |
 step 'an update after one that was killed' 'status 0' 'rm -r services/below
     undorc compile -o new services
     undorc update -b db -B new -l /run/undorc/live -c machine/controller > /run/x
-    machine/manage update -B new | grep -v ^refused; test ! -e new'
+    machine/manage update -Bnew | grep -v ^refused; test ! -e new'
 is 'it finishes the first one' a,b,needy,new, \
     "$(script 'undorc db -b db list longruns | tr "\n" ,')"
 stop
@@ -149,6 +155,22 @@ status 2' "$(called_off "$signal" 'test -e /run/low')"
 ok
 status 0' 'machine/manage change default'
 done
+
+# An update is killed in its second half, while a longrun that it renames is on its way up. The
+# session is one of NEW then.
+script 'mv services/slow services/slower; sed -i s/slow/slower/ services/default/contents
+    echo "slow -> slower restart" > renames; undorc compile -o new services
+    UNDORC_SETTLE=10 machine/manage update -B new -f renames > /run/said 2> /run/y & manager=$!
+    timeout 30 sh -c "until UNDORC_DB=/etc/undorc/new machine/says | grep -q \"^slower up\" &&
+        test ! -L /run/undorc/services/slower; do sleep 0.05; done"
+    kill -KILL $manager $(pgrep -x undorc); wait $manager' 2> "$room/said"
+is 'a shutdown after it goes by NEW' 'lowered low net
+ok
+status 0' "$(does machine/shutdown)"
+is 'it brings down what was on its way, too' 'low down
+slower down' "$(script 'UNDORC_DB=/etc/undorc/new machine/says')"
+is 'it says so' 'shutdown: an update to /etc/undorc/new was cut short
+shutdown: slower is up, and is not live' "$(told | grep ^shutdown:)"
 stop
 
 # An update that can't lower everything.
