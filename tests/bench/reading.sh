@@ -1,8 +1,9 @@
 #!/bin/sh
 # tests/bench/reading.sh [PROGRAM [OLD]]: instructions of `undorc db check` as multiples of those of a plain
 # program (plain_reader.rs) on the same texts; of `plan` of all services as multiples of those of
-# `ninja -n`, where ninja is there; and instructions and peak memory of reading a live text of 4,096
-# services with 1,024 states. With OLD, a program of an older commit, its figures stand in front.
+# `ninja -n`, where ninja is there; instructions and peak memory of reading a live text of 4,096
+# services with 1,024 states; and instructions of a one-shot change on the file of a session with 1,024
+# states of 256 services. With OLD, a program of an older commit, its figures stand in front.
 # valgrind counts, so other work disturbs nothing but time.
 set -eu
 here=$(realpath "$(dirname "$0")")
@@ -39,7 +40,7 @@ if command -v ninja > out; then
     echo
 fi
 
-# live SERVICES STATES: at each state all services but one are up, and the current one is the last
+# live SERVICES STATES: at each state all services but one are up, another one than before; the current one is the last
 live() {
     awk -v many="$1" -v states="$2" 'BEGIN {
         printf "undorc-live 2\nservices"
@@ -47,7 +48,7 @@ live() {
         printf "\nbound %d\n", states
         for (k = 1; k <= states; k++) {
             printf k == states ? "now" : "up"
-            for (i = 0; i < many; i++) if (i != k) printf " s%d", 1000 + i
+            for (i = 0; i < many; i++) if (i != k % many) printf " s%d", 1000 + i
             printf "\n"
         }
         printf "end\n"
@@ -66,4 +67,18 @@ for each in $old $program; do
     reading "$each" | awk -v of="${each#"$top"/}" '{
         printf "| %s | %.0f million | %.0f MB |\n", of, $1 / 1000000, $2 / 1024
     }'
+done
+echo
+
+# changing PROGRAM: the instructions of a change of one service, from the text to the text that replaces it
+changing() {
+    cp kept changed
+    count nothing "$1" change -x none -b base -l changed -d s1001
+}
+
+graph text none 256 > base
+live 256 1024 > kept
+titles 'A change of one, with 1,024 states of 256 services' 'Instructions'
+for each in $old $program; do
+    changing "$each" | awk -v of="${each#"$top"/}" '{ printf "| %s | %.0f million |\n", of, $1 / 1000000 }'
 done

@@ -123,7 +123,7 @@ wait "$second"
 cat "$room/second"
 if [ -f crates/undorc/out/undorc ]; then
     within 600 tests/outside/supervised.sh crates/undorc/out/undorc
-    within 600 tests/outside/machine.sh crates/undorc/out/undorc
+    within 900 tests/outside/machine.sh crates/undorc/out/undorc
 fi
 
 # What it cost: the clock, and of the processors user and system time of the last line of `times`.

@@ -224,7 +224,7 @@ UNDORC_DB=''
 expect 0 'live\nok\n' '' "$sample" live -l live
 unset UNDORC_DB
 
-expect 0 'undorc 0.1.0\n' '' '' version
+expect 0 'undorc 0.2.0\n' '' '' version
 
 # From here on `net` and `root` are up.
 "$program" change net -b base -x none -l live > out

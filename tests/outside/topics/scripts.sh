@@ -337,9 +337,16 @@ wants '' 'undorc: NoThread\n'
 echo 0 > status
 # shellcheck disable=SC3045 # dash has it, and bash
 (ulimit -v 200000 && exec "$program" session -b made -w 64 < in > out 2> err) || echo $? > status
+# The line after the fault says how many there is room for.
+number=$(sed -n 's/^  \([0-9]*\) workers can be started now (-w \1)$/\1/p' err)
 judge 'a session that lacks room for 64 workers' 111
 holds 'without its workers it starts nothing' test ! -e started
+holds 'it says how many there is room for' test "${number:-0}" -gt 1 -a "${number:-64}" -lt 64
 wants "raised $all\nok\nlive $all\nok\n" ''
+echo 0 > status
+# shellcheck disable=SC3045 # dash has it, and bash
+(ulimit -v 200000 && exec "$program" session -b made -w "${number:-64}" < in > out 2> err) || echo $? > status
+judge 'and has room for so many' 0
 echo 0 > status
 # shellcheck disable=SC3045 # dash has it, and bash
 (ulimit -v 200000 && exec "$program" session -b made -w 1 < in > out 2> err) || echo $? > status

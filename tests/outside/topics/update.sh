@@ -234,8 +234,27 @@ fresh
 update 0 'lowered b c\nok\nraised b c\nok\n' '' -c ./controller
 moved 'down b\ndown c\nup b, by the controller\nup c\n'
 kept ' a b c d e' "$back"
+cp live live.longrun
+# Where no controller is named neither step is begun: the longrun would come up by the new database, or go down by the
+# old one. -n and -x do without.
 fresh
-update 2 'lowered b c\nok\nfailed b\nblocked c\nok\n' ''
+update 1 '' 'undorc: NoController b\n'
+moved ''
+same 'what an update leaves that would raise a longrun' live.old live
+update 1 '' 'undorc: NoController b\n' -R a
+update 0 'lower b c\nok\nraise b c\nok\n' '' -n -q
+update 0 'lowered b c\nok\nraised b c\nok\n' '' -x none
+cp live.longrun live
+expect 1 '' 'undorc: NoController b\n' '' update -b new -B old -l live
+same 'what an update leaves that would lower a longrun' live.longrun live
+expect 0 'ok\nok\n' '' '' update -b new -B new -l live
+cp live.longrun live
+expect 1 '' 'undorc: NoController b\n' '' update -b new -B new -l live -R b
+# A conversion that is refused comes first.
+expect 1 '' 'undorc: Unknown z\n' '' update -b new -B old -l live -R z
+# One that fails on its way up.
+fresh
+update 2 'lowered b c\nok\nfailed b\nblocked c\nok\n' '' -c false
 moved 'down b\ndown c\n'
 kept ' a d e' "$all"
 
