@@ -77,8 +77,12 @@ fn carry_out_on<'x, T: Threads + Wait + Sync>(
 }
 
 /// The status of a command that would move a longrun where none is named that controls them: it is
-/// refused, before anything has moved.
+/// refused, before anything has moved. For a command that only shows something, nothing is read for
+/// that.
 fn refused_as_uncontrolled(rt: &HostRuntime, opened: &Opened<'_>) -> Option<u8> {
+    if !opened.moves() {
+        return None;
+    }
     match uncontrolled_in(rt, opened) {
         Ok(Some(name)) => {
             error!(Messages(rt); target: MESSAGE, "NoController {name}");
