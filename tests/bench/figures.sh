@@ -34,7 +34,8 @@ END
 # Reading texts: instructions
 
 `db check` compared with a plain Rust program that parses and checks the same text
-(`tests/bench/plain_reader.rs`), and `live` on the file of a session with 1,024 states of 4,096 services.
+(`tests/bench/plain_reader.rs`); `live` on the file of a session with 1,024 states of 4,096 services; and
+a one-shot change, from the text of 1,024 states of 256 services to the one that replaces it.
 END
             ;;
         plans) cat <<'END'
