@@ -17,21 +17,22 @@ use rc_cmdline::is_on;
 use rc_update::Conversion;
 use std::alloc::{AllocError, Global};
 
-/// What the words ask of `update`.
+/// The arguments of `update`.
 #[derive(Drop)]
 pub struct UpdateRequest<'a> {
-    /// What is asked of the sessions that it makes: its file is that of what is live.
+    /// The options of its two sessions, and the file that says what is live.
     pub session: SessionRequest<'a>,
     /// The file of the new database.
     pub new: &'a str,
     /// The file of the renames, if there is one.
     pub renames: Option<&'a str>,
-    /// What goes on by another name, or is restarted anyway: of the words, what is restarted.
+    /// Services that go on under another name, or restart though unchanged. Argument parsing sets
+    /// those of `-R` only.
     pub conversions: Vec<Conversion<'a>>,
-    /// Whether it is shown, and not done.
+    /// Whether the plans are printed and nothing moves.
     pub dry: bool,
-    /// Whether it was begun before, and was cut short in its first step, which is the last entry of
-    /// its session. No words say so.
+    /// Whether an earlier run of this update was killed in its first step, which is the last entry
+    /// of the session. No option says so.
     pub again: bool,
 }
 

@@ -305,7 +305,7 @@ fn begun_longrun(alloc: Global, session: &mut Session, step: &Step) -> Result<Op
     found
 }
 
-// Nothing is moved by what is refused. Of a refusal for want of memory nothing can be said.
+// A refused command moves nothing. If memory ran out, it is not known what would move.
 fn none_by(refusal: Refusal) -> Result<Option<String>, NoMem>
     ensures { IfOk result (λ found. (found ≡ None) × (refusal ≢ Refusal.Memory)) }
 {

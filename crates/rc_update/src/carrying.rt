@@ -20,13 +20,13 @@ use std::alloc::Global;
 /// What an update does.
 #[derive(Drop)]
 pub struct Update {
-    /// The names of what is live and is altered, gone or to be restarted, to be lowered by the old
-    /// database with all that needs them.
+    /// Names to lower by the old database, with their dependents: live services that are altered,
+    /// gone or to be restarted.
     pub lower: Vec<String>,
     /// What stays live, as services of the new database.
     pub kept: Set,
-    /// The names under which what is live goes on, to be raised by the new database with all that
-    /// they need.
+    /// Names to raise by the new database, with their dependencies: those under which live services
+    /// go on.
     pub raise: Vec<String>,
 }
 

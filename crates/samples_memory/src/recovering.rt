@@ -27,7 +27,7 @@ pub enum Recovering {
 /// up.
 const LOGGED: &[u8] = b"-t 5 -u change site\ntake 1 root\ndone 1 root ok\n";
 
-/// The report of what is entered.
+/// The report that the recovery returns.
 const REPORT: &[u8] = b"raised root\nuntried db log net web\nok\n";
 
 /// Recovers a change of a session, by its database, and tells whether the files are as they were.
