@@ -1,5 +1,5 @@
 -- The files of a command are opened.
-use Rattle.std.specs.Prelude.{◌≡◌, ◌↔◌, ℕ, Bool, List, Option, None, true}
+use Rattle.std.specs.Prelude.{◌≡◌, ◌↔◌, ℕ, Bool, List, Option, None, Some, true}
 use Rattle.std.specs.Prelude.{if◌then◌else◌}
 use Rattle.std.specs.Borrow.{Bor}
 use Rattle.rc_args.specs.Making.{making_ask_of}
@@ -27,6 +27,11 @@ pub record IsOpenedAs (loaded : Loaded) (moves : Bool) (store : LiveStore)
 abbrev pub LocksFor : (moves : Bool) → (live : Option (Bor (List ℕ))) → LiveStore → Type 0
 LocksFor moves live store = locked_path store ≡ (if moves then live else None)
 
+-- it is this file, if one is named, whose text is replaced
+abbrev pub Replaces : (live : Option (Bor (List ℕ))) → LiveStore → Type 0
+Replaces None store = Unit {0}
+Replaces (Some path) store = store.path ≡ path
+
 -- the files of a command are opened
 pub record AreOpened (asked : Work) (opened : Opened) (store : LiveStore) : Type 0 where
   pub read : Loaded
@@ -35,3 +40,4 @@ pub record AreOpened (asked : Work) (opened : Opened) (store : LiveStore) : Type
   pub opened_as : IsOpenedAs read moves store opened
   pub moving : (moves ≡ true) ↔ MovesBy asked
   pub locked : LocksFor moves (session_in read).live store
+  pub replaced : Replaces (session_in read).live store

@@ -48,7 +48,9 @@ impl<'a> HeldFiles<'a> {
     }
 
     /// Why the call that failed did.
-    pub fn into_error(self) -> Option<io::Error> {
+    pub fn into_error(self) -> Option<io::Error>
+        ensures { result ≡ self.entry.error }
+    {
         self.error
     }
 }

@@ -1,10 +1,11 @@
 //! The file in which a session is kept, and its lock. Its text is replaced whole. A text that
 //! stands there already is not written again: that it could be is found out by a file beside it.
-ghost use Rattle.std.specs.Prelude.{◌≡◌, ◌↔◌, None, option_map, if◌then◌else◌, IfOk, IfSome};
+ghost use Rattle.std.specs.Prelude.{◌≡◌, ◌↔◌, None, Some, option_map, if◌then◌else◌, IfOk, IfSome};
 ghost use Rattle.std.specs.Prelude.{IsSome, IsTrue};
 ghost use Rattle.rc_args.specs.Making.{making_ask_of};
 ghost use Rattle.rc_launch.specs.Beside.{AreRunsOf, IsLocked};
-ghost use Rattle.rc_launch.specs.Opening.{LocksFor};
+ghost use Rattle.rc_launch.specs.Logs.{text_in};
+ghost use Rattle.rc_launch.specs.Opening.{LocksFor, Replaces};
 
 use crate::runs::Runs;
 use crate::texts::LiveText;
@@ -39,14 +40,19 @@ impl<'a> LiveStore<'a> {
         waits: bool,
     ) -> Result<LiveStore<'a>, LockFault>
         ensures locked { IfOk result (LocksFor moves live.entry) }
+        ensures path { IfOk result (Replaces live.entry) }
     {
+        let path = match live {
+            Some(path) => path,
+            None => "",
+        };
         let lock = match locked(live, moves) {
             Some(path) => Some(TriedLock::take(rt, path, waits)?),
             None => None,
         };
         Ok(LiveStore {
             rt,
-            path: live.unwrap_or(""),
+            path,
             lock,
             text: None,
             error: None,
@@ -54,7 +60,13 @@ impl<'a> LiveStore<'a> {
     }
 
     /// The same store, in whose file this text was found since it was locked.
-    pub fn with_text(self, text: &'a LiveText<'_>) -> LiveStore<'a> {
+    pub fn with_text(self, text: &'a LiveText<'_>) -> LiveStore<'a>
+        ensures path { result.path ≡ self.entry.path }
+        ensures lock { result.lock ≡ self.entry.lock }
+        ensures error { result.error ≡ self.entry.error }
+        ensures text { option_map (λ bytes. bytes.now) result.text
+            ≡ text_in (λ bytes. bytes.items) text.now.found }
+    {
         let LiveStore {
             rt,
             path,
@@ -72,12 +84,16 @@ impl<'a> LiveStore<'a> {
     }
 
     /// Why the file could not be written, if it could not.
-    pub fn error(&self) -> Option<&io::Error> {
+    pub fn error(&self) -> Option<&io::Error>
+        ensures { option_map (λ error. error.now) result ≡ self.now.error }
+    {
         self.error.as_ref()
     }
 
     /// Whether this text stands there already.
-    fn has(&self, bytes: &[u8]) -> bool {
+    fn has(&self, bytes: &[u8]) -> bool
+        ensures { IsTrue result ↔ (option_map (λ text. text.now) self.now.text ≡ Some bytes.now) }
+    {
         match self.text {
             Some(text) => text == bytes,
             None => false,

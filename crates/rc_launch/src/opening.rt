@@ -1,7 +1,7 @@
 //! The files of a command are opened: its databases are read, the file of its session is locked,
 //! what a command that was cut short has moved is entered, and what stands in the file is read.
 ghost use Rattle.std.specs.Prelude.{IfOk};
-ghost use Rattle.rc_launch.specs.Opening.{AreOpened, IsOpenedAs, LocksFor};
+ghost use Rattle.rc_launch.specs.Opening.{AreOpened, IsOpenedAs, LocksFor, Replaces};
 ghost use Rattle.rc_launch.specs.Works.{IsEventless, IsEventlessWork, session_in};
 
 use crate::fault::OpenFault;
@@ -37,7 +37,8 @@ fn open_loaded<'a>(
 ) -> Result<(Opened<'a>, LiveStore<'a>), OpenFault<'a>>
     requires eventless { IsEventless loaded }
     ensures { IfOk result (λ opened. IsOpenedAs loaded.entry moves opened.1 opened.0
-        × LocksFor moves (session_in loaded.entry).live opened.1) }
+        × LocksFor moves (session_in loaded.entry).live opened.1
+        × Replaces (session_in loaded.entry).live opened.1) }
 {
     let (live, waits) = (loaded.session().live, loaded.session().waits);
     match LiveStore::open(rt, live, moves, waits) {

@@ -1,7 +1,7 @@
 //! What was read of files. Nothing but a read makes these values: what is carried out on them is
 //! carried out on what the files had.
 ghost use Rattle.std.specs.Prelude.{◌≡◌, ◌↔◌, IfOk, IsTrue, option_map, unwrap_or, []};
-ghost use Rattle.rc_launch.specs.Logs.{IsCutBy};
+ghost use Rattle.rc_launch.specs.Logs.{IsCutBy, text_in};
 
 use crate::fault::OpenFault;
 use crate::fronts::is_of;
@@ -61,7 +61,9 @@ impl<'a> LiveText<'a> {
     }
 
     /// Its path, if one is named.
-    pub fn path(&self) -> Option<&'a str> {
+    pub fn path(&self) -> Option<&'a str>
+        ensures { result ≡ self.now.path }
+    {
         self.path
     }
 
@@ -80,7 +82,10 @@ impl<'a> LiveText<'a> {
     }
 
     /// The text that was found.
-    pub fn bytes(&self) -> Option<&[u8]> {
+    pub fn bytes(&self) -> Option<&[u8]>
+        ensures { option_map (λ bytes. bytes.now) result
+            ≡ text_in (λ bytes. bytes.items) self.now.found }
+    {
         match &self.found {
             Ok(Some(bytes)) => Some(bytes),
             _ => None,

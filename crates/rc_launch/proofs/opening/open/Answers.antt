@@ -9,4 +9,5 @@ returns-in-Ok c = IfOk-weaker c.open_loaded.result _ _ (λ opened o. record {
   opened_as = o.0;
   moving = c.moves-moves.ensures;
   locked = o.1;
+  replaced = o.2;
 }) c.open_loaded.ensures
