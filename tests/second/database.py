@@ -1,20 +1,17 @@
 """Databases and their text."""
 
-from forms import Lines, Refusal, ascends, is_name, is_number, is_text
+from fields import EACH, LINES, WORDS
+from forms import Lines, Refusal, ascends, is_name, is_number
 
 GREATEST = 4096
 
 
 class Service:
-    def __init__(self, kind, essential, up_limit, down_limit):
+    def __init__(self, kind, **said):
         self.kind = kind
-        self.essential = essential
-        self.up_limit = up_limit
-        self.down_limit = down_limit
         self.needs = []
-        self.producer = None
-        self.up = None
-        self.down = None
+        for field in EACH:
+            setattr(self, field.name, said.get(field.name, field.missing))
 
 
 class Database:
@@ -25,12 +22,6 @@ class Database:
         self.bundles = {}
 
 
-def limit(lines, word):
-    if not is_number(word) or int(word) > 4294967295:
-        raise lines.bad()
-    return int(word)
-
-
 def read_count(lines, word):
     words = lines.next_line()
     if len(words) != 2 or words[0] != word or not is_number(words[1]):
@@ -39,24 +30,6 @@ def read_count(lines, word):
         raise Refusal("TooMany")
     lines.passed()
     return int(words[1])
-
-
-def read_script(lines, word):
-    """A text with the line before it; nothing where that has a dash."""
-    words = lines.next_line()
-    if word == b"down" and words == [b"down", b"-"]:
-        lines.passed()
-        return None
-    if len(words) != 2 or words[0] != word or not is_number(words[1]):
-        raise lines.bad()
-    length = int(words[1])
-    text = lines.text[lines.end : lines.end + length]
-    behind = lines.text[lines.end + length : lines.end + length + 1]
-    if length > 65536 or behind != b"\n" or not is_text(text) or b"\0" in text:
-        raise lines.bad()
-    lines.end += length + 1
-    lines.passed()
-    return text
 
 
 def read_names(lines, word, least=0):
@@ -70,27 +43,16 @@ def read_names(lines, word, least=0):
 
 def read_service(lines):
     words = lines.next_line()
-    if len(words) != 6 or words[0] != b"service" or not is_name(words[1]):
+    if len(words) != 3 + len(WORDS) or words[0] != b"service" or not is_name(words[1]):
         raise lines.bad()
-    if words[2] not in (b"oneshot", b"longrun") or words[3] not in (b"essential", b"plain"):
+    if words[2] not in LINES:
         raise lines.bad()
-    service = Service(
-        words[2], words[3] == b"essential", limit(lines, words[4]), limit(lines, words[5])
-    )
+    said = {field.name: field.of_word(lines, word) for field, word in zip(WORDS, words[3:])}
     lines.passed()
-    service.needs = read_names(lines, b"needs")
-    if service.kind == b"oneshot":
-        service.up = read_script(lines, b"up")
-        service.down = read_script(lines, b"down")
-    else:
-        target = lines.next_line()
-        if len(target) != 2 or target[0] != b"producer":
-            raise lines.bad()
-        if target[1] != b"-":
-            if not is_name(target[1]):
-                raise lines.bad()
-            service.producer = target[1]
-        lines.passed()
+    needs = read_names(lines, b"needs")
+    said.update((field.name, field.of_line(lines)) for field in LINES[words[2]])
+    service = Service(words[2], **said)
+    service.needs = needs
     return words[1], service
 
 
@@ -150,15 +112,10 @@ def text_of(base):
     out = [b"undorc-db 1\n", b"services %d\n" % len(base.services)]
     for name in sorted(base.services):
         s = base.services[name]
-        flag = b"essential" if s.essential else b"plain"
-        head = [b"service", name, s.kind, flag, b"%d" % s.up_limit, b"%d" % s.down_limit]
+        head = [b"service", name, s.kind] + [field.word(getattr(s, field.name)) for field in WORDS]
         out.append(b" ".join(head) + b"\n")
         out.append(b" ".join([b"needs"] + sorted(s.needs)) + b"\n")
-        if s.kind == b"longrun":
-            out.append(b"producer " + (s.producer or b"-") + b"\n")
-            continue
-        out.append(b"up %d\n" % len(s.up) + s.up + b"\n")
-        out.append(b"down -\n" if s.down is None else b"down %d\n" % len(s.down) + s.down + b"\n")
+        out += [field.line(getattr(s, field.name)) for field in LINES[s.kind]]
     out.append(b"bundles %d\n" % len(base.bundles))
     for name in sorted(base.bundles):
         out.append(b" ".join([b"bundle", name] + sorted(base.bundles[name])) + b"\n")

@@ -6,6 +6,7 @@ import plans
 from case import LOOKS, Case
 from commands import do, read_command, task_of
 from database import Database, Service, text_of
+from fields import EACH, FILES, LINES, SCRIPTS, WORDS
 from forms import Refusal
 from live import OLD_BOUND, Line, State
 from live import text_of as live_text_of
@@ -16,8 +17,6 @@ NAMES = [b"a", b"b", b"c", b"d", b"e", b"f", b"g", b"h", b"A", b"0", b"~", b"ab"
 NAMES += [b"a,b", b".x", b"_-", b"s6rc", "é".encode(), "日本".encode(), LONG + b"1", LONG + b"2"]
 NAMES += [b'a"b', b"a\\b", b"a&b;"]
 NO_NAMES = [b"", b"-", b"#a", b"s6rc-a", b"a/b", b"\x7f", b"\xff", b"\x01", LONG + b"12", b"a\rb"]
-TEXTS = [b"", b"\n", b"true\n", b"end\n", b"x y", b"bundles 0\nend\n", "é\n\n".encode(), b"\r\t"]
-LIMITS = [0, 0, 0, 1, 500, 4294967295]
 NUMBERS = [b"0", b"1", b"2", b"3", b"10", b"01", b"-1", b"+1", b"4096", b"4097", b"4294967295"]
 NUMBERS += [b"4294967296", b"65536", b"65537", b"9" * 10, b"1" * 11, b"9" * 40, b"", b"1a"]
 BYTES = [b" ", b"\n", b"\t", b"0", b"1", b"a", b"-", b"#", b"/", b"\0", b"\x7f", b"\xc3", b"\xff", b"\r"]
@@ -45,13 +44,10 @@ class Drawer:
         dense = random.choice([2, 3, 5, 10])
         for place, name in enumerate(names):
             kind = b"longrun" if random.random() < 0.6 else b"oneshot"
-            service = Service(kind, self.one_in(4), self.pick(LIMITS), self.pick(LIMITS))
+            service = Service(kind, **{f.name: self.pick(f.values) for f in WORDS + LINES[kind]})
             service.needs = sorted(self.some(names[:place], dense))
             longruns = [n for n in service.needs if base.services[n].kind == b"longrun"]
-            if kind == b"oneshot":
-                service.up = self.pick(TEXTS)
-                service.down = self.pick(TEXTS + [None, None])
-            elif longruns and self.one_in(2):
+            if kind == b"longrun" and longruns and self.one_in(2):
                 service.producer = self.pick(longruns)
             base.services[name] = service
         for name in random.sample(NAMES, random.choice([0, 0, 1, 2, 3])):
@@ -254,23 +250,17 @@ class Drawer:
         return self.ended(lines)
 
     def entry(self, name, kind, others):
-        newline = self.pick([b"", b"\n"])
-        folder = {b"type": kind + newline}
+        folder = {b"type": kind + self.pick([b"", b"\n"])}
         near = lambda odds: self.some(others, odds) + self.some([self.pick(NAMES)], 30)
         if kind == b"bundle":
             lists = b"contents"
         else:
             lists = b"dependencies"
-            if kind == b"oneshot":
-                folder[b"up"] = self.pick(TEXTS)
-                if self.one_in(2):
-                    folder[b"down"] = self.pick(TEXTS)
-            else:
+            if kind == b"longrun":
                 folder[b"run"] = b"\0"
-            for word in self.some([b"timeout-up", b"timeout-down"], 4):
-                folder[word] = self.pick([b"0", b"5", b"0000000042", b"4294967295"]) + newline
-            if self.one_in(4):
-                folder[b"flag-essential"] = b"x"
+            for field in FILES[kind]:
+                if self.one_in(field.rare):
+                    folder[field.file] = self.pick(field.contents)
         if self.one_in(2):
             folder[lists] = self.file_of_names(near(4))
         if self.one_in(4):
@@ -295,9 +285,8 @@ class Drawer:
         if not tree:
             return
         folder = tree[self.pick(sorted(tree))]
-        words = [b"type", b"up", b"down", b"run", b"timeout-up", b"timeout-down", b"dependencies"]
-        words += [b"producer-for", b"consumer-for", b"pipeline-name", b"contents", b"flag-essential"]
-        words += [b"dependencies.d", b"contents.d", b"readme"]
+        words = [b"type", b"run", b"dependencies", b"consumer-for", b"pipeline-name", b"contents"]
+        words += [b"dependencies.d", b"contents.d", b"readme"] + [field.file for field in EACH]
         word = self.pick(words)
         drawn = self.random.randrange(8)
         if drawn == 0:
@@ -443,7 +432,7 @@ class Drawer:
         new = Database()
         names = list(base.services) + self.random.sample(NAMES, self.pick([0, 0, 1, 2]))
         for name in dict.fromkeys(n for n in names if not self.one_in(8)):
-            service = copy.deepcopy(base.services.get(name)) or Service(b"longrun", False, 0, 0)
+            service = copy.deepcopy(base.services.get(name)) or Service(b"longrun")
             service.needs = [n for n in service.needs if n in new.services]
             if self.one_in(6):
                 service.needs = sorted(set(service.needs) ^ set(self.some(list(new.services))))
@@ -459,16 +448,14 @@ class Drawer:
 
     def alter(self, service):
         """Something else is said of a service, perhaps."""
-        drawn = self.random.randrange(4)
-        if drawn == 0:
-            service.essential = not service.essential
-        elif drawn == 1:
-            service.up_limit = self.pick(LIMITS)
-        elif drawn == 2:
-            service.down_limit = self.pick(LIMITS)
-        else:
+        if self.one_in(4):
             service.kind, service.producer = b"oneshot", None
-            service.up, service.down = self.pick(TEXTS), self.pick(TEXTS + [None])
+            for field in SCRIPTS:
+                setattr(service, field.name, self.pick(field.values))
+            return
+        field = self.pick(WORDS)
+        now = getattr(service, field.name)
+        setattr(service, field.name, self.pick([value for value in field.values if value != now]))
 
     def renames(self, base, new):
         """Some services of the new database get other names; the text that says so, mostly right."""

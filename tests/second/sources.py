@@ -1,7 +1,9 @@
 """Source directories as a tree of dictionaries (folders) and bytes (files), and what they define."""
 
 from database import GREATEST, Database, Service, reached
-from forms import Failure, Refusal, is_name, is_text
+from fields import FILES, PRODUCER
+from files import file_text, less_newline, names, names_of_file, one_name
+from forms import Refusal, is_name
 
 KINDS = (b"oneshot", b"longrun", b"bundle")
 
@@ -9,77 +11,12 @@ KINDS = (b"oneshot", b"longrun", b"bundle")
 class Entry:
     def __init__(self, kind):
         self.kind = kind
-        self.essential = False
-        self.limits = [0, 0]
-        self.texts = [None, None]
+        self.said = {}
         self.needs = []
         self.contents = []
         self.producer_for = []
         self.consumer_for = []
         self.pipeline_name = []
-
-
-def file_text(name, folder, word):
-    """The text of a file, nothing where there is none."""
-    there = folder.get(word)
-    if there is None:
-        return None
-    if isinstance(there, dict):
-        raise Failure("Io", name)
-    if len(there) > 65536:
-        raise Refusal("TooLong", name)
-    if not is_text(there) or b"\0" in there:
-        raise Refusal("NotText", name)
-    return there
-
-
-def names_of_text(name, text):
-    names = []
-    for line in (text or b"").split(b"\n"):
-        word = line.strip(b" \t")
-        if word and word[:1] != b"#":
-            if not is_name(word):
-                raise Refusal("BadName", name)
-            names.append(word)
-    return names
-
-
-def names(name, folder, word):
-    """The names of a file and of the folder beside it."""
-    some = names_of_text(name, file_text(name, folder, word))
-    beside = folder.get(word + b".d")
-    if beside is None:
-        return sorted(set(some))
-    if not isinstance(beside, dict):
-        raise Failure("Io", name)
-    for other in sorted(beside):
-        if other[:1] == b".":
-            continue
-        if not is_name(other):
-            raise Refusal("BadName", name)
-        some.append(other)
-    return sorted(set(some))
-
-
-def one_name(name, folder, word):
-    some = names_of_text(name, file_text(name, folder, word))
-    if len(some) > 1:
-        raise Refusal("BadName", name)
-    return some
-
-
-def less_newline(text):
-    return text[:-1] if text[-1:] == b"\n" else text
-
-
-def limit(name, folder, word):
-    text = file_text(name, folder, word)
-    if text is None:
-        return 0
-    text = less_newline(text)
-    if not text.isdigit() or len(text) > 10 or int(text) > 4294967295:
-        raise Refusal("BadTimeout", name)
-    return int(text)
 
 
 def read_entry(name, folder):
@@ -92,18 +29,13 @@ def read_entry(name, folder):
     if entry.kind == b"bundle":
         entry.contents = names(name, folder, b"contents")
         return entry
-    if entry.kind == b"oneshot":
-        entry.texts = [file_text(name, folder, b"up"), None]
-        if entry.texts[0] is None:
-            raise Refusal("NoUp", name)
-        entry.texts[1] = file_text(name, folder, b"down")
-    elif b"run" not in folder:
+    if entry.kind == b"longrun" and b"run" not in folder:
         raise Refusal("NoRun", name)
-    entry.limits = [limit(name, folder, b"timeout-up"), limit(name, folder, b"timeout-down")]
-    entry.essential = b"flag-essential" in folder
+    entry.said = {field.name: field.of_file(name, folder) for field in FILES[entry.kind]}
     entry.needs = names(name, folder, b"dependencies")
-    entry.producer_for = one_name(name, folder, b"producer-for")
-    entry.consumer_for = sorted(set(names_of_text(name, file_text(name, folder, b"consumer-for"))))
+    entry.said[PRODUCER.name] = fed = PRODUCER.of_file(name, folder)
+    entry.producer_for = [] if fed is None else [fed]
+    entry.consumer_for = sorted(set(names_of_file(name, folder, b"consumer-for")))
     entry.pipeline_name = one_name(name, folder, b"pipeline-name")
     return entry
 
@@ -192,9 +124,7 @@ def members(entries, pipelines, name):
 
 def service_of(entries, pipelines, name):
     entry = entries[name]
-    service = Service(entry.kind, entry.essential, *entry.limits)
-    service.up, service.down = entry.texts
-    service.producer = entry.producer_for[0] if entry.producer_for else None
+    service = Service(entry.kind, **entry.said)
     needs = set(entry.producer_for)
     service.needs = sorted(needs.union(*(members(entries, pipelines, n) for n in entry.needs)))
     return service
