@@ -26,7 +26,7 @@ model:
 crates:
 	@tests/gate/crates.py
 
-# The lists of the man pages that are tables of docs/FORMATS.md and docs/COMMANDS.md.
+# The lists of the man pages that are tables of docs/FORMATS.md and docs/COMMANDS.md, and the synopsis.
 pages:
 	@tests/gate/manual.py
 

@@ -1,5 +1,5 @@
 #!/usr/bin/env python3
-"""Makes the lists of the man pages that are tables of docs/FORMATS.md and docs/COMMANDS.md.
+"""Makes the lists of the man pages that are tables of docs/FORMATS.md and docs/COMMANDS.md, and the synopsis.
 
     tests/gate/manual.py            writes them (`make pages`)
     tests/gate/manual.py --check    prints how the pages differ from what would be made (status 1), and writes nothing
@@ -10,8 +10,13 @@ of its section and that of its first column; MACRO is what the words of its item
     .\\" made from docs/FORMATS.md by make pages: MACRO, COLUMN of SECTION
     .\\" end
 
+or, for the first block of a section that stands as it is, `text of SECTION`.
+
 A row is an item. Its first cell has one or more forms, as `done W NAME ok`; its other cells are the text, each of them a
 sentence or more that may begin in lower case and lack its point. A column `Of` says what the next one speaks of.
+
+The synopsis is made from the commands and arguments of crates/rc_cmdline/src/told.rt, between comments alike. The name of
+a value is that of the option's item in the page.
 """
 
 import difflib
@@ -21,6 +26,15 @@ import sys
 
 TOP = pathlib.Path(__file__).resolve().parents[2]
 MADE = re.compile(r'(\.\\" made from docs/FORMATS\.md by make pages: (\w\w), (\w+) of (.*)\n)(?:.*\n)*?(\.\\" end\n)')
+BLOCK = re.compile(r'(\.\\" made from docs/FORMATS\.md by make pages: text of (.*)\n)(?:.*\n)*?(\.\\" end\n)')
+TOLD = "crates/rc_cmdline/src/told.rt"
+SYNOPSIS = re.compile(rf'(\.\\" made from {TOLD} by make pages\n)(?:.*\n)*?(\.\\" end\n)')
+# The order of the options in the synopsis; others follow those of the names.
+ORDER = "base new restarts renames live wait force up down down-all prune all".split()
+BEHIND = "limit dry bound workers runner controller usual failing verbose output quiet".split()
+APART = ["up", "down", "down-all"]
+# Words of commands that are told otherwise.
+WORDS = {"add": [".Ar name", ".Op Ar content ..."]}
 DOCUMENTS = ("FORMATS.md", "COMMANDS.md")
 PLACE = r"[A-Z]+"
 WIDTH = 79
@@ -114,7 +128,7 @@ def items(rows, macro, macros):
     heads = rows[0]
     for cells in rows[1:]:
         forms = re.findall(r"`([^`]*)`", cells[0])
-        yield ".It " + " , ".join(form(it, macro) for it in forms)
+        yield ".It " + (" , ".join(form(it, macro) for it in forms) or cells[0])
         places = set(re.findall(rf"\b{PLACE}\b", " ".join(forms)))
         prefix = ""
         for head, cell in zip(heads[1:], cells[1:]):
@@ -129,7 +143,8 @@ def items(rows, macro, macros):
 def made(page, found):
     """A page with its lists as the tables have them. The words of one of them are set alike in all."""
     macros, lists = {}, MADE.findall(page)
-    assert len(lists) == page.count("made from docs/FORMATS.md"), "a list has no end, or is named wrongly"
+    blocks = len(BLOCK.findall(page))
+    assert len(lists) + blocks == page.count("made from docs/FORMATS.md"), "a list has no end, or is named wrongly"
     for _, macro, column, section, _ in lists:
         assert (section, column) in found, f"docs/FORMATS.md has no table of {column} in {section}"
         for row in found[section, column][1:]:
@@ -140,7 +155,59 @@ def made(page, found):
         head, macro, column, section, end = match.groups()
         return head + "".join(line + "\n" for line in items(found[section, column], macro, macros)) + end
 
-    return MADE.sub(again, page)
+    page = MADE.sub(again, page)
+    page = BLOCK.sub(lambda match: match[1] + block(match[2]) + match[3], page)
+    return SYNOPSIS.sub(lambda match: match[1] + "".join(line + "\n" for line in synopsis(page)) + match[2], page)
+
+
+def block(section):
+    """The first block of a section."""
+    text = (TOP / "docs" / "FORMATS.md").read_text().split(f"\n## {section}\n", 1)[1].split("\n## ", 1)[0]
+    return re.search(r"^```\n((?:.*\n)*?)```$", text, re.M)[1]
+
+
+def arguments():
+    """The commands in order, each with its arguments: the form of one, and its texts."""
+    told = (TOP / TOLD).read_text()
+    text = r'"(?:[^"\\]|\\.)*"'
+    one = rf"(Flag|Valued|Needed|Repeated|Words)\(((?:[^()\"']|{text}|'.')*)\)|\b([A-Z_]+)\b|\b(Query)\b"
+
+    def parsed(source):
+        for form, inner, name, query in re.findall(one, source):
+            yield from named[name] if name else [(form or query, re.findall(r"'(.)'|\"([^\"]*)\"|(\d+)", inner))]
+
+    named = {}
+    for name, many, value in re.findall(r"^const (\w+): (\[?)ToldArg(?:; \d+\])? = ((?:.|\n)*?);$", told, re.M):
+        named[name] = list(parsed(value))
+    for name, args in re.findall(r'name: "([a-z]+)",\n(?:.|\n)*?args: &(\w+|\[\w*\]),', told):
+        yield name, [(form, ["".join(it) for it in texts]) for form, texts in parsed(args)]
+
+
+def synopsis(page):
+    """The lines of the synopsis."""
+    values = dict(re.findall(r"^\.It Fl (\w) Ar (\S+)$", page, re.M))
+
+    def place_of(arg):
+        name = arg[1][0]
+        return ORDER.index(name) if name in ORDER else len(ORDER) + 1 + (BEHIND.index(name) if name in BEHIND else -1)
+
+    for command, args in arguments():
+        yield from (".Nm undorc", f".Cm {command}")
+        options = [arg for arg in args if arg[0] not in ("Query", "Words")]
+        letters = {texts[0]: texts[1] for _, texts in options}
+        for form, texts in sorted(options, key=place_of):
+            said = f"Fl {texts[1]}" + ("" if form == "Flag" else f" Ar {values[texts[1]]}")
+            if all(name in letters for name in APART) and texts[0] in APART:
+                if texts[0] != APART[0]:
+                    continue
+                said = " | ".join(f"Fl {letters[name]}" for name in APART)
+            yield f".{said}" if form == "Needed" else f".Op {said}"
+        for form, texts in args:
+            if form == "Query":
+                yield ".Ar query"
+            elif form == "Words":
+                least, name = int(texts[0]), f"Ar {texts[1].lower()} ..."
+                yield from WORDS.get(command, [f".{name}" if least else f".Op {name}"])
 
 
 def main():

@@ -143,7 +143,7 @@ for page in "$pages"/*.[15]; do
                 cells[1] = substr(cells[1], RSTART + RLENGTH)
             }
         }' named "$top/docs/FORMATS.md" "$top/docs/COMMANDS.md" |
-        sed -e 's/\[[^]]*\] *//g' -e 's/^refused //' -e 's/^undorc //' -e 's/ .*//' > wanted
+        sed -e 's/\[[^]]*\] *//g' -e 's/^refused //' -e 's/^undorc //' -e 's/ .*//' -e 's/^-//' > wanted
     grep '^\.' "$page" | tr -s ' ' '\n' > found
     [ ! -s wanted ] || holds "$(basename "$page"), of the tables of the documents,"
 done
