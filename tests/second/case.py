@@ -74,6 +74,6 @@ class Case:
     def asked(self):
         """The options and names of a change."""
         ask = self.ask
-        words = [b"-" + ask.way.encode()] + [b"-p"] * ask.prune + [b"-a"] * ask.everything
+        words = [b"-" + letter.encode() for letter in ask.letters()]
         words += [b"-t", b"%d" % ask.limit] if ask.limit else []
         return words + ask.words

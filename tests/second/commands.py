@@ -42,11 +42,11 @@ def read_options(words):
             words = words[2:]
             continue
         some = set(words[0][1:].decode())
-        if not some or not some <= set("udDpa"):
+        if not some or not some <= set(Ask.LETTERS):
             raise Refusal("BadLine")
         letters |= some
         words = words[1:]
-    if len(letters & set("udD")) > 1:
+    if len(letters & set(Ask.WAYS)) > 1:
         raise Refusal("BadLine")
     return letters, limits, words
 
@@ -76,10 +76,7 @@ def read_command(line, looks):
     if words[0] in (b"undo", b"redo") and len(words) == 1 and len(limits) < 2 and not letters:
         return Command(words[0], limit=limit)
     if words[0] == b"change" or (words[0] == b"dry" and looks):
-        way = "".join(letters & set("udD")) or "u"
-        return Command(
-            words[0], limit, Ask(way, "p" in letters, "a" in letters, limit, words[1:])
-        )
+        return Command(words[0], limit, Ask(letters, limit, words[1:]))
     raise Refusal("BadLine")
 
 

@@ -126,7 +126,8 @@ class Drawer:
         return [self.word(base) for _ in range(self.random.randrange(most + 1))]
 
     def options(self, odd):
-        words = self.some([b"-" + self.pick([b"u", b"u", b"d", b"D", b"p", b"a", b"ua", b"up", b"da"])], 2)
+        letters = list("u" + plans.Ask.LETTERS) + ["ua", "up", "da"]
+        words = self.some([b"-" + self.pick(letters).encode()], 2)
         if odd and self.one_in(8):
             words.append(self.pick([b"-", b"-f", b"-t5", b"-du", b"-uu", b"--", b"-ut", b"-t"]))
         if self.one_in(8):
@@ -380,7 +381,8 @@ class Drawer:
     def ask(self, base):
         fit = lambda w: w and w[:1] != b"-" and b"\0" not in w and w != b"\xff"
         words = [w for w in self.words(base, 4) if fit(w)]
-        return plans.Ask(self.pick("uudD"), self.one_in(4), self.one_in(5), 0, words)
+        letters = [self.pick("u" + plans.Ask.WAYS)] + self.some(plans.Ask.FLAGS, 4)
+        return plans.Ask(letters, 0, words)
 
     def replay(self):
         case = Case("replay")
@@ -423,8 +425,8 @@ class Drawer:
         case.dry = self.one_in(3)
         case.failing = self.failing(base)
         if case.word == "change":
-            ask = self.ask(base)
-            case.ask = plans.Ask(ask.way, ask.prune, ask.everything, self.pick([0, 0, 7]), ask.words)
+            case.ask = self.ask(base)
+            case.ask.limit = self.pick([0, 0, 7])
         return case
 
     def next_base(self, base):

@@ -33,14 +33,23 @@ def selected(base, bundles, words):
 
 
 class Ask:
-    """What a change asks: a way (u, d or D), pruning, all that is up, a limit, and words."""
+    """What a change asks: a way (u, d or D), flags, a limit, and words."""
 
-    def __init__(self, way, prune, everything, limit, words):
-        self.way = way
-        self.prune = prune
-        self.everything = everything
+    WAYS = "udD"
+    # Each flag by its letter; an option of a change is one more of these, and what `plan` makes of it.
+    FLAGS = {"p": "prune", "a": "everything"}
+    LETTERS = WAYS + "".join(FLAGS)
+
+    def __init__(self, letters, limit, words):
+        """By letters, which have one way at most."""
+        self.way = "".join(set(letters) & set(self.WAYS)) or "u"
+        for letter, name in self.FLAGS.items():
+            setattr(self, name, letter in letters)
         self.limit = limit
         self.words = words
+
+    def letters(self):
+        return [self.way] + [letter for letter, name in self.FLAGS.items() if getattr(self, name)]
 
 
 class Plan:

@@ -88,9 +88,9 @@ def update(case, answer):
         first_missing(base, [one for one in case.failing if one[0] == side])
     line = live.begun(old, case.kept, None)
     up = set(line.now().live)
-    down = Ask("D", False, False, 0, sorted(s for s in up if way.difference(s)))
+    down = Ask("D", 0, sorted(s for s in up if way.difference(s)))
     on = lambda names: {way.names[s] for s in names if s in way.names}
-    again = Ask("u", False, False, 0, sorted(on(up)))
+    again = Ask("u", 0, sorted(on(up)))
     if case.dry:
         first = plan(old, {}, up, down)
         second = plan(new, {}, on(up - first.lower), again)
