@@ -1,7 +1,7 @@
 -- How a line is kept, for its view alone: the current state, and two stacks of entries.
 -- No public contract speaks of it.
 use Rattle.std.specs.Prelude.{◌≡◌, ◌≢◌, ◌⊎◌, ◌+◌, ◌≤◌, ◌<◌, ℕ, suc, Contains, slice_get, drop, List}
-use Rattle.std.specs.Prelude.{[], ◌∷◌, reverse, Bool, true, false, Option, Some, None, length}
+use Rattle.std.specs.Prelude.{[], ◌∷◌, ◌++◌, reverse, Bool, true, false, Option, Some, None, length}
 use Rattle.std.specs.Prelude.{slice_set, vec_len, vec_capacity}
 use Rattle.std.specs.Global.{Vec}
 use Rattle.std.specs.Ordering.{nat_cmp}
@@ -130,14 +130,14 @@ pub record AreRooms (bound : ℕ) (room : Room) : Type 0 where
   pub raised : HasRoom bound room.raised
   pub lowered : HasRoom bound room.lowered
 
--- how many ids there is room for in the entry that leads to where a move ends
+-- how many ids there is room for in the entry between the current state and where a move ends
 abbrev pub near_room : Aim → ℕ → ℕ
 near_room Change bound = bound
 near_room Edit bound = 0
 near_room Undo bound = bound
 near_room Redo bound = bound
 
--- how many there is room for in the entry that leads on from there
+-- how many there is room for in the entry between there and where an undo or a redo aims
 abbrev pub far_room : Aim → ℕ → ℕ
 far_room Change bound = 0
 far_room Edit bound = 0
@@ -191,3 +191,46 @@ pub record Turns (ahead : Bool) (up down : List ℕ) (edit : List Alteration)
   pub falls : Lists (IsGained to.live from.live) down
   pub is_table : IsTable from.table
   pub leads : LeadsTo ahead edit from.table to.table
+
+-- the aim of a move to a neighbour, ahead or back
+abbrev pub aim_of : Bool → Aim
+aim_of true = Redo
+aim_of false = Undo
+
+-- an entry leads from one set of live services to another
+pub record LeadsLive (from to : List Bool) (e : Entry) : Type 0 where
+  pub raised : Lists (IsGained from to) e.raised
+  pub lowered : Lists (IsGained to from) e.lowered
+
+-- passed ahead or back, it does
+abbrev pub PassesLive : Bool → List Bool → List Bool → Entry → Type 0
+PassesLive true from to e = LeadsLive from to e
+PassesLive false from to e = LeadsLive to from e
+
+-- the entry from here to a target is split where these services are live: the near
+-- part lies between here and there, and the far one has the edit
+pub record Splits (ahead : Bool) (here target live : List Bool) (edit : List Alteration)
+    (near far : Entry) : Type 0 where
+  pub near_live : PassesLive ahead here live near
+  pub near_edit : near.edit ≡ []
+  pub far_live : PassesLive ahead live target far
+  pub far_edit : far.edit ≡ edit
+
+-- how a move over an entry ends, which lay on the rest of its stack, if these services are
+-- live then: as it aimed, where it began, or anywhere else
+abbrev pub EndsStep : Bool → List Entry → Entry → List Entry → State → State → List Bool →
+    List Entry → List Entry → State → Type 0
+EndsStep ahead rest e to here target live new_from new_to new =
+    ((target.live ≡ live) × (new_from ≡ rest) × (new_to ≡ to ++ e ∷ []) × (new ≡ target))
+    ⊎ ((target.live ≢ live) × (here.live ≡ live) × (new_from ≡ rest ++ e ∷ []) × (new_to ≡ to)
+    × (new ≡ here))
+    ⊎ ((near : Entry) × (far : Entry) × (target.live ≢ live) × (here.live ≢ live)
+    × (new_from ≡ rest ++ far ∷ []) × (new_to ≡ to ++ near ∷ []) × (new ≡ state live here.table)
+    × Splits ahead here.live target.live live e.edit near far)
+
+-- the same of the nearest entry of a stack
+abbrev pub EndsNearest : Bool → List Entry → List Entry → State → State → List Bool →
+    List Entry → List Entry → State → Type 0
+EndsNearest ahead from to here target live new_from new_to new =
+    (rest : List Entry) × (e : Entry) × (from ≡ rest ++ e ∷ [])
+    × EndsStep ahead rest e to here target live new_from new_to new

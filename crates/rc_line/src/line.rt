@@ -5,8 +5,8 @@ ghost use Rattle.rc_model.specs.Database.{Bundles, IsTable};
 ghost use Rattle.rc_model.specs.Plan.{IsPlanTo};
 ghost use Rattle.rc_model.specs.Line.{IsEdit, states, cursor, IsLine, IsNext, IsEntryAt};
 ghost use Rattle.rc_model.specs.Line.{MovesByChange, MovesByEdit, MovesByUndo, MovesByRedo};
-ghost use Rattle.rc_line.specs.Opening.{table_or, target_of, IsOpened, Closes, IsEditFrom, AimsAt};
-ghost use Rattle.rc_line.specs.Keeping.{state, AreRooms, IsStepAt};
+ghost use Rattle.rc_line.specs.Opening.{target_of, IsOpened, Closes, IsEditFrom};
+ghost use Rattle.rc_line.specs.Keeping.{state, IsStepAt};
 
 use crate::aim::Aim;
 use crate::entry::Entry;
@@ -14,6 +14,7 @@ use crate::fault::LineFault;
 use crate::opening::Open;
 use crate::room::Room;
 use crate::stack::{fit, make_room, nearest, spend_all, take_last};
+use crate::step::end_step;
 use crate::tables::{led, replace};
 use rc_bundle::Edit;
 use rc_db::Table;
@@ -277,18 +278,10 @@ impl Line {
         ensures moved { Closes opening.aim self.old.line live.now self.new.line }
         ensures closed { self.new.is_open ≡ false }
     {
-        let Open {
-            aim,
-            live: target,
-            table,
-            near,
-            far,
-            no_edit,
-        } = opening;
-        match aim {
-            Aim::Change | Aim::Edit => self.close_change(near, no_edit, live),
-            Aim::Undo => self.close_undo(target, table, near, far, no_edit, live),
-            Aim::Redo => self.close_redo(target, table, near, far, no_edit, live),
+        match opening.aim {
+            Aim::Change | Aim::Edit => self.close_change(opening, live),
+            Aim::Undo => self.close_undo(opening, live),
+            Aim::Redo => self.close_redo(opening, live),
         }
     }
 
@@ -363,119 +356,71 @@ impl Line {
         Ok(opening)
     }
 
-    fn close_change(&mut self, room: Room, edit: Edit, live: &Set)
-        requires open { self.old.is_open ≡ true }
-        requires room { AreRooms (length live.now) room }
+    fn close_change(&mut self, opening: Open, live: &Set)
+        requires opened { IsOpened self.old opening }
+        requires aim { opening.aim ≡ Aim.Change }
         requires bound { length live.now ≡ length self.old.line.current.live }
-        requires edit { edit ≡ [] }
         ensures moved { MovesByChange self.old.line live.now self.new.line }
         ensures closed { self.new.is_open ≡ false }
     {
+        let Open {
+            aim: _,
+            live: target,
+            table,
+            near,
+            far,
+            no_edit,
+        } = opening;
+        drop((target, table, far));
         self.is_open = false;
         if self.live.same(live) {
             return;
         }
-        let entry = room.entry(&self.live, live, edit);
+        let entry = near.entry(&self.live, live, no_edit);
         spend_all(&mut self.undone);
         self.done.push_back_reserved(entry);
         fit(&mut self.done, &mut self.undone, self.bound);
         self.live.overwrite(live);
     }
 
-    fn close_undo(
-        &mut self,
-        target: Set,
-        table: Option<Table>,
-        near: Room,
-        far: Room,
-        no_edit: Edit,
-        live: &Set,
-    )
-        requires open { self.old.is_open ≡ true }
-        requires aim { AimsAt Aim.Undo self.old.line
-            (state target (table_or table self.old.line.current.table)) }
+    fn close_undo(&mut self, opening: Open, live: &Set)
+        requires opened { IsOpened self.old opening }
+        requires aim { opening.aim ≡ Aim.Undo }
         requires bound { length live.now ≡ length self.old.line.current.live }
-        requires near { AreRooms (length target) near }
-        requires far { AreRooms (length target) far }
-        requires no_edit { no_edit ≡ [] }
         ensures moved { MovesByUndo self.old.line live.now self.new.line }
         ensures closed { self.new.is_open ≡ false }
     {
         self.is_open = false;
-        let entry = take_last(&mut self.done);
-        if target.same(live) {
-            self.undone.push_back_reserved(entry);
-            self.live = target;
-            replace(&mut self.table, table);
-            drop((near, far, no_edit));
-            return;
-        }
-        if self.live.same(live) {
-            self.done.push_back_reserved(entry);
-            drop((near, far, no_edit));
-            drop((target, table));
-            return;
-        }
-        let Entry {
-            raised: _,
-            lowered: _,
-            edit,
-        } = entry;
-        self.done
-            .push_back_reserved(near.entry(&target, live, edit));
-        self.undone
-            .push_back_reserved(far.entry(live, &self.live, no_edit));
+        end_step(
+            &mut self.done,
+            &mut self.undone,
+            &mut self.live,
+            &mut self.table,
+            opening,
+            live,
+            false,
+        );
         fit(&mut self.done, &mut self.undone, self.bound);
-        self.live.overwrite(live);
-        drop((target, table));
     }
 
-    fn close_redo(
-        &mut self,
-        target: Set,
-        table: Option<Table>,
-        near: Room,
-        far: Room,
-        no_edit: Edit,
-        live: &Set,
-    )
-        requires open { self.old.is_open ≡ true }
-        requires aim { AimsAt Aim.Redo self.old.line
-            (state target (table_or table self.old.line.current.table)) }
+    fn close_redo(&mut self, opening: Open, live: &Set)
+        requires opened { IsOpened self.old opening }
+        requires aim { opening.aim ≡ Aim.Redo }
         requires bound { length live.now ≡ length self.old.line.current.live }
-        requires near { AreRooms (length target) near }
-        requires far { AreRooms (length target) far }
-        requires no_edit { no_edit ≡ [] }
         ensures moved { MovesByRedo self.old.line live.now self.new.line }
         ensures closed { self.new.is_open ≡ false }
     {
         self.is_open = false;
-        let entry = take_last(&mut self.undone);
-        if target.same(live) {
-            self.done.push_back_reserved(entry);
-            self.live = target;
-            replace(&mut self.table, table);
-            drop((near, far, no_edit));
-            return;
-        }
-        if self.live.same(live) {
-            self.undone.push_back_reserved(entry);
-            drop((near, far, no_edit));
-            drop((target, table));
-            return;
-        }
-        let Entry {
-            raised: _,
-            lowered: _,
-            edit,
-        } = entry;
-        self.done
-            .push_back_reserved(near.entry(&self.live, live, no_edit));
-        self.undone
-            .push_back_reserved(far.entry(live, &target, edit));
+        end_step(
+            &mut self.undone,
+            &mut self.done,
+            &mut self.live,
+            &mut self.table,
+            opening,
+            live,
+            true,
+        );
         fit(&mut self.done, &mut self.undone, self.bound);
-        self.live.overwrite(live);
-        drop((target, table));
     }
 
     /// Puts a state in front of a line that stands on its first one, and stands on it.
