@@ -48,6 +48,7 @@ impl Ready {
     }
 
     /// The service that is to be taken next.
+    #[inline(always)]
     pub(crate) fn first(&self) -> Option<u16>
         ensures some { IfSome result (IsLast self.now.queue.items) }
         ensures none { IfNone result (self.now.queue.items ≡ []) }
@@ -67,6 +68,7 @@ impl Ready {
     }
 
     /// Whether a service waits for any.
+    #[inline(always)]
     fn waits_for_some(&self, service: u16) -> bool
         requires { service < length self.now.waits.items }
         ensures { IsTrue result ↔ (0 < slice_index self.now.waits.items service) }
@@ -75,6 +77,7 @@ impl Ready {
     }
 
     /// The transition of a service has ended. Where it did well, the service has arrived.
+    #[inline(always)]
     pub(crate) fn note_end(
         &mut self,
         graph: &Graph,
@@ -97,6 +100,7 @@ impl Ready {
     }
 
     /// Takes what stands last out of the queue, as long as that was taken.
+    #[inline(always)]
     pub(crate) fn drop_taken(&mut self, left: &Set)
         requires { All (λ s. s < length left.now) self.old.queue.items }
         ensures { DropsTaken self.old left.now self.new }
@@ -107,6 +111,7 @@ impl Ready {
     }
 
     /// Whether what stands last in the queue was taken.
+    #[inline(always)]
     fn ends_taken(&self, left: &Set) -> bool
         requires { All (λ s. s < length left.now) self.now.queue.items }
         ensures { IsTrue result ↔ EndsTaken left.now self.now.queue.items }
@@ -118,6 +123,7 @@ impl Ready {
     }
 
     /// A service has arrived for which those of a list wait that wait for any.
+    #[inline(always)]
     fn arrive(&mut self, list: &[u16])
         requires list { IsAscending list.now }
         requires known { All (λ t. t < length self.old.waits.items) list.now }
@@ -132,6 +138,7 @@ impl Ready {
     }
 
     /// A service has gone where it was to go.
+    #[inline(always)]
     fn note_arrival(&mut self, graph: &Graph, lower: &Set, raise: &Set, service: u16)
         requires lists { AreNeeds graph.now }
         requires lower { length lower.now ≡ length graph.now }
@@ -147,6 +154,7 @@ impl Ready {
     }
 
     /// A service waits for one less. It goes into the queue if that was the last.
+    #[inline(always)]
     fn wait_for_less(&mut self, service: u16)
         requires known { service < length self.old.waits.items }
         requires missing { 0 < slice_index self.old.waits.items service }

@@ -149,6 +149,7 @@ impl Run {
 
     /// Asks for a job on behalf of a worker, from 1 to 64, that holds
     /// nothing. Of several jobs it gives any.
+    #[inline(always)]
     pub fn take(&mut self, worker: u8) -> Result<Took, NotLegal>
         ensures answer { IfOk result (λ took. IsAnswered self.old worker took self.new) }
         ensures ok { OnOk result (IsWorker worker × IsFree self.old.events worker) }
@@ -169,6 +170,7 @@ impl Run {
     }
 
     /// Tells how the transition of the service that a worker holds ended.
+    #[inline(always)]
     pub fn done(&mut self, worker: u8, service: u16, outcome: Outcome) -> Result<(), NotLegal>
         ensures ok { OnOk result (IsLegal self.old.course self.old.events
             (Event.Done worker service outcome)) }
@@ -285,6 +287,7 @@ impl Run {
     }
 
     /// Adds a legal take. Takes no memory.
+    #[inline(always)]
     fn add_take(&mut self, worker: u8, service: u16)
         requires { IsLegal self.old.course self.old.events (Event.Take worker service) }
         ensures { self.new ≡ with_event self.old (Event.Take worker service) }
@@ -295,6 +298,7 @@ impl Run {
     }
 
     /// Adds the legal end of a transition. Takes no memory.
+    #[inline(always)]
     fn add_done(&mut self, worker: u8, service: u16, outcome: Outcome)
         requires { IsLegal self.old.course self.old.events (Event.Done worker service outcome) }
         ensures { self.new ≡ with_event self.old (Event.Done worker service outcome) }
