@@ -1,7 +1,8 @@
 //! Source directories, and the entries in them.
-use crate::listed::{is_among, text_of};
+use crate::listed::text_of;
 use crate::search::Search;
 use rc_names::Kind;
+use rc_source::{Holds, files_of_kind};
 use std::alloc::Global;
 
 /// Source directories as they were named, which can be read again.
@@ -34,48 +35,25 @@ pub(crate) struct Entry<'a, 'n> {
 }
 
 impl Entry<'_, '_> {
-    /// The files that are read of it, in the order in which they are, and then its folder of names.
-    pub(crate) fn files(&self) -> &'static [&'static str] {
+    /// The files that count for it, beside `type`, in the order in which they are read.
+    pub(crate) fn files(&self) -> &'static [(&'static str, Holds)] {
         match self.kind {
-            None => &["type"],
-            Some(Kind::Bundle) => &["type", "contents", "contents.d"],
-            Some(Kind::Longrun) => {
-                &[
-                    "type",
-                    "timeout-up",
-                    "timeout-down",
-                    "dependencies",
-                    "producer-for",
-                    "consumer-for",
-                    "pipeline-name",
-                    "dependencies.d",
-                ]
-            }
-            Some(Kind::Oneshot) => {
-                &[
-                    "type",
-                    "up",
-                    "down",
-                    "timeout-up",
-                    "timeout-down",
-                    "dependencies",
-                    "producer-for",
-                    "consumer-for",
-                    "pipeline-name",
-                    "dependencies.d",
-                ]
-            }
+            Some(kind) => files_of_kind(kind),
+            None => &[],
         }
     }
-}
 
-impl Entry<'_, '_> {
     /// Whether a file of this name, or a folder, is read; or is a flag that it may have.
     pub(crate) fn reads(&self, file: &str) -> bool {
-        if matches!(file, "flag-essential") {
-            return matches!(&self.kind, Some(Kind::Oneshot | Kind::Longrun));
+        if matches!(file, "type") {
+            return true;
         }
-        is_among(self.files(), file)
+        for (name, holds) in self.files() {
+            if *name == file {
+                return *holds != Holds::Anything;
+            }
+        }
+        false
     }
 }
 

@@ -4,30 +4,51 @@ use crate::listed::{name_on, text_of};
 use crate::places::{line_at, offset_of};
 use crate::said::Said;
 use crate::search::{Found, MAX_FILE, Search};
+use rc_source::Holds;
 use std::fs::{self, Files};
 use std::io::{self, ErrorKind};
 
 /// Adds the first file of an entry that is not what it is to be, as the refusal's word says.
+/// Folders of names come last.
 pub(crate) fn add_flaw(search: &mut Search<'_>, entry: &Entry<'_, '_>, word: &str) {
-    for file in entry.files() {
-        if search.said.is_empty() {
-            let path = search.said.file_path(entry, file);
-            add_flaw_of(search, path.as_str(), file, word);
-            drop(path);
+    add_flaw_in(search, entry, "type", Holds::KindWord, word);
+    for (file, holds) in entry.files() {
+        if !matches!(*holds, Holds::Anything | Holds::Flag | Holds::NameEach) {
+            add_flaw_in(search, entry, file, *holds, word);
+        }
+    }
+    for (file, holds) in entry.files() {
+        if matches!(*holds, Holds::NameEach) {
+            add_flaw_in(search, entry, file, *holds, word);
         }
     }
 }
 
+/// Adds what is wrong with a file of an entry, if nothing was added yet and something is.
+fn add_flaw_in(
+    search: &mut Search<'_>,
+    entry: &Entry<'_, '_>,
+    file: &str,
+    holds: Holds,
+    word: &str,
+) {
+    if search.said.is_empty() {
+        let path = search.said.file_path(entry, file);
+        add_flaw_of(search, path.as_str(), holds, word);
+        drop(path);
+    }
+}
+
 /// Adds what is wrong with a file, if something is.
-fn add_flaw_of(search: &mut Search<'_>, path: &str, file: &str, word: &str) {
-    let is_folder = file.ends_with(".d");
+fn add_flaw_of(search: &mut Search<'_>, path: &str, holds: Holds, word: &str) {
+    let is_folder = holds == Holds::NameEach;
     match word {
         "Io" => add_unread(search, path, is_folder),
         "TooLong" => add_too_long(search, path),
         "BadName" if is_folder => add_bad_listing(search, path),
         _ => {
             if let Some(bytes) = search.bytes(path) {
-                add_wrong_text(&mut search.said, path, file, word, &bytes);
+                add_wrong_text(&mut search.said, path, holds, word, &bytes);
                 drop(bytes);
             }
         }
@@ -98,13 +119,15 @@ fn add_bad_listing(search: &mut Search<'_>, path: &str) {
 }
 
 /// Adds what is wrong in the bytes of a file, as the refusal's word says.
-fn add_wrong_text(said: &mut Said, path: &str, file: &str, word: &str, bytes: &[u8]) {
+fn add_wrong_text(said: &mut Said, path: &str, holds: Holds, word: &str, bytes: &[u8]) {
     let text = text_of(bytes);
     match word {
         "NotText" => add_bad_byte(said, path, bytes),
-        "BadName" if lists_names(file) => add_bad_line(said, path, text),
+        "BadName" if matches!(holds, Holds::Names | Holds::OneName) => {
+            add_bad_line(said, path, text)
+        }
         _ => {
-            if let Some(due) = due_in(file, word, text) {
+            if let Some(due) = due_in(holds, word, text) {
                 add_line(said, path, due, text);
             }
         }
@@ -113,24 +136,16 @@ fn add_wrong_text(said: &mut Said, path: &str, file: &str, word: &str, bytes: &[
 
 /// What may stand in a file of one line, where the refusal's word tells of one, and something else
 /// does.
-fn due_in(file: &str, word: &str, text: &str) -> Option<&'static str> {
+fn due_in(holds: Holds, word: &str, text: &str) -> Option<&'static str> {
     match word {
-        "BadType" if matches!(file, "type") => {
+        "BadType" if holds == Holds::KindWord => {
             Some(":1: one of oneshot, longrun and bundle may stand here")
         }
-        "BadTimeout" if file.starts_with("timeout-") && !is_limit(text) => {
+        "BadTimeout" if holds == Holds::Limit && !is_limit(text) => {
             Some(":1: milliseconds may stand here, up to 4294967295")
         }
         _ => None,
     }
-}
-
-/// Whether a file gives names, line by line.
-fn lists_names(file: &str) -> bool {
-    matches!(
-        file,
-        "dependencies" | "producer-for" | "consumer-for" | "pipeline-name" | "contents"
-    )
 }
 
 /// Adds the first line of a list that gives something else than a name.

@@ -41,16 +41,6 @@ pub(crate) fn name_at(list: &str, place: usize) -> Option<(usize, &str)> {
     None
 }
 
-/// Whether a word is one of these.
-pub(crate) fn is_among(words: &[&str], word: &str) -> bool {
-    for other in words {
-        if *other == word {
-            return true;
-        }
-    }
-    false
-}
-
 /// What stands before the first space, or all of it.
 pub fn first_word(words: &str) -> &str {
     match words.split_once(' ') {

@@ -7,23 +7,14 @@ use Rattle.rc_model.specs.declared.Kind.{Kind}
 use Rattle.rc_model.specs.declared.Kind.TheVariants.{Oneshot, Longrun, Bundle}
 use Rattle.rc_tree.specs.Tree.{Source, file_at}
 use Rattle.rc_source.specs.Texts.{without_newline, kind_of_word}
+pub use Rattle.rc_source.specs.declared.definition.Holds.{Holds}
+pub use Rattle.rc_source.specs.declared.definition.Holds.TheVariants.{KindWord, UpText, DownText}
+pub use Rattle.rc_source.specs.declared.definition.Holds.TheVariants.{Anything, Limit, Flag, Names}
+pub use Rattle.rc_source.specs.declared.definition.Holds.TheVariants.{NameEach, OneName}
 
 -- a name that begins with a dot
 abbrev pub is_hidden : List ℕ → Bool
 is_hidden name = slice_index name 0 == 46
-
--- what a file is to hold: a word for a kind, the text of a oneshot, any text, anything at all, a
--- limit, nothing, names, a name in each entry's name, one name
-pub data Holds : Type 0 where
-  KindWord : Holds
-  UpText : Holds
-  DownText : Holds
-  Anything : Holds
-  Limit : Holds
-  Flag : Holds
-  Names : Holds
-  NameEach : Holds
-  OneName : Holds
 
 -- the files of limits, in the order of their tests
 abbrev pub limit_files : List (List ℕ × Holds)

@@ -11,7 +11,7 @@ pub mod laws;
 mod read;
 mod text;
 
-pub use crate::definition::Definition;
+pub use crate::definition::{Definition, Holds, files_of_kind};
 pub use crate::fault::{Flaw, SourceFault};
 pub use crate::read::read_all;
 pub use rc_tree::{FolderTree, MemoryTree, Tree, TreeFault};
