@@ -1,4 +1,4 @@
-ghost use Rattle.std.specs.Prelude.{◌≡◌, ◌↔◌, IsTrue, IfOk, string_bytes};
+ghost use Rattle.std.specs.Prelude.{◌≡◌, ◌↔◌, IsTrue, IfOk, None, false, option_map, string_bytes};
 ghost use Rattle.rc_db.specs.Service.{script_of};
 
 use rc_graph::Way;
@@ -63,6 +63,29 @@ impl Drop for Service {
 }
 
 impl Service {
+    /// A service of a kind, of which nothing else is said.
+    pub fn plain(kind: Kind) -> Service
+        ensures { result ≡ record {
+          kind = kind;
+          essential = false;
+          limit_up = 0;
+          limit_down = 0;
+          text_up = None;
+          text_down = None;
+          producer_for = None;
+        } }
+    {
+        Service {
+            kind,
+            essential: false,
+            limit_up: 0,
+            limit_down: 0,
+            text_up: None,
+            text_down: None,
+            producer_for: None,
+        }
+    }
+
     /// Whether it is a oneshot.
     pub fn is_oneshot(&self) -> bool
         ensures { IsTrue result ↔ (self.now.kind ≡ Kind.Oneshot) }
@@ -84,6 +107,34 @@ impl Service {
         self.kind == kind
     }
 
+    /// Whether two services are described alike.
+    pub fn same(&self, other: &Service) -> bool
+        ensures { IsTrue result ↔ (self.now ≡ other.now) }
+    {
+        self.kind == other.kind
+            && self.essential == other.essential
+            && self.limit_up == other.limit_up
+            && self.limit_down == other.limit_down
+            && same_text(&self.text_up, &other.text_up)
+            && same_text(&self.text_down, &other.text_down)
+            && self.producer_for == other.producer_for
+    }
+
+    /// Another service that is described alike.
+    pub fn copy(&self, alloc: Global) -> Result<Service, NoMem>
+        ensures { IfOk result (λ made. made ≡ self.now) }
+    {
+        Ok(Service {
+            kind: self.kind,
+            essential: self.essential,
+            limit_up: self.limit_up,
+            limit_down: self.limit_down,
+            text_up: copy_of_text(alloc, &self.text_up)?,
+            text_down: copy_of_text(alloc, &self.text_down)?,
+            producer_for: self.producer_for,
+        })
+    }
+
     /// The text that is run for it on its way, empty where there is none.
     pub fn script(&self, alloc: Global, way: Way) -> Result<String, NoMem>
         ensures { IfOk result (λ text. string_bytes text ≡ script_of self.now way) }
@@ -96,5 +147,28 @@ impl Service {
             Some(text) => String::from_str(alloc, text.as_str()),
             None => Ok(String::new(alloc)),
         }
+    }
+}
+
+/// Whether two texts are one, or both are missing.
+fn same_text(one: &Option<String>, other: &Option<String>) -> bool
+    ensures { IsTrue result
+        ↔ (option_map string_bytes one.now ≡ option_map string_bytes other.now) }
+{
+    match (one, other) {
+        (Some(one), Some(other)) => one == other,
+        (None, None) => true,
+        _ => false,
+    }
+}
+
+/// A copy of a text.
+fn copy_of_text(alloc: Global, text: &Option<String>) -> Result<Option<String>, NoMem>
+    ensures { IfOk result
+        (λ made. option_map string_bytes made ≡ option_map string_bytes text.now) }
+{
+    match text {
+        Some(text) => Ok(Some(String::from_str(alloc, text.as_str())?)),
+        None => Ok(None),
     }
 }

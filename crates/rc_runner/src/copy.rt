@@ -1,6 +1,6 @@
 //! Copies of what a gate keeps of a database.
 
-ghost use Rattle.std.specs.Prelude.{◌≡◌, IfOk, map, string_bytes, option_map};
+ghost use Rattle.std.specs.Prelude.{◌≡◌, IfOk, map, string_bytes};
 
 use rc_db::{Db, NoMem, Service};
 use rc_names::Names;
@@ -12,7 +12,7 @@ pub(crate) fn services_of(alloc: Global, db: &Db) -> Result<Vec<Service>, NoMem>
 {
     let mut made = Vec::with_capacity(alloc, db.names().len() as usize)?;
     for id in 0..db.names().len() {
-        made.push(copy_of(alloc, db.service(id))?)?;
+        made.push(db.service(id).copy(alloc)?)?;
     }
     Ok(made)
 }
@@ -47,30 +47,4 @@ pub(crate) fn words_of(alloc: Global, words: &[String]) -> Result<Vec<String>, N
         made.push(String::from_str(alloc, word.as_str())?)?;
     }
     Ok(made)
-}
-
-/// A copy of what is said of a service.
-fn copy_of(alloc: Global, service: &Service) -> Result<Service, NoMem>
-    ensures { IfOk result (λ made. made ≡ service.now) }
-{
-    Ok(Service {
-        kind: service.kind,
-        essential: service.essential,
-        limit_up: service.limit_up,
-        limit_down: service.limit_down,
-        text_up: copy_of_text(alloc, &service.text_up)?,
-        text_down: copy_of_text(alloc, &service.text_down)?,
-        producer_for: service.producer_for,
-    })
-}
-
-/// A copy of a text.
-fn copy_of_text(alloc: Global, text: &Option<String>) -> Result<Option<String>, NoMem>
-    ensures { IfOk result
-        (λ made. option_map string_bytes made ≡ option_map string_bytes text.now) }
-{
-    match text {
-        Some(text) => Ok(Some(String::from_str(alloc, text.as_str())?)),
-        None => Ok(None),
-    }
 }

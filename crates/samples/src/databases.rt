@@ -112,15 +112,12 @@ fn service_of(
 ) -> Result<Service, NoMem> {
     let text_up = text_of(alloc, kind == Kind::Oneshot)?;
     let text_down = text_of(alloc, kind == Kind::Oneshot && !essential)?;
-    Ok(Service {
-        kind,
-        essential,
-        limit_up: 0,
-        limit_down: 0,
-        text_up,
-        text_down,
-        producer_for,
-    })
+    let mut service = Service::plain(kind);
+    service.essential = essential;
+    service.text_up = text_up;
+    service.text_down = text_down;
+    service.producer_for = producer_for;
+    Ok(service)
 }
 
 fn text_of(alloc: Global, has_text: bool) -> Result<Option<String>, NoMem> {

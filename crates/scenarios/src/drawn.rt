@@ -93,15 +93,18 @@ fn push_service(
 /// A longrun that feeds a longrun that it needs, where there is one, half of the time.
 fn drawn_longrun(draw: &mut Draw, needs: &[u16], longruns: &[u16]) -> Service {
     let fed = first_in(needs, longruns);
-    Service {
-        kind: Kind::Longrun,
-        essential: draw.below(3) == 0,
-        limit_up: drawn_limit(draw),
-        limit_down: drawn_limit(draw),
-        text_up: None,
-        text_down: None,
-        producer_for: if draw.below(2) == 0 { fed } else { None },
-    }
+    let mut service = drawn_service(draw, Kind::Longrun);
+    service.producer_for = if draw.below(2) == 0 { fed } else { None };
+    service
+}
+
+/// A service of a kind with a drawn flag and drawn limits.
+fn drawn_service(draw: &mut Draw, kind: Kind) -> Service {
+    let mut service = Service::plain(kind);
+    service.essential = draw.below(3) == 0;
+    service.limit_up = drawn_limit(draw);
+    service.limit_down = drawn_limit(draw);
+    service
 }
 
 /// The first of these that is one of the others.
@@ -117,15 +120,10 @@ fn first_in(ids: &[u16], others: &[u16]) -> Option<u16> {
 fn drawn_oneshot(alloc: Global, draw: &mut Draw) -> Result<Service, NoMem> {
     let up = drawn_text(alloc, draw)?;
     let down = drawn_text(alloc, draw)?;
-    Ok(Service {
-        kind: Kind::Oneshot,
-        essential: draw.below(3) == 0,
-        limit_up: drawn_limit(draw),
-        limit_down: drawn_limit(draw),
-        text_up: Some(up),
-        text_down: if draw.below(3) == 0 { None } else { Some(down) },
-        producer_for: None,
-    })
+    let mut service = drawn_service(draw, Kind::Oneshot);
+    service.text_up = Some(up);
+    service.text_down = if draw.below(3) == 0 { None } else { Some(down) };
+    Ok(service)
 }
 
 fn drawn_limit(draw: &mut Draw) -> u32 {
