@@ -136,6 +136,7 @@ pub fn asks_help(fault: &WordsFault) -> bool
 pub fn tell_words<F: Write>(faults: &mut F, fault: &WordsFault) -> u8
     ensures statuses { (result ≡ 100) ⊎ (result ≡ 111) }
     ensures wrong { result ≡ 100 → fault.now ≢ Memory }
+    ensures memory { result ≡ 111 → fault.now ≡ Memory }
     ensures failed { result ≡ 111 → AppendsFront (F.contents faults.old) (F.contents faults.new)
         (fault_line (failure_text Failure.Memory)) }
 {
