@@ -3,17 +3,17 @@
 ghost use Rattle.std.specs.Prelude.{◌≡◌, ◌≤◌, ◌↔◌, [], replicate, length, IsTrue};
 ghost use Rattle.rc_board.specs.Interleaving.{IsOfCrew, AreInterleaved};
 ghost use Rattle.rc_board.specs.Reading.{AreLeft, IsNext, ReadsOn};
-ghost use Rattle.rc_board.specs.Pads.{events_on, own};
+ghost use Rattle.rc_board.specs.Pads.{events_on, own, way_of};
 
-use crate::made::{way_of, worker_of};
+use crate::made::{is_way_of, worker_of};
 use crate::note::Note;
 use crate::pad::Pad;
 use rc_core::Event;
-use rc_graph::Way;
 use rc_set::Set;
 
 /// Whether the events are an interleaving of the pads, where this is up at first. It looks at each
 /// event once.
+#[inline(never)]
 pub(crate) fn are_interleaved(up: &Set, pads: &[Pad], events: &[Event]) -> bool
     requires { length pads.now ≤ 64 }
     ensures { IsTrue result ↔ AreInterleaved up.now pads.now events.now }
@@ -39,6 +39,7 @@ fn unread() -> [usize; 64]
 
 /// Reads one event further. False: no worker of the crew made it, or it is not next on the pad of
 /// its worker with the way of its service.
+#[inline(always)]
 fn read_on(up: &Set, pads: &[Pad], read: &mut [usize], event: Event) -> bool
     requires room { length pads.now ≤ length read.old }
     ensures room { length read.new ≡ length read.old }
@@ -48,7 +49,7 @@ fn read_on(up: &Set, pads: &[Pad], read: &mut [usize], event: Event) -> bool
         return false;
     }
     let k = worker_of(event) as usize - 1;
-    if !is_next(pads[k].notes(), read[k], event, way_of(up, event)) {
+    if !is_next(up, pads[k].notes(), read[k], event) {
         return false;
     }
     read[k] += 1;
@@ -56,17 +57,19 @@ fn read_on(up: &Set, pads: &[Pad], read: &mut [usize], event: Event) -> bool
 }
 
 /// Whether a worker up to this number made an event.
+#[inline(always)]
 fn is_of_crew(event: Event, workers: usize) -> bool
     ensures { IsTrue result ↔ IsOfCrew workers event }
 {
     1 <= worker_of(event) && worker_of(event) as usize <= workers
 }
 
-/// Whether an event is noted at this place, with this way.
-fn is_next(notes: &[Note], at: usize, event: Event, way: Option<Way>) -> bool
-    ensures { IsTrue result ↔ IsNext notes.now at event way }
+/// Whether an event is noted at this place, with the way of its service, where this is up at first.
+#[inline(always)]
+fn is_next(up: &Set, notes: &[Note], at: usize, event: Event) -> bool
+    ensures { IsTrue result ↔ IsNext notes.now at event (way_of up.now event) }
 {
-    at < notes.len() && notes[at].event == event && is_same_way(notes[at].way, way)
+    at < notes.len() && notes[at].event == event && is_way_of(up, event, notes[at].way)
 }
 
 /// Whether nothing is left on the pads after these places.
@@ -101,16 +104,4 @@ pub(crate) fn is_own(events: &[Event], notes: &[Note], worker: u8) -> bool
         }
     }
     notes.is_empty()
-}
-
-/// Whether two ways, or none, are one.
-fn is_same_way(one: Option<Way>, other: Option<Way>) -> bool
-    ensures { IsTrue result ↔ (one ≡ other) }
-{
-    match (one, other) {
-        (Some(Way::Raise), Some(Way::Raise)) => true,
-        (Some(Way::Lower), Some(Way::Lower)) => true,
-        (None, None) => true,
-        _ => false,
-    }
 }

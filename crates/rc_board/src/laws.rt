@@ -23,6 +23,7 @@ use rc_graph::{Graph, Way};
 use rc_select::Plan;
 
 /// A worker asks for a job. It writes its take down where it is given one.
+#[inline(always)]
 pub fn hold_take(board: &mut Board, pad: &mut Pad, worker: u8) -> Result<Took, NotLegal>
     requires room { 0 < pad.old.room }
     ensures answer { IfOk result (λ took. IsAnswered board.old worker took board.new) }
@@ -40,6 +41,7 @@ pub fn hold_take(board: &mut Board, pad: &mut Pad, worker: u8) -> Result<Took, N
 }
 
 /// A worker tells how its transition ended, which went this way, and writes it down.
+#[inline(always)]
 pub fn hold_done(
     board: &mut Board,
     pad: &mut Pad,
@@ -68,6 +70,7 @@ pub fn hold_done(
 }
 
 /// A worker stops the run at a moment, and writes it down.
+#[inline(always)]
 pub fn hold_stop(board: &mut Board, pad: &mut Pad, worker: u8, moment: u64) -> Result<(), NotLegal>
     requires room { 0 < pad.old.room }
     ensures made { OnOk result (board.new ≡ with_event board.old (Event.Stop worker moment)) }

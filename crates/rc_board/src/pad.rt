@@ -40,6 +40,7 @@ impl Pad {
     }
 
     /// For how many more events there is room.
+    #[inline(always)]
     pub fn room(&self) -> usize
         ensures { result ≡ self.now.room }
     {
@@ -54,6 +55,7 @@ impl Pad {
     }
 
     /// Writes one more event down. Takes no memory.
+    #[inline(always)]
     pub(crate) fn note(&mut self, event: Event, way: Option<Way>)
         requires { 0 < self.old.room }
         ensures { self.new ≡ with_note self.old event way }

@@ -21,6 +21,7 @@ pub(crate) enum Time {
 }
 
 /// The time to a deadline. Without one the gate is not asked.
+#[inline(always)]
 pub(crate) fn time_of<G: Gate>(gate: &G, deadline: Option<u64>) -> Time
     ensures { IsTimeOf (G.gives gate.now) deadline result }
 {

@@ -26,6 +26,7 @@ pub(crate) struct Made {
 }
 
 impl Taken {
+    #[inline(always)]
     pub(crate) fn new(job: Job) -> Taken
         ensures { result.job ≡ job }
     {
@@ -34,6 +35,7 @@ impl Taken {
 }
 
 /// Has the gate make the transition of a job, with nothing locked.
+#[inline(always)]
 pub(crate) fn make<G: Gate>(gate: &G, taken: Taken) -> Made
     ensures { IsAnswered (G.answers gate.now) result }
 {
@@ -51,6 +53,7 @@ pub(crate) fn make<G: Gate>(gate: &G, taken: Taken) -> Made
 impl Made {
     /// Reports to the board how a transition ended, and writes it down, where there is room and the
     /// board accepts it.
+    #[inline(always)]
     pub(crate) fn enter(self, board: &mut Board, pad: &mut Pad, worker: u8)
         ensures { EntersEnd board.old pad.old worker self board.new pad.new }
     {

@@ -7,7 +7,7 @@
 //! when nothing will be taken any more.
 
 ghost use Rattle.std.specs.Prelude.{◌≡◌, []};
-ghost use Rattle.rc_board.specs.Asking.{NotesAsked, NotesEnd};
+ghost use Rattle.rc_board.specs.Asking.{NotesAsked};
 ghost use Rattle.rc_board.specs.Pads.{AreSaid};
 
 use crate::board::{Board, Start};
@@ -17,7 +17,7 @@ use crate::glance::Glance;
 use crate::laws::{hold_look, hold_stop, hold_take};
 use crate::pad::Pad;
 use crate::time::{Time, time_of};
-use crate::transition::{Made, Taken, make};
+use crate::transition::{Taken, make};
 use crate::watch::Watch;
 use rc_core::Took;
 use std::sync::{MutexGuard, Wait};
@@ -70,8 +70,9 @@ fn await_start<R: Wait>(rt: &R, shared: &Shared) -> bool {
     guard.start() == Start::Opened
 }
 
-/// Asks for a job, and makes it, or waits until there may be one. False: nothing is left to do for
-/// this worker.
+/// Stops the run if it is time, else asks for a job, in a hold of its own, and makes the job. Where
+/// there is none yet, it waits for a change. False: nothing is left to do for this worker.
+#[inline(always)]
 fn turn<G: Gate, W: Watch, R: Wait>(
     rt: &R,
     gate: &G,
@@ -84,23 +85,42 @@ fn turn<G: Gate, W: Watch, R: Wait>(
     requires { AreSaid (G.answers gate.now) (G.gives gate.now) shared.now.deadline pad.old.notes }
     ensures { AreSaid (G.answers gate.now) (G.gives gate.now) shared.now.deadline pad.new.notes }
 {
-    match ask(rt, gate, shared, worker, pad) {
+    let time = time_of(gate, shared.deadline);
+    let mut guard = locked(rt, shared);
+    let asked = next_on(&mut guard, pad, worker, time);
+    match asked {
         Asked::Job(taken) => {
-            show(rt, shared, worker, pad, glance, watch);
+            let_go(shared, guard);
+            let Some(glance) = glance else {
+                transit(rt, gate, shared, worker, pad, taken);
+                return true;
+            };
+            look(rt, shared, worker, pad, glance, watch);
             transit(rt, gate, shared, worker, pad, taken);
-            show(rt, shared, worker, pad, glance, watch);
+            look(rt, shared, worker, pad, glance, watch);
             true
         }
-        Asked::Again => true,
+        Asked::Again => {
+            await_change(rt, shared, guard);
+            true
+        }
         Asked::Stopped => {
-            show(rt, shared, worker, pad, glance, watch);
+            drop(guard);
+            if let Some(glance) = glance {
+                look(rt, shared, worker, pad, glance, watch);
+            }
             false
         }
-        Asked::Over => false,
+        Asked::Over => {
+            drop(guard);
+            false
+        }
     }
 }
 
-/// Has the gate make the transition of a job, and reports to the board how it ended.
+/// Has the gate make the transition of a job, and reports to the board how it ended, in a hold of
+/// its own. It wakes nobody, since this worker asks for the next job after it.
+#[inline(always)]
 fn transit<G: Gate, R: Wait>(
     rt: &R,
     gate: &G,
@@ -113,47 +133,27 @@ fn transit<G: Gate, R: Wait>(
     ensures { AreSaid (G.answers gate.now) (G.gives gate.now) shared.now.deadline pad.new.notes }
 {
     let made = make(gate, taken);
-    tell(rt, shared, worker, pad, made);
-}
-
-/// Reports to the board how a transition ended, in a hold of its own. It wakes nobody, since this
-/// worker asks for the next job after it.
-#[inline(always)]
-fn tell<R: Wait>(rt: &R, shared: &Shared, worker: u8, pad: &mut Pad, made: Made)
-    ensures { NotesEnd pad.old worker made pad.new }
-{
-    let mut guard = shared.board.lock(rt);
+    let mut guard = locked(rt, shared);
     made.enter(&mut guard, pad, worker);
     drop(guard);
 }
 
-/// Stops the run if it is time, else asks for a job, in a hold of its own. Where there is no job
-/// yet, it waits for a change.
-fn ask<G: Gate, R: Wait>(rt: &R, gate: &G, shared: &Shared, worker: u8, pad: &mut Pad) -> Asked
-    requires { AreSaid (G.answers gate.now) (G.gives gate.now) shared.now.deadline pad.old.notes }
-    ensures { AreSaid (G.answers gate.now) (G.gives gate.now) shared.now.deadline pad.new.notes }
-{
-    let time = time_of(gate, shared.deadline);
-    let mut guard = shared.board.lock(rt);
-    let asked = next_on(&mut guard, pad, worker, time);
-    let_go(rt, shared, guard, &asked);
-    asked
+/// Locks the board. A board that nobody holds is locked without a call.
+#[inline(always)]
+fn locked<'s, R: Wait>(rt: &R, shared: &'s Shared) -> MutexGuard<'s, Board> {
+    match shared.board.try_lock() {
+        Some(guard) => guard,
+        None => shared.board.lock(rt),
+    }
 }
 
-/// Lets the board go: wakes one that waits, if any does, where a job was taken, and waits for a
-/// change where there is none yet.
+/// Lets the board go after a take, and wakes one that waits, if any does.
 #[inline(always)]
-fn let_go<R: Wait>(rt: &R, shared: &Shared, guard: MutexGuard<Board>, asked: &Asked) {
-    match asked {
-        Asked::Job(_) => {
-            let wakes = guard.is_awaited();
-            drop(guard);
-            if wakes {
-                shared.changed.notify_one();
-            }
-        }
-        Asked::Again => await_change(rt, shared, guard),
-        Asked::Stopped | Asked::Over => drop(guard),
+fn let_go(shared: &Shared, guard: MutexGuard<Board>) {
+    let wakes = guard.is_awaited();
+    drop(guard);
+    if wakes {
+        shared.changed.notify_one();
     }
 }
 
@@ -182,21 +182,6 @@ fn next_on(board: &mut Board, pad: &mut Pad, worker: u8, time: Time) -> Asked
             Ok(Took::Wait) => Asked::Again,
             Ok(Took::Settled) | Err(_) => Asked::Over,
         },
-    }
-}
-
-/// Shows the board to the watch, where looks are wanted.
-#[inline(always)]
-fn show<R: Wait, W: Watch>(
-    rt: &R,
-    shared: &Shared,
-    worker: u8,
-    pad: &Pad,
-    glance: &mut Option<Glance>,
-    watch: &W,
-) {
-    if let Some(glance) = glance {
-        look(rt, shared, worker, pad, glance, watch);
     }
 }
 

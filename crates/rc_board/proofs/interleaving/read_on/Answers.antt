@@ -1,6 +1,5 @@
-use Rattle.std.proofs.Common.{◌≡◌, ◌<◌, ◌+◌, ◌-◌, false, true, List, Option, length, get_or, sym}
+use Rattle.std.proofs.Common.{◌≡◌, ◌<◌, ◌+◌, ◌-◌, false, true, List, length, get_or, sym}
 use Rattle.std.proofs.Common.{subst, arith, refl}
-use Rattle.rc_graph.specs.declared.Way.{Way}
 use Rattle.rc_board.specs.declared.note.Note.{Note}
 use Rattle.rc_board.specs.Made.{worker_of}
 use Rattle.rc_board.specs.Pads.{Written, way_of}
@@ -21,14 +20,11 @@ returns-clause-step c rest =
     let is : c.worker_of.result ≡ worker_of event = c.worker_of.ensures in
     let worker : worker_of event ≡ k + 1 = omega (arith, crew.0, is) in
     let low : k < length pads = omega (arith, crew.0, crew.1, is) in
-    let there : IsNext c.notes.result.now (get_or read k 0) event c.way_of.result =
+    let there : IsNext c.notes.result.now (get_or read k 0) event (way_of up event) =
     c.if-not-is_next.ensures.0 refl in
-    let noted : IsNext pad.notes (get_or read k 0) event c.way_of.result =
-    subst (λ (ns : List Note). IsNext ns (get_or read k 0) event c.way_of.result) c.notes.ensures
-    there in
     let next : IsNext pad.notes (get_or read k 0) event (way_of up event) =
-    subst (λ (way : Option Way). IsNext pad.notes (get_or read k 0) event way) c.way_of.ensures
-    noted in
+    subst (λ (ns : List Note). IsNext ns (get_or read k 0) event (way_of up event)) c.notes.ensures
+    there in
     rest_on up pads read event rest k worker low c.requires.room
     (λ d. subst (λ (p : Written). IsNext p.notes (get_or read k 0) event (way_of up event))
     (sym (pad_at pads k pad d low c.index-pads-k.is)) next)
@@ -50,11 +46,8 @@ returns-then-not-is_next-clause-step c rest =
     let mine : IsNext pad.notes (get_or read k 0) event (way_of up event) =
     subst (λ (p : Written). IsNext p.notes (get_or read k 0) event (way_of up event))
     (sym c.index-pads-k.is) next in
-    let way : IsNext pad.notes (get_or read k 0) event c.way_of.result =
-    subst (λ (way : Option Way). IsNext pad.notes (get_or read k 0) event way)
-    (sym c.way_of.ensures) mine in
-    let there : IsNext c.notes.result.now (get_or read k 0) event c.way_of.result =
-    subst (λ (ns : List Note). IsNext ns (get_or read k 0) event c.way_of.result)
-    (sym c.notes.ensures) way in
+    let there : IsNext c.notes.result.now (get_or read k 0) event (way_of up event) =
+    subst (λ (ns : List Note). IsNext ns (get_or read k 0) event (way_of up event))
+    (sym c.notes.ensures) mine in
     let no : false ≡ true = c.if-not-is_next.ensures.1 there in
     cc)
