@@ -1,8 +1,9 @@
 //! The file in which a session is kept, and its lock. Its text is replaced whole. A text that
 //! stands there already is not written again: that it could be is found out by a file beside it.
-ghost use Rattle.std.specs.Prelude.{◌≡◌, ◌↔◌, None, Some, option_map, if◌then◌else◌, IfOk, IfSome};
-ghost use Rattle.std.specs.Prelude.{IsSome, IsTrue};
+ghost use Rattle.std.specs.Prelude.{◌≡◌, ◌≢◌, ◌↔◌, None, Some, option_map, if◌then◌else◌, IfOk};
+ghost use Rattle.std.specs.Prelude.{true, IfSome, IsSome, IsTrue, OnErr};
 ghost use Rattle.rc_args.specs.Making.{making_ask_of};
+ghost use Rattle.rc_args.specs.Programs.{StartsBy};
 ghost use Rattle.rc_launch.specs.Beside.{AreRunsOf, IsLocked};
 ghost use Rattle.rc_launch.specs.Logs.{text_in};
 ghost use Rattle.rc_launch.specs.Opening.{LocksFor, Replaces};
@@ -41,6 +42,7 @@ impl<'a> LiveStore<'a> {
     ) -> Result<LiveStore<'a>, LockFault>
         ensures locked { IfOk result (LocksFor moves live.entry) }
         ensures path { IfOk result (Replaces live.entry) }
+        ensures unasked { OnErr result ((moves ≡ true) × (live.entry ≢ None)) }
     {
         let path = match live {
             Some(path) => path,
@@ -113,7 +115,8 @@ impl<'a> LiveStore<'a> {
     /// Makes the files of the runs of a session that is to start programs: those beside the file of
     /// `-l`, where that is locked.
     pub fn runs(&self, making: &Making<'_>) -> io::Result<Option<Runs<'a>>>
-        ensures { IfOk result (AreRunsOf (making_ask_of making.now) self.now) }
+        ensures made { IfOk result (AreRunsOf (making_ask_of making.now) self.now) }
+        ensures unasked { OnErr result (StartsBy (making_ask_of making.now) × IsLocked self.now) }
     {
         match (making, &self.lock) {
             (Making::Programs(_), Some(lock)) if lock.is_held() => Ok(Some(Runs::open(

@@ -17,7 +17,7 @@ returns-in-Ok-runs c = record {
   again = again_as c.args.loaded c.in-Ok.found.0 c.in-Ok.found.1
       (again_in c.with_again.result) c.with_again.ensures.again c.in-Ok.ensures.again;
   runs = subst (λ (r : SessionRequest). AreRunsOf (making_ask_of r.making) c.args.store.now
-      c.in-Ok-runs.runs) c.session-2.ensures c.in-Ok-runs.ensures;
+      c.in-Ok-runs.runs) c.session-2.ensures c.in-Ok-runs.ensures.made;
   moving = refl;
   eventless = c.with_again.ensures.eventless c.requires.eventless;
 }
