@@ -6,7 +6,7 @@ ghost use Rattle.rc_args.specs.OnceAsked.{OnceAsk};
 ghost use Rattle.rc_args.specs.Task.{AsksEntered, AsksNamed, AsksNoTask, AsksTask, IsEventless};
 ghost use Rattle.rc_args.specs.Task.{LacksItsFile, OfOnce, TaskAsk, task_ask_of, task_by};
 ghost use Rattle.rc_args.specs.Usual.{usual_ask_of};
-ghost use Rattle.rc_args.specs.declared.asked.WordsFault.TheVariants.{Memory};
+ghost use Rattle.rc_args.specs.declared.asked.WordsFault.TheVariants.{Memory, NoFile};
 
 use crate::asked::{WordsFault, plan_in};
 use crate::compile_words::{CompileRequest, compile_in};
@@ -65,6 +65,7 @@ impl<'a> Task<'a> {
             (LacksItsFile (task_by (usual_ask_of usual.entry) (task_ask_of self.entry)) → ⊥) }
         ensures lacks { OnErr result
             (LacksItsFile (task_by (usual_ask_of usual.entry) (task_ask_of self.entry))) }
+        ensures fault { IfErr result (λ fault. fault ≡ NoFile) }
     {
         Ok(match self {
             Task::Compile(request) => Task::Compile(request),
