@@ -2,8 +2,6 @@
 
 -- What the words ask, by the matches that `clap` makes of them.
 mod TaskLemmas
--- What matches ask of a plan, by the mode that their flags give.
-mod AskedLemmas
 -- What the words ask of `db`, by the matches that `clap` makes of them.
 mod DbAskedLemmas
 -- What the words ask of `session`, by the matches that `clap` makes of them.

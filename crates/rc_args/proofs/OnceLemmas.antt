@@ -14,6 +14,7 @@ use Rattle.rc_cmdline.specs.Words.{is_on, words_in}
 use Rattle.rc_args.specs.Asked.{ask_in, mode_of}
 use Rattle.rc_args.specs.Limits.{IsRunLimitIn}
 use Rattle.rc_args.specs.OnceAsked.{Adds, AsksWhat, OnceSaying, Said, WantsDryRedo, WantsDryUndo}
+use Rattle.rc_args.specs.OnceAsked.{once_command}
 use Rattle.rc_args.proofs.SessionWordsLemmas.{found_as, found_back}
 use Rattle.rc_args.proofs.TaskLemmas.{apart}
 
@@ -100,62 +101,20 @@ limit_none name m given add delete live bundles journal is none WantsDryRedo ask
 pub adds_asks : (rows : List Row) (words : List Text) (force : Bool) (what : OnceSaying)
     → words ≡ words_in rows → force ≡ is_on (codes "force") rows → Adds words force what
     → AsksWhat (codes "add") rows what
-adds_asks rows words force (Said SaysNothing) is flag adds = absurd adds
-adds_asks rows words force (Said SaysWrong) is flag adds = absurd adds
-adds_asks rows words force (Said (SaysStep (Change ask events))) is flag adds = absurd adds
-adds_asks rows words force (Said (SaysStep (Undo limit events))) is flag adds = absurd adds
-adds_asks rows words force (Said (SaysStep (Redo limit events))) is flag adds = absurd adds
 adds_asks rows words force (Said (SaysStep (Add name contents forced))) is flag adds =
     (refl, (sym is ∙ adds.0, adds.1, adds.2 ∙ flag))
-adds_asks rows words force (Said (SaysStep (Delete names forced))) is flag adds = absurd adds
-adds_asks rows words force (Said (SaysDry ask)) is flag adds = absurd adds
-adds_asks rows words force (Said SaysLive) is flag adds = absurd adds
-adds_asks rows words force (Said SaysBundles) is flag adds = absurd adds
-adds_asks rows words force (Said SaysJournal) is flag adds = absurd adds
-adds_asks rows words force WantsDryUndo is flag adds = absurd adds
-adds_asks rows words force WantsDryRedo is flag adds = absurd adds
+adds_asks rows words force other is flag adds = absurd adds
 
 pub asks_adds : (rows : List Row) (words : List Text) (force : Bool) (what : OnceSaying)
     → words ≡ words_in rows → force ≡ is_on (codes "force") rows
     → AsksWhat (codes "add") rows what → Adds words force what
-asks_adds rows words force (Said SaysNothing) is flag asks = asks.1
-asks_adds rows words force (Said SaysWrong) is flag asks = asks.1
-asks_adds rows words force (Said (SaysStep (Change ask events))) is flag asks =
-    absurd (apart (codes "add") (codes "change") refl asks.0)
-asks_adds rows words force (Said (SaysStep (Undo limit events))) is flag asks =
-    absurd (apart (codes "add") (codes "undo") refl asks.0)
-asks_adds rows words force (Said (SaysStep (Redo limit events))) is flag asks =
-    absurd (apart (codes "add") (codes "redo") refl asks.0)
 asks_adds rows words force (Said (SaysStep (Add name contents forced))) is flag asks =
     (is ∙ asks.1.0, asks.1.1, asks.1.2 ∙ sym flag)
-asks_adds rows words force (Said (SaysStep (Delete names forced))) is flag asks =
-    absurd (apart (codes "add") (codes "delete") refl asks.0)
-asks_adds rows words force (Said (SaysDry ask)) is flag asks =
-    absurd (apart (codes "add") (codes "change") refl asks.0)
-asks_adds rows words force (Said SaysLive) is flag asks =
-    absurd (apart (codes "add") (codes "live") refl asks.0)
-asks_adds rows words force (Said SaysBundles) is flag asks =
-    absurd (apart (codes "add") (codes "bundles") refl asks.0)
-asks_adds rows words force (Said SaysJournal) is flag asks =
-    absurd (apart (codes "add") (codes "journal") refl asks.0)
-asks_adds rows words force WantsDryUndo is flag asks =
-    absurd (apart (codes "add") (codes "undo") refl asks.0)
-asks_adds rows words force WantsDryRedo is flag asks =
-    absurd (apart (codes "add") (codes "redo") refl asks.0)
+asks_adds rows words force other is flag asks =
+    absurd (apart (codes "add") (once_command other) refl asks.0)
 
 -- without a word nothing is added
 pub adds_nothing : (force : Bool) (what : OnceSaying) → Adds [] force what → ⊥
-adds_nothing force (Said SaysNothing) adds = adds
-adds_nothing force (Said SaysWrong) adds = adds
-adds_nothing force (Said (SaysStep (Change ask events))) adds = adds
-adds_nothing force (Said (SaysStep (Undo limit events))) adds = adds
-adds_nothing force (Said (SaysStep (Redo limit events))) adds = adds
 adds_nothing force (Said (SaysStep (Add name contents forced))) adds =
     let both : [] ≡ name ∷ contents = adds.0 in cc
-adds_nothing force (Said (SaysStep (Delete names forced))) adds = adds
-adds_nothing force (Said (SaysDry ask)) adds = adds
-adds_nothing force (Said SaysLive) adds = adds
-adds_nothing force (Said SaysBundles) adds = adds
-adds_nothing force (Said SaysJournal) adds = adds
-adds_nothing force WantsDryUndo adds = adds
-adds_nothing force WantsDryRedo adds = adds
+adds_nothing force other adds = adds

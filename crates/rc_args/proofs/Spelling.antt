@@ -31,15 +31,3 @@ not_spelled f words i d low none all are =
     let at =
     spelled_at (map f words) all i (f d) (subst (λ n. i < n) (sym (length-map words f)) low) are in
     none at.0 (subst (λ (w : List ℕ). IsSpelled w at.0) (get_or-map f words i d (f d) low) at.1)
-
--- a word that begins with neither way names no transition
-no_way : (word : List ℕ) → ((rest : List ℕ) → word ≡ codes "up:" ++ rest → rest ≡ [])
-    → ((rest : List ℕ) → word ≡ codes "down:" ++ rest → rest ≡ []) → (way : Way) (name : List ℕ)
-    → word ≡ front_of way ++ name → name ≢ [] → ⊥
-no_way word up down Raise name is some = some (up name is)
-no_way word up down Lower name is some = some (down name is)
-
-pub names_none : (word : List ℕ) → ((rest : List ℕ) → word ≡ codes "up:" ++ rest → rest ≡ [])
-    → ((rest : List ℕ) → word ≡ codes "down:" ++ rest → rest ≡ []) → (one : Listed)
-    → IsSpelled word one → ⊥
-names_none word up down one is = no_way word up down one.way one.name is.0 is.1

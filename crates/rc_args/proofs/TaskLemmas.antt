@@ -96,224 +96,11 @@ pub wrong_asks : (words : List Text) → ((name : Text) → rows_for name words 
 wrong_asks words wrong ask asks =
     let both : None ≡ Some asks.0 = sym (wrong (command_of ask)) ∙ asks.1 in cc
 
--- what was entered asks what the matches of its name ask
-pub named_right : (name : Text) (rows : List Row) (entered : Option (Text × List Row))
-    (ask : TaskAsk) → Some (name, rows) ≡ entered → AsksNamed name rows ask
-    → AsksEntered entered ask
-named_right name rows entered ask is asks =
-    (rows, sym is ∙ ap (λ (n : Text). Some (n, rows)) asks.0, asks.1)
-
-pub entered_named : (name : Text) (rows : List Row) (entered : Option (Text × List Row))
-    (ask : TaskAsk) → Some (name, rows) ≡ entered → AsksEntered entered ask
-    → AsksNamed name rows ask
-entered_named name rows entered ask is asks =
-    let both : ◌≡◌ {A = Option (Text × List Row)} (Some (name, rows))
-    (Some (command_of ask, asks.0)) = is ∙ asks.1 in
-    let same : rows ≡ asks.0 =
-    ap (λ (o : Option (Text × List Row)). (unwrap_or o (name, rows)).1) both in (
-      ap (λ (o : Option (Text × List Row)). (unwrap_or o (name, rows)).0) both,
-      subst (λ (rs : List Row). AsksTaskIn rs ask) (sym same) asks.2,
-    )
-
 -- two names are apart
 pub apart : (name other : Text) → bytes_eq name other ≡ false → name ≡ other → ⊥
 apart name other no_test is =
     let yes : bytes_eq name other ≡ true = (bytes_eq-Decides name other).1 is in
     let both : true ≡ false = sym yes ∙ no_test in cc
-
--- a name is that of no command of one line
-pub once_apart : (name : Text) → bytes_eq name [] ≡ false → bytes_eq name (codes "change") ≡ false
-    → bytes_eq name (codes "undo") ≡ false → bytes_eq name (codes "redo") ≡ false
-    → bytes_eq name (codes "add") ≡ false → bytes_eq name (codes "delete") ≡ false
-    → bytes_eq name (codes "live") ≡ false → bytes_eq name (codes "bundles") ≡ false
-    → bytes_eq name (codes "journal") ≡ false
-    → (what : OnceSaying) → name ≡ once_command what → ⊥
-once_apart name none change undo redo add delete live bundles journal (Said SaysNothing) is =
-    apart name [] none is
-once_apart name none change undo redo add delete live bundles journal (Said SaysWrong) is =
-    apart name [] none is
-once_apart name none change undo redo add delete live bundles journal
-    (Said (SaysStep (Change ask events))) is =
-    apart name (codes "change") change is
-once_apart name none change undo redo add delete live bundles journal
-    (Said (SaysStep (Undo limit events))) is =
-    apart name (codes "undo") undo is
-once_apart name none change undo redo add delete live bundles journal
-    (Said (SaysStep (Redo limit events))) is =
-    apart name (codes "redo") redo is
-once_apart name none change undo redo add delete live bundles journal
-    (Said (SaysStep (Add word contents force))) is =
-    apart name (codes "add") add is
-once_apart name none change undo redo add delete live bundles journal
-    (Said (SaysStep (Delete words force))) is =
-    apart name (codes "delete") delete is
-once_apart name none change undo redo add delete live bundles journal (Said (SaysDry ask)) is =
-    apart name (codes "change") change is
-once_apart name none change undo redo add delete live bundles journal (Said SaysLive) is =
-    apart name (codes "live") live is
-once_apart name none change undo redo add delete live bundles journal (Said SaysBundles) is =
-    apart name (codes "bundles") bundles is
-once_apart name none change undo redo add delete live bundles journal (Said SaysJournal) is =
-    apart name (codes "journal") journal is
-once_apart name none change undo redo add delete live bundles journal WantsDryUndo is =
-    apart name (codes "undo") undo is
-once_apart name none change undo redo add delete live bundles journal WantsDryRedo is =
-    apart name (codes "redo") redo is
-
--- matches that ask nothing of their command ask nothing
-pub db_none : (rows : List Row) → ((ask : DbAsk) → AsksIn rows ask → ⊥) → (ask : TaskAsk)
-    → AsksNamed (codes "db") rows ask → ⊥
-db_none rows none (OfCompile ask) asks = apart (codes "db") (codes "compile") refl asks.0
-db_none rows none (OfDb ask file) asks = none ask asks.1.0
-db_none rows none (OfPlan ask file) asks = apart (codes "db") (codes "plan") refl asks.0
-db_none rows none (OfReplay file) asks = apart (codes "db") (codes "replay") refl asks.0
-db_none rows none (OfSession ask file) asks = apart (codes "db") (codes "session") refl asks.0
-db_none rows none (OfOnce ask file) asks =
-    once_apart (codes "db") refl refl refl refl refl refl refl refl refl
-    ask.what asks.0
-db_none rows none (OfUpdate ask file) asks = apart (codes "db") (codes "update") refl asks.0
-db_none rows none (OfRestart ask file) asks = apart (codes "db") (codes "restart") refl asks.0
-db_none rows none (OfSeal ask file) asks = apart (codes "db") (codes "seal") refl asks.0
-db_none rows none (OfStatus ask file) asks = apart (codes "db") (codes "status") refl asks.0
-db_none rows none (OfStop file) asks = apart (codes "db") (codes "stop") refl asks.0
-db_none rows none OfVersion asks = apart (codes "db") (codes "version") refl asks.0
-
-pub plan_none : (rows : List Row) → ask_in rows ≡ None → (ask : TaskAsk)
-    → AsksNamed (codes "plan") rows ask → ⊥
-plan_none rows none (OfCompile ask) asks = apart (codes "plan") (codes "compile") refl asks.0
-plan_none rows none (OfDb ask file) asks = apart (codes "plan") (codes "db") refl asks.0
-plan_none rows none (OfPlan ask file) asks = let both : None ≡ Some ask = sym none ∙ asks.1.0 in cc
-plan_none rows none (OfReplay file) asks = apart (codes "plan") (codes "replay") refl asks.0
-plan_none rows none (OfSession ask file) asks = apart (codes "plan") (codes "session") refl asks.0
-plan_none rows none (OfOnce ask file) asks =
-    once_apart (codes "plan") refl refl refl refl refl refl refl refl refl
-    ask.what asks.0
-plan_none rows none (OfUpdate ask file) asks = apart (codes "plan") (codes "update") refl asks.0
-plan_none rows none (OfRestart ask file) asks = apart (codes "plan") (codes "restart") refl asks.0
-plan_none rows none (OfSeal ask file) asks = apart (codes "plan") (codes "seal") refl asks.0
-plan_none rows none (OfStatus ask file) asks = apart (codes "plan") (codes "status") refl asks.0
-plan_none rows none (OfStop file) asks = apart (codes "plan") (codes "stop") refl asks.0
-plan_none rows none OfVersion asks = apart (codes "plan") (codes "version") refl asks.0
-
-pub session_none : (rows : List Row) → ((ask : SessionAsk) → AsksSessionIn rows ask → ⊥)
-    → (ask : TaskAsk) → AsksNamed (codes "session") rows ask → ⊥
-session_none rows none (OfCompile ask) asks = apart (codes "session") (codes "compile") refl asks.0
-session_none rows none (OfDb ask file) asks = apart (codes "session") (codes "db") refl asks.0
-session_none rows none (OfPlan ask file) asks = apart (codes "session") (codes "plan") refl asks.0
-session_none rows none (OfReplay file) asks = apart (codes "session") (codes "replay") refl asks.0
-session_none rows none (OfSession ask file) asks = none ask asks.1.0
-session_none rows none (OfOnce ask file) asks =
-    once_apart (codes "session") refl refl refl refl refl refl refl refl refl
-    ask.what asks.0
-session_none rows none (OfUpdate ask file) asks =
-    apart (codes "session") (codes "update") refl asks.0
-session_none rows none (OfRestart ask file) asks =
-    apart (codes "session") (codes "restart") refl asks.0
-session_none rows none (OfSeal ask file) asks = apart (codes "session") (codes "seal") refl asks.0
-session_none rows none (OfStatus ask file) asks =
-    apart (codes "session") (codes "status") refl asks.0
-session_none rows none (OfStop file) asks = apart (codes "session") (codes "stop") refl asks.0
-session_none rows none OfVersion asks = apart (codes "session") (codes "version") refl asks.0
-
-pub update_none : (rows : List Row) → ((ask : UpdateAsk) → AsksUpdateIn rows ask → ⊥)
-    → (ask : TaskAsk) → AsksNamed (codes "update") rows ask → ⊥
-update_none rows none (OfCompile ask) asks = apart (codes "update") (codes "compile") refl asks.0
-update_none rows none (OfDb ask file) asks = apart (codes "update") (codes "db") refl asks.0
-update_none rows none (OfPlan ask file) asks = apart (codes "update") (codes "plan") refl asks.0
-update_none rows none (OfReplay file) asks = apart (codes "update") (codes "replay") refl asks.0
-update_none rows none (OfSession ask file) asks =
-    apart (codes "update") (codes "session") refl asks.0
-update_none rows none (OfOnce ask file) asks =
-    once_apart (codes "update") refl refl refl refl refl refl refl refl refl
-    ask.what asks.0
-update_none rows none (OfUpdate ask file) asks = none ask asks.1.0
-update_none rows none (OfRestart ask file) asks =
-    apart (codes "update") (codes "restart") refl asks.0
-update_none rows none (OfSeal ask file) asks = apart (codes "update") (codes "seal") refl asks.0
-update_none rows none (OfStatus ask file) asks = apart (codes "update") (codes "status") refl asks.0
-update_none rows none (OfStop file) asks = apart (codes "update") (codes "stop") refl asks.0
-update_none rows none OfVersion asks = apart (codes "update") (codes "version") refl asks.0
-
-pub restart_none : (rows : List Row) → ((ask : NamedAsk) → AsksNamesIn rows ask → ⊥)
-    → (ask : TaskAsk)
-    → AsksNamed (codes "restart") rows ask → ⊥
-restart_none rows none (OfCompile ask) asks =
-    apart (codes "restart") (codes "compile") refl asks.0
-restart_none rows none (OfDb ask file) asks =
-    apart (codes "restart") (codes "db") refl asks.0
-restart_none rows none (OfPlan ask file) asks =
-    apart (codes "restart") (codes "plan") refl asks.0
-restart_none rows none (OfReplay file) asks =
-    apart (codes "restart") (codes "replay") refl asks.0
-restart_none rows none (OfSession ask file) asks =
-    apart (codes "restart") (codes "session") refl asks.0
-restart_none rows none (OfOnce ask file) asks =
-    once_apart (codes "restart") refl refl refl refl refl refl refl refl refl ask.what asks.0
-restart_none rows none (OfUpdate ask file) asks =
-    apart (codes "restart") (codes "update") refl asks.0
-restart_none rows none (OfRestart ask file) asks = none ask asks.1.0
-restart_none rows none (OfSeal ask file) asks =
-    apart (codes "restart") (codes "seal") refl asks.0
-restart_none rows none (OfStatus ask file) asks =
-    apart (codes "restart") (codes "status") refl asks.0
-restart_none rows none (OfStop file) asks =
-    apart (codes "restart") (codes "stop") refl asks.0
-restart_none rows none OfVersion asks =
-    apart (codes "restart") (codes "version") refl asks.0
-
-pub seal_none : (rows : List Row) → ((ask : SessionAsk) → AsksSessionIn rows ask → ⊥)
-    → (ask : TaskAsk)
-    → AsksNamed (codes "seal") rows ask → ⊥
-seal_none rows none (OfCompile ask) asks =
-    apart (codes "seal") (codes "compile") refl asks.0
-seal_none rows none (OfDb ask file) asks =
-    apart (codes "seal") (codes "db") refl asks.0
-seal_none rows none (OfPlan ask file) asks =
-    apart (codes "seal") (codes "plan") refl asks.0
-seal_none rows none (OfReplay file) asks =
-    apart (codes "seal") (codes "replay") refl asks.0
-seal_none rows none (OfSession ask file) asks =
-    apart (codes "seal") (codes "session") refl asks.0
-seal_none rows none (OfOnce ask file) asks =
-    once_apart (codes "seal") refl refl refl refl refl refl refl refl refl ask.what asks.0
-seal_none rows none (OfUpdate ask file) asks =
-    apart (codes "seal") (codes "update") refl asks.0
-seal_none rows none (OfRestart ask file) asks =
-    apart (codes "seal") (codes "restart") refl asks.0
-seal_none rows none (OfSeal ask file) asks = none ask asks.1.0
-seal_none rows none (OfStatus ask file) asks =
-    apart (codes "seal") (codes "status") refl asks.0
-seal_none rows none (OfStop file) asks =
-    apart (codes "seal") (codes "stop") refl asks.0
-seal_none rows none OfVersion asks =
-    apart (codes "seal") (codes "version") refl asks.0
-
-pub status_none : (rows : List Row) → ((ask : NamedAsk) → AsksNamesIn rows ask → ⊥)
-    → (ask : TaskAsk)
-    → AsksNamed (codes "status") rows ask → ⊥
-status_none rows none (OfCompile ask) asks =
-    apart (codes "status") (codes "compile") refl asks.0
-status_none rows none (OfDb ask file) asks =
-    apart (codes "status") (codes "db") refl asks.0
-status_none rows none (OfPlan ask file) asks =
-    apart (codes "status") (codes "plan") refl asks.0
-status_none rows none (OfReplay file) asks =
-    apart (codes "status") (codes "replay") refl asks.0
-status_none rows none (OfSession ask file) asks =
-    apart (codes "status") (codes "session") refl asks.0
-status_none rows none (OfOnce ask file) asks =
-    once_apart (codes "status") refl refl refl refl refl refl refl refl refl ask.what asks.0
-status_none rows none (OfUpdate ask file) asks =
-    apart (codes "status") (codes "update") refl asks.0
-status_none rows none (OfRestart ask file) asks =
-    apart (codes "status") (codes "restart") refl asks.0
-status_none rows none (OfSeal ask file) asks =
-    apart (codes "status") (codes "seal") refl asks.0
-status_none rows none (OfStatus ask file) asks = none ask asks.1.0
-status_none rows none (OfStop file) asks =
-    apart (codes "status") (codes "stop") refl asks.0
-status_none rows none OfVersion asks =
-    apart (codes "status") (codes "version") refl asks.0
 
 -- matches that ask for no session of one line ask nothing, where their command has none of the
 -- other names
@@ -325,26 +112,18 @@ pub others_none : (name : Text) (rows : List Row) → (name ≡ codes "compile" 
     → ((ask : OnceAsk) (file : Option Text) → AsksNamed name rows (OfOnce ask file) → ⊥)
     → (ask : TaskAsk) → AsksNamed name rows ask → ⊥
 others_none name rows compile db plan replay session update restart seal status stop version none
-    (OfCompile ask) asks = compile asks.0
-others_none name rows compile db plan replay session update restart seal status stop version none
-    (OfDb ask file) asks = db asks.0
-others_none name rows compile db plan replay session update restart seal status stop version none
-    (OfPlan ask file) asks = plan asks.0
-others_none name rows compile db plan replay session update restart seal status stop version none
-    (OfReplay file) asks = replay asks.0
-others_none name rows compile db plan replay session update restart seal status stop version none
-    (OfSession ask file) asks = session asks.0
-others_none name rows compile db plan replay session update restart seal status stop version none
-    (OfOnce ask file) asks = none ask file asks
-others_none name rows compile db plan replay session update restart seal status stop version none
-    (OfUpdate ask file) asks = update asks.0
-others_none name rows compile db plan replay session update restart seal status stop version none
-    (OfRestart ask file) asks = restart asks.0
-others_none name rows compile db plan replay session update restart seal status stop version none
-    (OfSeal ask file) asks = seal asks.0
-others_none name rows compile db plan replay session update restart seal status stop version none
-    (OfStatus ask file) asks = status asks.0
-others_none name rows compile db plan replay session update restart seal status stop version none
-    (OfStop file) asks = stop asks.0
-others_none name rows compile db plan replay session update restart seal status stop version none
-    OfVersion asks = version asks.0
+    ask =
+    elim ask as (λ (a : TaskAsk). AsksNamed name rows a → ⊥) [
+      | OfCompile ask ↦ λ asks. compile asks.0
+      | OfDb ask file ↦ λ asks. db asks.0
+      | OfPlan ask file ↦ λ asks. plan asks.0
+      | OfReplay file ↦ λ asks. replay asks.0
+      | OfSession ask file ↦ λ asks. session asks.0
+      | OfOnce ask file ↦ λ asks. none ask file asks
+      | OfUpdate ask file ↦ λ asks. update asks.0
+      | OfRestart ask file ↦ λ asks. restart asks.0
+      | OfSeal ask file ↦ λ asks. seal asks.0
+      | OfStatus ask file ↦ λ asks. status asks.0
+      | OfStop file ↦ λ asks. stop asks.0
+      | OfVersion ↦ λ asks. version asks.0
+    ]

@@ -58,10 +58,6 @@ abbrev pub AsksSession : List Text → SessionAsk → Type 0
 AsksSession words ask =
     (rows : List Row) × (rows_for (codes "session") words ≡ Some rows) × AsksSessionIn rows ask
 
--- the words ask some session
-abbrev pub AsksSomeSession : List Text → Type 0
-AsksSomeSession words = (ask : SessionAsk) × AsksSession words ask
-
 -- the words ask no session
 abbrev pub AsksNoSession : List Text → Type 0
 AsksNoSession words = (ask : SessionAsk) → AsksSession words ask → ⊥

@@ -1,10 +1,8 @@
 //! The words of the command line, read once.
-ghost use Rattle.std.specs.Prelude.{◌≡◌, ◌≢◌, Option, codes, map, string_bytes, IfErr, IfOk, OnErr};
-ghost use Rattle.std.specs.Prelude.{OnOk};
-ghost use Rattle.clap.specs.Words.{Text, found_of, rows_of, subcommand_rows_of};
-ghost use Rattle.rc_args.specs.OnceAsked.{OnceAsk};
+ghost use Rattle.std.specs.Prelude.{◌≡◌, ◌≢◌, map, string_bytes, IfErr, IfOk, OnErr, OnOk};
+ghost use Rattle.clap.specs.Words.{found_of, rows_of, subcommand_rows_of};
 ghost use Rattle.rc_args.specs.Task.{AsksEntered, AsksNamed, AsksNoTask, AsksTask, IsEventless};
-ghost use Rattle.rc_args.specs.Task.{LacksItsFile, OfOnce, TaskAsk, task_ask_of, task_by};
+ghost use Rattle.rc_args.specs.Task.{LacksItsFile, TaskAsk, task_ask_of, task_by};
 ghost use Rattle.rc_args.specs.Usual.{usual_ask_of};
 ghost use Rattle.rc_args.specs.declared.asked.WordsFault.TheVariants.{Memory, NoFile};
 
@@ -144,143 +142,19 @@ fn task_named<'a>(
         fault ≢ Memory → (ask : TaskAsk) → AsksNamed name.now (rows_of (found_of matches.now)) ask →
         ⊥) }
 {
+    let base = text_in(matches, "base");
     match name {
-        "compile" => compile_task(alloc, matches),
-        "db" => db_task(alloc, matches),
-        "plan" => plan_task(alloc, matches),
-        "replay" => Ok(Task::Replay(text_in(matches, "base"))),
-        "session" => session_task(alloc, matches),
-        "update" => update_task(alloc, matches),
-        "restart" => restart_task(alloc, matches),
-        "seal" => seal_task(alloc, matches),
-        "status" => status_task(alloc, matches),
+        "compile" => Ok(Task::Compile(compile_in(alloc, matches)?)),
+        "db" => Ok(Task::Db(db_in(alloc, matches)?, base)),
+        "plan" => Ok(Task::Plan(plan_in(alloc, matches)?, base)),
+        "replay" => Ok(Task::Replay(base)),
+        "session" => Ok(Task::Session(session_in(alloc, matches)?, base)),
+        "update" => Ok(Task::Update(update_in(alloc, matches)?, base)),
+        "restart" => Ok(Task::Restart(named_in(alloc, matches)?, base)),
+        "seal" => Ok(Task::Seal(session_in(alloc, matches)?, base)),
+        "status" => Ok(Task::Status(named_in(alloc, matches)?, base)),
         "stop" => Ok(Task::Stop(text_in(matches, "live"))),
         "version" => Ok(Task::Version),
-        _ => once_task(alloc, name, matches),
-    }
-}
-
-// What the matches of `compile` ask.
-fn compile_task<'a>(alloc: Global, matches: &ArgMatches<'a>) -> Result<Task<'a>, WordsFault>
-    ensures asked { IfOk result (λ task.
-        AsksNamed (codes "compile") (rows_of (found_of matches.now)) (task_ask_of task)) }
-    ensures wrong { IfErr result (λ fault. fault ≡ Memory) }
-{
-    Ok(Task::Compile(compile_in(alloc, matches)?))
-}
-
-// What the matches of `db` ask.
-fn db_task<'a>(alloc: Global, matches: &ArgMatches<'a>) -> Result<Task<'a>, WordsFault>
-    ensures asked { IfOk result (λ task.
-        AsksNamed (codes "db") (rows_of (found_of matches.now)) (task_ask_of task)) }
-    ensures wrong { IfErr result (λ fault.
-        fault ≢ Memory → (ask : TaskAsk) →
-        AsksNamed (codes "db") (rows_of (found_of matches.now)) ask → ⊥) }
-{
-    match db_in(alloc, matches) {
-        Ok(request) => Ok(Task::Db(request, text_in(matches, "base"))),
-        Err(fault) => Err(fault),
-    }
-}
-
-// What the matches of `plan` ask.
-fn plan_task<'a>(alloc: Global, matches: &ArgMatches<'a>) -> Result<Task<'a>, WordsFault>
-    ensures asked { IfOk result (λ task.
-        AsksNamed (codes "plan") (rows_of (found_of matches.now)) (task_ask_of task)) }
-    ensures wrong { IfErr result (λ fault.
-        fault ≢ Memory → (ask : TaskAsk) →
-        AsksNamed (codes "plan") (rows_of (found_of matches.now)) ask → ⊥) }
-{
-    match plan_in(alloc, matches) {
-        Ok(request) => Ok(Task::Plan(request, text_in(matches, "base"))),
-        Err(fault) => Err(fault),
-    }
-}
-
-// What the matches of `session` ask.
-fn session_task<'a>(alloc: Global, matches: &ArgMatches<'a>) -> Result<Task<'a>, WordsFault>
-    ensures asked { IfOk result (λ task.
-        AsksNamed (codes "session") (rows_of (found_of matches.now)) (task_ask_of task)) }
-    ensures wrong { IfErr result (λ fault.
-        fault ≢ Memory → (ask : TaskAsk) →
-        AsksNamed (codes "session") (rows_of (found_of matches.now)) ask → ⊥) }
-{
-    match session_in(alloc, matches) {
-        Ok(request) => Ok(Task::Session(request, text_in(matches, "base"))),
-        Err(fault) => Err(fault),
-    }
-}
-
-// What the matches of `update` ask.
-fn update_task<'a>(alloc: Global, matches: &ArgMatches<'a>) -> Result<Task<'a>, WordsFault>
-    ensures asked { IfOk result (λ task.
-        AsksNamed (codes "update") (rows_of (found_of matches.now)) (task_ask_of task)) }
-    ensures wrong { IfErr result (λ fault.
-        fault ≢ Memory → (ask : TaskAsk) →
-        AsksNamed (codes "update") (rows_of (found_of matches.now)) ask → ⊥) }
-{
-    match update_in(alloc, matches) {
-        Ok(request) => Ok(Task::Update(request, text_in(matches, "base"))),
-        Err(fault) => Err(fault),
-    }
-}
-
-// What the matches of `restart` ask.
-fn restart_task<'a>(alloc: Global, matches: &ArgMatches<'a>) -> Result<Task<'a>, WordsFault>
-    ensures asked { IfOk result (λ task.
-        AsksNamed (codes "restart") (rows_of (found_of matches.now)) (task_ask_of task)) }
-    ensures wrong { IfErr result (λ fault.
-        fault ≢ Memory → (ask : TaskAsk) →
-        AsksNamed (codes "restart") (rows_of (found_of matches.now)) ask → ⊥) }
-{
-    match named_in(alloc, matches) {
-        Ok(request) => Ok(Task::Restart(request, text_in(matches, "base"))),
-        Err(fault) => Err(fault),
-    }
-}
-
-// What the matches of `seal` ask.
-fn seal_task<'a>(alloc: Global, matches: &ArgMatches<'a>) -> Result<Task<'a>, WordsFault>
-    ensures asked { IfOk result (λ task.
-        AsksNamed (codes "seal") (rows_of (found_of matches.now)) (task_ask_of task)) }
-    ensures wrong { IfErr result (λ fault.
-        fault ≢ Memory → (ask : TaskAsk) →
-        AsksNamed (codes "seal") (rows_of (found_of matches.now)) ask → ⊥) }
-{
-    match session_in(alloc, matches) {
-        Ok(request) => Ok(Task::Seal(request, text_in(matches, "base"))),
-        Err(fault) => Err(fault),
-    }
-}
-
-// What the matches of `status` ask.
-fn status_task<'a>(alloc: Global, matches: &ArgMatches<'a>) -> Result<Task<'a>, WordsFault>
-    ensures asked { IfOk result (λ task.
-        AsksNamed (codes "status") (rows_of (found_of matches.now)) (task_ask_of task)) }
-    ensures wrong { IfErr result (λ fault.
-        fault ≢ Memory → (ask : TaskAsk) →
-        AsksNamed (codes "status") (rows_of (found_of matches.now)) ask → ⊥) }
-{
-    match named_in(alloc, matches) {
-        Ok(request) => Ok(Task::Status(request, text_in(matches, "base"))),
-        Err(fault) => Err(fault),
-    }
-}
-
-// What the matches of the command of this name ask of a session of one line.
-fn once_task<'a>(
-    alloc: Global,
-    name: &str,
-    matches: &ArgMatches<'a>,
-) -> Result<Task<'a>, WordsFault>
-    ensures asked { IfOk result (λ task.
-        AsksNamed name.now (rows_of (found_of matches.now)) (task_ask_of task)) }
-    ensures wrong { IfErr result (λ fault.
-        fault ≢ Memory → (ask : OnceAsk) (file : Option Text) →
-        AsksNamed name.now (rows_of (found_of matches.now)) (OfOnce ask file) → ⊥) }
-{
-    match once_in(alloc, name, matches) {
-        Ok(request) => Ok(Task::Once(request, text_in(matches, "base"))),
-        Err(fault) => Err(fault),
+        _ => Ok(Task::Once(once_in(alloc, name, matches)?, base)),
     }
 }

@@ -1,4 +1,4 @@
-use Rattle.std.proofs.Common.{◌≡◌, ◌∷◌, ℕ, List, [], All, map, refl, subst, sym}
+use Rattle.std.proofs.Common.{◌∷◌, List, [], All, map, refl, subst, sym}
 use Rattle.std.proofs.lemmas.List.Elements.{All-cons, All-head, All-map, All-nil, All-tail}
 use Rattle.rc_args.specs.OnceAsked.{AreOneLine, IsOneLine}
 use Rattle.rc_cmdline.proofs.WordsLemmas.{words_found}
