@@ -1,12 +1,11 @@
 -- Where all that was planned is done, what is live is the target.
-use Rattle.std.proofs.Common.{◌≡◌, ◌∙◌, ◌<◌, ◌≢◌, inl, inr, ℕ, Bool, List, [], ◌∷◌, Contains, refl}
+use Rattle.std.proofs.Common.{◌≡◌, ◌∙◌, ◌<◌, inl, inr, ℕ, Bool, List, [], ◌∷◌, Contains, refl}
 use Rattle.std.proofs.Common.{sym, subst, arith}
 use Rattle.rc_model.specs.Headline.{TargetOfCommand, HasRun}
 use Rattle.rc_model.specs.Names.{Has, Holds}
 use Rattle.rc_model.proofs.SetMembers.{has_or_lacks}
 use Rattle.rc_graph.specs.declared.Way.{Way}
 use Rattle.rc_model.specs.Database.{Database, IsDatabase}
-use Rattle.rc_model.specs.Plan.{PlanSets}
 use Rattle.rc_model.specs.declared.Event.{Event}
 use Rattle.rc_model.specs.declared.Outcome.{Outcome}
 use Rattle.rc_model.specs.declared.Standing.TheVariants.{Down, Up}
@@ -19,7 +18,7 @@ use Rattle.rc_model.proofs.RunLemmas.{taken_was_planned}
 use Rattle.rc_core.proofs.Stories.{IsAtRest, at_rest}
 use Rattle.rc_model.specs.Line.{Line}
 use Rattle.rc_model.specs.Session.{Command, Change, Undo, Redo, Add, Delete, events_of, Does}
-use Rattle.rc_model.specs.Session.{IsLineOf, DoesByRun, IsReportOf, Reported}
+use Rattle.rc_model.specs.Session.{IsLineOf, DoesByRun, Reported}
 use Rattle.rc_session.specs.Commands.{with_events}
 use Rattle.rc_session.proofs.Courses.{task_is_course}
 use Rattle.rc_session.proofs.Arriving.{aims_as_asked}

@@ -7,6 +7,7 @@ use Rattle.rc_model.specs.declared.Refusal.TheVariants.{BadEvent, NotSettled, Pr
 use Rattle.rc_model.specs.declared.Refusal.TheVariants.{IsAtomic, Exists, Missing, Full}
 use Rattle.rc_model.specs.declared.Refusal.TheVariants.{NothingToUndo, NothingToRedo, NotEdit}
 use Rattle.rc_model.specs.declared.Refusal.TheVariants.{Strange, Memory}
+use Rattle.rc_model.specs.Database.{Database}
 use Rattle.rc_model.specs.Session.{Command, Change, Undo, Redo, Add, Delete, events_of, IsOwnFault}
 use Rattle.rc_session.specs.Commands.{with_events}
 use Rattle.rc_session.specs.Holding.{Holding, IsHindrance}
@@ -75,7 +76,7 @@ eventless (Add name contents force) none = refl
 eventless (Delete words force) none = refl
 
 -- what came of a command that workers carry out, and how it was told, is its answer and its ending
-pub met_by : (workers : ℕ) (Says : ℕ → Way → Outcome → Type 0) (Gives : ℕ → Type 0)
+met_by : (workers : ℕ) (Says : ℕ → Way → Outcome → Type 0) (Gives : ℕ → Type 0)
     (old new : Holding) (command : Command) (outcome : Result Report Fault)
     (result : Result Answer ServeFault)
     → IfOk outcome (λ report. IsCarriedOut workers Says Gives old command (told_of report) new)
@@ -109,7 +110,7 @@ met_by workers Says Gives old new command (Err faults.Strange) (Ok answer) done 
     absurd told
 
 -- whether it is told or not
-pub may_by : (workers : ℕ) (Says : ℕ → Way → Outcome → Type 0) (Gives : ℕ → Type 0)
+may_by : (workers : ℕ) (Says : ℕ → Way → Outcome → Type 0) (Gives : ℕ → Type 0)
     (old new : Holding) (command : Command) (outcome : Result Report Fault)
     → IfOk outcome (λ report. IsCarriedOut workers Says Gives old command (told_of report) new)
     → IfErr outcome (λ fault. LeavesSession old fault new)
@@ -122,7 +123,7 @@ may_by workers Says Gives old new command (Ok report) done left =
 may_by workers Says Gives old new command (Err fault) done left = inl (left_line old new fault left)
 
 -- and the session keeps its database
-pub stays_by : (workers : ℕ) (Says : ℕ → Way → Outcome → Type 0) (Gives : ℕ → Type 0)
+stays_by : (workers : ℕ) (Says : ℕ → Way → Outcome → Type 0) (Gives : ℕ → Type 0)
     (old new : Holding) (command : Command) (outcome : Result Report Fault)
     → IfOk outcome (λ report. IsCarriedOut workers Says Gives old command (told_of report) new)
     → IfErr outcome (λ fault. LeavesSession old fault new) → old.begun ≡ false → Stays old new
@@ -140,7 +141,7 @@ right_crew workers h command outcome fault crew is =
     wrong crew
 
 -- told of the same names and words
-pub retold : (names others words more : List (List ℕ)) (outcome : Result Report Fault)
+retold : (names others words more : List (List ℕ)) (outcome : Result Report Fault)
     (result : Result Answer ServeFault) → names ≡ others → words ≡ more
     → IfOk result (λ answer. IsToldAs names words outcome answer.ending answer.text.items)
     → IfOk result (λ answer. IsToldAs others more outcome answer.ending answer.text.items)
@@ -294,7 +295,7 @@ ends_run work workers old new command outcome result fault left tells told =
     (unstarted_run work old new outcome left tells) told
 
 -- a command that workers carry out ends the session only where it has work
-pub ends_at_work : {A : Type 0} (workers : ℕ) (old new : Holding) (command : Command)
+ends_at_work : {A : Type 0} (workers : ℕ) (old new : Holding) (command : Command)
     (outcome : Result Report Fault) (result : Result A ServeFault)
     → IfErr outcome (IsFault workers old command)
     → IfErr outcome (λ fault. LeavesSession old fault new)
@@ -305,7 +306,7 @@ ends_at_work workers old new command outcome result fault left told =
     left (tells_work workers old command outcome fault) told
 
 -- a session is poisoned by what is strange alone
-pub spoils_run : {A : Type 0} (workers : ℕ) (Says : ℕ → Way → Outcome → Type 0) (Gives : ℕ → Type 0)
+spoils_run : {A : Type 0} (workers : ℕ) (Says : ℕ → Way → Outcome → Type 0) (Gives : ℕ → Type 0)
     (old new : Holding) (command : Command) (outcome : Result Report Fault)
     (result : Result A ServeFault)
     → IfOk outcome (λ report. IsCarriedOut workers Says Gives old command (told_of report) new)
@@ -336,3 +337,42 @@ spoils_run workers Says Gives old new command (Err (faults.Refused refusal)) res
     (λ is. ap (λ (h : Holding). h.spoiled) left
     ∙ subst (λ (r : Refusal). IsHindrance (IsOwnFault old.database old.line command) old r)
     is fault.1) told
+
+-- what the answer of a command that was run says, and what it leaves
+pub record RunEnds (workers : ℕ) (Says : ℕ → Way → Outcome → Type 0) (Gives : ℕ → Type 0)
+    (old new : Holding) (command : Command) (result : Result Answer ServeFault) : Type 0 where
+  pub met : IfOk result
+      (λ answer. EndsCommand (IsDoneAs workers Says Gives) answer.ending old.database old.line
+      command answer.text.items new.line)
+  pub may : MayMeet (IsDoneBy workers Says Gives) old.database old.line command new.line
+  pub stays : Stays old new
+  pub fault : IfErr result (EndsSession (HasWork old.database old.line command) old new)
+  pub whole : IsSpoiledBy result old new
+
+-- it was said by another name, and told of the names that the session has then
+pub run_ends : (workers : ℕ) (Says : ℕ → Way → Outcome → Type 0) (Gives : ℕ → Type 0)
+    (old new : Holding) (said command : Command) (names words : List (List ℕ))
+    (outcome : Result Report Fault) (result : Result Answer ServeFault) → said ≡ command
+    → old.begun ≡ false → names ≡ new.database.names → words ≡ words_of command
+    → IfOk outcome (λ report. IsCarriedOut workers Says Gives old command (told_of report) new)
+    → IfErr outcome (IsFault workers old command)
+    → IfErr outcome (λ fault. LeavesSession old fault new)
+    → IfOk result (λ answer. IsToldAs names words outcome answer.ending answer.text.items)
+    → (outcome ≡ Err faults.Strange → result ≡ Err serve.Strange)
+    → IfErr result (IsInner (IsStrange outcome) (outcome ≡ Err faults.NoThread))
+    → RunEnds workers Says Gives old new said result
+run_ends workers Says Gives old new said command names words outcome result is closed named worded
+    done fault left told strange inner =
+    let stays : Stays old new =
+    stays_by workers Says Gives old new command outcome done left closed in
+    subst (λ (k : Command). RunEnds workers Says Gives old new k result) (sym is) (record {
+      met =
+          met_by workers Says Gives old new command outcome result done fault left
+          (retold names old.database.names words (words_of command) outcome result
+          (named ∙ ap (λ (d : Database). d.names) stays.0) worded told);
+      may = may_by workers Says Gives old new command outcome done left;
+      stays = stays;
+      fault = ends_at_work workers old new command outcome result fault left inner;
+      whole = spoils_run workers Says Gives old new command outcome result done fault left strange
+          inner;
+    })

@@ -1,5 +1,5 @@
 -- A fault where one line is served.
-use Rattle.std.proofs.Common.{◌≡◌, inl, inr, ℕ, List, Option, true, refl, sym, subst}
+use Rattle.std.proofs.Common.{inl, inr, ℕ, List, Option, refl, sym, subst}
 use Rattle.std.proofs.KnownBytes.{Appends-nil}
 use Rattle.rc_session.specs.Holding.{Holding}
 use Rattle.rc_streams.specs.Input.{AppendsFront}

@@ -1,12 +1,12 @@
 -- Ways back and on, shown and not gone.
-use Rattle.std.proofs.Common.{◌≡◌, ◌≢◌, ◌∙◌, ◌<◌, ◌+◌, ◌-◌, length-append, inl, inr, ℕ, suc, Bool}
+use Rattle.std.proofs.Common.{◌≡◌, ◌≢◌, ◌∙◌, ◌+◌, ◌-◌, length-append, inl, inr, ℕ, suc, Bool}
 use Rattle.std.proofs.Common.{List, [], ◌∷◌, ◌++◌, Option, None, Some, Result, Ok, Err, IfOk, All}
 use Rattle.std.proofs.Common.{length, slice_get, ap, arith, refl, sym, subst}
 use Rattle.std.proofs.lemmas.Option.{slice_get_within, get_or_from_slice_get}
 use Rattle.rc_model.specs.Names.{Has}
 use Rattle.rc_model.specs.Graph.{IsClosed}
 use Rattle.rc_model.specs.Database.{Database, IsDatabase}
-use Rattle.rc_model.specs.Line.{Line, IsEntryAt, IsNext, cursor, states, Entry, State}
+use Rattle.rc_model.specs.Line.{Line, IsEntryAt, cursor, states, Entry, State}
 use Rattle.rc_line.proofs.Fronts.{get_after}
 use Rattle.rc_model.proofs.Lines.{next_cursor}
 use Rattle.rc_model.specs.Plan.{IsPlanTo, PlanSets}

@@ -17,9 +17,8 @@ use Rattle.rc_session.specs.Holding.{Holding}
 use Rattle.rc_render.specs.ReportText.{report_text}
 use Rattle.rc_script.specs.Says.{Saying, SaysStep, Says}
 use Rattle.rc_streams.specs.Exchange.{Exchange}
-use Rattle.rc_serve.specs.declared.fault.ServeFault.{ServeFault}
 use Rattle.rc_serve.specs.Meeting.{Doing, IsEdited}
-use Rattle.rc_serve.specs.Serving.{AreLines, Serves, ServesAll, ServesFront}
+use Rattle.rc_serve.specs.Serving.{AreLines, Serves, ServesAll}
 
 -- a report of these lists, and of nothing else
 abbrev pub listing : (lowered raised failed blocked kept : List ℕ) → Reported
@@ -73,12 +72,6 @@ SessionText fails d here bytes text new = (lines : List (List ℕ)) × AreLines 
 -- the whole input was read, and what was written is the text of the session
 abbrev pub ServesFailing : (ℕ → Way → Bool) → Exchange → Holding → Holding → Type 0
 ServesFailing fails = ServesAll (IsDoneFailing fails)
-
--- a prefix of the input was read, and what was written is a prefix of
--- its text; and then a fault came
-abbrev pub ServesFrontFailing : ServeFault → (ℕ → Way → Bool) → Exchange
-    → Holding → Holding → Type 0
-ServesFrontFailing fault fails = ServesFront (IsDoneFailing fails) fault
 
 -- a gate that may answer so lets exactly these transitions fail
 abbrev pub FailsExactly : (ℕ → Way → Outcome → Type 0) → (ℕ → Way → Bool) → Type 0

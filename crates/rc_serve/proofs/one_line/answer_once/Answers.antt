@@ -1,11 +1,9 @@
-use Rattle.std.proofs.Common.{◌≡◌}
 use Rattle.std.proofs.lemmas.Result.{err_from_is_err_and}
 use Rattle.rc_streams.specs.Noting.{inner_of}
 use Rattle.rc_script.specs.Says.{saying_of}
 use Rattle.rc_serve.specs.Faults.{of_failure}
 use Rattle.rc_serve.specs.Meeting.{IsDoneBy}
 use Rattle.rc_serve.specs.Ending.{StopsOnce}
-use Rattle.rc_serve.specs.declared.ending.Ending.{Ending}
 use Rattle.rc_serve.proofs.Arriving.{saying_arrives}
 use Rattle.rc_serve.proofs.Lines.{write_fault}
 use Rattle.rc_serve.proofs.Steps.{ends_by}

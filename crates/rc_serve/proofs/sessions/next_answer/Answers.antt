@@ -1,4 +1,4 @@
-use Rattle.std.proofs.Common.{inr, refl}
+use Rattle.std.proofs.Common.{inr}
 use Rattle.std.proofs.lemmas.Result.{err_from_is_err_and}
 use Rattle.rc_streams.specs.Exchange.{exchanged}
 use Rattle.rc_streams.specs.Noting.{HasFailed, inner_of}

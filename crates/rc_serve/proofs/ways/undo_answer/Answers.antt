@@ -1,4 +1,4 @@
-use Rattle.std.proofs.Common.{◌≡◌, ◌≢◌, ◌∙◌, ◌-◌, ℕ, [], ap, arith, length}
+use Rattle.std.proofs.Common.{◌≡◌, ◌≢◌, ◌∙◌, ◌-◌, ℕ, [], ap, arith}
 use Rattle.std.specs.Global.{Vec}
 use Rattle.rc_model.specs.Names.{Has}
 use Rattle.rc_model.specs.Database.{Database}
