@@ -23,6 +23,7 @@ impl<'a, R: Processes + Clock + Sync, L: Log + Sync> Gate for SessionGate<'a, R,
 
     ghost gives = { gate_gives };
 
+    #[inline(always)]
     fn run(&self, job: Job) -> Outcome {
         match self {
             SessionGate::Table(table) => table.run(job),

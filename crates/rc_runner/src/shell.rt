@@ -276,6 +276,7 @@ impl<'a, R: Processes + Clock + Sync, L: Log + Sync> Gate for ShellGate<'a, R, L
     // No clause speaks of a clock.
     ghost gives = { λ gate moment. Unit {0} };
 
+    #[inline(never)]
     fn run(&self, job: Job) -> Outcome {
         let worker = job.worker();
         let service = job.service();

@@ -66,6 +66,7 @@ impl<'a, L: Log, G: Drop> Telling<'a, L, G> {
     }
 
     /// Tells how the transition of a service ended at a moment.
+    #[inline(never)]
     fn tell_end(&self, moment: u64, service: u16, way: Way, outcome: Outcome) {
         if let Some(name) = self.names.get(service as usize) {
             let event = Event::Ended(outcome);
@@ -79,6 +80,7 @@ impl<'a, L: Log + Sync, G: Gate + Drop> Gate for Telling<'a, L, G> {
 
     ghost gives = { λ gate moment. G.gives gate moment };
 
+    #[inline(always)]
     fn run(&self, job: Job) -> Outcome {
         let service = job.service();
         let way = job.way();
