@@ -23,10 +23,7 @@ module _ {S A : Type 0} (f : S → Command) (g : A → Result Reported Refusal)
   one (step ∷ steps) (answer ∷ answers) (suc i) ds da within told =
       one steps answers i ds da (omega arith) (omega arith)
 
-  no_answer : (commands : List Command) → answers_text names commands [] ≡ []
-  no_answer [] = refl
-  no_answer (command ∷ commands) = refl
-
+  -- one answer more
   pub told_more : (steps : List S) (answers : List A) (i : ℕ) (step : S) (answer : A)
       (whole so_far next line : List ℕ) → i < length steps → i < length answers
       → get_or steps i step ≡ step → get_or answers i answer ≡ answer
@@ -45,15 +42,6 @@ module _ {S A : Type 0} (f : S → Command) (g : A → Result Reported Refusal)
       (answer_text names (f (get_or steps i step)) (g (get_or answers i answer)))
       (from steps answers (suc i))
       ∙ ap (λ (t : List ℕ). so_far ++ t) (sym (one steps answers i step answer within told)) ∙ is
-
-  -- no answers are left
-  pub told_all : (steps : List S) (answers : List A) (i : ℕ) (whole so_far : List ℕ)
-      → length answers ≤ i → so_far ++ from steps answers i ≡ whole → so_far ≡ whole
-  told_all steps answers i whole so_far past is =
-      let none : from steps answers i ≡ [] =
-      ap (λ (l : List A). answers_text names (map f (drop i steps)) (map g l))
-      (drop_of_length-le answers past) ∙ no_answer (map f (drop i steps)) in
-      sym (append-nil so_far) ∙ ap (λ (t : List ℕ). so_far ++ t) (sym none) ∙ is
 
   -- no commands are left
   pub told_each : (steps : List S) (answers : List A) (i : ℕ) (whole so_far : List ℕ)
