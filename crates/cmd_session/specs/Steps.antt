@@ -4,6 +4,7 @@ use Rattle.rc_model.specs.Plan.{Ask}
 use Rattle.rc_model.specs.declared.Mode.{Mode}
 use Rattle.rc_model.specs.declared.Mode.TheVariants.{DownAll, Up}
 use Rattle.rc_model.specs.Session.{Change}
+use Rattle.rc_select.specs.Ask.{plain_ask}
 use Rattle.rc_script.specs.Says.{Saying, SaysDry, SaysStep}
 use Rattle.rc_serve.specs.declared.ending.Ending.{Ending}
 use Rattle.rc_serve.specs.declared.ending.Ending.TheVariants.{Done, Refused, Hindered}
@@ -13,8 +14,7 @@ use Rattle.rc_args.specs.OnceAsked.{OnceSaying, Said}
 
 -- what the change of these names asks: the greatest limit, and nothing beyond the names
 abbrev pub step_ask : Mode → List (List ℕ) → Ask
-step_ask mode names =
-    record { mode = mode; prune = false; all = false; words = names; limit = 4294967295 }
+step_ask mode names = plain_ask mode names 4294967295
 
 -- the change of these names, or where it is only shown its plan
 abbrev pub step_by : (dry : Bool) → Ask → Saying

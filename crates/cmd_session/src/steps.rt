@@ -14,13 +14,7 @@ use std::alloc::Global;
 pub fn step_line(alloc: Global, dry: bool, mode: Mode, names: Vec<String>) -> SessionLine
     ensures says { saying_of result ≡ step_by dry (step_ask mode (map string_bytes names.items)) }
 {
-    let request = Request {
-        mode,
-        prune: false,
-        all: false,
-        names,
-        limit: u32::MAX,
-    };
+    let request = Request::plain(mode, names, u32::MAX);
     if dry {
         return SessionLine::Dry(request);
     }

@@ -11,34 +11,26 @@ use Rattle.rc_model.specs.Session.{Add, Change, Delete, Redo, Undo}
 use Rattle.rc_script.specs.Says.{SaysBundles, SaysDry, SaysJournal, SaysLive, SaysNothing, SaysStep}
 use Rattle.rc_script.specs.Says.{SaysWrong}
 use Rattle.rc_cmdline.specs.Words.{is_on, words_in}
-use Rattle.rc_args.specs.Asked.{ask_in, mode_of}
+use Rattle.rc_select.specs.Ask.{asked_with, chosen_in, mode_of}
+use Rattle.rc_args.specs.Asked.{ask_in}
 use Rattle.rc_args.specs.Limits.{IsRunLimitIn}
 use Rattle.rc_args.specs.OnceAsked.{Adds, AsksWhat, OnceSaying, Said, WantsDryRedo, WantsDryUndo}
 use Rattle.rc_args.specs.OnceAsked.{once_command}
 use Rattle.rc_args.proofs.SessionWordsLemmas.{found_as, found_back}
 use Rattle.rc_args.proofs.TaskLemmas.{apart}
 
--- what the matches ask of a plan has no limit
-unlimited_by : (rows : List Row) (mode : Option Mode) (ask : Ask)
-    → option_map
-    (λ m. record {
-      mode = m;
-      prune = is_on (codes "prune") rows;
-      all = is_on (codes "all") rows;
-      words = words_in rows;
-      limit = 0;
-    }) mode ≡ Some ask
-    → ask.limit ≡ 0
-unlimited_by rows None ask is = cc
-unlimited_by rows (Some mode) ask is = sym (ap (λ (o : Option Ask). (unwrap_or o ask).limit) is)
+-- what flags ask has no limit
+unlimited_by : (on : List ℕ → Bool) (words : List (List ℕ)) (mode : Option Mode) (ask : Ask)
+    → option_map (asked_with (chosen_in on) words) mode ≡ Some ask → ask.limit ≡ 0
+unlimited_by on words None ask is = cc
+unlimited_by on words (Some mode) ask is =
+    sym (ap (λ (o : Option Ask). (unwrap_or o ask).limit) is)
 
 pub unlimited : (rows : List Row) (ask : Ask) → ask_in rows ≡ Some ask
     → ask_in rows ≡ Some (record ask { limit = 0 })
 unlimited rows ask is =
-    let zero =
-    unlimited_by rows
-    (mode_of (is_on (codes "up") rows) (is_on (codes "down") rows) (is_on (codes "down-all") rows))
-    ask is in
+    let on : List ℕ → Bool = λ name. is_on name rows in
+    let zero = unlimited_by on (words_in rows) (mode_of (chosen_in on)) ask is in
     is ∙ ap (λ (l : ℕ). Some (record ask { limit = l })) zero
 
 -- the limit in the matches, by the text that is found in them

@@ -3,7 +3,8 @@ ghost use Rattle.std.specs.Prelude.{◌≡◌, ◌≢◌, ◌⊎◌, ◌↔◌, 
 ghost use Rattle.std.specs.Prelude.{IsTrue};
 ghost use Rattle.clap.specs.Words.{found_of, rows_of};
 ghost use Rattle.rc_select.specs.Ask.{ask_of};
-ghost use Rattle.rc_args.specs.Asked.{AsksHelp, ask_in, mode_of, plan_asked};
+ghost use Rattle.rc_cmdline.specs.Words.{is_on as is_flag_on};
+ghost use Rattle.rc_args.specs.Asked.{AsksHelp, ask_in, plan_asked};
 ghost use Rattle.rc_streams.specs.Input.{AppendsFront, failure_text, fault_line};
 ghost use Rattle.rc_args.specs.declared.asked.WordsFault.TheVariants.{Memory};
 
@@ -12,7 +13,7 @@ use crate::texts::words_in;
 use clap::error::ErrorKind;
 use clap::{ArgMatches, Error as ClapError};
 use rc_cmdline::is_on;
-use rc_select::{Mode, Request};
+use rc_select::{Chosen, Flags, Request};
 use rc_streams::ending::{WRONG_LINE, fail};
 use rc_streams::{Failure, tell};
 use std::alloc::{AllocError, Global};
@@ -87,6 +88,18 @@ pub fn plan_asked(alloc: Global, words: &[String]) -> Result<Request, WordsFault
     }
 }
 
+// The flags of a command line.
+#[derive(Drop)]
+struct Given<'m, 'a>(&'m ArgMatches<'a>);
+
+impl Flags for Given<'_, '_> {
+    ghost on = { λ given name. is_flag_on name (rows_of (found_of given.0.now)) };
+
+    fn is_on(&self, name: &str) -> bool {
+        is_on(self.0, name)
+    }
+}
+
 /// What the matches of `plan` ask.
 pub(crate) fn plan_in(alloc: Global, matches: &ArgMatches<'_>) -> Result<Request, WordsFault>
     ensures asked { IfOk result (λ request.
@@ -94,30 +107,10 @@ pub(crate) fn plan_in(alloc: Global, matches: &ArgMatches<'_>) -> Result<Request
     ensures wrong { IfErr result (λ fault.
         fault ≢ Memory → ask_in (rows_of (found_of matches.now)) ≡ None) }
 {
-    let up = is_on(matches, "up");
-    let down = is_on(matches, "down");
-    let down_all = is_on(matches, "down-all");
-    match mode_of(up, down, down_all) {
-        Some(mode) => Ok(Request {
-            mode,
-            prune: is_on(matches, "prune"),
-            all: is_on(matches, "all"),
-            names: words_in(alloc, matches)?,
-            limit: 0,
-        }),
+    let chosen = Chosen::given(&Given(matches));
+    match chosen.mode() {
+        Some(mode) => Ok(chosen.request(mode, words_in(alloc, matches)?)),
         None => Err(WordsFault::Ways),
-    }
-}
-
-// The mode of the flags of the ways, of which one at most may be given.
-fn mode_of(up: bool, down: bool, down_all: bool) -> Option<Mode>
-    ensures { result ≡ mode_of up down down_all }
-{
-    match (up, down, down_all) {
-        (_, false, false) => Some(Mode::Up),
-        (false, true, false) => Some(Mode::Down),
-        (false, false, true) => Some(Mode::DownAll),
-        _ => None,
     }
 }
 

@@ -20,9 +20,6 @@ use Rattle.rc_script.specs.Says.{Saying, SaysStep, Says}
 use Rattle.rc_update.specs.Carrying.{AreNamesOf, IsAlteredUp}
 use Rattle.rc_update.specs.Conversions.{Conversion}
 use Rattle.rc_cli.specs.Begun.{AreLowered, BeginsOn, BeginsUpdate, SaysLowering, lowering}
-use Rattle.cmd_session.specs.Steps.{step_ask}
-use Rattle.rc_model.specs.Plan.{Ask}
-use Rattle.rc_model.specs.declared.Mode.TheVariants.{DownAll}
 use Rattle.rc_script.specs.declared.line.SessionLine.{SessionLine}
 use Rattle.rc_script.specs.declared.line.SessionLine.TheVariants as line_says
 use Rattle.rc_script.specs.Says.{saying_of}
@@ -174,21 +171,6 @@ update_same old new list file log d e answer one from to begins = (
       let also : update.1 ≡ e = one_base new update.1 e one update.3 to in
       begins.1 (subst (λ (x : Database). BeginsOn x e list file log) same
       (subst (λ (y : Database). BeginsOn update.0 y list file log) also update.4)),
-)
-
--- a request under the least limit is to lower these names where it has no others
-pub lowers_same : (ask : Ask) (names : List (List ℕ)) (answer : Bool) → ask.mode ≡ DownAll
-    → ask.prune ≡ false → ask.all ≡ false → ask.limit ≡ 1 → (IsTrue answer ↔ (ask.words ≡ names))
-    → IsTrue answer ↔ (ask ≡ record (step_ask DownAll names) { limit = 1 })
-lowers_same ask names answer mode prune all limit same = (
-  λ yes. λ k. record {
-    mode = mode k;
-    prune = prune k;
-    all = all k;
-    words = (same.0 yes) k;
-    limit = limit k;
-  },
-  λ is. same.1 (ap (λ (a : Ask). a.words) is),
 )
 
 -- a line that was read as no step says none

@@ -4,14 +4,11 @@ ghost use Rattle.std.specs.Prelude.{IfNone, IfSome, MatchOption, Some, map, stri
 ghost use Rattle.rc_input.specs.Base.{Spells};
 ghost use Rattle.rc_model.specs.Database.{Database};
 ghost use Rattle.rc_model.specs.Line.{Line};
-ghost use Rattle.rc_model.specs.declared.Mode.TheVariants.{DownAll};
 ghost use Rattle.rc_model.specs.Session.{IsLineOf};
 ghost use Rattle.rc_livetext.specs.Spelling.{Spells as SpellsLine};
-ghost use Rattle.rc_select.specs.Ask.{ask_of};
 ghost use Rattle.rc_session.specs.Commands.{command_of};
 ghost use Rattle.rc_update.specs.Conversions.{conversions_of};
 ghost use Rattle.rc_cli.specs.Begun.{AreLowered, BeginsOn, BeginsUpdate, SaysLowering, lowering};
-ghost use Rattle.cmd_session.specs.Steps.{step_ask};
 
 use memchr::memchr;
 use rc_db::Db;
@@ -20,7 +17,7 @@ use rc_input::database_of;
 use rc_livetext::{LiveFault, laws as live_laws, read_live};
 use rc_script::laws::lines_say_one_thing;
 use rc_script::{SessionLine, read_line};
-use rc_select::{Mode, Request};
+use rc_select::Mode;
 use rc_session::Step;
 use rc_set::NoMem;
 use rc_update::{Conversion, carry};
@@ -177,28 +174,9 @@ fn is_lowering(step: &Step, names: &[String]) -> bool
     ensures { IsTrue result ↔ (command_of step.now ≡ lowering (map string_bytes names.now)) }
 {
     match step {
-        Step::Change(request, events) => events.is_empty() && lowers(request, names),
+        Step::Change(request, events) => {
+            events.is_empty() && request.is_plain(Mode::DownAll, names, 1)
+        }
         _ => false,
     }
-}
-
-// Whether a request is to lower these names, under the least limit.
-fn lowers(request: &Request, names: &[String]) -> bool
-    ensures { IsTrue result ↔ (ask_of request.now
-        ≡ record (step_ask DownAll (map string_bytes names.now)) { limit = 1 }) }
-{
-    if request.prune || request.all || request.limit != 1 {
-        return false;
-    }
-    match request.mode {
-        Mode::DownAll => are_same(&request.names, names),
-        Mode::Up | Mode::Down => false,
-    }
-}
-
-// Whether two lists of names are one.
-fn are_same(names: &[String], others: &[String]) -> bool
-    ensures { IsTrue result ↔ (map string_bytes names.now ≡ map string_bytes others.now) }
-{
-    names == others
 }

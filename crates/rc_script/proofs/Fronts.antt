@@ -7,7 +7,7 @@ use Rattle.std.specs.Str.{bytes_eq}
 use Rattle.std.proofs.lemmas.Bool.{false≢true}
 use Rattle.std.proofs.Math.Seq.{drop-drop}
 use Rattle.std.proofs.lemmas.List.{append-nil, length-drop}
-use Rattle.rc_script.specs.declared.options.Choice.{Choice}
+use Rattle.rc_select.specs.declared.request.Choice.{Choice}
 use Rattle.rc_script.specs.Options.{Front, onto, front_of, has_option, word_choices, IsOption}
 
 onto_onto : (a b : List Choice) (front : Option Front) → onto a (onto b front) ≡ onto (a ++ b) front

@@ -9,7 +9,7 @@ use Rattle.std.specs.Option.{option_map_or}
 use Rattle.rc_model.specs.Session.{Command, Change, Undo, Redo, events_of}
 use Rattle.rc_script.specs.declared.verb.Verb.{Verb}
 use Rattle.rc_script.specs.declared.verb.Verb.TheVariants as verb
-use Rattle.rc_script.specs.declared.options.Choice.{Choice}
+use Rattle.rc_select.specs.declared.request.Choice.{Choice}
 use Rattle.rc_script.specs.Words.{words_in, is_silent}
 use Rattle.rc_script.specs.Options.{front_of, ask_chosen}
 use Rattle.rc_script.specs.Says.{Saying, SaysWrong, SaysStep, SaysDry, SaysLive, SaysBundles}

@@ -1,26 +1,13 @@
 -- The options in front of the word that says what a line does.
-use Rattle.std.specs.Prelude.{◌≡◌, ◌<◌, ◌≤◌, ◌==◌, ◌||◌, ◌++◌, ℕ, Bool, true, false, List, [], ◌∷◌}
+use Rattle.std.specs.Prelude.{◌≡◌, ◌<◌, ◌≤◌, ◌==◌, ◌++◌, ℕ, Bool, true, false, List, [], ◌∷◌}
 use Rattle.std.specs.Prelude.{Option, None, Some, codes, length, drop, slice_index, nat_lt}
 use Rattle.std.specs.Prelude.{option_and_then, option_map, if◌then◌else◌}
 use Rattle.std.specs.Str.{bytes_eq}
-use Rattle.rc_model.specs.declared.Mode.{Mode}
-use Rattle.rc_model.specs.declared.Mode.TheVariants as mode
 use Rattle.rc_model.specs.Plan.{Ask}
-use Rattle.rc_script.specs.declared.options.Choice.{Choice}
-use Rattle.rc_script.specs.declared.options.Choice.TheVariants.{Up, Down, DownAll, Prune, All}
-use Rattle.rc_script.specs.declared.options.Choice.TheVariants.{Limit}
-use Rattle.rc_script.specs.declared.options.Chosen.{Chosen}
+use Rattle.rc_select.specs.declared.request.Choice.{Choice}
+use Rattle.rc_select.specs.declared.request.Choice.TheVariants.{Limit}
+use Rattle.rc_select.specs.Ask.{choice_of, none_chosen, with_choices, asked_by}
 use Rattle.rc_script.specs.Words.{limit_of}
-
--- what a letter chooses
-abbrev pub choice_of : ℕ → Option Choice
-choice_of letter =
-    if letter == 117 then Some Up
-    else if letter == 100 then Some Down
-    else if letter == 68 then Some DownAll
-    else if letter == 112 then Some Prune
-    else if letter == 97 then Some All
-    else None
 
 -- what letters choose, where each chooses something
 abbrev pub choices_of : List ℕ → Option (List Choice)
@@ -60,43 +47,7 @@ abbrev pub has_option : List (List ℕ) → Bool
 has_option [] = false
 has_option (word ∷ words) = slice_index word 0 == 45
 
--- nothing chosen
-abbrev pub none_chosen : Chosen
-none_chosen =
-    record { up = false; down = false; down_all = false; prune = false; all = false; limit = 0 }
-
--- one choice more: a letter again changes nothing, and a limit stands in place of the one before
-abbrev pub with_choice : Chosen → Choice → Chosen
-with_choice chosen Up = record chosen { up = true }
-with_choice chosen Down = record chosen { down = true }
-with_choice chosen DownAll = record chosen { down_all = true }
-with_choice chosen Prune = record chosen { prune = true }
-with_choice chosen All = record chosen { all = true }
-with_choice chosen (Limit limit) = record chosen { limit = limit }
-
--- choices one after the other
-abbrev pub with_choices : Chosen → List Choice → Chosen
-with_choices chosen [] = chosen
-with_choices chosen (choice ∷ choices) = with_choices (with_choice chosen choice) choices
-
--- the mode of the three ways, of which one at most may be chosen; up where none is
-abbrev pub mode_of : (up down down_all : Bool) → Option Mode
-mode_of up down down_all =
-    if down then (if up || down_all then None else Some mode.Down)
-    else (if down_all then (if up then None else Some mode.DownAll) else Some mode.Up)
-
 -- what a change with these choices asks of these words
-abbrev pub asked_by : Chosen → List (List ℕ) → Option Ask
-asked_by chosen words = option_map
-    (λ mode. record {
-      mode = mode;
-      prune = chosen.prune;
-      all = chosen.all;
-      words = words;
-      limit = chosen.limit;
-    })
-    (mode_of chosen.up chosen.down chosen.down_all)
-
 abbrev pub ask_chosen : List Choice → List (List ℕ) → Option Ask
 ask_chosen choices words = asked_by (with_choices none_chosen choices) words
 

@@ -15,7 +15,6 @@ mod verb;
 mod words;
 
 pub use crate::line::{SessionLine, read_line};
-pub use crate::options::mode_of;
 pub use crate::run_lines::{event_line, step_line};
 pub use crate::script::{ScriptFault, read_script};
 pub use crate::words::{is_digits, texts_of, words_of};

@@ -4,11 +4,11 @@ ghost use Rattle.rc_script.specs.Says.{Says, IsSaid, HasName, limit_alone, sayin
 ghost use Rattle.rc_script.specs.Says.{behind, said, plain, alone, addition_of, is_forced};
 ghost use Rattle.rc_script.specs.Says.{unforced};
 
-use crate::options::{Choice, front_of, only_limit, request_of, strings_of};
+use crate::options::{front_of, only_limit, request_of, strings_of};
 use crate::verb::Verb;
 use crate::words::{is_silent, texts_of, words_of};
 use rc_names::{Name, NameFault, NoMem};
-use rc_select::Request;
+use rc_select::{Choice, Request};
 use rc_session::Step;
 use std::alloc::{AllocError, Global};
 

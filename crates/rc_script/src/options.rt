@@ -2,73 +2,13 @@
 ghost use Rattle.std.specs.Prelude.{◌≡◌, ◌<◌, false, true, ◌∷◌, None, map, option_map, length};
 ghost use Rattle.std.specs.Prelude.{slice_index, IfOk, MatchBool, MatchOption, string_bytes};
 ghost use Rattle.rc_select.specs.Ask.{ask_of};
-ghost use Rattle.rc_script.specs.Options.{IsOption, has_option, choice_of, choices_of};
-ghost use Rattle.rc_script.specs.Options.{word_choices, front_of, none_chosen, with_choice};
-ghost use Rattle.rc_script.specs.Options.{with_choices, mode_of, ask_chosen, only_limit};
+ghost use Rattle.rc_script.specs.Options.{IsOption, has_option, choices_of, word_choices};
+ghost use Rattle.rc_script.specs.Options.{front_of, ask_chosen, only_limit};
 
 use crate::words::limit_of;
 use rc_names::NoMem;
-use rc_select::{Mode, Request};
+use rc_select::{Choice, Chosen, Request};
 use std::alloc::Global;
-
-/// What one letter or one limit in front of a line chooses.
-#[derive(Clone, Copy, PartialEq, Eq)]
-pub(crate) enum Choice {
-    /// Bring up; so it is without a way.
-    Up,
-    /// Bring down, but for what essential services hold up.
-    Down,
-    /// Bring down.
-    DownAll,
-    /// Lower what is not named.
-    Prune,
-    /// Name all that is up too.
-    All,
-    /// A limit in milliseconds, 0 for none.
-    Limit(u32),
-}
-
-/// What the choices in front of a line come to.
-#[derive(Clone, Copy)]
-pub(crate) struct Chosen {
-    up: bool,
-    down: bool,
-    down_all: bool,
-    prune: bool,
-    all: bool,
-    limit: u32,
-}
-
-impl Chosen {
-    /// Nothing chosen.
-    fn none() -> Chosen
-        ensures { result ≡ none_chosen }
-    {
-        Chosen {
-            up: false,
-            down: false,
-            down_all: false,
-            prune: false,
-            all: false,
-            limit: 0,
-        }
-    }
-
-    /// One choice more.
-    fn with(mut self, choice: Choice) -> Chosen
-        ensures { result ≡ with_choice self choice }
-    {
-        match choice {
-            Choice::Up => self.up = true,
-            Choice::Down => self.down = true,
-            Choice::DownAll => self.down_all = true,
-            Choice::Prune => self.prune = true,
-            Choice::All => self.all = true,
-            Choice::Limit(limit) => self.limit = limit,
-        }
-        self
-    }
-}
 
 /// The choices in front of a line, and the words after them, where the choices are well formed.
 pub(crate) fn front_of<'a, 'b>(
@@ -168,26 +108,12 @@ fn choices_of(alloc: Global, letters: &[u8]) -> Result<Option<Vec<Choice>>, NoMe
 {
     let mut choices = Vec::new(alloc);
     for letter in letters {
-        match choice_of(*letter) {
+        match Choice::of(*letter) {
             Some(choice) => choices.push(choice)?,
             None => return Ok(None),
         }
     }
     Ok(Some(choices))
-}
-
-/// What a letter chooses.
-fn choice_of(letter: u8) -> Option<Choice>
-    ensures { result ≡ choice_of letter }
-{
-    match letter {
-        b'u' => Some(Choice::Up),
-        b'd' => Some(Choice::Down),
-        b'D' => Some(Choice::DownAll),
-        b'p' => Some(Choice::Prune),
-        b'a' => Some(Choice::All),
-        _ => None,
-    }
 }
 
 /// What a change with these choices asks of these words.
@@ -199,39 +125,10 @@ pub(crate) fn request_of(
     ensures { IfOk result (λ request. option_map ask_of request
         ≡ ask_chosen choices.now (map (λ word. word.now) words.now)) }
 {
-    let chosen = chosen_by(choices);
-    match mode_of(chosen.up, chosen.down, chosen.down_all) {
-        Some(mode) => Ok(Some(Request {
-            mode,
-            prune: chosen.prune,
-            all: chosen.all,
-            names: strings_of(alloc, words)?,
-            limit: chosen.limit,
-        })),
+    let chosen = Chosen::by(choices);
+    match chosen.mode() {
+        Some(mode) => Ok(Some(chosen.request(mode, strings_of(alloc, words)?))),
         None => Ok(None),
-    }
-}
-
-/// What choices come to.
-fn chosen_by(choices: &[Choice]) -> Chosen
-    ensures { result ≡ with_choices none_chosen choices.now }
-{
-    let mut chosen = Chosen::none();
-    for choice in choices {
-        chosen = chosen.with(*choice);
-    }
-    chosen
-}
-
-/// The mode of the three ways, of which one at most may be chosen; up where none is.
-pub fn mode_of(up: bool, down: bool, down_all: bool) -> Option<Mode>
-    ensures { result ≡ mode_of up down down_all }
-{
-    match (up, down, down_all) {
-        (_, false, false) => Some(Mode::Up),
-        (false, true, false) => Some(Mode::Down),
-        (false, false, true) => Some(Mode::DownAll),
-        _ => None,
     }
 }
 

@@ -1,8 +1,7 @@
 //! The lines of a run log: a step as a session line, and an event as a line of a script. Each line
 //! is read back before it is returned, so it says what it was made of.
-ghost use Rattle.std.specs.Prelude.{◌≡◌, ◌++◌, ◌∷◌, [], IfOk, IfSome, IsTrue, Contains, map};
+ghost use Rattle.std.specs.Prelude.{◌≡◌, ◌++◌, ◌∷◌, [], IfOk, IfSome, IsTrue, Contains};
 ghost use Rattle.std.specs.Prelude.{string_bytes};
-ghost use Rattle.rc_select.specs.Ask.{ask_of};
 ghost use Rattle.rc_session.specs.Commands.{command_of};
 ghost use Rattle.rc_script.specs.RunLines.{IsEventLine, IsStepLine, least_limited};
 ghost use Rattle.rc_script.specs.Says.{Says, SaysStep};
@@ -12,7 +11,7 @@ use crate::line::{SessionLine, read_line};
 use crate::script::event_of;
 use rc_core::{Event, Outcome};
 use rc_names::{Names, NoMem};
-use rc_select::{Mode, Request};
+use rc_select::Request;
 use rc_session::Step;
 use std::alloc::Global;
 
@@ -37,14 +36,8 @@ pub fn step_line(alloc: Global, step: &Step) -> Result<Option<String>, NoMem>
 
 /// A change as a session line, without its newline.
 fn change_line(alloc: Global, request: &Request) -> Result<String, NoMem> {
-    let way = match request.mode {
-        Mode::Up => "-u",
-        Mode::Down => "-d",
-        Mode::DownAll => "-D",
-    };
-    let prune = if request.prune { "p" } else { "" };
-    let all = if request.all { "a" } else { "" };
-    let mut line = format!(in alloc; "-t 1 {way}{prune}{all} change")?;
+    let letters = request.letters(alloc)?;
+    let mut line = format!(in alloc; "-t 1 -{letters} change")?;
     for name in &request.names {
         line.push_str(" ")?;
         line.push_str(name.as_str())?;
@@ -72,29 +65,12 @@ fn is_least_limited(step: &Step, read: &Step) -> bool
 {
     match (step, read) {
         (Step::Change(asked, _), Step::Change(read, events)) => {
-            events.is_empty() && is_limited(asked, read)
+            events.is_empty() && read.is_limited(asked, 1)
         }
         (Step::Undo(..), Step::Undo(limit, events)) => events.is_empty() && *limit == 1,
         (Step::Redo(..), Step::Redo(limit, events)) => events.is_empty() && *limit == 1,
         _ => false,
     }
-}
-
-/// Whether the second request is the first one under the least limit.
-fn is_limited(asked: &Request, read: &Request) -> bool
-    ensures { IsTrue result → ask_of read.now ≡ record (ask_of asked.now) { limit = 1 } }
-{
-    if !are_same(&asked.names, &read.names) || read.limit != 1 {
-        return false;
-    }
-    read.mode == asked.mode && read.prune == asked.prune && read.all == asked.all
-}
-
-/// Whether two lists of names are one.
-fn are_same(names: &[String], others: &[String]) -> bool
-    ensures { IsTrue result → map string_bytes others.now ≡ map string_bytes names.now }
-{
-    names == others
 }
 
 /// An event as a line of a script, of the services of these names; a newline ends it. None: no line

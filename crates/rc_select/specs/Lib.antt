@@ -2,7 +2,7 @@
 
 -- The sets of a plan, as they fit each other.
 pub mod PlanSets
--- What a request asks.
+-- What a request asks, and the options that say so.
 pub mod Ask
 -- Why the wanted services of a plan are not found.
 pub mod PlanFaults

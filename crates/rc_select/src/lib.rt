@@ -8,6 +8,6 @@ mod select;
 mod sides;
 
 pub use crate::plans::{Plan, between, plan_up};
-pub use crate::request::{Mode, PlanFault, Request};
+pub use crate::request::{Choice, Chosen, Flags, Mode, PlanFault, Request};
 pub use crate::select::plan;
 pub use rc_set::NoMem;

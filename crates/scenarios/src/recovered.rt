@@ -103,13 +103,7 @@ pub(crate) fn log_of(alloc: Global, text: &[u8], row: &Row) -> Result<Vec<u8>, F
 pub(crate) fn raise_site(alloc: Global) -> Result<Step, Fail> {
     let mut names = Vec::new(alloc);
     names.push(String::from_str(alloc, "site")?)?;
-    let request = Request {
-        mode: Mode::Up,
-        prune: false,
-        all: false,
-        names,
-        limit: 60_000,
-    };
+    let request = Request::plain(Mode::Up, names, 60_000);
     Ok(Step::Change(request, Vec::new(alloc)))
 }
 

@@ -77,13 +77,7 @@ fn run_of(alloc: Global, services: &[u16]) -> Result<Vec<Event>, NoMem> {
 
 fn up_site(alloc: Global, limit: u32, order: &[u16]) -> Result<Step, NoMem> {
     let names = words_of(alloc, &["site"])?;
-    let request = Request {
-        mode: Mode::Up,
-        prune: false,
-        all: false,
-        names,
-        limit,
-    };
+    let request = Request::plain(Mode::Up, names, limit);
     Ok(Step::Change(request, run_of(alloc, order)?))
 }
 

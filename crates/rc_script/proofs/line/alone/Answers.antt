@@ -1,7 +1,7 @@
 use Rattle.std.proofs.Common.{◌≡◌, ◌==◌, inl, ℕ, true, false, List, [], ◌∷◌, length, map, refl, sym}
 use Rattle.std.proofs.Common.{arith}
 use Rattle.std.proofs.lemmas.Bool.{eqb-true}
-use Rattle.rc_script.specs.declared.options.Choice.{Choice}
+use Rattle.rc_select.specs.declared.request.Choice.{Choice}
 use Rattle.rc_script.specs.Says.{Saying, SaysWrong, HasName, IsSaid, alone, plain, saying_of}
 use Rattle.rc_script.proofs.line.alone.Goals.{else-is_empty-via-else-is_empty}
 use Rattle.rc_script.proofs.line.alone.Goals.{else-is_empty-via-then-is_empty+else-is_empty-2}

@@ -1,7 +1,7 @@
 use Rattle.std.proofs.Common.{◌≡◌, ◌∙◌, ℕ, List, Option, Some, false, map, ap}
 use denote.Ref.{Bor}
 use Rattle.std.specs.Option.{option_map_or}
-use Rattle.rc_script.specs.declared.options.Choice.{Choice}
+use Rattle.rc_select.specs.declared.request.Choice.{Choice}
 use Rattle.rc_script.specs.Options.{Front, front_of}
 use Rattle.rc_script.specs.Says.{SaysWrong, behind, saying_of}
 use Rattle.rc_script.proofs.Sayings.{said_as}

@@ -1,6 +1,6 @@
 use Rattle.std.proofs.Common.{◌∙◌, ◌++◌, ℕ, List, sym, ap}
 use denote.Ref.{Bor}
-use Rattle.rc_script.specs.declared.options.Choice.{Choice}
+use Rattle.rc_select.specs.declared.request.Choice.{Choice}
 use Rattle.rc_script.proofs.Fronts.{words_some, first_filled, limit_option, limit_fails}
 use Rattle.rc_script.proofs.Fronts.{letters_option}
 use Rattle.rc_script.proofs.Texts.{images_from}

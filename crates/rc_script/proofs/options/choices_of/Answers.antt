@@ -3,8 +3,9 @@ use Rattle.std.proofs.Common.{length, drop, get_or, refl, sym, ap, subst, append
 use Rattle.std.specs.Option.{option_map, option_and_then}
 use Rattle.std.proofs.Math.ListN.{drop_of_length-le}
 use Rattle.std.proofs.lemmas.List.{drop_more}
-use Rattle.rc_script.specs.declared.options.Choice.{Choice}
-use Rattle.rc_script.specs.Options.{choice_of, choices_of}
+use Rattle.rc_select.specs.declared.request.Choice.{Choice}
+use Rattle.rc_select.specs.Ask.{choice_of}
+use Rattle.rc_script.specs.Options.{choices_of}
 use Rattle.rc_script.proofs.options.choices_of.Goals as goal
 
 abbrev in_front : List Choice → Option (List Choice) → Option (List Choice)

@@ -2,7 +2,7 @@ use Rattle.std.proofs.Common.{◌∙◌, map, string_bytes, sym}
 use Rattle.std.specs.Cmp.Derive.Mapped.{pointwise-map}
 use Rattle.std.specs.Str.{bytes_eq}
 use Rattle.std.proofs.lemmas.Slice.Eq.{bytes_eq-Decides, slice_eq-Decides}
-use Rattle.rc_cli.proofs.begun.are_same.Goals as goal
+use Rattle.rc_select.proofs.request.are_same.Goals as goal
 
 pub returns : goal.returns
 returns c =

@@ -1,6 +1,6 @@
 use Rattle.std.proofs.Common.{◌≡◌, drop}
-use Rattle.rc_script.specs.Options.{none_chosen, with_choices}
-use Rattle.rc_script.proofs.options.chosen_by.Given as goal
+use Rattle.rc_select.specs.Ask.{none_chosen, with_choices}
+use Rattle.rc_select.proofs.request.Chosen.by.Given as goal
 
 abbrev pub invariant-loop-choice : goal.invariant-loop-choice
 invariant-loop-choice l =
