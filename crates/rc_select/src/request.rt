@@ -48,7 +48,7 @@ impl Request {
         are_same(&self.names, names)
     }
 
-    /// Whether it is another one under this limit.
+    /// Whether it is the same as another request but for the limit, which is this one.
     pub fn is_limited(&self, other: &Request, limit: u32) -> bool
         ensures { IsTrue result
             ↔ (ask_of self.now ≡ record (ask_of other.now) { limit = limit }) }
@@ -98,7 +98,7 @@ fn are_same(names: &[String], others: &[String]) -> bool
 /// What one option of a change chooses.
 #[derive(Clone, Copy, PartialEq, Eq)]
 pub enum Choice {
-    /// Bring up; so it is without a way.
+    /// Bring up, the default.
     Up,
     /// Bring down, but for what essential services hold up.
     Down,
@@ -163,7 +163,7 @@ impl Chosen {
         }
     }
 
-    /// One choice more.
+    /// The same with one more choice.
     fn with(mut self, choice: Choice) -> Chosen
         ensures { result ≡ with_choice self choice }
     {
@@ -178,7 +178,7 @@ impl Chosen {
         self
     }
 
-    /// What choices come to, one after the other.
+    /// What these choices come to, in this order.
     pub fn by(choices: &[Choice]) -> Chosen
         ensures { result ≡ with_choices none_chosen choices.now }
     {
