@@ -9,6 +9,7 @@ session agrees with what the scripts recorded, but for what was under way; what 
 unfit; and an undo takes the entry back. The last line is 'N passed, M failed'.
 """
 
+import ctypes
 import os
 import random
 import signal
@@ -19,6 +20,8 @@ import time
 
 SERVICES = 40
 KILLS = [signal.SIGKILL, signal.SIGKILL, signal.SIGTERM, signal.SIGINT]
+# Of <linux/prctl.h>.
+PR_SET_CHILD_SUBREAPER = 36
 
 
 class Wrong(Exception):
@@ -109,12 +112,6 @@ class Machine:
                         names.discard(words[2])
         return names
 
-    def wait_for_scripts(self):
-        """Waits until no script goes on that a killed command left."""
-        mark = self.path("done").encode()
-        while any(mark in words for words in command_lines()):
-            time.sleep(0.01)
-
     def cut_short(self, words, lines, pause):
         """A command that is killed after a pause, if it has not ended by then."""
         process = subprocess.Popen([self.program, *words], env=self.environment(), stdin=subprocess.PIPE,
@@ -129,14 +126,19 @@ class Machine:
         process.wait()
 
 
-def command_lines():
-    """The command line of each process."""
-    for number in filter(str.isdigit, os.listdir("/proc")):
-        try:
-            with open(f"/proc/{number}/cmdline", "rb") as file:
-                yield file.read()
-        except OSError:
-            pass
+def adopt_orphans():
+    """What a killed command started becomes a child of this process, also where it has yet to run its program."""
+    if ctypes.CDLL(None, use_errno=True).prctl(PR_SET_CHILD_SUBREAPER, 1, 0, 0, 0) != 0:
+        raise OSError(ctypes.get_errno(), "prctl")
+
+
+def wait_for_orphans():
+    """Waits until nothing goes on that a killed command started."""
+    try:
+        while True:
+            os.wait()
+    except ChildProcessError:
+        pass
 
 
 def command(machine):
@@ -201,7 +203,7 @@ def round_of(machine):
     # A recovery that is killed itself, now and then.
     if machine.draw.random() < 0.3:
         machine.cut_short(["change"], "", machine.draw.uniform(0.0, 0.01))
-    machine.wait_for_scripts()
+    wait_for_orphans()
     told = settle(machine, words)
     judge(machine, words, under_way)
     is_entered = "Recovered" in told
@@ -215,6 +217,7 @@ def main():
     rounds = int(sys.argv[2]) if len(sys.argv) > 2 else 200
     seed = int(sys.argv[3]) if len(sys.argv) > 3 else int(time.time()) // 86400
     print(f"kills.py: seed {seed}")
+    adopt_orphans()
     passed = failed = entered = 0
     with tempfile.TemporaryDirectory() as folder:
         machine = Machine(program, folder, random.Random(seed))
