@@ -83,6 +83,7 @@ done | awk '
         printf "\nThe mutants, of which crates that do not stand on each other are tried together: %.0f s.\n", tried
     }
 ' "$room/sums" -
-awk '{ printf "\nThe whole: %.0f processor minutes, %.0f minutes by the clock.\n", ($1 + $2) / 60, $3 / 60 }' \
-    "$room/time"
+# A command that fails has lines of its own before the times.
+tail -n 1 "$room/time" |
+    awk '{ printf "\nThe whole: %.0f processor minutes, %.0f minutes by the clock.\n", ($1 + $2) / 60, $3 / 60 }'
 exit "$status"

@@ -14,8 +14,9 @@ pairs 'old: TEXT' and 'new: TEXT', of which each old text stands in the file onc
 
 Many are tried in one run of the prover, in copies of their crates with names of their own. A run proves
 the named functions alone: in the copies all others have a hole for a proof, so that they stand for their
-contracts, and no body. A further mutant of one function stands beside the first in a function of its own,
-with the same contract and the same proof files, or, where it changes more than that, in a further copy.
+contracts, and no body, and lemmas that nothing left cites are taken out. A further mutant of one function
+stands beside the first in a function of its own, with the same contract and the same proof files, or, where
+it changes more than that, in a further copy.
 Of a mutated function the goal that the mutant names is tried, and no other that has no written answer: by
 what the prover would try of itself, each under a name of its own. So a mutant costs one goal, and not all
 that its function has.
@@ -207,6 +208,21 @@ class Copy:
                 f"pub {function}_spec : {{M : Type 1}} → statement M\n{function}_spec = ?\n"
             )
 
+    def leave_out_lemmas(self):
+        """Takes out the modules of lemmas that nothing left cites: the prover would check them once more for each copy."""
+        folder = self.folder / "proofs"
+        library = folder / "Lib.antt"
+        modules = {it.stem: it for it in folder.glob("*.antt") if it != library}
+        cites = re.compile(rf"\bRattle\.{self.name}\.proofs\.(\w+)|\bproofs::(\w+)::")
+        left = [it for it in self.folder.rglob("*.*") if it.is_file() and it.parent != folder]
+        cited = set()
+        while left:
+            found = {one or other for one, other in cites.findall(left.pop().read_text())}
+            left += [modules[it] for it in (found & modules.keys()) - cited]
+            cited |= found
+        for name in modules.keys() - cited:
+            modules[name].unlink()
+            library.write_text(re.sub(rf"^(pub )?mod {name}$", "", library.read_text(), flags=re.M))
 
     def leave_out_goals(self):
         """Has the goal that a mutant names tried, and those with a written answer, and no other of its function."""
@@ -498,6 +514,7 @@ class Trial:
         for copy in self.copies:
             copy.leave_out_others()
             copy.leave_out_goals()
+            copy.leave_out_lemmas()
         with ThreadPoolExecutor(lanes) as pool:
             left = [mutant for some in pool.map(self.try_together, self.batches(lanes)) for mutant in some]
             if self.is_right:
@@ -510,7 +527,8 @@ def lanes():
     """How many runs go side by side: one a processor, as far as memory allows."""
     if "JOBS" in os.environ:
         return int(os.environ["JOBS"])
-    room = os.sysconf("SC_AVPHYS_PAGES") * os.sysconf("SC_PAGE_SIZE")
+    meminfo = pathlib.Path("/proc/meminfo").read_text()
+    room = int(re.search(r"^MemAvailable: +(\d+) kB$", meminfo, re.M)[1]) * 1024
     return max(1, min(len(os.sched_getaffinity(0)), room // RUN_BYTES))
 
 
