@@ -12,3 +12,5 @@ mod Swaps
 mod Reordering
 -- The events of a run without its stop.
 mod Unstopped
+-- What is said of the one command of a list holds of the list.
+mod Single
