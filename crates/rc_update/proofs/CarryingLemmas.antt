@@ -1,5 +1,5 @@
 -- What stays up needs nothing that does not, in the old database and in the new one.
-use Rattle.std.proofs.Common.{◌≡◌, ◌∙◌, ◌≤◌, inl, inr, ℕ, Bool, List, Some, length, slice_get}
+use Rattle.std.proofs.Common.{◌≡◌, ◌∙◌, ◌≤◌, ◌<◌, inl, inr, ℕ, Bool, List, Some, length, slice_get}
 use Rattle.std.proofs.Common.{sym, ap, subst, arith}
 use Rattle.std.proofs.lemmas.Option.{slice_get_within, same_Some}
 use Rattle.rc_model.specs.Names.{Has, Holds}
@@ -12,6 +12,11 @@ use Rattle.rc_db.proofs.Listing.{Passed}
 use Rattle.rc_update.specs.Conversions.{Conversion, counterpart}
 use Rattle.rc_update.specs.Carrying.{AreNamesOf, Carried, IsAlteredUp, IsTwin, IsUnaltered}
 use Rattle.rc_update.specs.Carrying.{NeedTwins, StaysUp}
+
+-- a twin is a service of the new database
+pub twin_within : (old new : Database) (list : List Conversion) (s t : ℕ) → IsTwin old new list s t
+    → t < length new.names
+twin_within old new list s t is = slice_get_within new.names t is.1 is.4
 
 -- a service goes on as one
 pub one_twin : (old new : Database) (list : List Conversion) (s t u : ℕ) → IsDatabase new
