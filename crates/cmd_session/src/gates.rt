@@ -3,7 +3,7 @@ ghost use Rattle.std.specs.Prelude.{◌≡◌, option_map, IfErr, IfOk};
 ghost use Rattle.rc_runner.specs.Shell.{scripts_of};
 ghost use Rattle.rc_args.specs.Making.{making_ask_of};
 ghost use Rattle.rc_args.specs.Programs.{controller_in, runner_in};
-ghost use Rattle.cmd_session.specs.Gating.{IsGateFor, IsGateless};
+ghost use Rattle.cmd_session.specs.Gating.{IsGateFor, IsGateless, IsOnFiles};
 
 use crate::failing::gate_of;
 use crate::host::Host;
@@ -23,6 +23,8 @@ pub fn gate_for<'h, 'a, T, L: Log + Sync>(
     tells: bool,
 ) -> Result<Telling<'h, L, SessionGate<'h, HostRuntime, L>>, SessionFault<'a>>
     ensures made { IfOk result (λ gate. IsGateFor db.now (making_ask_of making.now) gate) }
+    ensures files { IfOk result
+        (IsOnFiles tells (option_map (λ files. files.now) host.now.run_files)) }
     ensures fault { IfErr result (IsGateless db.now (making_ask_of making.now)) }
 {
     let gate = match quiet_gate(host, db, making, tells) {
@@ -43,6 +45,8 @@ fn quiet_gate<'h, 'a, T, L: Log + Sync>(
     tells: bool,
 ) -> Result<SessionGate<'h, HostRuntime, L>, SessionFault<'a>>
     ensures made { IfOk result (λ gate. IsGateFor db.now (making_ask_of making.now) gate) }
+    ensures files { IfOk result
+        (IsOnFiles tells (option_map (λ files. files.now) host.now.run_files)) }
     ensures fault { IfErr result (IsGateless db.now (making_ask_of making.now)) }
 {
     match making {
@@ -65,10 +69,15 @@ fn shell_gate<'h, T, L: Log + Sync>(
     programs: &Programs<'_>,
     tells: bool,
 ) -> Result<ShellGate<'h, HostRuntime, L>, NoMem>
-    ensures { IfOk result (λ gate. gate ≡ scripts_of db.now
+    ensures scripts { IfOk result (λ gate. gate.scripts ≡ scripts_of db.now
         (runner_in (option_map (λ text. text.now) programs.now.runner))
         (controller_in (option_map (λ text. text.now) programs.now.controller))
         programs.now.limit) }
+    ensures shows { IfOk result (λ gate. gate.shows ≡ tells) }
+    ensures log { IfOk result (λ gate. gate.log
+        ≡ option_map (λ files. files.now.log) host.now.run_files) }
+    ensures stop { IfOk result (λ gate. gate.stop
+        ≡ option_map (λ files. files.now.stop) host.now.run_files) }
 {
     let runner = programs.runner_words(host.alloc)?;
     let controller = programs.controller_words(host.alloc)?;

@@ -11,7 +11,7 @@ use Rattle.rc_runner.specs.declared.session_gate.SessionGate.TheVariants.{Table,
 -- by a table what stands there; by programs what they may end with
 abbrev pub gate_answers : {R L : Type 0} → SessionGate R L → ℕ → Way → Outcome → Type 0
 gate_answers (Table table) s way outcome = outcome ≡ outcome_in table.failing s way
-gate_answers (Shell shell) s way outcome = MayAnswer shell s way outcome
+gate_answers (Shell shell) s way outcome = MayAnswer shell.scripts s way outcome
 
 -- a table's clock gives its own; of another clock nothing is known
 abbrev pub gate_gives : {R L : Type 0} → SessionGate R L → ℕ → Type 0

@@ -1,6 +1,6 @@
 -- What a gate that starts programs may answer.
 use Rattle.std.specs.Prelude.{◌≡◌, ◌≢◌, ◌+◌, ◌/◌, ◌≤◌, ◌++◌, ◌∷◌, ◌⊎◌, ℕ, List, [], Option, Some}
-use Rattle.std.specs.Prelude.{None, slice_get, codes, decimal, ◌==◌, if◌then◌else◌}
+use Rattle.std.specs.Prelude.{None, Bool, false, slice_get, codes, decimal, ◌==◌, if◌then◌else◌}
 use Rattle.std.specs.Process.{command_program, command_args, command_var}
 use Rattle.std.specs.declared.process.command.Command.{Command}
 use Rattle.rc_model.specs.declared.Kind.{Kind}
@@ -11,6 +11,8 @@ use Rattle.rc_model.specs.declared.Outcome.{Outcome}
 use Rattle.rc_model.specs.declared.Outcome.TheVariants as outcome
 use Rattle.rc_model.specs.Database.{Service, Database}
 use Rattle.rc_db.specs.Service.{limit_of}
+use Rattle.rc_streams.specs.declared.run_file.RunFile.{RunFile}
+use Rattle.rc_streams.specs.declared.stop_file.StopFile.{StopFile}
 
 -- what is kept of a database, the words of the program that runs the texts of oneshots and of the
 -- one that moves longruns, and the limit of services without one of their own, 0 for none
@@ -30,6 +32,18 @@ scripts_of d runner controller limit = record {
   controller = controller;
   limit = limit;
 }
+
+-- a gate that starts programs: what it is to run, whether what they write is shown, and the files
+-- in which its runs are logged and by which they are called off, if there are any
+pub record Starting : Type 0 where
+  pub scripts : Scripts
+  pub shows : Bool
+  pub log : Option RunFile
+  pub stop : Option StopFile
+
+-- one that shows nothing and logs nothing, and that nothing calls off
+abbrev pub quiet : Scripts → Starting
+quiet scripts = record { scripts = scripts; shows = false; log = None; stop = None }
 
 -- a limit of one's own, or the usual one where that is 0
 abbrev pub limit_or : (own usual : ℕ) → ℕ

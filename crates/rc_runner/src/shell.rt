@@ -1,10 +1,11 @@
 //! A gate that starts programs.
 
-ghost use Rattle.std.specs.Prelude.{◌≡◌, IfOk, OnErr, map, string_bytes, option_map, slice_get};
+ghost use Rattle.std.specs.Prelude.{◌≡◌, IfOk, OnErr, Some, true, map, string_bytes, option_map};
+ghost use Rattle.std.specs.Prelude.{slice_get};
 ghost use Rattle.rc_db.specs.Service.{limit_of};
 ghost use Rattle.rc_runner.specs.Orders.{IsControl, IsMoveFor, IsMoveOf, IsTextRun};
 ghost use Rattle.rc_runner.specs.Shell.{MayAnswer, MayCall, MayEnd, MayMove, MayRun, limit_or};
-ghost use Rattle.rc_runner.specs.Shell.{scripts_of, seconds_of, text_of};
+ghost use Rattle.rc_runner.specs.Shell.{quiet, scripts_of, seconds_of, text_of};
 
 use crate::copy::{names_of, services_of, words_of};
 use crate::messages::tell;
@@ -59,17 +60,22 @@ pub struct ShellGate<'a, R, L> {
 }
 
 impl<'a, R, L> Model for ShellGate<'a, R, L> {
-    ghost use Rattle.std.specs.Prelude.{map, string_bytes};
-    ghost use Rattle.rc_runner.specs.Shell.{Scripts};
+    ghost use Rattle.std.specs.Prelude.{is_some, map, option_map, string_bytes};
+    ghost use Rattle.rc_runner.specs.Shell.{Starting};
 
-    ghost Value = { Scripts };
+    ghost Value = { Starting };
 
     ghost view = { λ g. record {
-      names = map string_bytes g.names.items;
-      services = g.services.items;
-      runner = map string_bytes g.runner.items;
-      controller = map string_bytes g.controller.items;
-      limit = g.limit;
+      scripts = record {
+        names = map string_bytes g.names.items;
+        services = g.services.items;
+        runner = map string_bytes g.runner.items;
+        controller = map string_bytes g.controller.items;
+        limit = g.limit;
+      };
+      shows = is_some g.errors;
+      log = option_map (λ run_log. run_log.file.now) g.run_log;
+      stop = option_map (λ file. file.now) g.stop_file;
     } };
 }
 
@@ -86,8 +92,8 @@ impl<'a, R: Processes + Clock, L: Log> ShellGate<'a, R, L> {
         controller: &[String],
         limit: u32,
     ) -> Result<ShellGate<'a, R, L>, NoMem>
-        ensures { IfOk result (λ gate. gate ≡ scripts_of db.now
-            (map string_bytes runner.now) (map string_bytes controller.now) limit) }
+        ensures { IfOk result (λ gate. gate ≡ quiet (scripts_of db.now
+            (map string_bytes runner.now) (map string_bytes controller.now) limit)) }
     {
         let names = names_of(alloc, db)?;
         let services = services_of(alloc, db)?;
@@ -111,7 +117,12 @@ impl<'a, R: Processes + Clock, L: Log> ShellGate<'a, R, L> {
 
     /// The same gate, which lets each program write there.
     pub fn with_errors(mut self, errors: Stderr) -> ShellGate<'a, R, L>
-        ensures { result ≡ self.entry }
+        ensures { result ≡ record {
+          scripts = self.entry.scripts;
+          shows = true;
+          log = self.entry.log;
+          stop = self.entry.stop;
+        } }
     {
         self.errors = Some(errors);
         self
@@ -120,7 +131,12 @@ impl<'a, R: Processes + Clock, L: Log> ShellGate<'a, R, L> {
     /// The same gate, which logs in this file each event of a run of the database: a take before
     /// its program is started, and an end before it counts. What can't be logged is not started.
     pub fn with_run_log(mut self, file: &'a RunFile, db: &Db) -> Result<ShellGate<'a, R, L>, NoMem>
-        ensures { IfOk result (λ gate. gate ≡ self.entry) }
+        ensures { IfOk result (λ gate. gate ≡ record {
+          scripts = self.entry.scripts;
+          shows = self.entry.shows;
+          log = Some file.now;
+          stop = self.entry.stop;
+        }) }
     {
         match RunLog::new(self.alloc, file, db) {
             Ok(run_log) => {
@@ -137,7 +153,12 @@ impl<'a, R: Processes + Clock, L: Log> ShellGate<'a, R, L> {
     /// The same gate, whose runs are called off by this file: its clock stands at the last moment
     /// from then on.
     pub fn with_stop_file(mut self, file: &'a StopFile) -> ShellGate<'a, R, L>
-        ensures { result ≡ self.entry }
+        ensures { result ≡ record {
+          scripts = self.entry.scripts;
+          shows = self.entry.shows;
+          log = self.entry.log;
+          stop = Some file.now;
+        } }
     {
         self.stop_file = Some(file);
         self
@@ -153,7 +174,7 @@ impl<'a, R: Processes + Clock, L: Log> ShellGate<'a, R, L> {
 
     /// Makes the transition of a service. What was not logged is not started.
     fn make(&self, service: u16, way: Way, is_logged: bool) -> Outcome
-        ensures { MayAnswer self.now service way result }
+        ensures { MayAnswer self.now.scripts service way result }
     {
         match self.move_for(service, way) {
             Ok(Move::Known(outcome)) => outcome,
@@ -164,8 +185,8 @@ impl<'a, R: Processes + Clock, L: Log> ShellGate<'a, R, L> {
 
     /// What is to be done for the transition of a service.
     fn move_for(&self, service: u16, way: Way) -> Result<Move<'_>, AllocError>
-        ensures exact { IfOk result (IsMoveFor self.now service way) }
-        ensures unmade { OnErr result (MayAnswer self.now service way Outcome.NotStarted) }
+        ensures exact { IfOk result (IsMoveFor self.now.scripts service way) }
+        ensures unmade { OnErr result (MayAnswer self.now.scripts service way Outcome.NotStarted) }
     {
         match self.services.get(service as usize) {
             Some(facts) => self.move_of(service, facts, way),
@@ -175,10 +196,10 @@ impl<'a, R: Processes + Clock, L: Log> ShellGate<'a, R, L> {
 
     /// What is to be done for the transition of a service of which this is said.
     fn move_of(&self, service: u16, facts: &Service, way: Way) -> Result<Move<'_>, AllocError>
-        ensures exact { IfOk result (IsMoveOf self.now (slice_get self.now.names service)
-            facts.now.kind facts.now way) }
+        ensures exact { IfOk result (IsMoveOf self.now.scripts
+            (slice_get self.now.scripts.names service) facts.now.kind facts.now way) }
         ensures unmade { OnErr result
-            (MayMove self.now facts.now.kind facts.now way Outcome.NotStarted) }
+            (MayMove self.now.scripts facts.now.kind facts.now way Outcome.NotStarted) }
     {
         let limit = limit_unless(limit_towards(facts, way), self.limit);
         match facts.kind {
@@ -196,9 +217,10 @@ impl<'a, R: Processes + Clock, L: Log> ShellGate<'a, R, L> {
         way: Way,
         limit: u32,
     ) -> Result<Move<'_>, AllocError>
-        ensures exact { IfOk result (IsTextRun self.now.runner
-            (option_map string_bytes text.now) (slice_get self.now.names service) way limit) }
-        ensures unmade { OnErr result (MayRun self.now.runner
+        ensures exact { IfOk result (IsTextRun self.now.scripts.runner
+            (option_map string_bytes text.now) (slice_get self.now.scripts.names service)
+            way limit) }
+        ensures unmade { OnErr result (MayRun self.now.scripts.runner
             (option_map string_bytes text.now) limit Outcome.NotStarted) }
     {
         let Some(text) = text else {
@@ -217,9 +239,10 @@ impl<'a, R: Processes + Clock, L: Log> ShellGate<'a, R, L> {
 
     /// The controller is to move a longrun.
     fn control(&self, service: u16, way: Way, limit: u32) -> Result<Move<'_>, AllocError>
-        ensures exact { IfOk result (IsControl self.now.controller
-            (slice_get self.now.names service) way limit) }
-        ensures unmade { OnErr result (MayCall self.now.controller limit Outcome.NotStarted) }
+        ensures exact { IfOk result (IsControl self.now.scripts.controller
+            (slice_get self.now.scripts.names service) way limit) }
+        ensures unmade { OnErr result
+            (MayCall self.now.scripts.controller limit Outcome.NotStarted) }
     {
         let Some(name) = self.names.get(service as usize) else {
             return Ok(Move::Known(Outcome::NotStarted));
@@ -271,7 +294,7 @@ impl<'a, R: Processes + Clock, L: Log> ShellGate<'a, R, L> {
 impl<'a, R: Processes + Clock + Sync, L: Log + Sync> Gate for ShellGate<'a, R, L> {
     ghost use Rattle.rc_runner.specs.Shell.{MayAnswer};
 
-    ghost answers = { λ gate service way outcome. MayAnswer gate service way outcome };
+    ghost answers = { λ gate service way outcome. MayAnswer gate.scripts service way outcome };
 
     // No clause speaks of a clock.
     ghost gives = { λ gate moment. Unit {0} };
