@@ -43,9 +43,10 @@ query_word wrong.NotLongrun question = codes "NotLongrun"
 query_word wrong.NotOneshot question = codes "NotOneshot"
 query_word wrong.Memory question = codes "Memory"
 
--- the word tells a fault of a question, whichever is asked
-abbrev pub IsQueryWord : List ℕ → Type 0
-IsQueryWord word = (fault : QueryFault) × ((question : Question) → word ≡ query_word fault question)
+-- the word of a refusal of a query that is of names of another sort
+abbrev pub IsSortWord : List ℕ → Type 0
+IsSortWord word = (word ≡ codes "NotAtomic") ⊎ (word ≡ codes "NotBundle")
+    ⊎ (word ≡ codes "NotLongrun") ⊎ (word ≡ codes "NotOneshot")
 
 -- how a refusal is told
 abbrev pub db_fault_text : DbFault → Question → List ℕ

@@ -1,6 +1,7 @@
 //! Why `db` refuses, and how it tells that.
-ghost use Rattle.std.specs.Prelude.{◌≡◌, ◌≢◌, ◌⊎◌, slice_get, option_map, IfOk, IfSome};
-ghost use Rattle.cmd_query.specs.DbFaults.{IsLiveTold, IsQueryTold, IsQueryWord, IsTextTold};
+ghost use Rattle.std.specs.Prelude.{◌≡◌, ◌≢◌, ◌⊎◌, slice_get, option_map, IfOk};
+ghost use Rattle.std.specs.Prelude.{MatchOption};
+ghost use Rattle.cmd_query.specs.DbFaults.{IsLiveTold, IsQueryTold, IsSortWord, IsTextTold};
 ghost use Rattle.cmd_query.specs.DbFaults.{db_fault_text, query_word};
 ghost use Rattle.rc_streams.specs.Input.{AppendsFront, failure_text, fault_line};
 ghost use Rattle.rc_args.specs.Query.{names_in, question_of};
@@ -125,7 +126,7 @@ fn query_word(alloc: Global, fault: QueryFault, query: &Query<'_>) -> Result<Vec
 
 /// What helps behind the word of a fault of a query: which sort of name is asked about.
 pub fn query_hint(word: &str) -> Option<&'static str>
-    ensures { IfSome result (λ hint. IsQueryWord word.now) }
+    ensures { MatchOption result (IsSortWord word.now → ⊥) (λ hint. IsSortWord word.now) }
 {
     match word {
         "NotAtomic" => Some("the name is a bundle's, and a service is asked about"),
