@@ -30,10 +30,12 @@ pub(crate) fn names_of(alloc: Global, db: &Db) -> Result<Vec<String>, NoMem>
 }
 
 /// A copy of a table of names.
-pub(crate) fn table_of(alloc: Global, names: &Names) -> Result<Names, NoMem> {
+pub(crate) fn table_of(alloc: Global, names: &Names) -> Result<Names, NoMem>
+    ensures { IfOk result (λ made. made ≡ names.now) }
+{
     let mut made = Names::new(alloc);
     for id in 0..names.len() {
-        made.add(names.name_of(id).copy(alloc)?)?;
+        made.append(names.name_of(id).copy(alloc)?)?;
     }
     Ok(made)
 }

@@ -1,6 +1,6 @@
 //! What a gate logs of a run while it is under way, so that a command that is cut short is not
 //! forgotten.
-ghost use Rattle.std.specs.Prelude.{◌≡◌, false};
+ghost use Rattle.std.specs.Prelude.{◌≡◌, false, IfOk};
 
 use crate::copy::table_of;
 use rc_core::Event;
@@ -23,7 +23,10 @@ pub(crate) struct RunLog<'a> {
 
 impl<'a> RunLog<'a> {
     /// Logs in this file the runs of a database.
-    pub(crate) fn new(alloc: Global, file: &'a RunFile, db: &Db) -> Result<RunLog<'a>, NoMem> {
+    pub(crate) fn new(alloc: Global, file: &'a RunFile, db: &Db) -> Result<RunLog<'a>, NoMem>
+        ensures file { IfOk result (λ run_log. run_log.file.now ≡ file.now) }
+        ensures names { IfOk result (λ run_log. run_log.names ≡ db.now.names) }
+    {
         let names = table_of(alloc, db.names())?;
         Ok(RunLog { alloc, file, names })
     }

@@ -1,6 +1,6 @@
-use Rattle.std.proofs.Common.{◌≤◌, length}
+use Rattle.std.proofs.Common.{◌≡◌, take}
 use Rattle.rc_runner.proofs.copy.table_of.Given as goal
 
--- there are no more names than were copied
+-- the names so far are copied
 abbrev pub invariant-loop-id : goal.invariant-loop-id
-invariant-loop-id l = length l.made ≤ l.id
+invariant-loop-id l = l.made ≡ take l.id l.names
