@@ -72,6 +72,9 @@ ok
 raised p1
 ok
 status 0' 'machine/manage restart p1'
+logged=$(script 'wc -l < /run/logged/current')
+is 'what it writes still arrives' yes \
+    "$(within 10 "[ \$(wc -l < /run/logged/current) -gt $logged ]" && echo yes)"
 step 'the consumer gets a directory of its own name' 'lowered logger p1
 ok
 raised logger p1
@@ -97,10 +100,13 @@ status 0' 'machine/manage change default'
 # What can't be renamed is refused before anything moves.
 step 'two longruns can not exchange their names' 'there
 status 1' 'cp -r services other; cd other; mv low x; mv alpha low; mv x alpha
-    echo alpha > low/dependencies; rm -f alpha/dependencies; echo low > top/dependencies; cd ..
-    printf "%s\\n" "alpha -> low" "low -> alpha" > renames; undorc compile -o new other
+    echo alpha > low/dependencies; rm -f alpha/dependencies; echo low > top/dependencies
+    mv top crown; sed -i "s/^top\$/crown/" default/contents; cd ..
+    printf "%s\\n" "top -> crown" "alpha -> low" "low -> alpha" > renames; undorc compile -o new other
     machine/manage update -B new -f renames; ended=$?; ls new > /run/x && echo there; (exit $ended)'
 is 'it says so' "manage: alpha can't become low, since the new database has another longrun alpha" "$(told)"
+is 'no other one has its new name' 'alpha free logger low p1 top undorc-pipes
+alpha free logger low p1 top ' "$(directories)"
 step 'an update by a file that is refused' 'there
 status 1' 'echo "nobody -> beta" > renames
     machine/manage update -B new -f renames; ended=$?; ls new > /run/x && echo there; (exit $ended)'
