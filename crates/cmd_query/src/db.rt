@@ -1,6 +1,6 @@
 //! The command `db`: questions about a database.
 ghost use Rattle.std.specs.Prelude.{◌≡◌, ◌≢◌, ◌⊎◌, ◌<◌, ◌≤◌, ◌+◌, None, length, map, string_bytes};
-ghost use Rattle.std.specs.Prelude.{vec_len, IfErr, IfOk, IfSome, IsSome, OnOk};
+ghost use Rattle.std.specs.Prelude.{vec_len, IfErr, IfOk, IsSome, OnOk};
 ghost use Rattle.std.specs.Io.KnownBytes.{IsAtEnd};
 ghost use Rattle.rc_input.specs.Base.{bytes_of};
 ghost use Rattle.cmd_query.specs.DbAnswer.{IsAnswerFor, IsDbAnswer};

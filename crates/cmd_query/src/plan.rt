@@ -13,7 +13,7 @@ ghost use Rattle.rc_streams.specs.Input.{WritesAll, WritesFront, fault_line};
 ghost use Rattle.rc_streams.specs.Noting.{HasFailed, inner_of};
 ghost use Rattle.cmd_query.specs.Named.{word_lines};
 ghost use Rattle.cmd_query.specs.PlanText.{IsAnswer, IsPlanFor, IsPlanIn, IsTextFor, IsUpSet};
-ghost use Rattle.cmd_query.specs.PlanFaults.{IsAskFault, IsFaultOf, IsNameFault, IsRefused};
+ghost use Rattle.cmd_query.specs.PlanFaults.{IsAskFault, IsFaultOf, IsNameFault};
 ghost use Rattle.cmd_query.specs.PlanFaults.{IsTextRefusal, IsToldAs, IsUpFault, TellsFault};
 ghost use Rattle.cmd_query.specs.PlanFaults.{TellsPlanFault, fault_text};
 ghost use Rattle.cmd_query.specs.declared.plan.PlanFault.TheVariants.{Memory};

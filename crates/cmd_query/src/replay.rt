@@ -1,6 +1,6 @@
 //! The command `replay`: commands with the events of their runs, and what they come to.
 ghost use Rattle.std.specs.Prelude.{◌≡◌, ◌≢◌, ◌⊎◌, ◌<◌, ◌≤◌, ◌+◌, [], codes, None, length, map};
-ghost use Rattle.std.specs.Prelude.{string_bytes, IfErr, IfOk, IfSome};
+ghost use Rattle.std.specs.Prelude.{string_bytes, IfOk, IfSome};
 ghost use Rattle.std.specs.Io.KnownBytes.{IsAtEnd};
 ghost use Rattle.rc_streams.specs.Input.{AppendsFront, ConsumesAtMost, FailsWith, TellsFailure};
 ghost use Rattle.rc_streams.specs.Input.{WritesAll, WritesFront, failure_text, fault_line};

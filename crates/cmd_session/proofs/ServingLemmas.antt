@@ -1,6 +1,6 @@
 -- How the lines of a session are served, and how that is kept.
 use Rattle.std.proofs.Common.{◌≡◌, ◌≢◌, ◌∙◌, ℕ, Bool, List, Option, None, Some, option_map, Result}
-use Rattle.std.proofs.Common.{Ok, Err, IfErr, IfOk, OnOk, inl, inr, ap, refl, sym, subst}
+use Rattle.std.proofs.Common.{Ok, Err, IfErr, OnOk, inl, inr, ap, refl, sym, subst}
 use Rattle.clap.specs.Words.{Text as Path}
 use Rattle.rc_graph.specs.declared.Way.{Way}
 use Rattle.rc_model.specs.declared.Outcome.{Outcome}

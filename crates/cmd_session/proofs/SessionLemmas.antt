@@ -1,6 +1,6 @@
 -- How a session of the program ends.
-use Rattle.std.proofs.Common.{◌≡◌, ◌≢◌, ◌∙◌, ◌⊎◌, ◌↔◌, ℕ, Bool, true, false, if◌then◌else◌}
-use Rattle.std.proofs.Common.{Contains, List, [], Option, None, Some, Result, Ok, Err, IfErr, inl}
+use Rattle.std.proofs.Common.{◌≡◌, ◌≢◌, ◌∙◌, ◌↔◌, ℕ, Bool, true, false, if◌then◌else◌}
+use Rattle.std.proofs.Common.{Contains, List, [], Option, None, Some, Ok, inl}
 use Rattle.std.proofs.Common.{inr, refl, sym, subst}
 use Rattle.clap.specs.Words.{Text as Path}
 use Rattle.rc_graph.specs.declared.Way.{Way}
@@ -11,8 +11,6 @@ use Rattle.rc_model.specs.Database.{Database}
 use Rattle.rc_model.proofs.Members.{none_contained}
 use Rattle.rc_runner.specs.Failing.{fails_in, outcome_in}
 use Rattle.rc_runner.specs.Moments.{IsMomentOf}
-use Rattle.rc_streams.specs.declared.input.Failure.{Failure}
-use Rattle.rc_streams.specs.declared.input.Failure.TheVariants as failure
 use Rattle.rc_livetext.specs.LiveFaults.{IsLiveFault}
 use Rattle.rc_livetext.specs.declared.fault.LiveFault.{LiveFault}
 use Rattle.rc_livetext.specs.declared.fault.LiveFault.TheVariants as live
@@ -50,21 +48,6 @@ fault_wider NoThread reader writer keeper more others kept f g h fails = fails
 fault_wider Strange reader writer keeper more others kept f g h fails = fails
 fault_wider Workers reader writer keeper more others kept f g h fails = fails
 fault_wider Io reader writer keeper more others kept f g h fails = h fails
-
--- a fault of serving comes only where its cause does
-pub fault_caused : {A : Type 0} (result : Result A ServeFault) (reader writer keeper : Type 0)
-    → (result ≡ Err Read → reader) → (result ≡ Err Write → writer) → (result ≡ Err Io → keeper)
-    → (result ≡ Err Workers → ⊥)
-    → IfErr result (IsServeFault reader writer keeper)
-fault_caused (Ok done) reader writer keeper read write io workers = tt
-fault_caused (Err Read) reader writer keeper read write io workers = read refl
-fault_caused (Err Write) reader writer keeper read write io workers = write refl
-fault_caused (Err TooLong) reader writer keeper read write io workers = tt
-fault_caused (Err Memory) reader writer keeper read write io workers = tt
-fault_caused (Err NoThread) reader writer keeper read write io workers = tt
-fault_caused (Err Strange) reader writer keeper read write io workers = tt
-fault_caused (Err Workers) reader writer keeper read write io workers = workers refl
-fault_caused (Err Io) reader writer keeper read write io workers = io refl
 
 -- a fault of the list is why there is none
 pub gateless : (names : List (List ℕ)) (d : Database) (listed : List Listed) (fault : GateFault)
@@ -118,13 +101,6 @@ pub begin_fault : (ask : SessionAsk) (file : LiveFile) (fault : ServeFault)
 begin_fault ask file fault reader writer failed is =
     let of = fails_of_file ask.live file fault is in
     (of.0, file_fault ask file fault reader writer failed of.0 of.1)
-
--- where the input was read whole the reader has not failed
-pub read_well : {A : Type 0} (result : Result A Failure) (input : A) (before : Type 0)
-    → before ⊎ (result ≡ Err failure.Read) → (before → ⊥) → result ≡ Ok input → ⊥
-read_well result input before (inl failed) well is = well failed
-read_well result input before (inr wrong) well is =
-    let bad : Ok input ≡ Err failure.Read = sym is ∙ wrong in cc
 
 -- at a gate of a table exactly the transitions of the table fail
 exact_of : (flag : Bool) → (is_success (if flag then outcome.Failed 1 else outcome.Ok) ≡ true)

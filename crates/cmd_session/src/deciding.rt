@@ -3,7 +3,7 @@ ghost use Rattle.std.specs.Prelude.{◌≡◌, ◌↔◌, option_map, IsTrue, If
 ghost use Rattle.rc_args.specs.OnceAsked.{once_saying_of};
 ghost use Rattle.cmd_session.specs.Deciding.{IsFound, Moves, level_by};
 ghost use Rattle.cmd_session.specs.Filing.{IsUnread};
-ghost use Rattle.log.specs.Handle.{handle_inner, max_level, sink};
+ghost use Rattle.log.specs.Handle.{max_level};
 ghost use Rattle.rc_args.specs.SessionAsked.{session_ask_of};
 
 use crate::keeping::LiveFile;

@@ -1,7 +1,6 @@
 //! Where a session is kept: a store of one text, which is replaced whole.
 ghost use Rattle.std.specs.Prelude.{◌≡◌, ◌⊎◌, ℕ, false, List, Option, IfSome, IfErr, IsSome, OnErr};
 ghost use Rattle.std.specs.Prelude.{OnOk};
-ghost use Rattle.rc_livetext.specs.Spelling.{spelling};
 ghost use Rattle.rc_serve.specs.declared.keeper.KeepFault.TheVariants.{Io};
 ghost use Rattle.cmd_session.specs.Storing.{HoldsText, kept_bytes, store_of};
 

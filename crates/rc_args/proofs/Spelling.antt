@@ -1,10 +1,8 @@
 -- Words that name transitions.
-use Rattle.std.proofs.Common.{◌≡◌, ◌≢◌, ℕ, zero, suc, ◌<◌, List, [], ◌∷◌, ◌++◌, length, map, get_or}
-use Rattle.std.proofs.Common.{codes, sym, subst, arith}
+use Rattle.std.proofs.Common.{ℕ, zero, suc, ◌<◌, List, [], ◌∷◌, ◌++◌, length, map, get_or}
+use Rattle.std.proofs.Common.{sym, subst, arith}
 use Rattle.std.proofs.lemmas.List.{get_or-map, length-map}
-use Rattle.rc_graph.specs.declared.Way.{Way}
-use Rattle.rc_graph.specs.declared.Way.TheVariants.{Raise, Lower}
-use Rattle.rc_args.specs.Listed.{Listed, front_of, IsSpelled, AreSpelled}
+use Rattle.rc_args.specs.Listed.{Listed, IsSpelled, AreSpelled}
 
 -- one more word
 pub spelled_on : (words : List (List ℕ)) (all : List Listed) (word : List ℕ) (one : Listed)

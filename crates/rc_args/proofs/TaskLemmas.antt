@@ -1,25 +1,20 @@
 -- What the words ask, by the matches that `clap` makes of them.
-use Rattle.std.proofs.Common.{◌≡◌, ◌≤◌, ◌∙◌, ℕ, arith, Bool, List, [], IfSome, Option, None, Some}
-use Rattle.std.proofs.Common.{false, true, if◌then◌else◌, refl, ap, sym, subst, unwrap_or, codes}
+use Rattle.std.proofs.Common.{◌≡◌, ◌∙◌, Bool, List, IfSome, Option, None, Some}
+use Rattle.std.proofs.Common.{false, true, if◌then◌else◌, refl, ap, sym, subst, codes}
 use Rattle.std.proofs.lemmas.Slice.Eq.{bytes_eq-Decides}
 use Rattle.std.specs.Str.{bytes_eq}
-use Rattle.clap.specs.Words.{Row, Text, first_of}
+use Rattle.clap.specs.Words.{Row, Text}
 use Rattle.rc_model.specs.Session.{Add, Change, Delete, Redo, Undo}
 use Rattle.rc_script.specs.Says.{SaysBundles, SaysDry, SaysJournal, SaysLive, SaysNothing, SaysStep}
 use Rattle.rc_script.specs.Says.{SaysWrong}
 use Rattle.rc_cmdline.specs.Words.{rows_for, rows_named}
-use Rattle.rc_args.specs.Asked.{ask_in}
-use Rattle.rc_args.specs.DbAsked.{AsksIn, DbAsk}
 use Rattle.rc_args.specs.OnceAsked.{AsksWhatIn, HasNoEvents, OnceAsk, OnceSaying, Said}
-use Rattle.rc_args.specs.OnceAsked.{WantsDryRedo, WantsDryUndo, once_command, once_saying_of}
-use Rattle.rc_args.specs.SessionAsked.{AsksSessionIn, IsBoundIn, IsCrewIn, SessionAsk}
-use Rattle.rc_args.specs.Task.{AsksEntered, AsksNamed, AsksNoTask, AsksTask, AsksTaskIn}
+use Rattle.rc_args.specs.OnceAsked.{WantsDryRedo, WantsDryUndo, once_saying_of}
+use Rattle.rc_args.specs.Task.{AsksEntered, AsksNamed, AsksNoTask, AsksTask}
 use Rattle.rc_args.specs.Task.{IsEventless}
 use Rattle.rc_args.specs.Task.{OfCompile, OfDb, OfOnce, OfPlan, OfReplay, OfRestart, OfSeal}
 use Rattle.rc_args.specs.Task.{OfSession, OfStatus, OfStop, OfUpdate, OfVersion, TaskAsk}
 use Rattle.rc_args.specs.Task.{command_of, task_ask_of}
-use Rattle.rc_args.specs.NamedAsked.{AsksNamesIn, NamedAsk}
-use Rattle.rc_args.specs.UpdateAsked.{AsksUpdateIn, UpdateAsk}
 use Rattle.rc_args.specs.declared.task.Task.{Task}
 use Rattle.rc_args.specs.declared.task.Task.TheVariants as task
 

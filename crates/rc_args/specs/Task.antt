@@ -1,5 +1,5 @@
 -- What the words ask, of whichever command.
-use Rattle.std.specs.Prelude.{◌≡◌, ◌≤◌, List, Option, None, Some, codes, option_map}
+use Rattle.std.specs.Prelude.{◌≡◌, List, Option, Some, codes, option_map}
 use Rattle.clap.specs.Words.{Row, Text, first_of}
 use Rattle.rc_model.specs.Plan.{Ask}
 use Rattle.rc_select.specs.Ask.{ask_of}

@@ -1,11 +1,11 @@
 //! What the words ask of a session of one line.
-ghost use Rattle.std.specs.Prelude.{◌≡◌, ◌≢◌, ◌↔◌, codes, map, option_map, All, IfErr, IfOk};
+ghost use Rattle.std.specs.Prelude.{◌≡◌, ◌≢◌, ◌↔◌, codes, map, All, IfErr, IfOk};
 ghost use Rattle.std.specs.Prelude.{IsTrue};
 ghost use Rattle.clap.specs.Words.{found_of, rows_of};
 ghost use Rattle.rc_args.specs.Usual.{session_by, usual_ask_of};
 ghost use Rattle.rc_args.specs.OnceAsked.{AreOneLine, IsOneLine, IsShown, LacksFile};
 ghost use Rattle.rc_cmdline.specs.Words.{words_in as words_rows};
-ghost use Rattle.rc_args.specs.OnceAsked.{Adds, AsksOnceIn, AsksWhat, AsksWhatIn, OnceAsk};
+ghost use Rattle.rc_args.specs.OnceAsked.{Adds, AsksOnceIn, AsksWhat, OnceAsk};
 ghost use Rattle.rc_args.specs.OnceAsked.{OnceSaying};
 ghost use Rattle.rc_args.specs.OnceAsked.{once_ask_of, once_command, once_saying_of};
 ghost use Rattle.rc_args.specs.declared.asked.WordsFault.TheVariants.{Memory};

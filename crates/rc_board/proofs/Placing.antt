@@ -238,12 +238,6 @@ rest_stuck up pads read e rest k d worker low not_next left =
           ∙ ap (λ (x : Event). way_of up x) (at.1 n),
     )
 
--- an event of no worker of the crew
-pub rest_foreign : (up : List Bool) (pads : List Written) (read : List ℕ) (e : Event)
-    (rest : List Event) → (IsOfCrew (length pads) e → ⊥) → AreRest up pads read (e ∷ rest) → ⊥
-rest_foreign up pads read e rest foreign left =
-    foreign (All-head (IsOfCrew (length pads)) e rest left.numbers)
-
 -- nothing is read at first
 pub all_rest : (up : List Bool) (pads : List Written) (read : List ℕ) (events : List Event)
     → read ≡ replicate 64 0 → length pads ≤ 64

@@ -1,6 +1,6 @@
 //! Workers in threads of their own, over one board under a lock.
 
-ghost use Rattle.std.specs.Prelude.{◌≡◌, ◌≤◌, ◌+◌, ℕ, [], All, Option, IfOk, IfSome, IsTrue};
+ghost use Rattle.std.specs.Prelude.{◌≡◌, ◌≤◌, ◌+◌, [], All, Option, IfOk, IfSome, IsTrue};
 ghost use Rattle.std.specs.Prelude.{vec_len, vec_capacity};
 ghost use Rattle.rc_model.specs.Beside.{planned_count};
 ghost use Rattle.rc_board.specs.Pads.{Written, AreSaid};

@@ -1,6 +1,6 @@
 //! What is seen of a run.
 
-ghost use Rattle.std.specs.Prelude.{◌≡◌, ◌<◌, ◌≤◌, ◌+◌, ◌*◌, ℕ, [], length, slice_index_or, IfOk};
+ghost use Rattle.std.specs.Prelude.{◌≡◌, ◌<◌, ◌≤◌, ◌+◌, ◌*◌, [], length, slice_index_or, IfOk};
 ghost use Rattle.std.specs.Prelude.{vec_capacity};
 ghost use Rattle.rc_model.specs.Beside.{planned_count};
 

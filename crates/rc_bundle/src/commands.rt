@@ -1,4 +1,4 @@
-ghost use Rattle.std.specs.Prelude.{◌≡◌, ◌⊎◌, ◌<◌, ◌≤◌, ℕ, length, map, All, IfOk, IfErr, OnOk};
+ghost use Rattle.std.specs.Prelude.{◌≡◌, ◌<◌, ◌≤◌, ℕ, length, map, All, IfOk, IfErr, OnOk};
 ghost use Rattle.std.specs.Prelude.{OnErr, string_bytes};
 ghost use Rattle.rc_model.specs.Database.{HaveBound, IsTable, IsKnown, IsBundle};
 ghost use Rattle.rc_model.specs.Line.{IsEdit, Defines, Removes, CanAdd, CanDelete, IsAddFault};

@@ -1,5 +1,5 @@
 -- The line of the first step of an update in a log, and that there is no other.
-use Rattle.std.proofs.Common.{◌≡◌, ◌≢◌, ◌∙◌, ◌++◌, ◌∷◌, ◌==◌, ◌↔◌, inl, inr, ℕ, suc, All, Bool}
+use Rattle.std.proofs.Common.{◌≡◌, ◌≢◌, ◌∙◌, ◌++◌, ◌∷◌, ◌==◌, ◌↔◌, ℕ, suc, All, Bool}
 use Rattle.std.proofs.Common.{false, List, [], IsTrue, Contains, Some, refl, sym, ap, subst, arith}
 use Rattle.std.proofs.Common.{append_assoc}
 use Rattle.std.specs.List.{AllByRecursion, slice_split}

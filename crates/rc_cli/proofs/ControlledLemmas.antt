@@ -1,13 +1,12 @@
 -- What a command would move, and that there is no other.
-use Rattle.std.proofs.Common.{◌≡◌, ◌≢◌, ◌∙◌, ◌++◌, ℕ, Bool, true, false, List, [], Option, Some, ap}
+use Rattle.std.proofs.Common.{◌≡◌, ◌≢◌, ◌∙◌, ◌++◌, ℕ, Bool, true, false, List, [], Option, Some}
 use Rattle.std.proofs.Common.{inl, inr}
 use Rattle.std.proofs.Common.{◌∷◌, Result, Ok, Err, None, IfNone, IfOk, IfSome, refl, subst, sym}
-use Rattle.rc_model.specs.Database.{Database, IsDatabase, IsKind}
+use Rattle.rc_model.specs.Database.{Database, IsDatabase}
 use Rattle.rc_model.specs.Line.{Line}
 use Rattle.rc_model.specs.Names.{Has}
 use Rattle.rc_model.specs.Plan.{PlanSets}
 use Rattle.rc_model.specs.Session.{Command, IsLineOf, IsOwnFault, IsTask}
-use Rattle.rc_model.specs.declared.Kind.TheVariants.{Longrun}
 use Rattle.rc_model.specs.declared.Refusal.{Refusal}
 use Rattle.rc_model.specs.declared.Refusal.TheVariants as refusal
 use Rattle.rc_session.specs.Holding.{Holding, IsBegun, IsHindrance, Task, with_run}
@@ -18,19 +17,13 @@ use Rattle.rc_args.specs.UpdateAsked.{UpdateAsk}
 use Rattle.rc_input.specs.Base.{Spells}
 use Rattle.rc_db.specs.Database.{IsWritable}
 use Rattle.rc_dbtext.specs.Spelling.{spelling as spelling_of}
-use Rattle.rc_livetext.specs.LiveFaults.{IsLiveFault}
-use Rattle.rc_livetext.specs.Spelling.{Spells as SpellsLine, old_spelling, spelling}
-use Rattle.rc_livetext.specs.declared.fault.LiveFault.{LiveFault}
+use Rattle.rc_livetext.specs.Spelling.{Spells as SpellsLine}
 use Rattle.rc_livetext.specs.declared.fault.LiveFault.TheVariants as live
 use Rattle.rc_serve.specs.declared.fault.ServeFault.TheVariants.{Memory}
 use Rattle.cmd_session.specs.Filing.{BeginsBy, file_named}
 use Rattle.cmd_session.specs.Serving.{session_on}
-use Rattle.cmd_session.specs.SessionFaults.{IsFileFault}
 use Rattle.cmd_session.specs.declared.keeping.LiveFile.{LiveFile}
 use Rattle.cmd_session.specs.declared.keeping.LiveFile.TheVariants.{Missing, Text, Unread}
-use Rattle.cmd_session.specs.declared.session_fault.SessionFault.{SessionFault}
-use Rattle.cmd_session.specs.declared.session_fault.SessionFault.TheVariants.{Failed, OfLive}
-use Rattle.cmd_session.specs.declared.session_fault.SessionFault.TheVariants.{OfText, Unknown}
 use Rattle.rc_update.specs.Carrying.{Carried, StaysUp}
 use Rattle.rc_update.specs.Conversions.{Conversion}
 use Rattle.rc_update.specs.Knowing.{AreKnown, IsFirstStranger}
@@ -54,9 +47,6 @@ some_weaker (Ok None) P Q more is = is
 some_weaker (Ok (Some x)) P Q more is = more x is
 some_weaker (Err e) P Q more is = is
 
-pub of_none : {A : Type 0} (o : Option A) (P : Type 0) → o ≡ None → IfNone o P → P
-of_none {A = A} o P is holds = subst (λ (x : Option A). IfNone x P) is holds
-
 -- what follows where there is none, since that was refused
 pub refused_none : {A E : Type 0} (r : Result (Option A) E) (X Q : Type 0) → (X → Q)
     → IfOk r (λ found. (found ≡ None) × X) → IfOk r (λ found. IfNone found Q)
@@ -78,41 +68,6 @@ strange old new (first ∷ more) name is known = elim is [
   | inl here ↦ elim here [ inl lacks ↦ lacks.0 known.0.0 | inr lacks ↦ lacks.1 known.0.1 ]
   | inr there ↦ strange old new more name there.1 known.1
 ]
-
--- a text is refused as out of memory alone where it is that of a line
-refused_line : (d : Database) (bytes : List ℕ) (line : Line) (fault : LiveFault) → IsDatabase d
-    → ((d : Database) (line : Line) (fault : LiveFault) → IsDatabase d → IsLineOf d line
-    → IsLiveFault d (spelling d line) fault → fault ≡ live.Memory)
-    → ((d : Database) (line : Line) (fault : LiveFault) → IsDatabase d → IsLineOf d line
-    → IsLiveFault d (old_spelling d line) fault → fault ≡ live.Memory)
-    → IsLineOf d line → SpellsLine d bytes line → IsLiveFault d bytes fault → fault ≡ live.Memory
-refused_line d bytes line fault is new old of spells refused = elim spells [
-  | inl same ↦ new d line fault is of (subst (λ (b : List ℕ). IsLiveFault d b fault) same refused)
-  | inr same ↦ old d line fault is of
-      (subst (λ (b : List ℕ). IsLiveFault d b fault) same.0 refused)
-]
-
--- where a session does not begin, and memory did not run out, none begins
-pub none_begins : (d : Database) (bound : ℕ) (file : LiveFile) (fault : SessionFault)
-    → IsDatabase d
-    → ((d : Database) (line : Line) (fault : LiveFault) → IsDatabase d → IsLineOf d line
-    → IsLiveFault d (spelling d line) fault → fault ≡ live.Memory)
-    → ((d : Database) (line : Line) (fault : LiveFault) → IsDatabase d → IsLineOf d line
-    → IsLiveFault d (old_spelling d line) fault → fault ≡ live.Memory)
-    → fault ≢ Failed Memory → IsFileFault file d fault → (start : Line)
-    → BeginsBy d bound file start → ⊥
-none_begins d bound Missing (OfLive why) is new old other fails start begins = absurd fails
-none_begins d bound Missing (OfText why) is new old other fails start begins = absurd fails
-none_begins d bound Missing (Unknown word) is new old other fails start begins = absurd fails
-none_begins d bound Missing (Failed why) is new old other fails start begins =
-    other (ap Failed fails)
-none_begins d bound (Text bytes) (OfLive why) is new old other fails start begins =
-    fails.0 (refused_line d bytes.now start why is new old begins.0 begins.1 fails.1)
-none_begins d bound (Text bytes) (OfText why) is new old other fails start begins = absurd fails
-none_begins d bound (Text bytes) (Unknown word) is new old other fails start begins = absurd fails
-none_begins d bound (Text bytes) (Failed why) is new old other fails start begins =
-    other (ap Failed fails)
-none_begins d bound (Unread why) fault is new old other fails start begins = absurd begins
 
 -- a session begins on one line
 pub begins_once : (d : Database) (bound : ℕ) (file : LiveFile) (a b : Line) → IsDatabase d
@@ -160,16 +115,6 @@ begun_moves old new task command d plan is begun same also none =
     (λ name on. none name (subst (λ (x : Database). IsLongrunOf x plan name) (sym same)
     (subst (λ (p : PlanSets). IsLongrunOf new.database p name) (sym also)
     (subst (λ (h : Holding). IsLongrunOf h.database task.plan name) (sym is) on))))
-
--- a plan of which neither set has a longrun moves none
-pub no_longrun : (d : Database) (plan : PlanSets)
-    → ((s : ℕ) → Has plan.raise s → IsKind d s Longrun → ⊥)
-    → ((s : ℕ) → Has plan.lower s → IsKind d s Longrun → ⊥)
-    → (name : List ℕ) → IsLongrunOf d plan name → ⊥
-no_longrun d plan up down name is = elim is.1 [
-  | inl has ↦ up is.0 has is.2
-  | inr has ↦ down is.0 has is.2
-]
 
 -- where a line moves nothing, a command that says it on this database does not, where its session
 -- begins

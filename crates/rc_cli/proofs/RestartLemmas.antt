@@ -1,5 +1,5 @@
 -- What the second step of a restart raises.
-use Rattle.std.proofs.Common.{◌≡◌, ◌↔◌, ◌≤◌, ◌<◌, ℕ, Bool, List, [], inl, inr, length, arith}
+use Rattle.std.proofs.Common.{◌≡◌, ◌↔◌, ◌<◌, ℕ, Bool, List, [], inl, inr, length, arith}
 use Rattle.std.proofs.lemmas.Option.{slice_get-get_or}
 use Rattle.rc_model.specs.Names.{Has}
 use Rattle.rc_model.proofs.SetMembers.{has_within}

@@ -1,6 +1,6 @@
 -- Where services stand, and how that is printed.
 use Rattle.std.proofs.Common.{◌≡◌, ◌≢◌, ◌∙◌, ◌<◌, ◌==◌, ◌+◌, ◌++◌, ◌∷◌, suc, arith, ℕ, Bool, true}
-use Rattle.std.proofs.Common.{false, List, [], Option, None, Some, Result, Ok, Err, IfOk, Bor, ap}
+use Rattle.std.proofs.Common.{false, List, [], Result, Ok, Err, IfOk, Bor, ap}
 use Rattle.std.proofs.Common.{inl, inr, length, map, refl, sym, subst, true≢false}
 use Rattle.rc_model.specs.declared.Event.{Event}
 use Rattle.rc_model.specs.Names.{Holds}

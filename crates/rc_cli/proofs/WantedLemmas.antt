@@ -1,36 +1,22 @@
 -- What is wanted up in the end of an update that was begun before.
-use Rattle.std.proofs.Common.{◌≡◌, ◌∙◌, ◌+◌, ◌⊎◌, ◌↔◌, inl, inr, ℕ, All, Bool, List, [], Option}
+use Rattle.std.proofs.Common.{◌≡◌, ◌∙◌, ◌+◌, ◌⊎◌, ◌↔◌, inl, inr, ℕ, All, Bool, List, Option}
 use Rattle.std.proofs.Common.{None, Some, IfSome, true, length, slice_get, ap, sym, subst, arith}
 use Rattle.std.proofs.lemmas.Option.{get_or_from_slice_get, same_Some, slice_get_within}
 use Rattle.rc_model.specs.Names.{Has, Holds}
 use Rattle.rc_model.specs.Graph.{IsClosed}
 use Rattle.rc_model.specs.Database.{Bundles, Database}
 use Rattle.rc_model.specs.Line.{Line, State, cursor, states}
-use Rattle.rc_model.specs.declared.Mode.TheVariants.{DownAll}
-use Rattle.rc_model.specs.Session.{Change, Command, IsLineOf, IsStateOf}
-use Rattle.rc_livetext.specs.Spelling.{Spells as SpellsLine}
-use Rattle.rc_script.specs.RunLines.{IsStepLine}
+use Rattle.rc_model.specs.Session.{IsLineOf, IsStateOf}
 use Rattle.rc_session.proofs.States.{current_state}
 use Rattle.rc_update.specs.Carrying.{AreNamesOf, Carried, IsAlteredUp, StaysUp}
 use Rattle.rc_update.specs.Conversions.{Conversion}
-use Rattle.rc_cli.specs.Updating.{IsBefore, IsUpdate, IsWantedUp, Parts}
+use Rattle.rc_cli.specs.Updating.{IsUpdate, IsWantedUp, Parts}
 
 -- what holds of each of a list holds at a place
 at_place : {X : Type 0} (P : X → Type 0) (xs : List X) (i : ℕ) (x : X) → All P xs
     → slice_get xs i ≡ Some x → P x
 at_place P xs i x each at =
     subst P (get_or_from_slice_get xs i x x at) (each i x (slice_get_within xs i x at))
-
--- where no state is before the current one, what is live is wanted
-pub first_wanted : (line : Line) (up : List Bool) → cursor line ≡ 0 → up ≡ line.current.live
-    → Holds up (IsWantedUp true line)
-first_wanted line up first is s = (
-  λ has. inl (subst (λ (set : List Bool). Has set s) is has),
-  λ wanted. elim wanted [
-    | inl live ↦ subst (λ (set : List Bool). Has set s) (sym is) live
-    | inr other ↦ absurd (omega (arith, first, other.1.1))
-  ],
-)
 
 -- else that and what is live in the state before
 pub more_wanted : (line : Line) (up live joined : List Bool) (table : Bundles) (place : ℕ)

@@ -1,5 +1,5 @@
 -- Where services stand, as `status` prints it.
-use Rattle.std.specs.Prelude.{◌≡◌, ◌≢◌, ◌⊎◌, ◌∷◌, ◌++◌, ◌<◌, ◌==◌, ◌&&◌, ℕ, Bool, List, [], Option}
+use Rattle.std.specs.Prelude.{◌≡◌, ◌⊎◌, ◌∷◌, ◌++◌, ◌<◌, ◌==◌, ◌&&◌, ℕ, Bool, List, [], Option}
 use Rattle.std.specs.Prelude.{Some, true, false, zero, suc, codes, length, not, slice_index_or}
 use Rattle.std.specs.Prelude.{if◌then◌else◌}
 use Rattle.std.specs.Io.KnownBytes.{Appends}
@@ -11,7 +11,7 @@ use Rattle.rc_model.specs.declared.Standing.{Standing}
 use Rattle.rc_model.specs.declared.Standing.TheVariants.{Down, Rising, Up, Sinking}
 use Rattle.rc_model.specs.Names.{Has, Holds}
 use Rattle.rc_model.specs.Database.{Database, IsUnknownAt, Selected}
-use Rattle.rc_model.specs.Line.{Line, State}
+use Rattle.rc_model.specs.Line.{Line}
 use Rattle.rc_model.specs.Run.{after_event, is_success}
 use Rattle.rc_render.specs.Lines.{line}
 use Rattle.rc_render.specs.RefusalText.{refusal_text}

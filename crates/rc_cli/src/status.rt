@@ -1,9 +1,9 @@
 //! `status`: where services stand, by the file of a session and, while a command is under way, by
 //! its run log.
-ghost use Rattle.std.specs.Prelude.{◌≡◌, ◌≢◌, ◌<◌, ◌↔◌, ◌++◌, ◌∷◌, ℕ, false, codes, length, map};
+ghost use Rattle.std.specs.Prelude.{◌≡◌, ◌<◌, ◌↔◌, ◌++◌, ◌∷◌, false, codes, length, map};
 ghost use Rattle.std.specs.Prelude.{string_bytes, IfErr, IfOk, IsTrue, OnOk};
 ghost use Rattle.std.specs.List.{list_any};
-ghost use Rattle.rc_model.specs.Names.{Has, Holds};
+ghost use Rattle.rc_model.specs.Names.{Holds};
 ghost use Rattle.rc_model.specs.Run.{after_end, after_event, after_take};
 ghost use Rattle.rc_render.specs.Lines.{line};
 ghost use Rattle.rc_streams.specs.Noting.{HasFailed, inner_of};

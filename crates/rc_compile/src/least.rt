@@ -1,6 +1,6 @@
 // The least of names.
 ghost use Rattle.std.specs.Prelude.{◌≡◌, ◌<◌, ℕ, List, [], length, Contains, Some, slice_get, IfOk};
-ghost use Rattle.std.specs.Prelude.{IfSome, IfNone, OnOk};
+ghost use Rattle.std.specs.Prelude.{IfSome, IfNone};
 ghost use Rattle.rc_members.specs.Along.{IsLeast};
 
 use rc_names::Name;

@@ -1,7 +1,7 @@
 //! The compiler: from definitions to a database.
 #![tactic(auto)]
 
-ghost use Rattle.std.specs.Prelude.{◌≡◌, ℕ, List, IfOk, IfErr, OnOk, map};
+ghost use Rattle.std.specs.Prelude.{◌≡◌, IfOk, IfErr, OnOk, map};
 ghost use Rattle.rc_source.specs.Meaning.{AreMeanings};
 ghost use Rattle.rc_source.specs.Said.{meaning_of};
 ghost use Rattle.rc_db.specs.Database.{IsWritable};

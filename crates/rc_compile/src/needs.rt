@@ -1,6 +1,6 @@
 // Which service needs which: by its dependencies, by the bundles among
 // them, and by what it writes to.
-ghost use Rattle.std.specs.Prelude.{◌≡◌, ◌<◌, ◌≤◌, ◌↔◌, ◌⊎◌, ℕ, List, [], length, slice_index_or};
+ghost use Rattle.std.specs.Prelude.{◌≡◌, ◌<◌, ◌↔◌, ◌⊎◌, ℕ, List, [], length, slice_index_or};
 ghost use Rattle.std.specs.Prelude.{OnOk, IfOk, IfErr, All, Contains, map};
 ghost use Rattle.rc_model.specs.Names.{Has};
 ghost use Rattle.rc_model.specs.Graph.{Needs};

@@ -1,5 +1,5 @@
 // What is wrong with the pipes of a definition.
-ghost use Rattle.std.specs.Prelude.{◌≡◌, ◌≤◌, ◌<◌, ◌↔◌, ◌⊎◌, ℕ, List, length, map, Contains, Some};
+ghost use Rattle.std.specs.Prelude.{◌≡◌, ◌<◌, ◌↔◌, ◌⊎◌, ℕ, List, length, map, Contains, Some};
 ghost use Rattle.std.specs.Prelude.{IsTrue, IfOk, slice_get};
 ghost use Rattle.rc_model.specs.Names.{Has, Holds};
 ghost use Rattle.rc_members.specs.Rows.{rows};

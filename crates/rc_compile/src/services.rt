@@ -1,7 +1,6 @@
 // What a database says of each service.
-ghost use Rattle.std.specs.Prelude.{◌≡◌, ◌<◌, ℕ, List, [], length, map, string_bytes, Contains};
-ghost use Rattle.std.specs.Prelude.{Option, Some, IfOk, IfSome, slice_get, slice_index, All};
-ghost use Rattle.std.specs.Prelude.{AllPairs, ◌≢◌};
+ghost use Rattle.std.specs.Prelude.{◌≡◌, ◌<◌, ℕ, List, length, map, string_bytes, Contains};
+ghost use Rattle.std.specs.Prelude.{Option, Some, IfOk, IfSome, slice_get, All};
 ghost use Rattle.std.specs.Option.{option_map};
 ghost use Rattle.rc_source.specs.Meaning.{Meaning, AreMeanings};
 ghost use Rattle.rc_source.specs.Said.{meaning_of};

@@ -1,5 +1,5 @@
 // The bundles with their sets.
-ghost use Rattle.std.specs.Prelude.{◌≡◌, ◌<◌, ◌≤◌, ℕ, List, Bool, [], length, All, Some, IfOk};
+ghost use Rattle.std.specs.Prelude.{◌≡◌, ◌<◌, ℕ, List, [], length, Some, IfOk};
 ghost use Rattle.std.specs.Prelude.{OnOk, slice_get, slice_index_or};
 ghost use Rattle.rc_members.specs.Joining.{AllWithin};
 ghost use Rattle.rc_model.specs.Line.{IsChangedAt};

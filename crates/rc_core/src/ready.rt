@@ -1,13 +1,13 @@
 //! How many others each service waits for, and the queue of those that may be taken.
 
-ghost use Rattle.std.specs.Prelude.{false, ◌≡◌, ◌≢◌, ℕ, ◌-◌, ◌<◌, ◌≤◌, ◌⊎◌, ◌↔◌, ◌++◌, ◌∷◌, []};
-ghost use Rattle.std.specs.Prelude.{Bool, List, IsTrue, IfSome, IfNone, IfOk, All, Contains};
+ghost use Rattle.std.specs.Prelude.{false, ◌≡◌, ◌≢◌, ℕ, ◌-◌, ◌<◌, ◌≤◌, ◌↔◌, ◌++◌, ◌∷◌, []};
+ghost use Rattle.std.specs.Prelude.{IsTrue, IfSome, IfNone, IfOk, All, Contains};
 ghost use Rattle.std.specs.Prelude.{length, slice_index, slice_index_or, slice_set, vec_len};
 ghost use Rattle.std.specs.Prelude.{vec_capacity};
-ghost use Rattle.rc_model.specs.Names.{Has, IsAscending};
+ghost use Rattle.rc_model.specs.Names.{IsAscending};
 ghost use Rattle.rc_model.specs.Graph.{AreNeeds};
 ghost use Rattle.rc_core.specs.Ready.{AreAlike, IsCount, IsLast, HasQueue, Arrives, DropsTaken};
-ghost use Rattle.rc_core.specs.Ready.{EndsTaken, IsFirstReady, IsFirstCount, IsNext, NotesArrival};
+ghost use Rattle.rc_core.specs.Ready.{EndsTaken, IsFirstReady, IsFirstCount, NotesArrival};
 ghost use Rattle.rc_core.specs.Ready.{Queues, CanArrive, Counts, IsCountUp, IsCountDown};
 
 use rc_graph::Graph;

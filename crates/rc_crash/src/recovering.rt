@@ -1,9 +1,9 @@
 //! A recovery over the two files of a session.
-ghost use Rattle.std.specs.Prelude.{◌≡◌, ◌≢◌, ◌⊎◌, ◌∷◌, [], ℕ, List, Option, None, Some, IfOk};
+ghost use Rattle.std.specs.Prelude.{◌≡◌, ◌≢◌, ◌⊎◌, [], Option, None, Some, IfOk};
 ghost use Rattle.std.specs.Prelude.{IfNone, IfSome, IsErrOf, MatchOption, option_map};
 ghost use Rattle.rc_files.specs.Files.{AfterCrash, Files};
 ghost use Rattle.rc_recovery.specs.RunLog.{HasNothing, IsEntered, IsUnfit};
-ghost use Rattle.rc_crash.specs.Recoveries.{IsCutRecovery, Makes, recovery_writes};
+ghost use Rattle.rc_crash.specs.Recoveries.{IsCutRecovery, recovery_writes};
 
 use rc_db::Db;
 use rc_files::{FileFault, TwoFiles, replace_and_empty};

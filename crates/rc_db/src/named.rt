@@ -1,8 +1,8 @@
-ghost use Rattle.std.specs.Prelude.{◌≡◌, ◌↔◌, ◌⊎◌, ℕ, List, Bool, length, map, string_bytes};
+ghost use Rattle.std.specs.Prelude.{◌≡◌, ◌↔◌, ◌⊎◌, List, Bool, length, map, string_bytes};
 ghost use Rattle.std.specs.Prelude.{slice_get, All, Contains, Some, IsTrue, IfOk, IfSome, IfNone};
 ghost use Rattle.rc_model.specs.Names.{Has, Holds, AreNames};
 ghost use Rattle.rc_model.specs.Database.{HaveBound, names_of, value_of, IsKnown, IsUnknownAt};
-ghost use Rattle.rc_model.specs.Database.{Selected, StandsFor};
+ghost use Rattle.rc_model.specs.Database.{Selected};
 
 use crate::table::Table;
 use rc_names::Names;

@@ -4,7 +4,7 @@ ghost use Rattle.std.specs.Prelude.{◌≡◌, ◌<◌, ◌⊎◌, ◌↔◌, �
 ghost use Rattle.std.specs.Prelude.{IsTrue, IfOk, IfErr, IfSome, IfNone, OnOk};
 ghost use Rattle.rc_model.specs.Line.{Lists};
 ghost use Rattle.rc_model.specs.Names.{Has, Holds};
-ghost use Rattle.rc_model.specs.Database.{Feeds, IsDatabase};
+ghost use Rattle.rc_model.specs.Database.{Feeds};
 ghost use Rattle.rc_db.specs.Pipeline.{InPipelineOf, IsLastConsumer};
 ghost use Rattle.rc_db.specs.QueryFaults.{OfLongrun, IsSuch, IsQueryFault};
 

@@ -1,6 +1,6 @@
 //! Queries of one name.
 
-ghost use Rattle.std.specs.Prelude.{◌≡◌, ◌≢◌, ℕ, List, Bool, Some, slice_get, string_bytes, IfOk};
+ghost use Rattle.std.specs.Prelude.{◌≡◌, ◌≢◌, List, Bool, Some, slice_get, string_bytes, IfOk};
 ghost use Rattle.std.specs.Prelude.{IfErr, OnOk};
 ghost use Rattle.rc_model.specs.Line.{Lists};
 ghost use Rattle.rc_model.specs.Names.{Has};

@@ -1,6 +1,6 @@
 -- Where a text of known length stands in front of others, it is one.
-use Rattle.std.proofs.Common.{◌≡◌, ◌∙◌, ℕ, ◌<◌, List, [], ◌∷◌, ◌++◌, length, get_or, arith, refl}
-use Rattle.std.proofs.Common.{sym, ap, append_assoc, length-append}
+use Rattle.std.proofs.Common.{◌≡◌, ◌∙◌, ℕ, List, [], ◌∷◌, ◌++◌, length, get_or, arith, refl}
+use Rattle.std.proofs.Common.{sym, ap, append_assoc}
 
 pub cut_once : (a b x y : List ℕ) → length a ≡ length b → a ++ x ≡ b ++ y → (a ≡ b) × (x ≡ y)
 cut_once [] [] x y long same = (refl, same)
@@ -15,16 +15,6 @@ cut_once (c ∷ a) (d ∷ b) x y long same =
 at_end : (text rest : List ℕ) (byte d : ℕ) → get_or (text ++ byte ∷ rest) (length text) d ≡ byte
 at_end [] rest byte d = refl
 at_end (c ∷ text) rest byte d = at_end text rest byte d
-
--- so many bytes in front of a newline
-pub newline_at : (bytes text rest : List ℕ) (long d : ℕ) → length text ≡ long
-    → bytes ≡ text ++ 10 ∷ [] ++ rest → (long < length bytes) × (get_or bytes long d ≡ 10)
-newline_at bytes text rest long d counted same =
-    let apart : bytes ≡ text ++ 10 ∷ rest = same ∙ append_assoc text (10 ∷ []) rest in (
-      omega (arith, ap length apart, length-append text (10 ∷ rest)),
-      ap (λ (l : List ℕ). get_or l long d) apart ∙ ap (λ (k : ℕ). get_or (text ++ 10 ∷ rest) k d)
-          (sym counted) ∙ at_end text rest 10 d,
-    )
 
 -- a text, its newline and the rest are one text and one rest
 pub text_once : (a b x y : List ℕ) → length a ≡ length b → a ++ 10 ∷ [] ++ x ≡ b ++ 10 ∷ [] ++ y

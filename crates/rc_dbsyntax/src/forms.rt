@@ -1,5 +1,5 @@
 //! What a database text says, read front to back.
-ghost use Rattle.std.specs.Prelude.{◌≡◌, ◌≤◌, ◌∷◌, [], IfOk, IfErr};
+ghost use Rattle.std.specs.Prelude.{◌≡◌, IfOk, IfErr};
 ghost use Rattle.std.specs.List.{flat_map};
 ghost use Rattle.rc_model.specs.declared.Kind.TheVariants as kinds;
 ghost use Rattle.rc_dbsyntax.specs.Text.{ServiceCount, BundleCount, IsBody, IsServiceText};

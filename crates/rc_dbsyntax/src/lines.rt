@@ -10,8 +10,8 @@ ghost use Rattle.rc_db.specs.Service.{IsScript};
 ghost use Rattle.rc_dbsyntax.specs.Text.{First, OfService, OfNeeds, OfProducer, OfUp, OfDown};
 ghost use Rattle.rc_dbsyntax.specs.Text.{OfBundle, Last, IsHead, IsBundleText};
 ghost use Rattle.rc_dbsyntax.specs.Text.{line_of_words, spell};
-ghost use Rattle.rc_dbsyntax.specs.Text.{kind_word, flag_word, or_dash, text_behind};
-ghost use Rattle.rc_dbsyntax.specs.Reading.{IsNumber, IsNoNumber, IsNoCount};
+ghost use Rattle.rc_dbsyntax.specs.Text.{kind_word, flag_word, text_behind};
+ghost use Rattle.rc_dbsyntax.specs.Reading.{IsNoCount};
 ghost use Rattle.rc_dbsyntax.specs.Reading.{IsRead, IsRefused, one};
 ghost use Rattle.rc_dbsyntax.specs.Words.{IsPlain, IsOfWords, IsOfNoWords};
 

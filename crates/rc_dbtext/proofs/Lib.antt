@@ -1,7 +1,5 @@
 -- The lemmas of rc_dbtext, in reading order.
 
--- Names in byte order, added one after the other.
-mod Orders
 -- Names at places, and places of names.
 pub mod Naming
 -- What a draft has after the needs of some services were added.

@@ -1,9 +1,6 @@
 //! From bytes to a database.
-ghost use Rattle.std.specs.Prelude.{◌≡◌, ◌≤◌, ◌+◌, ◌++◌, ℕ, List, [], length, IfOk, IfErr};
-ghost use Rattle.rc_model.specs.Names.{AreNames};
-ghost use Rattle.rc_model.specs.Database.{FitTogether};
+ghost use Rattle.std.specs.Prelude.{◌≡◌, ◌+◌, ◌++◌, ℕ, List, [], length, IfOk, IfErr};
 ghost use Rattle.rc_db.specs.Database.{IsWritable};
-ghost use Rattle.rc_db.specs.Parts.{database_of};
 ghost use Rattle.rc_dbsyntax.specs.Text.{IsDbText};
 ghost use Rattle.rc_dbtext.specs.Meaning.{IsComplete, IsSorted, service_names};
 ghost use Rattle.rc_dbtext.specs.Parts.{AreNeedsOf};

@@ -1,5 +1,5 @@
 //! Why a text is no name, in words.
-ghost use Rattle.std.specs.Prelude.{◌≡◌, IfSome, OnErr, IfOk, IfNone};
+ghost use Rattle.std.specs.Prelude.{IfSome, IfOk, IfNone};
 ghost use Rattle.rc_model.specs.Names.{IsName};
 
 use rc_names::{Name, NameFault, NoMem};

@@ -1,5 +1,5 @@
 //! The two files in which a session is kept, as a program reads and writes them.
-ghost use Rattle.std.specs.Prelude.{◌≡◌, ◌⊎◌, ◌++◌, ◌∷◌, [], IfOk, IsErrOf, OnOk};
+ghost use Rattle.std.specs.Prelude.{◌≡◌, ◌⊎◌, ◌∷◌, [], IfOk, IsErrOf, OnOk};
 ghost use Rattle.rc_files.specs.Files.{AfterCrash, Append, Empty, Files, Replace, after};
 
 use std::alloc::Global;

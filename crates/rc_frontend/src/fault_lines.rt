@@ -1,7 +1,4 @@
 //! What was told of a fault.
-ghost use Rattle.std.specs.Prelude.{◌≡◌, ◌++◌, IfOk, OnErr, take};
-ghost use Rattle.std.specs.Io.{WritesAtMost};
-ghost use Rattle.std.specs.Io.KnownBytes.{Keeps, WriteAppends};
 
 use rc_diagnostics::text_of;
 use rc_names::NoMem;

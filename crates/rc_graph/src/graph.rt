@@ -1,4 +1,4 @@
-ghost use Rattle.std.specs.Prelude.{◌≡◌, ℕ, ◌<◌, ◌≤◌, ◌↔◌, List, [], length, slice_index_or};
+ghost use Rattle.std.specs.Prelude.{◌≡◌, ℕ, ◌<◌, ◌↔◌, List, [], length, slice_index_or};
 ghost use Rattle.std.specs.Prelude.{IsTrue, IfOk, Contains};
 ghost use Rattle.rc_model.specs.Names.{Has, Holds, IsAscending};
 ghost use Rattle.rc_model.specs.Graph.{Needs, AreNeeds, IsAcyclic, IsClosed, UpFrom, DownFrom};

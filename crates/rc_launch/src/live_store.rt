@@ -1,7 +1,7 @@
 //! The file in which a session is kept, and its lock. Its text is replaced whole. A text that
 //! stands there already is not written again: that it could be is found out by a file beside it.
 ghost use Rattle.std.specs.Prelude.{◌≡◌, ◌≢◌, ◌↔◌, None, Some, option_map, if◌then◌else◌, IfOk};
-ghost use Rattle.std.specs.Prelude.{true, IfSome, IsSome, IsTrue, OnErr};
+ghost use Rattle.std.specs.Prelude.{true, IsSome, IsTrue, OnErr};
 ghost use Rattle.rc_args.specs.Making.{making_ask_of};
 ghost use Rattle.rc_args.specs.Programs.{StartsBy};
 ghost use Rattle.rc_launch.specs.Beside.{AreRunsOf, IsLocked};

@@ -1,5 +1,5 @@
 //! A recovery of the two files of a session, by the text of a database.
-ghost use Rattle.std.specs.Prelude.{◌≡◌, ◌≢◌, ℕ, List, IfErr, IfNone, IfOk, IfSome, IsErrOf};
+ghost use Rattle.std.specs.Prelude.{◌≡◌, ◌≢◌, ℕ, List, IfNone, IfOk, IfSome, IsErrOf};
 ghost use Rattle.rc_recovery.specs.RunLog.{HasNothing, IsEntered, IsUnfit};
 ghost use Rattle.rc_files.specs.Files.{Files};
 ghost use Rattle.rc_launch.specs.Recovering.{IsNoBase, IsOn, IsUnread, Leaves, LeavesCut};

@@ -1,5 +1,5 @@
 //! What a command that was cut short has moved is entered.
-ghost use Rattle.std.specs.Prelude.{◌≡◌, ◌↔◌, [], IfOk, IsErrOf, IsTrue, option_map};
+ghost use Rattle.std.specs.Prelude.{◌≡◌, ◌↔◌, IfOk, IsErrOf, IsTrue};
 ghost use Rattle.rc_launch.specs.Beside.{GoesOnBy, IsNoted, IsSeen};
 ghost use Rattle.rc_launch.specs.Recovered.{ComesBy, ComesFor, GoesOn, HasLowered, IsCut};
 ghost use Rattle.rc_launch.specs.Recovered.{IsFirstStep, IsRecovered, files_held, files_read};

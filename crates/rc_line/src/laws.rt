@@ -1,6 +1,6 @@
 //! Laws of the definitions, for the crates above. The functions do nothing when they run.
 
-ghost use Rattle.std.specs.Prelude.{◌≡◌, ◌⊎◌, ◌≤◌, ◌<◌, ℕ, [], suc, length, List, Bool, ◌++◌, ◌∷◌};
+ghost use Rattle.std.specs.Prelude.{◌≡◌, ◌⊎◌, ◌≤◌, ◌<◌, [], suc, length, List, Bool, ◌++◌, ◌∷◌};
 ghost use Rattle.std.specs.Prelude.{take, drop, Some, slice_get};
 ghost use Rattle.rc_model.specs.Database.{IsTable};
 ghost use Rattle.rc_model.specs.Line.{State, Entry, IsEntry, entry_back, Line, IsLine, IsNext};

@@ -1,7 +1,7 @@
 ghost use Rattle.std.specs.Prelude.{◌≡◌, ◌≢◌, ◌⊎◌, ◌<◌, ◌≤◌, ◌+◌, ◌↔◌, true, false, [], ◌∷◌, Some};
 ghost use Rattle.std.specs.Prelude.{None, Err, length, slice_get, IfOk, OnOk, OnErr};
 ghost use Rattle.rc_model.specs.Names.{Has};
-ghost use Rattle.rc_model.specs.Database.{Bundles, IsTable};
+ghost use Rattle.rc_model.specs.Database.{Bundles};
 ghost use Rattle.rc_model.specs.Plan.{IsPlanTo};
 ghost use Rattle.rc_model.specs.Line.{IsEdit, states, cursor, IsLine, IsNext, IsEntryAt};
 ghost use Rattle.rc_model.specs.Line.{MovesByChange, MovesByEdit, MovesByUndo, MovesByRedo};

@@ -1,7 +1,6 @@
 //! Lines that are made of whole states.
 
 ghost use Rattle.std.specs.Prelude.{◌≡◌, ◌<◌, ◌≤◌, ℕ, [], false, length, All, IfOk, OnOk};
-ghost use Rattle.rc_model.specs.Database.{IsTable};
 ghost use Rattle.rc_line.specs.State.{states_of};
 ghost use Rattle.rc_model.specs.Line.{DifferInTurn, states, cursor};
 ghost use Rattle.rc_line.specs.Opening.{table_or};

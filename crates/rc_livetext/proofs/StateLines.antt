@@ -1,7 +1,7 @@
 -- States one after another, and what may stand after them.
-use Rattle.std.proofs.Common.{◌≡◌, ◌∙◌, ℕ, Bool, true, false, List, [], ◌∷◌, ◌++◌, get_or, map, All}
+use Rattle.std.proofs.Common.{◌≡◌, ◌∙◌, ℕ, Bool, true, false, List, [], ◌∷◌, ◌++◌, map, All}
 use Rattle.std.proofs.Common.{refl, sym, ap, subst, append_assoc, Vec, Global}
-use Rattle.std.proofs.lemmas.List.Elements.{All-nil, All-push}
+use Rattle.std.proofs.lemmas.List.Elements.{All-push}
 use Rattle.rc_lexer.specs.Words.{BundleText}
 use Rattle.rc_lexer.specs.Form.{spells}
 use Rattle.rc_livetext.specs.Text.{Line, First, OfServices, OfBound, OfState, OfBundle, Last}
@@ -47,9 +47,6 @@ state_is s live bundles = record {
   few = bundles.few;
   each = bundles.each;
 }
-
-pub no_states : (bytes : List ℕ) → HasStates bytes [] bytes
-no_states bytes = (All-nil IsStateText, refl)
 
 -- one state more
 pub one_state : (s : StateText) (states : List StateText) (bytes rest middle behind : List ℕ)
@@ -158,11 +155,6 @@ stops_here place bytes rest states Memory has missing = tt
 pub stops_short : (place : Place) (bytes : List ℕ) (fault : FormFault) → fault ≡ Memory
     → Stops place bytes fault
 stops_short place bytes fault is = subst (Stops place bytes) (sym is) tt
-
--- no bundle stands where another byte does
-pub no_bundle_byte : (bytes : List ℕ) → (get_or bytes 0 0 ≡ 98 → ⊥)
-    → HasNo IsBundleText OfBundle bytes
-no_bundle_byte bytes other b tail is same = other (ap (λ (l : List ℕ). get_or l 0 0) same)
 
 -- no bundle stands where another line does
 pub no_bundle_here : (line : LineForm) (rest behind : List ℕ) → IsSaid (line_text line)

@@ -1,5 +1,5 @@
 //! The head of a live text: its version, its services and its bound.
-ghost use Rattle.std.specs.Prelude.{◌≡◌, ◌++◌, true, IfOk, IfErr, IfSome, is_some};
+ghost use Rattle.std.specs.Prelude.{◌≡◌, ◌++◌, IfOk, IfErr, IfSome};
 ghost use Rattle.rc_lexer.specs.Form.{spells};
 ghost use Rattle.rc_livetext.specs.Text as text;
 ghost use Rattle.rc_livetext.specs.Text.{AreAscending, IsBound, head_lines, spell};

@@ -11,7 +11,6 @@ use Rattle.rc_model.specs.Names.{Has, Holds}
 use Rattle.rc_model.specs.Graph.{Needs, EachNeedsNext, UpFrom}
 use Rattle.rc_graph.specs.Order.{IsOrder}
 use Rattle.rc_members.specs.Joining.{HasJoined, HasAlong}
-use Rattle.rc_members.proofs.Walks.{no_member}
 
 -- what one reaches or is, it is, or what it needs reaches or is
 pub up_by_needs : (needs : List (List ℕ)) (s t : ℕ) → UpFrom needs (λ x. x ≡ s) t
@@ -38,9 +37,6 @@ pub record AreJoined (needs : List (List ℕ)) (passed : List ℕ) (old new : Li
     0 where
   pub done : (s : ℕ) → Contains passed s → Holds (slice_index_or new s []) (HasAlong needs old s)
   pub left : (s : ℕ) → (Contains passed s → ⊥) → slice_index_or new s [] ≡ slice_index_or old s []
-
-pub none_joined : (needs : List (List ℕ)) (sets : List (List Bool)) → AreJoined needs [] sets sets
-none_joined needs sets = record { done = λ s there. absurd (no_member s there); left = λ s _. refl }
 
 -- the set that joins an id's with those of all that it needs
 joined_along : (needs : List (List ℕ)) (passed list : List ℕ) (old mid : List (List Bool)) (s : ℕ)
@@ -112,17 +108,6 @@ not_passed needs order i ordered within (k, low, here) =
     let before : k < i = omega (arith, length-take i order) in
     let same : get_or order k s ≡ s = sym (get_or-take i order k s before) ∙ here in
     ordered.once k i s before within (same ∙ get_or_default order i 0 s within)
-
--- one more set of a list is joined
-pub joins_none : (sets : List (List Bool)) (id : ℕ) (set : List Bool)
-    → set ≡ slice_index_or sets id [] → Holds set (HasJoined sets id [])
-joins_none sets id set same x = (
-  λ has. inl (subst (λ b. Has b x) same has),
-  λ either. elim either [
-    | inl own ↦ subst (λ b. Has b x) (sym same) own
-    | inr other ↦ absurd (no_member other.0 other.1)
-  ],
-)
 
 pub joins_more : (sets : List (List Bool)) (id t : ℕ) (list : List ℕ) (old new taken : List Bool)
     → Holds old (HasJoined sets id list) → Holds new (λ x. Has old x ⊎ Has taken x)

@@ -1,7 +1,7 @@
 -- Lists of places that grow by what definitions list.
 use Rattle.std.proofs.Common.{◌≡◌, ◌∙◌, ℕ, ◌+◌, ◌<◌, ◌⊎◌, ◌↔◌, inl, inr, List, [], ◌∷◌, ◌++◌}
 use Rattle.std.proofs.Common.{length, take, map, replicate, get_or, slice_get, slice_index_or}
-use Rattle.std.proofs.Common.{slice_set, Contains, Option, Some, None, Result, Ok, Err, OnOk, zero}
+use Rattle.std.proofs.Common.{slice_set, Contains, Option, Some, Result, Ok, Err, OnOk, zero}
 use Rattle.std.proofs.Common.{suc, refl, sym, ap, subst, arith}
 use Rattle.std.specs.Global.{Vec}
 use Rattle.std.specs.Option.{option_to_list}
@@ -96,10 +96,6 @@ puts_one (Ok x) to old new o name is more =
     subst (λ p. Puts to old (option_to_list p) new) (sym is)
     (puts_more to old old new [] name (puts_none to old) more)
 puts_one (Err e) to old new o name is more = tt
-
-pub puts_no : (to : List (List ℕ)) (old : List ℕ) (o : Option (List ℕ)) → o ≡ None
-    → Puts to old (option_to_list o) old
-puts_no to old o is = subst (λ p. Puts to old (option_to_list p) old) (sym is) (puts_none to old)
 
 -- a row of a table is put in anew
 pub row_put : (vectors : List (Vec ℕ)) (id : ℕ) (old v : Vec ℕ) (from : List (List ℕ))

@@ -91,12 +91,6 @@ from_place services readers id s name up at = (
   ],
 )
 
-pub from_nowhere : (services readers : List (List ℕ)) (s : ℕ) (name : List ℕ)
-    → (Contains services name → ⊥) → UpFrom readers (λ i. slice_get services i ≡ Some name) s → ⊥
-from_nowhere services readers s name missing (inl here) = missing (contains_at services s name here)
-from_nowhere services readers s name missing (inr path) =
-    missing (contains_at services path.0 name path.1)
-
 -- what a definition's pipeline gains
 pub pipe_gain : (m : Meaning) (services readers bundles : List (List ℕ)) (name : List ℕ)
     (more : List Bool) (old new : List (List Bool)) → NamesPipeline m name
@@ -218,11 +212,6 @@ mirrored_sets (Ok sets) R bundles services lists seen n mirrors same long holds 
       λ related. (holds b low s).1 ((held.same b s).1 (name, a, at_b, at_s, related)),
     )
 mirrored_sets (Err e) R bundles services lists seen n mirrors same long holds = tt
-
-pub few_sets : {E : Type 0} (r : Result (Vec (List Bool)) E) (n m : ℕ) → n ≡ m
-    → IfOk r (λ sets. length sets.items ≡ n) → IfOk r (λ sets. length sets.items ≡ m)
-few_sets (Ok sets) n m same few = few ∙ same
-few_sets (Err e) n m same few = tt
 
 -- the sets of all that bundles hold, contents and pipelines
 pub held_sets : (ms : List Meaning) (services bundles readers : List (List ℕ))

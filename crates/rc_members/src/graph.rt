@@ -1,5 +1,5 @@
 // The graph of bundles in bundles, or a cycle of them.
-ghost use Rattle.std.specs.Prelude.{◌≡◌, ◌<◌, ◌≤◌, ◌⊎◌, ◌↔◌, ℕ, List, [], length, map};
+ghost use Rattle.std.specs.Prelude.{◌≡◌, ◌<◌, ◌⊎◌, ◌↔◌, ℕ, List, [], length, map};
 ghost use Rattle.std.specs.Prelude.{slice_index_or, All, Contains, IfOk, IfErr, OnOk};
 ghost use Rattle.rc_model.specs.Graph.{Needs, AreServices};
 ghost use Rattle.rc_members.specs.Rows.{rows};

@@ -1,8 +1,7 @@
 // Sets that gain the sets of all that they reach in a graph.
-ghost use Rattle.std.specs.Prelude.{◌≡◌, ◌<◌, ◌⊎◌, ℕ, [], length, slice_index_or, All, Contains};
+ghost use Rattle.std.specs.Prelude.{◌≡◌, ◌<◌, ℕ, [], length, slice_index_or, All};
 ghost use Rattle.std.specs.Prelude.{IfOk, OnOk};
-ghost use Rattle.rc_model.specs.Names.{Has, Holds};
-ghost use Rattle.rc_graph.specs.Order.{IsOrder};
+ghost use Rattle.rc_model.specs.Names.{Holds};
 ghost use Rattle.rc_members.specs.Joining.{AllWithin, HasJoined, HasAlong};
 
 use rc_graph::Graph;

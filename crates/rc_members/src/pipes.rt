@@ -1,7 +1,7 @@
 // The bundles of pipelines.
-ghost use Rattle.std.specs.Prelude.{◌≡◌, ◌<◌, ◌≤◌, ◌⊎◌, ◌↔◌, ℕ, List, [], length, map, slice_get};
-ghost use Rattle.std.specs.Prelude.{slice_index_or, All, Contains, Some, IfSome, IfNone, OnOk};
-ghost use Rattle.rc_model.specs.Names.{Has, Holds};
+ghost use Rattle.std.specs.Prelude.{◌≡◌, ◌<◌, ◌⊎◌, ◌↔◌, ℕ, List, [], length, map, slice_get};
+ghost use Rattle.std.specs.Prelude.{slice_index_or, Some, IfSome, IfNone, OnOk};
+ghost use Rattle.rc_model.specs.Names.{Has};
 ghost use Rattle.rc_model.specs.Graph.{AreServices};
 ghost use Rattle.rc_members.specs.Rows.{rows};
 ghost use Rattle.rc_source.specs.Said.{meaning_of};

@@ -1,7 +1,7 @@
 // The services that the name of each bundle stands for.
-ghost use Rattle.std.specs.Prelude.{◌≡◌, ◌<◌, ◌≤◌, ◌⊎◌, ◌↔◌, ℕ, List, [], length, map, slice_get};
-ghost use Rattle.std.specs.Prelude.{slice_index_or, All, Contains, Some, IfOk, OnOk};
-ghost use Rattle.rc_model.specs.Names.{Has, Holds};
+ghost use Rattle.std.specs.Prelude.{◌≡◌, ◌<◌, ◌≤◌, ◌↔◌, ℕ, List, [], length, map};
+ghost use Rattle.std.specs.Prelude.{slice_index_or, All, Contains, IfOk};
+ghost use Rattle.rc_model.specs.Names.{Holds};
 ghost use Rattle.rc_model.specs.Graph.{Needs};
 ghost use Rattle.rc_members.specs.Rows.{rows};
 ghost use Rattle.rc_source.specs.Meaning.{AreMeanings};

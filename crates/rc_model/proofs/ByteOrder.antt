@@ -1,11 +1,10 @@
 -- Names in byte order: no name stands before itself, each stands at one place, and lists of the
 -- same names are one.
 use Rattle.std.proofs.Common.{◌≡◌, ◌≢◌, ◌∙◌, ◌<◌, ◌↔◌, ◌⊎◌, inl, inr, ℕ, suc, false, List, [], ◌∷◌}
-use Rattle.std.proofs.Common.{get_or, take, slice_get, Some, All, Contains, refl, sym, ap, subst}
+use Rattle.std.proofs.Common.{get_or, slice_get, Some, All, Contains, refl, sym, ap, subst}
 use Rattle.std.proofs.Common.{arith, true≢false}
 use Rattle.std.proofs.lemmas.Bool.{cases_lt, cases_Bool}
 use Rattle.std.proofs.lemmas.Cmp.{nat_list_cmp_total}
-use Rattle.std.proofs.lemmas.List.{length-take, get_or-take}
 use Rattle.std.proofs.lemmas.Map.Text.{is_eq-slice_cmp}
 use Rattle.std.proofs.lemmas.Option.{slice_get_within, get_or_from_slice_get}
 use Rattle.std.proofs.lemmas.Slice.Eq.{bytes_eq-Decides}
@@ -50,14 +49,6 @@ module _ (name : List ℕ) (names : List (List ℕ)) (order : IsInByteOrder (nam
 
   pub head_before : (other : List ℕ) → Contains names other → IsBefore name other
   head_before other (k, within, here) = subst (IsBefore name) here (order_head k other within)
-
--- a prefix of names in order is in order
-pub front_in_order : (names : List (List ℕ)) (n : ℕ) → IsInByteOrder names
-    → IsInByteOrder (take n names)
-front_in_order names n order = λ i j d low within.
-    let inside : j < n = omega (arith, length-take n names) in
-    rw (get_or-take n names i d (omega arith), get_or-take n names j d inside)
-    (order i j d low (omega (arith, length-take n names)))
 
 -- of two places the lower has the earlier name
 pub before_at : (names : List (List ℕ)) (i j : ℕ) (a b : List ℕ) → IsInByteOrder names

@@ -24,8 +24,6 @@ pub mod Exact
 pub mod Lines
 -- What fitting a line to its bound leaves of it.
 pub mod Fitting
--- The ids that one set gains over another, listed in ascending order.
-pub mod Listing
 -- Lists that are mapped, up to one place.
 pub mod Mapped
 -- Lists by their places.
@@ -36,7 +34,7 @@ pub mod RunLemmas
 pub mod RunMembers
 -- Where a service stands after one more event.
 pub mod StandingLemmas
--- Where services stand before the first event, listed service by service.
+-- Where services stand before the first event.
 pub mod Standings
 -- From a closed opening, every run has at each moment all that its live services need.
 pub mod StrictLemmas

@@ -1,6 +1,6 @@
 //! Recovery from the texts of the two files, the file of a session and its run log, to a new text.
 ghost use Rattle.std.specs.Prelude.{◌≡◌, ◌≢◌, ◌++◌, ℕ, List, [], map, IfNone, IfOk, IfSome};
-ghost use Rattle.std.specs.Prelude.{IsErrOf, IsFalse, IsTrue, MatchBool, MatchOption};
+ghost use Rattle.std.specs.Prelude.{IsErrOf, IsTrue, MatchBool, MatchOption};
 ghost use Rattle.rc_model.specs.Headline.{HasRun};
 ghost use Rattle.rc_model.specs.Session.{IsLineOf, events_of};
 ghost use Rattle.rc_livetext.specs.Spelling.{Spells};

@@ -1,8 +1,8 @@
 -- The names of a set, service by service, and texts that grow by a name or a comma.
-use Rattle.std.proofs.Common.{◌≡◌, ◌∙◌, ℕ, zero, suc, ◌+◌, ◌<◌, ◌≤◌, Bool, true, false, List, []}
+use Rattle.std.proofs.Common.{◌≡◌, ◌∙◌, ℕ, zero, suc, ◌+◌, ◌<◌, Bool, true, false, List, []}
 use Rattle.std.proofs.Common.{◌∷◌, ◌++◌, Some, length, take, slice_get, slice_index_or, get_or}
 use Rattle.std.proofs.Common.{refl, ap, sym, arith, append_assoc, add-one}
-use Rattle.std.proofs.lemmas.List.{append-nil, map-append, take_more}
+use Rattle.std.proofs.lemmas.List.{map-append, take_more}
 use Rattle.std.proofs.lemmas.Option.{slice_get_within}
 use Rattle.std.specs.List.{flat_map, join_with_byte}
 use Rattle.rc_model.specs.Names.{Has}

@@ -4,7 +4,7 @@ use Rattle.std.specs.Prelude.{if◌then◌else◌, length, nat_eq, slice_get, sl
 use Rattle.std.specs.List.{flat_map, range_with_len}
 use Rattle.rc_model.specs.declared.Kind.{Kind}
 use Rattle.rc_model.specs.declared.Kind.TheVariants.{Oneshot, Longrun, Bundle}
-use Rattle.rc_model.specs.Database.{Bundles, Database, Service}
+use Rattle.rc_model.specs.Database.{Database, Service}
 use Rattle.rc_render.specs.Lines.{line, names_at}
 use Rattle.rc_render.specs.Names.{names_in}
 

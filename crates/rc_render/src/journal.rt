@@ -1,6 +1,6 @@
 //! The journal: where a line stands, and its entries.
 ghost use Rattle.std.specs.Prelude.{◌≡◌, ◌<◌, ◌≤◌, ◌∷◌, ◌++◌, ◌↔◌, Bool, true, false, List};
-ghost use Rattle.std.specs.Prelude.{if◌then◌else◌, length, All, Contains, IsTrue, IfOk, OnOk};
+ghost use Rattle.std.specs.Prelude.{if◌then◌else◌, length, All, Contains, IfOk, OnOk};
 ghost use Rattle.std.specs.Fmt.{decimal};
 ghost use Rattle.std.specs.List.{flat_map, join_with_byte};
 ghost use Rattle.std.specs.Option.{option_copied};

@@ -1,11 +1,11 @@
 -- A script gives one list of commands.
-use Rattle.std.proofs.Common.{◌≡◌, ◌∙◌, ◌≢◌, ℕ, List, [], ◌∷◌, ◌++◌, Option, Some, None, inl, inr}
+use Rattle.std.proofs.Common.{◌≡◌, ◌∙◌, ℕ, List, [], ◌∷◌, ◌++◌, Some, inl, inr}
 use Rattle.std.proofs.Common.{refl, sym, ap, subst}
 use Rattle.rc_model.specs.Session.{Command}
 use Rattle.rc_script.specs.Says.{Saying, SaysNothing, SaysWrong, SaysStep, SaysDry, SaysLive}
 use Rattle.rc_script.specs.Says.{SaysBundles, SaysJournal}
 use Rattle.rc_script.specs.Script.{AddsLine, IsBadLine, IsItem, IsItemSaying, IsScript, Item, Reads}
-use Rattle.rc_script.specs.Script.{lines_in, with_item}
+use Rattle.rc_script.specs.Script.{with_item}
 use Rattle.rc_script.proofs.Sayings.{line_once}
 
 -- what is one saying is one item

@@ -1,6 +1,6 @@
 //! The options in front of the word that says what a line does.
-ghost use Rattle.std.specs.Prelude.{◌≡◌, ◌<◌, false, true, ◌∷◌, None, map, option_map, length};
-ghost use Rattle.std.specs.Prelude.{slice_index, IfOk, MatchBool, MatchOption, string_bytes};
+ghost use Rattle.std.specs.Prelude.{◌≡◌, ◌<◌, false, true, None, map, option_map, length};
+ghost use Rattle.std.specs.Prelude.{IfOk, MatchBool, MatchOption, string_bytes};
 ghost use Rattle.rc_select.specs.Ask.{ask_of};
 ghost use Rattle.rc_script.specs.Options.{IsOption, has_option, choices_of, word_choices};
 ghost use Rattle.rc_script.specs.Options.{front_of, ask_chosen, only_limit};

@@ -1,9 +1,7 @@
 //! The words of a line, and numbers among them.
-ghost use Rattle.std.specs.Prelude.{◌≡◌, ◌==◌, ◌||◌, ◌↔◌, ◌<◌, ◌^◌, map, filter, length, nat_lt};
-ghost use Rattle.std.specs.Prelude.{All, IfOk, IsTrue, MatchOption};
-ghost use Rattle.std.specs.List.{slice_split};
+ghost use Rattle.std.specs.Prelude.{◌≡◌, ◌==◌, ◌||◌, ◌<◌, map, filter};
+ghost use Rattle.std.specs.Prelude.{All, IfOk, MatchOption};
 ghost use Rattle.std.specs.Str.{IsUtf8, all_ascii_digits};
-ghost use Rattle.std.specs.Str.Parse.{digits_value};
 ghost use Rattle.rc_script.specs.Words.{is_blank, words_in, is_silent, is_digits, limit_of};
 
 use rc_names::NoMem;

@@ -1,6 +1,6 @@
 //! Laws of the definitions, for the crates above. The functions do nothing when they run.
 
-ghost use Rattle.std.specs.Prelude.{ℕ, List, Bool};
+ghost use Rattle.std.specs.Prelude.{List, Bool};
 ghost use Rattle.rc_model.specs.Names.{Has};
 ghost use Rattle.rc_model.specs.Graph.{IsClosed};
 ghost use Rattle.rc_model.specs.Database.{Bundles, Database};

@@ -2,7 +2,7 @@ ghost use Rattle.std.specs.Prelude.{◌≡◌, ℕ, List, length, map, All, IfOk
 ghost use Rattle.std.specs.Prelude.{string_bytes};
 ghost use Rattle.rc_model.specs.Names.{Has, Holds};
 ghost use Rattle.rc_model.specs.Graph.{IsClosed};
-ghost use Rattle.rc_model.specs.Database.{HaveBound, Bundles, IsDatabase, IsKnown, IsUnknownAt};
+ghost use Rattle.rc_model.specs.Database.{HaveBound, Bundles, IsDatabase, IsKnown};
 ghost use Rattle.rc_db.specs.QueryFaults.{IsNamesFault};
 ghost use Rattle.rc_model.specs.Plan.{IsPlanTo, Target, Kept, IsEssentialUp, IsWanted, IsPlanOf};
 ghost use Rattle.rc_model.specs.Plan.{CanPlan, IsPlanFault};

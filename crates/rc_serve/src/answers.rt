@@ -1,5 +1,5 @@
 //! Session lines and their answers.
-ghost use Rattle.std.specs.Prelude.{◌≡◌, ◌↔◌, [], true, false, length, IsTrue, IfOk, IfErr};
+ghost use Rattle.std.specs.Prelude.{◌≡◌, ◌↔◌, [], false, length, IsTrue, IfOk, IfErr};
 ghost use Rattle.rc_model.specs.Session.{Command, events_of};
 ghost use Rattle.rc_session.specs.Commands.{command_of, with_events};
 ghost use Rattle.rc_board.specs.Crew.{IsCrew};

@@ -1,5 +1,5 @@
 //! What keeps the line of states of a session, so that it outlasts the program.
-ghost use Rattle.std.specs.Prelude.{◌≡◌, ◌⊎◌, ℕ, false, OnOk, OnErr, IfErr};
+ghost use Rattle.std.specs.Prelude.{◌≡◌, ◌⊎◌, false, OnOk, OnErr, IfErr};
 ghost use Rattle.rc_model.specs.Database.{Database};
 ghost use Rattle.rc_model.specs.Line.{Line};
 ghost use Rattle.rc_serve.specs.Keeping.{IsKeptOn};

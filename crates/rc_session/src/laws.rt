@@ -1,6 +1,6 @@
 //! Laws of the definitions, the headline first. The functions do nothing when they run.
 
-ghost use Rattle.std.specs.Prelude.{◌≡◌, ◌↔◌, ℕ, Bool, false, List, [], Option, Some, length, take};
+ghost use Rattle.std.specs.Prelude.{◌≡◌, ◌↔◌, ℕ, Bool, false, List, [], Option, Some, take};
 ghost use Rattle.std.specs.Prelude.{drop, slice_get, Result};
 ghost use Rattle.rc_model.specs.Database.{Database, IsDatabase};
 ghost use Rattle.rc_model.specs.Plan.{PlanSets};

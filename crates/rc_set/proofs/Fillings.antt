@@ -127,21 +127,3 @@ word_filled words at next old new value within fit so_far = record {
       let within = so_far.bits.within in
       not (passed.0, omega (arith, passed.1, within), passed.2));
 }
-
--- word after word
-pub next_filled : {X : Type 0} (words : List ℕ) (at : ℕ) (old mid new : List X) (value : X)
-    → Fills (λ s. (s < 64 * at) × (HasBit words s → ⊥)) old mid value
-    → Fills (λ s. (64 * at ≤ s) × (s < 64 * (at + 1)) × (HasBit words s → ⊥)) mid new value
-    → Fills (λ s. (s < 64 * (at + 1)) × (HasBit words s → ⊥)) old new value
-next_filled words at old mid new value so_far word = record {
-  bound = word.bound ∙ so_far.bound;
-  filled = λ s d low holds. elim (cases_lt s (64 * at)) [
-    | inl before ↦
-        word.same s d (λ in'. omega (arith, before, in'.0))
-        ∙ so_far.filled s d low (before, holds.1)
-    | inr here ↦ word.filled s d (omega (arith, low, so_far.bound)) (here, holds.0, holds.1)
-  ];
-  same = λ s d not.
-      word.same s d (λ in'. not (in'.1, in'.2))
-      ∙ so_far.same s d (λ in'. not (omega (arith, in'.0), in'.1));
-}

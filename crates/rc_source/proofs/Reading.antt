@@ -135,9 +135,6 @@ pub record SourcesRead (sources : List Source) (found : List Meaning) (i : ℕ) 
   pub left : IsLeft Passes (all_tests [] sources) (all_tests (meant found) (drop i sources))
   pub means : MeanAll (all_entries (take i sources)) found
 
-pub no_source : (sources : List Source) → SourcesRead sources [] 0
-no_source sources = record { left = left_whole Passes (all_tests [] sources); means = tt }
-
 module _ (sources : List Source) (found : List Meaning) (i : ℕ) (source : Source)
     (within : i < length sources) (here : source ≡ get_or sources i source)
     (so_far : SourcesRead sources found i) where

@@ -1,5 +1,5 @@
 // What the files of an entry say, read in the order of their tests.
-ghost use Rattle.std.specs.Prelude.{◌≡◌, ◌≢◌, ◌≤◌, ◌∷◌, [], false, All, Contains, IfOk, IfErr};
+ghost use Rattle.std.specs.Prelude.{◌≡◌, ◌≢◌, ◌∷◌, [], false, All, Contains, IfOk, IfErr};
 ghost use Rattle.std.specs.Prelude.{OnOk, Some, None, codes, option_map, string_bytes};
 ghost use Rattle.rc_model.specs.Names.{IsName};
 ghost use Rattle.rc_model.specs.declared.Kind.TheVariants.{Oneshot, Longrun, Bundle};

@@ -1,14 +1,14 @@
 // What single files of an entry say: each function reads one.
-ghost use Rattle.std.specs.Prelude.{◌≡◌, ◌≢◌, ◌≤◌, ◌⊎◌, ◌↔◌, ◌<◌, ◌^◌, ℕ, List, IfOk, IfErr};
-ghost use Rattle.std.specs.Prelude.{IfSome, OnOk, Some, None, IsTrue, false, map, option_map};
+ghost use Rattle.std.specs.Prelude.{◌≡◌, ◌≢◌, ◌⊎◌, ◌↔◌, ◌<◌, ℕ, List, IfOk, IfErr};
+ghost use Rattle.std.specs.Prelude.{IfSome, OnOk, Some, None, false, map, option_map};
 ghost use Rattle.std.specs.Prelude.{string_bytes, Contains, codes, slice_get};
 ghost use Rattle.std.specs.Option.{is_some};
 ghost use Rattle.rc_model.specs.Names.{IsName};
-ghost use Rattle.rc_tree.specs.Tree.{Source, file_at, names_next};
+ghost use Rattle.rc_tree.specs.Tree.{Source, file_at};
 ghost use Rattle.rc_source.specs.Asked.{IsAsked};
 ghost use Rattle.rc_source.specs.Texts.{IsScriptText};
 ghost use Rattle.rc_source.specs.Kinds.{KindWord, UpText, DownText, Anything, Limit, Flag, Names};
-ghost use Rattle.rc_source.specs.Kinds.{NameEach, OneName, is_hidden, kind_of};
+ghost use Rattle.rc_source.specs.Kinds.{OneName, kind_of};
 ghost use Rattle.rc_source.specs.Files.{IsNoText, FilePasses, StopsAtFile};
 ghost use Rattle.rc_source.specs.Meaning.{limit_in, given_in};
 

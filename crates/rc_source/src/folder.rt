@@ -1,5 +1,5 @@
 // What the names in a folder of names say.
-ghost use Rattle.std.specs.Prelude.{◌≡◌, ◌≢◌, ◌≤◌, ◌⊎◌, ◌↔◌, ℕ, List, false, All, Contains, IfOk};
+ghost use Rattle.std.specs.Prelude.{◌≡◌, ◌≢◌, ◌⊎◌, ◌↔◌, ℕ, List, false, All, Contains, IfOk};
 ghost use Rattle.std.specs.Prelude.{IfErr, OnOk, Some, map, string_bytes};
 ghost use Rattle.rc_model.specs.Names.{IsName, IsInByteOrder};
 ghost use Rattle.rc_tree.specs.Tree.{Source, names_next};

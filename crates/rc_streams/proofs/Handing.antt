@@ -1,6 +1,6 @@
 -- One part after another, of what is handed out.
 use Rattle.std.proofs.Common.{◌≡◌, ◌≢◌, ◌∙◌, inl, inr, ℕ, ◌+◌, ◌<◌, true, false, List, [], ◌∷◌}
-use Rattle.std.proofs.Common.{◌++◌, Option, None, Some, length, take, drop, ◌-◌, ap, sym, refl}
+use Rattle.std.proofs.Common.{◌++◌, Option, length, take, drop, ◌-◌, ap, sym, refl}
 use Rattle.std.proofs.Common.{subst, arith, append_assoc, take-append-drop, length-append}
 use Rattle.std.proofs.Common.{length-drop}
 use Rattle.std.proofs.lemmas.List.{append-nil, take_all}
@@ -11,14 +11,6 @@ use Rattle.std.specs.Io.KnownBytes.{Consumes, Keeps}
 use Rattle.std.proofs.KnownBytes.{Consumes-kept, Consumes-trans}
 use Rattle.rc_streams.specs.Taking.{Held, BeginsTooLong, HandsOut, IsLine, IsOneLine, IsPartFault}
 use Rattle.rc_streams.specs.Taking.{IsRefillFault, LacksLine, MovesPart, Refills, Takes}
-
--- nothing was taken, and then bytes
-pub Keeps-Consumes : (a b c : Option (List ℕ)) (bytes : List ℕ) → Keeps a b → Consumes b c bytes
-    → Consumes a c bytes
-Keeps-Consumes None b c bytes kept taken = tt
-Keeps-Consumes (Some x) None c bytes kept taken = absurd kept
-Keeps-Consumes (Some x) (Some y) None bytes kept taken = absurd taken
-Keeps-Consumes (Some x) (Some y) (Some z) bytes kept taken = sym kept ∙ taken
 
 -- what is held goes after the line, and there is no newline in it
 pub hands_part : (old new : Option (List ℕ)) (before here after : Held) (line longer : List ℕ)

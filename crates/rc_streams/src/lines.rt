@@ -1,5 +1,5 @@
 //! Lines of an input under bounds.
-ghost use Rattle.std.specs.Prelude.{◌≡◌, ◌⊎◌, ◌+◌, ◌<◌, ◌≤◌, ◌++◌, [], false, length, Err, IfOk};
+ghost use Rattle.std.specs.Prelude.{◌≡◌, ◌⊎◌, ◌+◌, ◌<◌, ◌≤◌, ◌++◌, false, length, Err, IfOk};
 ghost use Rattle.std.specs.Prelude.{OnOk, OnErr, IfErr, MatchOption};
 ghost use Rattle.rc_streams.specs.Noting.{HasFailed, inner_of};
 ghost use Rattle.rc_streams.specs.Taking.{HandsLine, HandsNothing, BeginsTooLong, IsOneLine};

@@ -1,4 +1,4 @@
-ghost use Rattle.std.specs.Prelude.{◌≡◌, ◌≤◌, IfOk, IfErr, IfSome, OnOk, vec_len};
+ghost use Rattle.std.specs.Prelude.{◌≡◌, ◌≤◌, IfErr, OnOk};
 ghost use Rattle.rc_tree.specs.TreeFaults.{IsCallFault};
 
 use crate::tree::{MAX_FILE, Tree, TreeFault, first_part, path_to};

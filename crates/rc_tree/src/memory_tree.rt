@@ -1,10 +1,9 @@
-ghost use Rattle.std.specs.Prelude.{◌≡◌, [], OnOk, OnErr, IfOk, IfErr, Some, ◌==◌, ◌≤◌, ◌⊎◌};
-ghost use Rattle.std.specs.Prelude.{vec_len, map, option_map, string_bytes};
+ghost use Rattle.std.specs.Prelude.{◌≡◌, [], OnOk, OnErr, IfOk, Some};
+ghost use Rattle.std.specs.Prelude.{map, option_map, string_bytes};
 ghost use Rattle.rc_names.specs.Names.{Adds};
 ghost use Rattle.std.specs.BTreeMap.{keys};
-ghost use Rattle.std.specs.List.{filter_map, before_first};
+ghost use Rattle.std.specs.List.{filter_map};
 ghost use Rattle.rc_tree.specs.Tree.{IsPutAt, path_of, next_name};
-ghost use Rattle.rc_tree.specs.TreeFaults.{IsTooLong};
 ghost use Rattle.rc_tree.specs.Shown.{shown_files};
 
 use crate::sets;
@@ -24,7 +23,7 @@ pub struct MemoryTree {
 
 impl Model for MemoryTree {
     ghost use Rattle.std.specs.Prelude.{map, string_bytes};
-    ghost use Rattle.rc_tree.specs.Tree.{Source, IsSource};
+    ghost use Rattle.rc_tree.specs.Tree.{Source};
     ghost use Rattle.rc_tree.specs.Shown.{shown_files};
 
     ghost Value = { Source };

@@ -1,4 +1,4 @@
-ghost use Rattle.std.specs.Prelude.{◌≡◌, ◌==◌, ◌≤◌, ◌↔◌, ℕ, [], ◌∷◌, ◌++◌, Option, None, IfOk};
+ghost use Rattle.std.specs.Prelude.{◌≡◌, ◌==◌, ◌≤◌, ◌↔◌, ℕ, Option, None, IfOk};
 ghost use Rattle.std.specs.Prelude.{IfErr, IfSome, OnOk, IsTrue, IsSome, map, option_map};
 ghost use Rattle.std.specs.Prelude.{string_bytes, vec_len};
 ghost use Rattle.rc_tree.specs.Tree.{Source, IsSource, file_at, path_of, IsListing, AreEntries};

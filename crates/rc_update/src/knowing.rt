@@ -1,5 +1,5 @@
 //! Whether conversions name services of both databases.
-ghost use Rattle.std.specs.Prelude.{◌≡◌, MatchOption};
+ghost use Rattle.std.specs.Prelude.{MatchOption};
 ghost use Rattle.rc_update.specs.Conversions.{conversion_of, conversions_of};
 ghost use Rattle.rc_update.specs.Knowing.{AreKnown, IsFirstStranger, IsKnownIn, IsStranger};
 

@@ -1,7 +1,5 @@
 //! A change that was cut short, entered from what its run log says: the report, and the journal.
 
-ghost use Rattle.std.specs.Prelude.{◌≡◌, false, IfOk};
-
 use rc_core::{Event, Outcome};
 use rc_livetext::{read_live, write_live};
 use rc_recovery::{Recovered, recover_text};

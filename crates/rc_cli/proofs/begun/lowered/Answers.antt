@@ -1,4 +1,4 @@
-use Rattle.std.proofs.Common.{◌≡◌, ◌∙◌, List, Bool, ap, length, subst, sym}
+use Rattle.std.proofs.Common.{◌∙◌, List, Bool, ap, length, subst, sym}
 use Rattle.rc_model.specs.Names.{Has}
 use Rattle.rc_model.specs.Graph.{IsClosed}
 use Rattle.rc_session.proofs.States.{current_state}

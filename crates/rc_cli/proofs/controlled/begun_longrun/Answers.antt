@@ -1,4 +1,4 @@
-use Rattle.std.proofs.Common.{◌≡◌, ◌≢◌}
+use Rattle.std.proofs.Common.{◌≢◌}
 use Rattle.rc_model.specs.declared.Refusal.TheVariants.{Memory}
 use Rattle.rc_session.specs.Commands.{command_of}
 use Rattle.rc_cli.proofs.ControlledLemmas.{begun_moves, none_weaker, refused_moves, refused_none}

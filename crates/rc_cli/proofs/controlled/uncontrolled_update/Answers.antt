@@ -1,5 +1,4 @@
 use Rattle.std.proofs.Common.{refl}
-use Rattle.std.specs.String.{string_bytes}
 use Rattle.rc_args.specs.UpdateAsked.{update_ask_of}
 use Rattle.rc_cli.proofs.ControlledLemmas.{none_of_texts, none_weaker, some_weaker}
 use Rattle.rc_cli.proofs.controlled.uncontrolled_update.Goals as goal

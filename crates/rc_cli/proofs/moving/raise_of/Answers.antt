@@ -1,4 +1,4 @@
-use Rattle.std.proofs.Common.{◌≡◌, ◌∙◌, List, Bool, map, ap, sym, subst, length, true}
+use Rattle.std.proofs.Common.{◌∙◌, map, ap, sym, subst, length, true}
 use Rattle.std.specs.String.{string_bytes}
 use Rattle.rc_model.specs.Names.{Has}
 use Rattle.rc_model.specs.Graph.{IsClosed}

@@ -1,4 +1,4 @@
-use Rattle.std.proofs.Common.{◌≡◌, ◌∙◌, List, Bool, map, false, ap, sym, subst, length}
+use Rattle.std.proofs.Common.{◌∙◌, List, Bool, map, false, ap, sym, subst}
 use Rattle.std.specs.String.{string_bytes}
 use Rattle.rc_model.specs.Names.{Has}
 use Rattle.rc_model.specs.Graph.{IsClosed}

@@ -1,7 +1,6 @@
-use Rattle.std.proofs.Common.{◌≡◌, ◌∙◌, ◌+◌, ◌-◌, Bool, List, Some, length, slice_get, ap, sym}
+use Rattle.std.proofs.Common.{◌≡◌, ◌∙◌, ◌-◌, Bool, List, length, slice_get, ap, sym}
 use Rattle.std.proofs.Common.{arith}
-use Rattle.rc_model.specs.Database.{Database}
-use Rattle.rc_model.specs.Line.{Line, State, cursor, states}
+use Rattle.rc_model.specs.Line.{cursor, states}
 use Rattle.rc_line.specs.Opening.{Journal}
 use Rattle.rc_session.proofs.States.{current_state}
 use Rattle.rc_cli.proofs.WantedLemmas.{more_wanted, state_bound, wanted_closed}

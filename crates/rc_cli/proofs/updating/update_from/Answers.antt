@@ -1,15 +1,11 @@
-use Rattle.std.proofs.Common.{◌≡◌, ◌∙◌, Bool, List, ap, inl, length, map, refl, subst, sym}
+use Rattle.std.proofs.Common.{◌≡◌, ap, inl, map, refl}
 use Rattle.std.specs.String.{string_bytes}
-use Rattle.rc_model.specs.Names.{Has}
-use Rattle.rc_model.specs.Graph.{IsClosed}
-use Rattle.rc_model.specs.Database.{Database}
 use Rattle.rc_model.specs.declared.Mode.TheVariants.{DownAll, Up}
 use Rattle.rc_streams.specs.Noting.{inner_of}
 use Rattle.rc_script.specs.Says.{saying_of}
 use Rattle.rc_args.specs.OnceAsked.{Said}
 use Rattle.rc_args.specs.SessionAsked.{session_ask_of}
 use Rattle.rc_serve.specs.Ending.{IsDoneAs}
-use Rattle.rc_session.proofs.States.{current_state}
 use Rattle.cmd_session.specs.Storing.{store_of}
 use Rattle.rc_update.specs.Conversions.{conversions_of}
 use Rattle.cmd_session.specs.Steps.{step_ask}

@@ -1,4 +1,4 @@
-use Rattle.std.proofs.Common.{◌≡◌, ◌∙◌, ℕ, Bool, Option, List, All, IfSome, ◌<◌, length, rules}
+use Rattle.std.proofs.Common.{◌≡◌, ◌∙◌, ℕ, Bool, Option, List, IfSome, ◌<◌, length, rules}
 use Rattle.std.proofs.Common.{refl, sym, ap, subst}
 use Rattle.rc_model.specs.Database.{Bundles, Database}
 use Rattle.rc_line.specs.State.{states_of}

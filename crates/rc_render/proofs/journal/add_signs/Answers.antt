@@ -1,4 +1,4 @@
-use Rattle.std.proofs.Common.{◌∙◌, ◌<◌, ◌≤◌, ◌++◌, ℕ, List, ap, sym, take, length, slice_index_or}
+use Rattle.std.proofs.Common.{◌∙◌, ◌<◌, ◌≤◌, ◌++◌, ℕ, List, ap, take, length, slice_index_or}
 use Rattle.std.proofs.Common.{false, arith}
 use Rattle.rc_render.specs.JournalText.{sign, signs}
 use Rattle.rc_render.proofs.JournalLemmas.{grown_behind, is_set_by, signs_all, signs_more}

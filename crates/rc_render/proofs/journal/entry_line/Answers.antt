@@ -1,4 +1,4 @@
-use Rattle.std.proofs.Common.{◌≡◌, ◌∙◌, ◌++◌, ℕ, List, Contains, ap, sym, subst}
+use Rattle.std.proofs.Common.{◌∙◌, ◌++◌, ℕ, List, Contains, ap, sym, subst}
 use Rattle.std.specs.List.{flat_map}
 use Rattle.rc_model.specs.Names.{Holds}
 use Rattle.rc_model.specs.Line.{Alteration}

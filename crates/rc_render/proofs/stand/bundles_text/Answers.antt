@@ -1,4 +1,4 @@
-use Rattle.std.proofs.Common.{◌≡◌, ◌∙◌, ◌++◌, ℕ, List, ap, sym, take}
+use Rattle.std.proofs.Common.{◌∙◌, ◌++◌, ℕ, List, ap, sym, take}
 use Rattle.std.specs.List.{flat_map}
 use Rattle.rc_model.proofs.Places.{take_next}
 use Rattle.rc_render.proofs.LineLemmas.{one_more}

@@ -1,7 +1,4 @@
 use Rattle.std.proofs.Common.{ℕ, List, sym, string_bytes}
-use Rattle.rc_session.specs.Commands.{command_of}
-use Rattle.rc_script.specs.RunLines.{least_limited}
-use Rattle.rc_script.specs.Says.{Says, SaysStep}
 use Rattle.rc_script.specs.Script.{Happens, IsItem}
 use Rattle.rc_script.proofs.Lined.{lined}
 use Rattle.rc_script.proofs.run_lines.event_line.Goals as goal

@@ -1,4 +1,4 @@
-use Rattle.std.proofs.Common.{ℕ, Result, [], IfOk}
+use Rattle.std.proofs.Common.{Result, [], IfOk}
 use Rattle.std.proofs.lemmas.Result.{IfOk-weaker}
 use Rattle.rc_model.specs.declared.Refusal.{Refusal}
 use Rattle.rc_model.specs.Session.{Command, Change, Undo, Redo}
