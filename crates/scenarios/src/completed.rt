@@ -9,7 +9,7 @@ ghost use Rattle.rc_model.specs.Run.{course_of};
 ghost use Rattle.rc_model.specs.Beside.{TargetOf};
 ghost use Rattle.rc_session.specs.Commands.{command_of};
 
-use crate::recovered::raise_site;
+use crate::recovered::{raise_site, show_text};
 use rc_core::{Ended, Run};
 use rc_graph::Graph;
 use rc_line::Line;
@@ -20,7 +20,7 @@ use rc_session::{Refusal, Report, Session, Step};
 use rc_set::NoMem;
 use samples::{sample, settles};
 use std::alloc::{AllocError, Global};
-use std::str;
+use std::io;
 use std::test::Fail;
 
 /// Shows the report, whether it is that of the events, and the states of the copy.
@@ -123,17 +123,19 @@ fn show_report(
     step: &Step,
     report: &Report,
 ) -> Result<(), Fail> {
-    let is_same = is_by_events(rt.alloc(), step, report)?;
     let text = report_text(rt.alloc(), names, report)?;
-    let many = report.trace.len();
-    print!(rt; "{}", str::from_utf8(&text).unwrap_or("no text"))?;
-    let opening = report.opening.len();
+    show_text(rt, &text)?;
+    show_counts(rt, report)?;
+    let is_same = is_by_events(rt.alloc(), step, report)?;
+    Ok(println!(rt; "the same by its events: {is_same}")?)
+}
+
+fn show_counts(rt: &impl Print, report: &Report) -> io::Result<()> {
+    let (opening, many) = (report.opening.len(), report.trace.len());
     println!(rt;
         "{opening} live before, {many} events, stopped: {}",
         report.stopped
-    )?;
-    println!(rt; "the same by its events: {is_same}")?;
-    Ok(())
+    )
 }
 
 /// Shows where the copy of a line stands, and what is live in each of its states.
@@ -171,8 +173,6 @@ fn show_state(
     let text = live_text(rt.alloc(), names, &live);
     let bundles = table.len();
     drop((live, table));
-    let text = text?;
-    print!(rt; "{}", str::from_utf8(&text).unwrap_or("no text"))?;
-    println!(rt; "{bundles} bundles")?;
-    Ok(())
+    show_text(rt, &text?)?;
+    Ok(println!(rt; "{bundles} bundles")?)
 }

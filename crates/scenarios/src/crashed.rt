@@ -1,12 +1,16 @@
 //! A change that is cut short at each byte that it writes, and recoveries that are cut short too:
 //! what the next command finds each time.
 
+ghost use Rattle.std.specs.Prelude.{◌≡◌, false};
+
 use crate::recovered::{ALL_UP, first_text, log_of, raise_site, show_journal};
 use rc_crash::{FilesFault, recover_files};
 use rc_files::{FileFault, TwoFiles, begin_log, replace_and_empty};
 use rc_livetext::write_live;
+use rc_names::Names;
 use rc_script::event_line;
 use rc_session::{Session, Step};
+use rc_set::NoMem;
 use samples::{MemoryFiles, sample};
 use std::alloc::Global;
 use std::test::Fail;
@@ -22,24 +26,41 @@ struct Logged {
 
 /// Shows from which step on the text in the end is another, and its journal.
 pub(crate) fn show_crashed(rt: &(impl Print + AllocGlobal)) -> Result<(), Fail> {
-    let alloc = rt.alloc();
-    let change = logged_change(alloc)?;
-    let mut before = Vec::new(alloc);
+    let change = logged_change(rt.alloc())?;
+    let shown = show_cuts(rt, &change);
+    drop(change);
+    shown
+}
+
+fn show_cuts(rt: &(impl Print + AllocGlobal), change: &Logged) -> Result<(), Fail> {
+    let mut before = Vec::new(rt.alloc());
     for steps in 0..MOST_STEPS {
-        let (text, whole) = text_in_the_end(alloc, &change, steps)?;
-        if text != before {
-            println!(rt; "cut short from step {steps} on:")?;
-            show_journal(rt, &text)?;
-        }
-        if !is_one_text(alloc, &change, steps, &text)? {
-            println!(rt; "another text after recoveries that were cut short")?;
-        }
+        let (text, whole) = text_in_the_end(rt.alloc(), change, steps)?;
+        show_cut(rt, change, steps, &before, &text)?;
         before = text;
         if whole {
             return Ok(println!(rt; "whole at step {steps}")?);
         }
     }
     Ok(println!(rt; "never whole")?)
+}
+
+/// Shows the journal of a text in the end that is another than the one before.
+fn show_cut(
+    rt: &(impl Print + AllocGlobal),
+    change: &Logged,
+    steps: usize,
+    before: &[u8],
+    text: &[u8],
+) -> Result<(), Fail> {
+    if text != before {
+        println!(rt; "cut short from step {steps} on:")?;
+        show_journal(rt, text)?;
+    }
+    if !is_one_text(rt.alloc(), change, steps, text)? {
+        println!(rt; "another text after recoveries that were cut short")?;
+    }
+    Ok(())
 }
 
 /// More steps than a change of the sample takes.
@@ -49,25 +70,61 @@ const MOST_STEPS: usize = 10_000;
 fn logged_change(alloc: Global) -> Result<Logged, Fail> {
     let old = first_text(alloc)?;
     let head = log_of(alloc, &old, &("", &[], ""))?;
-    let mut lines = Vec::new(alloc);
-    let db = sample(alloc)?;
-    for event in &ALL_UP {
-        if let Some(line) = event_line(alloc, db.names(), *event)? {
-            lines.push(line)?;
-        }
-    }
-    let mut session = Session::new(alloc, db)?;
-    if let Step::Change(request, _) = &raise_site(alloc)? {
-        let _ = session.change_by(alloc, request, &ALL_UP);
-    }
-    let new = write_live(alloc, &session)?;
-    drop(session);
+    let lines = lines_of(alloc)?;
+    let new = raised_text(alloc)?;
     Ok(Logged {
         old,
         head,
         lines,
         new,
     })
+}
+
+/// The lines of its events.
+fn lines_of(alloc: Global) -> Result<Vec<String>, Fail> {
+    let db = sample(alloc)?;
+    let lines = event_lines(alloc, db.names());
+    drop(db);
+    Ok(lines?)
+}
+
+fn event_lines(alloc: Global, names: &Names) -> Result<Vec<String>, NoMem> {
+    let mut lines = Vec::new(alloc);
+    for event in &ALL_UP {
+        if let Some(line) = event_line(alloc, names, *event)? {
+            lines.push(line)?;
+        }
+    }
+    Ok(lines)
+}
+
+/// The text of a session after it.
+fn raised_text(alloc: Global) -> Result<Vec<u8>, Fail> {
+    let mut session = Session::new(alloc, sample(alloc)?)?;
+    let text = text_after(alloc, &mut session);
+    drop(session);
+    text
+}
+
+fn text_after(alloc: Global, session: &mut Session) -> Result<Vec<u8>, Fail>
+    requires { session.old.begun ≡ false }
+{
+    let step = raise_site(alloc)?;
+    raise(alloc, session, &step);
+    drop(step);
+    Ok(write_live(alloc, session)?)
+}
+
+fn raise(alloc: Global, session: &mut Session, step: &Step)
+    requires { session.old.begun ≡ false }
+    ensures { session.new.begun ≡ false }
+{
+    if let Step::Change(request, _) = step {
+        match session.change_by(alloc, request, &ALL_UP) {
+            Ok(report) => drop(report),
+            Err(_) => {}
+        }
+    }
 }
 
 /// Carries a change out.

@@ -114,7 +114,7 @@ fn show_call(
     call: u64,
 ) -> io::Result<bool> {
     for tree in &mut *trees {
-        put_all(&mut tree.tree, &FILES)?;
+        put_all(&mut tree.tree, FILES)?;
     }
     let mut writer = Sink::new(rt.alloc(), None);
     let mut faults = Sink::new(rt.alloc(), None);

@@ -2,15 +2,17 @@
 
 use rc_core::{Event, Outcome};
 use rc_livetext::{read_live, write_live};
-use rc_recovery::{Recovered, recover_text};
+use rc_names::Names;
+use rc_recovery::{RecoverFault, Recovered, recover_text};
 use rc_render::journal_text;
 use rc_script::{event_line, step_line};
 use rc_select::{Mode, Request};
 use rc_session::{Session, Step};
+use rc_set::NoMem;
 use samples::{DB, LOG, NET, ROOT, WEB, sample};
 use std::alloc::Global;
-use std::str;
 use std::test::Fail;
+use std::{io, str};
 
 /// What is shown, the events that were logged, and what stands of one more line.
 pub(crate) type Row<'a> = (&'a str, &'a [Event], &'a str);
@@ -66,11 +68,7 @@ fn show_row(rt: &(impl Print + AllocGlobal), row: &Row) -> Result<(), Fail> {
     let text = first_text(alloc)?;
     let log = log_of(alloc, &text, row)?;
     println!(rt; "{}:", row.0)?;
-    match recover_text(alloc, sample(alloc)?, &text, &log) {
-        Ok(Some(made)) => show_entered(rt, &made),
-        Ok(None) => Ok(println!(rt; "nothing to enter")?),
-        Err(fault) => Ok(println!(rt; "{fault}")?),
-    }
+    show_entered(rt, recover_text(alloc, sample(alloc)?, &text, &log))
 }
 
 /// The text of a session on the sample in which nothing is live.
@@ -83,19 +81,39 @@ pub(crate) fn first_text(alloc: Global) -> Result<Vec<u8>, Fail> {
 
 /// The run log of a change that raises the bundle of the sample.
 pub(crate) fn log_of(alloc: Global, text: &[u8], row: &Row) -> Result<Vec<u8>, Fail> {
-    let db = sample(alloc)?;
     let mut log = Vec::from_slice(alloc, text)?;
-    if let Some(line) = step_line(alloc, &raise_site(alloc)?)? {
-        log.extend_from_slice(line.as_bytes())?;
+    log.extend_from_slice(first_line(alloc)?.as_bytes())?;
+    let db = sample(alloc)?;
+    let added = add_events(alloc, db.names(), row.1, &mut log);
+    drop(db);
+    added?;
+    log.extend_from_slice(row.2.as_bytes())?;
+    Ok(log)
+}
+
+/// The line of that change.
+fn first_line(alloc: Global) -> Result<String, Fail> {
+    let step = raise_site(alloc)?;
+    let line = step_line(alloc, &step);
+    drop(step);
+    match line? {
+        Some(line) => Ok(line),
+        None => Err(Fail::new("a change has a line")),
     }
-    for event in row.1 {
-        if let Some(line) = event_line(alloc, db.names(), *event)? {
+}
+
+fn add_events(
+    alloc: Global,
+    names: &Names,
+    events: &[Event],
+    log: &mut Vec<u8>,
+) -> Result<(), NoMem> {
+    for event in events {
+        if let Some(line) = event_line(alloc, names, *event)? {
             log.extend_from_slice(line.as_bytes())?;
         }
     }
-    log.extend_from_slice(row.2.as_bytes())?;
-    drop(db);
-    Ok(log)
+    Ok(())
 }
 
 pub(crate) fn raise_site(alloc: Global) -> Result<Step, Fail> {
@@ -105,24 +123,42 @@ pub(crate) fn raise_site(alloc: Global) -> Result<Step, Fail> {
     Ok(Step::Change(request, Vec::new(alloc)))
 }
 
-/// The report, and the journal of the text.
-fn show_entered(rt: &(impl Print + AllocGlobal), made: &Recovered) -> Result<(), Fail> {
-    let report = str::from_utf8(&made.report).unwrap_or("no text");
-    print!(rt; "{report}")?;
-    show_journal(rt, &made.text)
+/// Shows the report, and the journal of the text, or why there are none.
+fn show_entered(
+    rt: &(impl Print + AllocGlobal),
+    entered: Result<Option<Recovered>, RecoverFault>,
+) -> Result<(), Fail> {
+    match entered {
+        Ok(Some(Recovered { text, report })) => {
+            show_text(rt, &report)?;
+            show_journal(rt, &text)
+        }
+        Ok(None) => Ok(println!(rt; "nothing to enter")?),
+        Err(fault) => Ok(println!(rt; "{fault}")?),
+    }
+}
+
+pub(crate) fn show_text(rt: &impl Print, text: &[u8]) -> io::Result<()> {
+    print!(rt; "{}", str::from_utf8(text).unwrap_or("no text"))
 }
 
 /// The journal of a text.
 pub(crate) fn show_journal(rt: &(impl Print + AllocGlobal), text: &[u8]) -> Result<(), Fail> {
-    let db = sample(rt.alloc())?;
-    match read_live(rt.alloc(), text, &db) {
+    let journal = journal_of(rt.alloc(), text)?;
+    Ok(show_text(rt, &journal)?)
+}
+
+/// The journal of a text, or the line of the fault that refuses it.
+fn journal_of(alloc: Global, text: &[u8]) -> Result<Vec<u8>, Fail> {
+    let db = sample(alloc)?;
+    let journal = match read_live(alloc, text, &db) {
         Ok((line, _)) => {
-            let journal = journal_text(rt.alloc(), &db, &line)?;
-            let journal = str::from_utf8(&journal).unwrap_or("no text");
-            print!(rt; "{journal}")?;
+            let journal = journal_text(alloc, &db, &line);
+            drop(line);
+            journal.map_err(Fail::new)
         }
-        Err(fault) => println!(rt; "{fault}")?,
-    }
+        Err(fault) => Err(Fail::new(fault)),
+    };
     drop(db);
-    Ok(())
+    journal
 }

@@ -1,10 +1,10 @@
 //! A table of as many bundles as there may be, beside its copy; and a text of a database.
 
+use crate::recovered::show_text;
 use rc_db::{Db, MAX_BUNDLES, NoMem, Table};
 use rc_dbtext::{read_db, write_db};
 use samples::{put, sample, set_of};
 use std::alloc::Global;
-use std::str;
 use std::test::Fail;
 
 /// Letters of which there are as many pairs as there may be bundles.
@@ -17,7 +17,7 @@ pub(crate) fn show_tables(rt: &(impl Print + AllocGlobal)) -> Result<(), Fail> {
     drop(table);
     println!(rt; "4096 bundles, and their copy is the same: {}", is_copied?)?;
     let db = sample(rt.alloc())?;
-    let shown = show_text(rt, &db);
+    let shown = show_read_back(rt, &db);
     drop(db);
     shown
 }
@@ -52,7 +52,7 @@ fn comes_apart(table: &Table, copied: &mut Table) -> bool {
 }
 
 /// Shows the text of a database, read and written once more.
-fn show_text(rt: &(impl Print + AllocGlobal), db: &Db) -> Result<(), Fail> {
+fn show_read_back(rt: &(impl Print + AllocGlobal), db: &Db) -> Result<(), Fail> {
     let text = write_db(rt.alloc(), db)?;
     match read_db(rt.alloc(), &text) {
         Ok(read) => {
@@ -60,7 +60,7 @@ fn show_text(rt: &(impl Print + AllocGlobal), db: &Db) -> Result<(), Fail> {
             drop(read);
             let again = again?;
             println!(rt; "the sample, {} bytes:", again.len())?;
-            Ok(print!(rt; "{}", str::from_utf8(&again).unwrap_or("no text"))?)
+            Ok(show_text(rt, &again)?)
         }
         Err(fault) => Ok(println!(rt; "{fault}")?),
     }

@@ -8,200 +8,101 @@ use std::alloc::{AllocError, Global};
 use std::io;
 use std::io::ErrorKind;
 
-/// A file: the directory of its service, its path there, and its line. A directory alone has no
-/// path.
-pub(crate) type File = (&'static str, &'static str, &'static str);
-
-/// The files of two services.
-pub(crate) const FILES: [File; 6] = [
-    ("a", "type", "longrun"),
-    ("a", "run", ""),
-    ("a", "dependencies.d/b", ""),
-    ("b", "type", "oneshot"),
-    ("b", "up", "false"),
-    ("b", "up", "true"),
-];
+/// The files of two services. Each file is a word: the directory of its service, its path there,
+/// and what stands in it. A directory alone has neither.
+pub(crate) const FILES: &str = "a/type=longrun a/run= a/dependencies.d/b= \
+    b/type=oneshot b/up=false b/up=true";
 
 /// Three oneshots.
-const ONESHOTS: [File; 6] = [
-    ("a", "type", "oneshot"),
-    ("a", "up", "true"),
-    ("b", "type", "oneshot"),
-    ("b", "up", "true"),
-    ("c", "type", "oneshot"),
-    ("c", "up", "true"),
-];
+const ONESHOTS: &str = "a/type=oneshot a/up=true b/type=oneshot b/up=true c/type=oneshot c/up=true";
 
 /// Each of them needs the next, and the last the first.
-const CIRCLE: [File; 3] = [
-    ("a", "dependencies", "b"),
-    ("b", "dependencies", "c"),
-    ("c", "dependencies", "a"),
-];
+const CIRCLE: &str = "a/dependencies=b b/dependencies=c c/dependencies=a";
 
 /// The first needs a bundle, which has another in it.
-const BUNDLES: [File; 5] = [
-    ("a", "dependencies", "g"),
-    ("g", "type", "bundle"),
-    ("g", "contents", "h\nb"),
-    ("h", "type", "bundle"),
-    ("h", "contents", "c"),
-];
+const BUNDLES: &str = "a/dependencies=g \
+    g/type=bundle g/contents=h\nb h/type=bundle h/contents=c";
 
 /// The same, and the last needs the first.
-const ROUND: [File; 6] = [
-    ("a", "dependencies", "g"),
-    ("c", "dependencies", "a"),
-    ("g", "type", "bundle"),
-    ("g", "contents", "h\nb"),
-    ("h", "type", "bundle"),
-    ("h", "contents", "c"),
-];
+const ROUND: &str = "a/dependencies=g c/dependencies=a \
+    g/type=bundle g/contents=h\nb h/type=bundle h/contents=c";
 
 /// Two bundles, each of which has the other in it.
-const RING: [File; 4] = [
-    ("x", "type", "bundle"),
-    ("x", "contents", "y"),
-    ("y", "type", "bundle"),
-    ("y", "contents", "x"),
-];
+const RING: &str = "x/type=bundle x/contents=y y/type=bundle y/contents=x";
 
 /// A longrun that reads what one more is to write.
-const READER: [File; 3] = [
-    ("c", "type", "longrun"),
-    ("c", "run", ""),
-    ("p", "producer-for", "c"),
-];
+const READER: &str = "c/type=longrun c/run= p/producer-for=c";
 
 /// A pipe of three longruns, which has a name.
-const PIPE: [File; 12] = [
-    ("p", "type", "longrun"),
-    ("p", "run", ""),
-    ("p", "producer-for", "q"),
-    ("q", "type", "longrun"),
-    ("q", "run", ""),
-    ("q", "consumer-for", "p"),
-    ("q", "producer-for", "r"),
-    ("q", "pipeline-name", "mid"),
-    ("r", "type", "longrun"),
-    ("r", "run", ""),
-    ("r", "consumer-for", "q"),
-    ("r", "pipeline-name", "pipe"),
-];
+const PIPE: &str = "p/type=longrun p/run= p/producer-for=q \
+    q/type=longrun q/run= q/consumer-for=p q/producer-for=r q/pipeline-name=mid \
+    r/type=longrun r/run= r/consumer-for=q r/pipeline-name=pipe";
 
 /// The sample.
-const SAMPLE: [File; 18] = [
-    ("root", "type", "oneshot"),
-    ("root", "flag-essential", ""),
-    ("root", "up", "true\n"),
-    ("net", "type", "oneshot"),
-    ("net", "dependencies", "root"),
-    ("net", "up", "true\n"),
-    ("net", "down", "true\n"),
-    ("db", "type", "longrun"),
-    ("db", "run", ""),
-    ("db", "dependencies", "net"),
-    ("log", "type", "longrun"),
-    ("log", "run", ""),
-    ("log", "consumer-for", "web"),
-    ("web", "type", "longrun"),
-    ("web", "run", ""),
-    ("web", "dependencies.d/db", ""),
-    ("web", "producer-for", "log"),
-    ("site", "type", "bundle"),
-];
+const SAMPLE: &str = "root/type=oneshot root/flag-essential= root/up=true\n \
+    net/type=oneshot net/dependencies=root net/up=true\n net/down=true\n \
+    db/type=longrun db/run= db/dependencies=net log/type=longrun log/run= log/consumer-for=web \
+    web/type=longrun web/run= web/dependencies.d/db= web/producer-for=log \
+    site/type=bundle site/contents=web";
 
 /// What is shown, the files, those that come in their place or beside them, and how each flush
 /// fails, if it does.
-type Row = (
-    &'static str,
-    &'static [File],
-    &'static [File],
-    Option<ErrorKind>,
-);
+type Row = (&'static str, &'static str, &'static str, Option<ErrorKind>);
 
 static ROWS: [Row; 25] = [
-    ("two services", &FILES, &[], None),
-    ("two services", &FILES, &[], Some(ErrorKind::BrokenPipe)),
-    ("two services", &FILES, &[], Some(ErrorKind::Interrupted)),
-    ("no files", &[], &[], None),
-    ("an empty directory", &[("a", "", "")], &[], None),
-    ("a circle", &ONESHOTS, &CIRCLE, None),
-    (
-        "a circle of one",
-        &ONESHOTS,
-        &[("a", "dependencies", "a")],
-        None,
-    ),
-    ("two bundles in each other", &RING, &[], None),
-    ("an empty bundle", &[("nil", "type", "bundle")], &[], None),
+    ("two services", FILES, "", None),
+    ("two services", FILES, "", Some(ErrorKind::BrokenPipe)),
+    ("two services", FILES, "", Some(ErrorKind::Interrupted)),
+    ("no files", "", "", None),
+    ("an empty directory", "a", "", None),
+    ("a circle", ONESHOTS, CIRCLE, None),
+    ("a circle of one", ONESHOTS, "a/dependencies=a", None),
+    ("two bundles in each other", RING, "", None),
+    ("an empty bundle", "nil/type=bundle", "", None),
     (
         "a longrun that is not named back",
-        &READER,
-        &[("p", "type", "longrun"), ("p", "run", "")],
+        READER,
+        "p/type=longrun p/run=",
         None,
     ),
     (
         "a oneshot that writes into a pipe",
-        &READER,
-        &[("p", "type", "oneshot"), ("p", "up", "")],
+        READER,
+        "p/type=oneshot p/up=",
         None,
     ),
-    ("the sample", &SAMPLE, &[("site", "contents", "web")], None),
+    ("the sample", SAMPLE, "", None),
     (
         "the sample with a pipeline of a name",
-        &SAMPLE,
-        &[
-            ("site", "contents", "web"),
-            ("log", "pipeline-name", "weblog"),
-        ],
+        SAMPLE,
+        "log/pipeline-name=weblog",
         None,
     ),
-    (
-        "a reserved name",
-        &[("s6rc-x", "type", "bundle")],
-        &[],
-        None,
-    ),
-    ("no type", &[("a", "up", "")], &[], None),
-    ("no up text", &[("a", "type", "oneshot")], &[], None),
-    (
-        "a limit with a unit",
-        &ONESHOTS,
-        &[("a", "timeout-up", "1s")],
-        None,
-    ),
-    (
-        "an unknown name",
-        &ONESHOTS,
-        &[("a", "dependencies", "d")],
-        None,
-    ),
-    ("a bundle in a bundle", &ONESHOTS, &BUNDLES, None),
-    ("the same in a circle", &ONESHOTS, &ROUND, None),
-    ("a pipe of three", &PIPE, &[], None),
+    ("a reserved name", "s6rc-x/type=bundle", "", None),
+    ("no type", "a/up=", "", None),
+    ("no up text", "a/type=oneshot", "", None),
+    ("a limit with a unit", ONESHOTS, "a/timeout-up=1s", None),
+    ("an unknown name", ONESHOTS, "a/dependencies=d", None),
+    ("a bundle in a bundle", ONESHOTS, BUNDLES, None),
+    ("the same in a circle", ONESHOTS, ROUND, None),
+    ("a pipe of three", PIPE, "", None),
     (
         "the same, of a name that is taken",
-        &PIPE,
-        &[("pipe", "type", "oneshot"), ("pipe", "up", "")],
+        PIPE,
+        "pipe/type=oneshot pipe/up=",
         None,
     ),
-    (
-        "two newlines after a type",
-        &[("a", "type", "oneshot\n\n")],
-        &[],
-        None,
-    ),
+    ("two newlines after a type", "a/type=oneshot\n\n", "", None),
     (
         "the greatest limit",
-        &ONESHOTS,
-        &[("a", "timeout-down", "4294967295")],
+        ONESHOTS,
+        "a/timeout-down=4294967295",
         None,
     ),
     (
         "a limit above it",
-        &ONESHOTS,
-        &[("a", "timeout-down", "4294967296")],
+        ONESHOTS,
+        "a/timeout-down=4294967296",
         None,
     ),
 ];
@@ -256,13 +157,22 @@ fn show_line(rt: &impl Print, what: &str, status: u8, written: &str, told: &str)
     println!(rt; " {told:?}")
 }
 
-pub(crate) fn put_all(tree: &mut MemoryTree, files: &[File]) -> Result<(), AllocError> {
-    for (service, path, line) in files {
-        if path.is_empty() {
-            tree.folder(service)?;
-        } else {
-            tree.put(service, path, line.as_bytes())?;
+/// Puts files into a tree.
+pub(crate) fn put_all(tree: &mut MemoryTree, files: &str) -> Result<(), AllocError> {
+    for file in files.split(' ') {
+        if !file.is_empty() {
+            put(tree, file)?;
         }
     }
     Ok(())
+}
+
+fn put(tree: &mut MemoryTree, file: &str) -> Result<(), AllocError> {
+    match file.split_once('/') {
+        Some((service, file)) => {
+            let (path, text) = file.split_once('=').unwrap_or((file, ""));
+            tree.put(service, path, text.as_bytes())
+        }
+        None => tree.folder(file),
+    }
 }
