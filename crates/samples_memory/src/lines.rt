@@ -106,11 +106,7 @@ fn show_on(
     requires copied { copied.old.is_open ≡ false }
     requires line { line.now.is_open ≡ false }
 {
-    let none = Table::new(rt.alloc());
-    let _bundles = none.len();
-    let edit = Edit::between(rt.alloc(), copied.table(), &none);
-    drop(none);
-    let edit = edit?;
+    let edit = edit_to_none(rt.alloc(), copied)?;
     let _ = print!(rt; "{what}: ");
     let came = entered(rt, copied, edit);
     show_came(rt, fault_of(came))?;
@@ -119,6 +115,18 @@ fn show_on(
     }
     let is_same = is_same_line(rt.alloc(), copied, line)?;
     show_same(rt, is_same)
+}
+
+/// The edit that removes all bundles of a line.
+fn edit_to_none(alloc: Global, line: &Line) -> Result<Edit, NoMem>
+    requires { line.now.is_open ≡ false }
+    ensures { IfOk result (λ edit. (table : Bundles) × IsEditFrom line.now.line edit table) }
+{
+    let none = Table::new(alloc);
+    let _bundles = none.len();
+    let edit = Edit::between(alloc, line.table(), &none);
+    drop(none);
+    edit
 }
 
 fn entered(rt: &(impl Print + AllocGlobal), line: &mut Line, edit: Edit) -> Result<(), NoMem>

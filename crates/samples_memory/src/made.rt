@@ -12,10 +12,11 @@ use rc_dbtext::{
     write_db,
 };
 use rc_graph::{Draft, Graph, GraphFault};
-use rc_lexer::{ascend, names_of};
+use rc_lexer::{NameWord, ascend, names_of};
+use rc_names::{Name, Names};
 use rc_recovery::{with_ends, with_stop};
 use rc_script::{texts_of, words_of};
-use rc_set::NoMem;
+use rc_set::{NoMem, Set};
 use rc_streams::{Failure, Lines, Noted, read_all};
 use samples::{LOG, NET, is_same};
 use std::alloc::{AllocError, AllocGlobal, Global};
@@ -27,7 +28,10 @@ const INPUT: &[u8] = b"db log\nnet";
 /// A bundle as a line of the text of a database, and lines that are in none.
 const LINES: &[u8] = b"bundle site web\n web and its consumersservices of the whole sample 5\n";
 
-/// Two transitions that were under way, and their ends.
+/// Two transitions that are under way.
+const TAKEN: [Event; 2] = [Event::Take(1, NET), Event::Take(2, LOG)];
+
+/// The same, and their ends.
 const ENDED: [Event; 4] = [
     Event::Take(1, NET),
     Event::Take(2, LOG),
@@ -76,11 +80,14 @@ fn is_drafted(
     is_circle: bool,
     ids: &[u16],
 ) -> Result<bool, NoMem> {
-    match finished(rt, is_circle) {
+    let finished = finished(rt, is_circle);
+    let is_right = match &finished {
         Ok(graph) => Ok(!is_circle && graph.order() == ids),
         Err(GraphFault::Cycle(cycle)) => Ok(is_circle && cycle.ids() == ids),
         Err(GraphFault::Memory) => Err(AllocError),
-    }
+    };
+    drop(finished);
+    is_right
 }
 
 fn finished(rt: &(impl Print + AllocGlobal), is_circle: bool) -> Result<Graph, GraphFault> {
@@ -113,41 +120,44 @@ fn need_next(draft: &mut Draft, is_circle: bool) -> Result<(), NoMem>
 /// Whether the text of a database is read as that, also where more bytes follow.
 fn is_read_back(rt: &(impl Print + AllocGlobal), db: &Db) -> Result<bool, NoMem> {
     let mut text = write_db(rt.alloc(), db)?;
+    is_text_of(rt, &mut text, db)
+}
+
+fn is_text_of(rt: &(impl Print + AllocGlobal), text: &mut Vec<u8>, db: &Db) -> Result<bool, NoMem> {
     go_on_to(rt, "read_db");
-    let is_whole = is_read(read_db(rt.alloc(), &text), db)?;
+    let is_whole = is_read(read_db(rt.alloc(), text), db)?;
     go_on_to(rt, "more bytes");
     let long = text.len();
     text.push(b'\n')?;
     go_on_to(rt, "read_db_front");
-    let is_front = is_at_front(rt.alloc(), &text, long, db)?;
+    let is_front = is_at_front(rt.alloc(), text, long, db)?;
     go_on_to(rt, "rc_dbsyntax::read_form");
-    let is_form = is_form(rt.alloc(), &text)?;
+    let is_form = is_form(rt.alloc(), text)?;
     Ok(is_whole && is_front && is_form)
 }
 
 /// Whether a text says five services and a bundle, and one byte follows.
 fn is_form(alloc: Global, bytes: &[u8]) -> Result<bool, NoMem> {
-    match read_form(alloc, bytes) {
+    let read = read_form(alloc, bytes);
+    let is_right = match &read {
         Ok((form, rest)) => {
-            let is_right = form.services.len() == 5 && form.bundles.len() == 1 && rest.len() == 1;
-            drop(form);
-            Ok(is_right)
+            Ok(form.services.len() == 5 && form.bundles.len() == 1 && rest.len() == 1)
         }
         Err(FormFault::Memory) => Err(AllocError),
         Err(_) => Ok(false),
-    }
+    };
+    drop(read);
+    is_right
 }
 
 fn is_read(read: Result<Db, TextFault>, db: &Db) -> Result<bool, NoMem> {
-    match read {
-        Ok(other) => {
-            let is_same = is_same(db, &other);
-            drop(other);
-            Ok(is_same)
-        }
+    let is_right = match &read {
+        Ok(other) => Ok(is_same(db, other)),
         Err(TextFault::Memory) => Err(AllocError),
         Err(_) => Ok(false),
-    }
+    };
+    drop(read);
+    is_right
 }
 
 /// Whether so many bytes at the beginning are read as a database.
@@ -190,20 +200,32 @@ fn are_names(rt: &(impl Print + AllocGlobal), db: &Db) -> Result<bool, NoMem> {
     let Some((words, _)) = rc_lexer::words_of(INPUT) else {
         return Ok(false);
     };
-    let Some(names) = names_of(rt.alloc(), words)? else {
-        return Ok(false);
-    };
+    match names_of(rt.alloc(), words)? {
+        Some(words) => are_known(rt, &words, db.names()),
+        None => Ok(false),
+    }
+}
+
+fn are_known(
+    rt: &(impl Print + AllocGlobal),
+    words: &[NameWord<'_>],
+    names: &Names,
+) -> Result<bool, NoMem> {
     go_on_to(rt, "NameWord::copy");
-    let is_copied = match names.first() {
-        Some(name) => name.copy(rt.alloc())?.text() == "db",
-        None => false,
-    };
-    if !ascend(&names) {
+    if !is_copied(rt.alloc(), words)? || !ascend(words) {
         return Ok(false);
     }
     go_on_to(rt, "known_set");
-    match known_set(rt.alloc(), &names, db.names())? {
-        Some(set) => Ok(is_copied && set.len() == 2),
+    match known_set(rt.alloc(), words, names)? {
+        Some(set) => Ok(set.len() == 2),
+        None => Ok(false),
+    }
+}
+
+/// Whether the copy of the first name says the same.
+fn is_copied(alloc: Global, words: &[NameWord<'_>]) -> Result<bool, NoMem> {
+    match words.first() {
+        Some(word) => Ok(matches!(word.copy(alloc)?.text(), "db")),
         None => Ok(false),
     }
 }
@@ -212,34 +234,47 @@ fn are_names(rt: &(impl Print + AllocGlobal), db: &Db) -> Result<bool, NoMem> {
 fn are_words(alloc: Global) -> Result<bool, NoMem> {
     let words = words_of(alloc, INPUT)?;
     match texts_of(alloc, &words)? {
-        Some(texts) => Ok(texts.len() == 2 && texts.first() == Some(&"db")),
+        Some(texts) => Ok(matches!(texts.as_slice(), ["db", _])),
         None => Ok(false),
     }
 }
 
 /// Whether the line of a bundle is written, and others behind it.
 fn are_lines(rt: &(impl Print + AllocGlobal), db: &Db) -> Result<bool, NoMem> {
-    let (alloc, names, table) = (rt.alloc(), db.names(), db.table());
+    let (names, table) = (db.names(), db.table());
     if table.len() == 0 {
         return Ok(false);
     }
     let (name, set) = table.at(0);
-    let mut text = Vec::new(alloc);
-    push_bundle(alloc, &mut text, names, name, set)?;
-    go_on_to(rt, "push_set");
-    push_set(alloc, &mut text, names, set)?;
-    go_on_to(rt, "push_word");
-    push_word(&mut text, b"and its consumers")?;
-    go_on_to(rt, "push_line");
-    push_line(&mut text, b"services of the whole sample", b"5")?;
+    let mut text = Vec::new(rt.alloc());
+    push_lines(rt, &mut text, names, name, set)?;
     Ok(text.as_slice() == LINES)
+}
+
+fn push_lines(
+    rt: &(impl Print + AllocGlobal),
+    text: &mut Vec<u8>,
+    names: &Names,
+    name: &Name,
+    set: &Set,
+) -> Result<(), NoMem>
+    requires { length set.now ≡ length names.now }
+{
+    let alloc = rt.alloc();
+    push_bundle(alloc, text, names, name, set)?;
+    go_on_to(rt, "push_set");
+    push_set(alloc, text, names, set)?;
+    go_on_to(rt, "push_word");
+    push_word(text, b"and its consumers")?;
+    go_on_to(rt, "push_line");
+    push_line(text, b"services of the whole sample", b"5")
 }
 
 /// Whether the ends of two takes are added, and then a stop.
 fn are_ends(rt: &(impl Print + AllocGlobal)) -> Result<bool, NoMem> {
-    let ended = with_ends(rt.alloc(), &[Event::Take(1, NET), Event::Take(2, LOG)])?;
+    let ended = with_ends(rt.alloc(), &TAKEN)?;
     let is_ended = ended.as_slice() == ENDED.as_slice();
     go_on_to(rt, "with_stop");
     let stopped = with_stop(ended)?;
-    Ok(is_ended && stopped.last() == Some(&Event::Stop(1, u64::MAX)))
+    Ok(is_ended && matches!(stopped.last(), Some(Event::Stop(1, u64::MAX))))
 }

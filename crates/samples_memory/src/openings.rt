@@ -2,7 +2,7 @@
 
 ghost use Rattle.std.specs.Prelude.{◌≡◌, false, length, IfOk, IfSome};
 
-use crate::told::{fault_of, go_on_to, show_came, show_same};
+use crate::told::{go_on_to, show_end};
 use rc_graph::Graph;
 use rc_line::Line;
 use rc_select::{Plan, between};
@@ -32,8 +32,7 @@ pub fn show_opening(
     let came = given_up(rt, &mut copied, opening);
     let is_same = stands_with(&copied, line);
     drop(copied);
-    show_came(rt, fault_of(came))?;
-    show_same(rt, is_same)
+    show_end(rt, came, is_same)
 }
 
 fn given_up(rt: &(impl Print + AllocGlobal), line: &mut Line, opening: Opening) -> Result<(), NoMem>
@@ -88,16 +87,28 @@ fn show_lowered(
 {
     let (states, live) = (copied.states(), copied.live().len());
     let none = Set::empty(rt.alloc(), copied.live().bound())?;
-    let plan = plan_to(rt.alloc(), graph, copied.live(), &none);
-    let _ = print!(rt; "{what}: ");
-    let came = match plan {
-        Ok(Some(plan)) => lowered(rt, copied, &plan, &none),
-        _ => Err(AllocError),
-    };
+    let came = lowered_all(rt, graph, copied, what, &none);
     drop(none);
-    show_came(rt, fault_of(came))?;
     let is_same = copied.states() == states && copied.live().len() == live;
-    show_same(rt, is_same && !copied.is_open())
+    show_end(rt, came, is_same && !copied.is_open())
+}
+
+fn lowered_all(
+    rt: &(impl Print + AllocGlobal),
+    graph: &Graph,
+    copied: &mut Line,
+    what: &str,
+    none: &Set,
+) -> Result<(), NoMem>
+    requires closed { copied.old.is_open ≡ false }
+    requires none { length none.now ≡ length copied.old.line.current.live }
+{
+    let plan = plan_to(rt.alloc(), graph, copied.live(), none);
+    let _ = print!(rt; "{what}: ");
+    match plan {
+        Ok(Some(plan)) => lowered(rt, copied, &plan, none),
+        _ => Err(AllocError),
+    }
 }
 
 /// The plan from some services to others, where none of them lacks what it needs.

@@ -2,7 +2,7 @@
 
 ghost use Rattle.std.specs.Prelude.{◌≡◌, length, IfOk};
 
-use crate::told::{fault_of, go_on_to, show_came, show_same};
+use crate::told::{fault_of, go_on_to, show_came, show_end, show_same};
 use rc_db::{MAX_BUNDLES, Table};
 use rc_graph::Draft;
 use rc_names::{MAX_NAMES, Name, Names};
@@ -31,48 +31,37 @@ static TEXTS: [&str; 8] = ["b", "c", "d", "e", "f", "g", "h", "i"];
 /// As many needs of the first service as stand in a list that has taken no memory.
 const EIGHT: [u16; 8] = [1, 2, 3, 4, 5, 6, 7, 8];
 
-/// What a call came to, and whether the value is as it was; an error of its own where there is no
-/// memory for what the call is given.
-type Own = Result<(Result<(), NoMem>, bool), NoMem>;
-
 /// The call, what it came to, and whether the value is as it was.
 pub fn show_own(rt: &(impl Print + AllocGlobal), what: &str, given: Given) -> io::Result<()> {
     match given {
-        Given::Names => show_end(rt, on_names(rt, what)),
-        Given::NoNames => show_end(rt, on_no_names(rt, what)),
+        Given::Names => show_names(rt, what),
+        Given::NoNames => show_no_names(rt, what),
         Given::Draft => show_draft(rt, what),
-        Given::Bundles => show_end(rt, on_table(rt, what)),
+        Given::Bundles => show_bundles(rt, what),
     }
 }
 
-fn show_end(rt: &impl Print, own: Own) -> io::Result<()> {
-    let (came, is_same) = own?;
-    show_came(rt, fault_of(came))?;
-    show_same(rt, is_same)
-}
-
-fn on_names(rt: &(impl Print + AllocGlobal), what: &str) -> Own {
+fn show_names(rt: &(impl Print + AllocGlobal), what: &str) -> io::Result<()> {
     let mut names = Names::new(rt.alloc());
-    let came = add_named(rt, what, &mut names);
-    let is_same = are_eight(&names);
+    let shown = show_added(rt, what, &mut names);
     drop(names);
-    match came {
-        Ok(came) => Ok((came, is_same)),
-        Err(short) => Err(short),
-    }
+    shown
 }
 
 /// Names the call on eight names, and makes it.
-fn add_named(
-    rt: &(impl Print + AllocGlobal),
-    what: &str,
-    names: &mut Names,
-) -> Result<Result<(), NoMem>, NoMem> {
+fn show_added(rt: &(impl Print + AllocGlobal), what: &str, names: &mut Names) -> io::Result<()> {
     add_eight(rt.alloc(), names)?;
-    let added = name_of(rt.alloc(), "a")?;
-    let again = added.copy(rt.alloc())?;
+    let (added, again) = two_names(rt.alloc())?;
     let _ = print!(rt; "{what}: ");
-    Ok(named(rt, names, added, again))
+    let came = named(rt, names, added, again);
+    show_end(rt, came, are_eight(names))
+}
+
+/// A name that comes before the eight, twice.
+fn two_names(alloc: Global) -> Result<(Name, Name), NoMem> {
+    let name = name_of(alloc, "a")?;
+    let again = name.copy(alloc)?;
+    Ok((name, again))
 }
 
 fn add_eight(alloc: Global, names: &mut Names) -> Result<(), NoMem> {
@@ -107,14 +96,14 @@ fn are_eight(names: &Names) -> bool {
 }
 
 /// Names the call on no names, and makes it.
-fn on_no_names(rt: &(impl Print + AllocGlobal), what: &str) -> Own {
+fn show_no_names(rt: &(impl Print + AllocGlobal), what: &str) -> io::Result<()> {
     let name = name_of(rt.alloc(), "a")?;
     let mut names = Names::new(rt.alloc());
     let _ = print!(rt; "{what}: ");
     let came = names.append(name);
     let is_same = names.is_empty();
     drop(names);
-    Ok((came, is_same))
+    show_end(rt, came, is_same)
 }
 
 fn show_draft(rt: &(impl Print + AllocGlobal), what: &str) -> io::Result<()> {
@@ -151,23 +140,23 @@ fn has_eight_needs(draft: Draft) -> bool {
     }
 }
 
-fn on_table(rt: &(impl Print + AllocGlobal), what: &str) -> Own {
+fn show_bundles(rt: &(impl Print + AllocGlobal), what: &str) -> io::Result<()> {
     let mut table = Table::new(rt.alloc());
-    let own = put_beside_copy(rt, what, &mut table);
+    let shown = show_beside_copy(rt, what, &mut table);
     drop(table);
-    own
+    shown
 }
 
-fn put_beside_copy(rt: &(impl Print + AllocGlobal), what: &str, table: &mut Table) -> Own {
+fn show_beside_copy(
+    rt: &(impl Print + AllocGlobal),
+    what: &str,
+    table: &mut Table,
+) -> io::Result<()> {
     put_eight(rt.alloc(), table)?;
     let before = table.copy(rt.alloc())?;
-    let came = put_named(rt, what, table);
-    let is_same = table.same(&before);
+    let shown = show_put(rt, what, table, &before);
     drop(before);
-    match came {
-        Ok(came) => Ok((came, is_same)),
-        Err(short) => Err(short),
-    }
+    shown
 }
 
 fn put_eight(alloc: Global, table: &mut Table) -> Result<(), NoMem> {
@@ -179,28 +168,26 @@ fn put_eight(alloc: Global, table: &mut Table) -> Result<(), NoMem> {
     Ok(())
 }
 
-fn put_named(
+/// Names the call, and makes it.
+fn show_put(
     rt: &(impl Print + AllocGlobal),
     what: &str,
     table: &mut Table,
-) -> Result<Result<(), NoMem>, NoMem> {
-    let name = name_of(rt.alloc(), "a")?;
-    let came = put_sets(rt, what, table, &name);
+    before: &Table,
+) -> io::Result<()> {
+    let (name, set, again) = bundle_of(rt.alloc())?;
+    let _ = print!(rt; "{what}: ");
+    let came = put_twice(rt, table, &name, set, again);
     drop(name);
-    came
+    show_end(rt, came, table.same(before))
 }
 
-/// Names the call, and makes it.
-fn put_sets(
-    rt: &(impl Print + AllocGlobal),
-    what: &str,
-    table: &mut Table,
-    name: &Name,
-) -> Result<Result<(), NoMem>, NoMem> {
-    let set = set_of(rt.alloc(), 5, &[0, 1])?;
-    let again = set.copy(rt.alloc())?;
-    let _ = print!(rt; "{what}: ");
-    Ok(put_twice(rt, table, name, set, again))
+/// The name of a bundle, and its set twice.
+fn bundle_of(alloc: Global) -> Result<(Name, Set, Set), NoMem> {
+    let name = name_of(alloc, "a")?;
+    let set = set_of(alloc, 5, &[0, 1])?;
+    let again = set.copy(alloc)?;
+    Ok((name, set, again))
 }
 
 /// Puts a bundle in, puts it in once more, and takes it out.

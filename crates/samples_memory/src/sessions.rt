@@ -3,7 +3,7 @@
 ghost use Rattle.std.specs.Prelude.{◌≡◌, false, IfOk};
 ghost use Rattle.rc_model.specs.Session.{IsLineOf};
 
-use crate::told::{fault_of, show_came, show_same};
+use crate::told::show_end;
 use rc_db::Db;
 use rc_line::Line;
 use rc_livetext::{read_live, write_live};
@@ -23,14 +23,8 @@ pub fn show_begun(
 ) -> io::Result<()> {
     let _ = print!(rt; "{what}: ");
     match begun(rt.alloc(), db, bound) {
-        Ok(is_right) => {
-            show_came(rt, Ok(()))?;
-            show_same(rt, is_right)
-        }
-        Err(short) => {
-            show_came(rt, fault_of(Err(short)))?;
-            show_same(rt, true)
-        }
+        Ok(is_right) => show_end(rt, Ok(()), is_right),
+        Err(short) => show_end(rt, Err(short), true),
     }
 }
 
@@ -62,8 +56,7 @@ pub fn show_resumed(
         Ok(line) => {
             let _ = print!(rt; "{what}: ");
             let came = resumed(db, line);
-            show_came(rt, fault_of(came))?;
-            show_same(rt, true)
+            show_end(rt, came, true)
         }
         Err(short) => {
             drop(db);

@@ -24,15 +24,23 @@ pub fn show_table(
     let mut table = db.table().copy(rt.alloc())?;
     let _ = print!(rt; "{what}: ");
     let came = altered(rt.alloc(), &mut table, db, step, is_given);
-    let is_same = table.same(db.table());
-    let bundles = table.len();
+    let shown = show_bundles(rt, came, &table, db);
     drop(table);
+    shown
+}
+
+fn show_bundles(
+    rt: &impl Print,
+    came: Result<(), Fault>,
+    table: &Table,
+    db: &Db,
+) -> io::Result<()> {
     show_came(rt, came)?;
-    if is_same {
-        show_line(rt, "as before")
-    } else {
-        println!(rt; "now {bundles} bundles")
+    if table.same(db.table()) {
+        return show_line(rt, "as before");
     }
+    let bundles = table.len();
+    println!(rt; "now {bundles} bundles")
 }
 
 /// Defines a bundle or removes some, as a step says, or only makes the edit.

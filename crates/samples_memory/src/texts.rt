@@ -131,11 +131,7 @@ fn is_line(alloc: Global, names: &Names, text: Text, due: &str) -> Result<bool, 
     };
     drop(step);
     match line {
-        Ok(Some(line)) => {
-            let is_right = line.as_str() == due;
-            drop(line);
-            Ok(is_right)
-        }
+        Ok(Some(line)) => Ok(line.as_str() == due),
         Ok(None) => Ok(false),
         Err(short) => Err(short),
     }

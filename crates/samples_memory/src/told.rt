@@ -36,6 +36,12 @@ pub fn show_came(rt: &impl Print, came: Result<(), Fault>) -> io::Result<()> {
     }
 }
 
+/// Tells what a call came to, and whether what it was made on is as it was.
+pub(crate) fn show_end(rt: &impl Print, came: Result<(), NoMem>, is_same: bool) -> io::Result<()> {
+    show_came(rt, fault_of(came))?;
+    show_same(rt, is_same)
+}
+
 /// Tells whether what a call was made on is as it was.
 pub(crate) fn show_same(rt: &impl Print, is_same: bool) -> io::Result<()> {
     show_line(rt, if is_same { "as before" } else { "altered" })

@@ -75,16 +75,19 @@ fn altered(tree: &mut MemoryTree, altering: Altering) -> Result<(), NoMem> {
 
 /// Whether a tree has both services and no third one, and the file that is written.
 fn has_files(alloc: Global, tree: &mut MemoryTree) -> Result<bool, TreeFault> {
-    let many = tree.entries(alloc)?.len();
-    let has_third = tree.has(alloc, "c", "type")?;
-    Ok(is_text(tree.bytes(alloc, "a", "up")?) && many == 2 && !has_third)
+    Ok(has_two(alloc, tree)? && has_up(alloc, tree)? && !tree.has(alloc, "c", "type")?)
+}
+
+/// Whether a tree has two entries.
+fn has_two<T: Tree>(alloc: Global, tree: &mut T) -> Result<bool, TreeFault> {
+    Ok(tree.entries(alloc)?.len() == 2)
 }
 
 /// Whether the text that runs `true` is there.
-fn is_text(bytes: Option<Vec<u8>>) -> bool {
-    match bytes {
-        Some(bytes) => bytes.as_slice() == b"true".as_slice(),
-        None => false,
+fn has_up<T: Tree>(alloc: Global, tree: &mut T) -> Result<bool, TreeFault> {
+    match tree.bytes(alloc, "a", "up")? {
+        Some(bytes) => Ok(bytes.as_slice() == b"true".as_slice()),
+        None => Ok(false),
     }
 }
 
@@ -125,21 +128,21 @@ fn is_read<T: Tree>(rt: &(impl Print + AllocGlobal), trees: &mut [T]) -> Result<
 }
 
 fn says_files<T: Tree>(rt: &(impl Print + AllocGlobal), tree: &mut T) -> Result<bool, TreeFault> {
-    let many = tree.entries(rt.alloc())?.len();
+    let alloc = rt.alloc();
+    let has_two = has_two(alloc, tree)?;
     go_on_to(rt, "listing");
-    let is_listed = is_one(tree.listing(rt.alloc(), "a", "dependencies.d")?);
+    let has_one_need = has_one_need(alloc, tree)?;
     go_on_to(rt, "bytes");
-    let is_text = is_text(tree.bytes(rt.alloc(), "a", "up")?);
+    let has_up = has_up(alloc, tree)?;
     go_on_to(rt, "has");
-    let is_there = tree.has(rt.alloc(), "b", "run")?;
-    Ok(many == 2 && is_listed && is_text && is_there)
+    Ok(has_two && has_one_need && has_up && tree.has(alloc, "b", "run")?)
 }
 
-/// Whether one name is listed.
-fn is_one(names: Option<Vec<String>>) -> bool {
-    match names {
-        Some(names) => names.len() == 1,
-        None => false,
+/// Whether one name is listed of what the oneshot needs.
+fn has_one_need<T: Tree>(alloc: Global, tree: &mut T) -> Result<bool, TreeFault> {
+    match tree.listing(alloc, "a", "dependencies.d")? {
+        Some(names) => Ok(names.len() == 1),
+        None => Ok(false),
     }
 }
 
@@ -158,27 +161,25 @@ fn is_compiled(
 ) -> Result<bool, NoMem>
     requires { IfOk read (λ definitions. AreMeanings (map meaning_of definitions.items)) }
 {
-    match read {
+    let is_right = match &read {
         Ok(definitions) => {
             go_on_to(rt, "compile");
-            let is_right = is_of_two(compile(rt.alloc(), &definitions));
-            drop(definitions);
-            is_right
+            is_of_two(compile(rt.alloc(), definitions))
         }
         Err(SourceFault::Memory) => Err(AllocError),
         Err(_) => Ok(false),
-    }
+    };
+    drop(read);
+    is_right
 }
 
 /// Whether this is a database of two services, of which the first needs the second.
 fn is_of_two(compiled: Result<Db, CompileFault>) -> Result<bool, NoMem> {
-    match compiled {
-        Ok(db) => {
-            let is_right = db.graph().len() == 2 && db.graph().needs(0) == [1].as_slice();
-            drop(db);
-            Ok(is_right)
-        }
+    let is_right = match &compiled {
+        Ok(db) => Ok(db.graph().len() == 2 && db.graph().needs(0) == [1].as_slice()),
         Err(CompileFault::Memory) => Err(AllocError),
         Err(_) => Ok(false),
-    }
+    };
+    drop(compiled);
+    is_right
 }

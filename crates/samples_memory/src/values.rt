@@ -172,24 +172,26 @@ fn is_on_session(alloc: Global, session: &Session, value: Value, text: &[u8]) ->
 }
 
 fn is_read(alloc: Global, text: &[u8], db: &Db) -> Result<bool, NoMem> {
-    match read_live(alloc, text, db) {
-        Ok((line, count)) => Ok(line.states() == 3 && count == 3),
+    let read = read_live(alloc, text, db);
+    let is_right = match &read {
+        Ok((line, count)) => Ok(line.states() == 3 && *count == 3),
         Err(LiveFault::Memory) => Err(AllocError),
         Err(_) => Ok(false),
-    }
+    };
+    drop(read);
+    is_right
 }
 
 /// Whether a text says two states before the current one.
 fn is_form(alloc: Global, text: &[u8]) -> Result<bool, NoMem> {
-    match read_form(alloc, text) {
-        Ok((form, rest)) => {
-            let is_right = form.before.len() == 2 && rest.is_empty();
-            drop(form);
-            Ok(is_right)
-        }
+    let read = read_form(alloc, text);
+    let is_right = match &read {
+        Ok((form, rest)) => Ok(form.before.len() == 2 && rest.is_empty()),
         Err(FormFault::Memory) => Err(AllocError),
         Err(_) => Ok(false),
-    }
+    };
+    drop(read);
+    is_right
 }
 
 fn is_on_line(alloc: Global, line: &Line, value: Value) -> Result<bool, NoMem>
