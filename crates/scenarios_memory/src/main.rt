@@ -13,9 +13,9 @@ mod steps;
 mod workers;
 
 use crate::calls::made;
-use crate::rows::{How, ROWS, Row};
-use crate::steps::{Act, steps_of};
-use rc_db::Db;
+use crate::rows::{How, ROWS, Row, parts_of};
+use crate::steps::steps_of;
+use rc_board::Fault;
 use rc_livetext::write_live;
 use rc_session::{Session, Step};
 use rc_set::NoMem;
@@ -44,87 +44,105 @@ fn show_row<R: Print + AllocGlobal + Threads + Wait + Sync>(
     host: &HostRuntime,
     row: &Row,
 ) -> Result<(), Fail> {
-    if let How::Session(bound) = row.2 {
-        let db = sample(rt.alloc())?;
-        return Ok(show_begun(rt, row.0, db, bound)?);
+    let (call, how) = *row;
+    let (what, after, by) = parts_of(call);
+    if let How::Session(bound) = how {
+        return show_new(rt, what, bound);
     }
-    let mut session = session_of_sample(rt.alloc())?;
-    if matches!(row.2, How::Resume | How::Recovered(_)) {
-        let db = sample(rt.alloc());
-        let shown = show_goes_on(rt, &mut session, row, db);
-        drop(session);
-        return shown;
-    }
-    let shown = show_on(rt, host, &mut session, row);
+    let mut session = session_after(rt.alloc(), after)?;
+    let shown = match how {
+        How::Resume | How::Recovered(_) => show_goes_on(rt, &session, what, how),
+        _ => show_on(rt, host, &mut session, what, how, by),
+    };
     drop(session);
-    Ok(shown?)
+    shown
 }
 
-fn session_of_sample(alloc: Global) -> Result<Session, Fail>
+fn show_new(rt: &(impl Print + AllocGlobal), what: &str, bound: u32) -> Result<(), Fail> {
+    let db = sample(rt.alloc())?;
+    Ok(show_begun(rt, what, db, bound)?)
+}
+
+/// A session over the sample in which these steps are played.
+fn session_after(alloc: Global, words: &str) -> Result<Session, Fail>
     ensures { IfOk result (λ session. session.begun ≡ false) }
 {
     let db = sample(alloc)?;
-    Ok(Session::new(alloc, db)?)
-}
-
-/// Plays the steps before the call, and goes on over a database with the session's line, or with
-/// its files.
-fn show_goes_on(
-    rt: &(impl Print + AllocGlobal),
-    session: &mut Session,
-    row: &Row,
-    db: Result<Db, Fail>,
-) -> Result<(), Fail>
-    requires { session.old.begun ≡ false }
-{
-    let db = db?;
-    match set_up(rt.alloc(), session, row.1) {
-        Ok(()) => Ok(match row.2 {
-            How::Recovered(way) => show_recovered(rt, row.0, db, session, way),
-            _ => show_resumed(rt, row.0, db, session),
-        }?),
+    let mut session = Session::new(alloc, db)?;
+    match set_up(alloc, &mut session, words) {
+        Ok(()) => Ok(session),
         Err(short) => {
-            drop(db);
+            drop(session);
             Err(Fail::from(short))
         }
     }
 }
 
-/// Plays the steps before the call, and makes it.
-fn show_on<R: Print + AllocGlobal + Threads + Wait + Sync>(
-    rt: &R,
-    host: &HostRuntime,
-    session: &mut Session,
-    row: &Row,
-) -> io::Result<()>
-    requires { session.old.begun ≡ false }
-{
-    let (what, before, how, acts) = row;
-    set_up(rt.alloc(), session, before)?;
-    let steps = steps_of(rt.alloc(), acts)?;
-    let shown = match how {
-        How::Table(given) => show_table(rt, session.db(), what, steps.first(), *given),
-        How::Own(given) => show_own(rt, what, *given),
-        How::Alter(altering) => show_tree(rt, what, *altering),
-        How::Change => show_change(rt, session.db().graph(), session.journal(), what),
-        How::Line => show_edit(rt, session.journal(), what),
-        How::Opening(opening) => show_opening(rt, session.journal(), what, *opening),
-        _ => show_call(rt, host, session, what, *how, &steps),
-    };
-    drop(steps);
-    shown
-}
-
-fn set_up(alloc: Global, session: &mut Session, acts: &[Act]) -> Result<(), NoMem>
+fn set_up(alloc: Global, session: &mut Session, words: &str) -> Result<(), NoMem>
     requires { session.old.begun ≡ false }
     ensures { session.new.begun ≡ false }
 {
-    let steps = steps_of(alloc, acts)?;
+    let steps = steps_of(alloc, words)?;
     let played = session.play(alloc, &steps);
     drop(steps);
     match played {
         Ok(_) => Ok(()),
         Err(short) => Err(short),
+    }
+}
+
+/// Goes on over a database with the session's line, or with its files.
+fn show_goes_on(
+    rt: &(impl Print + AllocGlobal),
+    session: &Session,
+    what: &str,
+    how: How,
+) -> Result<(), Fail>
+    requires { session.now.begun ≡ false }
+{
+    let db = sample(rt.alloc())?;
+    let shown = match how {
+        How::Recovered(way) => show_recovered(rt, what, db, session, way),
+        _ => show_resumed(rt, what, db, session),
+    };
+    Ok(shown?)
+}
+
+fn show_on<R: Print + AllocGlobal + Threads + Wait + Sync>(
+    rt: &R,
+    host: &HostRuntime,
+    session: &mut Session,
+    what: &str,
+    how: How,
+    by: &str,
+) -> Result<(), Fail>
+    requires { session.old.begun ≡ false }
+{
+    let steps = steps_of(rt.alloc(), by)?;
+    let shown = show_by(rt, host, session, what, how, &steps);
+    drop(steps);
+    Ok(shown?)
+}
+
+/// The call by these steps.
+fn show_by<R: Print + AllocGlobal + Threads + Wait + Sync>(
+    rt: &R,
+    host: &HostRuntime,
+    session: &mut Session,
+    what: &str,
+    how: How,
+    steps: &[Step],
+) -> io::Result<()>
+    requires { session.old.begun ≡ false }
+{
+    match how {
+        How::Table(given) => show_table(rt, session.db(), what, steps.first(), given),
+        How::Own(given) => show_own(rt, what, given),
+        How::Alter(altering) => show_tree(rt, what, altering),
+        How::Change => show_change(rt, session.db().graph(), session.journal(), what),
+        How::Line => show_edit(rt, session.journal(), what),
+        How::Opening(opening) => show_opening(rt, session.journal(), what, opening),
+        _ => show_call(rt, host, session, what, how, steps),
     }
 }
 
@@ -140,10 +158,24 @@ fn show_call<R: Print + AllocGlobal + Threads + Wait + Sync>(
     requires { session.old.begun ≡ false }
 {
     let text = write_live(rt.alloc(), session)?;
-    print!(rt; "{what}: ")?;
+    let _ = print!(rt; "{what}: ");
     let came = made(rt, host, session, how, steps, &text);
+    let shown = show_after(rt, session, came, &text);
+    drop(text);
+    shown
+}
+
+/// What a call came to, and whether the session is as it was.
+fn show_after(
+    rt: &(impl Print + AllocGlobal),
+    session: &Session,
+    came: Result<(), Fault>,
+    text: &[u8],
+) -> io::Result<()>
+    requires { session.now.begun ≡ false }
+{
     show_came(rt, came)?;
-    show_session(rt, session, &text)
+    show_session(rt, session, text)
 }
 
 /// Whether a session has this text, or else where it stands.

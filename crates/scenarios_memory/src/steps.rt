@@ -14,7 +14,7 @@ const RISE: [u16; 5] = [ROOT, NET, DB, LOG, WEB];
 const FALL: [u16; 5] = [WEB, LOG, DB, NET, ROOT];
 
 /// What a step does.
-pub(crate) enum Act {
+enum Act {
     /// Brings `site` up, within a limit if that is not 0.
     Up(u32),
     /// The same, of which only one service came up.
@@ -29,34 +29,36 @@ pub(crate) enum Act {
     Delete,
 }
 
-pub(crate) const UP: Act = Act::Up(0);
+/// What a word of a row says.
+fn act_of(word: &str) -> Option<Act> {
+    match word {
+        "up" => Some(Act::Up(0)),
+        "limited" => Some(Act::Up(5)),
+        "cut" => Some(Act::Cut),
+        "undo" => Some(Act::Undo(&FALL)),
+        "redo" => Some(Act::Redo(&RISE)),
+        "back" => Some(Act::Undo(&[])),
+        "on" => Some(Act::Redo(&[])),
+        "add" => Some(Act::Add),
+        "delete" => Some(Act::Delete),
+        _ => None,
+    }
+}
 
-pub(crate) const LIMITED: Act = Act::Up(5);
-
-/// Brings all down again.
-pub(crate) const UNDO: Act = Act::Undo(&FALL);
-
-/// Brings all up again.
-pub(crate) const REDO: Act = Act::Redo(&RISE);
-
-/// Undoes an edit.
-pub(crate) const BACK: Act = Act::Undo(&[]);
-
-/// Redoes one.
-pub(crate) const ON: Act = Act::Redo(&[]);
-
-/// The steps that do this.
-pub(crate) fn steps_of(alloc: Global, acts: &[Act]) -> Result<Vec<Step>, NoMem> {
+/// The steps that these words say.
+pub(crate) fn steps_of(alloc: Global, words: &str) -> Result<Vec<Step>, NoMem> {
     let mut steps = Vec::new(alloc);
-    for act in acts {
-        steps.push(step_of(alloc, act)?)?;
+    for word in words.split(' ') {
+        if let Some(act) = act_of(word) {
+            steps.push(step_of(alloc, act)?)?;
+        }
     }
     Ok(steps)
 }
 
-fn step_of(alloc: Global, act: &Act) -> Result<Step, NoMem> {
+fn step_of(alloc: Global, act: Act) -> Result<Step, NoMem> {
     match act {
-        Act::Up(limit) => up_site(alloc, *limit, &RISE),
+        Act::Up(limit) => up_site(alloc, limit, &RISE),
         Act::Cut => up_site(alloc, 5, &[ROOT]),
         Act::Undo(order) => Ok(Step::Undo(0, run_of(alloc, order)?)),
         Act::Redo(order) => Ok(Step::Redo(0, run_of(alloc, order)?)),
