@@ -177,7 +177,8 @@ hear
 tell 'change top'
 until_begun
 sed '1,/^end$/d' live.run >> out
-pkill -KILL -f ' session -b base -l live -w 1$'
+# By its path: another build may be tested at the same time.
+pkill -KILL -f "$program session -b base -l live -w 1\$"
 exec 3>&-
 cat <&4 >> out
 exec 4<&-
