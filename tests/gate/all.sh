@@ -63,8 +63,8 @@ first() {
         within 300 tests/gate/packaging.sh crates/undorc/out/undorc
         within 300 tests/gate/tutorial.sh crates/undorc/out/undorc
     fi
-    if built crates/scenarios_memory/out/scenarios_memory; then
-        within 900 tests/outside/growths.sh crates/scenarios_memory/out/scenarios_memory
+    if built crates/scenarios/out/scenarios; then
+        within 900 tests/outside/growths.sh crates/scenarios/out/scenarios
     fi
     within 300 tests/gate/shells.sh
     within 60 tests/gate/codes.sh
@@ -76,8 +76,8 @@ second() {
         within 1800 tests/outside/program.sh crates/undorc/out/undorc.by-rattle
         within 600 tests/outside/fuzz.sh 30 $((seed + 500000)) crates/undorc/out/undorc.by-rattle
     fi
-    if built crates/scenarios_memory/out/scenarios_memory.by-rattle; then
-        within 900 tests/outside/growths.sh crates/scenarios_memory/out/scenarios_memory.by-rattle
+    if built crates/scenarios/out/scenarios.by-rattle; then
+        within 900 tests/outside/growths.sh crates/scenarios/out/scenarios.by-rattle
     fi
     ! built crates/undorc/out/undorc || within 600 tests/outside/fuzz.sh 30 "$seed" crates/undorc/out/undorc
 }

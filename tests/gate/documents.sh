@@ -4,8 +4,8 @@
 
 # The crates of the product, and those that test.
 grep -v '^#' "$top/crates.txt" | sed 's/:.*//' > crates
-grep -E '^(samples|scenarios)' crates > testing
-grep -v -E '^(samples|scenarios)' crates > product
+grep -x scenarios crates > testing
+grep -v -x scenarios crates > product
 
 # firsts_of FILE: the names of crates in the first cells of its tables.
 firsts_of() {
@@ -18,7 +18,7 @@ awk '/^```/ { if (inside) exit; inside = 1; next } inside && $1 ~ /^(rc_|cmd_|un
     "$top/docs/ARCHITECTURE.md" > found
 equals 'the tree of docs/ARCHITECTURE.md'
 cp testing wanted
-grep '^Tests stand at the top' "$top/docs/ARCHITECTURE.md" | grep -o -E '`(samples|scenarios)[a-z_]*`' | tr -d '`' > found
+grep '^Tests stand at the top' "$top/docs/ARCHITECTURE.md" | grep -o '`scenarios`' | tr -d '`' > found
 equals 'the tests of docs/ARCHITECTURE.md'
 # The program itself promises nothing of its own.
 grep -v -x undorc product > wanted

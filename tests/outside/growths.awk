@@ -1,4 +1,4 @@
-# What a run of scenarios_memory is to write where growths are refused, beside what it wrote. Read are, in
+# What the calls are to write where growths are refused, beside what was written. Read are, in
 # this order, growths.txt, what is written where nothing is refused, and the run. way: GROWTHS, this
 # growth `n` of each call and all that follow; GROWTH, this one alone, where a vector may have asked for
 # less and all goes on, but not where the call has no other growth; THREAD, this start of a thread. It

@@ -1,30 +1,30 @@
 #!/bin/sh
-# The calls of the built program scenarios_memory with each growth refused in turn, and each start of a
-# thread: tests/outside/growths.sh PROGRAM. growths.txt names each call with the number of its growths, and
-# of the threads that it starts. A call of which one is refused tells that, and all is as before; where the
+# The calls that the built program scenarios makes where it is given a word, with each growth refused in turn,
+# and each start of a thread: tests/outside/growths.sh PROGRAM. growths.out is what it writes. growths.txt names
+# each call with the number of its growths, and of the threads that it starts. A call of which one is refused tells that, and all is as before; where the
 # last are for the answer to what is done by then, all is as after it. The last line is
 # 'N passed, M failed, K skipped', and the status is 0 where none failed.
 set -eu
 here=$(realpath "$(dirname "$0")")
 program=$(realpath "$1")
 . "$here/../lib/library.sh"
-whole=$top/crates/scenarios_memory/stdout
+whole=$here/growths.out
 preloads refuse
-cp -r "$top/crates/scenarios_memory/data/." .
+cp -r "$top/crates/scenarios/data/." .
 export GROWTH=0 GROWTHS=0 THREAD=0 MARKED=1 COUNTS=counts
 
 # counted: a run; `out` is what it wrote, and `counts` has a line for each call.
 counted() {
     : > counts
     echo 0 > status
-    LD_PRELOAD="$preload" "$program" < /dev/null > out 2> err || echo $? > status
+    LD_PRELOAD="$preload" "$program" growths < /dev/null > out 2> err || echo $? > status
 }
 
 # Nothing is refused: the calls as they are stored, and how often each grows.
 counted
 cp "$whole" out.wanted
 : > err.wanted
-judge 'scenarios_memory, with nothing refused' 0
+judge 'the calls, with nothing refused' 0
 awk 'NR == FNR { grown[FNR] = $1; started[FNR] = $2; next }
     {
         many = split($0, calls, "; ")
@@ -52,7 +52,7 @@ for way in GROWTHS GROWTH THREAD; do
         awk -v "way=$way" -v "n=$number" -f "$here/growths.awk" "$here/growths.txt" "$whole" out > told
         mv told out
         : > out.wanted
-        judge "scenarios_memory, $way $number" 0
+        judge "the calls, $way $number" 0
     done
     eval "$way=0"
 done

@@ -1,1 +1,4 @@
--- scenarios has no lemmas of its own.
+-- The lemmas of scenarios.
+
+-- Courses of the same needs, plan and deadline are equal.
+mod Shown

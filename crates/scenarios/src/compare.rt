@@ -1,8 +1,8 @@
 //! What reading bytes must come to.
 
+use crate::samples::is_same;
 use rc_db::{Db, NoMem};
 use rc_dbtext::{TextFault, read_db, read_db_front, write_db};
-use samples::is_same;
 use std::alloc::Global;
 
 /// Whether bytes are refused, or read as a database whose text they are: the one of this text only

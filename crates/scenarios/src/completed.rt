@@ -10,6 +10,7 @@ ghost use Rattle.rc_model.specs.Beside.{TargetOf};
 ghost use Rattle.rc_session.specs.Commands.{command_of};
 
 use crate::recovered::{raise_site, show_text};
+use crate::samples::{sample, settles};
 use rc_core::{Ended, Run};
 use rc_graph::Graph;
 use rc_line::Line;
@@ -18,7 +19,6 @@ use rc_render::{live_text, report_text};
 use rc_select::Plan;
 use rc_session::{Refusal, Report, Session, Step};
 use rc_set::NoMem;
-use samples::{sample, settles};
 use std::alloc::{AllocError, Global};
 use std::io;
 use std::test::Fail;

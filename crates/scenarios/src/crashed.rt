@@ -4,6 +4,7 @@
 ghost use Rattle.std.specs.Prelude.{◌≡◌, false};
 
 use crate::recovered::{ALL_UP, first_text, log_of, raise_site, show_journal};
+use crate::samples::{MemoryFiles, sample};
 use rc_crash::{FilesFault, recover_files};
 use rc_files::{FileFault, TwoFiles, begin_log, replace_and_empty};
 use rc_livetext::write_live;
@@ -11,7 +12,6 @@ use rc_names::Names;
 use rc_script::event_line;
 use rc_session::{Session, Step};
 use rc_set::NoMem;
-use samples::{MemoryFiles, sample};
 use std::alloc::Global;
 use std::test::Fail;
 

@@ -2,11 +2,11 @@
 
 ghost use Rattle.std.specs.Prelude.{◌≤◌};
 
+use crate::samples::{Draw, drawn_graph, joined, name_of, parts_of, put, set_of};
 use rc_db::{Db, MAX_BUNDLES, NoMem, Parts, Service, Table};
 use rc_graph::Graph;
 use rc_names::{Kind, MAX_NAMES, Names};
 use rc_set::Set;
-use samples::{Draw, drawn_graph, joined, name_of, parts_of, put, set_of};
 use std::alloc::Global;
 use std::test::Fail;
 

@@ -1,7 +1,7 @@
 //! Edits of single bytes.
 
+use crate::samples::Draw;
 use rc_db::NoMem;
-use samples::Draw;
 use std::alloc::Global;
 
 /// Bytes that stand in texts, and some that may not.

@@ -1,7 +1,7 @@
 //! Parts that fit together, and parts that do not.
 
+use crate::samples::{BUNDLES, Bundle, LOG, NEEDS, SERVICES, WEB, parts_of};
 use rc_db::{Db, Parts, Unfit};
-use samples::{BUNDLES, Bundle, LOG, NEEDS, SERVICES, WEB, parts_of};
 use std::alloc::Global;
 use std::io;
 use std::test::Fail;

@@ -4,11 +4,11 @@
 ghost use Rattle.std.specs.Prelude.{◌≤◌};
 
 use crate::plain::{Asked, Plain, answer_to, is_legal};
+use crate::samples::{graph_of, run_between};
 use crate::steps::make;
 use rc_core::{Event, NotLegal, Outcome, Run, Took};
 use rc_graph::Graph;
 use rc_set::NoMem;
-use samples::{graph_of, run_between};
 use std::alloc::Global;
 use std::io;
 use std::test::Fail;

@@ -4,7 +4,7 @@
 //! who asks is answered, exactly where a plain program says so. Drawn changes, each carried out in
 //! many orders, and drawn databases, each written and read back, and once more after edits of
 //! bytes. Changes that were cut short, entered from their run logs; and one that is cut short at
-//! each byte that it writes.
+//! each byte that it writes. With a word, the calls of `growths` instead.
 #![tactic(auto)]
 
 mod compare;
@@ -14,11 +14,13 @@ mod device;
 mod drawn;
 mod edits;
 mod failing;
+mod growths;
 mod joining;
 mod legality;
 mod names;
 mod plain;
 mod recovered;
+mod samples;
 mod schedules;
 mod sets;
 mod steps;
@@ -31,6 +33,7 @@ mod wide;
 use crate::completed::show_completed;
 use crate::crashed::show_crashed;
 use crate::failing::show_failing;
+use crate::growths::show_growths;
 use crate::joining::show_joined;
 use crate::legality::show_legality;
 use crate::names::{show_names, show_words};
@@ -43,8 +46,12 @@ use crate::tried::show_drawn;
 use crate::waiting::show_waiting;
 use crate::wide::show_wide;
 use std::test::Fail;
+use std::{env, io};
 
 fn main(rt: HostRuntime) -> Result<(), Fail> {
+    if has_word(&rt)? {
+        return show_growths(&rt, &rt);
+    }
     show_names(&rt)?;
     show_words(&rt)?;
     show_sets(&rt)?;
@@ -60,4 +67,9 @@ fn main(rt: HostRuntime) -> Result<(), Fail> {
     show_legality(&rt)?;
     show_schedules(&rt)?;
     show_drawn(&rt)
+}
+
+/// Whether a word follows the program's name.
+fn has_word(rt: &HostRuntime) -> io::Result<bool> {
+    Ok(env::args(rt)?.len() > 1)
 }

@@ -1,5 +1,6 @@
 //! A change that was cut short, entered from what its run log says: the report, and the journal.
 
+use crate::samples::{DB, LOG, NET, ROOT, WEB, sample};
 use rc_core::{Event, Outcome};
 use rc_livetext::{read_live, write_live};
 use rc_names::Names;
@@ -9,7 +10,6 @@ use rc_script::{event_line, step_line};
 use rc_select::{Mode, Request};
 use rc_session::{Session, Step};
 use rc_set::NoMem;
-use samples::{DB, LOG, NET, ROOT, WEB, sample};
 use std::alloc::Global;
 use std::test::Fail;
 use std::{io, str};

@@ -1,9 +1,9 @@
 //! Carries drawn changes out in many orders, with drawn transitions that fail, and prints how many
 //! ended as the plain rules say that what fails makes them end, whatever the order.
 
+use crate::samples::{Change, Draw, End, carry_out, end_of};
 use rc_core::Finish;
 use rc_set::NoMem;
-use samples::{Change, Draw, End, carry_out, end_of};
 use std::alloc::Global;
 use std::io;
 use std::test::Fail;

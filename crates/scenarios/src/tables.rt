@@ -1,9 +1,9 @@
 //! A table of as many bundles as there may be, beside its copy; and a text of a database.
 
 use crate::recovered::show_text;
+use crate::samples::{put, sample, set_of};
 use rc_db::{Db, MAX_BUNDLES, NoMem, Table};
 use rc_dbtext::{read_db, write_db};
-use samples::{put, sample, set_of};
 use std::alloc::Global;
 use std::test::Fail;
 

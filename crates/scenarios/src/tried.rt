@@ -4,9 +4,9 @@
 use crate::compare::is_right;
 use crate::drawn::drawn_db;
 use crate::edits::edited;
+use crate::samples::Draw;
 use rc_db::{Db, NoMem};
 use rc_dbtext::{read_db, write_db};
-use samples::Draw;
 use std::alloc::Global;
 use std::io;
 use std::test::Fail;

@@ -1,7 +1,7 @@
 //! Two workers and a third that waits, and the end of their run.
 
+use crate::samples::{DB, LOG, NEEDS, NET, ROOT, WEB, graph_of, run_between};
 use rc_core::{NotLegal, Outcome, Run, Took};
-use samples::{DB, LOG, NEEDS, NET, ROOT, WEB, graph_of, run_between};
 use std::io;
 use std::test::Fail;
 

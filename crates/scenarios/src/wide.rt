@@ -1,10 +1,10 @@
 //! A graph of as many services as there may be, of which each but the first needs the first.
 
+use crate::samples::{run_between, set_of, widest_fan};
 use crate::steps::{make, refuses};
 use rc_core::{Event, Outcome, Run};
 use rc_graph::Graph;
 use rc_set::NoMem;
-use samples::{run_between, set_of, widest_fan};
 use std::alloc::Global;
 use std::io;
 use std::test::Fail;

@@ -1,7 +1,7 @@
 use Rattle.std.proofs.Common.{◌≡◌, ◌∙◌, ap}
 use Rattle.rc_model.specs.Database.{Database}
 use Rattle.rc_session.specs.Holding.{Holding}
-use Rattle.samples.proofs.Shown.{shown}
+use Rattle.scenarios.proofs.Shown.{shown}
 use Rattle.scenarios.proofs.completed.completed.Goals as goal
 
 pub ended-requires-clause-opening : goal.ended-requires-clause-opening

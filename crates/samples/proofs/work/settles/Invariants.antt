@@ -1,5 +1,0 @@
-use Rattle.std.proofs.Common.{◌≡◌}
-use Rattle.samples.proofs.work.settles.Given as goal
-
-abbrev pub invariant-loop : goal.invariant-loop
-invariant-loop l = l.run.course ≡ l.fn.run.course

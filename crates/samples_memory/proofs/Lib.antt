@@ -1,1 +1,0 @@
--- samples_memory has no lemmas of its own.

@@ -1,0 +1,201 @@
+//! Runs that are begun, and abandoned, spoiled or completed. Each further call is named by itself.
+
+ghost use Rattle.std.specs.Prelude.{◌≡◌, true, false, length, IfOk, OnErr};
+ghost use Rattle.rc_model.specs.Headline.{HasRun};
+ghost use Rattle.rc_model.specs.Names.{Has};
+ghost use Rattle.rc_model.specs.Graph.{IsClosed};
+ghost use Rattle.rc_model.specs.Run.{course_of, IsSettled};
+ghost use Rattle.rc_model.specs.Beside.{TargetOf};
+ghost use Rattle.rc_session.specs.Commands.{command_of};
+ghost use Rattle.rc_session.specs.Holding.{IsOfSession};
+
+use crate::growths::calls::{by_events, planned};
+use crate::growths::told::go_on_to;
+use crate::samples::{ROOT, run_between, settles};
+use rc_core::{Ended, Event, Outcome, Run, Standing};
+use rc_graph::Graph;
+use rc_recovery::recover;
+use rc_select::Plan;
+use rc_session::{Begun, Refusal, Session, Step};
+use rc_set::NoMem;
+use std::alloc::{AllocError, AllocGlobal, Global};
+use std::io::Print;
+
+/// Begins the run of a step, and gives it up.
+pub(crate) fn abandoned(
+    rt: &(impl Print + AllocGlobal),
+    session: &mut Session,
+    step: &Step,
+    spoils: bool,
+) -> Result<(), Refusal>
+    requires { session.old.begun ≡ false }
+    ensures { session.new.begun ≡ false }
+{
+    let begun = begun_by_name(rt.alloc(), session, step)?;
+    if spoils {
+        go_on_to(rt, "spoil");
+        session.spoil(begun);
+        go_on_to(rt, "a plan and the change once more");
+        return refused(rt.alloc(), session, step);
+    }
+    go_on_to(rt, "abandon");
+    session.abandon(begun);
+    Ok(())
+}
+
+/// Begins the run of a step by the call for its kind.
+fn begun_by_name(alloc: Global, session: &mut Session, step: &Step) -> Result<Begun, Refusal>
+    requires { session.old.begun ≡ false }
+    ensures task { IfOk result (IsOfSession session.new) }
+    ensures same { OnErr result (session.new ≡ session.old) }
+{
+    match step {
+        Step::Change(request, _) => session.begin_change(alloc, request, 0),
+        Step::Undo(limit, _) => session.begin_undo(alloc, *limit, 0),
+        Step::Redo(limit, _) => session.begin_redo(alloc, *limit, 0),
+        _ => Err(Refusal::Strange),
+    }
+}
+
+/// Whether a poisoned session refuses a plan and a step.
+fn refused(alloc: Global, session: &mut Session, step: &Step) -> Result<(), Refusal>
+    requires { session.old.begun ≡ false }
+    ensures { session.new.begun ≡ false }
+{
+    let planned = planned(alloc, session, step);
+    let made = by_events(alloc, session, step);
+    if matches!(planned, Err(Refusal::Strange)) && matches!(made, Err(Refusal::Strange)) {
+        Ok(())
+    } else {
+        Err(Refusal::NotEdit)
+    }
+}
+
+/// Whether a step is a change, an undo or a redo.
+fn has_run(step: &Step) -> bool
+    ensures { result ≡ true → HasRun (command_of step.now) }
+{
+    matches!(step, Step::Change(..) | Step::Undo(..) | Step::Redo(..))
+}
+
+/// Enters a step that was cut short after its events.
+pub(crate) fn recovered(alloc: Global, session: &mut Session, step: &Step) -> Result<(), Refusal>
+    requires { session.old.begun ≡ false }
+    ensures { session.new.begun ≡ false }
+{
+    if !has_run(step) {
+        return Err(Refusal::Strange);
+    }
+    match recover(alloc, session, step) {
+        Ok(_) => Ok(()),
+        Err(refusal) => Err(refusal),
+    }
+}
+
+/// Begins the run of a step, runs it, and completes it.
+pub(crate) fn completed(
+    rt: &(impl Print + AllocGlobal),
+    session: &mut Session,
+    step: &Step,
+) -> Result<(), Refusal>
+    requires { session.old.begun ≡ false }
+    ensures { session.new.begun ≡ false }
+{
+    if !has_run(step) {
+        return Err(Refusal::Strange);
+    }
+    let begun = session.begin(rt.alloc(), step, 0)?;
+    match ended(rt, session.db().graph(), begun.plan(), begun.deadline()) {
+        Ok(run) => {
+            go_on_to(rt, "complete");
+            let report = session.complete(begun, run);
+            let moved = report.lowered.len().saturating_add(report.raised.len());
+            drop(report);
+            if moved == 5 {
+                Ok(())
+            } else {
+                Err(Refusal::Strange)
+            }
+        }
+        Err(_) => {
+            session.abandon(begun);
+            Err(Refusal::Memory)
+        }
+    }
+}
+
+/// The end of a run of a plan by one worker.
+fn ended(
+    rt: &(impl Print + AllocGlobal),
+    graph: &Graph,
+    plan: &Plan,
+    deadline: Option<u64>,
+) -> Result<Ended, NoMem>
+    requires bound { length plan.now.opening ≡ length graph.now }
+    requires opening { IsClosed graph.now (Has plan.now.opening) }
+    requires target { IsClosed graph.now (TargetOf (course_of graph.now plan.now deadline)) }
+    ensures { IfOk result (λ run. run.course ≡ course_of graph.now plan.now deadline) }
+{
+    go_on_to(rt, "Run::open");
+    let mut run = Run::open(rt.alloc(), graph, plan, deadline)?;
+    go_on_to(
+        rt,
+        "Run::is_of, planned, standings, trace, take, done, settled and finish",
+    );
+    if is_new(&run, graph, plan, deadline) && settles(&mut run) {
+        return Ok(run.finish());
+    }
+    drop(run);
+    Err(AllocError)
+}
+
+/// Whether a run is that of a plan, and nothing has happened yet.
+fn is_new(run: &Run, graph: &Graph, plan: &Plan, deadline: Option<u64>) -> bool {
+    run.is_of(graph, plan, deadline)
+        && run.planned() == run.standings().len()
+        && run.trace().is_empty()
+        && !run.settled()
+}
+
+/// A run that is stopped after its only service, and whether its end says so.
+pub(crate) fn is_stopped(rt: &(impl Print + AllocGlobal), graph: &Graph) -> Result<bool, NoMem> {
+    let run = run_between(rt.alloc(), graph, &[], &[ROOT], Some(7))?;
+    go_on_to(
+        rt,
+        "Run::step, standing, stop, settled, finish and take_apart",
+    );
+    match run {
+        Some(run) => Ok(ends_stopped(run)),
+        None => Ok(false),
+    }
+}
+
+/// Whether a run is stopped after its only service, and its end says so.
+fn ends_stopped(mut run: Run) -> bool {
+    if !is_stopped_once_up(&mut run) {
+        drop(run);
+        return false;
+    }
+    let finish = run.finish().take_apart();
+    let is_told = finish.stopped && finish.trace.len() == 3;
+    drop(finish);
+    is_told
+}
+
+/// Brings the only service up and stops the run. Whether nothing is left to do then.
+fn is_stopped_once_up(run: &mut Run) -> bool
+    ensures { result ≡ true → IsSettled run.new.course run.new.events }
+{
+    is_down(run, ROOT) && comes_up(run, ROOT) && run.stop(1, 7).is_ok() && run.settled()
+}
+
+/// Whether a service is down.
+fn is_down(run: &Run, service: u16) -> bool {
+    (service as usize) < run.standings().len() && run.standing(service) == Standing::Down
+}
+
+/// Takes a service by itself, and ends it well. Whether that was legal.
+fn comes_up(run: &mut Run, service: u16) -> bool {
+    run.step(Event::Take(1, service)).is_ok()
+        && run.step(Event::Done(1, service, Outcome::Ok)).is_ok()
+}

@@ -1,0 +1,186 @@
+//! How a call is made.
+
+ghost use Rattle.std.specs.Prelude.{◌≡◌, false};
+
+use crate::growths::begun::{abandoned, completed, is_stopped, recovered};
+use crate::growths::lines::{is_of_states, is_stepped_on};
+use crate::growths::made::is_made;
+use crate::growths::queries::{is_answer, is_planned};
+use crate::growths::rows::How;
+use crate::growths::serving::{is_gate, is_locked, is_telling, served};
+use crate::growths::texts::is_text;
+use crate::growths::trees::{is_from_folder, is_from_memory};
+use crate::growths::values::is_value;
+use crate::growths::workers::{by_workers, within};
+use rc_board::Fault;
+use rc_session::{Refusal, Session, Step};
+use rc_set::NoMem;
+use std::alloc::{AllocGlobal, Global};
+use std::io::Print;
+use std::sync::Wait;
+use std::thread::Threads;
+
+/// Makes a call on a session that has this text. A wrong answer is told as a strange one.
+pub(crate) fn made<R: Print + AllocGlobal + Threads + Wait + Sync>(
+    rt: &R,
+    host: &HostRuntime,
+    session: &mut Session,
+    how: How,
+    steps: &[Step],
+    text: &[u8],
+) -> Result<(), Fault>
+    requires { session.old.begun ≡ false }
+    ensures { session.new.begun ≡ false }
+{
+    match how {
+        How::Workers(workers) => by_workers(rt, session, workers, steps.first()),
+        How::Within => within(rt, session, steps.first()),
+        How::Serve(serving) => served(rt, session, serving),
+        _ => match told(host, session, how, steps, text) {
+            Ok(()) => Ok(()),
+            Err(refusal) => Err(Fault::Refused(refusal)),
+        },
+    }
+}
+
+fn told(
+    rt: &HostRuntime,
+    session: &mut Session,
+    how: How,
+    steps: &[Step],
+    text: &[u8],
+) -> Result<(), Refusal>
+    requires { session.old.begun ≡ false }
+    ensures { session.new.begun ≡ false }
+{
+    match how {
+        How::Of(_) | How::Text(..) | How::Stop | How::States | How::StepOn => {
+            answered(is_right(rt, session, how, text))
+        }
+        How::Make(_) | How::Memory | How::Folder | How::Lock => answered(is_own(rt, session, how)),
+        How::Play => played(rt.alloc(), session, steps),
+        _ => match steps.first() {
+            Some(step) => stepped(rt, session, how, step),
+            None => Err(Refusal::Strange),
+        },
+    }
+}
+
+/// Whether a call that alters nothing answers as it must.
+fn is_right(
+    rt: &(impl Print + AllocGlobal),
+    session: &Session,
+    how: How,
+    text: &[u8],
+) -> Result<bool, NoMem>
+    requires { session.now.begun ≡ false }
+{
+    match how {
+        How::Of(value) => is_value(rt.alloc(), session, value, text),
+        How::Text(text, due) => is_text(rt.alloc(), session, text, due),
+        How::Stop => is_stopped(rt, session.db().graph()),
+        How::States => is_of_states(rt, session.db().table(), session.table()),
+        _ => is_stepped_on(rt, session.journal(), session.table()),
+    }
+}
+
+/// Whether values that a call makes of its own are right.
+fn is_own(rt: &HostRuntime, session: &Session, how: How) -> Result<bool, NoMem> {
+    match how {
+        How::Make(made) => is_made(rt, session.db(), made),
+        How::Memory => is_from_memory(rt),
+        How::Lock => is_locked(rt),
+        _ => is_from_folder(rt, "tree"),
+    }
+}
+
+/// A call by one step.
+fn stepped(rt: &HostRuntime, session: &mut Session, how: How, step: &Step) -> Result<(), Refusal>
+    requires { session.old.begun ≡ false }
+    ensures { session.new.begun ≡ false }
+{
+    match how {
+        How::Complete => completed(rt, session, step),
+        How::Abandon => abandoned(rt, session, step, false),
+        How::Spoil => abandoned(rt, session, step, true),
+        How::By => by_events(rt.alloc(), session, step),
+        How::Recover => recovered(rt.alloc(), session, step),
+        How::Edit => edited(rt.alloc(), session, step),
+        How::Dry => planned(rt.alloc(), session, step),
+        How::Ask(_) | How::Plan | How::Shell | How::Tell => asked(rt, session, how, step),
+        _ => Err(Refusal::Strange),
+    }
+}
+
+/// A wrong answer is strange.
+fn answered(is_right: Result<bool, NoMem>) -> Result<(), Refusal> {
+    match is_right {
+        Ok(true) => Ok(()),
+        Ok(false) => Err(Refusal::Strange),
+        Err(_) => Err(Refusal::Memory),
+    }
+}
+
+fn played(alloc: Global, session: &mut Session, steps: &[Step]) -> Result<(), Refusal>
+    requires { session.old.begun ≡ false }
+    ensures { session.new.begun ≡ false }
+{
+    match session.play(alloc, steps) {
+        Ok(_) => Ok(()),
+        Err(_) => Err(Refusal::Memory),
+    }
+}
+
+pub(crate) fn by_events(alloc: Global, session: &mut Session, step: &Step) -> Result<(), Refusal>
+    requires { session.old.begun ≡ false }
+    ensures { session.new.begun ≡ false }
+{
+    let answer = match step {
+        Step::Change(request, events) => session.change_by(alloc, request, events),
+        Step::Undo(limit, events) => session.undo_by(alloc, *limit, events),
+        Step::Redo(limit, events) => session.redo_by(alloc, *limit, events),
+        Step::Add(name, contents, force) => {
+            return session.bundle_add(alloc, name, contents, *force);
+        }
+        Step::Delete(names, force) => return session.bundle_delete(alloc, names, *force),
+    };
+    match answer {
+        Ok(_) => Ok(()),
+        Err(refusal) => Err(refusal),
+    }
+}
+
+fn edited(alloc: Global, session: &mut Session, step: &Step) -> Result<(), Refusal>
+    requires { session.old.begun ≡ false }
+    ensures { session.new.begun ≡ false }
+{
+    match step {
+        Step::Undo(..) => session.undo_edit(alloc),
+        Step::Redo(..) => session.redo_edit(alloc),
+        _ => Err(Refusal::Strange),
+    }
+}
+
+/// A call by the request of a change, or by its names.
+fn asked(rt: &HostRuntime, session: &Session, how: How, step: &Step) -> Result<(), Refusal> {
+    let Step::Change(request, _) = step else {
+        return Err(Refusal::Strange);
+    };
+    let (alloc, db) = (rt.alloc(), session.db());
+    answered(match how {
+        How::Ask(query) => is_answer(alloc, db, query, &request.names),
+        How::Plan => is_planned(alloc, db, session.live(), request),
+        How::Tell => is_telling(rt, db),
+        _ => is_gate(rt, db, &request.names),
+    })
+}
+
+pub(crate) fn planned(alloc: Global, session: &Session, step: &Step) -> Result<(), Refusal> {
+    let Step::Change(request, _) = step else {
+        return Err(Refusal::Strange);
+    };
+    match session.dry(alloc, request) {
+        Ok(_) => Ok(()),
+        Err(refusal) => Err(refusal),
+    }
+}

@@ -1,0 +1,214 @@
+//! Calls that alter a value of their own, by which each is compared with what it was.
+
+ghost use Rattle.std.specs.Prelude.{◌≡◌, length, IfOk};
+
+use crate::growths::told::{fault_of, go_on_to, show_came, show_end, show_same};
+use crate::samples::{name_of, put, set_of};
+use rc_db::{MAX_BUNDLES, Table};
+use rc_graph::Draft;
+use rc_names::{MAX_NAMES, Name, Names};
+use rc_set::{NoMem, Set};
+use std::alloc::{AllocGlobal, Global};
+use std::io;
+use std::io::Print;
+
+/// The value that a call alters.
+#[derive(Clone, Copy)]
+pub enum Given {
+    /// Names, to which one is added.
+    Names,
+    /// No names, to which one is appended.
+    NoNames,
+    /// A draft, in which one service needs one more.
+    Draft,
+    /// A table, into which a bundle is put.
+    Bundles,
+}
+
+/// As many names, in their order, as a table has room for before it grows.
+static TEXTS: [&str; 8] = ["b", "c", "d", "e", "f", "g", "h", "i"];
+
+/// As many needs of the first service as stand in a list that has taken no memory.
+const EIGHT: [u16; 8] = [1, 2, 3, 4, 5, 6, 7, 8];
+
+/// The call, what it came to, and whether the value is as it was.
+pub fn show_own(rt: &(impl Print + AllocGlobal), what: &str, given: Given) -> io::Result<()> {
+    match given {
+        Given::Names => show_names(rt, what),
+        Given::NoNames => show_no_names(rt, what),
+        Given::Draft => show_draft(rt, what),
+        Given::Bundles => show_bundles(rt, what),
+    }
+}
+
+fn show_names(rt: &(impl Print + AllocGlobal), what: &str) -> io::Result<()> {
+    let mut names = Names::new(rt.alloc());
+    let shown = show_added(rt, what, &mut names);
+    drop(names);
+    shown
+}
+
+/// Names the call on eight names, and makes it.
+fn show_added(rt: &(impl Print + AllocGlobal), what: &str, names: &mut Names) -> io::Result<()> {
+    add_eight(rt.alloc(), names)?;
+    let (added, again) = two_names(rt.alloc())?;
+    let _ = print!(rt; "{what}: ");
+    let came = named(rt, names, added, again);
+    show_end(rt, came, are_eight(names))
+}
+
+/// A name that comes before the eight, twice.
+fn two_names(alloc: Global) -> Result<(Name, Name), NoMem> {
+    let name = name_of(alloc, "a")?;
+    let again = name.copy(alloc)?;
+    Ok((name, again))
+}
+
+fn add_eight(alloc: Global, names: &mut Names) -> Result<(), NoMem> {
+    for text in &TEXTS {
+        add(names, name_of(alloc, text)?)?;
+    }
+    Ok(())
+}
+
+fn add(names: &mut Names, name: Name) -> Result<(), NoMem> {
+    if names.len() < MAX_NAMES {
+        names.add(name)?;
+    }
+    Ok(())
+}
+
+/// Adds a name, and once more.
+fn named(rt: &impl Print, names: &mut Names, added: Name, again: Name) -> Result<(), NoMem> {
+    add(names, added)?;
+    go_on_to(rt, "add of a name that is there");
+    add(names, again)
+}
+
+fn are_eight(names: &Names) -> bool {
+    for id in 0..names.len() {
+        let text = names.name_of(id).text();
+        if TEXTS.get(id as usize) != Some(&text) || names.find(text) != Some(id) {
+            return false;
+        }
+    }
+    names.len() == 8 && names.find("a").is_none()
+}
+
+/// Names the call on no names, and makes it.
+fn show_no_names(rt: &(impl Print + AllocGlobal), what: &str) -> io::Result<()> {
+    let name = name_of(rt.alloc(), "a")?;
+    let mut names = Names::new(rt.alloc());
+    let _ = print!(rt; "{what}: ");
+    let came = names.append(name);
+    let is_same = names.is_empty();
+    drop(names);
+    show_end(rt, came, is_same)
+}
+
+fn show_draft(rt: &(impl Print + AllocGlobal), what: &str) -> io::Result<()> {
+    let mut draft = eight_needs(rt.alloc())?;
+    let _ = print!(rt; "{what}: ");
+    let came = needed(rt, &mut draft);
+    show_came(rt, fault_of(came))?;
+    show_same(rt, has_eight_needs(draft))
+}
+
+fn eight_needs(alloc: Global) -> Result<Draft, NoMem>
+    ensures { IfOk result (λ draft. length draft ≡ 10) }
+{
+    let mut draft = Draft::new(alloc, 10)?;
+    for service in 1..9 {
+        draft.need(0, service)?;
+    }
+    Ok(draft)
+}
+
+fn needed(rt: &impl Print, draft: &mut Draft) -> Result<(), NoMem>
+    requires { length draft.old ≡ 10 }
+{
+    draft.need(0, 9)?;
+    go_on_to(rt, "need of a pair that is there");
+    draft.need(0, 9)
+}
+
+/// Whether the first service needs the eight after it, and nothing else.
+fn has_eight_needs(draft: Draft) -> bool {
+    match draft.finish() {
+        Ok(graph) => graph.len() > 0 && graph.needs(0) == EIGHT.as_slice(),
+        Err(_) => false,
+    }
+}
+
+fn show_bundles(rt: &(impl Print + AllocGlobal), what: &str) -> io::Result<()> {
+    let mut table = Table::new(rt.alloc());
+    let shown = show_beside_copy(rt, what, &mut table);
+    drop(table);
+    shown
+}
+
+fn show_beside_copy(
+    rt: &(impl Print + AllocGlobal),
+    what: &str,
+    table: &mut Table,
+) -> io::Result<()> {
+    put_eight(rt.alloc(), table)?;
+    let before = table.copy(rt.alloc())?;
+    let shown = show_put(rt, what, table, &before);
+    drop(before);
+    shown
+}
+
+fn put_eight(alloc: Global, table: &mut Table) -> Result<(), NoMem> {
+    for text in &TEXTS {
+        if table.len() < MAX_BUNDLES {
+            put(alloc, table, text, set_of(alloc, 5, &[2])?)?;
+        }
+    }
+    Ok(())
+}
+
+/// Names the call, and makes it.
+fn show_put(
+    rt: &(impl Print + AllocGlobal),
+    what: &str,
+    table: &mut Table,
+    before: &Table,
+) -> io::Result<()> {
+    let (name, set, again) = bundle_of(rt.alloc())?;
+    let _ = print!(rt; "{what}: ");
+    let came = put_twice(rt, table, &name, set, again);
+    drop(name);
+    show_end(rt, came, table.same(before))
+}
+
+/// The name of a bundle, and its set twice.
+fn bundle_of(alloc: Global) -> Result<(Name, Set, Set), NoMem> {
+    let name = name_of(alloc, "a")?;
+    let set = set_of(alloc, 5, &[0, 1])?;
+    let again = set.copy(alloc)?;
+    Ok((name, set, again))
+}
+
+/// Puts a bundle in, puts it in once more, and takes it out.
+fn put_twice(
+    rt: &impl Print,
+    table: &mut Table,
+    name: &Name,
+    set: Set,
+    again: Set,
+) -> Result<(), NoMem> {
+    put_one(table, name, set)?;
+    go_on_to(rt, "set of a name that is there");
+    put_one(table, name, again)?;
+    go_on_to(rt, "clear");
+    table.clear(name.text());
+    Ok(())
+}
+
+fn put_one(table: &mut Table, name: &Name, set: Set) -> Result<(), NoMem> {
+    if table.len() < MAX_BUNDLES {
+        table.set(name, set)?;
+    }
+    Ok(())
+}

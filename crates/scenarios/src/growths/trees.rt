@@ -1,0 +1,185 @@
+//! Trees: calls that alter one, what one says, what is read of it, and what is compiled of that.
+
+ghost use Rattle.std.specs.Prelude.{IfOk, map};
+ghost use Rattle.rc_source.specs.Meaning.{AreMeanings};
+ghost use Rattle.rc_source.specs.Said.{meaning_of};
+
+use crate::growths::told::{fault_of, go_on_to, show_came, show_same};
+use rc_compile::{CompileFault, compile};
+use rc_db::Db;
+use rc_set::NoMem;
+use rc_source::{Definition, FolderTree, MemoryTree, SourceFault, Tree, TreeFault, read_all};
+use std::alloc::{AllocError, AllocGlobal, Global};
+use std::io;
+use std::io::Print;
+
+/// A call that alters a tree.
+#[derive(Clone, Copy)]
+pub enum Altering {
+    /// A service directory is made.
+    Folder,
+    /// A file is written, of a service that has none.
+    Put,
+    /// A file is written in place of another.
+    PutAgain,
+}
+
+/// The files of a oneshot and of the longrun that it needs: the service, the path, and the bytes.
+const FILES: [(&str, &str, &str); 5] = [
+    ("a", "type", "oneshot"),
+    ("a", "up", "true"),
+    ("a", "dependencies.d/b", ""),
+    ("b", "type", "longrun"),
+    ("b", "run", ""),
+];
+
+/// Alters a tree in memory, and tells whether it has the files that it had.
+pub fn show_tree(
+    rt: &(impl Print + AllocGlobal),
+    what: &str,
+    altering: Altering,
+) -> io::Result<()> {
+    let mut tree = MemoryTree::new(rt.alloc());
+    let shown = show_altered(rt, what, &mut tree, altering);
+    drop(tree);
+    shown
+}
+
+fn show_altered(
+    rt: &(impl Print + AllocGlobal),
+    what: &str,
+    tree: &mut MemoryTree,
+    altering: Altering,
+) -> io::Result<()> {
+    fill(tree)?;
+    let _ = print!(rt; "{what}: ");
+    let came = altered(tree, altering);
+    show_came(rt, fault_of(came))?;
+    show_same(rt, has_files(rt.alloc(), tree).unwrap_or(false))
+}
+
+fn fill(tree: &mut MemoryTree) -> Result<(), NoMem> {
+    for (service, path, text) in &FILES {
+        tree.put(service, path, text.as_bytes())?;
+    }
+    Ok(())
+}
+
+fn altered(tree: &mut MemoryTree, altering: Altering) -> Result<(), NoMem> {
+    match altering {
+        Altering::Folder => tree.folder("c"),
+        Altering::Put => tree.put("c", "type", b"bundle"),
+        Altering::PutAgain => tree.put("a", "up", b"false"),
+    }
+}
+
+/// Whether a tree has both services and no third one, and the file that is written.
+fn has_files(alloc: Global, tree: &mut MemoryTree) -> Result<bool, TreeFault> {
+    Ok(has_two(alloc, tree)? && has_up(alloc, tree)? && !tree.has(alloc, "c", "type")?)
+}
+
+/// Whether a tree has two entries.
+fn has_two<T: Tree>(alloc: Global, tree: &mut T) -> Result<bool, TreeFault> {
+    Ok(tree.entries(alloc)?.len() == 2)
+}
+
+/// Whether the text that runs `true` is there.
+fn has_up<T: Tree>(alloc: Global, tree: &mut T) -> Result<bool, TreeFault> {
+    match tree.bytes(alloc, "a", "up")? {
+        Some(bytes) => Ok(bytes.as_slice() == b"true".as_slice()),
+        None => Ok(false),
+    }
+}
+
+/// Whether a tree in memory says what it holds, and is compiled.
+pub fn is_from_memory(rt: &(impl Print + AllocGlobal)) -> Result<bool, NoMem> {
+    let mut trees = [MemoryTree::new(rt.alloc())];
+    let is_right = is_filled(rt, &mut trees);
+    drop(trees);
+    is_right
+}
+
+fn is_filled(rt: &(impl Print + AllocGlobal), trees: &mut [MemoryTree]) -> Result<bool, NoMem> {
+    for tree in &mut *trees {
+        fill(tree)?;
+    }
+    go_on_to(rt, "entries");
+    is_read(rt, trees)
+}
+
+/// Whether the tree of a directory says what it holds, and is compiled.
+pub fn is_from_folder(rt: &HostRuntime, path: &str) -> Result<bool, NoMem> {
+    let mut trees = [FolderTree::open(rt.clone()?, rt.alloc(), path)?];
+    go_on_to(rt, "entries");
+    let is_right = is_read(rt, &mut trees);
+    drop(trees);
+    is_right
+}
+
+/// Whether trees say that they hold these files, and what is read of them is compiled.
+fn is_read<T: Tree>(rt: &(impl Print + AllocGlobal), trees: &mut [T]) -> Result<bool, NoMem> {
+    for tree in &mut *trees {
+        if !is_answer(says_files(rt, tree))? {
+            return Ok(false);
+        }
+    }
+    go_on_to(rt, "read_all");
+    is_compiled(rt, read_all(rt.alloc(), trees))
+}
+
+fn says_files<T: Tree>(rt: &(impl Print + AllocGlobal), tree: &mut T) -> Result<bool, TreeFault> {
+    let alloc = rt.alloc();
+    let has_two = has_two(alloc, tree)?;
+    go_on_to(rt, "listing");
+    let has_one_need = has_one_need(alloc, tree)?;
+    go_on_to(rt, "bytes");
+    let has_up = has_up(alloc, tree)?;
+    go_on_to(rt, "has");
+    Ok(has_two && has_one_need && has_up && tree.has(alloc, "b", "run")?)
+}
+
+/// Whether one name is listed of what the oneshot needs.
+fn has_one_need<T: Tree>(alloc: Global, tree: &mut T) -> Result<bool, TreeFault> {
+    match tree.listing(alloc, "a", "dependencies.d")? {
+        Some(names) => Ok(names.len() == 1),
+        None => Ok(false),
+    }
+}
+
+fn is_answer(answer: Result<bool, TreeFault>) -> Result<bool, NoMem> {
+    match answer {
+        Ok(is_right) => Ok(is_right),
+        Err(TreeFault::Memory) => Err(AllocError),
+        Err(_) => Ok(false),
+    }
+}
+
+/// Whether the definitions of both services were read, and make a database.
+fn is_compiled(
+    rt: &(impl Print + AllocGlobal),
+    read: Result<Vec<Definition>, SourceFault>,
+) -> Result<bool, NoMem>
+    requires { IfOk read (λ definitions. AreMeanings (map meaning_of definitions.items)) }
+{
+    let is_right = match &read {
+        Ok(definitions) => {
+            go_on_to(rt, "compile");
+            is_of_two(compile(rt.alloc(), definitions))
+        }
+        Err(SourceFault::Memory) => Err(AllocError),
+        Err(_) => Ok(false),
+    };
+    drop(read);
+    is_right
+}
+
+/// Whether this is a database of two services, of which the first needs the second.
+fn is_of_two(compiled: Result<Db, CompileFault>) -> Result<bool, NoMem> {
+    let is_right = match &compiled {
+        Ok(db) => Ok(db.graph().len() == 2 && db.graph().needs(0) == [1].as_slice()),
+        Err(CompileFault::Memory) => Err(AllocError),
+        Err(_) => Ok(false),
+    };
+    drop(compiled);
+    is_right
+}

@@ -1,1 +1,0 @@
--- scenarios_memory has no lemmas of its own.
