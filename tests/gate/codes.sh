@@ -10,7 +10,7 @@ passed=0 failed=0 skipped=0
 
 # declared CRATE NAME: the words of an enum of a crate, each with its code
 declared() {
-    cat "crates/$1"/src/*.rt | awk -v name="$2" '
+    find "crates/$1/src" -name '*.rt' -exec awk -v name="$2" '
         $0 ~ "^pub struct " name ";$" { print " 1" }
         $0 ~ "^pub enum " name "(<| )" { within = 1; next }
         within && /^}/ { exit }
@@ -20,7 +20,7 @@ declared() {
             code = match($0, / = [0-9]+,$/) ? substr($0, RSTART + 3) + 0 : place
             words = words (place > 1 ? "," : "") " " word " " code
         }
-        END { if (words != "") print words }'
+        END { if (words != "") print words }' {} +
 }
 
 while IFS=: read -r enum words; do

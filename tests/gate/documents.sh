@@ -96,7 +96,8 @@ holds 'the list of make model'
 
 # What docs/PROOF.md shows of the sources stands there.
 awk '/^```/ { inside = !inside; next } inside { sub(/^ */, ""); print }' "$top/docs/PROOF.md" > wanted
-cat "$top"/crates/*/src/*.rt "$top"/crates/*/specs/*.antt | sed 's/^ *//' > found
+find "$top"/crates/*/src -name '*.rt' -exec cat {} + > sources
+cat sources "$top"/crates/*/specs/*.antt | sed 's/^ *//' > found
 holds 'the sources, of what docs/PROOF.md shows,'
 
 # The definitions of a crate's modules, and the variants of their types, as lines `CRATE MODULE NAME`; and what calls, types
@@ -107,8 +108,7 @@ for file in "$top"/crates/*/specs/*.antt; do
     sed -n -E -e "s/^(abbrev pub|unfoldable pub|abbrev unfoldable pub|pub record|pub data|pub) ([^ :({]*).*/${crate##*/} ${module%.antt} \2/p" \
         -e "s/^  ([A-Z][A-Za-z]*) :.*/${crate##*/} ${module%.antt} \1/p" "$file"
 done > defined
-cat "$top"/crates/*/src/*.rt |
-    grep -o -E '((fn|struct|enum|trait|type|mod|ensures|ghost invariant|ghost) [A-Za-z_]+|^ +[A-Z][A-Za-z]*[(,])' |
+grep -o -E '((fn|struct|enum|trait|type|mod|ensures|ghost invariant|ghost) [A-Za-z_]+|^ +[A-Z][A-Za-z]*[(,])' sources |
     sed -e 's/[(,]$//' -e 's/.* //' > called
 sed 's/.* //' defined >> called
 cat called crates > found

@@ -7,6 +7,7 @@ Of rc_model, which is read as a whole, each definition is listed; of other crate
 call or type names. A contract names a word where the file imports it, and it stands in a clause of the call or type.
 """
 
+import functools
 import pathlib
 import re
 from dataclasses import dataclass, field
@@ -65,24 +66,37 @@ def words_in(file):
 
 
 def exported_by(crate):
-    """Whether a name of a module is public, by what the crate's root says."""
-    root = (TOP / "crates" / crate / "src" / "lib.rt").read_text()
-    modules = {"lib", *re.findall(r"^pub mod (\w+);", root, re.M)}
-    names = set()
-    for path, one, several in re.findall(r"^pub use (?:crate::)?([\w:]+?)::(?:(\w+)|\{([^}]*)\});", root, re.M):
-        names.update(it.strip() for it in (several or one).split(","))
-    return lambda module, name: module in modules or name in names
+    """Where a name of a module is public: the path of that module, by what those above it say, or None."""
+    folder = TOP / "crates" / crate / "src"
+
+    @functools.cache
+    def exports(path):
+        text = (folder.joinpath(*path).with_suffix(".rt") if path else folder / "lib.rt").read_text()
+        names = set()
+        for one, several in re.findall(r"^pub use (?:crate::)?[\w:]+?::(?:(\w+)|\{([^}]*)\});", text, re.M):
+            names.update(it.strip() for it in (several or one).split(","))
+        return {*re.findall(r"^pub mod (\w+);", text, re.M)}, names
+
+    def public_at(path, name):
+        for depth, module in enumerate(path):
+            modules, names = exports(path[:depth])
+            if name in names:
+                return path[:depth]
+            if module not in modules:
+                return None
+        return path
+
+    return public_at
 
 
-def contracts_in(file, is_exported):
-    """The public calls and types of a source file, each with the lines of its contract."""
+def contracts_in(file, path, public_at):
+    """The public calls and types of a source file of a module, each with the lines of its contract."""
     owner, is_trait, name, clauses = "", False, None, []
-    place = f"{file.parent.parent.name}::{'laws::' * (file.stem == 'laws')}"
     for line in file.read_text().splitlines():
         text = line.strip()
         if block := re.match(r"(impl|pub trait)\b(?:<[^{]*?>)? ?(?:([\w:]+)(?:<[^{]*?>)? for )?([\w:]+)", line):
             owner, is_trait = block[3], bool(block[2]) or block[1] == "pub trait"
-            if block[2] == "Model" and is_exported(file.stem, owner):
+            if block[2] == "Model" and public_at(path, owner) is not None:
                 name, clauses = owner, []
         elif line.startswith("}"):
             if name and clauses:
@@ -91,9 +105,10 @@ def contracts_in(file, is_exported):
         elif call := re.match(r"(?:    )?(pub )?fn (\w+)", line):
             if name and clauses:
                 yield name, clauses
-            is_public = (call[1] or (owner and is_trait)) and is_exported(file.stem, owner or call[2])
-            name = f"{owner}::{call[2]}" if owner else place + call[2]
-            name, clauses = (name if is_public else None), []
+            at = public_at(path, owner or call[2]) if call[1] or (owner and is_trait) else None
+            name, clauses = None, []
+            if at is not None:
+                name = f"{owner}::{call[2]}" if owner else "::".join([file.parts[len(TOP.parts) + 1], *at, call[2]])
         elif name and text in ("{", "}"):
             if clauses:
                 yield name, clauses
@@ -108,14 +123,15 @@ def note_contracts(words, crate):
     """Notes at each word which contracts of a crate name it."""
     if not (TOP / "crates" / crate / "src" / "lib.rt").is_file():
         return
-    is_exported = exported_by(crate)
-    for file in sorted((TOP / "crates" / crate / "src").rglob("*.rt")):
+    public_at, folder = exported_by(crate), TOP / "crates" / crate / "src"
+    for file in sorted(folder.rglob("*.rt")):
+        path = file.relative_to(folder).with_suffix("").parts
         imported = {}
         for line in file.read_text().splitlines():
             if found := USE.match(line):
                 for name in found[3].split(","):
                     imported[name.strip()] = (found[1], found[2], name.strip())
-        for call, clauses in contracts_in(file, is_exported):
+        for call, clauses in contracts_in(file, () if path == ("lib",) else path, public_at):
             for name in sorted(set(re.findall(r"[A-Za-z_]\w*", " ".join(clauses)))):
                 word = words.get(imported.get(name))
                 if word and f"`{call}`" not in word.named_by:

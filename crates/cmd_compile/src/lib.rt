@@ -3,6 +3,7 @@
 
 mod compile;
 mod compile_faults;
+pub mod diagnostics;
 
 pub use crate::compile::{compile_run, text_of};
 pub use crate::compile_faults::{TreesFault, tell_trees};

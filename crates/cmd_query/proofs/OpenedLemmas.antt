@@ -12,11 +12,11 @@ use Rattle.rc_script.specs.declared.script.ScriptFault.TheVariants as script
 use Rattle.rc_streams.specs.Input.{AppendsFront, FailsWith, IsCause, failure_text, fault_line}
 use Rattle.rc_streams.specs.declared.input.Failure.{Failure}
 use Rattle.rc_streams.specs.declared.input.Failure.TheVariants as failures
-use Rattle.rc_input.specs.Base.{IsTextFault, Spells}
-use Rattle.rc_input.specs.Opening.{IsOpenFault, IsWrongBase, Opens}
-use Rattle.rc_input.specs.declared.opening.OpenFault.{OpenFault}
-use Rattle.rc_input.specs.declared.opening.OpenFault.TheVariants as unopened
-use Rattle.rc_input.proofs.OpeningLemmas.{refused_in}
+use Rattle.rc_dbtext.specs.Base.{IsTextFault, Spells}
+use Rattle.rc_dbtext.specs.Opening.{IsOpenFault, IsWrongBase, Opens}
+use Rattle.rc_dbtext.specs.declared.opening.OpenFault.{OpenFault}
+use Rattle.rc_dbtext.specs.declared.opening.OpenFault.TheVariants as unopened
+use Rattle.rc_dbtext.proofs.OpeningLemmas.{refused_in}
 use Rattle.cmd_query.specs.PlanFaults.{IsTextRefusal}
 use Rattle.cmd_query.specs.Replay.{IsReplayRefused, IsScriptAs, IsTextAs}
 use Rattle.cmd_query.specs.declared.plan.PlanFault.{PlanFault}

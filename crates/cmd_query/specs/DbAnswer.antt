@@ -23,7 +23,7 @@ use Rattle.rc_livetext.specs.declared.fault.LiveFault.TheVariants as live
 use Rattle.rc_livetext.specs.Spelling as texts
 use Rattle.rc_render.specs.DotText.{dot_text}
 use Rattle.rc_render.specs.Lines.{line, name_lines, names_at}
-use Rattle.rc_input.specs.Base.{Spells}
+use Rattle.rc_dbtext.specs.Base.{Spells}
 use Rattle.rc_args.specs.DbAsked.{AsksDb, DbAsk}
 use Rattle.rc_args.specs.Query.{Check, Dot, ListOf, OfName, OfNames, Question}
 use Rattle.rc_cmdline.specs.declared.query_words.NameQuery.{NameQuery}

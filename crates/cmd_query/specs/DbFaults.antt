@@ -7,10 +7,10 @@ use Rattle.rc_db.specs.declared.fault.QueryFault.{QueryFault}
 use Rattle.rc_db.specs.declared.fault.QueryFault.TheVariants as wrong
 use Rattle.rc_dbtext.specs.declared.fault.TextFault.{TextFault}
 use Rattle.rc_dbtext.specs.declared.fault.TextFault.TheVariants as text
-use Rattle.rc_input.specs.Base.{IsTextFault, Spells}
-use Rattle.rc_input.specs.LiveFaultWord.{live_word}
-use Rattle.rc_input.specs.TextFaultWord.{text_word}
-use Rattle.rc_input.specs.UnknownWord.{unknown_word}
+use Rattle.rc_dbtext.specs.Base.{IsTextFault, Spells}
+use Rattle.rc_livetext.specs.LiveFaultWord.{live_word}
+use Rattle.rc_dbtext.specs.TextFaultWord.{text_word}
+use Rattle.rc_render.specs.UnknownWord.{unknown_word}
 use Rattle.rc_livetext.specs.declared.fault.LiveFault.{LiveFault}
 use Rattle.rc_livetext.specs.declared.fault.LiveFault.TheVariants as live
 use Rattle.rc_args.specs.DbAsked.{AsksDb, DbAsk}

@@ -16,8 +16,8 @@ use Rattle.cmd_query.specs.declared.plan.PlanFault.TheVariants.{Bad, Version, No
 use Rattle.cmd_query.specs.declared.plan.PlanFault.TheVariants.{TooMany, Dangling, Unknown}
 use Rattle.cmd_query.specs.declared.plan.PlanFault.TheVariants.{NotClosed, PruneNeedsUp, Memory}
 use Rattle.rc_args.specs.Asked.{plan_asked}
-use Rattle.rc_input.specs.Base.{IsTextFault, Spells}
-use Rattle.rc_input.specs.UnknownWord.{unknown_word}
+use Rattle.rc_dbtext.specs.Base.{IsTextFault, Spells}
+use Rattle.rc_render.specs.UnknownWord.{unknown_word}
 use Rattle.rc_streams.specs.Input.{AppendsFront, fault_line}
 use Rattle.cmd_query.specs.Named.{AreNamed, IsFirstUnknown, IsNamed, word_lines}
 use Rattle.cmd_query.specs.PlanText.{AreUp}

@@ -6,7 +6,7 @@ use Rattle.rc_model.specs.Database.{Database}
 use Rattle.rc_model.specs.Plan.{PlanSets, Ask, IsPlanOf, CanPlan}
 use Rattle.rc_render.specs.PlanText.{IsPlanText}
 use Rattle.rc_args.specs.Asked.{plan_asked}
-use Rattle.rc_input.specs.Base.{Spells}
+use Rattle.rc_dbtext.specs.Base.{Spells}
 use Rattle.cmd_query.specs.Named.{AreNamed, IsNamed, word_lines}
 
 -- the words name services that are up, with all that they need

@@ -9,8 +9,8 @@ use Rattle.rc_script.specs.declared.script.ScriptFault.{ScriptFault}
 use Rattle.rc_script.specs.declared.script.ScriptFault.TheVariants as script
 use Rattle.cmd_query.specs.Played.{IsReplay}
 use Rattle.rc_streams.specs.Input.{AppendsFront, fault_line}
-use Rattle.rc_input.specs.Base.{IsTextFault, Spells}
-use Rattle.rc_input.specs.TextFaultWord.{text_word}
+use Rattle.rc_dbtext.specs.Base.{IsTextFault, Spells}
+use Rattle.rc_dbtext.specs.TextFaultWord.{text_word}
 use Rattle.cmd_query.specs.declared.replay.ReplayFault.{ReplayFault}
 use Rattle.cmd_query.specs.declared.replay.ReplayFault.TheVariants.{OfText, BadLine, Memory}
 

@@ -2,7 +2,7 @@
 ghost use Rattle.std.specs.Prelude.{◌≡◌, ◌≢◌, ◌⊎◌, ◌<◌, ◌≤◌, ◌+◌, None, length, map, string_bytes};
 ghost use Rattle.std.specs.Prelude.{vec_len, IfErr, IfOk, IsSome, OnOk};
 ghost use Rattle.std.specs.Io.KnownBytes.{IsAtEnd};
-ghost use Rattle.rc_input.specs.Base.{bytes_of};
+ghost use Rattle.rc_dbtext.specs.Base.{bytes_of};
 ghost use Rattle.cmd_query.specs.DbAnswer.{IsAnswerFor, IsDbAnswer};
 ghost use Rattle.rc_args.specs.DbAsked.{AsksNothing, AsksSomething, db_ask_of};
 ghost use Rattle.cmd_query.specs.DbFaults.{IfRead, IsDbRefused, TellsAnswerFault, TellsDbFault};
@@ -13,7 +13,7 @@ ghost use Rattle.rc_streams.specs.Noting.{HasFailed, inner_of};
 use crate::db_answer::answer_to;
 use crate::db_fault::{DbFault, tell_db_fault};
 use rc_args::{DbRequest, db_asked, tell_words};
-use rc_input::database_of;
+use rc_dbtext::database_of;
 use rc_streams::ending::{fail, write_answer};
 use rc_streams::{Failure, MAX_INPUT, Noted, read_all};
 use std::alloc::Global;

@@ -2,7 +2,7 @@
 ghost use Rattle.std.specs.Prelude.{◌≡◌, None, Some, [], map, string_bytes, All, IfErr, IfOk, OnOk};
 ghost use Rattle.rc_render.specs.DotText.{dot_text};
 ghost use Rattle.rc_render.specs.Lines.{line};
-ghost use Rattle.rc_input.specs.Base.{bytes_of};
+ghost use Rattle.rc_dbtext.specs.Base.{bytes_of};
 ghost use Rattle.rc_model.specs.Line.{Lists};
 ghost use Rattle.rc_model.specs.Database.{IsKnown, Selected};
 ghost use Rattle.rc_db.specs.QueryFaults.{AnyName, IsNamesFault, IsQueryFault, OfBundle, OfLongrun};

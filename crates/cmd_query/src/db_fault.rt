@@ -9,9 +9,9 @@ ghost use Rattle.cmd_query.specs.declared.db_fault.DbFault.TheVariants.{Memory};
 
 use rc_args::Query;
 use rc_db::{NoMem, QueryFault};
-use rc_dbtext::TextFault;
-use rc_input::{live_word, text_word, unknown_word};
-use rc_livetext::LiveFault;
+use rc_dbtext::{TextFault, text_word};
+use rc_livetext::{LiveFault, live_word};
+use rc_render::unknown_word;
 use rc_streams::ending::{REFUSED, fail};
 use rc_streams::{Failure, tell};
 use std::alloc::{AllocError, Global};

@@ -24,8 +24,8 @@ use Rattle.rc_serve.specs.Meeting.{Doing, IsDoneBy}
 use Rattle.rc_serve.specs.SessionText.{IsDoneFailing}
 use Rattle.rc_args.specs.Programs.{ByPrograms, ByTable, MakingAsk, listed_in}
 use Rattle.rc_args.specs.SessionAsked.{SessionAsk}
-use Rattle.rc_input.specs.Base.{Spells}
-use Rattle.rc_input.specs.Opening.{Reads}
+use Rattle.rc_dbtext.specs.Base.{Spells}
+use Rattle.rc_dbtext.specs.Opening.{Reads}
 use Rattle.cmd_session.specs.Filing.{BeginsWith, CannotKeep, FailsToBegin, file_named}
 use Rattle.cmd_session.specs.Gating.{IsGateFor, IsGateless}
 use Rattle.cmd_session.specs.Services.{ComesFor, IsDoneFor, Lets, OfLines, RunsGated, Served}

@@ -3,8 +3,8 @@ use Rattle.std.specs.Prelude.{◌≡◌, ℕ, List, [], Option, None, Some}
 use Rattle.rc_model.specs.Database.{Database}
 use Rattle.rc_streams.specs.Exchange.{Exchange, exchanged}
 use Rattle.rc_streams.specs.declared.noted.Noted.{Noted}
-use Rattle.rc_input.specs.Base.{Spells, bytes_of}
-use Rattle.rc_input.specs.Opening.{Reads}
+use Rattle.rc_dbtext.specs.Base.{Spells, bytes_of}
+use Rattle.rc_dbtext.specs.Opening.{Reads}
 use Rattle.rc_args.specs.SessionAsked.{SessionAsk, session_ask_of}
 use Rattle.cmd_session.specs.Filing.{Filing, filing_of}
 use Rattle.cmd_session.specs.Services.{RunsFor, Served}

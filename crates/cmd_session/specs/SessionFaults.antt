@@ -11,11 +11,11 @@ use Rattle.rc_dbtext.specs.declared.fault.TextFault.TheVariants as text
 use Rattle.rc_streams.specs.declared.input.Failure.{Failure}
 use Rattle.rc_streams.specs.declared.input.Failure.TheVariants as failures
 use Rattle.rc_streams.specs.Input.{AppendsFront, fault_line}
-use Rattle.rc_input.specs.Base.{IsTextFault, Spells}
-use Rattle.rc_input.specs.Opening.{Reads}
-use Rattle.rc_input.specs.LiveFaultWord.{live_word}
-use Rattle.rc_input.specs.TextFaultWord.{text_word}
-use Rattle.rc_input.specs.UnknownWord.{unknown_word}
+use Rattle.rc_dbtext.specs.Base.{IsTextFault, Spells}
+use Rattle.rc_dbtext.specs.Opening.{Reads}
+use Rattle.rc_livetext.specs.LiveFaultWord.{live_word}
+use Rattle.rc_dbtext.specs.TextFaultWord.{text_word}
+use Rattle.rc_render.specs.UnknownWord.{unknown_word}
 use Rattle.rc_serve.specs.Faults.{IsServeFault}
 use Rattle.rc_serve.specs.declared.ending.Ending.{Ending}
 use Rattle.rc_serve.specs.declared.ending.Ending.TheVariants.{Done, Refused, Hindered}

@@ -3,7 +3,7 @@
 ghost use Rattle.std.specs.Prelude.{◌≡◌, ◌+◌, IfErr, IfOk};
 ghost use Rattle.rc_streams.specs.Input.{AppendsFront, ConsumesAtMost, fault_line};
 ghost use Rattle.rc_streams.specs.Noting.{HasFailed, inner_of};
-ghost use Rattle.rc_input.specs.Base.{Spells, bytes_of};
+ghost use Rattle.rc_dbtext.specs.Base.{Spells, bytes_of};
 ghost use Rattle.rc_args.specs.SessionAsked.{session_ask_of};
 ghost use Rattle.cmd_session.specs.Filing.{CannotKeep};
 ghost use Rattle.cmd_session.specs.Launching.{Launches};
@@ -24,7 +24,7 @@ use crate::session_fault::{SessionFault, tell_session_fault};
 use log::Log;
 use rc_args::SessionRequest;
 use rc_db::Db;
-use rc_input::database_of;
+use rc_dbtext::database_of;
 use rc_serve::{Ending, ServeFault};
 use rc_streams::ending::{DONE, REFUSED};
 use rc_streams::{Failure, MAX_INPUT, Noted, read_all};

@@ -2,7 +2,7 @@
 ghost use Rattle.std.specs.Prelude.{◌≡◌, ◌+◌, map, string_bytes};
 ghost use Rattle.rc_streams.specs.Noting.{HasFailed, inner_of};
 ghost use Rattle.rc_streams.specs.Input.{AppendsFront, ConsumesAtMost, fault_line};
-ghost use Rattle.rc_input.specs.Base.{bytes_of};
+ghost use Rattle.rc_dbtext.specs.Base.{bytes_of};
 ghost use Rattle.cmd_session.specs.Launching.{LaunchesAsked};
 ghost use Rattle.cmd_session.specs.Session.{dealt};
 ghost use Rattle.cmd_session.specs.SessionFaults.{serve_word};

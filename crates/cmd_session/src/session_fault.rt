@@ -9,9 +9,9 @@ ghost use Rattle.rc_serve.specs.declared.fault.ServeFault.TheVariants.{Memory};
 
 use crate::failing::GateFault;
 use rc_db::NoMem;
-use rc_dbtext::TextFault;
-use rc_input::{live_word, text_word, unknown_word};
-use rc_livetext::LiveFault;
+use rc_dbtext::{TextFault, text_word};
+use rc_livetext::{LiveFault, live_word};
+use rc_render::unknown_word;
 use rc_serve::ServeFault;
 use rc_streams::ending::{FAILED, REFUSED};
 use rc_streams::tell;

@@ -12,7 +12,7 @@ use Rattle.rc_model.specs.Database.{Database, IsDatabase}
 use Rattle.rc_model.specs.Line.{Line}
 use Rattle.rc_model.specs.Session.{Command, IsLineOf}
 use Rattle.rc_model.proofs.ByteOrder.{same_names}
-use Rattle.rc_input.specs.Base.{Spells}
+use Rattle.rc_dbtext.specs.Base.{Spells}
 use Rattle.rc_livetext.specs.Spelling.{Spells as SpellsLine}
 use Rattle.rc_dbtext.specs.Spelling.{spelling as spelling_of}
 use Rattle.rc_db.specs.Database.{IsWritable}

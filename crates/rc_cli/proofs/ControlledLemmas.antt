@@ -14,7 +14,7 @@ use Rattle.rc_session.proofs.Excluding.{one_set, one_task, task_not_own}
 use Rattle.rc_args.specs.OnceAsked.{OnceSaying}
 use Rattle.rc_args.specs.SessionAsked.{SessionAsk}
 use Rattle.rc_args.specs.UpdateAsked.{UpdateAsk}
-use Rattle.rc_input.specs.Base.{Spells}
+use Rattle.rc_dbtext.specs.Base.{Spells}
 use Rattle.rc_db.specs.Database.{IsWritable}
 use Rattle.rc_dbtext.specs.Spelling.{spelling as spelling_of}
 use Rattle.rc_livetext.specs.Spelling.{Spells as SpellsLine}

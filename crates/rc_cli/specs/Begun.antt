@@ -5,7 +5,7 @@ use Rattle.rc_model.specs.Database.{Database}
 use Rattle.rc_model.specs.Line.{Line}
 use Rattle.rc_model.specs.declared.Mode.TheVariants.{DownAll}
 use Rattle.rc_model.specs.Session.{Change, Command, IsLineOf}
-use Rattle.rc_input.specs.Base.{Spells}
+use Rattle.rc_dbtext.specs.Base.{Spells}
 use Rattle.rc_livetext.specs.Spelling.{Spells as SpellsLine}
 use Rattle.rc_script.specs.RunLines.{IsStepLine, least_limited}
 use Rattle.rc_update.specs.Carrying.{AreNamesOf, IsAlteredUp}

@@ -11,7 +11,7 @@ use Rattle.rc_args.specs.OnceAsked.{OnceSaying, Said}
 use Rattle.rc_args.specs.Programs.{ByPrograms, ByTable, MakingAsk}
 use Rattle.rc_args.specs.SessionAsked.{SessionAsk}
 use Rattle.rc_args.specs.UpdateAsked.{UpdateAsk}
-use Rattle.rc_input.specs.Base.{Spells}
+use Rattle.rc_dbtext.specs.Base.{Spells}
 use Rattle.cmd_session.specs.Filing.{BeginsBy, file_named}
 use Rattle.cmd_session.specs.declared.keeping.LiveFile.{LiveFile}
 use Rattle.rc_update.specs.Knowing.{AreKnown}

@@ -11,7 +11,7 @@ use Rattle.rc_serve.specs.declared.ending.Ending.TheVariants.{Done}
 use Rattle.rc_serve.specs.declared.fault.ServeFault.{ServeFault}
 use Rattle.rc_serve.specs.declared.fault.ServeFault.TheVariants.{Write}
 use Rattle.rc_serve.specs.Faults.{IsServeFault}
-use Rattle.rc_input.specs.Base.{Spells}
+use Rattle.rc_dbtext.specs.Base.{Spells}
 use Rattle.cmd_session.specs.Filing.{BeginsBy}
 use Rattle.cmd_session.specs.Serving.{IsOfFile, session_on}
 use Rattle.cmd_session.specs.SessionFaults.{EndsAs, IsFileFault, IsUndone, IsUnspelled}

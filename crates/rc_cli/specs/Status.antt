@@ -16,7 +16,7 @@ use Rattle.rc_model.specs.Run.{after_event, is_success}
 use Rattle.rc_render.specs.Lines.{line}
 use Rattle.rc_render.specs.RefusalText.{refusal_text}
 use Rattle.rc_recovery.specs.Logged.{AreLogged}
-use Rattle.rc_input.specs.Base.{Spells}
+use Rattle.rc_dbtext.specs.Base.{Spells}
 use Rattle.rc_streams.specs.Input.{AppendsFront}
 use Rattle.rc_serve.specs.declared.fault.ServeFault.TheVariants.{Memory, Write}
 use Rattle.rc_args.specs.NamedAsked.{NamedAsk}

@@ -10,7 +10,7 @@ use Rattle.rc_serve.specs.Faults.{IsServeFault}
 use Rattle.rc_args.specs.Programs.{MakingAsk, listed_in}
 use Rattle.rc_args.specs.UpdateAsked.{UpdateAsk}
 use Rattle.rc_update.specs.Knowing.{AreKnown, IsFirstStranger}
-use Rattle.rc_input.specs.Base.{Spells}
+use Rattle.rc_dbtext.specs.Base.{Spells}
 use Rattle.cmd_session.specs.Filing.{BeginsBy, CannotKeep, FailsToBegin, IsFileRefused, file_named}
 use Rattle.cmd_session.specs.Finding.{IsFirstUnknown}
 use Rattle.cmd_session.specs.Serving.{session_on}

@@ -1,7 +1,7 @@
 //! Whether a command that was cut short is the first step of an update.
 ghost use Rattle.std.specs.Prelude.{◌≡◌, ◌≢◌, ◌++◌, ◌∷◌, ◌↔◌, [], ℕ, List, All, IsTrue, IfOk};
 ghost use Rattle.std.specs.Prelude.{IfNone, IfSome, MatchOption, Some, map, string_bytes};
-ghost use Rattle.rc_input.specs.Base.{Spells};
+ghost use Rattle.rc_dbtext.specs.Base.{Spells};
 ghost use Rattle.rc_model.specs.Database.{Database};
 ghost use Rattle.rc_model.specs.Line.{Line};
 ghost use Rattle.rc_model.specs.Session.{IsLineOf};
@@ -12,8 +12,7 @@ ghost use Rattle.rc_cli.specs.Begun.{AreLowered, BeginsOn, BeginsUpdate, SaysLow
 
 use memchr::memchr;
 use rc_db::Db;
-use rc_dbtext::{TextFault, laws as text_laws};
-use rc_input::database_of;
+use rc_dbtext::{TextFault, database_of, laws as text_laws};
 use rc_livetext::{LiveFault, laws as live_laws, read_live};
 use rc_script::laws::lines_say_one_thing;
 use rc_script::{SessionLine, read_line};

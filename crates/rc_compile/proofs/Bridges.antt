@@ -9,9 +9,9 @@ use Rattle.rc_model.specs.declared.Kind.TheVariants.{Oneshot, Longrun, Bundle}
 use Rattle.rc_source.specs.Meaning.{Meaning, AreMeanings}
 use Rattle.rc_source.proofs.Members.{Contains-cons_cases, Contains-there, Contains-here}
 use Rattle.rc_source.proofs.Members.{Contains-nil}
-use Rattle.rc_members.specs.Pipelines.{IsDefined, IsLongrun, WritesTo, ReadsFrom}
-use Rattle.rc_members.specs.Sets.{ArePiped, AreApart}
-use Rattle.rc_members.proofs.Meanings.{only_one}
+use Rattle.rc_compile.specs.Pipelines.{IsDefined, IsLongrun, WritesTo, ReadsFrom}
+use Rattle.rc_compile.specs.Sets.{ArePiped, AreApart}
+use Rattle.rc_compile.proofs.Meanings.{only_one}
 use Rattle.rc_compile.specs.CompileFaults.{HasWrongType, HasNoMatch, HasTakenName}
 
 pub same_or_other : (a b : List ℕ) → (a ≡ b) ⊎ (a ≢ b)

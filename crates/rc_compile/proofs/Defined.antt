@@ -6,7 +6,7 @@ use Rattle.std.proofs.lemmas.Option.{slice_get_within, get_or_from_slice_get}
 use Rattle.rc_model.specs.declared.Kind.{Kind}
 use Rattle.rc_model.specs.declared.Kind.TheVariants.{Oneshot, Longrun, Bundle}
 use Rattle.rc_source.specs.Meaning.{Meaning, AreMeanings, IsMeaning}
-use Rattle.rc_members.specs.Pipelines.{IsService, WritesTo, ReadsFrom}
+use Rattle.rc_compile.specs.Pipelines.{IsService, WritesTo, ReadsFrom}
 
 -- two meanings at different places have different names
 pub apart : (ms : List Meaning) → AllPairs (λ a b. a.name ≢ b.name) ms → (i j : ℕ) (a b : Meaning)

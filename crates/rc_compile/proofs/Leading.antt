@@ -3,9 +3,9 @@ use Rattle.std.proofs.Common.{◌≡◌, ℕ, inl, List, Contains, refl}
 use Rattle.rc_source.specs.Meaning.{Meaning}
 use Rattle.rc_compile.specs.declared.CompileFault.{CompileFault}
 use Rattle.rc_compile.specs.declared.CompileFault.TheVariants as fault
-use Rattle.rc_members.specs.Pipelines.{IsDefined, IsService, IsLongrun, WritesTo, InPipelineOf}
-use Rattle.rc_members.specs.Standing.{HoldsName, StandsFor, NeedsNamed}
-use Rattle.rc_members.proofs.Stands.{step_leads}
+use Rattle.rc_compile.specs.Pipelines.{IsDefined, IsService, IsLongrun, WritesTo, InPipelineOf}
+use Rattle.rc_compile.specs.Standing.{HoldsName, StandsFor, NeedsNamed}
+use Rattle.rc_compile.proofs.Stands.{step_leads}
 use Rattle.rc_compile.specs.declared.flaws.EntryFlaw.{EntryFlaw}
 use Rattle.rc_compile.specs.declared.flaws.EntryFlaw.TheVariants.{PipelineType, PipelineMismatch}
 use Rattle.rc_compile.specs.declared.flaws.EntryFlaw.TheVariants.{PipelineName}

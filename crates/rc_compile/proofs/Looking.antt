@@ -6,9 +6,9 @@ use Rattle.rc_model.specs.Graph.{Needs}
 use Rattle.rc_model.proofs.Places.{contains_at, place_of}
 use Rattle.rc_source.specs.Meaning.{Meaning}
 use Rattle.rc_source.proofs.Members.{only, Contains-here, Contains-nil}
-use Rattle.rc_members.specs.Mirror.{HasListed, Mirrors}
-use Rattle.rc_members.specs.declared.rows.Listed.TheVariants.{Producer}
-use Rattle.rc_members.specs.Pipelines.{WritesTo}
+use Rattle.rc_compile.specs.Mirror.{HasListed, Mirrors}
+use Rattle.rc_compile.specs.declared.members.rows.Listed.TheVariants.{Producer}
+use Rattle.rc_compile.specs.Pipelines.{WritesTo}
 use Rattle.rc_compile.specs.Book.{HasPair}
 
 -- what an option lists

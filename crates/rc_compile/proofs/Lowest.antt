@@ -10,7 +10,7 @@ use Rattle.rc_model.specs.Names.{IsBefore}
 use Rattle.rc_model.proofs.ByteOrder.{not_before_itself}
 use Rattle.rc_db.proofs.Listing.{less_from}
 use Rattle.rc_model.proofs.Places.{contains_at, place_of}
-use Rattle.rc_members.specs.Along.{IsLeast}
+use Rattle.rc_compile.specs.Along.{IsLeast}
 
 -- none of the first so many names stands before the one at a place
 pub record IsLowest (names : List (List ℕ)) (count least : ℕ) : Type 0 where

@@ -7,12 +7,12 @@ use Rattle.rc_model.proofs.SetMembers.{has_within}
 use Rattle.rc_model.specs.Graph.{Needs}
 use Rattle.rc_model.proofs.Places.{contains_at, place_of}
 use Rattle.rc_source.specs.Meaning.{Meaning, AreMeanings}
-use Rattle.rc_members.specs.Along.{EachNext}
-use Rattle.rc_members.specs.Mirror.{AreAt, HasListed, Mirrors}
-use Rattle.rc_members.specs.declared.rows.Listed.TheVariants.{Dependencies, Producer}
-use Rattle.rc_members.specs.Pipelines.{IsService}
-use Rattle.rc_members.specs.Standing.{IsBundle, HoldsName, StandsFor, NeedsNamed}
-use Rattle.rc_members.proofs.Meanings.{holder_is_bundle}
+use Rattle.rc_compile.specs.Along.{EachNext}
+use Rattle.rc_compile.specs.Mirror.{AreAt, HasListed, Mirrors}
+use Rattle.rc_compile.specs.declared.members.rows.Listed.TheVariants.{Dependencies, Producer}
+use Rattle.rc_compile.specs.Pipelines.{IsService}
+use Rattle.rc_compile.specs.Standing.{IsBundle, HoldsName, StandsFor, NeedsNamed}
+use Rattle.rc_compile.proofs.Meanings.{holder_is_bundle}
 use Rattle.rc_compile.proofs.Looking.{option_listed}
 
 -- a path has a first step

@@ -16,8 +16,8 @@ use Rattle.rc_source.specs.Meaning.{Meaning, ListsNames}
 use Rattle.rc_source.proofs.Members.{Contains-cons_cases, Contains-there, Contains-here}
 use Rattle.rc_source.proofs.Members.{Contains-nil}
 use Rattle.rc_model.proofs.ByteOrder.{same_names}
-use Rattle.rc_members.specs.Pipelines.{IsService}
-use Rattle.rc_members.specs.Standing.{IsBundle}
+use Rattle.rc_compile.specs.Pipelines.{IsService}
+use Rattle.rc_compile.specs.Standing.{IsBundle}
 use Rattle.rc_model.proofs.BundleOrders.{contains_at, one_place}
 use Rattle.rc_compile.specs.Compiled.{IsAsDefined, IsDatabaseOf}
 

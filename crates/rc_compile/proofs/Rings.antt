@@ -4,8 +4,8 @@ use Rattle.std.specs.Prelude.{Some, slice_get}
 use Rattle.rc_model.specs.Graph.{Reaches}
 use Rattle.rc_model.specs.Database.{Database, IsDatabase}
 use Rattle.rc_source.specs.Meaning.{Meaning}
-use Rattle.rc_members.specs.Along.{EachNext, IsShownCycle}
-use Rattle.rc_members.specs.Standing.{NeedsNamed}
+use Rattle.rc_compile.specs.Along.{EachNext, IsShownCycle}
+use Rattle.rc_compile.specs.Standing.{NeedsNamed}
 use Rattle.rc_model.proofs.BundleOrders.{place_of}
 use Rattle.rc_compile.specs.Compiled.{IsDatabaseOf}
 

@@ -7,7 +7,7 @@ use Rattle.rc_model.specs.Names.{IsInByteOrder, Has, Holds}
 use Rattle.rc_model.proofs.ByteOrder.{one_place}
 use Rattle.rc_model.proofs.Places.{contains_at, place_of}
 use Rattle.rc_source.specs.Meaning.{Meaning}
-use Rattle.rc_members.specs.Standing.{IsBundle}
+use Rattle.rc_compile.specs.Standing.{IsBundle}
 use Rattle.rc_compile.specs.declared.tables.Which.TheVariants.{Bundles}
 use Rattle.rc_compile.specs.Given.{Gives}
 use Rattle.rc_compile.specs.Book.{GivesAt, HasNamed, IsShared}

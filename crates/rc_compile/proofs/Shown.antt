@@ -4,13 +4,13 @@ use Rattle.std.proofs.Common.{Contains, Some, refl, sym, ap, subst, arith}
 use Rattle.std.proofs.lemmas.Bool.{cases_lt}
 use Rattle.std.proofs.lemmas.Option.{same_Some}
 use Rattle.rc_model.specs.declared.Kind.TheVariants.{Longrun, Bundle}
-use Rattle.rc_members.specs.Rows.{rows}
+use Rattle.rc_compile.specs.Rows.{rows}
 use Rattle.rc_model.proofs.Places.{contains_at, place_of}
 use Rattle.rc_source.specs.Meaning.{Meaning, AreMeanings}
-use Rattle.rc_members.specs.Along.{IsLeast}
-use Rattle.rc_members.specs.Pipelines.{IsService, IsLongrun, WritesTo, ReadsFrom, NamesPipeline}
-use Rattle.rc_members.specs.Standing.{IsKnown}
-use Rattle.rc_members.proofs.Meanings.{only_one, longrun_is_service}
+use Rattle.rc_compile.specs.Along.{IsLeast}
+use Rattle.rc_compile.specs.Pipelines.{IsService, IsLongrun, WritesTo, ReadsFrom, NamesPipeline}
+use Rattle.rc_compile.specs.Standing.{IsKnown}
+use Rattle.rc_compile.proofs.Meanings.{only_one, longrun_is_service}
 use Rattle.rc_compile.specs.declared.book.Book.{Book}
 use Rattle.rc_compile.specs.declared.scan.Sought.TheVariants.{Unknown}
 use Rattle.rc_compile.specs.declared.tables.Which.TheVariants.{Bundles}

@@ -15,8 +15,8 @@ use Rattle.rc_model.specs.Database.{Bundles, names_of, value_of, HaveBound, IsTa
 use Rattle.rc_db.proofs.Words.{value_of-named}
 use Rattle.rc_db.proofs.Values.{named_by_value}
 use Rattle.rc_model.proofs.ByteOrder.{order_head, order_tail, same_names}
-use Rattle.rc_members.specs.Joining.{AllWithin}
-use Rattle.rc_members.specs.Sets.{AreSetsOf}
+use Rattle.rc_compile.specs.Joining.{AllWithin}
+use Rattle.rc_compile.specs.Sets.{AreSetsOf}
 use Rattle.rc_model.proofs.BundleOrders.{one_place, place_of, irreflexive}
 use Rattle.rc_compile.proofs.Bridges.{same_or_other}
 

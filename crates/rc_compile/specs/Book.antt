@@ -3,10 +3,10 @@ use Rattle.std.specs.Prelude.{◌≡◌, ◌<◌, ◌↔◌, ◌⊎◌, ℕ, Boo
 use Rattle.rc_model.specs.declared.Kind.TheVariants.{Longrun}
 use Rattle.rc_model.specs.Names.{Has, Holds}
 use Rattle.rc_model.specs.Graph.{Needs}
-use Rattle.rc_members.specs.Rows.{rows}
+use Rattle.rc_compile.specs.Rows.{rows}
 use Rattle.rc_source.specs.Meaning.{Meaning}
-use Rattle.rc_members.specs.Pipelines.{IsDefined, IsService, WritesTo, NamesPipeline}
-use Rattle.rc_members.specs.Standing.{IsBundle}
+use Rattle.rc_compile.specs.Pipelines.{IsDefined, IsService, WritesTo, NamesPipeline}
+use Rattle.rc_compile.specs.Standing.{IsBundle}
 use Rattle.rc_compile.specs.declared.book.Book.{Book}
 use Rattle.rc_compile.specs.declared.scan.Sought.{Sought}
 use Rattle.rc_compile.specs.declared.scan.Sought.TheVariants.{Unknown, Flawed}

@@ -7,10 +7,10 @@ use Rattle.rc_compile.specs.declared.CompileFault.TheVariants as fault
 use Rattle.rc_compile.specs.declared.flaws.EntryFlaw.{EntryFlaw}
 use Rattle.rc_compile.specs.declared.flaws.EntryFlaw.TheVariants.{PipelineType, PipelineMismatch}
 use Rattle.rc_compile.specs.declared.flaws.EntryFlaw.TheVariants.{PipelineName}
-use Rattle.rc_members.specs.Along.{IsShownCycle, IsLeast}
-use Rattle.rc_members.specs.Pipelines.{IsDefined, IsService, IsLongrun, WritesTo, ReadsFrom}
-use Rattle.rc_members.specs.Pipelines.{NamesPipeline}
-use Rattle.rc_members.specs.Standing.{IsBundle, IsKnown, HasContent, NeedsNamed}
+use Rattle.rc_compile.specs.Along.{IsShownCycle, IsLeast}
+use Rattle.rc_compile.specs.Pipelines.{IsDefined, IsService, IsLongrun, WritesTo, ReadsFrom}
+use Rattle.rc_compile.specs.Pipelines.{NamesPipeline}
+use Rattle.rc_compile.specs.Standing.{IsBundle, IsKnown, HasContent, NeedsNamed}
 
 -- more than 4,096 names of which this holds
 abbrev pub AreTooMany : (List ℕ → Type 0) → Type 0

@@ -4,8 +4,8 @@ use Rattle.rc_model.specs.Names.{Has}
 use Rattle.rc_model.specs.Graph.{Needs}
 use Rattle.rc_model.specs.Database.{Service, names_of, value_of, Database}
 use Rattle.rc_source.specs.Meaning.{Meaning, ListsNames}
-use Rattle.rc_members.specs.Pipelines.{IsService}
-use Rattle.rc_members.specs.Standing.{IsBundle, StandsFor, NeedsNamed}
+use Rattle.rc_compile.specs.Pipelines.{IsService}
+use Rattle.rc_compile.specs.Standing.{IsBundle, StandsFor, NeedsNamed}
 
 -- the service is as the files say; the one that it writes to is a place among the names
 pub record IsAsDefined (names : List (List ℕ)) (m : Meaning) (service : Service) : Type 0 where

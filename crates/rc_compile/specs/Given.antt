@@ -2,8 +2,8 @@
 use Rattle.std.specs.Prelude.{◌≡◌, ◌≢◌, ◌≤◌, ◌⊎◌, ℕ, List, length, Contains}
 use Rattle.rc_model.specs.declared.Kind.TheVariants.{Bundle}
 use Rattle.rc_source.specs.Meaning.{Meaning}
-use Rattle.rc_members.specs.Pipelines.{IsService, NamesPipeline}
-use Rattle.rc_members.specs.Standing.{IsBundle}
+use Rattle.rc_compile.specs.Pipelines.{IsService, NamesPipeline}
+use Rattle.rc_compile.specs.Standing.{IsBundle}
 use Rattle.rc_compile.specs.declared.tables.Which.{Which}
 use Rattle.rc_compile.specs.declared.tables.Which.TheVariants.{Services, Bundles}
 

@@ -1,5 +1,23 @@
 -- The definitions of rc_compile, in reading order.
 
+-- Lists of names that lead from one to another by a relation, and their cycles.
+pub mod Along
+-- Services, longruns and pipelines among definitions, and which name a pipeline has.
+pub mod Pipelines
+-- What a name stands for among definitions, and which service needs which by name.
+pub mod Standing
+-- Relations between names, as lists of ids for the places of the names.
+pub mod Mirror
+-- When bundles have no graph, because they hold one another in a cycle.
+pub mod CycleFaults
+-- One step of a walk: a list is met, and what of it is new is left to follow.
+pub mod Walking
+-- Sets that are joined along the lists of a graph.
+pub mod Joining
+-- Definitions whose pipes and names fit, and the sets of services of their bundles.
+pub mod Sets
+-- The lists that vectors of vectors hold.
+pub mod Rows
 -- The names that a definition gives to services and bundles, and when a table of names is full.
 pub mod Given
 -- The database that definitions make.

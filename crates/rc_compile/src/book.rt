@@ -2,15 +2,15 @@
 ghost use Rattle.std.specs.Prelude.{◌↔◌, ℕ, List, map, Contains, IfOk, IfErr, OnOk};
 ghost use Rattle.rc_source.specs.Meaning.{AreMeanings};
 ghost use Rattle.rc_source.specs.Said.{meaning_of};
-ghost use Rattle.rc_members.specs.Pipelines.{IsService};
-ghost use Rattle.rc_members.specs.Standing.{IsBundle};
+ghost use Rattle.rc_compile.specs.Pipelines.{IsService};
+ghost use Rattle.rc_compile.specs.Standing.{IsBundle};
 ghost use Rattle.rc_compile.specs.CompileFaults.{HaveFlaw, IsCompileFault, TooMany};
 ghost use Rattle.rc_compile.specs.Book.{IsBook};
 
 use crate::CompileFault;
+use crate::members::{Listed, rows_of};
 use crate::pipes::{longruns_of, matched_of, shared_of};
 use crate::tables::{Which, names_of};
-use rc_members::{Listed, rows_of};
 use rc_names::Names;
 use rc_set::{NoMem, Set};
 use rc_source::Definition;

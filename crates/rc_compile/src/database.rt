@@ -3,11 +3,11 @@ ghost use Rattle.std.specs.Prelude.{◌≡◌, ◌↔◌, ℕ, List, length, map
 ghost use Rattle.rc_db.specs.Database.{IsWritable};
 ghost use Rattle.rc_source.specs.Meaning.{AreMeanings};
 ghost use Rattle.rc_source.specs.Said.{meaning_of};
-ghost use Rattle.rc_members.specs.Joining.{AllWithin};
-ghost use Rattle.rc_members.specs.Mirror.{Mirrors};
-ghost use Rattle.rc_members.specs.Pipelines.{IsService};
-ghost use Rattle.rc_members.specs.Sets.{AreSetsOf};
-ghost use Rattle.rc_members.specs.Standing.{NeedsNamed, StandsFor};
+ghost use Rattle.rc_compile.specs.Joining.{AllWithin};
+ghost use Rattle.rc_compile.specs.Mirror.{Mirrors};
+ghost use Rattle.rc_compile.specs.Pipelines.{IsService};
+ghost use Rattle.rc_compile.specs.Sets.{AreSetsOf};
+ghost use Rattle.rc_compile.specs.Standing.{NeedsNamed, StandsFor};
 ghost use Rattle.rc_compile.specs.Compiled.{IsDatabaseOf};
 ghost use Rattle.rc_compile.specs.CompileFaults.{HasTakenName, HasWrongType};
 ghost use Rattle.rc_compile.specs.Placed.{AreAsDefined};

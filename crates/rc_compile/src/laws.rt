@@ -4,10 +4,10 @@ ghost use Rattle.std.specs.Prelude.{◌≡◌, ℕ, List, Contains};
 ghost use Rattle.rc_source.specs.Meaning.{Meaning};
 ghost use Rattle.rc_model.specs.Database.{Database, IsDatabase};
 ghost use Rattle.rc_compile.specs.declared.CompileFault.{CompileFault};
-ghost use Rattle.rc_members.specs.Along.{IsShownCycle};
-ghost use Rattle.rc_members.specs.Pipelines.{IsDefined, IsService, IsLongrun, WritesTo};
-ghost use Rattle.rc_members.specs.Pipelines.{InPipelineOf};
-ghost use Rattle.rc_members.specs.Standing.{HoldsName, StandsFor, NeedsNamed};
+ghost use Rattle.rc_compile.specs.Along.{IsShownCycle};
+ghost use Rattle.rc_compile.specs.Pipelines.{IsDefined, IsService, IsLongrun, WritesTo};
+ghost use Rattle.rc_compile.specs.Pipelines.{InPipelineOf};
+ghost use Rattle.rc_compile.specs.Standing.{HoldsName, StandsFor, NeedsNamed};
 ghost use Rattle.rc_compile.specs.Compiled.{IsDatabaseOf};
 ghost use Rattle.rc_compile.specs.CompileFaults.{HaveNoFlaw, IsCompileFault};
 

@@ -1,7 +1,7 @@
 // The least of names.
 ghost use Rattle.std.specs.Prelude.{◌≡◌, ◌<◌, ℕ, List, [], length, Contains, Some, slice_get, IfOk};
 ghost use Rattle.std.specs.Prelude.{IfSome, IfNone};
-ghost use Rattle.rc_members.specs.Along.{IsLeast};
+ghost use Rattle.rc_compile.specs.Along.{IsLeast};
 
 use rc_names::Name;
 use rc_set::NoMem;

@@ -15,6 +15,7 @@ mod flaws;
 mod join;
 pub mod laws;
 mod least;
+mod members;
 mod needs;
 mod pipes;
 mod scan;

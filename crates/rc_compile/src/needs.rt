@@ -4,19 +4,19 @@ ghost use Rattle.std.specs.Prelude.{◌≡◌, ◌<◌, ◌↔◌, ◌⊎◌, �
 ghost use Rattle.std.specs.Prelude.{OnOk, IfOk, IfErr, All, Contains, map};
 ghost use Rattle.rc_model.specs.Names.{Has};
 ghost use Rattle.rc_model.specs.Graph.{Needs};
-ghost use Rattle.rc_members.specs.Rows.{rows};
+ghost use Rattle.rc_compile.specs.Rows.{rows};
 ghost use Rattle.rc_source.specs.Meaning.{AreMeanings};
 ghost use Rattle.rc_source.specs.Said.{meaning_of};
-ghost use Rattle.rc_members.specs.Along.{IsShownCycle};
-ghost use Rattle.rc_members.specs.Pipelines.{IsService};
-ghost use Rattle.rc_members.specs.Standing.{IsBundle, StandsFor, NeedsNamed};
-ghost use Rattle.rc_members.specs.Mirror.{HasListed, Mirrors};
-ghost use Rattle.rc_members.specs.Joining.{AllWithin};
-ghost use Rattle.rc_members.specs.Sets.{AreSetsOf};
-ghost use Rattle.rc_members.specs.CycleFaults.{IsCycleFault};
+ghost use Rattle.rc_compile.specs.Along.{IsShownCycle};
+ghost use Rattle.rc_compile.specs.Pipelines.{IsService};
+ghost use Rattle.rc_compile.specs.Standing.{IsBundle, StandsFor, NeedsNamed};
+ghost use Rattle.rc_compile.specs.Mirror.{HasListed, Mirrors};
+ghost use Rattle.rc_compile.specs.Joining.{AllWithin};
+ghost use Rattle.rc_compile.specs.Sets.{AreSetsOf};
+ghost use Rattle.rc_compile.specs.CycleFaults.{IsCycleFault};
 
+use crate::members::{CycleFault, Listed, need_all, need_listed, rows_of, shown_cycle};
 use rc_graph::{Draft, Graph, GraphFault};
-use rc_members::{CycleFault, Listed, need_all, need_listed, rows_of, shown_cycle};
 use rc_names::Names;
 use rc_set::{NoMem, Set};
 use rc_source::Definition;

@@ -2,16 +2,16 @@
 ghost use Rattle.std.specs.Prelude.{◌≡◌, ◌<◌, ◌↔◌, ◌⊎◌, ℕ, List, length, map, Contains, Some};
 ghost use Rattle.std.specs.Prelude.{IsTrue, IfOk, slice_get};
 ghost use Rattle.rc_model.specs.Names.{Has, Holds};
-ghost use Rattle.rc_members.specs.Rows.{rows};
+ghost use Rattle.rc_compile.specs.Rows.{rows};
 ghost use Rattle.rc_source.specs.Meaning.{Meaning};
 ghost use Rattle.rc_source.specs.Said.{meaning_of};
-ghost use Rattle.rc_members.specs.Standing.{IsBundle};
+ghost use Rattle.rc_compile.specs.Standing.{IsBundle};
 ghost use Rattle.rc_compile.specs.Book.{HasNamed, HasPair, JoinsOther, IsLongrunAt, ArePairedAt};
 ghost use Rattle.rc_compile.specs.Book.{IsMatchedAt, IsUnmatched, IsTaken, IsShared, GivesAt};
 
+use crate::members::pipeline_name;
 use crate::tables::{Which, given};
 use rc_db::has_name;
-use rc_members::pipeline_name;
 use rc_names::{Kind, Name, Names};
 use rc_set::{NoMem, Set};
 use rc_source::Definition;

@@ -3,7 +3,7 @@ ghost use Rattle.std.specs.Prelude.{◌≡◌, ◌↔◌, ◌⊎◌, ℕ, List, 
 ghost use Rattle.std.specs.Prelude.{IfSome, IfNone, OnOk};
 ghost use Rattle.rc_source.specs.Meaning.{AreMeanings};
 ghost use Rattle.rc_source.specs.Said.{meaning_of};
-ghost use Rattle.rc_members.specs.Along.{IsLeast};
+ghost use Rattle.rc_compile.specs.Along.{IsLeast};
 ghost use Rattle.rc_compile.specs.Book.{IsBook, HasSought, IsSought};
 ghost use Rattle.rc_compile.specs.CompileFaults.{AreFreeBefore, HasSomeUnknown, HasUnknown};
 ghost use Rattle.rc_compile.specs.CompileFaults.{HaveFlaw, IsCompileFault, OfEntry, Unknown};

@@ -1,7 +1,7 @@
 // The bundles with their sets.
 ghost use Rattle.std.specs.Prelude.{◌≡◌, ◌<◌, ℕ, List, [], length, Some, IfOk};
 ghost use Rattle.std.specs.Prelude.{OnOk, slice_get, slice_index_or};
-ghost use Rattle.rc_members.specs.Joining.{AllWithin};
+ghost use Rattle.rc_compile.specs.Joining.{AllWithin};
 ghost use Rattle.rc_model.specs.Line.{IsChangedAt};
 ghost use Rattle.rc_model.specs.Database.{HaveBound, IsTable, names_of, value_of};
 

@@ -7,7 +7,7 @@ ghost use Rattle.rc_source.specs.Said.{meaning_of};
 ghost use Rattle.rc_compile.specs.CompileFaults.{AreTooMany};
 ghost use Rattle.rc_compile.specs.Given.{Gives, IsNameOf, IsFull};
 
-use rc_members::pipeline_name;
+use crate::members::pipeline_name;
 use rc_names::{Kind, MAX_NAMES, Name, Names};
 use rc_set::NoMem;
 use rc_source::Definition;

@@ -2,8 +2,8 @@
 ghost use Rattle.std.specs.Prelude.{map, IfOk, IfErr, OnOk};
 ghost use Rattle.rc_source.specs.Meaning.{AreMeanings};
 ghost use Rattle.rc_source.specs.Said.{meaning_of};
-ghost use Rattle.rc_members.specs.Standing.{HasContent};
-ghost use Rattle.rc_members.specs.Mirror.{Mirrors};
+ghost use Rattle.rc_compile.specs.Standing.{HasContent};
+ghost use Rattle.rc_compile.specs.Mirror.{Mirrors};
 ghost use Rattle.rc_compile.specs.Book.{IsBook};
 ghost use Rattle.rc_compile.specs.CompileFaults.{AreFreeBefore, BundleCycle, Cycle, HaveFlaw};
 ghost use Rattle.rc_compile.specs.CompileFaults.{IsCompileFault, TooMany, Unknown};
@@ -11,9 +11,9 @@ ghost use Rattle.rc_compile.specs.CompileFaults.{IsCompileFault, TooMany, Unknow
 use crate::CompileFault;
 use crate::book::Book;
 use crate::flaws::entry_flaws;
+use crate::members::{CycleFault, bundle_graph};
 use crate::scan::{test_entries, test_unknown};
 use rc_graph::Graph;
-use rc_members::{CycleFault, bundle_graph};
 use rc_source::Definition;
 use std::alloc::Global;
 

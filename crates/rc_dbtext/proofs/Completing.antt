@@ -5,7 +5,7 @@ use Rattle.std.proofs.lemmas.List.{get_or-map, length-map}
 use Rattle.std.proofs.lemmas.Option.{slice_get_within, slice_get-get_or, get_or_from_slice_get}
 use Rattle.rc_model.specs.declared.Kind.TheVariants as kinds
 use Rattle.rc_model.specs.Names.{IsInByteOrder}
-use Rattle.rc_dbsyntax.specs.Text.{ServiceText, BundleText, DbText}
+use Rattle.rc_dbtext.specs.Text.{ServiceText, BundleText, DbText}
 use Rattle.rc_dbtext.specs.Meaning.{IsComplete, IsLongrunName, service_names}
 use Rattle.rc_dbtext.specs.Parts.{AreBundlesComplete, AreKnown, AreServicesComplete, IsApart}
 use Rattle.rc_dbtext.specs.Parts.{IsKnown}

@@ -11,7 +11,7 @@ use Rattle.rc_model.specs.declared.Kind.TheVariants as kinds
 use Rattle.rc_model.specs.Names.{Has, Holds, IsInByteOrder}
 use Rattle.rc_model.specs.Graph.{Needs, AreNeeds, EachNeedsNext}
 use Rattle.rc_graph.specs.Cycle.{IsCycle}
-use Rattle.rc_dbsyntax.specs.Text.{ServiceText, OfLongrun}
+use Rattle.rc_dbtext.specs.Text.{ServiceText, OfLongrun}
 use Rattle.rc_dbtext.specs.Meaning.{service_names, EachNeedsNextByName, IsCyclic, NeedsByName}
 use Rattle.rc_dbtext.specs.Parts.{AreNeedsOf, IsNamed}
 use Rattle.rc_dbtext.specs.Spelling.{name_at}

@@ -13,8 +13,8 @@ use Rattle.rc_model.specs.Graph.{Needs, AreNeeds}
 use Rattle.rc_model.specs.Database.{Service, Bundles, HaveBound, names_of, Database, AreApart}
 use Rattle.rc_model.specs.Database.{Feeds, FitTogether, IsKind}
 use Rattle.rc_db.specs.Service.{IsWritableService}
-use Rattle.rc_dbsyntax.specs.Text.{Body, OfLongrun, OfOneshot, ServiceText, BundleText, DbText}
-use Rattle.rc_dbsyntax.specs.Text.{IsDbText}
+use Rattle.rc_dbtext.specs.Text.{Body, OfLongrun, OfOneshot, ServiceText, BundleText, DbText}
+use Rattle.rc_dbtext.specs.Text.{IsDbText}
 use Rattle.rc_dbtext.specs.Meaning.{FeedsWell, IsComplete, IsLongrunName, bundle_names}
 use Rattle.rc_dbtext.specs.Meaning.{service_names}
 use Rattle.rc_dbtext.specs.Parts.{AreNeedsOf, FeedsKnown, IsServiceOf}

@@ -3,10 +3,10 @@ use Rattle.std.proofs.Common.{◌≡◌, ◌≢◌, ◌∙◌, ◌++◌, inl, in
 use Rattle.std.proofs.lemmas.List.{append-nil}
 use Rattle.rc_model.specs.Database.{Database, IsDatabase}
 use Rattle.rc_db.specs.Database.{IsWritable}
-use Rattle.rc_dbsyntax.specs.declared.fault.FormFault.{FormFault}
-use Rattle.rc_dbsyntax.specs.declared.fault.FormFault.TheVariants as form
-use Rattle.rc_dbsyntax.specs.Text.{DbText, IsDbText, db_lines, db_text}
-use Rattle.rc_dbsyntax.specs.Reading.{IsRefused}
+use Rattle.rc_dbtext.specs.declared.syntax.fault.FormFault.{FormFault}
+use Rattle.rc_dbtext.specs.declared.syntax.fault.FormFault.TheVariants as form
+use Rattle.rc_dbtext.specs.Text.{DbText, IsDbText, db_lines, db_text}
+use Rattle.rc_dbtext.specs.Reading.{IsRefused}
 use Rattle.rc_dbtext.specs.declared.fault.TextFault.{TextFault}
 use Rattle.rc_dbtext.specs.declared.fault.TextFault.TheVariants.{Bad, Version, NotSorted, Cyclic}
 use Rattle.rc_dbtext.specs.declared.fault.TextFault.TheVariants.{TooMany, Dangling, Memory}

@@ -1,5 +1,27 @@
 -- The lemmas of rc_dbtext, in reading order.
 
+-- Forms, which are values with their lines: what is read, and where reading is stuck, in a form
+-- made of two others or of many.
+mod Sequences
+-- Lines of words with what stands after them: bytes begin with one such line.
+mod WordLines
+-- Where a text of known length stands in front of others, it is one.
+mod Cutting
+-- What is read of a line, and what refuses it, from its words.
+mod LineReads
+-- The kinds of lines: the words of each are UTF-8.
+mod LineTexts
+-- The kinds of lines: the words of each are words, and each is read once.
+mod KindLines
+-- The first line and the counts: a word and a number.
+mod NumberLines
+-- The grammar of a database text: which forms are made of which.
+mod Grammar
+-- Lines of as many of one value as of another, where they stand on the same bytes: what follows
+-- them is one rest, before lines of one kind.
+mod Aligned
+-- Reading is stuck at one place, so what refuses bytes is one.
+mod OneRefusal
 -- Names at places, and places of names.
 pub mod Naming
 -- What a draft has after the needs of some services were added.
@@ -28,3 +50,7 @@ pub mod Unique
 mod Writing
 -- What refuses bytes is one, out of memory aside.
 mod OneFault
+-- A text that begins an input, and what is after it.
+mod FrontLemmas
+-- A database with its input, and a refused text as why there is none.
+pub mod OpeningLemmas

@@ -4,7 +4,7 @@ use Rattle.std.proofs.Common.{sym, ap, append_assoc}
 use Rattle.std.proofs.lemmas.List.{append-nil, flat_map_more, map_more}
 use Rattle.std.specs.Prelude.{codes}
 use Rattle.std.specs.List.{join_with_byte}
-use Rattle.rc_dbsyntax.specs.Text.{line_of_words}
+use Rattle.rc_dbtext.specs.Text.{line_of_words}
 use Rattle.rc_dbtext.specs.Lines.{words_after_spaces}
 
 joined_spaced : (word : List ℕ) (words : List (List ℕ))

@@ -1,10 +1,10 @@
 -- What refuses bytes is one, out of memory aside.
 use Rattle.std.proofs.Common.{◌≡◌, ◌≢◌, ◌∙◌, ◌+◌, ◌++◌, ◌∷◌, ◌⊎◌, inl, inr, ℕ, List, [], length}
 use Rattle.std.proofs.Common.{arith, refl, sym, ap, subst}
-use Rattle.rc_dbsyntax.specs.declared.fault.FormFault.{FormFault}
-use Rattle.rc_dbsyntax.specs.declared.fault.FormFault.TheVariants as form
-use Rattle.rc_dbsyntax.specs.Text.{DbText, IsDbText, db_lines, db_text}
-use Rattle.rc_dbsyntax.specs.Reading.{IsRefused}
+use Rattle.rc_dbtext.specs.declared.syntax.fault.FormFault.{FormFault}
+use Rattle.rc_dbtext.specs.declared.syntax.fault.FormFault.TheVariants as form
+use Rattle.rc_dbtext.specs.Text.{DbText, IsDbText, db_lines, db_text}
+use Rattle.rc_dbtext.specs.Reading.{IsRefused}
 use Rattle.rc_dbtext.specs.declared.fault.TextFault.{TextFault}
 use Rattle.rc_dbtext.specs.declared.fault.TextFault.TheVariants.{Bad, Version, NotSorted, Cyclic}
 use Rattle.rc_dbtext.specs.declared.fault.TextFault.TheVariants.{TooMany, Dangling, Memory}

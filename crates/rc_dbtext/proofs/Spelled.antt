@@ -15,8 +15,8 @@ use Rattle.rc_model.specs.Graph.{Needs, EachNeedsNext}
 use Rattle.rc_model.specs.Database.{Service, HasLimits, Database, IsDatabase, IsKind}
 use Rattle.rc_db.specs.Service.{IsScript, IsWritableService}
 use Rattle.rc_db.specs.Database.{IsWritable}
-use Rattle.rc_dbsyntax.specs.Text.{OfLongrun, ServiceText, BundleText, IsBody, IsServiceText}
-use Rattle.rc_dbsyntax.specs.Text.{IsBundleText, IsDbText}
+use Rattle.rc_dbtext.specs.Text.{OfLongrun, ServiceText, BundleText, IsBody, IsServiceText}
+use Rattle.rc_dbtext.specs.Text.{IsBundleText, IsDbText}
 use Rattle.rc_dbtext.specs.Meaning.{EachNeedsNextByName, FeedsWell, IsComplete, IsCyclic}
 use Rattle.rc_dbtext.specs.Meaning.{IsLongrunName, IsSorted, NeedsByName, service_names}
 use Rattle.rc_dbtext.specs.Spelling.{body_of, bundle_text, members, name_at, service_text}

@@ -13,7 +13,7 @@ use Rattle.rc_model.specs.Names.{IsInByteOrder}
 use Rattle.rc_model.specs.Database.{Service, Bundles, HaveBound, Database, IsDatabase}
 use Rattle.rc_db.specs.Service.{IsWritableService}
 use Rattle.rc_db.specs.Database.{IsWritable}
-use Rattle.rc_dbsyntax.specs.Text.{OfLongrun, OfOneshot, ServiceText, BundleText, DbText}
+use Rattle.rc_dbtext.specs.Text.{OfLongrun, OfOneshot, ServiceText, BundleText, DbText}
 use Rattle.rc_dbtext.specs.Meaning.{service_names}
 use Rattle.rc_dbtext.specs.Spelling.{body_of, bundle_text, members, name_at, service_text}
 use Rattle.rc_dbtext.specs.Spelling.{service_texts, text_of}

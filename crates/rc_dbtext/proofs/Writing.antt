@@ -14,9 +14,9 @@ use Rattle.std.specs.Option.{option_map}
 use Rattle.rc_model.specs.Line.{Lists}
 use Rattle.rc_model.specs.Names.{Has, IsInByteOrder}
 use Rattle.rc_model.specs.Database.{Service, Database, IsDatabase}
-use Rattle.rc_dbsyntax.specs.Text.{Line, OfService, OfNeeds, Last, ServiceText, BundleText}
-use Rattle.rc_dbsyntax.specs.Text.{body_lines, bundle_lines, service_lines, spell, spells}
-use Rattle.rc_dbsyntax.specs.Text.{line_of_words}
+use Rattle.rc_dbtext.specs.Text.{Line, OfService, OfNeeds, Last, ServiceText, BundleText}
+use Rattle.rc_dbtext.specs.Text.{body_lines, bundle_lines, service_lines, spell, spells}
+use Rattle.rc_dbtext.specs.Text.{line_of_words}
 use Rattle.rc_dbtext.specs.Lines.{bundles_part, services_part}
 use Rattle.rc_dbtext.specs.Spelling.{body_of, bundle_text, head_of, members, name_at, service_text}
 use Rattle.rc_dbtext.specs.Spelling.{service_texts, spelling, text_of}

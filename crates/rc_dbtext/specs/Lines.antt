@@ -2,8 +2,8 @@
 use Rattle.std.specs.Prelude.{ℕ, List, ◌∷◌}
 use Rattle.std.specs.List.{flat_map}
 use Rattle.rc_model.specs.Database.{Database}
-use Rattle.rc_dbsyntax.specs.Text.{Line, ServiceCount, BundleCount, bundle_lines, count_and_lines}
-use Rattle.rc_dbsyntax.specs.Text.{service_lines}
+use Rattle.rc_dbtext.specs.Text.{Line, ServiceCount, BundleCount, bundle_lines, count_and_lines}
+use Rattle.rc_dbtext.specs.Text.{service_lines}
 use Rattle.rc_dbtext.specs.Spelling.{text_of}
 
 -- words with a space before each

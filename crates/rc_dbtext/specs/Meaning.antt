@@ -2,7 +2,7 @@
 use Rattle.std.specs.Prelude.{◌≡◌, ℕ, List, [], ◌∷◌, ◌++◌, map, All, Contains, IfSome}
 use Rattle.rc_model.specs.declared.Kind.TheVariants as kinds
 use Rattle.rc_model.specs.Names.{IsInByteOrder}
-use Rattle.rc_dbsyntax.specs.Text.{Body, OfLongrun, OfOneshot, ServiceText, BundleText, DbText}
+use Rattle.rc_dbtext.specs.Text.{Body, OfLongrun, OfOneshot, ServiceText, BundleText, DbText}
 
 abbrev pub service_names : List ServiceText → List (List ℕ)
 service_names services = map (λ s. s.head.name) services

@@ -2,7 +2,7 @@
 use Rattle.std.specs.Prelude.{◌≡◌, ℕ, List, map, All, Contains, IfSome, Some, slice_get}
 use Rattle.rc_model.specs.Database.{Service}
 use Rattle.rc_db.specs.Service.{IsWritableService}
-use Rattle.rc_dbsyntax.specs.Text.{Body, OfLongrun, OfOneshot, BundleText, ServiceText}
+use Rattle.rc_dbtext.specs.Text.{Body, OfLongrun, OfOneshot, BundleText, ServiceText}
 use Rattle.rc_dbtext.specs.Meaning.{FeedsWell}
 use Rattle.rc_dbtext.specs.Spelling.{body_of, head_of, name_at}
 

@@ -5,9 +5,9 @@ use Rattle.std.specs.Option.{option_map}
 use Rattle.rc_model.specs.declared.Kind.{Kind}
 use Rattle.rc_model.specs.declared.Kind.TheVariants as kinds
 use Rattle.rc_model.specs.Database.{Service, Database}
-use Rattle.rc_dbsyntax.specs.Text.{Head, Body, OfLongrun, OfOneshot, ServiceText, BundleText}
-use Rattle.rc_dbsyntax.specs.Text.{DbText}
-use Rattle.rc_dbsyntax.specs.Text.{db_text}
+use Rattle.rc_dbtext.specs.Text.{Head, Body, OfLongrun, OfOneshot, ServiceText, BundleText}
+use Rattle.rc_dbtext.specs.Text.{DbText}
+use Rattle.rc_dbtext.specs.Text.{db_text}
 
 -- the members of a set, ascending
 abbrev pub members : List Bool → List ℕ

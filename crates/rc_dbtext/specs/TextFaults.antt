@@ -1,9 +1,9 @@
 -- When bytes are refused as the text of a database, and by which fault.
 use Rattle.std.specs.Prelude.{◌≡◌, ◌≢◌, ◌+◌, ◌++◌, ◌⊎◌, ℕ, List, [], length}
-use Rattle.rc_dbsyntax.specs.declared.fault.FormFault.{FormFault}
-use Rattle.rc_dbsyntax.specs.declared.fault.FormFault.TheVariants as form
-use Rattle.rc_dbsyntax.specs.Text.{DbText, IsDbText, db_lines, db_text}
-use Rattle.rc_dbsyntax.specs.Reading.{IsRefused}
+use Rattle.rc_dbtext.specs.declared.syntax.fault.FormFault.{FormFault}
+use Rattle.rc_dbtext.specs.declared.syntax.fault.FormFault.TheVariants as form
+use Rattle.rc_dbtext.specs.Text.{DbText, IsDbText, db_lines, db_text}
+use Rattle.rc_dbtext.specs.Reading.{IsRefused}
 use Rattle.rc_dbtext.specs.declared.fault.TextFault.{TextFault}
 use Rattle.rc_dbtext.specs.declared.fault.TextFault.TheVariants.{Bad, Version, NotSorted, Cyclic}
 use Rattle.rc_dbtext.specs.declared.fault.TextFault.TheVariants.{TooMany, Dangling, Memory}

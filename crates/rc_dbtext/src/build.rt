@@ -6,14 +6,14 @@ ghost use Rattle.std.specs.List.{AllZip};
 ghost use Rattle.std.specs.Option.{option_map};
 ghost use Rattle.rc_model.specs.Names.{AreNames, IsInByteOrder};
 ghost use Rattle.rc_model.specs.Graph.{Needs};
-ghost use Rattle.rc_dbsyntax.specs.Text.{IsHead, IsServiceText};
+ghost use Rattle.rc_dbtext.specs.Text.{IsHead, IsServiceText};
 ghost use Rattle.rc_graph.specs.Cycle.{IsCycle};
 ghost use Rattle.rc_dbtext.specs.Meaning.{service_names};
 ghost use Rattle.rc_dbtext.specs.Parts.{AreNeedsOf, FeedsKnown, IsNamed, IsServiceOf};
 ghost use Rattle.rc_dbtext.specs.Spelling.{head_of};
 
+use crate::syntax::{BodyForm, Head, ServiceForm};
 use rc_db::{NoMem, Service};
-use rc_dbsyntax::{BodyForm, Head, ServiceForm};
 use rc_graph::{Draft, Graph, GraphFault};
 use rc_lexer::NameWord;
 use rc_names::Names;

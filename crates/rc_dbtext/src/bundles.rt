@@ -8,8 +8,7 @@ ghost use Rattle.rc_dbtext.specs.Spelling.{bundle_text, members, name_at};
 
 use rc_db::laws::tables_are_their_values;
 use rc_db::{NoMem, Table};
-use rc_dbsyntax::BundleForm;
-use rc_lexer::NameWord;
+use rc_lexer::{BundleForm, NameWord};
 use rc_names::Names;
 use rc_set::Set;
 use std::alloc::Global;

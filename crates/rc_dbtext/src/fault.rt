@@ -1,3 +1,10 @@
+//! Why bytes are not the text of a database, and how that is told.
+
+ghost use Rattle.std.specs.Prelude.{◌≡◌, IfOk};
+ghost use Rattle.rc_dbtext.specs.TextFaultWord.{text_word};
+
+use rc_db::NoMem;
+use std::alloc::Global;
 use std::fmt;
 use thiserror::Error;
 
@@ -38,5 +45,20 @@ impl fmt::Display for TextFault {
             TextFault::Bad(at) => write!(f, "{}, at byte {at}", told_of(self)),
             fault => f.write_str(told_of(fault)),
         }
+    }
+}
+
+/// A fault of the text in words.
+pub fn text_word(alloc: Global, fault: TextFault) -> Result<Vec<u8>, NoMem>
+    ensures { IfOk result (λ text. text.items ≡ text_word fault) }
+{
+    match fault {
+        TextFault::Bad(offset) => Ok(format!(in alloc; "Bad {offset}")?.into_bytes()),
+        TextFault::Version => Vec::from_slice(alloc, b"Version"),
+        TextFault::NotSorted => Vec::from_slice(alloc, b"NotSorted"),
+        TextFault::Cyclic => Vec::from_slice(alloc, b"Cyclic"),
+        TextFault::TooMany => Vec::from_slice(alloc, b"TooMany"),
+        TextFault::Dangling => Vec::from_slice(alloc, b"Dangling"),
+        TextFault::Memory => Vec::from_slice(alloc, b"Memory"),
     }
 }

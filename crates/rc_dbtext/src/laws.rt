@@ -7,7 +7,7 @@ ghost use Rattle.rc_dbtext.specs.TextFaults.{IsFrontFault, IsWholeFault};
 ghost use Rattle.rc_dbtext.specs.declared.fault.TextFault.{TextFault};
 ghost use Rattle.rc_dbtext.specs.declared.fault.TextFault.TheVariants.{Memory};
 
-use rc_dbsyntax::laws::{refusals_are_one, text_is_not_refused, text_is_unique};
+use crate::syntax::laws::{refusals_are_one, text_is_not_refused, text_is_unique};
 
 /// No text of a database is a proper prefix of another, and each is the text of one database.
 pub fn spelling_is_unique()

@@ -3,9 +3,9 @@ ghost use Rattle.std.specs.Prelude.{◌≡◌, ◌<◌, ◌∷◌, ◌++◌, [],
 ghost use Rattle.std.specs.Prelude.{string_bytes, unwrap_or};
 ghost use Rattle.std.specs.Fmt.{decimal};
 ghost use Rattle.std.specs.Option.{option_map};
-ghost use Rattle.rc_dbsyntax.specs.Text.{OfDown, OfNeeds, OfProducer, OfService, OfUp, body_lines};
-ghost use Rattle.rc_dbsyntax.specs.Text.{spell, spells, line_of_words};
-ghost use Rattle.rc_dbsyntax.specs.Text as text;
+ghost use Rattle.rc_dbtext.specs.Text.{OfDown, OfNeeds, OfProducer, OfService, OfUp, body_lines};
+ghost use Rattle.rc_dbtext.specs.Text.{spell, spells, line_of_words};
+ghost use Rattle.rc_dbtext.specs.Text as text;
 ghost use Rattle.rc_dbtext.specs.Lines.{words_after_spaces};
 ghost use Rattle.rc_dbtext.specs.Spelling.{body_of, head_of, members, name_at};
 

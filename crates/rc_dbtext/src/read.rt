@@ -1,7 +1,7 @@
 //! From bytes to a database.
 ghost use Rattle.std.specs.Prelude.{◌≡◌, ◌+◌, ◌++◌, ℕ, List, [], length, IfOk, IfErr};
 ghost use Rattle.rc_db.specs.Database.{IsWritable};
-ghost use Rattle.rc_dbsyntax.specs.Text.{IsDbText};
+ghost use Rattle.rc_dbtext.specs.Text.{IsDbText};
 ghost use Rattle.rc_dbtext.specs.Meaning.{IsComplete, IsSorted, service_names};
 ghost use Rattle.rc_dbtext.specs.Parts.{AreNeedsOf};
 ghost use Rattle.rc_dbtext.specs.Spelling.{spelling, text_of};
@@ -13,8 +13,8 @@ use crate::bundles::table_of;
 use crate::complete::is_complete;
 use crate::fault::TextFault;
 use crate::sorted::is_sorted;
+use crate::syntax::{DbForm, FormFault, read_form};
 use rc_db::{Db, NoMem, Parts};
-use rc_dbsyntax::{DbForm, FormFault, read_form};
 use rc_graph::Graph;
 use rc_names::Names;
 use std::alloc::{AllocError, Global};

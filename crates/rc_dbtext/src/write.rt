@@ -1,7 +1,7 @@
 //! From a database to its text.
 ghost use Rattle.std.specs.Prelude.{◌≡◌, ◌<◌, ◌++◌, length, IfOk, OnOk, Some, slice_get};
-ghost use Rattle.rc_dbsyntax.specs.Text.{BundleText, ServiceText, bundle_lines, service_lines};
-ghost use Rattle.rc_dbsyntax.specs.Text.{spells};
+ghost use Rattle.rc_dbtext.specs.Text.{BundleText, ServiceText, bundle_lines, service_lines};
+ghost use Rattle.rc_dbtext.specs.Text.{spells};
 ghost use Rattle.rc_dbtext.specs.Lines.{bundles_part, services_part};
 ghost use Rattle.rc_dbtext.specs.Spelling.{spelling, text_of};
 

@@ -1,6 +1,6 @@
 //! What was told of a fault.
 
-use rc_diagnostics::text_of;
+use cmd_compile::diagnostics::text_of;
 use rc_names::NoMem;
 use std::alloc::{AllocError, Global};
 use std::io;

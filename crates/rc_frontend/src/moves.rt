@@ -1,10 +1,10 @@
 //! What the conversions of an update are refused for, and why an update moves a service.
 use crate::hints::tell_failure;
+use cmd_compile::diagnostics::text_of;
 use log::{error, info};
 use rc_args::RenameFault;
 use rc_db::Db;
-use rc_diagnostics::text_of;
-use rc_input::database_of;
+use rc_dbtext::database_of;
 use rc_livetext::read_live;
 use rc_set::Set;
 use rc_streams::messages::{HINT, MESSAGE, Messages};

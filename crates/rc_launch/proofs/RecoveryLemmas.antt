@@ -3,7 +3,7 @@ use Rattle.std.proofs.Common.{◌≡◌, ◌↔◌, ℕ, Bool, IsTrue, IfOk, Lis
 use Rattle.std.proofs.Common.{inl, inr, option_map, refl, subst}
 use Rattle.rc_args.specs.declared.update_words.UpdateRequest.{UpdateRequest}
 use Rattle.rc_cli.specs.Begun.{BeginsUpdate}
-use Rattle.rc_files.specs.Files.{Files}
+use Rattle.rc_recovery.specs.Files.{Files}
 use Rattle.rc_update.specs.Conversions.{conversions_of}
 use Rattle.rc_update.specs.declared.conversion.Conversion.{Conversion}
 use Rattle.rc_launch.specs.Recovered.{Comes, ComesBy, ComesFor, IsFirstStep, files_read}

@@ -2,7 +2,7 @@
 use Rattle.std.specs.Prelude.{◌≡◌, ◌⊎◌, ◌++◌, ℕ, List, [], Option, None, Some, codes, option_map}
 use Rattle.std.specs.Prelude.{unwrap_or}
 use Rattle.std.specs.Borrow.{Bor}
-use Rattle.rc_files.specs.Files.{Files}
+use Rattle.rc_recovery.specs.Files.{Files}
 use Rattle.rc_update.specs.Conversions.{conversions_of}
 use Rattle.rc_cli.specs.Begun.{BeginsUpdate}
 use Rattle.rc_launch.specs.Logs.{IsCutBy}

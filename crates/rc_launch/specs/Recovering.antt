@@ -6,8 +6,8 @@ use Rattle.rc_dbtext.specs.TextFaults.{IsWholeFault}
 use Rattle.rc_dbtext.specs.declared.fault.TextFault.{TextFault}
 use Rattle.rc_dbtext.specs.declared.fault.TextFault.TheVariants as text_fault
 use Rattle.rc_recovery.specs.RunLog.{HasNothing, IsEntered, IsUnfit}
-use Rattle.rc_files.specs.Files.{Files}
-use Rattle.rc_crash.specs.Recoveries.{IsCutRecovery}
+use Rattle.rc_recovery.specs.Files.{Files}
+use Rattle.rc_recovery.specs.Recoveries.{IsCutRecovery}
 use Rattle.rc_launch.specs.declared.recovering.Unrecovered.{Unrecovered}
 use Rattle.rc_launch.specs.declared.recovering.Unrecovered.TheVariants.{Database as NoDatabase}
 use Rattle.rc_launch.specs.declared.recovering.Unrecovered.TheVariants.{Memory}

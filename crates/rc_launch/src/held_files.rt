@@ -2,7 +2,7 @@
 ghost use Rattle.std.specs.Prelude.{◌≡◌, IfOk, IsSome, option_map, unwrap_or, []};
 
 use crate::texts::ReadFiles;
-use rc_files::{FileFault, TwoFiles};
+use rc_recovery::{FileFault, TwoFiles};
 use rc_streams::replaced_file::replace;
 use rc_streams::run_file;
 use std::alloc::{AllocError, Global};

@@ -1,15 +1,12 @@
 //! A recovery of the two files of a session, by the text of a database.
 ghost use Rattle.std.specs.Prelude.{◌≡◌, ◌≢◌, ℕ, List, IfNone, IfOk, IfSome, IsErrOf};
 ghost use Rattle.rc_recovery.specs.RunLog.{HasNothing, IsEntered, IsUnfit};
-ghost use Rattle.rc_files.specs.Files.{Files};
+ghost use Rattle.rc_recovery.specs.Files.{Files};
 ghost use Rattle.rc_launch.specs.Recovering.{IsNoBase, IsOn, IsUnread, Leaves, LeavesCut};
 ghost use Rattle.rc_launch.specs.Recovering.{LeavesNothing, LeavesUnfit};
 
-use rc_crash::{FilesFault, recover_files};
-use rc_dbtext::TextFault;
-use rc_files::TwoFiles;
-use rc_input::database_of;
-use rc_recovery::{RecoverFault, Recovered, recover_text};
+use rc_dbtext::{TextFault, database_of};
+use rc_recovery::{FilesFault, RecoverFault, Recovered, TwoFiles, recover_files, recover_text};
 use std::alloc::Global;
 use thiserror::Error;
 
@@ -30,7 +27,7 @@ pub enum Unrecovered {
 }
 
 impl From<FilesFault> for Unrecovered {
-    ghost use Rattle.rc_crash.specs.declared.recovering.FilesFault.TheVariants as from;
+    ghost use Rattle.rc_recovery.specs.declared.crash.recovering.FilesFault.TheVariants as from;
     ghost use Rattle.rc_launch.specs.declared.recovering.Unrecovered.TheVariants as to;
 
     ghost from_gives = { λ fault given. (given ≡ to.Log → fault ≡ from.Log)

@@ -14,8 +14,8 @@ use crate::recovered::{Came, Recovery};
 use crate::recovering::{Unrecovered, recover_by};
 use crate::texts::{LiveText, LogText, ReadFiles};
 use rc_cli::begins_update;
-use rc_files::TwoFiles;
 use rc_names::NoMem;
+use rc_recovery::TwoFiles;
 use rc_streams::{live_lock, run_file, stop_file};
 
 /// What is found beside the file of a session: where it is locked, what a command that was cut

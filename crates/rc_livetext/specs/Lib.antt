@@ -22,3 +22,5 @@ pub mod LiveFaults
 pub mod Parts
 -- The bytes of states in the order in which they are written.
 pub mod Written
+-- How a fault of the text of a session is told.
+pub mod LiveFaultWord

@@ -1,3 +1,10 @@
+//! Why bytes are not the text of a line of states, and how that is told.
+
+ghost use Rattle.std.specs.Prelude.{◌≡◌, IfOk};
+ghost use Rattle.rc_livetext.specs.LiveFaultWord.{live_word};
+
+use rc_db::NoMem;
+use std::alloc::Global;
 use std::fmt;
 use thiserror::Error;
 
@@ -42,5 +49,21 @@ impl fmt::Display for LiveFault {
             LiveFault::NotClosed(place) => write!(f, "in state {place} {}", told_of(self)),
             fault => f.write_str(told_of(fault)),
         }
+    }
+}
+
+/// A fault of the text of a session in words.
+pub fn live_word(alloc: Global, fault: LiveFault) -> Result<Vec<u8>, NoMem>
+    ensures { IfOk result (λ text. text.items ≡ live_word fault) }
+{
+    match fault {
+        LiveFault::Bad(offset) => Ok(format!(in alloc; "Bad {offset}")?.into_bytes()),
+        LiveFault::Version => Vec::from_slice(alloc, b"Version"),
+        LiveFault::Unknown => Vec::from_slice(alloc, b"Unknown"),
+        LiveFault::NotClosed(place) => Ok(format!(in alloc; "NotClosed {place}")?.into_bytes()),
+        LiveFault::SameState => Vec::from_slice(alloc, b"SameState"),
+        LiveFault::OtherDb => Vec::from_slice(alloc, b"OtherDb"),
+        LiveFault::Memory => Vec::from_slice(alloc, b"Memory"),
+        LiveFault::OverBound => Vec::from_slice(alloc, b"OverBound"),
     }
 }

@@ -18,7 +18,7 @@ mod read;
 mod states;
 mod write;
 
-pub use crate::fault::LiveFault;
+pub use crate::fault::{LiveFault, live_word};
 pub use crate::form_fault::FormFault;
 pub use crate::form_states::StateForm;
 pub use crate::forms::{LiveForm, read_form};

@@ -4,14 +4,18 @@
 //! Time grows with the takes times the events of the log, and with the texts.
 #![tactic(auto)]
 
+pub mod crash;
 mod ends;
 mod entering;
 pub mod laws;
 mod logged;
 mod texts;
+mod two_files;
 
+pub use crate::crash::{FilesFault, recover_files};
 pub use crate::ends::{with_ends, with_stop};
 pub use crate::entering::recover;
 pub use crate::logged::logged_events;
 pub use crate::texts::{RecoverFault, Recovered, recover_text};
+pub use crate::two_files::{FileFault, TwoFiles, begin_log, replace_and_empty};
 pub use rc_session::NoMem;

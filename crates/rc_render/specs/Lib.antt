@@ -10,6 +10,8 @@ pub mod Names
 pub mod ReportText
 -- Refusals as text: their names, and the words or numbers that they tell.
 pub mod RefusalText
+-- How a name that nothing has is told.
+pub mod UnknownWord
 -- The answers to commands, as text.
 pub mod AnswerText
 -- The journal of a line, as text: where the line stands, and what each entry altered.

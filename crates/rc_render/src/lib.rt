@@ -16,7 +16,7 @@ pub use crate::dot::dot_text;
 pub use crate::journal::journal_text;
 pub use crate::lines::{id_lines, name_lines};
 pub use crate::plan::plan_text;
-pub use crate::refusal::{add_refusal_text, refusal_text, step_refusal_text};
+pub use crate::refusal::{add_refusal_text, refusal_text, step_refusal_text, unknown_word};
 pub use crate::report::report_text;
 pub use crate::stand::{bundles_text, live_text};
 pub use crate::told::with_ok;

@@ -5,6 +5,7 @@ ghost use Rattle.rc_render.specs.Lines.{line};
 ghost use Rattle.rc_session.specs.Commands.{command_of};
 ghost use Rattle.rc_render.specs.AnswerText.{words_of};
 ghost use Rattle.rc_render.specs.RefusalText.{place_of, refusal_words, refusal_text};
+ghost use Rattle.rc_render.specs.UnknownWord.{unknown_word};
 
 use rc_names::Name;
 use rc_session::{Refusal, Step};
@@ -107,4 +108,13 @@ fn word_at(words: &[String], place: usize) -> &[u8]
         Some(word) => word.as_bytes(),
         None => b"",
     }
+}
+
+/// The refusal of an unknown name in words, with the name.
+pub fn unknown_word(alloc: Global, name: &[u8]) -> Result<Vec<u8>, NoMem>
+    ensures { IfOk result (λ text. text.items ≡ unknown_word name.now) }
+{
+    let mut text = Vec::from_slice(alloc, b"Unknown ")?;
+    text.extend_from_slice(name)?;
+    Ok(text)
 }

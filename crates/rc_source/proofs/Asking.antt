@@ -1,8 +1,8 @@
 -- What is left of a tree after a call that succeeded and what follows it.
 use Rattle.std.proofs.Common.{◌≡◌, ◌≢◌, ◌∙◌, ℕ, ◌≤◌, Option, Result, Ok, Err, subst, arith}
 use Rattle.std.specs.Result.{IfErr, OnOk, IsErrAnd}
-use Rattle.rc_tree.specs.Tree.{Source}
-use Rattle.rc_tree.specs.TreeFaults.{HasFailed}
+use Rattle.rc_source.specs.Tree.{Source}
+use Rattle.rc_source.specs.TreeFaults.{HasFailed}
 use Rattle.rc_source.specs.declared.fault.Flaw.{Flaw}
 use Rattle.rc_source.specs.declared.fault.Flaw.TheVariants.{Io, Memory}
 use Rattle.rc_source.specs.Asked.{IsAsked}

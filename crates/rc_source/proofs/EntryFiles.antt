@@ -2,7 +2,7 @@
 use Rattle.std.proofs.Common.{◌≡◌, inl, inr, ℕ, List, [], ◌∷◌, ◌++◌, Some, sym, subst, codes}
 use Rattle.std.proofs.lemmas.List.Elements.{All-cons, All-nil, All-append}
 use Rattle.rc_source.specs.declared.fault.Flaw.{Flaw}
-use Rattle.rc_tree.specs.Tree.{Source}
+use Rattle.rc_source.specs.Tree.{Source}
 use Rattle.rc_source.specs.Kinds.{Holds, KindWord, Flag, kind_of, files_of_kind, files_for}
 use Rattle.rc_source.specs.Kinds.{limit_files, dependency_files, pipe_files, files_of_atomic}
 use Rattle.rc_source.specs.Files.{FilePasses, StopsAtFile, FilesPass, StopsInFiles}

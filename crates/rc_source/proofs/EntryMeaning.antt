@@ -8,13 +8,13 @@ use Rattle.rc_model.specs.declared.Kind.{Kind}
 use Rattle.rc_model.specs.declared.Kind.TheVariants.{Oneshot, Longrun, Bundle}
 use Rattle.rc_model.specs.Names.{IsName}
 use Rattle.rc_source.specs.declared.entry.Service.{Service}
-use Rattle.rc_tree.specs.Tree.{Source, file_at}
+use Rattle.rc_source.specs.Tree.{Source, file_at}
 use Rattle.rc_source.specs.Texts.{IsScriptText}
 use Rattle.rc_source.specs.Kinds.{kind_of, is_file_of}
 use Rattle.rc_source.specs.Meaning.{Meaning, ListsNames, Means, IsMeaning, IsGiven, given_in}
 use Rattle.rc_source.specs.Meaning.{bytes_that_count}
 use Rattle.rc_source.specs.Said.{IsNamedIn, SayService, IsSaid}
-use Rattle.rc_tree.proofs.Members.{Contains-nil}
+use Rattle.rc_source.proofs.Members.{Contains-nil}
 
 -- what services say, with their kind and texts
 abbrev pub meaning_with : List ℕ → Kind → Option (List ℕ) → Option (List ℕ) → Service → Meaning

@@ -5,7 +5,7 @@ use Rattle.std.proofs.lemmas.List.Elements.{All-cons, All-map}
 use Rattle.rc_model.specs.Names.{IsName}
 use Rattle.rc_source.specs.declared.fault.Flaw.{Flaw}
 use Rattle.rc_source.specs.declared.fault.Flaw.TheVariants.{Io, BadName, Twice, Memory}
-use Rattle.rc_tree.specs.Tree.{Source}
+use Rattle.rc_source.specs.Tree.{Source}
 use Rattle.rc_source.specs.Files.{FilePasses, StopsAtFile, FilesPass, StopsInFiles}
 use Rattle.rc_source.specs.Tests.{Check, Named, New, File, Test, Passes, StopsAt, AllPass}
 use Rattle.rc_source.specs.Tests.{StopsInTests, IsNoNewName, files_of_entry, tests_of_entry}

@@ -3,7 +3,7 @@ use Rattle.std.proofs.Common.{◌≡◌, ℕ, ◌⊎◌, ⊎_elim, inl, inr, Lis
 use Rattle.std.proofs.Common.{subst}
 use Rattle.rc_source.specs.declared.fault.Flaw.{Flaw}
 use Rattle.rc_source.specs.declared.fault.Flaw.TheVariants.{Io}
-use Rattle.rc_tree.specs.TreeFaults.{IsTooLong}
+use Rattle.rc_source.specs.TreeFaults.{IsTooLong}
 use Rattle.rc_source.specs.Texts.{IsScriptText}
 use Rattle.rc_source.specs.Kinds.{Holds}
 use Rattle.rc_source.specs.Files.{IsBadFile, IsReadFlaw, IsWrong, wrong_flaw}

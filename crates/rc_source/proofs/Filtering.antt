@@ -1,7 +1,8 @@
 -- The members of a list that pass a test.
 use Rattle.std.proofs.Common.{◌≡◌, ◌∙◌, ◌↔◌, ⊎_elim, ℕ, Bool, true, false, cond, List, [], ◌∷◌}
 use Rattle.std.proofs.Common.{Contains, filter, refl, sym, ap, true≢false}
-use Rattle.rc_tree.proofs.Members.{Contains-cons_cases, Contains-here, Contains-there, Contains-nil}
+use Rattle.rc_source.proofs.Members.{Contains-cons_cases, Contains-here, Contains-there}
+use Rattle.rc_source.proofs.Members.{Contains-nil}
 
 module _ (p : List ℕ → Bool) where
   -- the members that pass a test

@@ -12,10 +12,10 @@ use Rattle.rc_source.specs.declared.fault.Flaw.{Flaw}
 use Rattle.rc_source.specs.declared.fault.Flaw.TheVariants.{BadName}
 use Rattle.rc_source.specs.Files.{FilePasses, StopsAtFile}
 use Rattle.rc_source.specs.Kinds.{is_hidden, NameEach}
-use Rattle.rc_tree.specs.Tree.{Source, AreEntries, IsSource, names_next}
+use Rattle.rc_source.specs.Tree.{Source, AreEntries, IsSource, names_next}
 use Rattle.rc_source.specs.Tests.{entries_of}
 use Rattle.rc_source.specs.Meaning.{ListsNames}
-use Rattle.rc_tree.proofs.Members.{only, Contains-here, Contains-nil}
+use Rattle.rc_source.proofs.Members.{only, Contains-here, Contains-nil}
 use Rattle.rc_model.proofs.ByteOrder.{same_names}
 use Rattle.rc_source.proofs.Filtering.{Contains-filter}
 use Rattle.std.proofs.lemmas.List.Kept.{AllPairs-filter}

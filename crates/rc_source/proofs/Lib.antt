@@ -1,5 +1,11 @@
 -- The lemmas of rc_source, in reading order.
 
+-- What is known of a tree that tells what it holds.
+mod Known
+-- Membership in lists, head by head, and lists in byte order.
+pub mod Members
+-- What ordered keys show as texts: `bytes` reads a key.
+mod TextSets
 -- The exit of a `?`.
 mod Exits
 -- What is left of a tree after a call that succeeded and what follows it.
@@ -25,8 +31,6 @@ mod Folders
 mod Lines
 -- The names of definitions, one by one.
 mod Meant
--- Membership in lists, head by head, for the crates above.
-pub mod Members
 -- An entry means one thing.
 mod OneMeaning
 -- What is refused is refused in one way.

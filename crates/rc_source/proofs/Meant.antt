@@ -8,7 +8,7 @@ use Rattle.std.proofs.lemmas.List.Quantifiers.{all_pairs_push}
 use Rattle.rc_names.specs.Names.{Adds}
 use Rattle.rc_source.specs.Meaning.{Meaning, IsMeaning, AreMeanings}
 use Rattle.rc_source.specs.Said.{AreFound, meant}
-use Rattle.rc_tree.proofs.Members.{only, Contains-here, Contains-there}
+use Rattle.rc_source.proofs.Members.{only, Contains-here, Contains-there}
 
 -- a name that is not among theirs is none of theirs
 free_of : (ms : List Meaning) (m : Meaning) → (Contains (meant ms) m.name → ⊥)

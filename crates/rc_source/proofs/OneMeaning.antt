@@ -2,7 +2,7 @@
 use Rattle.std.proofs.Common.{◌≡◌, ◌∙◌, ℕ, Bool, List, Option, sym, ap, subst}
 use Rattle.std.proofs.lemmas.Option.{same_Some}
 use Rattle.rc_model.specs.declared.Kind.{Kind}
-use Rattle.rc_tree.specs.Tree.{Source}
+use Rattle.rc_source.specs.Tree.{Source}
 use Rattle.rc_source.specs.Meaning.{Meaning, Means, ListsNames}
 use Rattle.rc_model.proofs.ByteOrder.{same_names}
 

@@ -3,7 +3,7 @@ use Rattle.std.proofs.Common.{◌≡◌, ◌≢◌, ◌∙◌, ⊎_elim, ℕ, Li
 use Rattle.std.proofs.lemmas.List.Elements.{All-head, All-tail}
 use Rattle.rc_source.specs.declared.fault.Flaw.{Flaw}
 use Rattle.rc_source.specs.declared.fault.Flaw.TheVariants.{Io}
-use Rattle.rc_tree.specs.Tree.{Source, file_at}
+use Rattle.rc_source.specs.Tree.{Source, file_at}
 use Rattle.rc_source.specs.Kinds.{Holds, KindWord, UpText, DownText, Anything, Limit, Flag, Names}
 use Rattle.rc_source.specs.Kinds.{NameEach, OneName}
 use Rattle.rc_source.specs.Files.{IsNoText, IsBadFile, IsReadFlaw, IsFileFlaw}

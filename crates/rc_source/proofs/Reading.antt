@@ -6,7 +6,7 @@ use Rattle.std.proofs.lemmas.List.Elements.{All-cons}
 use Rattle.std.proofs.lemmas.Grind.{flat_map-append}
 use Rattle.std.specs.List.{AllZip}
 use Rattle.rc_source.specs.declared.fault.Flaw.{Flaw}
-use Rattle.rc_tree.specs.Tree.{Source}
+use Rattle.rc_source.specs.Tree.{Source}
 use Rattle.rc_source.specs.Meaning.{Meaning, Means, MeanAll, all_entries}
 use Rattle.rc_source.specs.Said.{meant}
 use Rattle.rc_source.specs.Tests.{Listed, Passes, StopsAt, AllPass, StopsInTests, tests_of_entry}

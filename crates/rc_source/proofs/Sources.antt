@@ -5,9 +5,9 @@ use Rattle.std.proofs.Math.ListN.{set, length-set}
 use Rattle.std.proofs.lemmas.List.{get_or-drop, drop-set-lt, drop-drop, get_or-set_same}
 use Rattle.std.proofs.lemmas.Option.{slice_get-map, slice_get-get_or}
 use Rattle.std.specs.Option.{option_map}
-use Rattle.rc_tree.specs.TreeFaults.{HasFailed}
+use Rattle.rc_source.specs.TreeFaults.{HasFailed}
 use Rattle.rc_source.specs.Tests.{SomeFailed}
-use Rattle.rc_tree.specs.Tree.{Source}
+use Rattle.rc_source.specs.Tree.{Source}
 
 -- what a tree tells, where all tell
 pub told_at : {X : Type 0} (held : X → Option Source) (trees : List X) (sources : List Source)

@@ -5,8 +5,8 @@ use Rattle.rc_model.specs.Names.{IsName}
 use Rattle.rc_source.specs.declared.fault.Flaw.{Flaw}
 use Rattle.rc_source.specs.declared.fault.Flaw.TheVariants.{Io, NotText, TooLong, BadName, NoType}
 use Rattle.rc_source.specs.declared.fault.Flaw.TheVariants.{BadType, NoUp, NoRun, BadTimeout}
-use Rattle.rc_tree.specs.Tree.{Source, file_at, names_next}
-use Rattle.rc_tree.specs.TreeFaults.{IsTooLong}
+use Rattle.rc_source.specs.Tree.{Source, file_at, names_next}
+use Rattle.rc_source.specs.TreeFaults.{IsTooLong}
 use Rattle.rc_source.specs.Texts.{IsText, IsLimit, without_newline, kind_of_word, names_in}
 use Rattle.rc_source.specs.Stops.{StopsFirst}
 use Rattle.rc_source.specs.Kinds.{Holds, KindWord, UpText, Anything, Limit, Flag, Names, NameEach}

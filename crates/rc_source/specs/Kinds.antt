@@ -5,7 +5,7 @@ use Rattle.std.specs.Str.{bytes_eq}
 use Rattle.std.specs.List.{list_any}
 use Rattle.rc_model.specs.declared.Kind.{Kind}
 use Rattle.rc_model.specs.declared.Kind.TheVariants.{Oneshot, Longrun, Bundle}
-use Rattle.rc_tree.specs.Tree.{Source, file_at}
+use Rattle.rc_source.specs.Tree.{Source, file_at}
 use Rattle.rc_source.specs.Texts.{without_newline, kind_of_word}
 pub use Rattle.rc_source.specs.declared.definition.Holds.{Holds}
 pub use Rattle.rc_source.specs.declared.definition.Holds.TheVariants.{KindWord, UpText, DownText}

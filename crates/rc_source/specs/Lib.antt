@@ -1,7 +1,11 @@
 -- The definitions of rc_source, in reading order.
-pub use Rattle.rc_tree.specs.Tree
-pub use Rattle.rc_tree.specs.Shown
-pub use Rattle.rc_tree.specs.TreeFaults
+
+-- What a tree of source files holds: its directories, its files, and what a look into it lists.
+pub mod Tree
+-- The files of a table, each a path with its bytes.
+pub mod Shown
+-- When a look into a tree is refused: a device fails, or a file is too long.
+pub mod TreeFaults
 -- What a call leaves of a tree.
 pub mod Asked
 -- What a file's text gives: a kind, a limit, a script, or names.

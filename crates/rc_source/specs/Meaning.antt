@@ -8,7 +8,7 @@ use Rattle.std.specs.Str.Parse.{digits_value}
 use Rattle.rc_model.specs.declared.Kind.{Kind}
 use Rattle.rc_model.specs.declared.Kind.TheVariants.{Oneshot, Bundle}
 use Rattle.rc_model.specs.Names.{IsName, IsInByteOrder}
-use Rattle.rc_tree.specs.Tree.{Source, file_at, names_next}
+use Rattle.rc_source.specs.Tree.{Source, file_at, names_next}
 use Rattle.rc_source.specs.Texts.{IsScriptText, without_newline, names_in}
 use Rattle.rc_source.specs.Kinds.{is_hidden, kind_of, is_file_of}
 use Rattle.rc_source.specs.Tests.{entries_of}

@@ -7,7 +7,7 @@ use Rattle.rc_source.specs.declared.definition.Definition.{Definition}
 use Rattle.rc_source.specs.declared.entry.Limits.{Limits}
 use Rattle.rc_source.specs.declared.entry.Pipes.{Pipes}
 use Rattle.rc_source.specs.declared.entry.Service.{Service}
-use Rattle.rc_tree.specs.Tree.{Source, file_at, names_next}
+use Rattle.rc_source.specs.Tree.{Source, file_at, names_next}
 use Rattle.rc_source.specs.Kinds.{is_hidden}
 use Rattle.rc_source.specs.Meaning.{Meaning, AreMeanings, ListsNames, limit_in, given_in}
 

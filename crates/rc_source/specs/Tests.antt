@@ -8,8 +8,8 @@ use Rattle.rc_source.specs.declared.fault.Flaw.TheVariants.{NoType, BadType, NoU
 use Rattle.rc_source.specs.declared.fault.Flaw.TheVariants.{BadTimeout, Memory}
 use Rattle.rc_source.specs.declared.fault.SourceFault.{SourceFault}
 use Rattle.rc_source.specs.declared.fault.SourceFault.TheVariants as fault
-use Rattle.rc_tree.specs.Tree.{Source}
-use Rattle.rc_tree.specs.TreeFaults.{HasFailed}
+use Rattle.rc_source.specs.Tree.{Source}
+use Rattle.rc_source.specs.TreeFaults.{HasFailed}
 use Rattle.rc_source.specs.Kinds.{Holds, KindWord, files_for, kind_of, is_hidden}
 use Rattle.rc_source.specs.Stops.{StopsFirst}
 use Rattle.rc_source.specs.Files.{IsFileFlaw}

@@ -3,7 +3,7 @@ ghost use Rattle.std.specs.Prelude.{◌≡◌, ◌≢◌, ◌∷◌, [], false, 
 ghost use Rattle.std.specs.Prelude.{OnOk, Some, None, codes, option_map, string_bytes};
 ghost use Rattle.rc_model.specs.Names.{IsName};
 ghost use Rattle.rc_model.specs.declared.Kind.TheVariants.{Oneshot, Longrun, Bundle};
-ghost use Rattle.rc_tree.specs.Tree.{Source, file_at};
+ghost use Rattle.rc_source.specs.Tree.{Source, file_at};
 ghost use Rattle.rc_source.specs.Asked.{IsAsked};
 ghost use Rattle.rc_source.specs.Kinds.{Names, NameEach, limit_files, pipe_files, files_of_atomic};
 ghost use Rattle.rc_source.specs.Kinds.{files_of_kind, kind_of};
@@ -15,9 +15,9 @@ ghost use Rattle.rc_source.specs.Said.{ArePipes, SayService, IsSaid};
 
 use crate::definition::Definition;
 use crate::fault::Flaw;
-use crate::{file, folder};
+use crate::tree::Tree;
+use crate::{file, folder, sets};
 use rc_names::{Kind, Name};
-use rc_tree::{Tree, sets};
 use std::alloc::Global;
 use std::collections::BTreeSet;
 

@@ -4,7 +4,7 @@ ghost use Rattle.std.specs.Prelude.{IfSome, OnOk, Some, None, false, map, option
 ghost use Rattle.std.specs.Prelude.{string_bytes, Contains, codes, slice_get};
 ghost use Rattle.std.specs.Option.{is_some};
 ghost use Rattle.rc_model.specs.Names.{IsName};
-ghost use Rattle.rc_tree.specs.Tree.{Source, file_at};
+ghost use Rattle.rc_source.specs.Tree.{Source, file_at};
 ghost use Rattle.rc_source.specs.Asked.{IsAsked};
 ghost use Rattle.rc_source.specs.Texts.{IsScriptText};
 ghost use Rattle.rc_source.specs.Kinds.{KindWord, UpText, DownText, Anything, Limit, Flag, Names};
@@ -13,9 +13,9 @@ ghost use Rattle.rc_source.specs.Files.{IsNoText, FilePasses, StopsAtFile};
 ghost use Rattle.rc_source.specs.Meaning.{limit_in, given_in};
 
 use crate::fault::Flaw;
-use crate::text;
+use crate::tree::{Tree, TreeFault};
+use crate::{sets, text};
 use rc_names::{Kind, Name};
-use rc_tree::{Tree, TreeFault, sets};
 use std::alloc::Global;
 use std::collections::BTreeSet;
 

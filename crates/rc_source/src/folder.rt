@@ -2,15 +2,15 @@
 ghost use Rattle.std.specs.Prelude.{◌≡◌, ◌≢◌, ◌⊎◌, ◌↔◌, ℕ, List, false, All, Contains, IfOk};
 ghost use Rattle.std.specs.Prelude.{IfErr, OnOk, Some, map, string_bytes};
 ghost use Rattle.rc_model.specs.Names.{IsName, IsInByteOrder};
-ghost use Rattle.rc_tree.specs.Tree.{Source, names_next};
+ghost use Rattle.rc_source.specs.Tree.{Source, names_next};
 ghost use Rattle.rc_source.specs.Asked.{IsAsked};
 ghost use Rattle.rc_source.specs.Kinds.{NameEach, is_hidden};
 ghost use Rattle.rc_source.specs.Files.{FilePasses, StopsAtFile};
 
 use crate::fault::Flaw;
-use crate::text;
+use crate::tree::{Tree, TreeFault};
+use crate::{sets, text};
 use rc_names::{Name, NoMem};
-use rc_tree::{Tree, TreeFault, sets};
 use std::alloc::Global;
 use std::collections::BTreeSet;
 

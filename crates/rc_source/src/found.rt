@@ -3,8 +3,8 @@ ghost use Rattle.rc_source.specs.Meaning.{IsMeaning, AreMeanings};
 ghost use Rattle.rc_source.specs.Said.{meaning_of, meant};
 
 use crate::definition::Definition;
+use crate::sets;
 use rc_names::NoMem;
-use rc_tree::sets;
 use std::alloc::{AllocError, Global};
 use std::collections::BTreeSet;
 use std::marker::Model;

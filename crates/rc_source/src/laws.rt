@@ -3,7 +3,7 @@ ghost use Rattle.std.specs.Prelude.{◌≡◌, ◌≢◌, ℕ, List, [], ◌∷�
 ghost use Rattle.rc_model.specs.declared.Kind.TheVariants.{Oneshot};
 ghost use Rattle.rc_source.specs.declared.fault.Flaw.{Flaw};
 ghost use Rattle.rc_source.specs.declared.fault.Flaw.TheVariants.{Io};
-ghost use Rattle.rc_tree.specs.Tree.{Source, names_next};
+ghost use Rattle.rc_source.specs.Tree.{Source, names_next};
 ghost use Rattle.rc_source.specs.Texts.{without_newline, kind_of_word, names_in};
 ghost use Rattle.rc_source.specs.Meaning.{Meaning, Means, limit_in};
 ghost use Rattle.rc_source.specs.Tests.{Test, AllPass, StopsInTests, entries_of};

@@ -1,4 +1,5 @@
-//! Source trees: the definitions that the files of service directories give.
+//! Source trees: service directories with their files, in memory or in a file system, and the
+//! definitions that these files give.
 #![tactic(auto)]
 
 mod definition;
@@ -6,12 +7,18 @@ mod entry;
 mod fault;
 mod file;
 mod folder;
+mod folder_tree;
 mod found;
 pub mod laws;
+mod memory_tree;
 mod read;
+mod sets;
 mod text;
+mod tree;
 
 pub use crate::definition::{Definition, Holds, files_of_kind};
 pub use crate::fault::{Flaw, SourceFault};
+pub use crate::folder_tree::FolderTree;
+pub use crate::memory_tree::MemoryTree;
 pub use crate::read::read_all;
-pub use rc_tree::{FolderTree, MemoryTree, Tree, TreeFault};
+pub use crate::tree::{Tree, TreeFault};

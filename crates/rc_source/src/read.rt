@@ -3,8 +3,8 @@ ghost use Rattle.std.specs.Prelude.{◌≡◌, ◌≢◌, ◌≤◌, ◌++◌, �
 ghost use Rattle.std.specs.Prelude.{OnOk, Some, map, string_bytes};
 ghost use Rattle.std.specs.List.{AllZip};
 ghost use Rattle.rc_source.specs.declared.fault.Flaw.{Flaw};
-ghost use Rattle.rc_tree.specs.Tree.{Source};
-ghost use Rattle.rc_tree.specs.TreeFaults.{HasFailed};
+ghost use Rattle.rc_source.specs.Tree.{Source};
+ghost use Rattle.rc_source.specs.TreeFaults.{HasFailed};
 ghost use Rattle.rc_source.specs.Asked.{IsAsked};
 ghost use Rattle.rc_model.specs.Names.{IsName};
 ghost use Rattle.rc_source.specs.Tests.{all_tests, tests_of_source, tests_of_entry, entries_of};
@@ -16,9 +16,9 @@ ghost use Rattle.rc_source.specs.Said.{meaning_of, meant};
 use crate::definition::Definition;
 use crate::fault::{Flaw, SourceFault};
 use crate::found::Found;
+use crate::tree::{Tree, TreeFault};
 use crate::{entry, folder, text};
 use rc_names::Name;
-use rc_tree::{Tree, TreeFault};
 use std::alloc::Global;
 
 /// The definitions of trees, in the order of the trees and in each in byte order of the names; or

@@ -5,10 +5,9 @@ ghost use Rattle.std.specs.Prelude.{◌≡◌, false};
 
 use crate::recovered::{ALL_UP, first_text, log_of, raise_site, show_journal};
 use crate::samples::{MemoryFiles, sample};
-use rc_crash::{FilesFault, recover_files};
-use rc_files::{FileFault, TwoFiles, begin_log, replace_and_empty};
 use rc_livetext::write_live;
 use rc_names::Names;
+use rc_recovery::{FileFault, FilesFault, TwoFiles, begin_log, recover_files, replace_and_empty};
 use rc_script::event_line;
 use rc_session::{Session, Step};
 use rc_set::NoMem;

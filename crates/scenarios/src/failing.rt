@@ -1,7 +1,7 @@
 //! A tree in memory of which one call fails, and what the command `compile` makes of it.
 
 ghost use Rattle.std.specs.Prelude.{◌≡◌, ◌≤◌, IfErr, OnOk};
-ghost use Rattle.rc_tree.specs.TreeFaults.{IsCallFault};
+ghost use Rattle.rc_source.specs.TreeFaults.{IsCallFault};
 
 use crate::device::Sink;
 use crate::trees::{FILES, compiled, put_all};

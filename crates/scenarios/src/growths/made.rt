@@ -7,7 +7,7 @@ use crate::growths::told::go_on_to;
 use crate::samples::{LOG, NET, is_same};
 use rc_core::{Event, Outcome};
 use rc_db::Db;
-use rc_dbsyntax::{FormFault, read_form};
+use rc_dbtext::syntax::{FormFault, read_form};
 use rc_dbtext::{
     TextFault, known_set, push_bundle, push_line, push_set, push_word, read_db, read_db_front,
     write_db,
@@ -131,7 +131,7 @@ fn is_text_of(rt: &(impl Print + AllocGlobal), text: &mut Vec<u8>, db: &Db) -> R
     text.push(b'\n')?;
     go_on_to(rt, "read_db_front");
     let is_front = is_at_front(rt.alloc(), text, long, db)?;
-    go_on_to(rt, "rc_dbsyntax::read_form");
+    go_on_to(rt, "rc_dbtext::syntax::read_form");
     let is_form = is_form(rt.alloc(), text)?;
     Ok(is_whole && is_front && is_form)
 }

@@ -4,10 +4,11 @@ ghost use Rattle.std.specs.Prelude.{◌≡◌, false};
 
 use crate::growths::told::{came_of, go_on_to, show_came, show_same};
 use crate::samples::MemoryFiles;
-use rc_crash::{FilesFault, recover_files};
 use rc_db::Db;
 use rc_livetext::write_live;
-use rc_recovery::{RecoverFault, Recovered, logged_events, recover_text};
+use rc_recovery::{
+    FilesFault, RecoverFault, Recovered, logged_events, recover_files, recover_text,
+};
 use rc_session::Session;
 use rc_set::NoMem;
 use std::alloc::{AllocError, AllocGlobal, Global};

@@ -2,7 +2,7 @@
 
 ghost use Rattle.std.specs.Prelude.{◌≡◌};
 
-use rc_files::{FileFault, TwoFiles};
+use rc_recovery::{FileFault, TwoFiles};
 use std::alloc::Global;
 
 /// Two files in memory. A byte that is appended, a replacement and an emptying each take one of

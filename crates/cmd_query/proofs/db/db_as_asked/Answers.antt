@@ -2,7 +2,7 @@ use Rattle.std.proofs.Common.{◌≡◌, ◌∙◌, ◌≤◌, ℕ, List, arith,
 use Rattle.std.specs.Io.KnownBytes.{Appends}
 use Rattle.rc_streams.specs.Input.{AppendsFront, WritesAll, WritesFront}
 use Rattle.rc_streams.specs.declared.input.Failure.TheVariants as failure
-use Rattle.rc_input.specs.Base.{bytes_of}
+use Rattle.rc_dbtext.specs.Base.{bytes_of}
 use Rattle.rc_streams.specs.Noting.{inner_of}
 use Rattle.cmd_query.specs.DbAnswer.{IsAnswerFor}
 use Rattle.cmd_query.specs.DbFaults.{IsDbRefused, TellsAnswerFault}

@@ -1,6 +1,6 @@
 use Rattle.std.proofs.Common.{inl, inr, map, string_bytes}
 use Rattle.rc_args.specs.DbAsked.{db_ask_of}
-use Rattle.rc_input.specs.Base.{bytes_of}
+use Rattle.rc_dbtext.specs.Base.{bytes_of}
 use Rattle.rc_streams.specs.Noting.{inner_of}
 use Rattle.cmd_query.proofs.DbLemmas.{if_read_then}
 use Rattle.cmd_query.proofs.RunLemmas.{answer_begun, answer_written, never_wrong, status_wider}

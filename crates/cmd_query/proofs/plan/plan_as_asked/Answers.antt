@@ -3,7 +3,7 @@ use Rattle.std.specs.Io.KnownBytes.{Appends}
 use Rattle.rc_select.specs.Ask.{ask_of}
 use Rattle.rc_streams.specs.Input.{AppendsFront, WritesAll, WritesFront}
 use Rattle.rc_streams.specs.declared.input.Failure.TheVariants as failure
-use Rattle.rc_input.specs.Base.{bytes_of}
+use Rattle.rc_dbtext.specs.Base.{bytes_of}
 use Rattle.rc_streams.specs.Noting.{HasFailed, inner_of}
 use Rattle.cmd_query.specs.PlanFaults.{TellsPlanFault}
 use Rattle.cmd_query.specs.PlanText.{IsPlanFor}

@@ -1,6 +1,6 @@
 use Rattle.std.proofs.Common.{inl, inr, map, string_bytes}
 use Rattle.rc_select.specs.Ask.{ask_of}
-use Rattle.rc_input.specs.Base.{bytes_of}
+use Rattle.rc_dbtext.specs.Base.{bytes_of}
 use Rattle.rc_streams.specs.Noting.{inner_of}
 use Rattle.cmd_query.proofs.PlanLemmas.{if_some_then}
 use Rattle.cmd_query.proofs.RunLemmas.{never_wrong, plan_begun, plan_written, some_asked}

@@ -1,7 +1,7 @@
 use Rattle.std.proofs.Common.{◌≤◌, ℕ, List, [], Bor, Err, None, Some, ap, arith, inl, inr, length}
 use Rattle.std.proofs.Common.{refl, subst, sym}
 use Rattle.rc_streams.specs.Noting.{HasFailed, inner_of}
-use Rattle.rc_input.specs.Base.{Spells, bytes_of}
+use Rattle.rc_dbtext.specs.Base.{Spells, bytes_of}
 use Rattle.rc_args.specs.SessionAsked.{session_ask_of}
 use Rattle.cmd_session.specs.Services.{OfLines}
 use Rattle.cmd_session.specs.Session.{asked_with, dealt}

@@ -1,7 +1,7 @@
 use Rattle.std.proofs.Common.{⊎_elim, List, ℕ, Option, IfSome, map, subst}
 use Rattle.rc_source.specs.Said.{meaning_of}
-use Rattle.rc_members.specs.Pipelines.{IsService}
-use Rattle.rc_members.specs.Standing.{IsBundle}
+use Rattle.rc_compile.specs.Pipelines.{IsService}
+use Rattle.rc_compile.specs.Standing.{IsBundle}
 use Rattle.rc_compile.specs.CompileFaults.{AreTooMany}
 use Rattle.rc_compile.proofs.book.book_of.Goals as goal
 

@@ -1,12 +1,12 @@
 use Rattle.std.proofs.Common.{Contains, List, ap, length, map, subst, sym, ℕ, ◌∙◌}
 use Rattle.std.specs.Global.{Vec}
 use Rattle.rc_model.specs.Names.{Holds}
-use Rattle.rc_members.specs.Rows.{rows}
-use Rattle.rc_members.proofs.RowLemmas.{length-rows}
+use Rattle.rc_compile.specs.Rows.{rows}
+use Rattle.rc_compile.proofs.RowLemmas.{length-rows}
 use Rattle.rc_source.specs.Meaning.{Meaning}
 use Rattle.rc_source.specs.Said.{meaning_of}
-use Rattle.rc_members.specs.Mirror.{HasListed}
-use Rattle.rc_members.specs.declared.rows.Listed.TheVariants.{Producer}
+use Rattle.rc_compile.specs.Mirror.{HasListed}
+use Rattle.rc_compile.specs.declared.members.rows.Listed.TheVariants.{Producer}
 use Rattle.rc_compile.specs.Book.{IsMatchedAt}
 use Rattle.rc_compile.proofs.Looking.{paired, writes_listed}
 use Rattle.rc_compile.proofs.book.listed.Goals as goal

@@ -1,7 +1,7 @@
 use Rattle.std.proofs.Common.{List, Bool, map, sym, subst}
 use Rattle.rc_source.specs.Said.{meaning_of}
-use Rattle.rc_members.specs.Standing.{StandsFor}
-use Rattle.rc_members.specs.Sets.{AreSetsOf}
+use Rattle.rc_compile.specs.Standing.{StandsFor}
+use Rattle.rc_compile.specs.Sets.{AreSetsOf}
 use Rattle.rc_compile.proofs.Bridges.{are_piped, are_apart}
 use Rattle.rc_compile.proofs.Stages.{no_flaw, no_mismatch, no_taken, no_type}
 use Rattle.rc_compile.proofs.build.build.Goals as goal

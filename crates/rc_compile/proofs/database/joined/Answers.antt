@@ -1,6 +1,6 @@
 use Rattle.std.proofs.Common.{length, map}
 use Rattle.rc_source.specs.Said.{meaning_of}
-use Rattle.rc_members.specs.Standing.{IsBundle, StandsFor}
+use Rattle.rc_compile.specs.Standing.{IsBundle, StandsFor}
 use Rattle.rc_compile.proofs.Tabled.{tabled_names, tabled_sets}
 use Rattle.rc_compile.proofs.database.joined.Goals as goal
 

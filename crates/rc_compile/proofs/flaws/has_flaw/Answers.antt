@@ -1,6 +1,6 @@
 use Rattle.std.proofs.Common.{◌↔◌, List, IsTrue, ℕ, map, sym, subst}
 use Rattle.std.specs.Global.{Vec}
-use Rattle.rc_members.specs.Rows.{rows}
+use Rattle.rc_compile.specs.Rows.{rows}
 use Rattle.rc_source.specs.Said.{meaning_of}
 use Rattle.rc_compile.specs.declared.flaws.EntryFlaw.{EntryFlaw}
 use Rattle.rc_compile.specs.Book.{IsUnmatched}

@@ -1,8 +1,8 @@
 use Rattle.std.proofs.Common.{◌∙◌, Err, ap, map}
 use Rattle.rc_source.specs.Said.{meaning_of}
-use Rattle.rc_members.specs.Standing.{NeedsNamed}
-use Rattle.rc_members.proofs.Cycles.{shown_at, shown_cycle, no_shown_cycle, cycle_within}
-use Rattle.rc_members.proofs.Drafts.{shown_fault}
+use Rattle.rc_compile.specs.Standing.{NeedsNamed}
+use Rattle.rc_compile.proofs.Cycles.{shown_at, shown_cycle, no_shown_cycle, cycle_within}
+use Rattle.rc_compile.proofs.Drafts.{shown_fault}
 use Rattle.rc_compile.proofs.needs.graph_of.Goals as goal
 
 pub shown_cycle-requires : goal.shown_cycle-requires

@@ -2,9 +2,9 @@ use Rattle.std.proofs.Common.{◌≡◌, ◌∙◌, ℕ, ◌+◌, ◌<◌, ◌�
 use Rattle.std.proofs.lemmas.List.Elements.{Contains-get_or}
 use Rattle.rc_model.specs.Names.{Has}
 use Rattle.rc_model.specs.Graph.{Needs}
-use Rattle.rc_members.specs.Rows.{rows}
+use Rattle.rc_compile.specs.Rows.{rows}
 use Rattle.rc_graph.proofs.RowLemmas.{needer_known}
-use Rattle.rc_members.proofs.RowLemmas.{row_is, row_needs, length-rows}
+use Rattle.rc_compile.proofs.RowLemmas.{row_is, row_needs, length-rows}
 use Rattle.rc_compile.proofs.Needing.{gained, gained_as, nothing_gained, one_passed, all_passed}
 use Rattle.rc_compile.proofs.Needing.{for_one}
 use Rattle.rc_compile.proofs.needs.need_bundles.Goals as goal

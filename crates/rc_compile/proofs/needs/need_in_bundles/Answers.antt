@@ -1,12 +1,12 @@
 use Rattle.std.proofs.Common.{◌∙◌, ◌<◌, map, length, sym, ap, subst, arith}
 use Rattle.std.proofs.lemmas.Result.{on_ok_weaker}
 use Rattle.rc_model.specs.Graph.{Needs}
-use Rattle.rc_members.specs.Rows.{rows}
-use Rattle.rc_members.proofs.RowLemmas.{length-rows}
+use Rattle.rc_compile.specs.Rows.{rows}
+use Rattle.rc_compile.proofs.RowLemmas.{length-rows}
 use Rattle.rc_source.specs.Said.{meaning_of}
-use Rattle.rc_members.specs.Mirror.{HasListed, Mirrors}
-use Rattle.rc_members.specs.declared.rows.Listed.TheVariants.{Dependencies}
-use Rattle.rc_members.proofs.Drafts.{mirrors_known}
+use Rattle.rc_compile.specs.Mirror.{HasListed, Mirrors}
+use Rattle.rc_compile.specs.declared.members.rows.Listed.TheVariants.{Dependencies}
+use Rattle.rc_compile.proofs.Drafts.{mirrors_known}
 use Rattle.rc_compile.proofs.needs.need_in_bundles.Goals as goal
 
 pub need_bundles-requires-clause-bound : goal.need_bundles-requires-clause-bound

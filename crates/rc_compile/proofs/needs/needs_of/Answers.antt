@@ -3,9 +3,9 @@ use Rattle.std.proofs.lemmas.List.{length-replicate}
 use Rattle.rc_model.specs.Names.{Has}
 use Rattle.rc_model.specs.Graph.{Needs}
 use Rattle.rc_source.specs.Said.{meaning_of}
-use Rattle.rc_members.specs.Mirror.{AreAt, HasListed}
-use Rattle.rc_members.specs.declared.rows.Listed.TheVariants.{Dependencies, Producer}
-use Rattle.rc_members.proofs.Drafts.{none_needed}
+use Rattle.rc_compile.specs.Mirror.{AreAt, HasListed}
+use Rattle.rc_compile.specs.declared.members.rows.Listed.TheVariants.{Dependencies, Producer}
+use Rattle.rc_compile.proofs.Drafts.{none_needed}
 use Rattle.rc_compile.proofs.Looking.{gained_thrice}
 use Rattle.rc_compile.proofs.NeedsByName.{needs_mirror}
 use Rattle.rc_compile.proofs.needs.needs_of.Goals as goal

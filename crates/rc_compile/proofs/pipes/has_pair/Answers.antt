@@ -4,8 +4,8 @@ use Rattle.std.proofs.lemmas.List.Elements.{contains_decides, Decides-contains}
 use Rattle.std.proofs.lemmas.Bool.Decides.{Decides-eqb}
 use Rattle.std.proofs.lemmas.Option.{slice_get_within}
 use Rattle.rc_model.specs.Graph.{Needs}
-use Rattle.rc_members.specs.Rows.{rows}
-use Rattle.rc_members.proofs.RowLemmas.{row_is, row_needs}
+use Rattle.rc_compile.specs.Rows.{rows}
+use Rattle.rc_compile.proofs.RowLemmas.{row_is, row_needs}
 use Rattle.rc_model.proofs.ByteOrder.{one_place}
 use Rattle.rc_model.proofs.Places.{contains_at}
 use Rattle.rc_compile.proofs.pipes.has_pair.Goals as goal

@@ -1,6 +1,6 @@
 use Rattle.std.proofs.Common.{◌⊎◌, ℕ, List, subst}
 use Rattle.rc_model.specs.Names.{Has, Holds}
-use Rattle.rc_members.specs.Rows.{rows}
+use Rattle.rc_compile.specs.Rows.{rows}
 use Rattle.rc_compile.specs.Book.{ArePairedAt}
 use Rattle.rc_compile.proofs.pipes.insert_matched.Goals as goal
 

@@ -2,7 +2,7 @@ use Rattle.std.proofs.Common.{◌≡◌, ◌∙◌, ◌⊎◌, ⊎_elim, inl, in
 use Rattle.std.proofs.Common.{subst, arith}
 use Rattle.std.proofs.lemmas.List.{take_all}
 use Rattle.rc_model.specs.Names.{Has, Holds}
-use Rattle.rc_members.specs.Rows.{rows}
+use Rattle.rc_compile.specs.Rows.{rows}
 use Rattle.rc_compile.specs.Book.{HasPair, ArePairedAt}
 use Rattle.rc_compile.proofs.Mentioned.{part_next, part_none}
 use Rattle.rc_compile.proofs.pipes.insert_paired.Goals as goal

@@ -1,7 +1,7 @@
 use Rattle.std.proofs.Common.{◌∙◌, map, arith}
 use Rattle.std.proofs.lemmas.List.{length-map}
 use Rattle.rc_model.specs.Names.{Has}
-use Rattle.rc_members.specs.Rows.{rows}
+use Rattle.rc_compile.specs.Rows.{rows}
 use Rattle.rc_db.proofs.Words.{mapped_at}
 use Rattle.rc_source.specs.Said.{meaning_of}
 use Rattle.rc_compile.specs.Book.{IsMatchedAt}

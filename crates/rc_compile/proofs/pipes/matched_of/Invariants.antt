@@ -1,6 +1,6 @@
 use Rattle.std.proofs.Common.{◌≡◌, length, map}
 use Rattle.rc_model.specs.Names.{Has}
-use Rattle.rc_members.specs.Rows.{rows}
+use Rattle.rc_compile.specs.Rows.{rows}
 use Rattle.rc_source.specs.Said.{meaning_of}
 use Rattle.rc_compile.specs.Book.{IsMatchedAt}
 use Rattle.rc_compile.proofs.Givens.{SeenBelow}

@@ -1,6 +1,6 @@
 use Rattle.std.proofs.Common.{◌∙◌, refl, sym, true≢false, arith}
 use Rattle.rc_model.proofs.Places.{contains_at}
-use Rattle.rc_members.specs.Rows.{rows}
+use Rattle.rc_compile.specs.Rows.{rows}
 use Rattle.rc_compile.specs.Book.{HasPair}
 use Rattle.rc_compile.proofs.Passing.{stands, passed_next, passed_all}
 use Rattle.rc_compile.proofs.pipes.some_unpaired.Goals as goal

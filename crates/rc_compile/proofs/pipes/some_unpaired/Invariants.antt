@@ -1,4 +1,4 @@
-use Rattle.rc_members.specs.Rows.{rows}
+use Rattle.rc_compile.specs.Rows.{rows}
 use Rattle.rc_compile.specs.Book.{HasPair}
 use Rattle.rc_compile.proofs.Passing.{Passed}
 use Rattle.rc_compile.proofs.pipes.some_unpaired.Given as goal

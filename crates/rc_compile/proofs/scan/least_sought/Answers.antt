@@ -4,7 +4,7 @@ use Rattle.std.proofs.lemmas.Option.{IfSome_then}
 use Rattle.std.proofs.lemmas.Result.{IfOk-weaker}
 use Rattle.rc_source.specs.Said.{meaning_of}
 use Rattle.rc_source.proofs.Members.{Contains-nil}
-use Rattle.rc_members.specs.Along.{IsLeast}
+use Rattle.rc_compile.specs.Along.{IsLeast}
 use Rattle.rc_compile.specs.Book.{IsSought}
 use Rattle.rc_compile.proofs.Shown.{same_least}
 use Rattle.rc_compile.proofs.scan.least_sought.Goals as goal

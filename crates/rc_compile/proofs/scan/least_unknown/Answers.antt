@@ -7,7 +7,7 @@ use Rattle.rc_db.proofs.Words.{mapped_at}
 use Rattle.rc_source.specs.Meaning.{Meaning}
 use Rattle.rc_source.specs.Said.{meaning_of}
 use Rattle.rc_source.proofs.Members.{Contains-nil}
-use Rattle.rc_members.specs.Along.{IsLeast}
+use Rattle.rc_compile.specs.Along.{IsLeast}
 use Rattle.rc_compile.specs.CompileFaults.{HasUnknown}
 use Rattle.rc_compile.specs.Book.{ShowsUnknown}
 use Rattle.rc_compile.proofs.Givens.{all_below, below_next}

@@ -1,6 +1,6 @@
 use Rattle.std.proofs.Common.{List, ℕ, Option, IfNone, IfSome, map, sym, subst}
 use Rattle.rc_source.specs.Said.{meaning_of}
-use Rattle.rc_members.specs.Along.{IsLeast}
+use Rattle.rc_compile.specs.Along.{IsLeast}
 use Rattle.rc_compile.specs.CompileFaults.{HasEntryFlaw, IsCompileFault}
 use Rattle.rc_compile.proofs.Leading.{told_first}
 use Rattle.rc_compile.proofs.scan.test_entries.Goals as goal

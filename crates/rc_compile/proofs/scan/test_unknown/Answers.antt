@@ -1,6 +1,6 @@
 use Rattle.std.proofs.Common.{List, ℕ, Option, IfNone, IfSome, map, subst}
 use Rattle.rc_source.specs.Said.{meaning_of}
-use Rattle.rc_members.specs.Along.{IsLeast}
+use Rattle.rc_compile.specs.Along.{IsLeast}
 use Rattle.rc_compile.specs.declared.scan.Sought.TheVariants.{Unknown}
 use Rattle.rc_compile.specs.Book.{IsSought}
 use Rattle.rc_compile.specs.CompileFaults.{IsCompileFault}

@@ -2,7 +2,7 @@ use Rattle.std.proofs.Common.{◌≡◌, ◌∙◌, List, ℕ, All, Contains, ge
 use Rattle.std.proofs.Common.{subst}
 use Rattle.std.proofs.lemmas.Bool.{false≢true}
 use Rattle.std.proofs.lemmas.List.{get_or_default, length-map}
-use Rattle.rc_dbsyntax.specs.Text.{ServiceText}
+use Rattle.rc_dbtext.specs.Text.{ServiceText}
 use Rattle.rc_dbtext.proofs.Drafting.{HasAdded, HasDrafted, drafted_all, drafted_none, drafted_one}
 use Rattle.rc_dbtext.proofs.Drafting.{known_all, known_one, no_service}
 use Rattle.rc_dbtext.proofs.build.draft_of.Goals as goal

@@ -1,7 +1,7 @@
 use Rattle.std.proofs.Common.{◌≡◌, ◌∙◌, ◌<◌, ◌+◌, ◌++◌, ◌∷◌, [], ℕ, List, length, get_or, take}
 use Rattle.std.proofs.Common.{arith, ap, sym, subst}
 use Rattle.std.proofs.lemmas.List.{get_or-map, get_or-take, length-map, length-take, take_more}
-use Rattle.rc_dbsyntax.specs.Text.{ServiceText}
+use Rattle.rc_dbtext.specs.Text.{ServiceText}
 use Rattle.rc_model.specs.Names.{IsBefore}
 use Rattle.rc_dbtext.specs.Meaning.{service_names}
 use Rattle.rc_dbtext.proofs.build.names_of.Goals as goal

@@ -5,9 +5,9 @@ use Rattle.std.specs.Option.{option_map}
 use Rattle.rc_model.specs.declared.Kind.{Kind}
 use Rattle.rc_model.specs.declared.Kind.TheVariants as kinds
 use Rattle.rc_model.specs.Database.{Service}
-use Rattle.rc_dbsyntax.specs.Text.{Head, OfLongrun, OfOneshot, ServiceText, IsBody, IsHead}
-use Rattle.rc_dbsyntax.specs.Text.{IsServiceText}
-use Rattle.rc_dbsyntax.specs.FormText.{body_text}
+use Rattle.rc_dbtext.specs.Text.{Head, OfLongrun, OfOneshot, ServiceText, IsBody, IsHead}
+use Rattle.rc_dbtext.specs.Text.{IsServiceText}
+use Rattle.rc_dbtext.specs.FormText.{body_text}
 use Rattle.rc_dbtext.specs.Parts.{FeedsKnown, IsServiceOf}
 use Rattle.rc_dbtext.specs.Spelling.{body_of, head_of, name_at}
 use Rattle.rc_dbtext.proofs.build.service_of.Goals as goal

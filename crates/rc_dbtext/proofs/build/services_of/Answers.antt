@@ -1,7 +1,7 @@
 use Rattle.std.proofs.Common.{◌≡◌, ◌+◌, ◌∷◌, ◌++◌, [], List, take, rules, sym, subst}
 use Rattle.std.specs.List.{AllZip}
 use Rattle.rc_model.specs.Database.{Service}
-use Rattle.rc_dbsyntax.specs.Text.{ServiceText, IsServiceText}
+use Rattle.rc_dbtext.specs.Text.{ServiceText, IsServiceText}
 use Rattle.rc_dbtext.specs.Parts.{FeedsKnown, IsServiceOf}
 use Rattle.rc_dbtext.proofs.Zips.{zip_more}
 use Rattle.rc_dbtext.proofs.build.services_of.Goals as goal

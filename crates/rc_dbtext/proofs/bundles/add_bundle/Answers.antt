@@ -1,6 +1,6 @@
 use Rattle.rc_model.specs.Line.{IsChangedAt}
 use Rattle.std.proofs.Common.{◌≡◌, ◌∙◌, ℕ, List, Some, All, Contains, sym, ap, subst}
-use Rattle.rc_dbsyntax.specs.Text.{BundleText}
+use Rattle.rc_dbtext.specs.Text.{BundleText}
 use Rattle.rc_dbtext.proofs.Bundling.{added_last}
 use Rattle.rc_dbtext.proofs.bundles.add_bundle.Goals as goal
 

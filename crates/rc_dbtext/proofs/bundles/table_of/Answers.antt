@@ -1,5 +1,5 @@
 use Rattle.std.proofs.Common.{All, Contains, sym, subst}
-use Rattle.rc_dbsyntax.specs.Text.{BundleText}
+use Rattle.rc_dbtext.specs.Text.{BundleText}
 use Rattle.rc_dbtext.proofs.Joining.{before_next, below_one, bundled_one}
 use Rattle.rc_dbtext.proofs.bundles.table_of.Goals as goal
 use Rattle.std.proofs.Common.{length}

@@ -1,6 +1,6 @@
 use Rattle.std.proofs.Common.{◌∙◌, List, All, sym, ap, subst}
 use Rattle.std.proofs.lemmas.Bool.{false≢true}
-use Rattle.rc_dbsyntax.specs.Text.{DbText, ServiceText}
+use Rattle.rc_dbtext.specs.Text.{DbText, ServiceText}
 use Rattle.rc_dbtext.specs.Parts.{AreKnown}
 use Rattle.rc_dbtext.proofs.Completing.{complete_bundles, complete_from, complete_services}
 use Rattle.rc_dbtext.proofs.complete.is_complete.Goals as goal

@@ -1,5 +1,5 @@
 use Rattle.std.proofs.Common.{◌≡◌, ◌∙◌, ℕ, List, All, Contains, sym, ap, subst}
-use Rattle.rc_dbsyntax.specs.Text.{ServiceText, DbText}
+use Rattle.rc_dbtext.specs.Text.{ServiceText, DbText}
 use Rattle.rc_dbtext.specs.Meaning.{service_names}
 use Rattle.rc_dbtext.specs.Parts.{AreNeedsOf}
 use Rattle.rc_dbtext.proofs.Completing.{known_needs}

@@ -2,7 +2,7 @@ use Rattle.std.proofs.Common.{◌≡◌, ◌∙◌, ℕ, List, All, Contains, sy
 use Rattle.std.specs.List.{AllZip}
 use Rattle.rc_db.specs.Service.{IsWritableService}
 use Rattle.rc_model.specs.Database.{Database}
-use Rattle.rc_dbsyntax.specs.Text.{BundleText, ServiceText, DbText}
+use Rattle.rc_dbtext.specs.Text.{BundleText, ServiceText, DbText}
 use Rattle.rc_dbtext.specs.Parts.{FeedsKnown, IsServiceOf}
 use Rattle.rc_dbtext.specs.Spelling.{text_of}
 use Rattle.rc_dbtext.proofs.Joining.{all_feed_known, all_writable, fits, says}

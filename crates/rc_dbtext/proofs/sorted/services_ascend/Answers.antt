@@ -1,6 +1,6 @@
 use Rattle.std.proofs.Common.{rules}
 use Rattle.std.proofs.lemmas.List.Sorted.{answers_always}
-use Rattle.rc_dbsyntax.specs.Text.{ServiceText}
+use Rattle.rc_dbtext.specs.Text.{ServiceText}
 use Rattle.rc_model.proofs.WordOrders.{answers_before, before}
 use Rattle.rc_dbtext.proofs.Sorting.{sorted_by_name}
 use Rattle.rc_dbtext.proofs.sorted.services_ascend.Goals as goal

@@ -1,6 +1,6 @@
 use Rattle.std.proofs.Common.{◌≡◌, ◌∷◌, ◌++◌, length, take}
 use Rattle.std.specs.List.{flat_map}
-use Rattle.rc_dbsyntax.specs.Text.{BundleCount, bundle_lines, spells}
+use Rattle.rc_dbtext.specs.Text.{BundleCount, bundle_lines, spells}
 use Rattle.rc_dbtext.specs.Spelling.{text_of}
 use Rattle.rc_dbtext.proofs.write.push_bundles.Given as goal
 

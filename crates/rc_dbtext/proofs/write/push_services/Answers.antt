@@ -1,7 +1,7 @@
 use Rattle.std.proofs.Common.{◌≡◌, ◌∙◌, ◌<◌, ◌+◌, List, get_or, length, arith, sym, ap}
 use Rattle.std.proofs.lemmas.Option.{slice_get-get_or}
 use Rattle.std.specs.Prelude.{codes}
-use Rattle.rc_dbsyntax.specs.Text.{ServiceCount, ServiceText, service_lines}
+use Rattle.rc_dbtext.specs.Text.{ServiceCount, ServiceText, service_lines}
 use Rattle.rc_dbtext.specs.Spelling.{text_of}
 use Rattle.rc_dbtext.proofs.Drafting.{no_service}
 use Rattle.rc_dbtext.proofs.Writing.{as_many_texts, count_line, counted_all, counted_init}

@@ -1,6 +1,6 @@
 use Rattle.std.proofs.Common.{◌≡◌, ◌∙◌, ◌++◌, ◌∷◌, [], ℕ, List, rules, ap}
 use Rattle.std.specs.Prelude.{codes}
-use Rattle.rc_dbsyntax.specs.Text.{line_of_words}
+use Rattle.rc_dbtext.specs.Text.{line_of_words}
 use Rattle.rc_dbtext.proofs.Writing.{parts_written}
 use Rattle.rc_dbtext.proofs.write.write_db.Goals as goal
 

@@ -1,5 +1,5 @@
 use Rattle.std.proofs.Common.{Contains, map, codes, ap, string_bytes}
-use Rattle.rc_tree.specs.Tree.{file_at}
+use Rattle.rc_source.specs.Tree.{file_at}
 use Rattle.rc_source.specs.Meaning.{given_in}
 use Rattle.rc_source.proofs.Asking.{asked_memory, asked_ok, asked_on}
 use Rattle.rc_source.proofs.Exits.{exit, exit_memory, no_success, no_value}

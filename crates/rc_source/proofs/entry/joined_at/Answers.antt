@@ -1,5 +1,5 @@
 use Rattle.std.proofs.Common.{◌≡◌, ◌∙◌, inl, inr, false, Contains, map, ap, string_bytes}
-use Rattle.rc_tree.specs.Tree.{file_at, names_next}
+use Rattle.rc_source.specs.Tree.{file_at, names_next}
 use Rattle.rc_source.specs.Kinds.{Names, NameEach, is_hidden}
 use Rattle.rc_source.specs.Meaning.{given_in}
 use Rattle.rc_source.proofs.Asking.{asked_memory, asked_ok, asked_on, asked_then}

@@ -1,6 +1,6 @@
 use Rattle.std.proofs.Common.{◌≡◌, ◌∙◌, ◌∷◌, inl, inr, codes, Some, sym, ap, subst, string_bytes}
 use Rattle.std.specs.Option.{option_map}
-use Rattle.rc_tree.specs.Tree.{file_at}
+use Rattle.rc_source.specs.Tree.{file_at}
 use Rattle.rc_source.specs.Kinds.{UpText, DownText, files_of_atomic}
 use Rattle.rc_source.specs.Files.{FilePasses, StopsAtFile, FilesPass, StopsInFiles}
 use Rattle.rc_source.specs.Meaning.{Means, IsMeaning}

@@ -2,7 +2,7 @@ use Rattle.std.proofs.Common.{◌∙◌, sym, ap, subst, All, string_bytes}
 use Rattle.std.specs.Option.{IfSome, option_map}
 use Rattle.std.proofs.lemmas.Result.{on_ok_weaker}
 use Rattle.rc_model.specs.Names.{IsName}
-use Rattle.rc_tree.specs.Tree.{file_at}
+use Rattle.rc_source.specs.Tree.{file_at}
 use Rattle.rc_source.specs.Texts.{IsScriptText, names_in}
 use Rattle.rc_source.specs.Kinds.{Names}
 use Rattle.rc_source.proofs.Exits.{if_err_weaker}

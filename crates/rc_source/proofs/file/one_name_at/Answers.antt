@@ -1,7 +1,7 @@
 use Rattle.std.proofs.Common.{◌∙◌, sym, ap, subst, string_bytes, slice_get}
 use Rattle.std.specs.Option.{IfSome, option_map}
 use Rattle.std.proofs.lemmas.Result.{on_ok_weaker, IfOk-weaker}
-use Rattle.rc_tree.specs.Tree.{file_at}
+use Rattle.rc_source.specs.Tree.{file_at}
 use Rattle.rc_source.specs.Texts.{IsScriptText, names_in}
 use Rattle.rc_source.specs.Kinds.{OneName}
 use Rattle.rc_source.specs.Files.{IsWrong}

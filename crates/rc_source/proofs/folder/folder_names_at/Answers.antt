@@ -2,7 +2,7 @@ use Rattle.std.proofs.Common.{◌↔◌, ℕ, List, Contains, All, map, sym, sub
 use Rattle.std.specs.Option.{option_map}
 use Rattle.std.proofs.lemmas.Result.{IfOk-weaker}
 use Rattle.rc_model.specs.Names.{IsName}
-use Rattle.rc_tree.specs.Tree.{IsListing, names_next}
+use Rattle.rc_source.specs.Tree.{IsListing, names_next}
 use Rattle.rc_source.proofs.Exits.{if_err_weaker}
 use Rattle.rc_source.proofs.Folders.{folder_gives, folder_passes, folder_stops, on_ok_both}
 use Rattle.rc_source.proofs.folder.folder_names_at.Goals as goal

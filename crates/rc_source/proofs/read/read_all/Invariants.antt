@@ -1,5 +1,5 @@
 use Rattle.std.proofs.Common.{◌≡◌, List, Some, map, drop}
-use Rattle.rc_tree.specs.Tree.{Source}
+use Rattle.rc_source.specs.Tree.{Source}
 use Rattle.rc_source.proofs.Reading.{SourcesRead}
 use Rattle.rc_source.proofs.read.read_all.Given as goal
 

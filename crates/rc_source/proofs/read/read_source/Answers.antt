@@ -2,7 +2,7 @@ use Rattle.std.proofs.Common.{◌≡◌, ◌≢◌, ◌∙◌, length, map, sym,
 use Rattle.std.proofs.lemmas.List.{length-map}
 use Rattle.rc_source.specs.declared.fault.Flaw.{Flaw}
 use Rattle.rc_source.specs.declared.fault.Flaw.TheVariants.{Io, Memory}
-use Rattle.rc_tree.specs.TreeFaults.{HasFailed}
+use Rattle.rc_source.specs.TreeFaults.{HasFailed}
 use Rattle.rc_source.specs.Said.{meant}
 use Rattle.rc_source.specs.Tests.{StopsInTests, tests_of_entry, tests_of_entries, entries_of}
 use Rattle.rc_source.specs.Tests.{flaw_of, name_carried}

@@ -1,5 +1,5 @@
 use Rattle.std.proofs.Common.{◌≡◌, Some, map, string_bytes}
-use Rattle.rc_tree.specs.Tree.{Source}
+use Rattle.rc_source.specs.Tree.{Source}
 use Rattle.rc_source.proofs.Reading.{EntriesRead}
 use Rattle.rc_source.proofs.read.read_source.Given as goal
 

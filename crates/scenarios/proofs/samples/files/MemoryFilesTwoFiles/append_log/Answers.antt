@@ -2,7 +2,7 @@ use Rattle.std.proofs.Common.{◌≡◌, ◌∙◌, ◌++◌, ℕ, Bool, true, f
 use Rattle.std.proofs.Common.{drop, refl, ap, sym}
 use Rattle.std.specs.Result.{is_ok}
 use Rattle.std.proofs.lemmas.List.{append-nil, take-append-drop}
-use Rattle.rc_files.specs.Files.{Append, Torn}
+use Rattle.rc_recovery.specs.Files.{Append, Torn}
 use Rattle.scenarios.proofs.samples.files.MemoryFilesTwoFiles.append_log.Goals as goal
 
 -- the front of the bytes for which there are steps is appended, where there is memory

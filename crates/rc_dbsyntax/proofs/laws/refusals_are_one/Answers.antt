@@ -1,8 +1,0 @@
-use Rattle.rc_dbsyntax.specs.Text.{IsDbText, db_lines}
-use Rattle.rc_dbsyntax.proofs.Aligned.{aligned_db}
-use Rattle.rc_dbsyntax.proofs.OneRefusal.{one_refusal}
-use Rattle.rc_dbsyntax.proofs.laws.refusals_are_one.Goals as goal
-
-pub returns : goal.returns
-returns c bytes a b of_a of_b not_a not_b =
-    one_refusal IsDbText db_lines aligned_db bytes a b of_a of_b not_a not_b

@@ -1,1 +1,0 @@
--- rc_files has no lemmas of its own.

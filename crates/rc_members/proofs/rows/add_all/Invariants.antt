@@ -1,7 +1,0 @@
-use Rattle.std.proofs.Common.{take}
-use Rattle.rc_members.proofs.Listing.{Puts}
-use Rattle.rc_members.proofs.rows.add_all.Given as goal
-
--- the places of the names passed are in
-abbrev pub invariant-loop-name : goal.invariant-loop-name
-invariant-loop-name l = Puts l.to l.fn.ids.items (take l.name-index l.names) l.ids.items

@@ -1,8 +1,0 @@
-use Rattle.std.proofs.Common.{take}
-use Rattle.rc_members.specs.Walking.{Meets}
-use Rattle.rc_members.proofs.walk.meet_all.Given as goal
-
--- those passed are met
-abbrev pub invariant-loop-t : goal.invariant-loop-t
-invariant-loop-t l =
-    Meets l.fn.walk.seen l.fn.walk.todo.items (take l.t-index l.list) l.walk.seen l.walk.todo.items

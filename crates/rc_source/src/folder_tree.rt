@@ -1,0 +1,294 @@
+ghost use Rattle.std.specs.Prelude.{◌≡◌, ◌≤◌, IfErr, OnOk};
+ghost use Rattle.rc_source.specs.TreeFaults.{IsCallFault};
+
+use crate::tree::{MAX_FILE, Tree, TreeFault, first_part, path_to};
+use rc_names::NoMem;
+use std::alloc::Global;
+use std::io::{ErrorKind, Read};
+use std::rt::Files;
+use std::{fs, io};
+
+// The most reads of the names in a service directory, of 4,096 bytes each.
+const MAX_READS: u64 = 16;
+
+/// A tree in a file system: the subdirectories of a directory. No contract can say what it holds.
+///
+/// A service directory is listed once, and what is not in it is not asked for. Where it can't be
+/// listed, each of its files is.
+#[derive(Drop)]
+pub struct FolderTree<R: Files + AllocGlobal + Clone + Drop> {
+    rt: R,
+    root: String,
+    failures: u64,
+    seen: Option<Seen>,
+}
+
+// What was seen in the service directory that was asked last.
+#[derive(Drop)]
+struct Seen {
+    service: String,
+    // Each with a byte 0 after it; none where the directory could not be listed.
+    names: Option<Vec<u8>>,
+}
+
+impl<R: Files + AllocGlobal + Clone + Drop> FolderTree<R> {
+    /// The tree of a directory, which keeps the runtime. Nothing is read yet.
+    pub fn open(rt: R, alloc: Global, root: &str) -> Result<FolderTree<R>, NoMem> {
+        let root = String::from_str(alloc, root)?;
+        Ok(FolderTree {
+            rt,
+            root,
+            failures: 0,
+            seen: None,
+        })
+    }
+
+    // The path of a file of a service directory.
+    fn path(&self, alloc: Global, service: &str, file: &str) -> Result<String, NoMem> {
+        path_in(alloc, self.root.as_str(), service, file)
+    }
+}
+
+impl<R: Files + AllocGlobal + Clone + Drop> Tree for FolderTree<R> {
+    ghost failed = { λ tree. tree.failures };
+
+    fn failures(&self) -> u64 {
+        self.failures
+    }
+
+    fn entries(&mut self, alloc: Global) -> Result<Vec<String>, TreeFault> {
+        noted(
+            &mut self.failures,
+            subdirectories(&self.rt, alloc, self.root.as_str()),
+        )
+    }
+
+    fn listing(
+        &mut self,
+        alloc: Global,
+        service: &str,
+        folder: &str,
+    ) -> Result<Option<Vec<String>>, TreeFault> {
+        if lacks(
+            &self.rt,
+            alloc,
+            self.root.as_str(),
+            &mut self.seen,
+            service,
+            folder,
+        )? {
+            return Ok(None);
+        }
+        let path = self.path(alloc, service, folder)?;
+        noted(&mut self.failures, names_at(&self.rt, alloc, path.as_str()))
+    }
+
+    fn bytes(
+        &mut self,
+        alloc: Global,
+        service: &str,
+        file: &str,
+    ) -> Result<Option<Vec<u8>>, TreeFault> {
+        if lacks(
+            &self.rt,
+            alloc,
+            self.root.as_str(),
+            &mut self.seen,
+            service,
+            file,
+        )? {
+            return Ok(None);
+        }
+        let path = self.path(alloc, service, file)?;
+        let bytes = noted(
+            &mut self.failures,
+            if_there(first_bytes(&self.rt, alloc, path.as_str())),
+        )?;
+        match bytes {
+            Some(bytes) if bytes.len() > MAX_FILE => Err(TreeFault::TooLong),
+            bytes => Ok(bytes),
+        }
+    }
+
+    fn has(&mut self, alloc: Global, service: &str, file: &str) -> Result<bool, TreeFault> {
+        if lacks(
+            &self.rt,
+            alloc,
+            self.root.as_str(),
+            &mut self.seen,
+            service,
+            file,
+        )? {
+            return Ok(false);
+        }
+        let path = self.path(alloc, service, file)?;
+        let found = noted(
+            &mut self.failures,
+            if_there(self.rt.metadata(path.as_str())),
+        )?;
+        Ok(found.is_some())
+    }
+}
+
+// The path of a file of a service directory below a root.
+fn path_in(alloc: Global, root: &str, service: &str, file: &str) -> Result<String, NoMem> {
+    let directory = path_to(alloc, root, service)?;
+    path_to(alloc, directory.as_str(), file)
+}
+
+// Whether a service directory can be listed and has nothing of this name. It is
+// listed unless it was asked last.
+fn lacks<R: Files>(
+    rt: &R,
+    alloc: Global,
+    root: &str,
+    seen: &mut Option<Seen>,
+    service: &str,
+    file: &str,
+) -> Result<bool, NoMem> {
+    if !is_of(seen, service) {
+        let path = path_in(alloc, root, service, "")?;
+        let names = names_seen(rt, alloc, path.as_str())?;
+        let service = String::from_str(alloc, service)?;
+        *seen = Some(Seen { service, names });
+    }
+    Ok(is_unseen(seen, file))
+}
+
+// Whether this is what was seen in a service directory.
+fn is_of(seen: &Option<Seen>, service: &str) -> bool {
+    match seen {
+        Some(seen) => seen.service.as_str() == service,
+        None => false,
+    }
+}
+
+// Whether a directory was listed and has nothing of this name, or of what
+// stands before its first slash.
+fn is_unseen(seen: &Option<Seen>, file: &str) -> bool {
+    let name = first_part(file).as_bytes();
+    match seen {
+        Some(
+            Seen {
+                names: Some(names),
+                ..
+            },
+        ) => !names.split(|byte| *byte == 0).any(|seen| seen == name),
+        _ => false,
+    }
+}
+
+// The names in a directory, each with a byte 0 after it; none where it can't be listed or holds
+// more of them than are worth a look.
+fn names_seen<R: Files>(rt: &R, alloc: Global, path: &str) -> Result<Option<Vec<u8>>, NoMem> {
+    let mut names = Vec::new(alloc);
+    let Ok(mut directory) = rt.open_dir(path) else {
+        return Ok(None);
+    };
+    let mut buffer = [0u8; 4096];
+    for _ in 0..MAX_READS {
+        match directory.read(&mut buffer) {
+            Ok(0) => return Ok(Some(names)),
+            Ok(count) => names.extend_from_slice(&buffer[..count])?,
+            Err(_) => return Ok(None),
+        }
+    }
+    Ok(None)
+}
+
+// What a device answered; a failure is counted.
+fn noted<X>(failures: &mut u64, answer: io::Result<X>) -> Result<X, TreeFault>
+    ensures fault { IfErr result (IsCallFault failures.old failures.new) }
+    ensures count { failures.old ≤ failures.new }
+    ensures quiet { OnOk result (failures.new ≡ failures.old) }
+{
+    match answer {
+        Ok(value) => Ok(value),
+        Err(fault) if fault.kind() == ErrorKind::OutOfMemory => Err(TreeFault::Memory),
+        Err(_) => {
+            *failures = failures.saturating_add(1);
+            Err(TreeFault::Io)
+        }
+    }
+}
+
+// What is there: nothing where a path leads nowhere.
+fn if_there<X>(answer: io::Result<X>) -> io::Result<Option<X>> {
+    match answer {
+        Ok(value) => Ok(Some(value)),
+        Err(fault) if leads_nowhere(fault.kind()) => Ok(None),
+        Err(fault) => Err(fault),
+    }
+}
+
+// Whether a path is refused because it leads nowhere: a name is missing, or a link leads through a
+// file or back to itself.
+fn leads_nowhere(kind: ErrorKind) -> bool {
+    matches!(
+        kind,
+        ErrorKind::NotFound | ErrorKind::NotADirectory | ErrorKind::FilesystemLoop
+    )
+}
+
+// The names in a directory, if something is there. A file there is a fault.
+fn names_at<R: Files + AllocGlobal + Clone + Drop>(
+    rt: &R,
+    alloc: Global,
+    path: &str,
+) -> io::Result<Option<Vec<String>>> {
+    match if_there(rt.metadata(path))? {
+        Some(_) => Ok(Some(names_in(rt, alloc, path)?)),
+        None => Ok(None),
+    }
+}
+
+// The names in a directory.
+fn names_in<R: Files + AllocGlobal + Clone + Drop>(
+    rt: &R,
+    alloc: Global,
+    path: &str,
+) -> io::Result<Vec<String>> {
+    let mut names = Vec::new(alloc);
+    for entry in fs::read_dir(rt, path)? {
+        let entry = entry?;
+        names.push(String::from_str(alloc, entry.file_name())?)?;
+    }
+    Ok(names)
+}
+
+// The names of the subdirectories of a directory, but for hidden
+// ones; a link to a directory is one.
+fn subdirectories<R: Files + AllocGlobal + Clone + Drop>(
+    rt: &R,
+    alloc: Global,
+    path: &str,
+) -> io::Result<Vec<String>> {
+    let mut names = Vec::new(alloc);
+    for name in names_in(rt, alloc, path)? {
+        if !name.starts_with('.') && is_directory(rt, alloc, path, name.as_str())? {
+            names.push(name)?;
+        }
+    }
+    Ok(names)
+}
+
+// Whether a name in a directory leads to a directory. A link that leads nowhere does not.
+fn is_directory<R: Files>(rt: &R, alloc: Global, path: &str, name: &str) -> io::Result<bool> {
+    let path = path_to(alloc, path, name)?;
+    Ok(match if_there(rt.metadata(path.as_str()))? {
+        Some(metadata) => metadata.is_dir(),
+        None => false,
+    })
+}
+
+// The bytes at the beginning of a file, one more than it may have. What is no plain file is a
+// fault: to open a pipe would be to wait for whoever writes into it.
+fn first_bytes<R: Files>(rt: &R, alloc: Global, path: &str) -> io::Result<Vec<u8>> {
+    if !rt.metadata(path)?.is_file() {
+        return Err(io::Error::from(ErrorKind::InvalidInput));
+    }
+    let mut bytes = Vec::new(alloc);
+    let file = fs::open(rt, path)?;
+    file.take(MAX_FILE as u64 + 1).read_to_end(&mut bytes)?;
+    Ok(bytes)
+}
