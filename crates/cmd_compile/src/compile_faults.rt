@@ -12,6 +12,7 @@ use rc_streams::ending::{FAILED, REFUSED, fail};
 use rc_streams::{Failure, tell};
 use std::alloc::{AllocError, Global};
 use std::io::Write;
+use std::slice;
 use thiserror::Error;
 
 /// Why trees give no text.
@@ -137,9 +138,7 @@ fn compile_text(alloc: Global, fault: &CompileFault) -> Result<Vec<u8>, NoMem>
 fn told_one(alloc: Global, word: &[u8], name: &Name) -> Result<Vec<u8>, NoMem>
     ensures { IfOk result (λ text. text.items ≡ word_with_names word.now (name.now ∷ [])) }
 {
-    let mut text = Vec::from_slice(alloc, word)?;
-    add_word(&mut text, name.text())?;
-    Ok(text)
+    told_all(alloc, word, slice::from_ref(name))
 }
 
 /// A word with two names after it.
@@ -147,8 +146,7 @@ fn told_two(alloc: Global, word: &[u8], first: &Name, second: &Name) -> Result<V
     ensures { IfOk result (λ text. text.items
         ≡ word_with_names word.now (first.now ∷ second.now ∷ [])) }
 {
-    let mut text = Vec::from_slice(alloc, word)?;
-    add_word(&mut text, first.text())?;
+    let mut text = told_one(alloc, word, first)?;
     add_word(&mut text, second.text())?;
     Ok(text)
 }
