@@ -1,7 +1,6 @@
 -- When `plan` is refused, and the line that tells the refusal.
-use Rattle.std.specs.Prelude.{◌≡◌, ◌≢◌, ◌++◌, ◌⊎◌, ℕ, List, Option, Some, codes, slice_get}
+use Rattle.std.specs.Prelude.{◌≡◌, ◌≢◌, ◌⊎◌, ℕ, List, Option, Some, codes, slice_get}
 use Rattle.std.specs.Borrow.{Bor}
-use Rattle.std.specs.Fmt.{decimal}
 use Rattle.rc_model.specs.Graph.{IsClosed}
 use Rattle.rc_model.specs.Database.{Database, IsUnknownAt}
 use Rattle.rc_model.specs.Plan.{Ask, PrunesWrongly}
@@ -12,11 +11,11 @@ use Rattle.rc_dbtext.specs.declared.fault.TextFault.TheVariants as text
 use Rattle.cmd_query.specs.declared.named.NamedFault.{NamedFault}
 use Rattle.cmd_query.specs.declared.named.NamedFault.TheVariants as named
 use Rattle.cmd_query.specs.declared.plan.PlanFault.{PlanFault}
-use Rattle.cmd_query.specs.declared.plan.PlanFault.TheVariants.{Bad, Version, NotSorted, Cyclic}
-use Rattle.cmd_query.specs.declared.plan.PlanFault.TheVariants.{TooMany, Dangling, Unknown}
+use Rattle.cmd_query.specs.declared.plan.PlanFault.TheVariants.{OfText, Unknown}
 use Rattle.cmd_query.specs.declared.plan.PlanFault.TheVariants.{NotClosed, PruneNeedsUp, Memory}
 use Rattle.rc_args.specs.Asked.{plan_asked}
 use Rattle.rc_dbtext.specs.Base.{IsTextFault, Spells}
+use Rattle.rc_dbtext.specs.TextFaultWord.{text_word}
 use Rattle.rc_render.specs.UnknownWord.{unknown_word}
 use Rattle.rc_streams.specs.Input.{AppendsFront, fault_line}
 use Rattle.cmd_query.specs.Named.{AreNamed, IsFirstUnknown, IsNamed, word_lines}
@@ -24,13 +23,8 @@ use Rattle.cmd_query.specs.PlanText.{AreUp}
 
 -- a fault of the text, as a refusal
 abbrev pub IsTextRefusal : TextFault → PlanFault → Type 0
-IsTextRefusal (text.Bad offset) fault = fault ≡ Bad offset
-IsTextRefusal text.Version fault = fault ≡ Version
-IsTextRefusal text.NotSorted fault = fault ≡ NotSorted
-IsTextRefusal text.Cyclic fault = fault ≡ Cyclic
-IsTextRefusal text.TooMany fault = fault ≡ TooMany
-IsTextRefusal text.Dangling fault = fault ≡ Dangling
 IsTextRefusal text.Memory fault = fault ≡ Memory
+IsTextRefusal other fault = fault ≡ OfText other
 
 -- a fault of the names that are up: the first that is no service, then that one of
 -- them lacks something that it needs
@@ -64,12 +58,7 @@ IsRefused fault ask base input =
 
 -- how a refusal is told
 abbrev pub fault_text : PlanFault → List ℕ
-fault_text (Bad offset) = codes "Bad " ++ decimal offset
-fault_text Version = codes "Version"
-fault_text TooMany = codes "TooMany"
-fault_text NotSorted = codes "NotSorted"
-fault_text Dangling = codes "Dangling"
-fault_text Cyclic = codes "Cyclic"
+fault_text (OfText fault) = text_word fault
 fault_text (Unknown word) = unknown_word word.now
 fault_text NotClosed = codes "NotClosed"
 fault_text PruneNeedsUp = codes "PruneNeedsUp"

@@ -21,7 +21,7 @@ ghost use Rattle.cmd_query.specs.declared.plan.PlanFault.TheVariants.{Memory};
 use crate::named::{NamedFault, named_set, word_lines};
 use rc_args::{plan_asked, tell_words};
 use rc_db::Db;
-use rc_dbtext::{OpenFault, TextFault, open};
+use rc_dbtext::{OpenFault, TextFault, open, text_word};
 use rc_graph::Graph;
 use rc_names::Names;
 use rc_render::{plan_text, unknown_word};
@@ -31,39 +31,18 @@ use rc_streams::ending::{FAILED, REFUSED, fail, write_answer};
 use rc_streams::{Failure, MAX_INPUT, Noted, tell};
 use std::alloc::{AllocError, Global};
 use std::io::{Read, Write};
-use thiserror::Error;
 
 /// Why there is no plan to print.
-#[derive(Clone, Copy, PartialEq, Eq, Debug, Error)]
+#[derive(Clone, Copy)]
 pub enum PlanFault<'a> {
-    /// At this offset begins the first line of the database text that has not the form due there.
-    #[error("a line has not the form that is due, at byte {0}")]
-    Bad(usize),
-    /// The database text is of another version.
-    #[error("another version")]
-    Version,
-    /// Names do not ascend.
-    #[error("names do not ascend")]
-    NotSorted,
-    /// A service needs itself along a path.
-    #[error("services need each other in a circle")]
-    Cyclic,
-    /// There are more than 4,096 services, or as many bundles.
-    #[error("more than 4,096 services or bundles")]
-    TooMany,
-    /// What is needed is no service, or not one that fits.
-    #[error("a name of no service that may stand there")]
-    Dangling,
+    /// The database text is none.
+    OfText(TextFault),
     /// A word names nothing.
-    #[error("no service or bundle is named {}", .0.escape_ascii())]
     Unknown(&'a [u8]),
     /// What is up lacks something that it needs.
-    #[error("what is up lacks something that it needs")]
     NotClosed,
     /// Only a change upwards prunes.
-    #[error("only a change upwards prunes")]
     PruneNeedsUp,
-    #[error("out of memory")]
     Memory,
 }
 
@@ -80,13 +59,8 @@ impl From<TextFault> for PlanFault<'_> {
 
     fn from(fault: TextFault) -> Self {
         match fault {
-            TextFault::Bad(offset) => PlanFault::Bad(offset),
-            TextFault::Version => PlanFault::Version,
-            TextFault::NotSorted => PlanFault::NotSorted,
-            TextFault::Cyclic => PlanFault::Cyclic,
-            TextFault::TooMany => PlanFault::TooMany,
-            TextFault::Dangling => PlanFault::Dangling,
             TextFault::Memory => PlanFault::Memory,
+            fault => PlanFault::OfText(fault),
         }
     }
 }
@@ -365,13 +339,8 @@ fn text_of(alloc: Global, fault: PlanFault<'_>) -> Result<Vec<u8>, NoMem>
     ensures { IfOk result (λ text. text.items ≡ fault_text fault.entry) }
 {
     match fault {
-        PlanFault::Bad(offset) => Ok(format!(in alloc; "Bad {offset}")?.into_bytes()),
+        PlanFault::OfText(fault) => text_word(alloc, fault),
         PlanFault::Unknown(word) => unknown_word(alloc, word),
-        PlanFault::Version => Vec::from_slice(alloc, b"Version"),
-        PlanFault::NotSorted => Vec::from_slice(alloc, b"NotSorted"),
-        PlanFault::Cyclic => Vec::from_slice(alloc, b"Cyclic"),
-        PlanFault::TooMany => Vec::from_slice(alloc, b"TooMany"),
-        PlanFault::Dangling => Vec::from_slice(alloc, b"Dangling"),
         PlanFault::NotClosed => Vec::from_slice(alloc, b"NotClosed"),
         PlanFault::PruneNeedsUp => Vec::from_slice(alloc, b"PruneNeedsUp"),
         PlanFault::Memory => Vec::from_slice(alloc, b"Memory"),
