@@ -10,7 +10,13 @@ pub fn line_at(text: &[u8], offset: usize) -> usize
         Some(front) => front,
         None => text,
     };
-    front.iter().filter(|byte| **byte == b'\n').count() + 1
+    let mut number = 1usize;
+    for byte in front {
+        if *byte == b'\n' {
+            number += 1;
+        }
+    }
+    number
 }
 
 /// Where the first such byte stands.
