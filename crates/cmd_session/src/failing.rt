@@ -9,15 +9,12 @@ use rc_graph::Way;
 use rc_names::Names;
 use rc_runner::{StepClock, TableGate};
 use std::alloc::{AllocError, Global};
-use thiserror::Error;
 
 /// Why there is no gate.
-#[derive(Clone, Copy, PartialEq, Eq, Debug, Error)]
+#[derive(Clone, Copy)]
 pub enum GateFault<'a> {
     /// The first name that is no service's.
-    #[error("no service is named {}", .0.escape_ascii())]
     Unknown(&'a [u8]),
-    #[error("out of memory")]
     Memory,
 }
 
