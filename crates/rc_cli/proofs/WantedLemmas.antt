@@ -42,6 +42,20 @@ more_wanted line up live joined table place last is at joins s = (
         same_Some state _ (sym here ∙ ap (slice_get (states line)) one ∙ at) in
         subst (λ (t : State). Has t.live s) both has
 
+-- where no state stands before the current one, what is live is wanted, and nothing else
+pub first_wanted : (line : Line) (up : List Bool) → cursor line ≡ 0 → up ≡ line.current.live
+    → Holds up (IsWantedUp true line)
+first_wanted line up first is s = (
+  λ has. inl (subst (λ (set : List Bool). Has set s) is has),
+  λ wanted. elim wanted [
+    | inl current ↦ subst (λ (set : List Bool). Has set s) (sym is) current
+    | inr other ↦ absurd (none other.1.0 other.1.1)
+  ],
+)
+  where
+    none : (place : ℕ) → cursor line ≡ place + 1 → ⊥
+    none place last = omega (arith, first, last)
+
 -- what is wanted is closed
 pub wanted_closed : (d : Database) (line : Line) (up : List Bool) → IsLineOf d line
     → Holds up (IsWantedUp true line) → IsClosed d.needs (Has up)

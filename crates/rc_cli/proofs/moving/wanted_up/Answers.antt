@@ -3,7 +3,7 @@ use Rattle.std.proofs.Common.{arith}
 use Rattle.rc_model.specs.Line.{cursor, states}
 use Rattle.rc_line.specs.Opening.{Journal}
 use Rattle.rc_session.proofs.States.{current_state}
-use Rattle.rc_cli.proofs.WantedLemmas.{more_wanted, state_bound, wanted_closed}
+use Rattle.rc_cli.proofs.WantedLemmas.{first_wanted, more_wanted, state_bound, wanted_closed}
 use Rattle.rc_cli.proofs.moving.wanted_up.Goals as goal
 
 pub join-requires : goal.join-requires
@@ -45,3 +45,25 @@ returns-clause-bound c =
     ∙ ap (λ (j : Journal). j.line.current.live) c.journal-journal.ensures.journal in
     c.join.ensures.bound ∙ ap (λ (set : List Bool). length set) (c.in_ok-up.ensures ∙ is_live)
     ∙ (current_state d line c.journal-journal.ensures.states).bound
+
+pub returns-then-cursor-eq0-clause-members : goal.returns-then-cursor-eq0-clause-members
+returns-then-cursor-eq0-clause-members c =
+    let is_live = c.live.ensures
+    ∙ ap (λ (j : Journal). j.line.current.live) c.journal-journal.ensures.journal in
+    first_wanted c.args.from.now.line c.in_ok-up.up
+    (ap (λ (j : Journal). cursor j.line) (sym c.journal-journal.ensures.journal)
+    ∙ (sym c.cursor-cursor.ensures ∙ c.if-cursor-eq0.true))
+    (c.in_ok-up.ensures ∙ is_live)
+
+pub returns-then-cursor-eq0-clause-closed : goal.returns-then-cursor-eq0-clause-closed
+returns-then-cursor-eq0-clause-closed c =
+    wanted_closed c.args.from.now.database c.args.from.now.line _
+    c.journal-journal.ensures.states (returns-then-cursor-eq0-clause-members c)
+
+pub returns-then-cursor-eq0-clause-bound : goal.returns-then-cursor-eq0-clause-bound
+returns-then-cursor-eq0-clause-bound c =
+    let is_live = c.live.ensures
+    ∙ ap (λ (j : Journal). j.line.current.live) c.journal-journal.ensures.journal in
+    ap (λ (set : List Bool). length set) (c.in_ok-up.ensures ∙ is_live)
+    ∙ (current_state c.args.from.now.database c.args.from.now.line
+    c.journal-journal.ensures.states).bound
