@@ -1,8 +1,9 @@
 //! Who may read what sources say, and which of them stand elsewhere.
 
 use log::warn;
+use rc_names::NoMem;
 use rc_streams::messages::{MESSAGE, Messages};
-use std::fs::{self, File, Permissions};
+use std::fs::{self, DirEntry, File, Permissions};
 use std::io::{self, ErrorKind};
 use std::os::unix::fs::{OpenOptionsExt, PermissionsExt};
 
@@ -18,10 +19,7 @@ const READ: [&str; 5] = ["contents", "dependencies", "down", "type", "up"];
 pub fn restrict(rt: &HostRuntime, sources: &[String], path: &str) -> io::Result<bool> {
     let mut rights = READING;
     for source in sources {
-        for entry in fs::read_dir(rt, source.as_str())? {
-            let entry = entry?;
-            rights &= readable_by(rt, entry.path().as_str())?;
-        }
+        rights &= readable_in(rt, source.as_str())?;
     }
     if rights == READING {
         return Ok(false);
@@ -49,46 +47,74 @@ fn make(rt: &HostRuntime, path: &str, rights: u32) -> io::Result<()> {
     Ok(())
 }
 
-/// Who may read each file of an entry that comes into a database.
-fn readable_by(rt: &HostRuntime, entry: &str) -> io::Result<u32> {
+/// Who may read each entry of a source.
+fn readable_in(rt: &HostRuntime, source: &str) -> io::Result<u32> {
     let mut rights = READING;
-    for file in READ {
-        let path = format!(in rt.alloc(); "{entry}/{file}")?;
-        let found = fs::metadata(rt, path.as_str());
-        drop(path);
-        if let Ok(found) = found {
-            if found.is_file() {
-                rights &= found.permissions().mode();
-            }
-        }
+    for entry in fs::read_dir(rt, source)? {
+        rights &= readable_by(rt, entry)?;
     }
     Ok(rights)
+}
+
+/// Who may read each file of an entry that comes into a database.
+fn readable_by(rt: &HostRuntime, entry: io::Result<DirEntry>) -> io::Result<u32> {
+    let entry = entry?;
+    let mut rights = READING;
+    for file in READ {
+        rights &= rights_at(rt, entry.path().as_str(), file)?;
+    }
+    Ok(rights)
+}
+
+/// Who may read a file of an entry. What is no file, all may.
+fn rights_at(rt: &HostRuntime, entry: &str, file: &str) -> Result<u32, NoMem> {
+    let path = format!(in rt.alloc(); "{entry}/{file}")?;
+    let found = fs::metadata(rt, path.as_str());
+    drop(path);
+    match found {
+        Ok(found) if found.is_file() => Ok(found.permissions().mode()),
+        _ => Ok(READING),
+    }
 }
 
 /// Warns of entries and of their files that are links to somewhere outside of their sources: who
 /// may write there says what runs.
 pub fn warn_of_links(rt: &HostRuntime, sources: &[String]) -> io::Result<()> {
     for source in sources {
-        let root = fs::canonicalize(rt, source.as_str())?;
-        for entry in fs::read_dir(rt, source.as_str())? {
-            let entry = entry?;
-            warn_of_entry(rt, root.as_str(), entry.path().as_str())?;
-        }
+        let source = source.as_str();
+        let root = fs::canonicalize(rt, source)?;
+        let warned = warn_in(rt, root.as_str(), source);
         drop(root);
+        warned?;
+    }
+    Ok(())
+}
+
+/// Warns of the entries of a source and of their files.
+fn warn_in(rt: &HostRuntime, root: &str, source: &str) -> io::Result<()> {
+    for entry in fs::read_dir(rt, source)? {
+        warn_of_entry(rt, root, entry)?;
     }
     Ok(())
 }
 
 /// Warns of an entry and of its files.
-fn warn_of_entry(rt: &HostRuntime, root: &str, entry: &str) -> io::Result<()> {
+fn warn_of_entry(rt: &HostRuntime, root: &str, entry: io::Result<DirEntry>) -> io::Result<()> {
+    let entry = entry?;
+    let entry = entry.path().as_str();
     warn_of(rt, root, entry)?;
     for file in READ {
-        let path = format!(in rt.alloc(); "{entry}/{file}")?;
-        let warned = warn_of(rt, root, path.as_str());
-        drop(path);
-        warned?;
+        warn_of_file(rt, root, entry, file)?;
     }
     Ok(())
+}
+
+/// Warns of a file of an entry.
+fn warn_of_file(rt: &HostRuntime, root: &str, entry: &str, file: &str) -> io::Result<()> {
+    let path = format!(in rt.alloc(); "{entry}/{file}")?;
+    let warned = warn_of(rt, root, path.as_str());
+    drop(path);
+    warned
 }
 
 /// Warns of a path, if a link stands there that leads out of a directory.
@@ -96,11 +122,7 @@ fn warn_of(rt: &HostRuntime, root: &str, path: &str) -> io::Result<()> {
     match fs::symlink_metadata(rt, path) {
         Ok(found) if found.is_symlink() => {
             let target = fs::canonicalize(rt, path)?;
-            if !is_within(target.as_str(), root) {
-                let target = target.as_str();
-                warn!(Messages(rt); target: MESSAGE,
-                    "{path} is a link out of its source, to {target}");
-            }
+            warn_outside(rt, root, path, target.as_str());
             drop(target);
             Ok(())
         }
@@ -108,10 +130,18 @@ fn warn_of(rt: &HostRuntime, root: &str, path: &str) -> io::Result<()> {
     }
 }
 
+/// Warns of a link, if it leads out of a directory.
+fn warn_outside(rt: &HostRuntime, root: &str, path: &str, target: &str) {
+    if !is_within(target, root) {
+        warn!(Messages(rt); target: MESSAGE,
+            "{path} is a link out of its source, to {target}");
+    }
+}
+
 /// Whether a path is that of something in a directory.
 fn is_within(path: &str, root: &str) -> bool {
     match path.strip_prefix(root) {
-        Some(rest) => rest.starts_with('/') || root.ends_with('/'),
+        Some(rest) => matches!(rest.as_bytes(), [b'/', ..]) || matches!(root, "/"),
         None => false,
     }
 }
