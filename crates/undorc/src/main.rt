@@ -3,6 +3,7 @@
 
 ghost use Rattle.std.specs.Prelude.{IfOk};
 ghost use Rattle.rc_args.specs.Task.{IsEventless};
+ghost use Rattle.rc_launch.specs.Works.{IsEventlessWork};
 
 mod commands;
 mod history;
@@ -19,13 +20,15 @@ use crate::stopping::stop;
 use crate::updates::update;
 use crate::usual::{UsualTexts, usual_at};
 use log::error;
-use rc_args::{Task, WordsFault, asks_help, task_of, tell_words};
+use rc_args::{Task, Usual, WordsFault, asks_help, task_of, tell_words};
 use rc_frontend::{compile, db, plan, replay, tell_failure};
 use rc_launch::Work;
 use rc_streams::messages::{MESSAGE, Messages};
 use std::alloc::Global;
 use std::io::{self, ErrorKind};
 use std::process::ExitCode;
+use std::sync::Wait;
+use std::thread::Threads;
 
 /// A wrong command line.
 const WRONG_LINE: u8 = 100;
@@ -33,41 +36,81 @@ const WRONG_LINE: u8 = 100;
 const VERSION: &str = "undorc 0.2.0";
 
 fn main(rt: HostRuntime) -> ExitCode {
-    let status = match (words(&rt), usual_at(&rt)) {
-        (Ok(words), Ok(usual)) => match task_by(rt.alloc(), &words, &usual) {
-            Ok(Task::Compile(request)) => compile(&rt, &request),
-            Ok(Task::Db(request, file)) => db(&rt, &request, file),
-            Ok(Task::Plan(request, file)) => plan(&rt, &request, file),
-            Ok(Task::Replay(file)) => replay(&rt, file),
-            Ok(Task::Session(request, file)) => carry_out(&rt, &rt, Work::Lines(request, file)),
-            Ok(Task::Once(request, file)) => carry_out(&rt, &rt, Work::Line(request, file)),
-            Ok(Task::Update(request, file)) => update(&rt, &rt, request, file),
-            Ok(Task::Restart(request, file)) => carry_out(&rt, &rt, Work::Restart(request, file)),
-            Ok(Task::Seal(request, file)) => carry_out(&rt, &rt, Work::Seal(request, file)),
-            Ok(Task::Status(request, file)) => carry_out(&rt, &rt, Work::Status(request, file)),
-            Ok(Task::Stop(file)) => stop(&rt, file),
-            Ok(Task::Version) => version(&rt),
-            Err(fault) if asks_help(&fault) => tell_words(&mut rt.stdout(), &fault),
-            Err(fault) => tell_words(&mut rt.stderr(), &fault),
-        },
-        (Err(error), _) => tell(&rt, "a word of the command line", &error),
-        (_, Err(error)) => tell(&rt, "a variable of the environment", &error),
+    let status = match words(&rt) {
+        Ok(words) => {
+            let usual = usual_at(&rt);
+            match work_by(&rt, &rt, &words, &usual) {
+                Ok(work) => carry_out(&rt, &rt, work),
+                Err(status) => status,
+            }
+        }
+        Err(error) => tell(&rt, "a word of the command line", &error),
     };
     ExitCode::from(status)
 }
 
-/// What the words ask, with these files where they name none.
-fn task_by<'a>(
-    alloc: Global,
+/// What the words ask of the file of a session, with these files where they name none. What they
+/// ask of anything else is done, and its status returned.
+fn work_by<'a, T: Threads + Wait + Sync>(
+    rt: &HostRuntime,
+    threads: &T,
     words: &'a [String],
     usual: &'a UsualTexts,
-) -> Result<Task<'a>, WordsFault>
+) -> Result<Work<'a>, u8>
+    ensures { IfOk result IsEventlessWork }
+{
+    match usual.texts() {
+        Ok(usual) => match task_by(rt.alloc(), words, usual) {
+            Ok(task) => work_of(rt, threads, task),
+            Err(fault) => Err(tell_wrong(rt, &fault)),
+        },
+        Err(error) => Err(tell(rt, "a variable of the environment", &error)),
+    }
+}
+
+/// What the words ask, with these files where they name none.
+fn task_by<'a>(alloc: Global, words: &'a [String], usual: Usual<'a>) -> Result<Task<'a>, WordsFault>
     ensures { IfOk result IsEventless }
 {
     match task_of(alloc, words) {
-        Ok(task) => task.with_usual(usual.texts()),
+        Ok(task) => task.with_usual(usual),
         Err(fault) => Err(fault),
     }
+}
+
+/// What a task asks of the file of a session. Any other task is carried out, and its status
+/// returned.
+fn work_of<'a, T: Threads + Wait + Sync>(
+    rt: &HostRuntime,
+    threads: &T,
+    task: Task<'a>,
+) -> Result<Work<'a>, u8>
+    requires { IsEventless task }
+    ensures { IfOk result IsEventlessWork }
+{
+    match task {
+        Task::Session(request, file) => Ok(Work::Lines(request, file)),
+        Task::Once(request, file) => Ok(Work::Line(request, file)),
+        Task::Restart(request, file) => Ok(Work::Restart(request, file)),
+        Task::Seal(request, file) => Ok(Work::Seal(request, file)),
+        Task::Status(request, file) => Ok(Work::Status(request, file)),
+        Task::Update(request, file) => Err(update(rt, threads, request, file)),
+        Task::Compile(request) => Err(compile(rt, &request)),
+        Task::Db(request, file) => Err(db(rt, &request, file)),
+        Task::Plan(request, file) => Err(plan(rt, &request, file)),
+        Task::Replay(file) => Err(replay(rt, file)),
+        Task::Stop(file) => Err(stop(rt, file)),
+        Task::Version => Err(version(rt)),
+    }
+}
+
+/// Tells help on standard output, and why the words ask nothing on standard error. Returns the
+/// status.
+fn tell_wrong(rt: &HostRuntime, fault: &WordsFault) -> u8 {
+    if asks_help(fault) {
+        return tell_words(&mut rt.stdout(), fault);
+    }
+    tell_words(&mut rt.stderr(), fault)
 }
 
 /// Prints which version this is.

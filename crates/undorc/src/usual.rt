@@ -4,46 +4,42 @@ use rc_args::Usual;
 use std::env::{self, VarError};
 use std::io::{self, ErrorKind};
 
-/// What the environment names. A variable that is empty names nothing.
+/// What was read of these variables.
 #[derive(Drop)]
 pub struct UsualTexts {
-    base: Option<String>,
-    live: Option<String>,
-    runner: Option<String>,
-    controller: Option<String>,
+    base: Result<String, VarError>,
+    live: Result<String, VarError>,
+    runner: Result<String, VarError>,
+    controller: Result<String, VarError>,
 }
 
 impl UsualTexts {
-    /// The texts that it names.
-    pub fn texts(&self) -> Usual<'_> {
-        Usual {
-            base: self.base.as_deref(),
-            live: self.live.as_deref(),
-            runner: self.runner.as_deref(),
-            controller: self.controller.as_deref(),
-        }
+    /// The texts that they name.
+    pub fn texts(&self) -> io::Result<Usual<'_>> {
+        Ok(Usual {
+            base: named(&self.base)?,
+            live: named(&self.live)?,
+            runner: named(&self.runner)?,
+            controller: named(&self.controller)?,
+        })
     }
 }
 
-/// What the environment names.
-pub fn usual_at(rt: &HostRuntime) -> io::Result<UsualTexts> {
-    Ok(UsualTexts {
-        base: named_in(rt, "UNDORC_DB")?,
-        live: named_in(rt, "UNDORC_LIVE")?,
-        runner: named_in(rt, "UNDORC_RUNNER")?,
-        controller: named_in(rt, "UNDORC_CONTROLLER")?,
-    })
+/// Reads these variables.
+pub fn usual_at(rt: &HostRuntime) -> UsualTexts {
+    UsualTexts {
+        base: env::var(rt, "UNDORC_DB"),
+        live: env::var(rt, "UNDORC_LIVE"),
+        runner: env::var(rt, "UNDORC_RUNNER"),
+        controller: env::var(rt, "UNDORC_CONTROLLER"),
+    }
 }
 
-/// What a variable of the environment names.
-fn named_in(rt: &HostRuntime, name: &str) -> io::Result<Option<String>> {
-    match env::var(rt, name) {
-        Ok(file) => {
-            if file.is_empty() {
-                return Ok(None);
-            }
-            Ok(Some(file))
-        }
+/// What a variable names. One that is empty names nothing.
+fn named(read: &Result<String, VarError>) -> io::Result<Option<&str>> {
+    match read {
+        Ok(text) if text.is_empty() => Ok(None),
+        Ok(text) => Ok(Some(text.as_str())),
         Err(VarError::NotPresent) => Ok(None),
         Err(VarError::NotUnicode) => Err(io::Error::from(ErrorKind::InvalidData)),
         Err(VarError::OutOfMemory) => Err(io::Error::from(ErrorKind::OutOfMemory)),
