@@ -4,6 +4,7 @@
 use crate::own_name::words;
 use jiff::Timestamp;
 use rc_launch::LiveText;
+use rc_names::NoMem;
 use rc_streams::whole_file;
 use std::fs::File;
 use std::io::{self, ErrorKind, Write};
@@ -39,21 +40,27 @@ fn append(rt: &HostRuntime, file: &mut File, status: u8, at: usize) {
 }
 
 /// The line of a command: when, by whom, with which status, at which state, and its words.
-fn line_of(rt: &HostRuntime, words: &[String], status: u8, at: usize) -> io::Result<String> {
+fn line_of(rt: &HostRuntime, words: &[String], status: u8, at: usize) -> Result<String, NoMem> {
     let now = now_of(rt);
     let user = libc::getuid();
     let mut line = format!(in rt.alloc(); "{at} {now} uid {user} status {status}:")?;
-    for word in words.iter().skip(1) {
-        let shown = if is_plain(word) {
-            format!(in rt.alloc(); " {word}")?
-        } else {
-            format!(in rt.alloc(); " {word:?}")?
-        };
-        line.push_str(shown.as_str())?;
-        drop(shown);
+    match add_words(&mut line, words) {
+        Ok(()) => Ok(line),
+        Err(fault) => Err(fault),
     }
-    line.push_str("\n")?;
-    Ok(line)
+}
+
+/// Adds the words after the first, and ends the line.
+fn add_words(line: &mut String, words: &[String]) -> Result<(), NoMem> {
+    for word in words.iter().skip(1) {
+        let word = word.as_str();
+        if is_plain(word) {
+            write!(line, " {word}")?;
+        } else {
+            write!(line, " {word:?}")?;
+        }
+    }
+    line.push('\n')
 }
 
 /// The moment, in whole seconds.
@@ -66,10 +73,12 @@ fn now_of(rt: &HostRuntime) -> Timestamp {
 
 /// Whether a word can be shown as it is.
 fn is_plain(word: &str) -> bool {
+    for byte in word.bytes() {
+        if !byte.is_ascii_graphic() || byte == b'"' {
+            return false;
+        }
+    }
     !word.is_empty()
-        && word
-            .bytes()
-            .all(|byte| byte.is_ascii_graphic() && byte != b'"')
 }
 
 /// The number of the current state in the text of a session.
