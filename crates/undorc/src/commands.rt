@@ -31,7 +31,7 @@ pub fn carry_out<T: Threads + Wait + Sync>(rt: &HostRuntime, threads: &T, work: 
             drop(opened);
             status
         }
-        Err(fault) => tell_opening(rt, fault),
+        Err(fault) => tell_opening(rt, &fault),
     }
 }
 

@@ -57,10 +57,10 @@ fn tell_report(rt: &HostRuntime, report: &[u8]) {
 }
 
 /// Tells why the files of a command were not opened, and returns the status.
-pub fn tell_opening(rt: &HostRuntime, fault: OpenFault<'_>) -> u8 {
+pub fn tell_opening(rt: &HostRuntime, fault: &OpenFault<'_>) -> u8 {
     match fault {
-        OpenFault::Words(fault) => tell_words(&mut rt.stderr(), &fault),
-        OpenFault::File(path, error) => tell_file(rt, path, &error),
+        OpenFault::Words(fault) => tell_words(&mut rt.stderr(), fault),
+        OpenFault::File(path, error) => tell_file(rt, path, error),
         OpenFault::Busy(path, owner) => {
             let status = tell_failure(rt, "Busy");
             if let Some(owner) = owner {
@@ -68,8 +68,8 @@ pub fn tell_opening(rt: &HostRuntime, fault: OpenFault<'_>) -> u8 {
             }
             status
         }
-        OpenFault::Lock(path, error) => tell_beside(rt, path, ".lock", &error),
-        OpenFault::Log(path, error) => tell_beside(rt, path, ".run", &error),
+        OpenFault::Lock(path, error) => tell_beside(rt, path, ".lock", error),
+        OpenFault::Log(path, error) => tell_beside(rt, path, ".run", error),
         OpenFault::NoBase(path) => tell_unfit(
             rt,
             path,
