@@ -17,6 +17,7 @@ use rc_script::SessionLine;
 use rc_streams::Noted;
 use rc_streams::ending::REFUSED;
 use rc_streams::messages::{HINT, MESSAGE, Messages};
+use std::io;
 use std::sync::Wait;
 use std::thread::Threads;
 
@@ -49,9 +50,8 @@ fn carry_out_on<'x, T: Threads + Wait + Sync>(
         drop(store);
         return status;
     }
-    let base = opened.base().map(|base| base.bytes());
     let mut typed = Typed::new(rt, reads(opened));
-    let mut answers = Answers::new(rt, base);
+    let mut answers = Answers::new(rt, base_in(opened));
     let store = store.with_text(opened.live());
     let mut devices = devices_of(rt, &mut typed, &mut answers, store);
     let status = serve(rt, threads, opened, &mut devices).code();
@@ -63,13 +63,7 @@ fn carry_out_on<'x, T: Threads + Wait + Sync>(
     } = devices;
     let store = store_in(outputs);
     enter(rt, opened, status);
-    if let Ok(seen) = seen_of(rt, &*opened, typed.kept()) {
-        if let Some(database) = seen.input {
-            answers.tell_all(database);
-        }
-        let live = opened.live();
-        behind_session(rt, live.path(), live.found(), store.error(), &seen, &told);
-    }
+    tell_hints(rt, opened, typed.kept(), &answers, store.error(), &told);
     tell_workers(rt, threads, &told);
     tell_why(rt, opened, status);
     tell_left(rt, opened);
@@ -161,6 +155,32 @@ fn reads(opened: &Opened<'_>) -> Option<&'static str> {
         return Some("the database and the session's lines");
     }
     Some("the database")
+}
+
+/// The bytes of the file of `-b`, if one is named.
+fn base_in<'a>(opened: &'a Opened<'_>) -> Option<&'a [u8]> {
+    match opened.base() {
+        Some(base) => Some(base.bytes()),
+        None => None,
+    }
+}
+
+/// Tells what helps after the answers of a command that read this input, and after its faults.
+fn tell_hints(
+    rt: &HostRuntime,
+    opened: &Opened<'_>,
+    input: Option<&[u8]>,
+    answers: &Answers<'_>,
+    unwritten: Option<&io::Error>,
+    told: &ToldErrors,
+) {
+    if let Ok(seen) = seen_of(rt, opened, input) {
+        if let Some(database) = seen.input {
+            answers.tell_all(database);
+        }
+        let live = opened.live();
+        behind_session(rt, live.path(), live.found(), unwritten, &seen, told);
+    }
 }
 
 /// The database of which a fault may be: that of the command; of an update the old one, and where
