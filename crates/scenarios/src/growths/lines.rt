@@ -188,3 +188,13 @@ fn is_state_at(
 fn is_same_state(one: &(Set, Table), other: &(Set, Table)) -> bool {
     one.0.bound() == other.0.bound() && one.0.same(&other.0) && one.1.same(&other.1)
 }
+
+/// Whether two lines have as many states, and stand on the same one.
+pub fn is_alike(one: &Line, other: &Line) -> bool {
+    one.states() == other.states()
+        && one.cursor() == other.cursor()
+        && one.bound() == other.bound()
+        && one.live().bound() == other.live().bound()
+        && one.live().same(other.live())
+        && one.table().same(other.table())
+}

@@ -2,6 +2,7 @@
 
 ghost use Rattle.std.specs.Prelude.{◌≡◌, false, length, IfOk, IfSome};
 
+use crate::growths::lines::is_alike;
 use crate::growths::told::{go_on_to, show_end};
 use rc_graph::Graph;
 use rc_line::Line;
@@ -30,7 +31,7 @@ pub fn show_opening(
     let mut copied = line.copy(rt.alloc())?;
     let _ = print!(rt; "{what}: ");
     let came = given_up(rt, &mut copied, opening);
-    let is_same = stands_with(&copied, line);
+    let is_same = !copied.is_open() && is_alike(&copied, line);
     drop(copied);
     show_end(rt, came, is_same)
 }
@@ -50,16 +51,6 @@ fn given_up(rt: &(impl Print + AllocGlobal), line: &mut Line, opening: Opening) 
         }
         Err(_) => Err(AllocError),
     }
-}
-
-/// Whether a line is closed, and has as many states as another and the same one now.
-fn stands_with(one: &Line, other: &Line) -> bool {
-    !one.is_open()
-        && one.states() == other.states()
-        && one.cursor() == other.cursor()
-        && one.live().bound() == other.live().bound()
-        && one.live().same(other.live())
-        && one.table().same(other.table())
 }
 
 /// Opens a copy of a line to a change that lowers all, and closes that.

@@ -5,6 +5,7 @@ ghost use Rattle.rc_source.specs.Meaning.{AreMeanings};
 ghost use Rattle.rc_source.specs.Said.{meaning_of};
 
 use crate::growths::told::{fault_of, go_on_to, show_came, show_same};
+use crate::trees::put_all;
 use rc_compile::{CompileFault, compile};
 use rc_db::Db;
 use rc_set::NoMem;
@@ -24,14 +25,8 @@ pub enum Altering {
     PutAgain,
 }
 
-/// The files of a oneshot and of the longrun that it needs: the service, the path, and the bytes.
-const FILES: [(&str, &str, &str); 5] = [
-    ("a", "type", "oneshot"),
-    ("a", "up", "true"),
-    ("a", "dependencies.d/b", ""),
-    ("b", "type", "longrun"),
-    ("b", "run", ""),
-];
+/// The files of a oneshot and of the longrun that it needs.
+const FILES: &str = "a/type=oneshot a/up=true a/dependencies.d/b= b/type=longrun b/run=";
 
 /// Alters a tree in memory, and tells whether it has the files that it had.
 pub fn show_tree(
@@ -51,18 +46,11 @@ fn show_altered(
     tree: &mut MemoryTree,
     altering: Altering,
 ) -> io::Result<()> {
-    fill(tree)?;
+    put_all(tree, FILES)?;
     let _ = print!(rt; "{what}: ");
     let came = altered(tree, altering);
     show_came(rt, fault_of(came))?;
     show_same(rt, has_files(rt.alloc(), tree).unwrap_or(false))
-}
-
-fn fill(tree: &mut MemoryTree) -> Result<(), NoMem> {
-    for (service, path, text) in &FILES {
-        tree.put(service, path, text.as_bytes())?;
-    }
-    Ok(())
 }
 
 fn altered(tree: &mut MemoryTree, altering: Altering) -> Result<(), NoMem> {
@@ -101,7 +89,7 @@ pub fn is_from_memory(rt: &(impl Print + AllocGlobal)) -> Result<bool, NoMem> {
 
 fn is_filled(rt: &(impl Print + AllocGlobal), trees: &mut [MemoryTree]) -> Result<bool, NoMem> {
     for tree in &mut *trees {
-        fill(tree)?;
+        put_all(tree, FILES)?;
     }
     go_on_to(rt, "entries");
     is_read(rt, trees)

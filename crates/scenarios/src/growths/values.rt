@@ -2,6 +2,7 @@
 
 ghost use Rattle.std.specs.Prelude.{◌≡◌, false, length};
 
+use crate::growths::lines::is_alike;
 use crate::samples::has_ids;
 use rc_board::Pad;
 use rc_bundle::Edit;
@@ -208,14 +209,4 @@ fn is_on_line(alloc: Global, line: &Line, value: Value) -> Result<bool, NoMem>
             Ok(state.0.is_empty() && state.1.len() == 1)
         }
     }
-}
-
-/// Whether two lines have as many states, and stand on the same one.
-fn is_alike(one: &Line, other: &Line) -> bool {
-    one.states() == other.states()
-        && one.cursor() == other.cursor()
-        && one.bound() == other.bound()
-        && one.live().bound() == other.live().bound()
-        && one.live().same(other.live())
-        && one.table().same(other.table())
 }
