@@ -9,8 +9,8 @@ ghost use Rattle.rc_model.specs.Run.{course_of};
 ghost use Rattle.rc_model.specs.Beside.{TargetOf};
 ghost use Rattle.rc_session.specs.Commands.{command_of};
 
-use crate::recovered::{raise_site, show_text};
-use crate::samples::{sample, settles};
+use crate::recovered::show_text;
+use crate::samples::{sample, settles, up_site};
 use rc_core::{Ended, Run};
 use rc_graph::Graph;
 use rc_line::Line;
@@ -34,7 +34,7 @@ pub(crate) fn show_completed(rt: &(impl Print + AllocGlobal)) -> Result<(), Fail
 fn show_change(rt: &(impl Print + AllocGlobal), session: &mut Session) -> Result<(), Fail>
     requires { session.old.begun ≡ false }
 {
-    let step = raise_site(rt.alloc())?;
+    let step = up_site(rt.alloc(), 60_000, &[])?;
     let completed = completed(rt.alloc(), session, &step);
     match completed {
         Ok(report) => {

@@ -1,25 +1,17 @@
 //! A change that is cut short at each byte that it writes, and recoveries that are cut short too:
 //! what the next command finds each time.
 
-ghost use Rattle.std.specs.Prelude.{◌≡◌, false};
-
-use crate::recovered::{ALL_UP, first_text, log_of, raise_site, show_journal};
+use crate::recovered::{ALL_UP, log_of, show_journal, text_after};
 use crate::samples::{MemoryFiles, sample};
-use rc_livetext::write_live;
-use rc_names::Names;
 use rc_recovery::{FileFault, FilesFault, TwoFiles, begin_log, recover_files, replace_and_empty};
-use rc_script::event_line;
-use rc_session::{Session, Step};
-use rc_set::NoMem;
 use std::alloc::Global;
 use std::test::Fail;
 
-/// What a change logs, and the texts of its session before and after it.
+/// The beginning of the log of a change, and the texts of its session before and after it.
 #[derive(Drop)]
 struct Logged {
     old: Vec<u8>,
     head: Vec<u8>,
-    lines: Vec<String>,
     new: Vec<u8>,
 }
 
@@ -34,32 +26,33 @@ pub(crate) fn show_crashed(rt: &(impl Print + AllocGlobal)) -> Result<(), Fail> 
 fn show_cuts(rt: &(impl Print + AllocGlobal), change: &Logged) -> Result<(), Fail> {
     let mut before = Vec::new(rt.alloc());
     for steps in 0..MOST_STEPS {
-        let (text, whole) = text_in_the_end(rt.alloc(), change, steps)?;
-        show_cut(rt, change, steps, &before, &text)?;
-        before = text;
-        if whole {
+        if show_cut(rt, change, steps, &mut before)? {
             return Ok(println!(rt; "whole at step {steps}")?);
         }
     }
     Ok(println!(rt; "never whole")?)
 }
 
-/// Shows the journal of a text in the end that is another than the one before.
+/// Shows the journal of the text in the end where that is another than the one before, in whose
+/// place it comes. Whether the change was whole.
 fn show_cut(
     rt: &(impl Print + AllocGlobal),
     change: &Logged,
     steps: usize,
-    before: &[u8],
-    text: &[u8],
-) -> Result<(), Fail> {
-    if text != before {
+    before: &mut Vec<u8>,
+) -> Result<bool, Fail> {
+    let (text, whole) = text_in_the_end(rt.alloc(), change, steps, WHOLE_RECOVERY)?;
+    let is_other = text != *before;
+    *before = text;
+    if is_other {
         println!(rt; "cut short from step {steps} on:")?;
-        show_journal(rt, text)?;
+        show_journal(rt, before)?;
     }
-    if !is_one_text(rt.alloc(), change, steps, text)? {
+    let (again, _) = text_in_the_end(rt.alloc(), change, steps, 0)?;
+    if again != *before {
         println!(rt; "another text after recoveries that were cut short")?;
     }
-    Ok(())
+    Ok(whole)
 }
 
 /// More steps than a change of the sample takes.
@@ -67,71 +60,16 @@ const MOST_STEPS: usize = 10_000;
 
 /// A change that raises the bundle of the sample, all of which comes up.
 fn logged_change(alloc: Global) -> Result<Logged, Fail> {
-    let old = first_text(alloc)?;
-    let head = log_of(alloc, &old, &("", &[], ""))?;
-    let lines = lines_of(alloc)?;
-    let new = raised_text(alloc)?;
-    Ok(Logged {
-        old,
-        head,
-        lines,
-        new,
-    })
-}
-
-/// The lines of its events.
-fn lines_of(alloc: Global) -> Result<Vec<String>, Fail> {
-    let db = sample(alloc)?;
-    let lines = event_lines(alloc, db.names());
-    drop(db);
-    Ok(lines?)
-}
-
-fn event_lines(alloc: Global, names: &Names) -> Result<Vec<String>, NoMem> {
-    let mut lines = Vec::new(alloc);
-    for event in &ALL_UP {
-        if let Some(line) = event_line(alloc, names, *event)? {
-            lines.push(line)?;
-        }
-    }
-    Ok(lines)
-}
-
-/// The text of a session after it.
-fn raised_text(alloc: Global) -> Result<Vec<u8>, Fail> {
-    let mut session = Session::new(alloc, sample(alloc)?)?;
-    let text = text_after(alloc, &mut session);
-    drop(session);
-    text
-}
-
-fn text_after(alloc: Global, session: &mut Session) -> Result<Vec<u8>, Fail>
-    requires { session.old.begun ≡ false }
-{
-    let step = raise_site(alloc)?;
-    raise(alloc, session, &step);
-    drop(step);
-    Ok(write_live(alloc, session)?)
-}
-
-fn raise(alloc: Global, session: &mut Session, step: &Step)
-    requires { session.old.begun ≡ false }
-    ensures { session.new.begun ≡ false }
-{
-    if let Step::Change(request, _) = step {
-        match session.change_by(alloc, request, &ALL_UP) {
-            Ok(report) => drop(report),
-            Err(_) => {}
-        }
-    }
+    let old = text_after(alloc, "")?;
+    let head = log_of(alloc, &old, "")?;
+    let new = text_after(alloc, "up")?;
+    Ok(Logged { old, head, new })
 }
 
 /// Carries a change out.
 fn carry_out(files: &mut MemoryFiles, change: &Logged) -> Result<(), FileFault> {
     begin_log(files, &change.head)?;
-    for line in &change.lines {
-        files.append_log(line.as_bytes())?;
-    }
+    files.append_log(ALL_UP.as_bytes())?;
     replace_and_empty(files, &change.new)
 }
 
@@ -156,9 +94,18 @@ fn recover(alloc: Global, files: &mut MemoryFiles, steps: usize) -> Result<(), F
     }
 }
 
-/// The text that the next command finds where a change was cut short after so many steps.
-fn text_in_the_end(alloc: Global, change: &Logged, steps: usize) -> Result<(Vec<u8>, bool), Fail> {
+/// The text that the next command finds after a change of so many steps, and after recoveries of
+/// this many steps and more, of which the last is whole. And whether the change was whole.
+fn text_in_the_end(
+    alloc: Global,
+    change: &Logged,
+    steps: usize,
+    least: usize,
+) -> Result<(Vec<u8>, bool), Fail> {
     let (mut files, whole) = cut_short(alloc, change, steps)?;
+    for given in least..WHOLE_RECOVERY {
+        recover(alloc, &mut files, given)?;
+    }
     recover(alloc, &mut files, WHOLE_RECOVERY)?;
     let MemoryFiles { file, .. } = files;
     Ok((file, whole))
@@ -166,15 +113,3 @@ fn text_in_the_end(alloc: Global, change: &Logged, steps: usize) -> Result<(Vec<
 
 /// The steps of a recovery: the file is replaced, and the log is emptied.
 const WHOLE_RECOVERY: usize = 2;
-
-/// Whether it finds this text also after recoveries that were cut short.
-fn is_one_text(alloc: Global, change: &Logged, steps: usize, text: &[u8]) -> Result<bool, Fail> {
-    let (mut files, _) = cut_short(alloc, change, steps)?;
-    for given in 0..WHOLE_RECOVERY {
-        recover(alloc, &mut files, given)?;
-    }
-    recover(alloc, &mut files, WHOLE_RECOVERY)?;
-    let same = files.file.as_slice() == text;
-    drop(files);
-    Ok(same)
-}

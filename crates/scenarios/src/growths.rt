@@ -2,7 +2,7 @@
 //! names a call, `: `, and what it came to: between the two nothing else takes memory, so that a
 //! library that is preloaded can count and refuse the growths of the calls alone.
 
-ghost use Rattle.std.specs.Prelude.{◌≡◌, false, IfOk};
+ghost use Rattle.std.specs.Prelude.{◌≡◌, false};
 
 mod begun;
 mod calls;
@@ -15,7 +15,6 @@ mod recovering;
 mod rows;
 mod serving;
 mod sessions;
-mod steps;
 mod tables;
 mod texts;
 mod told;
@@ -30,11 +29,10 @@ use crate::growths::own::show_own;
 use crate::growths::recovering::show_recovered;
 use crate::growths::rows::{How, ROWS, Row, parts_of};
 use crate::growths::sessions::{show_begun, show_resumed};
-use crate::growths::steps::steps_of;
 use crate::growths::tables::show_table;
 use crate::growths::told::{show_came, show_line};
 use crate::growths::trees::show_tree;
-use crate::samples::sample;
+use crate::samples::{sample, session_after, steps_of};
 use rc_board::Fault;
 use rc_livetext::write_live;
 use rc_session::{Session, Step};
@@ -80,34 +78,6 @@ fn show_row<R: Print + AllocGlobal + Threads + Wait + Sync>(
 fn show_new(rt: &(impl Print + AllocGlobal), what: &str, bound: u32) -> Result<(), Fail> {
     let db = sample(rt.alloc())?;
     Ok(show_begun(rt, what, db, bound)?)
-}
-
-/// A session over the sample in which these steps are played.
-fn session_after(alloc: Global, words: &str) -> Result<Session, Fail>
-    ensures { IfOk result (λ session. session.begun ≡ false) }
-{
-    let db = sample(alloc)?;
-    let mut session = Session::new(alloc, db)?;
-    match set_up(alloc, &mut session, words) {
-        Ok(()) => Ok(session),
-        Err(short) => {
-            drop(session);
-            Err(Fail::from(short))
-        }
-    }
-}
-
-fn set_up(alloc: Global, session: &mut Session, words: &str) -> Result<(), NoMem>
-    requires { session.old.begun ≡ false }
-    ensures { session.new.begun ≡ false }
-{
-    let steps = steps_of(alloc, words)?;
-    let played = session.play(alloc, &steps);
-    drop(steps);
-    match played {
-        Ok(_) => Ok(()),
-        Err(short) => Err(short),
-    }
 }
 
 /// Goes on over a database with the session's line, or with its files.

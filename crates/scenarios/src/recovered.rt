@@ -1,58 +1,40 @@
 //! A change that was cut short, entered from what its run log says: the report, and the journal.
 
-use crate::samples::{DB, LOG, NET, ROOT, WEB, sample};
-use rc_core::{Event, Outcome};
+use crate::samples::{sample, session_after};
 use rc_livetext::{read_live, write_live};
-use rc_names::Names;
 use rc_recovery::{RecoverFault, Recovered, recover_text};
 use rc_render::journal_text;
-use rc_script::{event_line, step_line};
-use rc_select::{Mode, Request};
-use rc_session::{Session, Step};
 use rc_set::NoMem;
 use std::alloc::Global;
 use std::test::Fail;
 use std::{io, str};
 
-/// What is shown, the events that were logged, and what stands of one more line.
-pub(crate) type Row<'a> = (&'a str, &'a [Event], &'a str);
+/// What is shown, and what was logged of the events.
+type Row = (&'static str, &'static str);
 
-const ROOT_UP: [Event; 2] = [Event::Take(1, ROOT), Event::Done(1, ROOT, Outcome::Ok)];
+/// The line of a change that raises the bundle of the sample.
+const LINE: &str = "-t 1 -u change site\n";
 
-const NET_UNDER_WAY: [Event; 3] = [
-    Event::Take(1, ROOT),
-    Event::Done(1, ROOT, Outcome::Ok),
-    Event::Take(1, NET),
-];
-
-const LOG_UP_TOO: [Event; 5] = [
-    Event::Take(1, ROOT),
-    Event::Take(2, LOG),
-    Event::Done(1, ROOT, Outcome::Ok),
-    Event::Take(1, NET),
-    Event::Done(2, LOG, Outcome::Ok),
-];
-
-pub(crate) const ALL_UP: [Event; 10] = [
-    Event::Take(1, LOG),
-    Event::Take(2, ROOT),
-    Event::Done(2, ROOT, Outcome::Ok),
-    Event::Take(2, NET),
-    Event::Done(2, NET, Outcome::Ok),
-    Event::Take(2, DB),
-    Event::Done(1, LOG, Outcome::Ok),
-    Event::Done(2, DB, Outcome::Ok),
-    Event::Take(1, WEB),
-    Event::Done(1, WEB, Outcome::Ok),
-];
+/// The lines of its events where all comes up.
+pub(crate) const ALL_UP: &str = "take 1 log\ntake 2 root\ndone 2 root ok\ntake 2 net\n\
+    done 2 net ok\ntake 2 db\ndone 1 log ok\ndone 2 db ok\ntake 1 web\ndone 1 web ok\n";
 
 static ROWS: [Row; 6] = [
-    ("no event", &[], ""),
-    ("a line that was not written whole", &ROOT_UP, "take 1 net"),
-    ("a transition that was under way", &NET_UNDER_WAY, ""),
-    ("one that blocks all that is left", &LOG_UP_TOO, ""),
-    ("all events", &ALL_UP, ""),
-    ("an event that no run has", &[Event::Take(1, WEB)], ""),
+    ("no event", ""),
+    (
+        "a line that was not written whole",
+        "take 1 root\ndone 1 root ok\ntake 1 net",
+    ),
+    (
+        "a transition that was under way",
+        "take 1 root\ndone 1 root ok\ntake 1 net\n",
+    ),
+    (
+        "one that blocks all that is left",
+        "take 1 root\ntake 2 log\ndone 1 root ok\ntake 1 net\ndone 2 log ok\n",
+    ),
+    ("all events", ALL_UP),
+    ("an event that no run has", "take 1 web\n"),
 ];
 
 /// Shows what each row is entered as.
@@ -65,62 +47,26 @@ pub(crate) fn show_recovered(rt: &(impl Print + AllocGlobal)) -> Result<(), Fail
 
 fn show_row(rt: &(impl Print + AllocGlobal), row: &Row) -> Result<(), Fail> {
     let alloc = rt.alloc();
-    let text = first_text(alloc)?;
-    let log = log_of(alloc, &text, row)?;
+    let text = text_after(alloc, "")?;
+    let log = log_of(alloc, &text, row.1)?;
     println!(rt; "{}:", row.0)?;
     show_entered(rt, recover_text(alloc, sample(alloc)?, &text, &log))
 }
 
-/// The text of a session on the sample in which nothing is live.
-pub(crate) fn first_text(alloc: Global) -> Result<Vec<u8>, Fail> {
-    let session = Session::new(alloc, sample(alloc)?)?;
+/// The text of a session over the sample in which the steps that these words say are played.
+pub(crate) fn text_after(alloc: Global, words: &str) -> Result<Vec<u8>, Fail> {
+    let session = session_after(alloc, words)?;
     let text = write_live(alloc, &session);
     drop(session);
     Ok(text?)
 }
 
-/// The run log of a change that raises the bundle of the sample.
-pub(crate) fn log_of(alloc: Global, text: &[u8], row: &Row) -> Result<Vec<u8>, Fail> {
+/// The run log of a change from a text, with these lines of events.
+pub(crate) fn log_of(alloc: Global, text: &[u8], events: &str) -> Result<Vec<u8>, NoMem> {
     let mut log = Vec::from_slice(alloc, text)?;
-    log.extend_from_slice(first_line(alloc)?.as_bytes())?;
-    let db = sample(alloc)?;
-    let added = add_events(alloc, db.names(), row.1, &mut log);
-    drop(db);
-    added?;
-    log.extend_from_slice(row.2.as_bytes())?;
+    log.extend_from_slice(LINE.as_bytes())?;
+    log.extend_from_slice(events.as_bytes())?;
     Ok(log)
-}
-
-/// The line of that change.
-fn first_line(alloc: Global) -> Result<String, Fail> {
-    let step = raise_site(alloc)?;
-    let line = step_line(alloc, &step);
-    drop(step);
-    match line? {
-        Some(line) => Ok(line),
-        None => Err(Fail::new("a change has a line")),
-    }
-}
-
-fn add_events(
-    alloc: Global,
-    names: &Names,
-    events: &[Event],
-    log: &mut Vec<u8>,
-) -> Result<(), NoMem> {
-    for event in events {
-        if let Some(line) = event_line(alloc, names, *event)? {
-            log.extend_from_slice(line.as_bytes())?;
-        }
-    }
-    Ok(())
-}
-
-pub(crate) fn raise_site(alloc: Global) -> Result<Step, Fail> {
-    let mut names = Vec::new(alloc);
-    names.push(String::from_str(alloc, "site")?)?;
-    let request = Request::plain(Mode::Up, names, 60_000);
-    Ok(Step::Change(request, Vec::new(alloc)))
 }
 
 /// Shows the report, and the journal of the text, or why there are none.

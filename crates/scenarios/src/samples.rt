@@ -8,6 +8,7 @@ mod files;
 mod graphs;
 mod plain;
 mod same;
+mod steps;
 mod work;
 
 pub use crate::samples::databases::{
@@ -20,4 +21,5 @@ pub use crate::samples::graphs::{
 };
 pub use crate::samples::plain::{End, end_of};
 pub use crate::samples::same::is_same;
+pub use crate::samples::steps::{session_after, steps_of, up_site};
 pub use crate::samples::work::{carry_out, run_between, settles};

@@ -1,11 +1,15 @@
 //! Steps of a session over the sample.
 
-use crate::samples::{DB, LOG, NET, ROOT, WEB, name_of, words_of};
+ghost use Rattle.std.specs.Prelude.{◌≡◌, false, IfOk};
+
+use crate::samples::databases::{name_of, sample, words_of};
+use crate::samples::graphs::{DB, LOG, NET, ROOT, WEB};
 use rc_core::{Event, Outcome};
 use rc_select::{Mode, Request};
-use rc_session::Step;
+use rc_session::{Session, Step};
 use rc_set::NoMem;
 use std::alloc::Global;
+use std::test::Fail;
 
 /// The order in which one worker brings all up.
 const RISE: [u16; 5] = [ROOT, NET, DB, LOG, WEB];
@@ -46,7 +50,7 @@ fn act_of(word: &str) -> Option<Act> {
 }
 
 /// The steps that these words say.
-pub(crate) fn steps_of(alloc: Global, words: &str) -> Result<Vec<Step>, NoMem> {
+pub fn steps_of(alloc: Global, words: &str) -> Result<Vec<Step>, NoMem> {
     let mut steps = Vec::new(alloc);
     for word in words.split(' ') {
         if let Some(act) = act_of(word) {
@@ -77,7 +81,8 @@ fn run_of(alloc: Global, services: &[u16]) -> Result<Vec<Event>, NoMem> {
     Ok(events)
 }
 
-fn up_site(alloc: Global, limit: u32, order: &[u16]) -> Result<Step, NoMem> {
+/// A change that brings `site` up, in which one worker takes these services.
+pub fn up_site(alloc: Global, limit: u32, order: &[u16]) -> Result<Step, NoMem> {
     let names = words_of(alloc, &["site"])?;
     let request = Request::plain(Mode::Up, names, limit);
     Ok(Step::Change(request, run_of(alloc, order)?))
@@ -86,4 +91,32 @@ fn up_site(alloc: Global, limit: u32, order: &[u16]) -> Result<Step, NoMem> {
 fn add_pair(alloc: Global) -> Result<Step, NoMem> {
     let contents = words_of(alloc, &["db", "log"])?;
     Ok(Step::Add(name_of(alloc, "pair")?, contents, false))
+}
+
+/// A session over the sample in which the steps that these words say are played.
+pub fn session_after(alloc: Global, words: &str) -> Result<Session, Fail>
+    ensures { IfOk result (λ session. session.begun ≡ false) }
+{
+    let db = sample(alloc)?;
+    let mut session = Session::new(alloc, db)?;
+    match set_up(alloc, &mut session, words) {
+        Ok(()) => Ok(session),
+        Err(short) => {
+            drop(session);
+            Err(Fail::from(short))
+        }
+    }
+}
+
+fn set_up(alloc: Global, session: &mut Session, words: &str) -> Result<(), NoMem>
+    requires { session.old.begun ≡ false }
+    ensures { session.new.begun ≡ false }
+{
+    let steps = steps_of(alloc, words)?;
+    let played = session.play(alloc, &steps);
+    drop(steps);
+    match played {
+        Ok(_) => Ok(()),
+        Err(short) => Err(short),
+    }
 }
