@@ -1,25 +1,16 @@
 //! A change that is begun, run by one worker and completed, beside the same change by its events;
 //! and the states of a copy of the line that it leaves.
 
-ghost use Rattle.std.specs.Prelude.{◌≡◌, true, false, length, IfOk};
-ghost use Rattle.rc_model.specs.Headline.{HasRun};
-ghost use Rattle.rc_model.specs.Names.{Has};
-ghost use Rattle.rc_model.specs.Graph.{IsClosed};
-ghost use Rattle.rc_model.specs.Run.{course_of};
-ghost use Rattle.rc_model.specs.Beside.{TargetOf};
-ghost use Rattle.rc_session.specs.Commands.{command_of};
+ghost use Rattle.std.specs.Prelude.{◌≡◌, false};
 
+use crate::growths::completed;
 use crate::recovered::show_text;
-use crate::samples::{sample, settles, up_site};
-use rc_core::{Ended, Run};
-use rc_graph::Graph;
+use crate::samples::{sample, up_site};
 use rc_line::Line;
 use rc_names::Names;
 use rc_render::{live_text, report_text};
-use rc_select::Plan;
 use rc_session::{Refusal, Report, Session, Step};
-use rc_set::NoMem;
-use std::alloc::{AllocError, Global};
+use std::alloc::Global;
 use std::io;
 use std::test::Fail;
 
@@ -35,55 +26,28 @@ fn show_change(rt: &(impl Print + AllocGlobal), session: &mut Session) -> Result
     requires { session.old.begun ≡ false }
 {
     let step = up_site(rt.alloc(), 60_000, &[])?;
-    let completed = completed(rt.alloc(), session, &step);
-    match completed {
+    let completed = completed(rt, session, &step, false);
+    let shown = show_answer(rt, session, &step, &completed);
+    drop((completed, step));
+    shown
+}
+
+fn show_answer(
+    rt: &(impl Print + AllocGlobal),
+    session: &Session,
+    step: &Step,
+    answer: &Result<Report, Refusal>,
+) -> Result<(), Fail>
+    requires { session.now.begun ≡ false }
+{
+    let names = session.db().names();
+    match answer {
         Ok(report) => {
-            let shown = show_report(rt, session.db().names(), &step, &report);
-            drop(report);
-            shown?;
-            show_copy(rt, session.db().names(), session.journal())
+            show_report(rt, names, step, report)?;
+            Ok(show_copy(rt, names, session.journal())?)
         }
         Err(refusal) => Ok(println!(rt; "{refusal}")?),
     }
-}
-
-/// Begins the run of a change, runs it, and completes it.
-fn completed(alloc: Global, session: &mut Session, step: &Step) -> Result<Report, Refusal>
-    requires { session.old.begun ≡ false }
-    ensures { session.new.begun ≡ false }
-{
-    if !is_change(step) {
-        return Err(Refusal::Strange);
-    }
-    let begun = session.begin(alloc, step, 0)?;
-    match ended(alloc, session.db().graph(), begun.plan(), begun.deadline()) {
-        Ok(run) => Ok(session.complete(begun, run)),
-        Err(_) => {
-            session.abandon(begun);
-            Err(Refusal::Memory)
-        }
-    }
-}
-
-fn is_change(step: &Step) -> bool
-    ensures { result ≡ true → HasRun (command_of step.now) }
-{
-    matches!(step, Step::Change(..))
-}
-
-/// The end of a run of a plan by one worker.
-fn ended(alloc: Global, graph: &Graph, plan: &Plan, deadline: Option<u64>) -> Result<Ended, NoMem>
-    requires bound { length plan.now.opening ≡ length graph.now }
-    requires opening { IsClosed graph.now (Has plan.now.opening) }
-    requires target { IsClosed graph.now (TargetOf (course_of graph.now plan.now deadline)) }
-    ensures { IfOk result (λ run. run.course ≡ course_of graph.now plan.now deadline) }
-{
-    let mut run = Run::open(alloc, graph, plan, deadline)?;
-    if settles(&mut run) {
-        return Ok(run.finish());
-    }
-    drop(run);
-    Err(AllocError)
 }
 
 /// Whether a new session reports the same of the events of a report.
@@ -123,23 +87,22 @@ fn show_report(
     step: &Step,
     report: &Report,
 ) -> Result<(), Fail> {
-    let text = report_text(rt.alloc(), names, report)?;
-    show_text(rt, &text)?;
-    show_counts(rt, report)?;
     let is_same = is_by_events(rt.alloc(), step, report)?;
-    Ok(println!(rt; "the same by its events: {is_same}")?)
+    let text = report_text(rt.alloc(), names, report)?;
+    Ok(show_lines(rt, report, &text, is_same)?)
 }
 
-fn show_counts(rt: &impl Print, report: &Report) -> io::Result<()> {
+fn show_lines(rt: &impl Print, report: &Report, text: &[u8], is_same: bool) -> io::Result<()> {
+    show_text(rt, text)?;
     let (opening, many) = (report.opening.len(), report.trace.len());
     println!(rt;
-        "{opening} live before, {many} events, stopped: {}",
+        "{opening} live before, {many} events, stopped: {}\nthe same by its events: {is_same}",
         report.stopped
     )
 }
 
 /// Shows where the copy of a line stands, and what is live in each of its states.
-fn show_copy(rt: &(impl Print + AllocGlobal), names: &Names, line: &Line) -> Result<(), Fail>
+fn show_copy(rt: &(impl Print + AllocGlobal), names: &Names, line: &Line) -> io::Result<()>
     requires { line.now.is_open ≡ false }
 {
     let copied = line.copy(rt.alloc())?;
@@ -148,7 +111,7 @@ fn show_copy(rt: &(impl Print + AllocGlobal), names: &Names, line: &Line) -> Res
     shown
 }
 
-fn show_states(rt: &(impl Print + AllocGlobal), names: &Names, line: &Line) -> Result<(), Fail>
+fn show_states(rt: &(impl Print + AllocGlobal), names: &Names, line: &Line) -> io::Result<()>
     requires { line.now.is_open ≡ false }
 {
     println!(rt; "the copy stands on {} of {}", line.cursor(), line.states())?;
@@ -163,7 +126,7 @@ fn show_state(
     names: &Names,
     line: &Line,
     place: usize,
-) -> Result<(), Fail>
+) -> io::Result<()>
     requires { line.now.is_open ≡ false }
 {
     if place >= line.states() {
@@ -174,5 +137,5 @@ fn show_state(
     let bundles = table.len();
     drop((live, table));
     show_text(rt, &text?)?;
-    Ok(println!(rt; "{bundles} bundles")?)
+    println!(rt; "{bundles} bundles")
 }

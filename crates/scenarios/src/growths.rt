@@ -22,6 +22,7 @@ mod trees;
 mod values;
 mod workers;
 
+pub use crate::growths::begun::completed;
 use crate::growths::calls::made;
 use crate::growths::lines::show_edit;
 use crate::growths::openings::{show_change, show_opening};

@@ -12,14 +12,18 @@ ghost use Rattle.rc_session.specs.Holding.{IsOfSession};
 use crate::growths::calls::{by_events, planned};
 use crate::growths::told::go_on_to;
 use crate::samples::{ROOT, run_between, settles};
+use crate::steps::make;
 use rc_core::{Ended, Event, Outcome, Run, Standing};
 use rc_graph::Graph;
 use rc_recovery::recover;
 use rc_select::Plan;
-use rc_session::{Begun, Refusal, Session, Step};
+use rc_session::{Begun, Refusal, Report, Session, Step};
 use rc_set::NoMem;
 use std::alloc::{AllocError, AllocGlobal, Global};
 use std::io::Print;
+
+/// The only service of a run comes up.
+const ROOT_UP: [Event; 2] = [Event::Take(1, ROOT), Event::Done(1, ROOT, Outcome::Ok)];
 
 /// Begins the run of a step, and gives it up.
 pub(crate) fn abandoned(
@@ -92,8 +96,8 @@ pub(crate) fn recovered(alloc: Global, session: &mut Session, step: &Step) -> Re
     }
 }
 
-/// Begins the run of a step, runs it, and completes it.
-pub(crate) fn completed(
+/// Completes the run of a step. Whether that moves all services.
+pub(crate) fn all_moved(
     rt: &(impl Print + AllocGlobal),
     session: &mut Session,
     step: &Step,
@@ -101,14 +105,8 @@ pub(crate) fn completed(
     requires { session.old.begun ≡ false }
     ensures { session.new.begun ≡ false }
 {
-    if !has_run(step) {
-        return Err(Refusal::Strange);
-    }
-    let begun = session.begin(rt.alloc(), step, 0)?;
-    match ended(rt, session.db().graph(), begun.plan(), begun.deadline()) {
-        Ok(run) => {
-            go_on_to(rt, "complete");
-            let report = session.complete(begun, run);
+    match completed(rt, session, step, true) {
+        Ok(report) => {
             let moved = report.lowered.len().saturating_add(report.raised.len());
             drop(report);
             if moved == 5 {
@@ -116,6 +114,37 @@ pub(crate) fn completed(
             } else {
                 Err(Refusal::Strange)
             }
+        }
+        Err(refusal) => Err(refusal),
+    }
+}
+
+/// Begins the run of a step, runs it, and completes it, and names each further call or none.
+pub fn completed(
+    rt: &(impl Print + AllocGlobal),
+    session: &mut Session,
+    step: &Step,
+    names_calls: bool,
+) -> Result<Report, Refusal>
+    requires { session.old.begun ≡ false }
+    ensures { session.new.begun ≡ false }
+{
+    if !has_run(step) {
+        return Err(Refusal::Strange);
+    }
+    let begun = session.begin(rt.alloc(), step, 0)?;
+    match ended(
+        rt,
+        session.db().graph(),
+        begun.plan(),
+        begun.deadline(),
+        names_calls,
+    ) {
+        Ok(run) => {
+            if names_calls {
+                go_on_to(rt, "complete");
+            }
+            Ok(session.complete(begun, run))
         }
         Err(_) => {
             session.abandon(begun);
@@ -130,18 +159,23 @@ fn ended(
     graph: &Graph,
     plan: &Plan,
     deadline: Option<u64>,
+    names_calls: bool,
 ) -> Result<Ended, NoMem>
     requires bound { length plan.now.opening ≡ length graph.now }
     requires opening { IsClosed graph.now (Has plan.now.opening) }
     requires target { IsClosed graph.now (TargetOf (course_of graph.now plan.now deadline)) }
     ensures { IfOk result (λ run. run.course ≡ course_of graph.now plan.now deadline) }
 {
-    go_on_to(rt, "Run::open");
+    if names_calls {
+        go_on_to(rt, "Run::open");
+    }
     let mut run = Run::open(rt.alloc(), graph, plan, deadline)?;
-    go_on_to(
-        rt,
-        "Run::is_of, planned, standings, trace, take, done, settled and finish",
-    );
+    if names_calls {
+        go_on_to(
+            rt,
+            "Run::is_of, planned, standings, trace, take, done, settled and finish",
+        );
+    }
     if is_new(&run, graph, plan, deadline) && settles(&mut run) {
         return Ok(run.finish());
     }
@@ -186,16 +220,10 @@ fn ends_stopped(mut run: Run) -> bool {
 fn is_stopped_once_up(run: &mut Run) -> bool
     ensures { result ≡ true → IsSettled run.new.course run.new.events }
 {
-    is_down(run, ROOT) && comes_up(run, ROOT) && run.stop(1, 7).is_ok() && run.settled()
+    is_down(run, ROOT) && make(run, &ROOT_UP).is_ok() && run.stop(1, 7).is_ok() && run.settled()
 }
 
 /// Whether a service is down.
 fn is_down(run: &Run, service: u16) -> bool {
     (service as usize) < run.standings().len() && run.standing(service) == Standing::Down
-}
-
-/// Takes a service by itself, and ends it well. Whether that was legal.
-fn comes_up(run: &mut Run, service: u16) -> bool {
-    run.step(Event::Take(1, service)).is_ok()
-        && run.step(Event::Done(1, service, Outcome::Ok)).is_ok()
 }

@@ -2,13 +2,14 @@
 
 ghost use Rattle.std.specs.Prelude.{◌≡◌, false};
 
-use crate::growths::begun::{abandoned, completed, is_stopped, recovered};
+use crate::growths::begun::{abandoned, all_moved, is_stopped, recovered};
 use crate::growths::lines::{is_of_states, is_stepped_on};
 use crate::growths::made::is_made;
 use crate::growths::queries::{is_answer, is_planned};
 use crate::growths::rows::How;
 use crate::growths::serving::{is_gate, is_locked, is_telling, served};
 use crate::growths::texts::is_text;
+use crate::growths::told::came_of;
 use crate::growths::trees::{is_from_folder, is_from_memory};
 use crate::growths::values::is_value;
 use crate::growths::workers::{by_workers, within};
@@ -36,32 +37,18 @@ pub(crate) fn made<R: Print + AllocGlobal + Threads + Wait + Sync>(
         How::Workers(workers) => by_workers(rt, session, workers, steps.first()),
         How::Within => within(rt, session, steps.first()),
         How::Serve(serving) => served(rt, session, serving),
-        _ => match told(host, session, how, steps, text) {
+        How::Of(_) | How::Text(..) | How::Stop | How::States | How::StepOn => {
+            came_of(is_right(host, session, how, text))
+        }
+        How::Make(_) | How::Memory | How::Folder | How::Lock => {
+            came_of(is_own(host, session, how))
+        }
+        How::Ask(_) | How::Plan | How::Shell | How::Tell => {
+            came_of(is_asked(host, session, how, steps.first()))
+        }
+        _ => match played(host, session, how, steps) {
             Ok(()) => Ok(()),
             Err(refusal) => Err(Fault::Refused(refusal)),
-        },
-    }
-}
-
-fn told(
-    rt: &HostRuntime,
-    session: &mut Session,
-    how: How,
-    steps: &[Step],
-    text: &[u8],
-) -> Result<(), Refusal>
-    requires { session.old.begun ≡ false }
-    ensures { session.new.begun ≡ false }
-{
-    match how {
-        How::Of(_) | How::Text(..) | How::Stop | How::States | How::StepOn => {
-            answered(is_right(rt, session, how, text))
-        }
-        How::Make(_) | How::Memory | How::Folder | How::Lock => answered(is_own(rt, session, how)),
-        How::Play => played(rt.alloc(), session, steps),
-        _ => match steps.first() {
-            Some(step) => stepped(rt, session, how, step),
-            None => Err(Refusal::Strange),
         },
     }
 }
@@ -94,40 +81,27 @@ fn is_own(rt: &HostRuntime, session: &Session, how: How) -> Result<bool, NoMem> 
     }
 }
 
-/// A call by one step.
-fn stepped(rt: &HostRuntime, session: &mut Session, how: How, step: &Step) -> Result<(), Refusal>
+/// A call by the first of these steps, or by all.
+fn played(rt: &HostRuntime, session: &mut Session, how: How, steps: &[Step]) -> Result<(), Refusal>
     requires { session.old.begun ≡ false }
     ensures { session.new.begun ≡ false }
 {
+    let Some(step) = steps.first() else {
+        return Err(Refusal::Strange);
+    };
     match how {
-        How::Complete => completed(rt, session, step),
+        How::Play => match session.play(rt.alloc(), steps) {
+            Ok(_) => Ok(()),
+            Err(_) => Err(Refusal::Memory),
+        },
+        How::Complete => all_moved(rt, session, step),
         How::Abandon => abandoned(rt, session, step, false),
         How::Spoil => abandoned(rt, session, step, true),
         How::By => by_events(rt.alloc(), session, step),
         How::Recover => recovered(rt.alloc(), session, step),
         How::Edit => edited(rt.alloc(), session, step),
         How::Dry => planned(rt.alloc(), session, step),
-        How::Ask(_) | How::Plan | How::Shell | How::Tell => asked(rt, session, how, step),
         _ => Err(Refusal::Strange),
-    }
-}
-
-/// A wrong answer is strange.
-fn answered(is_right: Result<bool, NoMem>) -> Result<(), Refusal> {
-    match is_right {
-        Ok(true) => Ok(()),
-        Ok(false) => Err(Refusal::Strange),
-        Err(_) => Err(Refusal::Memory),
-    }
-}
-
-fn played(alloc: Global, session: &mut Session, steps: &[Step]) -> Result<(), Refusal>
-    requires { session.old.begun ≡ false }
-    ensures { session.new.begun ≡ false }
-{
-    match session.play(alloc, steps) {
-        Ok(_) => Ok(()),
-        Err(_) => Err(Refusal::Memory),
     }
 }
 
@@ -161,18 +135,23 @@ fn edited(alloc: Global, session: &mut Session, step: &Step) -> Result<(), Refus
     }
 }
 
-/// A call by the request of a change, or by its names.
-fn asked(rt: &HostRuntime, session: &Session, how: How, step: &Step) -> Result<(), Refusal> {
-    let Step::Change(request, _) = step else {
-        return Err(Refusal::Strange);
+/// Whether a call by the request of a change, or by its names, answers as it must.
+fn is_asked(
+    rt: &HostRuntime,
+    session: &Session,
+    how: How,
+    step: Option<&Step>,
+) -> Result<bool, NoMem> {
+    let Some(Step::Change(request, _)) = step else {
+        return Ok(false);
     };
     let (alloc, db) = (rt.alloc(), session.db());
-    answered(match how {
+    match how {
         How::Ask(query) => is_answer(alloc, db, query, &request.names),
         How::Plan => is_planned(alloc, db, session.live(), request),
         How::Tell => is_telling(rt, db),
         _ => is_gate(rt, db, &request.names),
-    })
+    }
 }
 
 pub(crate) fn planned(alloc: Global, session: &Session, step: &Step) -> Result<(), Refusal> {
