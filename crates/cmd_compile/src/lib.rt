@@ -1,4 +1,5 @@
-//! The command `compile`: source directories as the text of a database.
+//! The command `compile`: source directories as the text of a database, and what helps where they
+//! have a fault.
 #![tactic(auto)]
 
 mod compile;

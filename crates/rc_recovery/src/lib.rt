@@ -1,5 +1,6 @@
 //! Recovery of a command that was cut short: from the events that its run log keeps to a settled
-//! run of that very command, which the session enters as any other.
+//! run of that very command, which the session enters as any other. Over the two files of a
+//! session: what a crash leaves of them, and what the next command makes of that.
 //!
 //! Time grows with the takes times the events of the log, and with the texts.
 #![tactic(auto)]
