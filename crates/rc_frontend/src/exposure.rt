@@ -141,7 +141,7 @@ fn warn_outside(rt: &HostRuntime, root: &str, path: &str, target: &str) {
 /// Whether a path is that of something in a directory.
 fn is_within(path: &str, root: &str) -> bool {
     match path.strip_prefix(root) {
-        Some(rest) => matches!(rest.as_bytes(), [b'/', ..]) || matches!(root, "/"),
+        Some(rest) => rest.starts_with('/') || root.ends_with('/'),
         None => false,
     }
 }
