@@ -35,7 +35,7 @@ use std::io::{Read, Write};
 /// Why there is no plan to print.
 #[derive(Clone, Copy)]
 pub enum PlanFault<'a> {
-    /// The database text is none.
+    /// The database text is wrong.
     OfText(TextFault),
     /// A word names nothing.
     Unknown(&'a [u8]),

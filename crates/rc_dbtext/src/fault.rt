@@ -1,4 +1,4 @@
-//! Why bytes are not the text of a database, and how that is told.
+//! The faults of a database text, and the words that commands print for them.
 
 ghost use Rattle.std.specs.Prelude.{◌≡◌, IfOk};
 ghost use Rattle.rc_dbtext.specs.TextFaultWord.{text_word};

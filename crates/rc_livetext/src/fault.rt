@@ -1,4 +1,4 @@
-//! Why bytes are not the text of a line of states, and how that is told.
+//! The faults of the text of a session, and the words that commands print for them.
 
 ghost use Rattle.std.specs.Prelude.{◌≡◌, IfOk};
 ghost use Rattle.rc_livetext.specs.LiveFaultWord.{live_word};

@@ -1,10 +1,17 @@
-//! What no command of the built program shows: which texts are names and the words of some
-//! refusals, sets of all ids below a bound, parts of a database that do not fit together, trees in
-//! memory, and a graph of as many services as there may be. Whether lists of events are taken, and
-//! who asks is answered, exactly where a plain program says so. Drawn changes, each carried out in
-//! many orders, and drawn databases, each written and read back, and once more after edits of
-//! bytes. Changes that were cut short, entered from their run logs; and one that is cut short at
-//! each byte that it writes. With a word, the calls of `growths` instead.
+//! Tests of the libraries that no command of the built program can make. It prints what each shows.
+//!
+//! Values: which texts are names, the words of some refusals, sets of all ids below a bound, parts
+//! of a database that do not fit together, trees in memory, a graph of 4,096 services.
+//!
+//! Runs: a run takes each list of events of a small alphabet, and answers a worker that asks for a
+//! job, exactly as a plain program does. Drawn changes end alike in many orders.
+//!
+//! Texts: drawn databases are written and read back, then read with changed bytes.
+//!
+//! Recovery: changes that were cut short are entered from their run logs. One change is cut short
+//! after each byte that it writes.
+//!
+//! With an argument, the program makes the calls of `growths` instead.
 #![tactic(auto)]
 
 mod compare;
