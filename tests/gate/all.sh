@@ -104,7 +104,7 @@ done
 # Of some crates the bodies are tried as they are, too: none of them may be refused.
 {
     within 7200 tests/gate/mutants.py
-    within 1800 tests/gate/mutants.py --right rc_names rc_lexer rc_bundle rc_session
+    within 1800 tests/gate/mutants.py --right rc_names rc_dbtext::lexer rc_bundle rc_session
 } > "$room/mutants" 2>&1 &
 mutants=$!
 wait "$proofs"

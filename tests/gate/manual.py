@@ -15,7 +15,7 @@ or, for the first block of a section that stands as it is, `text of SECTION`.
 A row is an item. Its first cell has one or more forms, as `done W NAME ok`; its other cells are the text, each of them a
 sentence or more that may begin in lower case and lack its point. A column `Of` says what the next one speaks of.
 
-The synopsis is made from the commands and arguments of crates/rc_cmdline/src/told.rt, between comments alike. The name of
+The synopsis is made from the commands and arguments of crates/rc_args/src/cmdline/told.rt, between comments alike. The name of
 a value is that of the option's item in the page.
 """
 
@@ -27,7 +27,7 @@ import sys
 TOP = pathlib.Path(__file__).resolve().parents[2]
 MADE = re.compile(r'(\.\\" made from docs/FORMATS\.md by make pages: (\w\w), (\w+) of (.*)\n)(?:.*\n)*?(\.\\" end\n)')
 BLOCK = re.compile(r'(\.\\" made from docs/FORMATS\.md by make pages: text of (.*)\n)(?:.*\n)*?(\.\\" end\n)')
-TOLD = "crates/rc_cmdline/src/told.rt"
+TOLD = "crates/rc_args/src/cmdline/told.rt"
 SYNOPSIS = re.compile(rf'(\.\\" made from {TOLD} by make pages\n)(?:.*\n)*?(\.\\" end\n)')
 # The order of the options in the synopsis; others follow those of the names.
 ORDER = "base new restarts renames live wait force up down down-all prune all".split()

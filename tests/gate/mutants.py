@@ -4,6 +4,7 @@
     tests/gate/mutants.py [NAME..]
     tests/gate/mutants.py --right [NAME..]
 
+A NAME is a crate, or one module of it, as rc_dbtext::lexer; without any, all crates are meant.
 With --right the bodies are tried as they are, in the same way, and none may be refused: so it is seen that
 a goal which a mutant names is proved where nothing is wrong. A mutant for which it is not names no goal.
 
@@ -410,17 +411,20 @@ class Trial:
         self.copies = []
         self.numbers = itertools.count()
         for name in names:
-            missing = [it for it in self.crates.below(name) if not self.crates.lib(it).is_dir()]
-            for path in sorted((TOP / "crates" / name / "mutants").iterdir()):
+            crate, _, module = name.partition("::")
+            missing = [it for it in self.crates.below(crate) if not self.crates.lib(it).is_dir()]
+            for path in sorted((TOP / "crates" / crate / "mutants").iterdir()):
                 if missing:
-                    self.fail(name, path.stem, f"there is no proved library of {missing[0]}: run rt ci, or rt all check")
+                    self.fail(crate, path.stem, f"there is no proved library of {missing[0]}: run rt ci, or rt all check")
                     continue
                 try:
                     mutant = read_mutant(path)
-                    mutant.apply(TOP / "crates" / name)
+                    if module and not mutant.function.startswith(f"{module}::"):
+                        continue
+                    mutant.apply(TOP / "crates" / crate)
                     self.place(replace(mutant, changes=[]) if is_right else mutant)
                 except ValueError as why:
-                    self.fail(name, path.stem, why)
+                    self.fail(crate, path.stem, why)
 
     def new_copy(self, crate):
         number = 1 + sum(it.crate == crate for it in self.copies)
@@ -535,7 +539,7 @@ def lanes():
 def main():
     is_right = sys.argv[1:2] == ["--right"]
     names = sys.argv[1 + is_right :] or sorted(it.name for it in (TOP / "crates").iterdir())
-    names = [it for it in names if (TOP / "crates" / it / "mutants").is_dir()]
+    names = [it for it in names if (TOP / "crates" / it.partition("::")[0] / "mutants").is_dir()]
     room = pathlib.Path(tempfile.mkdtemp())
     try:
         trial = Trial(names, room, is_right)

@@ -15,9 +15,9 @@ use Rattle.rc_model.specs.Database.{value_of, Database, IsDatabase, Selected}
 use Rattle.rc_db.proofs.Words.{bound_of_value}
 use Rattle.cmd_query.specs.DbAnswer.{IsFound}
 use Rattle.cmd_query.specs.DbFaults.{IfRead}
-use Rattle.rc_cmdline.specs.declared.query_words.NamesQuery.{NamesQuery}
-use Rattle.rc_cmdline.specs.declared.query_words.NamesQuery.TheVariants.{Atomics, Dependencies}
-use Rattle.rc_cmdline.specs.declared.query_words.NamesQuery.TheVariants.{AllDependencies}
+use Rattle.rc_args.specs.declared.cmdline.query_words.NamesQuery.{NamesQuery}
+use Rattle.rc_args.specs.declared.cmdline.query_words.NamesQuery.TheVariants.{Atomics, Dependencies}
+use Rattle.rc_args.specs.declared.cmdline.query_words.NamesQuery.TheVariants.{AllDependencies}
 
 -- all of a list is below a bound, where that is so of all that it lists
 pub listed_within : (P : ℕ → Type 0) (ids list : List ℕ) (names more : List (List ℕ)) → Lists P ids

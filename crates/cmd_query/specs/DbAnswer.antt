@@ -26,10 +26,10 @@ use Rattle.rc_render.specs.Lines.{line, name_lines, names_at}
 use Rattle.rc_dbtext.specs.Base.{Spells}
 use Rattle.rc_args.specs.DbAsked.{AsksDb, DbAsk}
 use Rattle.rc_args.specs.Query.{Check, Dot, ListOf, OfName, OfNames, Question}
-use Rattle.rc_cmdline.specs.declared.query_words.NameQuery.{NameQuery}
-use Rattle.rc_cmdline.specs.declared.query_words.NameQuery.TheVariants as of_name
-use Rattle.rc_cmdline.specs.declared.query_words.NamesQuery.{NamesQuery}
-use Rattle.rc_cmdline.specs.declared.query_words.NamesQuery.TheVariants as of_names
+use Rattle.rc_args.specs.declared.cmdline.query_words.NameQuery.{NameQuery}
+use Rattle.rc_args.specs.declared.cmdline.query_words.NameQuery.TheVariants as of_name
+use Rattle.rc_args.specs.declared.cmdline.query_words.NamesQuery.{NamesQuery}
+use Rattle.rc_args.specs.declared.cmdline.query_words.NamesQuery.TheVariants as of_names
 use Rattle.cmd_query.specs.declared.db_fault.DbFault.{DbFault}
 use Rattle.cmd_query.specs.declared.db_fault.DbFault.TheVariants.{OfText, OfQuery, OfLive, Memory}
 

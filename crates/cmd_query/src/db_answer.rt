@@ -16,8 +16,7 @@ ghost use Rattle.rc_args.specs.DbAsked.{db_ask_of};
 ghost use Rattle.rc_args.specs.Query.{question_of};
 
 use crate::db_fault::DbFault;
-use rc_args::{DbRequest, Query};
-use rc_cmdline::{NameQuery, NamesQuery};
+use rc_args::{DbRequest, NameQuery, NamesQuery, Query};
 use rc_db::{Db, QueryFault, Which};
 use rc_graph::Way;
 use rc_livetext::read_live;

@@ -10,7 +10,7 @@ ghost use Rattle.rc_dbtext.specs.Opening.{IsWrongBase};
 ghost use Rattle.rc_args.specs.ReplayAsked.{AsksReplay};
 ghost use Rattle.cmd_query.specs.Replay.{IsReplayFor, IsScriptAs, IsTextAs, TellsReplayFault};
 ghost use Rattle.cmd_query.specs.Replay.{replay_fault_text};
-ghost use Rattle.rc_cmdline.specs.Words.{rows_for};
+ghost use Rattle.rc_args.specs.Words.{rows_for};
 ghost use Rattle.cmd_query.specs.declared.replay.ReplayFault.TheVariants.{Memory};
 
 use crate::played::replay_text;

@@ -7,10 +7,10 @@ use Rattle.clap.specs.Words.{Row, Text, first_of}
 use Rattle.rc_args.specs.DbAsked.{AsksIn, AsksNothing, DbAsk, ShowsByPicture, ask_by, query_words}
 use Rattle.rc_args.specs.Query.{Check, Dot, ListOf, OfName, OfNames, Question, question_of}
 use Rattle.rc_args.specs.Query.{words_of_query}
-use Rattle.rc_cmdline.specs.declared.query_words.NamesQuery.{NamesQuery}
+use Rattle.rc_args.specs.declared.cmdline.query_words.NamesQuery.{NamesQuery}
 use Rattle.rc_args.specs.declared.db_words.Query.{Query}
-use Rattle.rc_cmdline.specs.Words.{rows_for, words_in}
-use Rattle.rc_cmdline.specs.QueryWords.{names_word}
+use Rattle.rc_args.specs.Words.{rows_for, words_in}
+use Rattle.rc_args.specs.QueryWords.{names_word}
 
 -- words without matches of `db` ask nothing
 pub asked_none : (words : List Text) → rows_for (codes "db") words ≡ None → AsksNothing words

@@ -1,5 +1,7 @@
 -- The lemmas of rc_args, in reading order.
 
+-- What `clap`'s clauses say of the program's own rule.
+pub mod WordsLemmas
 -- What the words ask, by the matches that `clap` makes of them.
 mod TaskLemmas
 -- What the words ask of `db`, by the matches that `clap` makes of them.

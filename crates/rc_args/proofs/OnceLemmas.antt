@@ -10,7 +10,7 @@ use Rattle.rc_model.specs.Plan.{Ask}
 use Rattle.rc_model.specs.Session.{Add, Change, Delete, Redo, Undo}
 use Rattle.rc_script.specs.Says.{SaysBundles, SaysDry, SaysJournal, SaysLive, SaysNothing, SaysStep}
 use Rattle.rc_script.specs.Says.{SaysWrong}
-use Rattle.rc_cmdline.specs.Words.{is_on, words_in}
+use Rattle.rc_args.specs.Words.{is_on, words_in}
 use Rattle.rc_select.specs.Ask.{asked_with, chosen_in, mode_of}
 use Rattle.rc_args.specs.Asked.{ask_in}
 use Rattle.rc_args.specs.Limits.{IsRunLimitIn}

@@ -8,7 +8,7 @@ use Rattle.rc_args.specs.Limits.{IsLimitIn}
 use Rattle.rc_args.specs.Listed.{Listed, SpellsList}
 use Rattle.rc_args.specs.Programs.{ByPrograms, ByTable, MakesBy, MakesIn, MakingAsk}
 use Rattle.rc_args.specs.SessionAsked.{AsksNoSession}
-use Rattle.rc_cmdline.specs.Words.{rows_for}
+use Rattle.rc_args.specs.Words.{rows_for}
 
 -- words without matches of `session` ask for none
 pub asked_none : (words : List Text) → rows_for (codes "session") words ≡ None → AsksNoSession words

@@ -7,7 +7,7 @@ use Rattle.clap.specs.Words.{Row, Text}
 use Rattle.rc_model.specs.Session.{Add, Change, Delete, Redo, Undo}
 use Rattle.rc_script.specs.Says.{SaysBundles, SaysDry, SaysJournal, SaysLive, SaysNothing, SaysStep}
 use Rattle.rc_script.specs.Says.{SaysWrong}
-use Rattle.rc_cmdline.specs.Words.{rows_for, rows_named}
+use Rattle.rc_args.specs.Words.{rows_for, rows_named}
 use Rattle.rc_args.specs.OnceAsked.{AsksWhatIn, HasNoEvents, OnceAsk, OnceSaying, Said}
 use Rattle.rc_args.specs.OnceAsked.{WantsDryRedo, WantsDryUndo, once_saying_of}
 use Rattle.rc_args.specs.Task.{AsksEntered, AsksNamed, AsksNoTask, AsksTask}

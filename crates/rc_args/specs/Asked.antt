@@ -4,7 +4,7 @@ use Rattle.clap.specs.Words.{Row, Text, kind_of}
 use Rattle.clap.specs.declared.error.ErrorKind.TheVariants.{DisplayHelp}
 use Rattle.rc_model.specs.Plan.{Ask}
 use Rattle.rc_select.specs.Ask.{asked_by, chosen_in}
-use Rattle.rc_cmdline.specs.Words.{is_on, rows_for, words_in}
+use Rattle.rc_args.specs.Words.{is_on, rows_for, words_in}
 use Rattle.rc_args.specs.declared.asked.WordsFault.{WordsFault}
 use Rattle.rc_args.specs.declared.asked.WordsFault.TheVariants.{Found}
 

@@ -1,7 +1,7 @@
 -- What the words ask of `compile`.
 use Rattle.std.specs.Prelude.{◌≡◌, Bool, List, Option, codes, map, option_map, string_bytes}
 use Rattle.clap.specs.Words.{Row, Text, first_of}
-use Rattle.rc_cmdline.specs.Words.{is_on, words_in}
+use Rattle.rc_args.specs.Words.{is_on, words_in}
 use Rattle.rc_args.specs.declared.compile_words.CompileRequest.{CompileRequest}
 
 -- what is asked of `compile`: its sources, the file that the database is put into, if one is named,

@@ -7,7 +7,7 @@ use Rattle.rc_graph.specs.declared.Way.{Way}
 use Rattle.rc_graph.specs.declared.Way.TheVariants.{Raise, Lower}
 use Rattle.rc_args.specs.Query.{Dot, Question, question_of, words_of_query}
 use Rattle.rc_args.specs.declared.db_words.DbRequest.{DbRequest}
-use Rattle.rc_cmdline.specs.Words.{is_on, rows_for, words_in}
+use Rattle.rc_args.specs.Words.{is_on, rows_for, words_in}
 
 -- a question, the way that it is asked for, and the file of a session that is to be shown
 pub record DbAsk : Type 0 where

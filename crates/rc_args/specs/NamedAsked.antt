@@ -1,7 +1,7 @@
 -- What the words ask of `restart` and `status`.
 use Rattle.std.specs.Prelude.{◌≡◌, List, map, string_bytes}
 use Rattle.clap.specs.Words.{Row, Text}
-use Rattle.rc_cmdline.specs.Words.{words_in}
+use Rattle.rc_args.specs.Words.{words_in}
 use Rattle.rc_args.specs.OnceAsked.{AreOneLine}
 use Rattle.rc_args.specs.SessionAsked.{AsksSessionIn, SessionAsk, session_ask_of}
 use Rattle.rc_args.specs.declared.named_words.NamedRequest.{NamedRequest}

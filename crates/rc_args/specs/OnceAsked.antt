@@ -7,7 +7,7 @@ use Rattle.rc_model.specs.Plan.{Ask}
 use Rattle.rc_model.specs.Session.{Add, Change, Delete, Redo, Undo, events_of}
 use Rattle.rc_script.specs.Says.{Saying, SaysBundles, SaysDry, SaysJournal, SaysLive, SaysNothing}
 use Rattle.rc_script.specs.Says.{SaysStep, SaysWrong, saying_of}
-use Rattle.rc_cmdline.specs.Words.{is_on, words_in}
+use Rattle.rc_args.specs.Words.{is_on, words_in}
 use Rattle.rc_args.specs.Asked.{ask_in}
 use Rattle.rc_args.specs.Limits.{IsRunLimitIn}
 use Rattle.rc_args.specs.SessionAsked.{AsksSessionIn, SessionAsk, Starts, session_ask_of}

@@ -5,9 +5,9 @@ use Rattle.rc_db.specs.declared.which.Which.{Which}
 use Rattle.rc_db.specs.declared.which.Which.TheVariants as which
 use Rattle.rc_args.specs.declared.db_words.Query.{Query}
 use Rattle.rc_args.specs.declared.db_words.Query.TheVariants as query
-use Rattle.rc_cmdline.specs.QueryWords.{name_word, names_word}
-use Rattle.rc_cmdline.specs.declared.query_words.NameQuery.{NameQuery}
-use Rattle.rc_cmdline.specs.declared.query_words.NamesQuery.{NamesQuery}
+use Rattle.rc_args.specs.QueryWords.{name_word, names_word}
+use Rattle.rc_args.specs.declared.cmdline.query_words.NameQuery.{NameQuery}
+use Rattle.rc_args.specs.declared.cmdline.query_words.NamesQuery.{NamesQuery}
 
 -- what is asked of a database: whether it is one, its picture, a list of names, or something of
 -- one name or of any number of them

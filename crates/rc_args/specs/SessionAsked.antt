@@ -5,7 +5,7 @@ use Rattle.std.specs.Str.Parse.{IsNumeral, digits_value, without_leading_plus}
 use Rattle.clap.specs.Words.{Row, Text, first_of}
 use Rattle.rc_args.specs.Making.{making_ask_of}
 use Rattle.rc_args.specs.Programs.{MakesIn, MakingAsk, StartsBy}
-use Rattle.rc_cmdline.specs.Words.{is_on, rows_for}
+use Rattle.rc_args.specs.Words.{is_on, rows_for}
 use Rattle.rc_args.specs.declared.session_request.SessionRequest.{SessionRequest}
 
 -- what is asked of a session: how many workers it has, how transitions are made, whether each is

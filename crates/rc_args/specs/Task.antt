@@ -3,7 +3,7 @@ use Rattle.std.specs.Prelude.{◌≡◌, List, Option, Some, codes, option_map}
 use Rattle.clap.specs.Words.{Row, Text, first_of}
 use Rattle.rc_model.specs.Plan.{Ask}
 use Rattle.rc_select.specs.Ask.{ask_of}
-use Rattle.rc_cmdline.specs.Words.{rows_for}
+use Rattle.rc_args.specs.Words.{rows_for}
 use Rattle.rc_args.specs.Asked.{ask_in}
 use Rattle.rc_args.specs.CompileAsked.{AsksCompileIn, CompileAsk, compile_ask_of}
 use Rattle.rc_args.specs.OnceAsked.{AsksOnceIn, HasNoEvents, LacksFile, OnceAsk, once_ask_of}

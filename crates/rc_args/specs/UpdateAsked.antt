@@ -1,7 +1,7 @@
 -- What the words ask of `update`.
 use Rattle.std.specs.Prelude.{◌≡◌, Bool, List, Option, Some, codes, false, map, option_map, true}
 use Rattle.clap.specs.Words.{Row, Text, first_of}
-use Rattle.rc_cmdline.specs.Words.{is_on, values_in}
+use Rattle.rc_args.specs.Words.{is_on, values_in}
 use Rattle.rc_args.specs.SessionAsked.{AsksSessionIn, SessionAsk, session_ask_of}
 use Rattle.rc_args.specs.declared.update_words.UpdateRequest.{UpdateRequest}
 use Rattle.rc_update.specs.Conversions.{Conversion, conversions_of}

@@ -3,16 +3,16 @@ ghost use Rattle.std.specs.Prelude.{◌≡◌, ◌≢◌, ◌⊎◌, ◌↔◌, 
 ghost use Rattle.std.specs.Prelude.{IsTrue};
 ghost use Rattle.clap.specs.Words.{found_of, rows_of};
 ghost use Rattle.rc_select.specs.Ask.{ask_of};
-ghost use Rattle.rc_cmdline.specs.Words.{is_on as is_flag_on};
+ghost use Rattle.rc_args.specs.Words.{is_on as is_flag_on};
 ghost use Rattle.rc_args.specs.Asked.{AsksHelp, ask_in, plan_asked};
 ghost use Rattle.rc_streams.specs.Input.{AppendsFront, failure_text, fault_line};
 ghost use Rattle.rc_args.specs.declared.asked.WordsFault.TheVariants.{Memory};
 
+use crate::cmdline::is_on;
 use crate::matched::{command_in, matches_in};
 use crate::texts::words_in;
 use clap::error::ErrorKind;
 use clap::{ArgMatches, Error as ClapError};
-use rc_cmdline::is_on;
 use rc_select::{Chosen, Flags, Request};
 use rc_streams::ending::{WRONG_LINE, fail};
 use rc_streams::{Failure, tell};

@@ -3,9 +3,9 @@ ghost use Rattle.std.specs.Prelude.{IfOk};
 ghost use Rattle.clap.specs.Words.{found_of, rows_of};
 ghost use Rattle.rc_args.specs.CompileAsked.{AsksCompileIn, compile_ask_of};
 
+use crate::cmdline::is_on;
 use crate::texts::{text_in, words_in};
 use clap::ArgMatches;
-use rc_cmdline::is_on;
 use std::alloc::{AllocError, Global};
 
 /// What the words ask of `compile`.

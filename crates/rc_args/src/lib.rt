@@ -1,7 +1,8 @@
-//! What the words ask of each command.
+//! What argv asks of each command: the matches that `clap` makes of it, and the task.
 #![tactic(auto)]
 
 mod asked;
+mod cmdline;
 mod compile_words;
 mod db_words;
 mod limits;
@@ -20,6 +21,7 @@ mod update_words;
 mod usual;
 
 pub use crate::asked::{WordsFault, asks_help, plan_asked, tell_words};
+pub use crate::cmdline::{NameQuery, NamesQuery};
 pub use crate::compile_words::CompileRequest;
 pub use crate::db_words::{DbRequest, Query, db_asked};
 pub use crate::named_words::NamedRequest;

@@ -1,12 +1,12 @@
 //! The matches of the words, and in them those of one command.
 ghost use Rattle.std.specs.Prelude.{◌≡◌, ◌≢◌, None, map, option_map, string_bytes, IfErr, IfOk};
 ghost use Rattle.clap.specs.Words.{Text, found_of, rows_of, subcommand_rows_of};
-ghost use Rattle.rc_cmdline.specs.Words.{rows_for, rows_named};
+ghost use Rattle.rc_args.specs.Words.{rows_for, rows_named};
 ghost use Rattle.rc_args.specs.declared.asked.WordsFault.TheVariants.{Memory};
 
 use crate::asked::WordsFault;
+use crate::cmdline::{entered, is_memory, matches_of};
 use clap::ArgMatches;
-use rc_cmdline::{entered, is_memory, matches_of};
 use std::alloc::Global;
 
 /// What `clap` makes of the words. The first word is the program's own name.

@@ -1,7 +1,7 @@
 //! What the words ask of `replay`.
 ghost use Rattle.std.specs.Prelude.{◌≡◌, ◌≢◌, codes, map, None, string_bytes, IfErr, OnOk};
 ghost use Rattle.rc_args.specs.ReplayAsked.{AsksReplay};
-ghost use Rattle.rc_cmdline.specs.Words.{rows_for};
+ghost use Rattle.rc_args.specs.Words.{rows_for};
 ghost use Rattle.rc_args.specs.declared.asked.WordsFault.TheVariants.{Memory};
 
 use crate::asked::WordsFault;

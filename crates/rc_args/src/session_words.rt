@@ -8,12 +8,12 @@ ghost use Rattle.rc_args.specs.SessionAsked.{session_ask_of};
 ghost use Rattle.rc_args.specs.declared.asked.WordsFault.TheVariants.{Memory};
 
 use crate::asked::WordsFault;
+use crate::cmdline::is_on;
 use crate::matched::{command_in, matches_in};
 use crate::program_words::making_in;
 use crate::session_request::SessionRequest;
 use crate::texts::text_in;
 use clap::ArgMatches;
-use rc_cmdline::is_on;
 use rc_line::USUAL_BOUND;
 use std::alloc::Global;
 

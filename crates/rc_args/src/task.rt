@@ -7,6 +7,7 @@ ghost use Rattle.rc_args.specs.Usual.{usual_ask_of};
 ghost use Rattle.rc_args.specs.declared.asked.WordsFault.TheVariants.{Memory, NoFile};
 
 use crate::asked::{WordsFault, plan_in};
+use crate::cmdline::entered;
 use crate::compile_words::{CompileRequest, compile_in};
 use crate::db_words::{DbRequest, db_in};
 use crate::matched::matches_in;
@@ -18,7 +19,6 @@ use crate::texts::text_in;
 use crate::update_words::{UpdateRequest, update_in};
 use crate::usual::{Usual, named_or};
 use clap::ArgMatches;
-use rc_cmdline::entered;
 use rc_select::Request;
 use std::alloc::Global;
 

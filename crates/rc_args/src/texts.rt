@@ -1,7 +1,7 @@
 //! The words of a command, as texts of one's own, and the text of an option.
 ghost use Rattle.std.specs.Prelude.{◌≡◌, map, option_map, string_bytes, IfOk};
 ghost use Rattle.clap.specs.Words.{first_of, found_of, rows_of};
-ghost use Rattle.rc_cmdline.specs.Words.{words_in};
+ghost use Rattle.rc_args.specs.Words.{words_in};
 
 use clap::ArgMatches;
 use std::alloc::{AllocError, Global};

@@ -1,19 +1,19 @@
 //! What the words ask of `update`.
 ghost use Rattle.std.specs.Prelude.{◌≡◌, ◌≢◌, codes, map, IfErr, IfOk};
 ghost use Rattle.clap.specs.Words.{found_of, rows_of};
-ghost use Rattle.rc_cmdline.specs.Words.{values_in};
+ghost use Rattle.rc_args.specs.Words.{values_in};
 ghost use Rattle.rc_args.specs.UpdateAsked.{AsksUpdateIn, UpdateAsk, restart_of, update_ask_of};
 ghost use Rattle.rc_args.specs.Usual.{session_by, usual_ask_of};
 ghost use Rattle.rc_args.specs.declared.asked.WordsFault.TheVariants.{Memory};
 ghost use Rattle.rc_update.specs.Conversions.{conversion_of, conversions_of};
 
 use crate::asked::WordsFault;
+use crate::cmdline::is_on;
 use crate::session_request::SessionRequest;
 use crate::session_words::session_in;
 use crate::texts::text_in;
 use crate::usual::Usual;
 use clap::ArgMatches;
-use rc_cmdline::is_on;
 use rc_update::Conversion;
 use std::alloc::{AllocError, Global};
 

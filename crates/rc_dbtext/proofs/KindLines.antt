@@ -17,13 +17,13 @@ use Rattle.rc_dbtext.specs.Text.{OfDown}
 use Rattle.rc_dbtext.specs.Text.{BundleCount, OfBundle, Last, Head, BundleText, IsHead}
 use Rattle.rc_dbtext.specs.Text.{IsBundleText, words, text_behind, kind_word, flag_word, or_dash}
 use Rattle.rc_dbtext.specs.Text.{length_word}
-use Rattle.rc_dbtext.specs.Words.{IsPlain, ArePlain, IsOfWords, IsOfNoWords}
+use Rattle.rc_dbtext.specs.LineValues.{IsPlain, ArePlain, IsOfWords, IsOfNoWords}
 use Rattle.rc_dbtext.proofs.Sequences.{IsOnce}
-use Rattle.rc_lexer.proofs.Numbers.{IsNumber-decimal}
-use Rattle.rc_lexer.proofs.NumberLines.{plain_numbered}
-use Rattle.rc_lexer.proofs.Plain.{plain_from, plain_name, plain_names, plain_words}
-use Rattle.rc_lexer.proofs.Plain.{plain_decimal, no_words}
-use Rattle.rc_lexer.proofs.WordLines.{each_cons}
+use Rattle.rc_dbtext.proofs.Numbers.{IsNumber-decimal}
+use Rattle.rc_dbtext.proofs.NumberWords.{plain_numbered}
+use Rattle.rc_dbtext.proofs.Plain.{plain_from, plain_name, plain_names, plain_words}
+use Rattle.rc_dbtext.proofs.Plain.{plain_decimal, no_words}
+use Rattle.rc_dbtext.proofs.LineWords.{each_cons}
 use Rattle.rc_dbtext.proofs.LineReads.{IsKind}
 use Rattle.rc_dbtext.proofs.LineTexts.{text_head, text_needs, text_producer, text_up, text_down}
 use Rattle.rc_dbtext.proofs.LineTexts.{text_bundle, text_last}

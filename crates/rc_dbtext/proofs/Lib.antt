@@ -1,5 +1,21 @@
 -- The lemmas of rc_dbtext, in reading order.
 
+-- Numbers in decimal, and what stands for one.
+pub mod Numbers
+-- Lines of words: bytes begin with the words of one line.
+pub mod LineWords
+-- Words that are plain.
+pub mod Plain
+-- Words that are UTF-8.
+pub mod Texts
+-- Lines of a word and a number.
+pub mod NumberWords
+-- Reading is stuck at one place.
+pub mod Stuck
+-- Words taken from a line, one by one.
+mod Taking
+-- Lines of words that are UTF-8 are UTF-8.
+mod TextLines
 -- Forms, which are values with their lines: what is read, and where reading is stuck, in a form
 -- made of two others or of many.
 mod Sequences

@@ -7,7 +7,7 @@ use Rattle.rc_dbtext.specs.declared.syntax.fault.FormFault.TheVariants.{Bad, Ver
 use Rattle.rc_dbtext.specs.declared.syntax.fault.FormFault.TheVariants.{Memory}
 use Rattle.rc_dbtext.specs.Text.{Line, words, line_of_words, text_behind, spell}
 use Rattle.rc_dbtext.specs.Reading.{IsRead, IsRefused, HasOtherVersion, HasTooMany, one}
-use Rattle.rc_dbtext.specs.Words.{ArePlain, BeginsWith, IsNoLine}
+use Rattle.rc_dbtext.specs.LineValues.{ArePlain, BeginsWith, IsNoLine}
 use Rattle.rc_dbtext.proofs.Sequences.{HasNo, stuck_line}
 use Rattle.rc_dbtext.proofs.WordLines.{no_such_line, no_line}
 

@@ -13,7 +13,7 @@ use Rattle.rc_dbtext.specs.Text.{OfService, OfNeeds, OfProducer, OfUp, OfDown, O
 use Rattle.rc_dbtext.specs.Text.{Head}
 use Rattle.rc_dbtext.specs.Text.{BundleText, IsHead, IsBundleText, words, kind_word, flag_word}
 use Rattle.rc_dbtext.specs.Text.{or_dash, length_word}
-use Rattle.rc_lexer.proofs.Texts.{one_text, text_decimal, text_from, text_names}
+use Rattle.rc_dbtext.proofs.Texts.{one_text, text_decimal, text_from, text_names}
 
 text_kind : (kind : Kind) → IsUtf8 (kind_word kind)
 text_kind kinds.Oneshot = text_from (codes "oneshot") refl

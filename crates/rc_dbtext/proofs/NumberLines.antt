@@ -13,12 +13,12 @@ use Rattle.rc_dbtext.specs.Text.{Line, First, ServiceCount, BundleCount, words, 
 use Rattle.rc_dbtext.specs.Text.{text_behind, spell}
 use Rattle.rc_dbtext.specs.Reading.{IsRefused, IsNumber, HasNumber, IsNoNumber, IsNoCount}
 use Rattle.rc_dbtext.specs.Reading.{HasOtherVersion, HasTooMany, one}
-use Rattle.rc_dbtext.specs.Words.{IsPlain}
+use Rattle.rc_dbtext.specs.LineValues.{IsPlain}
 use Rattle.rc_dbtext.proofs.Sequences.{stuck_line}
-use Rattle.rc_lexer.proofs.NumberLines.{plain_numbered}
-use Rattle.rc_lexer.proofs.Numbers.{IsNumber-decimal, digits_value-decimal}
-use Rattle.rc_lexer.proofs.WordLines.{words_once}
-use Rattle.rc_lexer.proofs.Plain.{plain_from}
+use Rattle.rc_dbtext.proofs.NumberWords.{plain_numbered}
+use Rattle.rc_dbtext.proofs.Numbers.{IsNumber-decimal, digits_value-decimal}
+use Rattle.rc_dbtext.proofs.LineWords.{words_once}
+use Rattle.rc_dbtext.proofs.Plain.{plain_from}
 
 -- lines of one word and a number have one number
 one_number : (word number other x y : List ℕ) → IsPlain word → IsNumber number → IsNumber other

@@ -7,7 +7,7 @@ use Rattle.rc_dbtext.specs.declared.syntax.fault.FormFault.TheVariants.{Bad, Ver
 use Rattle.rc_dbtext.specs.declared.syntax.fault.FormFault.TheVariants.{Memory}
 use Rattle.rc_dbtext.specs.Text.{Line, First, ServiceCount, BundleCount, Last, spell}
 use Rattle.rc_dbtext.specs.Reading.{IsStuck, IsRefused, HasNumber, HasOtherVersion, HasTooMany}
-use Rattle.rc_lexer.proofs.Stuck as stuck_at
+use Rattle.rc_dbtext.proofs.Stuck as stuck_at
 use Rattle.rc_dbtext.proofs.Aligned.{Place, AtFirst, AtServices, AtBundles, Elsewhere, place}
 use Rattle.rc_dbtext.proofs.Aligned.{IsAligned}
 

@@ -9,8 +9,8 @@ use Rattle.std.proofs.lemmas.List.Concat.{flat_map-append}
 use Rattle.std.proofs.lemmas.List.Elements.{All-head, All-tail}
 use Rattle.std.proofs.Math.Seq.{take-append-add}
 use Rattle.std.specs.List.{flat_map}
-use Rattle.rc_lexer.proofs.WordLines.{append-cancel}
-use Rattle.rc_lexer.proofs.Stuck as stuck_at
+use Rattle.rc_dbtext.proofs.LineWords.{append-cancel}
+use Rattle.rc_dbtext.proofs.Stuck as stuck_at
 use Rattle.rc_dbtext.specs.declared.syntax.fault.FormFault.{FormFault}
 use Rattle.rc_dbtext.specs.declared.syntax.fault.FormFault.TheVariants.{Bad, Version, TooMany}
 use Rattle.rc_dbtext.specs.declared.syntax.fault.FormFault.TheVariants.{Memory}

@@ -1,9 +1,9 @@
 -- Lines of words with what stands after them: bytes begin with one such line.
 use Rattle.std.proofs.Common.{◌≡◌, ◌∙◌, ℕ, List, [], ◌∷◌, ◌++◌, All, sym, append_assoc}
 use Rattle.std.specs.Str.{IsUtf8}
-use Rattle.rc_lexer.proofs.WordLines.{words_once}
+use Rattle.rc_dbtext.proofs.LineWords.{words_once}
 use Rattle.rc_dbtext.specs.Text.{Line, words, line_of_words, text_behind}
-use Rattle.rc_dbtext.specs.Words.{ArePlain, BeginsWith}
+use Rattle.rc_dbtext.specs.LineValues.{ArePlain, BeginsWith}
 use Rattle.rc_dbtext.proofs.Sequences.{HasNo, IsOnce, once_line}
 
 module _ {A : Type 0} (Is : A → Type 0) (line : A → Line)

@@ -1,12 +1,16 @@
 -- The definitions of rc_dbtext, in reading order.
 
+-- Lines of words with one space between them, and numbers among the words.
+pub mod Words
+-- Forms: values with their lines, and what of a value stands at the beginning of bytes.
+pub mod Form
 -- The text of a database: what it gives, its lines and their bytes, and what may be spelled.
 pub mod Text
 -- Values that are read line by line: where reading succeeds, where it is stuck, and what refuses
 -- it.
 pub mod Reading
 -- Values that are read from the words of one line.
-pub mod Words
+pub mod LineValues
 -- What was read of the part of a service after its needs.
 pub mod FormText
 -- The text of a database: names in place of ids, and its bytes.

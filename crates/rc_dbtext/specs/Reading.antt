@@ -5,8 +5,8 @@ use Rattle.std.specs.Str.Parse.{digits_value}
 use Rattle.rc_dbtext.specs.declared.syntax.fault.FormFault.{FormFault}
 use Rattle.rc_dbtext.specs.declared.syntax.fault.FormFault.TheVariants.{Bad, Version, TooMany}
 use Rattle.rc_dbtext.specs.declared.syntax.fault.FormFault.TheVariants.{Memory}
-pub use Rattle.rc_lexer.specs.Words.{IsNumber, HasNumber}
-use Rattle.rc_lexer.specs.Form as form
+pub use Rattle.rc_dbtext.specs.Words.{IsNumber, HasNumber}
+use Rattle.rc_dbtext.specs.Form as form
 use Rattle.rc_dbtext.specs.Text.{Line, First, ServiceCount, BundleCount, spell}
 
 -- the lines of a value that is one line

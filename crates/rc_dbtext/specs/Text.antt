@@ -7,8 +7,8 @@ use Rattle.rc_model.specs.declared.Kind.{Kind}
 use Rattle.rc_model.specs.declared.Kind.TheVariants as kinds
 use Rattle.rc_model.specs.Names.{IsName}
 use Rattle.rc_db.specs.Service.{IsScript}
-pub use Rattle.rc_lexer.specs.Words.{BundleText, line_of_words}
-use Rattle.rc_lexer.specs.Form as form
+pub use Rattle.rc_dbtext.specs.Words.{BundleText, line_of_words}
+use Rattle.rc_dbtext.specs.Form as form
 
 -- what the first line of a service says
 pub record Head : Type 0 where

@@ -12,10 +12,10 @@ ghost use Rattle.rc_dbtext.specs.Meaning.{service_names};
 ghost use Rattle.rc_dbtext.specs.Parts.{AreNeedsOf, FeedsKnown, IsNamed, IsServiceOf};
 ghost use Rattle.rc_dbtext.specs.Spelling.{head_of};
 
+use crate::lexer::NameWord;
 use crate::syntax::{BodyForm, Head, ServiceForm};
 use rc_db::{NoMem, Service};
 use rc_graph::{Draft, Graph, GraphFault};
-use rc_lexer::NameWord;
 use rc_names::Names;
 use std::alloc::{AllocError, Global};
 

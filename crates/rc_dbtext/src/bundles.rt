@@ -6,9 +6,9 @@ ghost use Rattle.rc_model.specs.Database.{HaveBound, names_of};
 ghost use Rattle.rc_dbtext.specs.Meaning.{bundle_names};
 ghost use Rattle.rc_dbtext.specs.Spelling.{bundle_text, members, name_at};
 
+use crate::lexer::{BundleForm, NameWord};
 use rc_db::laws::tables_are_their_values;
 use rc_db::{NoMem, Table};
-use rc_lexer::{BundleForm, NameWord};
 use rc_names::Names;
 use rc_set::Set;
 use std::alloc::Global;

@@ -3,8 +3,8 @@ ghost use Rattle.std.specs.Prelude.{◌≡◌, ◌↔◌, All, Contains, IsTrue}
 ghost use Rattle.rc_dbtext.specs.Meaning.{FeedsWell, IsComplete, IsLongrunName, service_names};
 ghost use Rattle.rc_dbtext.specs.Parts.{AreBundlesComplete, AreKnown, IsApart, IsKnown};
 
+use crate::lexer::{BundleForm, NameWord};
 use crate::syntax::{BodyForm, DbForm, ServiceForm};
-use rc_lexer::{BundleForm, NameWord};
 use rc_names::{Kind, Names};
 
 /// Whether each member is a service, what is fed is a longrun that is needed, and no bundle has the

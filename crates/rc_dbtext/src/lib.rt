@@ -1,5 +1,5 @@
-//! The text of a database: bytes to a database and back; and the database of a command, from a text
-//! of its own or from the front of the input.
+//! The text of a database: bytes to a database and back; the lines of words that such texts are
+//! made of; and the database of a command, from a text of its own or from the front of the input.
 #![tactic(auto)]
 
 mod base;
@@ -8,6 +8,7 @@ mod bundles;
 mod complete;
 mod fault;
 pub mod laws;
+pub mod lexer;
 mod lines;
 mod opening;
 mod read;

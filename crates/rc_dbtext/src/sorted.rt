@@ -3,8 +3,8 @@ ghost use Rattle.std.specs.Prelude.{◌↔◌, All, IsTrue};
 ghost use Rattle.rc_model.specs.Names.{IsInByteOrder};
 ghost use Rattle.rc_dbtext.specs.Meaning.{IsSorted, bundle_names, service_names};
 
+use crate::lexer::{BundleForm, ascend, is_before};
 use crate::syntax::{DbForm, ServiceForm};
-use rc_lexer::{BundleForm, ascend, is_before};
 
 /// Whether all lists of names ascend.
 pub(crate) fn is_sorted(form: &DbForm<'_>) -> bool

@@ -1,9 +1,11 @@
-//! A command on the file of a session: its files are opened in the order that loses nothing, and it
-//! is carried out on what was read of them. What a command that was cut short has moved is entered
-//! before anything else is done.
+//! Commands on their files. The files of a session are opened in the order that loses nothing, and
+//! a command is carried out on what was read of them. What a command that was cut short has moved
+//! is entered before anything else is done. The module `frontend` has the commands that read no
+//! session, and what people are told.
 #![tactic(auto)]
 
 mod fault;
+pub mod frontend;
 mod fronts;
 mod held_files;
 mod live_store;

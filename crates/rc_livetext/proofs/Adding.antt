@@ -8,8 +8,8 @@ use Rattle.std.proofs.lemmas.List.Elements.{All-push}
 use Rattle.std.proofs.lemmas.Option.{slice_get_within, get_or_from_slice_get}
 use Rattle.std.proofs.Math.ListN.{get_or-append}
 use Rattle.rc_model.specs.Names.{IsBefore, IsInByteOrder}
-use Rattle.rc_lexer.specs.Words.{BundleText}
-use Rattle.rc_lexer.specs.Form.{spells}
+use Rattle.rc_dbtext.specs.Words.{BundleText}
+use Rattle.rc_dbtext.specs.Form.{spells}
 use Rattle.rc_livetext.specs.Text.{OfBundle, IsBundleText, spell}
 use Rattle.rc_livetext.specs.Following.{MayAdd}
 use Rattle.rc_livetext.specs.Held.{AreBundles, HasBundles}

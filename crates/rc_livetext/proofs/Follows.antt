@@ -7,13 +7,13 @@ use Rattle.std.proofs.Common.{length-append}
 use Rattle.std.proofs.lemmas.Bool.{cases_lt}
 use Rattle.std.proofs.lemmas.List.{append-nil, map-append, take-append-drop, take_all, length-take}
 use Rattle.std.proofs.lemmas.List.{length-drop}
-use Rattle.rc_lexer.proofs.WordLines.{append-cancel}
+use Rattle.rc_dbtext.proofs.LineWords.{append-cancel}
 use Rattle.std.proofs.lemmas.List.Elements.{All-head, All-tail, All-nil, All-cons}
 use Rattle.std.proofs.Math.ListN.{get_or-append}
 use Rattle.std.specs.List.{flat_map}
 use Rattle.rc_model.specs.Names.{IsInByteOrder}
-use Rattle.rc_lexer.specs.Words.{BundleText}
-use Rattle.rc_lexer.specs.Form.{spells}
+use Rattle.rc_dbtext.specs.Words.{BundleText}
+use Rattle.rc_dbtext.specs.Form.{spells}
 use Rattle.rc_livetext.specs.Text.{Line, OfBundle, Last, StateText, LiveText, IsStateText}
 use Rattle.rc_livetext.specs.Text.{IsLiveText, IsBundleText, IsBound, state_lines, head_lines}
 use Rattle.rc_livetext.specs.Text.{live_lines, spell}

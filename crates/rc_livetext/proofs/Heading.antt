@@ -3,11 +3,11 @@ use Rattle.std.proofs.Common.{◌≡◌, ◌∙◌, ℕ, ◌≤◌, Bool, true, 
 use Rattle.std.proofs.Common.{length, get_or, Option, Some, None, IfSome, refl, sym, ap, arith}
 use Rattle.std.specs.Prelude.{codes}
 use Rattle.std.proofs.lemmas.List.Elements.{All-nil, All-cons}
-use Rattle.rc_lexer.specs.Words.{IsNumber, HasNumber, line_of_words}
-use Rattle.rc_lexer.specs.Form.{spells}
-use Rattle.rc_lexer.proofs.WordLines.{words_once}
-use Rattle.rc_lexer.proofs.NumberLines.{plain_numbered}
-use Rattle.rc_lexer.proofs.Plain.{plain_from}
+use Rattle.rc_dbtext.specs.Words.{IsNumber, HasNumber, line_of_words}
+use Rattle.rc_dbtext.specs.Form.{spells}
+use Rattle.rc_dbtext.proofs.LineWords.{words_once}
+use Rattle.rc_dbtext.proofs.NumberWords.{plain_numbered}
+use Rattle.rc_dbtext.proofs.Plain.{plain_from}
 use Rattle.rc_livetext.specs.declared.form_fault.FormFault.{FormFault}
 use Rattle.rc_livetext.specs.declared.form_fault.FormFault.TheVariants.{Bad, Version, Memory}
 use Rattle.rc_livetext.specs.Text.{Line, First, OfServices, OfBound, OfState, Last}

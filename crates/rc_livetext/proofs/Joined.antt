@@ -8,7 +8,7 @@ use Rattle.std.specs.Option.{option_map}
 use Rattle.rc_model.specs.Database.{Database, IsDatabase, AreApart}
 use Rattle.rc_model.specs.Line.{State, Line, IsLine, DifferInTurn, states, cursor}
 use Rattle.rc_model.specs.Session.{IsStateOf, IsLineOf}
-use Rattle.rc_lexer.specs.Words.{BundleText}
+use Rattle.rc_dbtext.specs.Words.{BundleText}
 use Rattle.rc_livetext.specs.Text.{LiveText, StateText}
 use Rattle.rc_dbtext.proofs.Naming.{member_mapped}
 use Rattle.rc_livetext.specs.declared.fault.LiveFault.{LiveFault}

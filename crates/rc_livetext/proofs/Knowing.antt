@@ -8,7 +8,7 @@ use Rattle.std.proofs.lemmas.Option.{get_or_from_slice_get}
 use Rattle.std.proofs.lemmas.Slice.Eq.{bytes_eq-Decides}
 use Rattle.std.specs.Str.{bytes_eq}
 use Rattle.rc_model.proofs.Places.{take_next}
-use Rattle.rc_lexer.specs.Words.{BundleText}
+use Rattle.rc_dbtext.specs.Words.{BundleText}
 use Rattle.rc_dbtext.specs.Parts.{AreBundlesComplete, AreKnown, IsApart, IsKnown}
 use Rattle.rc_livetext.specs.Text.{StateText}
 use Rattle.rc_livetext.specs.Meaning.{IsKnownState}

@@ -9,7 +9,7 @@ use Rattle.rc_model.specs.Names.{IsInByteOrder}
 use Rattle.rc_model.specs.Database.{Bundles, HaveBound, names_of, Database, IsDatabase}
 use Rattle.rc_model.specs.Line.{State, Line, states}
 use Rattle.rc_model.specs.Session.{IsStateOf, IsLineOf}
-use Rattle.rc_lexer.specs.Words.{BundleText}
+use Rattle.rc_dbtext.specs.Words.{BundleText}
 use Rattle.rc_livetext.specs.declared.form_fault.FormFault.{FormFault}
 use Rattle.rc_livetext.specs.declared.form_fault.FormFault.TheVariants as form
 use Rattle.rc_livetext.specs.Text.{LiveText, StateText, IsBound, IsLiveText, live_text}

@@ -6,11 +6,11 @@ use Rattle.std.proofs.lemmas.List.Elements.{All-cons}
 use Rattle.std.specs.Prelude.{codes}
 use Rattle.std.specs.Fmt.{decimal}
 use Rattle.std.specs.Str.{IsUtf8}
-use Rattle.rc_lexer.specs.Words.{ArePlain, BundleText, IsPlain}
-use Rattle.rc_lexer.proofs.Plain.{plain_from, plain_name, plain_names, plain_words}
-use Rattle.rc_lexer.proofs.Plain.{plain_decimal, no_words}
-use Rattle.rc_lexer.proofs.Texts.{one_text, text_decimal, text_from, text_names}
-use Rattle.rc_lexer.proofs.WordLines.{each_cons}
+use Rattle.rc_dbtext.specs.Words.{ArePlain, BundleText, IsPlain}
+use Rattle.rc_dbtext.proofs.Plain.{plain_from, plain_name, plain_names, plain_words}
+use Rattle.rc_dbtext.proofs.Plain.{plain_decimal, no_words}
+use Rattle.rc_dbtext.proofs.Texts.{one_text, text_decimal, text_from, text_names}
+use Rattle.rc_dbtext.proofs.LineWords.{each_cons}
 pub use Rattle.rc_livetext.specs.Saying.{IsSaid}
 use Rattle.rc_livetext.specs.Text.{Line, First, OfServices, OfBound, OfState, OfBundle, Last, words}
 use Rattle.rc_livetext.specs.Text.{version_word, state_word}

@@ -2,8 +2,8 @@
 use Rattle.std.proofs.Common.{◌≡◌, ◌∙◌, ℕ, ◌<◌, ◌≤◌, zero, suc, List, [], ◌∷◌, ◌++◌, length, take}
 use Rattle.std.proofs.Common.{All, sym, ap, arith, append_assoc}
 use Rattle.std.proofs.lemmas.List.Elements.{All-head, All-tail}
-use Rattle.rc_lexer.specs.Form.{spells}
-use Rattle.rc_lexer.proofs.WordLines.{words_once}
+use Rattle.rc_dbtext.specs.Form.{spells}
+use Rattle.rc_dbtext.proofs.LineWords.{words_once}
 use Rattle.rc_livetext.specs.Text.{Line, Last, spell, words}
 use Rattle.rc_livetext.proofs.LineWords.{IsSaid, plain_line, line_once}
 

@@ -8,10 +8,10 @@ use Rattle.std.proofs.lemmas.List.Elements.{All-head, All-tail, All-nil, All-con
 use Rattle.std.proofs.lemmas.List.Elements.{All-map}
 use Rattle.std.specs.List.{flat_map}
 use Rattle.std.specs.Prelude.{codes}
-use Rattle.rc_lexer.specs.Words.{HasNumber}
-use Rattle.rc_lexer.specs.Form.{spells}
-use Rattle.rc_lexer.proofs.Stuck.{AreAligned, spells-append}
-use Rattle.rc_lexer.proofs.Stuck as stuck_at
+use Rattle.rc_dbtext.specs.Words.{HasNumber}
+use Rattle.rc_dbtext.specs.Form.{spells}
+use Rattle.rc_dbtext.proofs.Stuck.{AreAligned, spells-append}
+use Rattle.rc_dbtext.proofs.Stuck as stuck_at
 use Rattle.rc_livetext.specs.declared.form_fault.FormFault.{FormFault}
 use Rattle.rc_livetext.specs.declared.form_fault.FormFault.TheVariants.{Bad, Version, Memory}
 use Rattle.rc_livetext.specs.Text.{Line, First, OfServices, OfBound, OfState, OfBundle, Last}

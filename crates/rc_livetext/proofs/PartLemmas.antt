@@ -9,7 +9,7 @@ use Rattle.rc_model.specs.Names.{IsName}
 use Rattle.rc_livetext.specs.Text.{Line, OfState, Last, StateText, LiveText, IsStateText}
 use Rattle.rc_livetext.specs.Text.{IsLiveText, IsBundleText, head_lines, state_lines, live_lines}
 use Rattle.rc_livetext.specs.Text.{spell}
-use Rattle.rc_lexer.specs.Form.{spells}
+use Rattle.rc_dbtext.specs.Form.{spells}
 use Rattle.rc_livetext.specs.Refusals.{HasOtherVersion, IsStuckAt}
 use Rattle.rc_livetext.specs.Following.{Part, IsPart, AtFirst, place_after, IsNoLineHere}
 use Rattle.rc_livetext.specs.Following.{part_lines}

@@ -2,8 +2,8 @@
 use Rattle.std.proofs.Common.{◌≡◌, ℕ, ◌<◌, List, [], ◌∷◌, ◌++◌, length, map, ap, arith}
 use Rattle.std.proofs.Common.{length-append}
 use Rattle.std.specs.List.{join_with_byte}
-use Rattle.rc_lexer.specs.Words.{BundleText}
-use Rattle.rc_lexer.specs.Form.{spells}
+use Rattle.rc_dbtext.specs.Words.{BundleText}
+use Rattle.rc_dbtext.specs.Form.{spells}
 use Rattle.rc_livetext.specs.Text.{Line, OfBundle, spell, words}
 use Rattle.rc_livetext.specs.Held.{HasBundles}
 

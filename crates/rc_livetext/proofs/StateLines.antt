@@ -2,8 +2,8 @@
 use Rattle.std.proofs.Common.{◌≡◌, ◌∙◌, ℕ, Bool, true, false, List, [], ◌∷◌, ◌++◌, map, All}
 use Rattle.std.proofs.Common.{refl, sym, ap, subst, append_assoc, Vec, Global}
 use Rattle.std.proofs.lemmas.List.Elements.{All-push}
-use Rattle.rc_lexer.specs.Words.{BundleText}
-use Rattle.rc_lexer.specs.Form.{spells}
+use Rattle.rc_dbtext.specs.Words.{BundleText}
+use Rattle.rc_dbtext.specs.Form.{spells}
 use Rattle.rc_livetext.specs.Text.{Line, First, OfServices, OfBound, OfState, OfBundle, Last}
 use Rattle.rc_livetext.specs.Text.{StateText, IsStateText, AreAscending, IsBundleText, state_lines}
 use Rattle.rc_livetext.specs.Text.{spell}
@@ -17,9 +17,9 @@ use Rattle.rc_livetext.specs.Saying.{IsSaid}
 use Rattle.rc_livetext.specs.FormText.{line_text}
 use Rattle.rc_livetext.specs.declared.lines.LineForm.{LineForm}
 use Rattle.rc_livetext.specs.declared.lines.LineForm.TheVariants as form
-use Rattle.rc_lexer.specs.declared.name_word.NameWord.{NameWord}
+use Rattle.rc_dbtext.specs.declared.lexer.name_word.NameWord.{NameWord}
 use Rattle.rc_livetext.proofs.ManyLines.{first_once, first_apart}
-use Rattle.rc_lexer.proofs.Stuck.{spells-append}
+use Rattle.rc_dbtext.proofs.Stuck.{spells-append}
 use Rattle.rc_livetext.proofs.PartLemmas.{lines_push}
 use Rattle.rc_livetext.proofs.Follows.{IsOpenTo, reached_join, state_may, states_may, open_still}
 

@@ -4,7 +4,7 @@ use Rattle.std.proofs.Common.{Option, Some, None, IfSome, refl, sym, ap, subst, 
 use Rattle.std.proofs.lemmas.List.Elements.{All-head, All-tail, All-nil, All-cons, All-append}
 use Rattle.std.proofs.lemmas.List.Elements.{All-map}
 use Rattle.std.specs.List.{flat_map}
-use Rattle.rc_lexer.specs.Words.{BundleText}
+use Rattle.rc_dbtext.specs.Words.{BundleText}
 use Rattle.rc_livetext.specs.Text.{Line, First, OfServices, OfBound, OfState, OfBundle, Last}
 use Rattle.rc_livetext.specs.Text.{StateText, LiveText, IsStateText, IsLiveText, state_lines}
 use Rattle.rc_livetext.specs.Text.{head_lines, live_lines}

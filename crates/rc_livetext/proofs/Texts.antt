@@ -9,7 +9,7 @@ use Rattle.rc_model.specs.Names.{IsName, IsInByteOrder}
 use Rattle.rc_model.specs.Database.{Bundles, IsTable, HaveBound, names_of, Database, IsDatabase}
 use Rattle.rc_model.specs.Line.{State, Line, DifferInTurn, states}
 use Rattle.rc_model.specs.Session.{IsStateOf, IsLineOf}
-use Rattle.rc_lexer.specs.Words.{BundleText}
+use Rattle.rc_dbtext.specs.Words.{BundleText}
 use Rattle.rc_dbtext.specs.Spelling.{bundle_text, members, name_at}
 use Rattle.rc_dbtext.proofs.Naming.{names_ascend}
 use Rattle.rc_dbtext.proofs.Bundling.{members_ascend}

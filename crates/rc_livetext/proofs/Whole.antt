@@ -2,7 +2,7 @@
 use Rattle.std.proofs.Common.{◌≡◌, ◌∙◌, ℕ, true, false, List, [], ◌∷◌, ◌++◌}
 use Rattle.std.proofs.Common.{Option, Some, None, IfSome, refl, sym, ap, subst}
 use Rattle.std.proofs.lemmas.List.{append-nil}
-use Rattle.rc_lexer.specs.Form.{spells}
+use Rattle.rc_dbtext.specs.Form.{spells}
 use Rattle.rc_livetext.specs.declared.form_fault.FormFault.{FormFault}
 use Rattle.rc_livetext.specs.declared.form_fault.FormFault.TheVariants.{Bad, Version, Memory}
 use Rattle.rc_livetext.specs.Text.{Line, OfState, Last, StateText, AreAscending}

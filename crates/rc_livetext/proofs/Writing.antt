@@ -10,7 +10,7 @@ use Rattle.std.specs.List.{flat_map}
 use Rattle.rc_model.specs.Database.{Bundles, Database}
 use Rattle.rc_model.proofs.Places.{take_next}
 use Rattle.rc_model.specs.Line.{State, Line, states, cursor}
-use Rattle.rc_lexer.specs.Form.{spells}
+use Rattle.rc_dbtext.specs.Form.{spells}
 use Rattle.rc_livetext.specs.Text as form
 use Rattle.rc_livetext.specs.Text.{OfBundle, Last, spell, state_lines, head_lines}
 use Rattle.rc_dbtext.specs.Spelling.{bundle_text}

@@ -4,7 +4,7 @@ use Rattle.std.specs.Prelude.{◌≡◌, ◌<◌, ◌||◌, ℕ, Bool, true, Lis
 use Rattle.std.specs.Prelude.{false, Option, Some, None, IfSome}
 use Rattle.std.specs.List.{flat_map}
 use Rattle.rc_model.specs.Names.{IsInByteOrder}
-use Rattle.rc_lexer.specs.Words.{BundleText}
+use Rattle.rc_dbtext.specs.Words.{BundleText}
 use Rattle.rc_livetext.specs.Text.{Line, First, OfServices, OfBound, OfState, OfBundle, Last}
 use Rattle.rc_livetext.specs.Text.{StateText, AreAscending, IsBound, IsBundleText, IsStateText}
 use Rattle.rc_livetext.specs.Text.{head_lines, state_lines, spell}

@@ -2,8 +2,8 @@
 use Rattle.std.specs.Prelude.{◌≡◌, ◌≢◌, ℕ, List, length, codes}
 use Rattle.rc_livetext.specs.declared.form_fault.FormFault.{FormFault}
 use Rattle.rc_livetext.specs.declared.form_fault.FormFault.TheVariants.{Bad, Version, Memory}
-use Rattle.rc_lexer.specs.Words.{HasNumber}
-use Rattle.rc_lexer.specs.Form.{IsRead, IsStuck}
+use Rattle.rc_dbtext.specs.Words.{HasNumber}
+use Rattle.rc_dbtext.specs.Form.{IsRead, IsStuck}
 use Rattle.rc_livetext.specs.Text.{Line, First, IsLiveText, LiveText, live_lines, spell}
 
 -- the number of no form that is read

@@ -4,8 +4,8 @@ use Rattle.std.specs.Prelude.{List, [], ◌∷◌, ◌++◌, length, map, All, O
 use Rattle.std.specs.List.{flat_map}
 use Rattle.std.specs.Fmt.{decimal}
 use Rattle.rc_model.specs.Names.{IsName, IsInByteOrder}
-use Rattle.rc_lexer.specs.Words.{BundleText, line_of_words}
-use Rattle.rc_lexer.specs.Form.{spells}
+use Rattle.rc_dbtext.specs.Words.{BundleText, line_of_words}
+use Rattle.rc_dbtext.specs.Form.{spells}
 
 -- a state as the text gives it: the names of the services that are up, and the bundles
 pub record StateText : Type 0 where

@@ -2,7 +2,7 @@
 use Rattle.std.specs.Prelude.{◌==◌, ℕ, suc, List, [], ◌∷◌, ◌++◌, map}
 use Rattle.rc_model.specs.Database.{Bundles}
 use Rattle.rc_model.specs.Line.{State}
-use Rattle.rc_lexer.specs.Form.{spells}
+use Rattle.rc_dbtext.specs.Form.{spells}
 use Rattle.rc_dbtext.specs.Spelling.{bundle_text}
 use Rattle.rc_livetext.specs.Text.{OfBundle, spell, state_lines}
 use Rattle.rc_livetext.specs.Spelling.{state_text}

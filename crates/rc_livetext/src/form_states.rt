@@ -2,7 +2,7 @@
 ghost use Rattle.std.specs.Prelude.{◌≡◌, ◌↔◌, ◌++◌, List, true, IfOk, IfErr, IsTrue, MatchOption};
 ghost use Rattle.std.specs.Bool.{OnFalse};
 ghost use Rattle.rc_model.specs.Names.{IsBefore};
-ghost use Rattle.rc_lexer.specs.Words.{BundleText};
+ghost use Rattle.rc_dbtext.specs.Words.{BundleText};
 ghost use Rattle.rc_livetext.specs.Text.{AreAscending, IsBundleText, OfBundle, OfState, Last};
 ghost use Rattle.rc_livetext.specs.Text.{spell};
 ghost use Rattle.rc_livetext.specs.Following.{MayAdd, AtStates, InState};
@@ -12,7 +12,7 @@ ghost use Rattle.rc_livetext.specs.Held.{Stops};
 use crate::form_fault::FormFault;
 use crate::heads::next_line;
 use crate::lines::{LineForm, line_of};
-use rc_lexer::{BundleForm, NameWord, is_before};
+use rc_dbtext::lexer::{BundleForm, NameWord, is_before};
 use std::alloc::{AllocError, Global};
 use std::marker::Model;
 

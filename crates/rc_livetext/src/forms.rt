@@ -5,7 +5,7 @@ ghost use Rattle.rc_livetext.specs.Refusals.{BeginsWith, IsRefused};
 use crate::form_fault::FormFault;
 use crate::form_states::{StateForm, bundles_at, states_to_current, states_to_last};
 use crate::heads::head;
-use rc_lexer::NameWord;
+use rc_dbtext::lexer::NameWord;
 use std::alloc::Global;
 use std::marker::Model;
 

@@ -1,6 +1,6 @@
 //! The head of a live text: its version, its services and its bound.
 ghost use Rattle.std.specs.Prelude.{◌≡◌, ◌++◌, IfOk, IfErr, IfSome};
-ghost use Rattle.rc_lexer.specs.Form.{spells};
+ghost use Rattle.rc_dbtext.specs.Form.{spells};
 ghost use Rattle.rc_livetext.specs.Text as text;
 ghost use Rattle.rc_livetext.specs.Text.{AreAscending, IsBound, head_lines, spell};
 ghost use Rattle.rc_livetext.specs.Held.{IsMissing};
@@ -10,7 +10,7 @@ ghost use Rattle.rc_livetext.specs.Refusals.{IsRefused};
 
 use crate::form_fault::FormFault;
 use crate::lines::{LineForm, line_of, version_of};
-use rc_lexer::{NameWord, number_line};
+use rc_dbtext::lexer::{NameWord, number_line};
 use std::alloc::Global;
 
 /// The names of all services, how many states there may be, and what follows.

@@ -1,7 +1,7 @@
 //! Whether the names of a text are those of a database.
 ghost use Rattle.std.specs.Prelude.{◌≡◌, ◌↔◌, IsTrue};
 
-use rc_lexer::NameWord;
+use rc_dbtext::lexer::NameWord;
 use rc_names::Names;
 
 /// Whether these are the names of the services, in their order.

@@ -25,4 +25,4 @@ pub use crate::forms::{LiveForm, read_form};
 pub use crate::read::read_live;
 pub use crate::write::write_live;
 pub use rc_db::NoMem;
-pub use rc_lexer::BundleForm;
+pub use rc_dbtext::lexer::BundleForm;

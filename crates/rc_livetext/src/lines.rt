@@ -7,7 +7,7 @@ ghost use Rattle.rc_livetext.specs.Text.{AreAscending, IsBound, version_word, sp
 ghost use Rattle.rc_livetext.specs.Saying.{IsSaid, Says, SaysNone};
 ghost use Rattle.rc_livetext.specs.FormText.{line_text};
 
-use rc_lexer::{BundleForm, NameWord, Words, ascend, is, names_of, number_of, words_of};
+use rc_dbtext::lexer::{BundleForm, NameWord, Words, ascend, is, names_of, number_of, words_of};
 use std::alloc::{AllocError, Global};
 
 /// A line by what it says.

@@ -3,7 +3,7 @@ ghost use Rattle.std.specs.Prelude.{◌≡◌, ◌++◌, false, length, map, sli
 ghost use Rattle.std.specs.Prelude.{OnOk};
 ghost use Rattle.rc_model.specs.Database.{HaveBound};
 ghost use Rattle.rc_model.specs.Line.{states, cursor};
-ghost use Rattle.rc_lexer.specs.Form.{spells};
+ghost use Rattle.rc_dbtext.specs.Form.{spells};
 ghost use Rattle.rc_dbtext.specs.Spelling.{members, name_at};
 ghost use Rattle.rc_livetext.specs.Text.{OfServices, OfBound, OfState, spell, head_lines};
 ghost use Rattle.rc_livetext.specs.Text.{state_lines, state_word};

@@ -10,7 +10,7 @@ use crate::workers::tell_workers;
 use cmd_session::{Devices, Outputs, Store, TextKeeper};
 use log::{error, info, warn};
 use rc_args::Once;
-use rc_frontend::{Answers, Seen, Told, ToldErrors, Typed, behind_session, tell_failure};
+use rc_launch::frontend::{Answers, Seen, Told, ToldErrors, Typed, behind_session, tell_failure};
 use rc_launch::{LiveStore, Opened, Work, open, serve, uncontrolled_in};
 use rc_names::NoMem;
 use rc_script::SessionLine;

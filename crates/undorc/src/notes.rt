@@ -1,7 +1,7 @@
 //! Messages about the lock and the run log beside the file of a session.
 use log::info;
 use rc_args::tell_words;
-use rc_frontend::{tell_failure, tell_file};
+use rc_launch::frontend::{tell_failure, tell_file};
 use rc_launch::{FileText, LiveText, Note, OpenFault, Opened, left_report};
 use rc_streams::messages::{HINT, MESSAGE, Messages};
 use rc_streams::run_file;

@@ -2,7 +2,7 @@
 
 use log::info;
 use rc_args::{WordsFault, tell_words};
-use rc_frontend::tell_file;
+use rc_launch::frontend::tell_file;
 use rc_streams::ending::{DONE, REFUSED};
 use rc_streams::messages::{MESSAGE, Messages};
 use rc_streams::{live_lock, stop_file};

@@ -3,7 +3,7 @@
 
 use crate::commands::carry_out;
 use rc_args::{UpdateRequest, renames_in};
-use rc_frontend::{tell_file, tell_moves, tell_renames};
+use rc_launch::frontend::{tell_file, tell_moves, tell_renames};
 use rc_launch::{Opened, Work};
 use rc_streams::whole_file;
 use std::sync::Wait;

@@ -1,7 +1,7 @@
 //! What helps where not all workers of a command could be started: how many could be.
 
 use log::info;
-use rc_frontend::ToldErrors;
+use rc_launch::frontend::ToldErrors;
 use rc_streams::messages::{HINT, Messages};
 use std::sync::{Condvar, Mutex, Wait};
 use std::thread;

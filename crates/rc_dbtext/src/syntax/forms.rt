@@ -8,12 +8,12 @@ ghost use Rattle.rc_dbtext.specs.Text.{bundle_lines, count_and_lines, db_lines};
 ghost use Rattle.rc_dbtext.specs.Reading.{IsRead, IsRefused, AreSo};
 ghost use Rattle.rc_dbtext.specs.FormText.{body_text};
 
+use crate::lexer::{BundleForm, NameWord};
 use crate::syntax::fault::FormFault;
 use crate::syntax::lines::{
     Head, bundle_line, count_line, down_line, first_line, head_line, last_line, needs_line,
     producer_line, up_line,
 };
-use rc_lexer::{BundleForm, NameWord};
 use rc_names::Kind;
 use std::alloc::Global;
 use std::marker::Model;

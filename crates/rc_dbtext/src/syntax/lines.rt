@@ -13,14 +13,14 @@ ghost use Rattle.rc_dbtext.specs.Text.{line_of_words, spell};
 ghost use Rattle.rc_dbtext.specs.Text.{kind_word, flag_word, text_behind};
 ghost use Rattle.rc_dbtext.specs.Reading.{IsNoCount};
 ghost use Rattle.rc_dbtext.specs.Reading.{IsRead, IsRefused, one};
-ghost use Rattle.rc_dbtext.specs.Words.{IsPlain, IsOfWords, IsOfNoWords};
+ghost use Rattle.rc_dbtext.specs.LineValues.{IsPlain, IsOfWords, IsOfNoWords};
 
+use crate::lexer::{
+    BundleForm, NameWord, Words, argument, arguments, is, names_of, number_of, value_of,
+};
 use crate::syntax::fault::FormFault;
 use crate::syntax::words::{MAX_TEXT, number_line, text_of, words_of};
 use rc_db::NoMem;
-use rc_lexer::{
-    BundleForm, NameWord, Words, argument, arguments, is, names_of, number_of, value_of,
-};
 use rc_names::Kind;
 use std::alloc::Global;
 use std::marker::Model;

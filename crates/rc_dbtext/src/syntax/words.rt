@@ -4,10 +4,10 @@ ghost use Rattle.std.specs.Prelude.{IfOk, IfErr, MatchOption};
 ghost use Rattle.rc_db.specs.Service.{IsScript};
 ghost use Rattle.rc_dbtext.specs.Text.{line_of_words};
 ghost use Rattle.rc_dbtext.specs.Reading.{IsNumber, IsNoNumber};
-ghost use Rattle.rc_dbtext.specs.Words.{BeginsWith, IsPlain, IsNoLine};
+ghost use Rattle.rc_dbtext.specs.LineValues.{BeginsWith, IsPlain, IsNoLine};
 
+use crate::lexer::Words;
 use crate::syntax::fault::FormFault;
-use rc_lexer::Words;
 
 /// The most bytes of a oneshot's text.
 pub(crate) const MAX_TEXT: u32 = 65_536;
@@ -17,7 +17,7 @@ pub(crate) fn words_of(bytes: &[u8]) -> Result<(Words<'_>, &[u8]), FormFault>
     ensures ok { IfOk result (λ read. BeginsWith bytes.now read.0 read.1.now) }
     ensures fault { IfErr result (λ fault. IsNoLine bytes.now fault) }
 {
-    match rc_lexer::words_of(bytes) {
+    match crate::lexer::words_of(bytes) {
         Some((words, rest)) => Ok((words, rest)),
         None => Err(FormFault::Bad(bytes.len())),
     }
@@ -30,7 +30,7 @@ pub(crate) fn number_line<'a>(bytes: &'a [u8], word: &str) -> Result<(&'a str, &
         × (bytes.now ≡ line_of_words (word.now ∷ read.0.now ∷ []) ++ read.1.now)) }
     ensures fault { IfErr result (IsNoNumber word.now bytes.now) }
 {
-    match rc_lexer::number_line(bytes, word) {
+    match crate::lexer::number_line(bytes, word) {
         Some((number, rest)) => Ok((number, rest)),
         None => Err(FormFault::Bad(bytes.len())),
     }

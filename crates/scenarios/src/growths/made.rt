@@ -7,13 +7,13 @@ use crate::growths::told::go_on_to;
 use crate::samples::{LOG, NET, is_same};
 use rc_core::{Event, Outcome};
 use rc_db::Db;
+use rc_dbtext::lexer::{NameWord, ascend, names_of};
 use rc_dbtext::syntax::{FormFault, read_form};
 use rc_dbtext::{
     TextFault, known_set, push_bundle, push_line, push_set, push_word, read_db, read_db_front,
     write_db,
 };
 use rc_graph::{Draft, Graph, GraphFault};
-use rc_lexer::{NameWord, ascend, names_of};
 use rc_names::{Name, Names};
 use rc_recovery::{with_ends, with_stop};
 use rc_script::{texts_of, words_of};
@@ -197,7 +197,7 @@ fn is_first_line(next: Result<Option<(Vec<u8>, bool)>, Failure>) -> Result<bool,
 
 /// Whether the words of a line are two names, the first of which is copied, and those of services.
 fn are_names(rt: &(impl Print + AllocGlobal), db: &Db) -> Result<bool, NoMem> {
-    let Some((words, _)) = rc_lexer::words_of(INPUT) else {
+    let Some((words, _)) = rc_dbtext::lexer::words_of(INPUT) else {
         return Ok(false);
     };
     match names_of(rt.alloc(), words)? {

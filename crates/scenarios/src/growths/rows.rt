@@ -182,7 +182,7 @@ pub(crate) static ROWS: [Row; 123] = [
     ("read_live; after up add", Of(ReadLive)),
     ("rc_livetext::read_form; after up add", Of(LiveForm)),
     ("rc_streams::read_all", Make(Made::Input)),
-    ("rc_lexer::names_of", Make(Made::Names)),
+    ("rc_dbtext::lexer::names_of", Make(Made::Names)),
     ("rc_script::words_of and texts_of", Make(Made::Words)),
     ("push_bundle", Make(Made::Lines)),
     ("with_ends", Make(Made::Ends)),

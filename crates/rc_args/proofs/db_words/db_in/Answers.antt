@@ -4,7 +4,7 @@ use Rattle.clap.proofs.WalkLemmas.{first_value-rows}
 use Rattle.std.proofs.lemmas.Result.{IfErr-weaker, IfOk-weaker}
 use Rattle.rc_args.specs.DbAsked.{AsksIn, db_ask_of}
 use Rattle.rc_args.specs.Query.{Question, question_of, words_of_query}
-use Rattle.rc_cmdline.specs.Words.{words_in}
+use Rattle.rc_args.specs.Words.{words_in}
 use Rattle.rc_args.specs.declared.db_words.DbRequest.{DbRequest}
 use Rattle.rc_args.specs.declared.db_words.Query.{Query}
 use Rattle.rc_args.proofs.DbAskedLemmas.{no_query, query_by, shown_by_picture, spelled_so}

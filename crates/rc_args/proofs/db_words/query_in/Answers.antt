@@ -1,7 +1,7 @@
 use Rattle.std.proofs.Common.{None, Some, map}
 use Rattle.std.proofs.lemmas.Result.{IfOk-weaker}
 use Rattle.rc_args.proofs.DbAskedLemmas.{none_along, some_along}
-use Rattle.rc_cmdline.proofs.WordsLemmas.{words_found}
+use Rattle.rc_args.proofs.WordsLemmas.{words_found}
 use Rattle.rc_args.proofs.db_words.query_in.Goals as goal
 
 pub returns-in-Some-clause-some : goal.returns-in-Some-clause-some

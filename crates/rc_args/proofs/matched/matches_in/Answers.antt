@@ -1,5 +1,5 @@
 use Rattle.std.proofs.Common.{◌≡◌, true}
-use Rattle.rc_cmdline.proofs.WordsLemmas.{rows_right, rows_wrong}
+use Rattle.rc_args.proofs.WordsLemmas.{rows_right, rows_wrong}
 use Rattle.rc_args.proofs.matched.matches_in.Goals as goal
 
 pub returns-in-Ok-clause-rows : goal.returns-in-Ok-clause-rows

@@ -1,7 +1,7 @@
 use Rattle.std.proofs.lemmas.Result.{IfErr-weaker, IfOk-weaker}
 use Rattle.clap.specs.Matches.{found_of}
 use Rattle.clap.specs.Words.{rows_of}
-use Rattle.rc_cmdline.proofs.WordsLemmas.{words_found}
+use Rattle.rc_args.proofs.WordsLemmas.{words_found}
 use Rattle.rc_args.proofs.OnceLemmas.{adds_asks, adds_nothing, asks_adds}
 use Rattle.rc_args.proofs.once_words.add_in.Goals as goal
 

@@ -1,7 +1,7 @@
 use Rattle.std.proofs.Common.{◌∷◌, List, [], All, map, refl, subst, sym}
 use Rattle.std.proofs.lemmas.List.Elements.{All-cons, All-head, All-map, All-nil, All-tail}
 use Rattle.rc_args.specs.OnceAsked.{AreOneLine, IsOneLine}
-use Rattle.rc_cmdline.proofs.WordsLemmas.{words_found}
+use Rattle.rc_args.proofs.WordsLemmas.{words_found}
 use Rattle.rc_args.proofs.once_words.are_one_line.Goals as goal
 
 -- what holds of all values of a list holds of what they are the values of

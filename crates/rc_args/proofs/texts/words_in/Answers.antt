@@ -1,6 +1,6 @@
 use Rattle.std.proofs.Common.{ap, map, string_bytes, ◌∙◌}
 use Rattle.std.proofs.lemmas.Result.{IfOk-weaker}
-use Rattle.rc_cmdline.proofs.WordsLemmas.{words_found}
+use Rattle.rc_args.proofs.WordsLemmas.{words_found}
 use Rattle.rc_args.proofs.texts.words_in.Goals as goal
 
 pub returns-in-Some : goal.returns-in-Some

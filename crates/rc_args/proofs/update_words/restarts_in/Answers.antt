@@ -1,6 +1,6 @@
 use Rattle.std.proofs.Common.{◌≡◌, ◌∙◌, ◌∷◌, ℕ, List, [], Bor, ap, codes, map, refl}
 use Rattle.std.proofs.lemmas.Result.{IfOk-weaker}
-use Rattle.rc_cmdline.proofs.WordsLemmas.{values_found}
+use Rattle.rc_args.proofs.WordsLemmas.{values_found}
 use Rattle.rc_args.specs.UpdateAsked.{restart_of}
 use Rattle.rc_update.specs.Conversions.{Conversion, conversions_of}
 use Rattle.rc_args.proofs.update_words.restarts_in.Goals as goal

@@ -1,6 +1,6 @@
 use Rattle.std.proofs.Common.{◌≡◌, ◌∙◌, ◌++◌, ◌∷◌, [], List, rules, refl, sym, subst, true, false}
 use Rattle.std.proofs.lemmas.Bool.{false≢true}
-use Rattle.rc_lexer.specs.Words.{BundleText}
+use Rattle.rc_dbtext.specs.Words.{BundleText}
 use Rattle.rc_livetext.specs.Text.{OfBundle}
 use Rattle.rc_livetext.specs.Following.{MayAdd}
 use Rattle.rc_livetext.specs.Held.{AreBundles, HasBundles}

@@ -1,5 +1,5 @@
 use Rattle.std.proofs.Common.{length, true, List}
-use Rattle.rc_lexer.specs.Words.{BundleText}
+use Rattle.rc_dbtext.specs.Words.{BundleText}
 use Rattle.rc_livetext.specs.Following.{InState, place_after}
 use Rattle.rc_livetext.specs.Held.{HasStates, HasNoBundle, HasNoMore, states_lines}
 use Rattle.rc_livetext.proofs.form_states.states_to_last.Given as goal

@@ -1,5 +1,5 @@
 use Rattle.std.proofs.Common.{◌∙◌, sym}
-use Rattle.rc_lexer.proofs.WordLines.{words_once}
+use Rattle.rc_dbtext.proofs.LineWords.{words_once}
 use Rattle.rc_livetext.specs.Text.{words}
 use Rattle.rc_livetext.proofs.LineWords.{plain_line, text_line}
 use Rattle.rc_livetext.proofs.lines.line_of.Goals as goal

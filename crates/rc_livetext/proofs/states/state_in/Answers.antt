@@ -1,6 +1,6 @@
 use Rattle.std.proofs.Common.{◌≡◌, ◌∙◌, List, All, Contains, refl, sym, ap, subst}
 use Rattle.std.proofs.lemmas.Bool.{false≢true}
-use Rattle.rc_lexer.specs.Words.{BundleText}
+use Rattle.rc_dbtext.specs.Words.{BundleText}
 use Rattle.rc_livetext.specs.Text.{StateText}
 use Rattle.rc_livetext.proofs.Knowing.{bundles_known, known_bundles, members_known}
 use Rattle.rc_livetext.proofs.states.state_in.Goals as goal

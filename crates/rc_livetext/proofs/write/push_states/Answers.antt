@@ -1,6 +1,6 @@
 use Rattle.std.proofs.Common.{◌∙◌, ◌+◌, ◌==◌, ◌++◌, ℕ, List, length, take, ap, sym, arith}
 use Rattle.rc_model.specs.Line.{State, states, cursor}
-use Rattle.rc_lexer.specs.Form.{spells}
+use Rattle.rc_dbtext.specs.Form.{spells}
 use Rattle.rc_livetext.specs.Text.{spell, state_lines}
 use Rattle.rc_livetext.specs.Spelling.{state_text}
 use Rattle.rc_livetext.specs.Written.{state_bytes}

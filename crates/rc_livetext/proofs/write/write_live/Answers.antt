@@ -3,7 +3,7 @@ use Rattle.std.specs.Prelude.{codes}
 use Rattle.rc_model.specs.Database.{Database}
 use Rattle.rc_model.specs.Line.{Line, states, cursor}
 use Rattle.rc_line.specs.Opening.{Journal}
-use Rattle.rc_lexer.specs.Form.{spells}
+use Rattle.rc_dbtext.specs.Form.{spells}
 use Rattle.rc_livetext.specs.Text.{Last, head_lines, spell}
 use Rattle.rc_livetext.specs.Written.{state_bytes}
 use Rattle.rc_livetext.proofs.Writing.{line_written}

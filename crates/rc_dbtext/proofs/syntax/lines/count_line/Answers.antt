@@ -1,7 +1,7 @@
 use Rattle.std.proofs.Common.{◌≡◌, ◌∙◌, ◌∷◌, ◌++◌, [], List, ℕ, arith, ap, sym}
 use Rattle.std.specs.Fmt.{decimal}
 use Rattle.rc_dbtext.specs.Text.{line_of_words}
-use Rattle.rc_lexer.proofs.Numbers.{decimal-number}
+use Rattle.rc_dbtext.proofs.Numbers.{decimal-number}
 use Rattle.rc_dbtext.proofs.syntax.lines.count_line.Goals as goal
 
 pub returns-in-Some-clause-ok : goal.returns-in-Some-clause-ok

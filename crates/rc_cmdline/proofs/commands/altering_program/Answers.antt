@@ -1,9 +1,0 @@
-use Rattle.rc_cmdline.specs.Commands.{altering_program, edit_command, flag, new_option, option}
-use Rattle.rc_cmdline.specs.Commands.{repeated, restart_command, show_command, source_list}
-use Rattle.rc_cmdline.specs.Commands.{update_command}
-use Rattle.rc_cmdline.proofs.commands.altering_program.Goals as goal
-
-pub returns : goal.returns
-unfolding altering_program edit_command flag new_option option repeated restart_command show_command
-    source_list update_command
-returns c = c.with_commands.ensures _ c.changing_program-changing.ensures

@@ -1,7 +1,0 @@
-use Rattle.rc_cmdline.specs.Commands.{change_command, changing_program, option, session_command}
-use Rattle.rc_cmdline.specs.Commands.{step_command, word_list}
-use Rattle.rc_cmdline.proofs.commands.changing_program.Goals as goal
-
-pub returns : goal.returns
-unfolding change_command changing_program option session_command step_command word_list
-returns c = c.with_commands.ensures _ c.asking_program-asking.ensures

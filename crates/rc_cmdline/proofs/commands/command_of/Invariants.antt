@@ -1,8 +1,0 @@
-use Rattle.std.proofs.Common.{take}
-use Rattle.rc_cmdline.specs.Commands.{Reads}
-use Rattle.rc_cmdline.specs.Told.{told_command}
-use Rattle.rc_cmdline.proofs.commands.command_of.Given as goal
-
--- the arguments before this one are added
-abbrev pub invariant-loop-told : goal.invariant-loop-told
-invariant-loop-told l = Reads l.command (told_command l.name (take l.told-index l.args))

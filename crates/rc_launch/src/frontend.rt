@@ -1,0 +1,23 @@
+//! The commands `compile`, `db`, `plan` and `replay` on files; prompts at a terminal; hints after
+//! faults and answers; why an update moves a service; and who may read what `compile` writes. No
+//! contract covers what files hold or what people read. The contracts of `cmd_compile` and
+//! `cmd_query` cover the answers.
+
+mod answers;
+mod asking;
+mod compiling;
+mod databases;
+mod exposure;
+mod fault_lines;
+mod files;
+mod hints;
+mod moves;
+mod terminal;
+
+pub use crate::frontend::answers::Answers;
+pub use crate::frontend::asking::{db, plan, replay};
+pub use crate::frontend::compiling::compile;
+pub use crate::frontend::fault_lines::Told;
+pub use crate::frontend::hints::{Seen, ToldErrors, behind_session, tell_failure, tell_file};
+pub use crate::frontend::moves::{tell_moves, tell_renames};
+pub use crate::frontend::terminal::Typed;

@@ -1,0 +1,101 @@
+//! `compile`: the database of source directories, on standard output or in a file.
+use crate::frontend::exposure::{restrict, warn_of_links};
+use crate::frontend::fault_lines::Told;
+use crate::frontend::hints;
+use cmd_compile::{compile_run, tell_trees, text_of};
+use rc_args::CompileRequest;
+use rc_names::NoMem;
+use rc_source::FolderTree;
+use rc_streams::Noted;
+use rc_streams::replaced_file::replace;
+use std::{fs, io};
+
+/// Compiles source directories, and answers the status.
+pub fn compile(rt: &HostRuntime, request: &CompileRequest<'_>) -> u8 {
+    let mut trees = Vec::new(rt.alloc());
+    let opened = open_all(rt, &request.sources, &mut trees);
+    let status = match opened {
+        Ok(()) => compile_trees(rt, request, &mut trees),
+        Err(_) => hints::tell_failure(rt, "Memory"),
+    };
+    drop(trees);
+    status
+}
+
+/// The same with the trees of those directories.
+fn compile_trees(
+    rt: &HostRuntime,
+    request: &CompileRequest<'_>,
+    trees: &mut [FolderTree<HostRuntime>],
+) -> u8 {
+    let mut told = Told::new(rt.alloc(), rt.stderr());
+    let status = match request.output {
+        Some(path) => compile_into(rt, request, trees, path, &mut told),
+        None => compile_run(rt.alloc(), trees, &mut Noted::new(rt.stdout()), &mut told),
+    };
+    hints::behind_compile(rt, request, &told);
+    if status == 0 && libc::geteuid() == 0 {
+        let _ = warn_of_links(rt, &request.sources);
+    }
+    drop(told);
+    status
+}
+
+/// Puts the database into a file, which is left alone where there is none, and may be read by
+/// nobody who may not read the sources.
+fn compile_into(
+    rt: &HostRuntime,
+    request: &CompileRequest<'_>,
+    trees: &mut [FolderTree<HostRuntime>],
+    path: &str,
+    told: &mut Told<io::Stderr>,
+) -> u8 {
+    match text_of(rt.alloc(), trees) {
+        Ok(text) => {
+            let replaced = replace_restricted(rt, request, path, &text);
+            drop(text);
+            match replaced {
+                Ok(()) => 0,
+                Err(error) => hints::tell_file(rt, path, &error),
+            }
+        }
+        Err(fault) => tell_trees(rt.alloc(), told, &fault),
+    }
+}
+
+/// Replaces the file, which may be read by nobody who may not read the sources.
+fn replace_restricted(
+    rt: &HostRuntime,
+    request: &CompileRequest<'_>,
+    path: &str,
+    text: &[u8],
+) -> io::Result<()> {
+    let is_made = restrict(rt, &request.sources, path)?;
+    let replaced = replace(rt, path, text);
+    if is_made && replaced.is_err() {
+        let _ = fs::remove_file(rt, path);
+    }
+    replaced
+}
+
+/// Adds the trees of directories. Nothing is read yet.
+fn open_all(
+    rt: &HostRuntime,
+    paths: &[String],
+    trees: &mut Vec<FolderTree<HostRuntime>>,
+) -> Result<(), NoMem> {
+    for path in paths {
+        open_tree(rt, path.as_str(), trees)?;
+    }
+    Ok(())
+}
+
+/// Adds the tree of a directory.
+fn open_tree(
+    rt: &HostRuntime,
+    path: &str,
+    trees: &mut Vec<FolderTree<HostRuntime>>,
+) -> Result<(), NoMem> {
+    trees.push(FolderTree::open(rt.clone()?, rt.alloc(), path)?)?;
+    Ok(())
+}

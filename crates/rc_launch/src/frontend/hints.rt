@@ -1,0 +1,215 @@
+//! The lines after a fault, for people: where it is, and what helps. They change no status, and
+//! where nothing is found, or memory is short, there are none.
+use crate::frontend::databases::{behind_end, database_hint, lacking_hint, live_hint, near_hint};
+use crate::frontend::fault_lines::Told;
+use cmd_compile::diagnostics::{
+    Hint, Sources, compile_hint, looks_like_entry, unread_files, word_of,
+};
+use cmd_query::{db_as_asked, query_hint};
+use log::{error, info};
+use rc_args::{CompileRequest, DbRequest, Query};
+use rc_names::NoMem;
+use rc_streams::Noted;
+use rc_streams::messages::{HINT, MESSAGE, Messages};
+use std::alloc::AllocError;
+use std::io::{self, ErrorKind, Stderr};
+
+/// A file could not be read, or memory ran out.
+const FAILED: u8 = 111;
+
+/// A fault writer that keeps what was told.
+pub type ToldErrors = Told<Stderr>;
+
+/// What helps after what `compile` told, and what was not looked at.
+pub fn behind_compile(rt: &HostRuntime, request: &CompileRequest<'_>, told: &ToldErrors) {
+    let sources = Sources::new(rt, rt.alloc(), &request.sources);
+    match told.fault() {
+        Ok(Some((word, names))) => {
+            tell_found(rt, HINT, compile_hint(&sources, word, names));
+        }
+        Ok(None) => {
+            tell_found(rt, MESSAGE, looks_like_entry(&sources));
+        }
+        Err(_) => {}
+    }
+    if request.tells {
+        tell_found(rt, MESSAGE, unread_files(&sources));
+    }
+}
+
+/// Where the database of a command stands, in the file of `-b` or at the beginning of standard
+/// input, and what was read of that, if there was memory for all of it.
+#[derive(Clone, Copy)]
+pub struct Seen<'a> {
+    file: Option<&'a str>,
+    base: Option<&'a [u8]>,
+    pub input: Option<&'a [u8]>,
+}
+
+impl<'a> Seen<'a> {
+    pub fn new(file: Option<&'a str>, base: Option<&'a [u8]>, input: Option<&'a [u8]>) -> Seen<'a> {
+        Seen { file, base, input }
+    }
+
+    /// Whether a database stands there.
+    pub fn is_good(&self, rt: &HostRuntime) -> Result<bool, NoMem> {
+        let Some(database) = self.base.or(self.input) else {
+            return Err(AllocError);
+        };
+        match checked(rt, self.base, database) {
+            0 => Ok(true),
+            FAILED => Err(AllocError),
+            _ => Ok(false),
+        }
+    }
+}
+
+/// The status of `db check` on a database.
+fn checked(rt: &HostRuntime, base: Option<&[u8]>, input: &[u8]) -> u8 {
+    db_as_asked(
+        rt.alloc(),
+        &DbRequest::of(Query::Check),
+        base,
+        None,
+        &mut Noted::new(input),
+        &mut Noted::new(io::sink()),
+        &mut io::sink(),
+    )
+}
+
+/// What helps after what was told of the database, or of what is asked of it.
+pub fn behind_database(rt: &HostRuntime, seen: &Seen<'_>, told: &ToldErrors) {
+    let Ok(Some((word, rest))) = told.fault() else {
+        return;
+    };
+    match plain_hint(word, rest, seen.file.is_some()) {
+        Some(line) => tell_hint(rt, line),
+        None => {
+            tell_found(rt, HINT, hint_on(rt, seen, word, rest));
+        }
+    }
+}
+
+/// What helps after a look at the database, and at what a command reads beside it.
+fn hint_on(rt: &HostRuntime, seen: &Seen<'_>, word: &str, rest: &str) -> Hint {
+    let (database, others) = match (seen.base, seen.input) {
+        (Some(base), others) => (base, others),
+        (None, Some(input)) => (input, Some(behind_end(input))),
+        (None, None) => return Err(AllocError),
+    };
+    if word != "NotClosed" {
+        let path = seen.file.unwrap_or("standard input");
+        return database_hint(rt.alloc(), path, database, word, rest);
+    }
+    match others {
+        Some(others) => lacking_hint(rt.alloc(), database, others),
+        None => Err(AllocError),
+    }
+}
+
+/// What helps after what a session told: of the file of `-l`, with what was read there and why it
+/// could not be written, or of its database.
+pub fn behind_session(
+    rt: &HostRuntime,
+    live: Option<&str>,
+    text: &io::Result<Option<Vec<u8>>>,
+    unwritten: Option<&io::Error>,
+    seen: &Seen<'_>,
+    told: &ToldErrors,
+) {
+    if let (Some(path), Ok(Some(fault))) = (live, told.fault()) {
+        let hint = match (fault.0, unwritten) {
+            ("Io", Some(error)) => unwritten_hint(rt, path, error),
+            _ => behind_live(rt, path, text, seen, fault),
+        };
+        if tell_found(rt, HINT, hint) {
+            return;
+        }
+    }
+    behind_database(rt, seen, told);
+}
+
+/// What helps where the file of `-l` could not be written.
+fn unwritten_hint(rt: &HostRuntime, path: &str, error: &io::Error) -> Hint {
+    let what = word_of(error.kind());
+    Ok(Some(format!(in rt.alloc(); "{path} can't be replaced by {path}.new: {what}")?))
+}
+
+/// What helps where the file of `-l` can't be read, or its text is refused, which is looked at
+/// after the database.
+fn behind_live(
+    rt: &HostRuntime,
+    path: &str,
+    text: &io::Result<Option<Vec<u8>>>,
+    seen: &Seen<'_>,
+    fault: (&str, &str),
+) -> Hint {
+    let (word, rest) = fault;
+    match text {
+        Err(error) if word == "Io" => {
+            let what = word_of(error.kind());
+            Ok(Some(format!(in rt.alloc(); "{path}: {what}")?))
+        }
+        Ok(Some(bytes)) if word != "Io" => match seen.is_good(rt) {
+            Ok(true) => live_hint(rt.alloc(), path, bytes, word, rest),
+            Ok(false) => Ok(None),
+            Err(fault) => Err(fault),
+        },
+        _ => Ok(None),
+    }
+}
+
+/// Tells which name of a database may have been meant by one that is nobody's.
+pub fn tell_near(rt: &HostRuntime, database: &[u8], name: &str) {
+    tell_found(rt, HINT, near_hint(rt.alloc(), database, name));
+}
+
+/// What helps without a second look.
+fn plain_hint(word: &str, rest: &str, is_file: bool) -> Option<&'static str> {
+    match word {
+        "Bad" if rest == "0" && !is_file => {
+            Some("no database stands at the front of standard input; -b FILE names one")
+        }
+        "PruneNeedsUp" => Some("-p goes with neither -d nor -D"),
+        "Read" => Some("standard input can't be read"),
+        "Write" => Some("standard output can't be written"),
+        _ => query_hint(word),
+    }
+}
+
+/// Tells why a file was not read or written, and answers the status.
+pub fn tell_file(rt: &HostRuntime, path: &str, error: &io::Error) -> u8 {
+    if error.kind() == ErrorKind::OutOfMemory {
+        return tell_failure(rt, "Memory");
+    }
+    let status = tell_failure(rt, "Io");
+    let word = word_of(error.kind());
+    info!(Messages(rt); target: HINT, "{path}: {word}");
+    status
+}
+
+/// Reports a failure by its word, and returns the status.
+pub fn tell_failure(rt: &HostRuntime, word: &str) -> u8 {
+    error!(Messages(rt); target: MESSAGE, "{word}");
+    FAILED
+}
+
+/// Reports what helps, if anything does, as records of this target. Returns whether nothing more is
+/// to be looked for: something was reported, or memory ran out.
+fn tell_found(rt: &HostRuntime, target: &str, hint: Hint) -> bool {
+    match hint {
+        Ok(Some(text)) => {
+            let lines = text.as_str();
+            info!(Messages(rt); target: target, "{lines}");
+            drop(text);
+            true
+        }
+        Ok(None) => false,
+        Err(_) => true,
+    }
+}
+
+/// Reports a line after a fault.
+pub fn tell_hint(rt: &HostRuntime, hint: &str) {
+    info!(Messages(rt); target: HINT, "{hint}");
+}

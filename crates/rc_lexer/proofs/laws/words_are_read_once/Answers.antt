@@ -1,5 +1,0 @@
-use Rattle.rc_lexer.proofs.WordLines.{words_once}
-use Rattle.rc_lexer.proofs.laws.words_are_read_once.Goals as goal
-
-pub returns : goal.returns
-returns c ws vs x y plain_ws plain_vs same = words_once ws vs x y plain_ws plain_vs same
