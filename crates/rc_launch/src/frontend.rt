@@ -15,7 +15,7 @@ mod moves;
 mod terminal;
 
 pub use crate::frontend::answers::Answers;
-pub use crate::frontend::asking::{db, plan, replay};
+pub use crate::frontend::asking::{Asked, ask};
 pub use crate::frontend::compiling::compile;
 pub use crate::frontend::fault_lines::Told;
 pub use crate::frontend::hints::{Seen, ToldErrors, behind_session, tell_failure, tell_file};

@@ -22,7 +22,7 @@ use crate::usual::{UsualTexts, usual_at};
 use log::error;
 use rc_args::{Task, Usual, WordsFault, asks_help, task_of, tell_words};
 use rc_launch::Work;
-use rc_launch::frontend::{compile, db, plan, replay, tell_failure};
+use rc_launch::frontend::{Asked, ask, compile, tell_failure};
 use rc_streams::messages::{MESSAGE, Messages};
 use std::alloc::Global;
 use std::io::{self, ErrorKind};
@@ -96,9 +96,9 @@ fn work_of<'a, T: Threads + Wait + Sync>(
         Task::Status(request, file) => Ok(Work::Status(request, file)),
         Task::Update(request, file) => Err(update(rt, threads, request, file)),
         Task::Compile(request) => Err(compile(rt, &request)),
-        Task::Db(request, file) => Err(db(rt, &request, file)),
-        Task::Plan(request, file) => Err(plan(rt, &request, file)),
-        Task::Replay(file) => Err(replay(rt, file)),
+        Task::Db(request, file) => Err(ask(rt, Asked::Db(&request), file)),
+        Task::Plan(request, file) => Err(ask(rt, Asked::Plan(&request), file)),
+        Task::Replay(file) => Err(ask(rt, Asked::Replay, file)),
         Task::Stop(file) => Err(stop(rt, file)),
         Task::Version => Err(version(rt)),
     }

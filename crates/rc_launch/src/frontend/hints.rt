@@ -78,7 +78,7 @@ fn checked(rt: &HostRuntime, base: Option<&[u8]>, input: &[u8]) -> u8 {
 }
 
 /// What helps after what was told of the database, or of what is asked of it.
-pub fn behind_database(rt: &HostRuntime, seen: &Seen<'_>, told: &ToldErrors) {
+fn behind_database(rt: &HostRuntime, seen: &Seen<'_>, told: &ToldErrors) {
     let Ok(Some((word, rest))) = told.fault() else {
         return;
     };
