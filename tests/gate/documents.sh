@@ -9,12 +9,12 @@ grep -v -x scenarios crates > product
 
 # firsts_of FILE: the names of crates in the first cells of its tables.
 firsts_of() {
-    sed -n 's/^| \(`[^|]*\) |.*/\1/p' "$1" | grep -o '`[a-z_]*`' | tr -d '`' | grep -E '^((rc|cmd)_[a-z]*|undorc)$'
+    sed -n 's/^| \(`[^|]*\) |.*/\1/p' "$1" | grep -o '`[a-z_]*`' | tr -d '`' | grep -E '^(rc_[a-z]*|undorc)$'
 }
 
 echo documents
 cp product wanted
-awk '/^```/ { if (inside) exit; inside = 1; next } inside && $1 ~ /^(rc_|cmd_|undorc)/ { print $1 }' \
+awk '/^```/ { if (inside) exit; inside = 1; next } inside && $1 ~ /^(rc_|undorc)/ { print $1 }' \
     "$top/docs/ARCHITECTURE.md" > found
 equals 'the tree of docs/ARCHITECTURE.md'
 cp testing wanted

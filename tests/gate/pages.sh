@@ -109,7 +109,7 @@ equals 'variables of the environment'
 # What the sources tell: words of refusals and faults, each of which is in a page, and in a list of
 # diagnostics only what is told.
 grep -r -h -o -E --include='*.rt' '"(undorc: |refused )?[A-Z][a-z][A-Za-z]*(\\n| ?\{[a-z]*\}| )*"' \
-    "$top"/crates/rc_*/src "$top"/crates/cmd_*/src "$top/crates/undorc/src" |
+    "$top"/crates/rc_*/src "$top/crates/undorc/src" |
     sed -e 's/^"undorc: //' -e 's/^"refused //' | sed -e 's/^"//' -e 's/[^A-Za-z].*//' | sort -u > words
 cp words wanted
 cat "$pages"/*.[15] | grep '^\.' | tr -s ' ' '\n' > found

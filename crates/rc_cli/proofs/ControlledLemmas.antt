@@ -20,17 +20,17 @@ use Rattle.rc_dbtext.specs.Spelling.{spelling as spelling_of}
 use Rattle.rc_livetext.specs.Spelling.{Spells as SpellsLine}
 use Rattle.rc_livetext.specs.declared.fault.LiveFault.TheVariants as live
 use Rattle.rc_serve.specs.declared.fault.ServeFault.TheVariants.{Memory}
-use Rattle.cmd_session.specs.Filing.{BeginsBy, file_named}
-use Rattle.cmd_session.specs.Serving.{session_on}
-use Rattle.cmd_session.specs.declared.keeping.LiveFile.{LiveFile}
-use Rattle.cmd_session.specs.declared.keeping.LiveFile.TheVariants.{Missing, Text, Unread}
+use Rattle.rc_cli.specs.Filing.{BeginsBy, file_named}
+use Rattle.rc_cli.specs.Serving.{session_on}
+use Rattle.rc_cli.specs.declared.sessions.keeping.LiveFile.{LiveFile}
+use Rattle.rc_cli.specs.declared.sessions.keeping.LiveFile.TheVariants.{Missing, Text, Unread}
 use Rattle.rc_update.specs.Carrying.{Carried, StaysUp}
 use Rattle.rc_update.specs.Conversions.{Conversion}
 use Rattle.rc_update.specs.Knowing.{AreKnown, IsFirstStranger}
 use Rattle.rc_cli.specs.Controlled.{IsLongrunOf, MovesByParts, MovesBySaying, MovesByUpdate}
 use Rattle.rc_cli.specs.Controlled.{MovesFrom, MovesLongrun, MovesLongrunOn, UpdateMovesFrom}
 use Rattle.rc_cli.specs.Controlled.{UpdateMovesLongrun}
-use Rattle.cmd_session.specs.Steps.{lowering, raising}
+use Rattle.rc_cli.specs.Steps.{lowering, raising}
 use Rattle.rc_cli.specs.Updating.{IsUpdate, Parts, carried_line}
 use Rattle.rc_cli.proofs.BegunLemmas.{one_base, one_list}
 

@@ -1,5 +1,29 @@
 -- The lemmas of rc_cli, in reading order.
 
+-- Transitions whose services are found.
+mod Found
+-- How a session of the program ends.
+pub mod SessionLemmas
+-- How a session that is launched ends.
+pub mod LaunchLemmas
+-- How the lines of a session are served, and how that is kept.
+mod ServingLemmas
+-- How one line is served.
+mod OnceLemmas
+-- The names of what went down.
+mod RestartedLemmas
+-- A command that runs for what is asked, as it runs for the words that ask it.
+mod RunLemmas
+-- Words that name services, one by one.
+mod NamedLemmas
+-- What `plan` writes and refuses for a spelled database, from the calls that it makes.
+mod PlanLemmas
+-- What queries find are services, and what is so of the input that is read.
+mod DbLemmas
+-- What is so of a database with its input, and where there is none.
+mod OpenedLemmas
+-- Answers, one after the other.
+mod Telling
 -- How the two steps of an update are served, and how it ends.
 mod UpdateLemmas
 -- What the steps of an update move.

@@ -12,8 +12,8 @@ use Rattle.rc_model.specs.declared.Mode.TheVariants.{Up}
 use Rattle.rc_model.specs.Session.{IsLineOf}
 use Rattle.rc_update.specs.Carrying.{AreNamesOf}
 use Rattle.rc_session.proofs.States.{current_state}
-use Rattle.cmd_session.specs.Restarting.{WentDown}
-use Rattle.cmd_session.specs.Steps.{step_ask}
+use Rattle.rc_cli.specs.Restarting.{WentDown}
+use Rattle.rc_cli.specs.Steps.{step_ask}
 use Rattle.rc_cli.proofs.SparingLemmas.{wanted_back, wanted_in}
 
 -- the second step raises what went down, and nothing else

@@ -17,7 +17,7 @@ use Rattle.rc_model.specs.Session.{IsLineOf}
 use Rattle.rc_session.proofs.States.{current_state}
 use Rattle.rc_update.specs.Carrying.{AreNamesOf, Carried, IsAlteredUp, StaysUp}
 use Rattle.rc_update.specs.Conversions.{Conversion}
-use Rattle.cmd_session.specs.Steps.{step_ask}
+use Rattle.rc_cli.specs.Steps.{step_ask}
 use Rattle.rc_cli.specs.Updating.{IsUpdate, IsWantedUp, Parts}
 
 -- the services that the names of services stand for are those services

@@ -14,10 +14,10 @@ use Rattle.rc_db.specs.declared.fault.QueryFault.TheVariants as fault_is
 use Rattle.rc_render.specs.RefusalText.{refusal_text}
 use Rattle.rc_recovery.specs.Logged.{AreLogged}
 use Rattle.rc_args.specs.NamedAsked.{NamedAsk}
-use Rattle.cmd_session.specs.Filing.{BeginsBy, file_named}
-use Rattle.cmd_session.specs.Serving.{session_on}
-use Rattle.cmd_session.specs.declared.keeping.LiveFile.{LiveFile}
-use Rattle.cmd_session.specs.declared.keeping.LiveFile.TheVariants as file
+use Rattle.rc_cli.specs.Filing.{BeginsBy, file_named}
+use Rattle.rc_cli.specs.Serving.{session_on}
+use Rattle.rc_cli.specs.declared.sessions.keeping.LiveFile.{LiveFile}
+use Rattle.rc_cli.specs.declared.sessions.keeping.LiveFile.TheVariants as file
 use Rattle.rc_cli.specs.Status.{AnswersAt, AnswersOn, AnswersStatus, AreOfFile, IsTextOf, IsUpAs}
 use Rattle.rc_cli.specs.Status.{Stands, line_of, lines_to}
 use Rattle.rc_cli.specs.declared.status.Shown.{Shown}

@@ -21,18 +21,18 @@ use Rattle.rc_serve.specs.Ending.{EndsIn, IsDoneAs}
 use Rattle.rc_args.specs.Listed.{Listed}
 use Rattle.rc_args.specs.OnceAsked.{HasNoEvents, OnceSaying, Said}
 use Rattle.rc_args.specs.Programs.{MakingAsk}
-use Rattle.cmd_session.specs.Filing.{BeginsBy, file_named}
-use Rattle.cmd_session.specs.Gating.{IsGateFor, IsGateless}
-use Rattle.cmd_session.specs.Once.{ServedOnce, ServesOnce}
-use Rattle.cmd_session.specs.Services.{IsDoneFor}
-use Rattle.cmd_session.specs.Serving.{session_on}
-use Rattle.cmd_session.specs.SessionFaults.{IsFileFault}
-use Rattle.cmd_session.specs.Steps.{ended_by, ending_behind, lowering, raising, step_by}
-use Rattle.cmd_session.specs.declared.keeping.LiveFile.{LiveFile}
-use Rattle.cmd_session.specs.declared.session_fault.SessionFault.{SessionFault}
-use Rattle.cmd_session.specs.declared.session_fault.SessionFault.TheVariants.{OfText, Unknown}
-use Rattle.cmd_session.specs.declared.session_fault.SessionFault.TheVariants.{OfLive, Failed}
-use Rattle.cmd_session.proofs.LaunchLemmas.{past_found, past_gate}
+use Rattle.rc_cli.specs.Filing.{BeginsBy, file_named}
+use Rattle.rc_cli.specs.Gating.{IsGateFor, IsGateless}
+use Rattle.rc_cli.specs.Once.{ServedOnce, ServesOnce}
+use Rattle.rc_cli.specs.Services.{IsDoneFor}
+use Rattle.rc_cli.specs.Serving.{session_on}
+use Rattle.rc_cli.specs.SessionFaults.{IsFileFault}
+use Rattle.rc_cli.specs.Steps.{ended_by, ending_behind, lowering, raising, step_by}
+use Rattle.rc_cli.specs.declared.sessions.keeping.LiveFile.{LiveFile}
+use Rattle.rc_cli.specs.declared.sessions.session_fault.SessionFault.{SessionFault}
+use Rattle.rc_cli.specs.declared.sessions.session_fault.SessionFault.TheVariants.{OfText, Unknown}
+use Rattle.rc_cli.specs.declared.sessions.session_fault.SessionFault.TheVariants.{OfLive, Failed}
+use Rattle.rc_cli.proofs.LaunchLemmas.{past_found, past_gate}
 use Rattle.rc_update.specs.Conversions.{Conversion, conversions_of}
 use Rattle.rc_update.specs.Knowing.{AreKnown, IsFirstStranger}
 use Rattle.rc_update.specs.declared.conversion.Conversion.{Conversion as Given}

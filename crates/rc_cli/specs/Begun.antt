@@ -10,7 +10,7 @@ use Rattle.rc_livetext.specs.Spelling.{Spells as SpellsLine}
 use Rattle.rc_script.specs.RunLines.{IsStepLine, least_limited}
 use Rattle.rc_update.specs.Carrying.{AreNamesOf, IsAlteredUp}
 use Rattle.rc_update.specs.Conversions.{Conversion}
-use Rattle.cmd_session.specs.Steps.{step_ask}
+use Rattle.rc_cli.specs.Steps.{step_ask}
 
 -- the names that the first step lowers, by what is live in the session of this text: what is
 -- altered, gone or to be restarted

@@ -12,10 +12,10 @@ use Rattle.rc_args.specs.Programs.{ByPrograms, ByTable, MakingAsk}
 use Rattle.rc_args.specs.SessionAsked.{SessionAsk}
 use Rattle.rc_args.specs.UpdateAsked.{UpdateAsk}
 use Rattle.rc_dbtext.specs.Base.{Spells}
-use Rattle.cmd_session.specs.Filing.{BeginsBy, file_named}
-use Rattle.cmd_session.specs.declared.keeping.LiveFile.{LiveFile}
+use Rattle.rc_cli.specs.Filing.{BeginsBy, file_named}
+use Rattle.rc_cli.specs.declared.sessions.keeping.LiveFile.{LiveFile}
 use Rattle.rc_update.specs.Knowing.{AreKnown}
-use Rattle.cmd_session.specs.Steps.{lowering, raising}
+use Rattle.rc_cli.specs.Steps.{lowering, raising}
 use Rattle.rc_cli.specs.Updating.{IsUpdate, Parts, carried_line}
 
 -- programs are started, and none is named that controls longruns

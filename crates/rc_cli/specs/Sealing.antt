@@ -12,13 +12,13 @@ use Rattle.rc_serve.specs.declared.fault.ServeFault.{ServeFault}
 use Rattle.rc_serve.specs.declared.fault.ServeFault.TheVariants.{Write}
 use Rattle.rc_serve.specs.Faults.{IsServeFault}
 use Rattle.rc_dbtext.specs.Base.{Spells}
-use Rattle.cmd_session.specs.Filing.{BeginsBy}
-use Rattle.cmd_session.specs.Serving.{IsOfFile, session_on}
-use Rattle.cmd_session.specs.SessionFaults.{EndsAs, IsFileFault, IsUndone, IsUnspelled}
-use Rattle.cmd_session.specs.Storing.{HoldsText}
-use Rattle.cmd_session.specs.declared.keeping.LiveFile.{LiveFile}
-use Rattle.cmd_session.specs.declared.session_fault.SessionFault.{SessionFault}
-use Rattle.cmd_session.specs.declared.session_fault.SessionFault.TheVariants.{Failed}
+use Rattle.rc_cli.specs.Filing.{BeginsBy}
+use Rattle.rc_cli.specs.Serving.{IsOfFile, session_on}
+use Rattle.rc_cli.specs.SessionFaults.{EndsAs, IsFileFault, IsUndone, IsUnspelled}
+use Rattle.rc_cli.specs.Storing.{HoldsText}
+use Rattle.rc_cli.specs.declared.sessions.keeping.LiveFile.{LiveFile}
+use Rattle.rc_cli.specs.declared.sessions.session_fault.SessionFault.{SessionFault}
+use Rattle.rc_cli.specs.declared.sessions.session_fault.SessionFault.TheVariants.{Failed}
 
 -- the current state alone of a line, under the same bound: there is nothing to undo or redo
 abbrev pub sealed : Line → Line

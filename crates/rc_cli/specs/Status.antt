@@ -20,12 +20,12 @@ use Rattle.rc_dbtext.specs.Base.{Spells}
 use Rattle.rc_streams.specs.Input.{AppendsFront}
 use Rattle.rc_serve.specs.declared.fault.ServeFault.TheVariants.{Memory, Write}
 use Rattle.rc_args.specs.NamedAsked.{NamedAsk}
-use Rattle.cmd_session.specs.Filing.{BeginsBy, file_named}
-use Rattle.cmd_session.specs.SessionFaults.{IsFileFault, IsTold, IsUnspelled}
-use Rattle.cmd_session.specs.declared.keeping.LiveFile.{LiveFile}
-use Rattle.cmd_session.specs.declared.keeping.LiveFile.TheVariants as file
-use Rattle.cmd_session.specs.declared.session_fault.SessionFault.{SessionFault}
-use Rattle.cmd_session.specs.declared.session_fault.SessionFault.TheVariants.{Failed}
+use Rattle.rc_cli.specs.Filing.{BeginsBy, file_named}
+use Rattle.rc_cli.specs.SessionFaults.{IsFileFault, IsTold, IsUnspelled}
+use Rattle.rc_cli.specs.declared.sessions.keeping.LiveFile.{LiveFile}
+use Rattle.rc_cli.specs.declared.sessions.keeping.LiveFile.TheVariants as file
+use Rattle.rc_cli.specs.declared.sessions.session_fault.SessionFault.{SessionFault}
+use Rattle.rc_cli.specs.declared.sessions.session_fault.SessionFault.TheVariants.{Failed}
 use Rattle.rc_cli.specs.declared.status.Shown.{Shown}
 use Rattle.rc_cli.specs.declared.status.Shown.TheVariants as shown
 

@@ -11,14 +11,14 @@ use Rattle.rc_args.specs.Programs.{MakingAsk, listed_in}
 use Rattle.rc_args.specs.UpdateAsked.{UpdateAsk}
 use Rattle.rc_update.specs.Knowing.{AreKnown, IsFirstStranger}
 use Rattle.rc_dbtext.specs.Base.{Spells}
-use Rattle.cmd_session.specs.Filing.{BeginsBy, CannotKeep, FailsToBegin, IsFileRefused, file_named}
-use Rattle.cmd_session.specs.Finding.{IsFirstUnknown}
-use Rattle.cmd_session.specs.Serving.{session_on}
-use Rattle.cmd_session.specs.SessionFaults.{AreAllFound, EndsAs, IsUndone, IsUnspelled}
-use Rattle.cmd_session.specs.declared.keeping.LiveFile.{LiveFile}
-use Rattle.cmd_session.specs.declared.session_fault.SessionFault.{SessionFault}
-use Rattle.cmd_session.specs.declared.session_fault.SessionFault.TheVariants.{OfText, Unknown}
-use Rattle.cmd_session.specs.declared.session_fault.SessionFault.TheVariants.{OfLive, Failed}
+use Rattle.rc_cli.specs.Filing.{BeginsBy, CannotKeep, FailsToBegin, IsFileRefused, file_named}
+use Rattle.rc_cli.specs.Finding.{IsFirstUnknown}
+use Rattle.rc_cli.specs.Serving.{session_on}
+use Rattle.rc_cli.specs.SessionFaults.{AreAllFound, EndsAs, IsUndone, IsUnspelled}
+use Rattle.rc_cli.specs.declared.sessions.keeping.LiveFile.{LiveFile}
+use Rattle.rc_cli.specs.declared.sessions.session_fault.SessionFault.{SessionFault}
+use Rattle.rc_cli.specs.declared.sessions.session_fault.SessionFault.TheVariants.{OfText, Unknown}
+use Rattle.rc_cli.specs.declared.sessions.session_fault.SessionFault.TheVariants.{OfLive, Failed}
 use Rattle.rc_cli.specs.Updating.{AreDoneFor, Updated, making_on}
 
 -- an update came to this where it was carried out from where the session of the old database begins

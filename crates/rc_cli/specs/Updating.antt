@@ -16,10 +16,10 @@ use Rattle.rc_serve.specs.Ending.{EndsIn}
 use Rattle.rc_args.specs.Listed.{Listed}
 use Rattle.rc_args.specs.OnceAsked.{OnceSaying}
 use Rattle.rc_args.specs.Programs.{ByPrograms, ByTable, MakingAsk}
-use Rattle.cmd_session.specs.Once.{ServedOnce, ServesOnce}
-use Rattle.cmd_session.specs.Services.{IsDoneFor}
-use Rattle.cmd_session.specs.Serving.{session_on}
-use Rattle.cmd_session.specs.Steps.{IsShort, ended_by, ending_behind, lowering, raising}
+use Rattle.rc_cli.specs.Once.{ServedOnce, ServesOnce}
+use Rattle.rc_cli.specs.Services.{IsDoneFor}
+use Rattle.rc_cli.specs.Serving.{session_on}
+use Rattle.rc_cli.specs.Steps.{IsShort, ended_by, ending_behind, lowering, raising}
 use Rattle.rc_update.specs.Carrying.{AreNamesOf, Carried, IsAlteredUp, StaysUp}
 use Rattle.rc_update.specs.Conversions.{Conversion}
 use Rattle.rc_update.specs.declared.carrying.Update.{Update}

@@ -8,9 +8,9 @@ ghost use Rattle.rc_model.specs.Plan.{IsPlanOf, PlanSets};
 ghost use Rattle.rc_model.specs.declared.Mode.TheVariants.{DownAll, Up};
 ghost use Rattle.rc_model.specs.Session.{IsLineOf};
 ghost use Rattle.rc_update.specs.Carrying.{AreNamesOf, Carried, StaysUp};
-ghost use Rattle.cmd_session.specs.Restarting.{WentDown};
+ghost use Rattle.rc_cli.specs.Restarting.{WentDown};
 ghost use Rattle.rc_update.specs.Conversions.{Conversion};
-ghost use Rattle.cmd_session.specs.Steps.{step_ask};
+ghost use Rattle.rc_cli.specs.Steps.{step_ask};
 ghost use Rattle.rc_cli.specs.Updating.{IsUpdate, IsWantedUp, Parts};
 
 /// The first step of an update lowers exactly what is live and does not stay, and moves nothing

@@ -2,10 +2,10 @@
 ghost use Rattle.std.specs.Prelude.{ℕ, List, false, string_bytes, IfNone, IfOk, IfSome};
 ghost use Rattle.rc_args.specs.NamedAsked.{named_ask_of};
 ghost use Rattle.rc_cli.specs.Controlled.{LacksController, MovesLongrun};
-ghost use Rattle.cmd_session.specs.Steps.{lowering};
+ghost use Rattle.rc_cli.specs.Steps.{lowering};
 
 use crate::controlled::uncontrolled;
-use cmd_session::{LiveFile, copied, step_line};
+use crate::sessions::{LiveFile, copied, step_line};
 use rc_args::{NamedRequest, Once};
 use rc_select::Mode;
 use rc_set::NoMem;

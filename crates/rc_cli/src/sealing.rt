@@ -7,12 +7,12 @@ ghost use Rattle.rc_model.specs.Session.{IsLineOf, IsStateOf};
 ghost use Rattle.rc_livetext.specs.Spelling.{Spells};
 ghost use Rattle.rc_serve.specs.Faults.{IsServeFault};
 ghost use Rattle.rc_streams.specs.Noting.{HasFailed, inner_of};
-ghost use Rattle.cmd_session.specs.Serving.{session_on};
-ghost use Rattle.cmd_session.specs.SessionFaults.{IsFileFault, IsTextFaultOf};
-ghost use Rattle.cmd_session.specs.Storing.{HoldsText, store_of};
+ghost use Rattle.rc_cli.specs.Serving.{session_on};
+ghost use Rattle.rc_cli.specs.SessionFaults.{IsFileFault, IsTextFaultOf};
+ghost use Rattle.rc_cli.specs.Storing.{HoldsText, store_of};
 ghost use Rattle.rc_cli.specs.Sealing.{IsSealedBy, SealsAs, SealsBy, SealsOn, StopsKeeping, sealed};
 
-use cmd_session::{Devices, LiveFile, Outputs, SessionFault, Store, spelled, tell_ended};
+use crate::sessions::{Devices, LiveFile, Outputs, SessionFault, Store, spelled, tell_ended};
 use rc_args::SessionRequest;
 use rc_db::Db;
 use rc_line::Line;

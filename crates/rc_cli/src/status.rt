@@ -9,13 +9,13 @@ ghost use Rattle.rc_render.specs.Lines.{line};
 ghost use Rattle.rc_streams.specs.Noting.{HasFailed, inner_of};
 ghost use Rattle.rc_args.specs.NamedAsked.{named_ask_of};
 ghost use Rattle.rc_args.specs.SessionAsked.{session_ask_of};
-ghost use Rattle.cmd_session.specs.Filing.{file_named};
+ghost use Rattle.rc_cli.specs.Filing.{file_named};
 ghost use Rattle.rc_cli.specs.Status.{AnswersAt, AnswersStatus, AnswersText, AreOfFile, IsTextOf};
 ghost use Rattle.rc_cli.specs.Status.{IsUnanswered, IsUpAs};
 ghost use Rattle.rc_cli.specs.Status.{TellsStatus, fails, line_of, lines_to, standing_after};
 ghost use Rattle.rc_cli.specs.Status.{standing_word, status_of};
 
-use cmd_session::{Devices, LiveFile, SessionFault, begin, spelled, tell_ended};
+use crate::sessions::{Devices, LiveFile, SessionFault, begin, spelled, tell_ended};
 use rc_args::{NamedRequest, SessionRequest};
 use rc_core::{Event, Outcome, Standing};
 use rc_db::{Db, QueryFault};

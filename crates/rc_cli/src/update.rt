@@ -3,12 +3,12 @@ ghost use Rattle.std.specs.Prelude.{◌≡◌};
 ghost use Rattle.rc_streams.specs.Noting.{HasFailed, inner_of};
 ghost use Rattle.rc_args.specs.SessionAsked.{session_ask_of};
 ghost use Rattle.rc_args.specs.UpdateAsked.{update_ask_of};
-ghost use Rattle.cmd_session.specs.Filing.{CannotKeep};
-ghost use Rattle.cmd_session.specs.Storing.{store_of};
+ghost use Rattle.rc_cli.specs.Filing.{CannotKeep};
+ghost use Rattle.rc_cli.specs.Storing.{store_of};
 ghost use Rattle.rc_cli.specs.UpdateEnds.{Updates, UpdatesBy};
 
+use crate::sessions::{Devices, Host, LiveFile, Outputs, SessionFault, Store, spelled, tell_ended};
 use crate::updating::update_on;
-use cmd_session::{Devices, Host, LiveFile, Outputs, SessionFault, Store, spelled, tell_ended};
 use log::Log;
 use rc_args::UpdateRequest;
 use rc_serve::Ending;

@@ -14,11 +14,11 @@ ghost use Rattle.rc_args.specs.OnceAsked.{HasNoEvents, Said};
 ghost use Rattle.rc_args.specs.Reading.{listed_of};
 ghost use Rattle.rc_args.specs.SessionAsked.{session_ask_of};
 ghost use Rattle.rc_args.specs.UpdateAsked.{update_ask_of};
-ghost use Rattle.cmd_session.specs.Filing.{CannotKeep};
-ghost use Rattle.cmd_session.specs.Gating.{IsGateFor, IsGateless};
-ghost use Rattle.cmd_session.specs.Serving.{session_on};
-ghost use Rattle.cmd_session.specs.Steps.{ended_by, ending_behind};
-ghost use Rattle.cmd_session.specs.Storing.{store_of};
+ghost use Rattle.rc_cli.specs.Filing.{CannotKeep};
+ghost use Rattle.rc_cli.specs.Gating.{IsGateFor, IsGateless};
+ghost use Rattle.rc_cli.specs.Serving.{session_on};
+ghost use Rattle.rc_cli.specs.Steps.{ended_by, ending_behind};
+ghost use Rattle.rc_cli.specs.Storing.{store_of};
 ghost use Rattle.rc_update.specs.Conversions.{conversions_of};
 ghost use Rattle.rc_update.specs.Knowing.{AreKnown, IsFirstStranger};
 ghost use Rattle.rc_cli.specs.Updating.{ServedBoth, Updated, carried_line, listed_by, listed_on};
@@ -26,7 +26,7 @@ ghost use Rattle.rc_cli.specs.Updating.{making_on};
 ghost use Rattle.rc_cli.specs.UpdateEnds.{AreGateless, UpdatesOn};
 
 use crate::moving::update_of;
-use cmd_session::{
+use crate::sessions::{
     Host, LiveFile, Outputs, SessionFault, Store, begin, gate_for, line_once, step_line,
 };
 use log::Log;

@@ -1,5 +1,7 @@
 -- The lemmas of rc_compile, in reading order.
 
+-- What is told of a device that failed.
+mod CompileLemmas
 -- A walk along lists of ids: what was seen, and what of it is still to be followed.
 mod Walks
 -- Sets that are joined along a graph, each once those that it takes are whole.

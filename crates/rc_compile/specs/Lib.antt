@@ -1,5 +1,11 @@
 -- The definitions of rc_compile, in reading order.
 
+-- Texts that are one slip of the hand apart.
+pub mod Edits
+-- What `compile` writes: the text of the database of what the files of trees say.
+pub mod CompiledText
+-- Why `compile` writes nothing, and what it tells.
+pub mod CompileRefusals
 -- Lists of names that lead from one to another by a relation, and their cycles.
 pub mod Along
 -- Services, longruns and pipelines among definitions, and which name a pipeline has.

@@ -1,4 +1,5 @@
-//! The compiler: from definitions to a database.
+//! The compiler: from definitions to a database. The module `command` has the command `compile`, of
+//! source directories, and what helps where they have a fault.
 #![tactic(auto)]
 
 ghost use Rattle.std.specs.Prelude.{◌≡◌, IfOk, IfErr, OnOk, map};
@@ -10,6 +11,7 @@ ghost use Rattle.rc_compile.specs.CompileFaults.{HaveNoFlaw, IsCompileFault};
 
 mod book;
 mod build;
+pub mod command;
 mod database;
 mod flaws;
 mod join;

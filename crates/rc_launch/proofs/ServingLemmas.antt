@@ -11,10 +11,10 @@ use Rattle.rc_args.specs.declared.session_request.SessionRequest.{SessionRequest
 use Rattle.rc_cli.specs.Sealing.{SealsAs}
 use Rattle.rc_cli.specs.Status.{TellsStatus}
 use Rattle.rc_cli.specs.UpdateEnds.{Updates}
-use Rattle.cmd_session.specs.Launching.{Launches}
-use Rattle.cmd_session.specs.Session.{Dealing, asked_with}
-use Rattle.cmd_session.specs.declared.keeping.LiveFile.{LiveFile}
-use Rattle.cmd_session.specs.declared.service.Service.{Service}
+use Rattle.rc_cli.specs.Launching.{Launches}
+use Rattle.rc_cli.specs.Session.{Dealing, asked_with}
+use Rattle.rc_cli.specs.declared.sessions.keeping.LiveFile.{LiveFile}
+use Rattle.rc_cli.specs.declared.sessions.service.Service.{Service}
 use Rattle.rc_launch.specs.Serving.{Carries, IsLineOf, IsRestartOf}
 use Rattle.rc_launch.specs.Works.{bytes_in}
 use Rattle.rc_launch.specs.declared.loading.Loaded.TheVariants as loaded

@@ -13,14 +13,15 @@ use Rattle.rc_cli.specs.Sealing.{SealsAs}
 use Rattle.rc_cli.specs.Status.{TellsStatus}
 use Rattle.rc_cli.specs.UpdateEnds.{Updates}
 use Rattle.log.specs.declared.level.LevelFilter.{LevelFilter}
-use Rattle.cmd_session.specs.Deciding.{IsFound, level_by}
-use Rattle.cmd_session.specs.Filing.{IsUnread}
-use Rattle.cmd_session.specs.Launching.{Launches}
-use Rattle.cmd_session.specs.Session.{Dealing, asked_with}
-use Rattle.cmd_session.specs.Steps.{lowering}
-use Rattle.cmd_session.specs.declared.keeping.LiveFile.{LiveFile}
-use Rattle.cmd_session.specs.declared.service.Service.{Service}
-use Rattle.cmd_session.specs.declared.service.Service.TheVariants.{Lines, Line as OneLine, Restart}
+use Rattle.rc_cli.specs.Deciding.{IsFound, level_by}
+use Rattle.rc_cli.specs.Filing.{IsUnread}
+use Rattle.rc_cli.specs.Launching.{Launches}
+use Rattle.rc_cli.specs.Session.{Dealing, asked_with}
+use Rattle.rc_cli.specs.Steps.{lowering}
+use Rattle.rc_cli.specs.declared.sessions.keeping.LiveFile.{LiveFile}
+use Rattle.rc_cli.specs.declared.sessions.service.Service.{Service}
+use Rattle.rc_cli.specs.declared.sessions.service.Service.TheVariants.{Lines, Line as OneLine}
+use Rattle.rc_cli.specs.declared.sessions.service.Service.TheVariants.{Restart}
 use Rattle.rc_launch.specs.declared.loading.Loaded.{Loaded}
 use Rattle.rc_launch.specs.declared.loading.Loaded.TheVariants as loaded
 use Rattle.rc_launch.specs.declared.opened.Note.{Note}

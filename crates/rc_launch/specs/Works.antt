@@ -7,7 +7,7 @@ use Rattle.rc_args.specs.UpdateAsked.{update_ask_of}
 use Rattle.rc_args.specs.declared.once_words.Once.{Once}
 use Rattle.rc_args.specs.declared.update_words.UpdateRequest.{UpdateRequest}
 use Rattle.rc_args.specs.declared.session_request.SessionRequest.{SessionRequest}
-use Rattle.cmd_session.specs.Deciding.{Moves}
+use Rattle.rc_cli.specs.Deciding.{Moves}
 use Rattle.rc_launch.specs.declared.loading.Loaded.{Loaded}
 use Rattle.rc_launch.specs.declared.loading.Loaded.TheVariants as loaded
 use Rattle.rc_launch.specs.declared.texts.FileText.{FileText}

@@ -1,7 +1,7 @@
 //! The commands `compile`, `db`, `plan` and `replay` on files; prompts at a terminal; hints after
 //! faults and answers; why an update moves a service; and who may read what `compile` writes. No
-//! contract covers what files hold or what people read. The contracts of `cmd_compile` and
-//! `cmd_query` cover the answers.
+//! contract covers what files hold or what people read. The contracts of `rc_compile::command` and
+//! `rc_cli::queries` cover the answers.
 
 mod answers;
 mod asking;

@@ -1,7 +1,7 @@
 //! The files of the runs of a session.
 ghost use Rattle.std.specs.Prelude.{◌≡◌, IfOk};
 
-use cmd_session::RunFiles;
+use rc_cli::sessions::RunFiles;
 use std::io;
 
 /// The files by which the runs of a session are logged and called off, beside the file of this

@@ -2,19 +2,19 @@
 ghost use Rattle.std.specs.Prelude.{◌≡◌, ℕ, List, IfNone, IfOk, IfSome, MatchOption, option_map};
 ghost use Rattle.std.specs.Prelude.{string_bytes};
 ghost use Rattle.rc_streams.specs.Noting.{HasFailed};
-ghost use Rattle.cmd_session.specs.Session.{dealt};
-ghost use Rattle.cmd_session.specs.Storing.{store_of};
+ghost use Rattle.rc_cli.specs.Session.{dealt};
+ghost use Rattle.rc_cli.specs.Storing.{store_of};
 ghost use Rattle.log.specs.Handle.{max_level};
 ghost use Rattle.rc_launch.specs.Serving.{Carries, IsLogFor, IsReadAs};
 ghost use Rattle.rc_launch.specs.Serving.{LacksItsControllerBy, logged_of};
 ghost use Rattle.rc_launch.specs.Works.{IsEventless, bytes_in};
-ghost use Rattle.cmd_session.specs.declared.keeping.LiveFile.{LiveFile};
+ghost use Rattle.rc_cli.specs.declared.sessions.keeping.LiveFile.{LiveFile};
 
 use crate::loading::Loaded;
 use crate::opened::{Note, Opened};
 use crate::texts::FileText;
-use cmd_session::{Devices, Host, LiveFile, Service, Store, launch, live_file, log_for};
 use log::Logged;
+use rc_cli::sessions::{Devices, Host, LiveFile, Service, Store, launch, live_file, log_for};
 use rc_cli::{
     seal_as_asked, status_as_asked, uncontrolled, uncontrolled_restart, uncontrolled_update,
     update_as_asked,

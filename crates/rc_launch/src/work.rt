@@ -2,8 +2,8 @@
 ghost use Rattle.std.specs.Prelude.{◌≡◌, ◌↔◌, IsTrue};
 ghost use Rattle.rc_launch.specs.Works.{MovesBy, session_of};
 
-use cmd_session::moves;
 use rc_args::{NamedRequest, Once, OnceRequest, SessionRequest, UpdateRequest};
+use rc_cli::sessions::moves;
 
 /// A command on the file of a session, and the file of `-b`, if one is named.
 #[derive(Drop)]

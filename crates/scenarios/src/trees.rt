@@ -1,7 +1,7 @@
 //! A tree in memory, and what the command `compile` makes of it over a writer whose flush may fail.
 
 use crate::device::Sink;
-use cmd_compile::compile_run;
+use rc_compile::command::compile_run;
 use rc_source::{MemoryTree, Tree};
 use rc_streams::Noted;
 use std::alloc::{AllocError, Global};

@@ -2,8 +2,8 @@
 use crate::frontend::exposure::{restrict, warn_of_links};
 use crate::frontend::fault_lines::Told;
 use crate::frontend::hints;
-use cmd_compile::{compile_run, tell_trees, text_of};
 use rc_args::CompileRequest;
+use rc_compile::command::{compile_run, tell_trees, text_of};
 use rc_names::NoMem;
 use rc_source::FolderTree;
 use rc_streams::Noted;

@@ -1,5 +1,7 @@
 //! What helps where a text is no database, or no session's, or a name is not in a database.
-use cmd_compile::diagnostics::{Hint, Said, cut_at, first_word, is_one_edit, line_at, text_of};
+use rc_compile::command::diagnostics::{
+    Hint, Said, cut_at, first_word, is_one_edit, line_at, text_of,
+};
 use rc_names::NoMem;
 use std::alloc::Global;
 

@@ -1,6 +1,6 @@
 //! What was told of a fault.
 
-use cmd_compile::diagnostics::text_of;
+use rc_compile::command::diagnostics::text_of;
 use rc_names::NoMem;
 use std::alloc::{AllocError, Global};
 use std::io;

@@ -2,12 +2,12 @@
 //! where nothing is found, or memory is short, there are none.
 use crate::frontend::databases::{behind_end, database_hint, lacking_hint, live_hint, near_hint};
 use crate::frontend::fault_lines::Told;
-use cmd_compile::diagnostics::{
-    Hint, Sources, compile_hint, looks_like_entry, unread_files, word_of,
-};
-use cmd_query::{db_as_asked, query_hint};
 use log::{error, info};
 use rc_args::{CompileRequest, DbRequest, Query};
+use rc_cli::queries::{db_as_asked, query_hint};
+use rc_compile::command::diagnostics::{
+    Hint, Sources, compile_hint, looks_like_entry, unread_files, word_of,
+};
 use rc_names::NoMem;
 use rc_streams::Noted;
 use rc_streams::messages::{HINT, MESSAGE, Messages};

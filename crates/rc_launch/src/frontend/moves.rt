@@ -1,8 +1,8 @@
 //! What the conversions of an update are refused for, and why an update moves a service.
 use crate::frontend::hints::tell_failure;
-use cmd_compile::diagnostics::text_of;
 use log::{error, info};
 use rc_args::RenameFault;
+use rc_compile::command::diagnostics::text_of;
 use rc_db::Db;
 use rc_dbtext::database_of;
 use rc_livetext::read_live;

@@ -3,7 +3,7 @@ use Rattle.std.proofs.Common.{subst}
 use Rattle.rc_args.specs.NamedAsked.{named_ask_of}
 use Rattle.rc_args.specs.OnceAsked.{OnceSaying, Said}
 use Rattle.rc_cli.specs.Controlled.{LacksController, MovesLongrun}
-use Rattle.cmd_session.specs.Steps.{lowering}
+use Rattle.rc_cli.specs.Steps.{lowering}
 use Rattle.rc_cli.proofs.restarting.uncontrolled_restart.Goals as goal
 
 pub returns-clause-some : goal.returns-clause-some

@@ -1,7 +1,7 @@
 use Rattle.std.proofs.Common.{ap, inl, inr, refl, subst}
 use Rattle.rc_session.specs.Holding.{Holding}
 use Rattle.rc_streams.specs.Noting.{inner_of}
-use Rattle.cmd_session.specs.Storing.{HoldsText, store_of}
+use Rattle.rc_cli.specs.Storing.{HoldsText, store_of}
 use Rattle.rc_cli.specs.Sealing.{StopsKeeping}
 use Rattle.rc_cli.proofs.sealing.seal_on.Goals as goal
 

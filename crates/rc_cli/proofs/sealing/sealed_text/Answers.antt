@@ -2,8 +2,8 @@ use Rattle.std.proofs.Common.{◌∙◌, ap}
 use Rattle.rc_line.specs.Opening.{Journal}
 use Rattle.rc_model.specs.Session.{IsStateOf}
 use Rattle.rc_session.proofs.States.{current_state}
-use Rattle.cmd_session.specs.Serving.{session_on}
-use Rattle.cmd_session.proofs.SessionLemmas.{live_fault}
+use Rattle.rc_cli.specs.Serving.{session_on}
+use Rattle.rc_cli.proofs.SessionLemmas.{live_fault}
 use Rattle.rc_cli.proofs.UpdateLemmas.{one_state}
 use Rattle.rc_cli.proofs.sealing.sealed_text.Goals as goal
 

@@ -2,7 +2,7 @@ use Rattle.std.proofs.Common.{ap, inl, inr, map, refl}
 use Rattle.std.specs.String.{string_bytes}
 use Rattle.rc_args.specs.NamedAsked.{named_ask_of}
 use Rattle.rc_args.specs.SessionAsked.{session_ask_of}
-use Rattle.cmd_session.specs.Filing.{file_named}
+use Rattle.rc_cli.specs.Filing.{file_named}
 use Rattle.rc_cli.proofs.StatusLemmas.{answers_on}
 use Rattle.rc_cli.proofs.UpdateLemmas.{begun_closed}
 use Rattle.rc_cli.proofs.status.text_answer.Goals as goal

@@ -5,7 +5,7 @@ use Rattle.rc_serve.specs.Ending.{IsDoneAs}
 use Rattle.rc_serve.specs.declared.ending.Ending.TheVariants.{Refused, Hindered}
 use Rattle.rc_args.specs.OnceAsked.{Said}
 use Rattle.rc_args.specs.SessionAsked.{session_ask_of}
-use Rattle.cmd_session.specs.Storing.{store_of}
+use Rattle.rc_cli.specs.Storing.{store_of}
 use Rattle.rc_cli.proofs.UpdateLemmas.{both_served, fault_behind, first_alone}
 use Rattle.rc_cli.proofs.updating.serve_both.Goals as goal
 

@@ -6,9 +6,9 @@ use Rattle.rc_script.specs.Says.{saying_of}
 use Rattle.rc_args.specs.OnceAsked.{Said}
 use Rattle.rc_args.specs.SessionAsked.{session_ask_of}
 use Rattle.rc_serve.specs.Ending.{IsDoneAs}
-use Rattle.cmd_session.specs.Storing.{store_of}
+use Rattle.rc_cli.specs.Storing.{store_of}
 use Rattle.rc_update.specs.Conversions.{conversions_of}
-use Rattle.cmd_session.specs.Steps.{step_ask}
+use Rattle.rc_cli.specs.Steps.{step_ask}
 use Rattle.rc_cli.specs.Updating.{Parts, carried_line, parts_of, session_with}
 use Rattle.rc_cli.proofs.UpdateLemmas.{journal_bound, line_bound, says_eventless, stands_closed}
 use Rattle.rc_cli.proofs.UpdateLemmas.{update_with, updated_by, with_bound}

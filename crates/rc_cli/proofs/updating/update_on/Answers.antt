@@ -4,10 +4,10 @@ use Rattle.rc_streams.specs.Noting.{inner_of}
 use Rattle.rc_args.specs.Making.{making_ask_of}
 use Rattle.rc_args.specs.SessionAsked.{session_ask_of}
 use Rattle.rc_args.specs.UpdateAsked.{update_ask_of}
-use Rattle.cmd_session.specs.Filing.{file_named}
-use Rattle.cmd_session.specs.Storing.{store_of}
-use Rattle.cmd_session.proofs.LaunchLemmas.{past_found}
-use Rattle.cmd_session.proofs.SessionLemmas.{fault_wider}
+use Rattle.rc_cli.specs.Filing.{file_named}
+use Rattle.rc_cli.specs.Storing.{store_of}
+use Rattle.rc_cli.proofs.LaunchLemmas.{past_found}
+use Rattle.rc_cli.proofs.SessionLemmas.{fault_wider}
 use Rattle.rc_cli.specs.Updating.{making_on}
 use Rattle.rc_cli.proofs.UpdateLemmas.{begin_unready, begun_closed, gates_unready, runs_update}
 use Rattle.rc_cli.proofs.updating.update_on.Goals as goal

@@ -1,6 +1,6 @@
 use Rattle.std.proofs.Common.{ap, map, refl, string_bytes}
-use Rattle.cmd_session.specs.Session.{dealt}
-use Rattle.cmd_session.specs.Storing.{store_of}
+use Rattle.rc_cli.specs.Session.{dealt}
+use Rattle.rc_cli.specs.Storing.{store_of}
 use Rattle.rc_streams.specs.Noting.{HasFailed}
 use Rattle.rc_launch.specs.Serving.{logged_of}
 use Rattle.rc_launch.proofs.ServingLemmas.{line_carried, restart_carried, seal_carried}

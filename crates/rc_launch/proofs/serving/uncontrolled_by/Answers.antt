@@ -3,7 +3,7 @@ use Rattle.rc_args.specs.NamedAsked.{named_ask_of}
 use Rattle.rc_args.specs.OnceAsked.{once_saying_of}
 use Rattle.rc_args.specs.SessionAsked.{session_ask_of}
 use Rattle.rc_args.specs.UpdateAsked.{update_ask_of}
-use Rattle.cmd_session.specs.Steps.{lowering}
+use Rattle.rc_cli.specs.Steps.{lowering}
 use Rattle.rc_cli.specs.Controlled.{MovesLongrun, UpdateMovesLongrun}
 use Rattle.rc_launch.specs.Works.{bytes_in}
 use Rattle.rc_launch.proofs.ServingLemmas.{none_moves}

@@ -1,6 +1,0 @@
-use Rattle.cmd_compile.proofs.CompileLemmas.{device_told}
-use Rattle.cmd_compile.proofs.compile.compile_run.Goals as goal
-
-pub returns-in-Err-clause-failed : goal.returns-in-Err-clause-failed
-returns-in-Err-clause-failed g c = λ told. device_told _ _ _ _ c.in-Err.fault _ _
-    c.in-Err.ensures.fault c.in-Err.ensures.io (c.tell_trees.ensures.failed told)

@@ -1,5 +1,0 @@
-use Rattle.cmd_compile.proofs.diagnostics.chains.+holder_of.Given as goal
-
--- one bundle less may be looked into
-abbrev pub decreases-holder_of : goal.decreases-holder_of
-decreases-holder_of l = l.depth

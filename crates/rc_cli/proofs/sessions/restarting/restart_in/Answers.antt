@@ -1,0 +1,23 @@
+use Rattle.std.proofs.Common.{◌∙◌, ℕ, List, ap, false, subst}
+use Rattle.rc_serve.specs.Ending.{IsDoneAs}
+use Rattle.rc_streams.specs.Noting.{inner_of}
+use Rattle.rc_args.specs.OnceAsked.{OnceSaying, Said}
+use Rattle.rc_args.specs.SessionAsked.{session_ask_of}
+use Rattle.rc_cli.specs.Restarting.{Restarted}
+use Rattle.rc_cli.specs.Steps.{lowering}
+use Rattle.rc_cli.specs.Storing.{store_of}
+use Rattle.rc_cli.proofs.sessions.restarting.restart_in.Goals as goal
+
+pub returns-clause-served : goal.returns-clause-served
+returns-clause-served g c =
+    subst (λ (what : OnceSaying). Restarted c.serve_steps-ended.result
+    (session_ask_of c.args.request.now).live
+    (g.S.Store.holds (store_of c.args.outputs.now.keeper))
+    (g.S.Store.holds (store_of c.serve_steps-ended.new.outputs.keeper))
+    (IsDoneAs c.args.request.now.workers (g.G.Gate.answers c.args.gate.now)
+    (g.G.Gate.gives c.args.gate.now)) what
+    (g.W.Write.contents (inner_of c.args.outputs.now.writer))
+    (g.W.Write.contents (inner_of c.serve_steps-ended.new.outputs.writer)) c.args.session.now)
+    (ap Said c.step_line-line.ensures.says
+    ∙ ap (λ (ns : List (List ℕ)). lowering false ns) c.in-Ok-copied.ensures)
+    c.serve_steps-ended.ensures.served

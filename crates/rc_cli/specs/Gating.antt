@@ -1,0 +1,36 @@
+-- The gate by which the transitions of a session are made.
+use Rattle.std.specs.Prelude.{◌≡◌, [], Bool, Option, option_map}
+use Rattle.rc_model.specs.Database.{Database}
+use Rattle.rc_runner.specs.Shell.{scripts_of}
+use Rattle.rc_runner.specs.declared.session_gate.SessionGate.{SessionGate}
+use Rattle.rc_runner.specs.declared.session_gate.SessionGate.TheVariants.{Table, Shell}
+use Rattle.rc_args.specs.Programs.{ByPrograms, ByTable, MakingAsk, controller_in, listed_in}
+use Rattle.rc_args.specs.Programs.{runner_in}
+use Rattle.rc_serve.specs.declared.fault.ServeFault.TheVariants.{Memory}
+use Rattle.rc_cli.specs.Finding.{AreFound, IsFirstUnknown}
+use Rattle.rc_cli.specs.declared.sessions.host.RunFiles.{RunFiles}
+use Rattle.rc_cli.specs.declared.sessions.session_fault.SessionFault.{SessionFault}
+use Rattle.rc_cli.specs.declared.sessions.session_fault.SessionFault.TheVariants.{Unknown, Failed}
+
+-- a gate makes the transitions of a database as it is asked: by a table of those that fail, in
+-- which no limit is reached, or by these programs
+abbrev pub IsGateFor : {R L : Type 0} → Database → MakingAsk → SessionGate R L → Type 0
+IsGateFor d (ByTable listed) (Table table) =
+    AreFound d.names listed table.failing × (table.moments ≡ [])
+IsGateFor d (ByTable listed) (Shell shell) = ⊥
+IsGateFor d (ByPrograms runner controller limit) (Table table) = ⊥
+IsGateFor d (ByPrograms runner controller limit) (Shell shell) =
+    shell.scripts ≡ scripts_of d (runner_in runner) (controller_in controller) limit
+
+-- a gate that starts programs shows what they write where that is asked; its runs are logged and
+-- called off by these files, if there are any
+abbrev pub IsOnFiles : {R L : Type 0} → Bool → Option RunFiles → SessionGate R L → Type 0
+IsOnFiles tells files (Table table) = Unit {0}
+IsOnFiles tells files (Shell shell) = (shell.shows ≡ tells)
+    × (shell.log ≡ option_map (λ f. f.log) files) × (shell.stop ≡ option_map (λ f. f.stop) files)
+
+-- why there is no such gate: the first name that is to fail and is no service's, or out of memory
+abbrev pub IsGateless : Database → MakingAsk → SessionFault → Type 0
+IsGateless d making (Unknown word) = IsFirstUnknown d.names (listed_in making) word.now
+IsGateless d making (Failed fault) = fault ≡ Memory
+IsGateless d making other = ⊥

@@ -1,0 +1,93 @@
+//! Where a session begins: with nothing up, or where the text of its file stands.
+ghost use Rattle.std.specs.Prelude.{◌≡◌, ◌≤◌, IfErr, IfOk};
+ghost use Rattle.rc_session.specs.Holding.{first_line};
+ghost use Rattle.rc_args.specs.SessionAsked.{session_ask_of};
+ghost use Rattle.rc_cli.specs.Filing.{BeginsBy, file_named};
+ghost use Rattle.rc_cli.specs.Serving.{session_on};
+ghost use Rattle.rc_cli.specs.SessionFaults.{IsFileFault, IsTextFaultOf};
+ghost use Rattle.rc_cli.specs.declared.sessions.session_fault.SessionFault.TheVariants.{Failed};
+ghost use Rattle.rc_serve.specs.declared.fault.ServeFault.TheVariants.{Memory};
+ghost use Rattle.rc_model.specs.Line.{Line};
+ghost use Rattle.rc_livetext.specs.Spelling.{Spells};
+ghost use Rattle.rc_model.specs.Session.{IsLineOf};
+
+use crate::sessions::keeping::LiveFile;
+use crate::sessions::session_fault::SessionFault;
+use rc_args::SessionRequest;
+use rc_db::Db;
+use rc_livetext::read_live;
+use rc_serve::ServeFault;
+use rc_session::Session;
+use std::alloc::Global;
+
+/// A session on a database, where it begins.
+pub fn begin<'a>(
+    alloc: Global,
+    db: Db,
+    request: &SessionRequest<'_>,
+    live: LiveFile<'_>,
+) -> Result<Session, SessionFault<'a>>
+    ensures begun { IfOk result (λ session. (start : Line) × BeginsBy db request.now.bound
+        (file_named (session_ask_of request.now).live live.entry) start
+        × (session ≡ session_on db start)) }
+    ensures fault { IfErr result (IsFileFault
+        (file_named (session_ask_of request.now).live live.entry) db) }
+{
+    match request.live {
+        None => fresh(alloc, db, request.bound),
+        Some(_) => go_on(alloc, db, request.bound, live),
+    }
+}
+
+// A session that begins where its file stands.
+fn go_on<'a>(
+    alloc: Global,
+    db: Db,
+    bound: u32,
+    live: LiveFile<'_>,
+) -> Result<Session, SessionFault<'a>>
+    requires bound { 3 ≤ bound }
+    ensures begun { IfOk result (λ session. (start : Line)
+        × BeginsBy db bound live.entry start × (session ≡ session_on db start)) }
+    ensures fault { IfErr result (IsFileFault live.entry db) }
+{
+    match live {
+        LiveFile::Missing => fresh(alloc, db, bound),
+        LiveFile::Text(bytes) => resumed(alloc, db, bytes),
+        LiveFile::Unread(fault) => {
+            drop(db);
+            Err(SessionFault::Failed(ServeFault::from(fault)))
+        }
+    }
+}
+
+// A session that begins with nothing up.
+fn fresh<'a>(alloc: Global, db: Db, bound: u32) -> Result<Session, SessionFault<'a>>
+    requires bound { 3 ≤ bound }
+    ensures begun { IfOk result (λ session. session ≡ session_on db (first_line db bound)) }
+    ensures fault { IfErr result (λ fault. fault ≡ Failed Memory) }
+{
+    match Session::with_bound(alloc, db, bound) {
+        Ok(session) => Ok(session),
+        Err(_) => Err(SessionFault::Failed(ServeFault::Memory)),
+    }
+}
+
+// A session that goes on with the line of a text.
+fn resumed<'a>(alloc: Global, db: Db, bytes: &[u8]) -> Result<Session, SessionFault<'a>>
+    ensures begun { IfOk result (λ session. (start : Line)
+        × IsLineOf db start × Spells db bytes.now start × (session ≡ session_on db start)) }
+    ensures fault { IfErr result (IsTextFaultOf db bytes.now) }
+{
+    let (line, _states) = match read_live(alloc, bytes, &db) {
+        Ok(read) => read,
+        Err(fault) => {
+            drop(db);
+            return Err(SessionFault::from(fault));
+        }
+    };
+    match Session::resume(db, line) {
+        Ok(session) => Ok(session),
+        Err(_) => unreachable!(),
+    }
+}

@@ -1,0 +1,73 @@
+//! What the program decides of the files of a session, as functions of values.
+ghost use Rattle.std.specs.Prelude.{◌≡◌, ◌↔◌, option_map, IsTrue, IfOk, OnErr};
+ghost use Rattle.rc_args.specs.OnceAsked.{once_saying_of};
+ghost use Rattle.rc_cli.specs.Deciding.{IsFound, Moves, level_by};
+ghost use Rattle.rc_cli.specs.Filing.{IsUnread};
+ghost use Rattle.log.specs.Handle.{max_level};
+ghost use Rattle.rc_args.specs.SessionAsked.{session_ask_of};
+
+use crate::sessions::keeping::LiveFile;
+use log::{LevelFilter, Logged};
+use rc_args::{Once, SessionRequest};
+use rc_script::SessionLine;
+use rc_serve::KeepFault;
+use rc_streams::messages::Messages;
+use std::io::{self, ErrorKind};
+
+/// Whether a session is to do something, and not only to show it: one of many lines may, and one of
+/// one line does where that says a command.
+pub fn moves(once: Option<&Once>) -> bool
+    ensures { IsTrue result ↔ Moves (option_map (λ one. once_saying_of one.now) once.entry) }
+{
+    match once {
+        Some(Once::Line(SessionLine::Step(_))) => true,
+        Some(_) => false,
+        None => true,
+    }
+}
+
+/// What stood in the file of `-l`, as it was read.
+pub fn live_file(read: &io::Result<Option<Vec<u8>>>) -> LiveFile<'_>
+    ensures found { IfOk read.now (λ found.
+        IsFound (option_map (λ bytes. bytes.items) found) result) }
+    ensures unread { OnErr read.now (IsUnread result) }
+{
+    match read {
+        Ok(Some(bytes)) => LiveFile::Text(bytes),
+        Ok(None) => LiveFile::Missing,
+        Err(error) => LiveFile::Unread(keep_fault(error)),
+    }
+}
+
+/// Why a file could not be read or written.
+pub fn keep_fault(error: &io::Error) -> KeepFault {
+    if error.kind() == ErrorKind::OutOfMemory {
+        return KeepFault::Memory;
+    }
+    KeepFault::Io
+}
+
+/// The log of a session: messages on standard error, for each transition where that is asked, and
+/// where one line is served alone for each that does not succeed, unless it is to be quiet.
+pub fn log_for<'h>(
+    host: &'h HostRuntime,
+    request: &SessionRequest<'_>,
+    alone: bool,
+) -> Logged<&'h HostRuntime, Messages<&'h HostRuntime>>
+    ensures { max_level result ≡ level_by (session_ask_of request.now).tells alone
+        (session_ask_of request.now).quiet }
+{
+    let level = level_of(request.tells, alone, request.quiet);
+    Logged::new(host, level, Messages(host))
+}
+
+// Up to which level messages are written.
+fn level_of(tells: bool, alone: bool, quiet: bool) -> LevelFilter
+    ensures { result ≡ level_by tells alone quiet }
+{
+    match (tells, alone, quiet) {
+        (true, _, _) => LevelFilter::Info,
+        (false, true, false) => LevelFilter::Warn,
+        (false, true, true) | (false, false, _) => LevelFilter::Off,
+    }
+}

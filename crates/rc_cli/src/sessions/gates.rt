@@ -1,0 +1,104 @@
+//! The gate of a session: the one by which its transitions are made as it is asked.
+ghost use Rattle.std.specs.Prelude.{◌≡◌, option_map, IfErr, IfOk};
+ghost use Rattle.rc_runner.specs.Shell.{scripts_of};
+ghost use Rattle.rc_args.specs.Making.{making_ask_of};
+ghost use Rattle.rc_args.specs.Programs.{controller_in, runner_in};
+ghost use Rattle.rc_cli.specs.Gating.{IsGateFor, IsGateless, IsOnFiles};
+
+use crate::sessions::failing::gate_of;
+use crate::sessions::host::Host;
+use crate::sessions::session_fault::SessionFault;
+use log::Log;
+use rc_args::{Making, Programs};
+use rc_db::{Db, NoMem};
+use rc_runner::{SessionGate, ShellGate, Telling};
+use rc_serve::ServeFault;
+
+/// The gate that makes the transitions of a database as it is asked. Programs are started by
+/// `host`. Where it is to tell what it does, it does so there.
+pub fn gate_for<'h, 'a, T, L: Log + Sync>(
+    host: &Host<'h, T, L>,
+    db: &Db,
+    making: &Making<'a>,
+    tells: bool,
+) -> Result<Telling<'h, L, SessionGate<'h, HostRuntime, L>>, SessionFault<'a>>
+    ensures made { IfOk result (λ gate. IsGateFor db.now (making_ask_of making.now) gate) }
+    ensures files { IfOk result
+        (IsOnFiles tells (option_map (λ files. files.now) host.now.run_files)) }
+    ensures fault { IfErr result (IsGateless db.now (making_ask_of making.now)) }
+{
+    let gate = match quiet_gate(host, db, making, tells) {
+        Ok(gate) => gate,
+        Err(fault) => return Err(fault),
+    };
+    match Telling::new(host.log, host.alloc, db, gate) {
+        Ok(gate) => Ok(gate),
+        Err(_) => Err(SessionFault::Failed(ServeFault::Memory)),
+    }
+}
+
+// The same, and how transitions end is not told.
+fn quiet_gate<'h, 'a, T, L: Log + Sync>(
+    host: &Host<'h, T, L>,
+    db: &Db,
+    making: &Making<'a>,
+    tells: bool,
+) -> Result<SessionGate<'h, HostRuntime, L>, SessionFault<'a>>
+    ensures made { IfOk result (λ gate. IsGateFor db.now (making_ask_of making.now) gate) }
+    ensures files { IfOk result
+        (IsOnFiles tells (option_map (λ files. files.now) host.now.run_files)) }
+    ensures fault { IfErr result (IsGateless db.now (making_ask_of making.now)) }
+{
+    match making {
+        Making::Table(failing) => match gate_of(host.alloc, db.names(), failing) {
+            Ok(gate) => Ok(SessionGate::Table(gate)),
+            Err(fault) => Err(SessionFault::from(fault)),
+        },
+        Making::Programs(programs) => match shell_gate(host, db, programs, tells) {
+            Ok(gate) => Ok(SessionGate::Shell(gate)),
+            Err(_) => Err(SessionFault::Failed(ServeFault::Memory)),
+        },
+    }
+}
+
+// The gate that runs these programs. What they write is shown where transitions are reported, and
+// what is done is logged where there is a file for it.
+fn shell_gate<'h, T, L: Log + Sync>(
+    host: &Host<'h, T, L>,
+    db: &Db,
+    programs: &Programs<'_>,
+    tells: bool,
+) -> Result<ShellGate<'h, HostRuntime, L>, NoMem>
+    ensures scripts { IfOk result (λ gate. gate.scripts ≡ scripts_of db.now
+        (runner_in (option_map (λ text. text.now) programs.now.runner))
+        (controller_in (option_map (λ text. text.now) programs.now.controller))
+        programs.now.limit) }
+    ensures shows { IfOk result (λ gate. gate.shows ≡ tells) }
+    ensures log { IfOk result (λ gate. gate.log
+        ≡ option_map (λ files. files.now.log) host.now.run_files) }
+    ensures stop { IfOk result (λ gate. gate.stop
+        ≡ option_map (λ files. files.now.stop) host.now.run_files) }
+{
+    let runner = programs.runner_words(host.alloc)?;
+    let controller = programs.controller_words(host.alloc)?;
+    let gate = ShellGate::new(
+        host.runtime,
+        host.log,
+        host.alloc,
+        db,
+        &runner,
+        &controller,
+        programs.limit,
+    )?;
+    let gate = if tells {
+        gate.with_errors(host.runtime.stderr())
+    } else {
+        gate
+    };
+    match host.run_files {
+        Some(files) => gate
+            .with_stop_file(&files.stop)
+            .with_run_log(&files.log, db),
+        None => Ok(gate),
+    }
+}

@@ -1,0 +1,228 @@
+//! A search in source directories: what is read again, and what is told of it.
+use crate::command::diagnostics::entries::{Entry, kind_of, without_slash};
+use crate::command::diagnostics::listed::{line_of, text_of};
+use crate::command::diagnostics::places::cut_at;
+use crate::command::diagnostics::said::Said;
+use rc_names::NoMem;
+use std::alloc::Global;
+use std::fs::{self, Files};
+use std::io::{self, Read};
+use std::os::unix::fs::PermissionsExt;
+
+/// The most bytes that a file may have.
+pub(crate) const MAX_FILE: usize = 65536;
+
+/// The rights to run a file, of its owner, its group and all others.
+const MAY_RUN: u32 = 0o111;
+
+/// Source directories, and what is said of what stands in them.
+#[derive(Drop)]
+pub(crate) struct Search<'a> {
+    pub rt: &'a HostRuntime,
+    pub roots: &'a [String],
+    pub said: Said,
+}
+
+/// What stands at a path.
+#[derive(Clone, Copy)]
+pub(crate) enum Found {
+    Nothing,
+    Directory,
+    /// A plain file, of so many bytes.
+    File(u64),
+    Other,
+}
+
+impl<'a> Search<'a> {
+    /// Nothing is said yet.
+    pub(crate) fn new(rt: &'a HostRuntime, alloc: Global, roots: &'a [String]) -> Search<'a> {
+        Search {
+            rt,
+            roots,
+            said: Said::new(alloc),
+        }
+    }
+
+    /// What stands at a path.
+    pub(crate) fn at(&mut self, path: &str) -> Found {
+        match self.rt.metadata(path) {
+            Ok(found) if found.is_dir() => Found::Directory,
+            Ok(found) if found.is_file() => Found::File(found.len()),
+            Ok(_) => Found::Other,
+            Err(error) => {
+                self.said.note_error(&error);
+                Found::Nothing
+            }
+        }
+    }
+
+    /// What of this name stands in a directory.
+    pub(crate) fn found(&mut self, directory: &str, name: &str) -> Found {
+        let path = self.said.path(directory, name);
+        let found = self.at(path.as_str());
+        drop(path);
+        found
+    }
+
+    /// The entry of this name, in the first source directory that has it. No entry has no name.
+    pub(crate) fn entry<'n>(&mut self, name: &'n str) -> Option<Entry<'a, 'n>> {
+        if name.is_empty() {
+            return None;
+        }
+        for named in self.roots {
+            let named = named.as_str();
+            let root = without_slash(named);
+            if let Found::Directory = self.found(root, name) {
+                let mut entry = Entry {
+                    named,
+                    root,
+                    name,
+                    kind: None,
+                };
+                let bytes = self.file(&entry, "type");
+                entry.kind = kind_of(&bytes);
+                drop(bytes);
+                return Some(entry);
+            }
+        }
+        None
+    }
+
+    /// The bytes of a file of an entry; none where they can't be read.
+    pub(crate) fn file(&mut self, entry: &Entry<'_, '_>, file: &str) -> Vec<u8> {
+        let path = self.said.file_path(entry, file);
+        let bytes = self.bytes(path.as_str());
+        drop(path);
+        match bytes {
+            Some(bytes) => bytes,
+            None => Vec::new(self.said.alloc),
+        }
+    }
+
+    /// Whether somebody may run a file of an entry.
+    pub(crate) fn is_executable(&mut self, entry: &Entry<'_, '_>, file: &str) -> bool {
+        let path = self.said.file_path(entry, file);
+        let found = self.rt.metadata(path.as_str());
+        drop(path);
+        match found {
+            Ok(found) => found.is_file() && found.permissions().mode() & MAY_RUN != 0,
+            Err(error) => {
+                self.said.note_error(&error);
+                false
+            }
+        }
+    }
+
+    /// The bytes of a plain file, where they can be read and are not too many.
+    pub(crate) fn bytes(&mut self, path: &str) -> Option<Vec<u8>> {
+        match self.at(path) {
+            Found::File(_) => {}
+            _ => return None,
+        }
+        let mut bytes = Vec::new(self.said.alloc);
+        match read_file(self.rt, path, &mut bytes) {
+            Ok(_) if bytes.len() <= MAX_FILE => Some(bytes),
+            Ok(_) => None,
+            Err(error) => {
+                self.said.note_error(&error);
+                None
+            }
+        }
+    }
+
+    /// The number of the line in which a file of an entry gives a name.
+    pub(crate) fn line_of(
+        &mut self,
+        entry: &Entry<'_, '_>,
+        file: &str,
+        name: &str,
+    ) -> Option<usize> {
+        let list = self.file(entry, file);
+        let number = line_of(text_of(&list), name);
+        drop(list);
+        number
+    }
+
+    /// The names of all entries, as far as they can be read.
+    pub(crate) fn entries(&mut self) -> Vec<String> {
+        let mut names = Vec::new(self.said.alloc);
+        for root in self.roots {
+            self.add_names(without_slash(root.as_str()), true, &mut names);
+        }
+        names
+    }
+
+    /// Adds the names in a directory, as far as they can be read, or of the entries alone.
+    pub(crate) fn add_names(
+        &mut self,
+        directory: &str,
+        only_entries: bool,
+        names: &mut Vec<String>,
+    ) {
+        let path = self.said.path(directory, "");
+        let mut bytes = Vec::new(self.said.alloc);
+        if let Err(error) = read_folder(self.rt, path.as_str(), &mut bytes) {
+            self.said.note_error(&error);
+        }
+        drop(path);
+        self.add_listed(directory, &bytes, only_entries, names);
+        drop(bytes);
+    }
+
+    /// Adds the names of what an entry has.
+    pub(crate) fn add_files(&mut self, entry: &Entry<'_, '_>, names: &mut Vec<String>) {
+        let path = self.said.path(entry.root, entry.name);
+        self.add_names(path.as_str(), false, names);
+        drop(path);
+    }
+
+    /// Adds the names that a listing gives, each with a byte 0 after it.
+    fn add_listed(
+        &mut self,
+        directory: &str,
+        listing: &[u8],
+        only_entries: bool,
+        names: &mut Vec<String>,
+    ) {
+        let mut rest = listing;
+        for _ in 0..listing.len() {
+            let (name, behind) = cut_at(rest, 0);
+            rest = behind;
+            let name = text_of(name);
+            if !name.is_empty() && (!only_entries || self.is_shown(directory, name)) {
+                let added = push_name(self.said.alloc, name, names);
+                self.said.note(added);
+            }
+        }
+    }
+
+    /// Whether a directory stands there, and is not hidden.
+    fn is_shown(&mut self, directory: &str, name: &str) -> bool {
+        if name.starts_with('.') {
+            return false;
+        }
+        matches!(self.found(directory, name), Found::Directory)
+    }
+}
+
+/// Adds the bytes of a file, of one that is too long only some.
+fn read_file(rt: &HostRuntime, path: &str, bytes: &mut Vec<u8>) -> io::Result<usize> {
+    let file = fs::open(rt, path)?;
+    file.take(MAX_FILE as u64 + 1).read_to_end(bytes)
+}
+
+/// Adds the names in a directory, each with a byte 0 after it.
+fn read_folder(rt: &HostRuntime, path: &str, bytes: &mut Vec<u8>) -> io::Result<usize> {
+    let mut listing = rt.open_dir(path)?;
+    listing.read_to_end(bytes)
+}
+
+/// Adds a name, but for those of a directory itself and of the one above it.
+fn push_name(alloc: Global, name: &str, names: &mut Vec<String>) -> Result<(), NoMem> {
+    if matches!(name, "." | "..") {
+        return Ok(());
+    }
+    let copy = String::from_str(alloc, name)?;
+    names.push(copy)?;
+    Ok(())
+}
