@@ -394,7 +394,7 @@ def open_goal(copy, function, said, goal):
 def own_errors(copy, function, said):
     """The errors at answers of the function's own, but those that only miss a name."""
     # What is missing may stand on the next line, where that of the error is long.
-    said = re.sub(r"\n +(has no field)", r" \1", said)
+    said = re.sub(rf"\n +(?={MISSING.pattern})", " ", said)
     own = re.escape(f"{copy.folder}/proofs/{function.replace('::', '/')}/")
     lines = [it for it in said.splitlines() if re.match(own + r"[A-Za-z]*\.antt:[0-9:]*: error", it)]
     return [it.removeprefix(f"{copy.folder}/") for it in lines if not MISSING.search(it)]
