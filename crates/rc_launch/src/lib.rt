@@ -1,7 +1,6 @@
-//! Commands on their files. The files of a session are opened in the order that loses nothing, and
-//! a command is carried out on what was read of them. What a command that was cut short has moved
-//! is entered before anything else is done. The module `frontend` has the commands that read no
-//! session, and what people are told.
+//! Runs commands on their files. `open` reads the databases, locks the file of the session, enters
+//! what a killed command moved, and then reads that file. `serve` carries the command out on what
+//! `open` read. The module `frontend` runs the commands without a session, and prints hints.
 #![tactic(auto)]
 
 mod fault;

@@ -1,4 +1,4 @@
-//! `db`, `plan` and `replay`, on the database of a file or at the beginning of standard input.
+//! Runs `db`, `plan` and `replay` on the database of `-b` or at the front of standard input.
 use crate::frontend::fault_lines::Told;
 use crate::frontend::files::base_at;
 use crate::frontend::hints::{Seen, ToldErrors, behind_session, tell_file};
@@ -9,16 +9,19 @@ use rc_select::Request;
 use rc_streams::{Noted, whole_file};
 use std::io;
 
-/// What is asked of a database.
+/// A command that reads a database and has no session, with its request.
 #[derive(Clone, Copy)]
 pub enum Asked<'a> {
+    /// `db`: a query.
     Db(&'a DbRequest<'a>),
+    /// `plan`: the plan of a change.
     Plan(&'a Request),
+    /// `replay`: the script on standard input.
     Replay,
 }
 
 impl<'a> Asked<'a> {
-    /// The file of the session that is asked about.
+    /// The file of `-l`, if the query shows a session.
     fn live(self) -> Option<&'a str> {
         match self {
             Asked::Db(request) => request.live,
@@ -26,20 +29,20 @@ impl<'a> Asked<'a> {
         }
     }
 
-    /// What is read from standard input, where the database is there or in a file.
+    /// What the command reads from standard input, in words. `is_file`: `-b` names the database.
     fn input(self, is_file: bool) -> &'static str {
         match (self, is_file) {
             (Asked::Db(_), _) => "the database",
-            (Asked::Plan(_), true) => "the names of what is up",
-            (Asked::Plan(_), false) => "the database and the names of what is up",
+            (Asked::Plan(_), true) => "the services that are up",
+            (Asked::Plan(_), false) => "the database and the services that are up",
             (Asked::Replay, true) => "the script",
             (Asked::Replay, false) => "the database and the script",
         }
     }
 }
 
-/// Answers what is asked of a database, and gives the status. A file of a session that is not there
-/// is one of a session with nothing up.
+/// Runs the command on the file of `-b`, and returns its status: 0, 1 for a refusal, or 111 for a
+/// failure. If the file of `-l` is missing, no service is up.
 pub fn ask(rt: &HostRuntime, asked: Asked<'_>, file: Option<&str>) -> u8 {
     match base_at(rt, file) {
         Ok(base) => {
@@ -53,7 +56,7 @@ pub fn ask(rt: &HostRuntime, asked: Asked<'_>, file: Option<&str>) -> u8 {
     }
 }
 
-/// The same with what was read of both files.
+/// Runs the command on the bytes of both files.
 fn ask_on(
     rt: &HostRuntime,
     asked: Asked<'_>,
@@ -75,7 +78,7 @@ fn ask_on(
     status
 }
 
-/// Writes the answer to standard output, or why there is none to the writer of faults.
+/// Writes the answer to standard output, or the fault to `told`, and returns the status.
 fn answer(
     rt: &HostRuntime,
     asked: Asked<'_>,

@@ -10,12 +10,10 @@ use rc_compile::command::diagnostics::{
 };
 use rc_names::NoMem;
 use rc_streams::Noted;
+use rc_streams::ending::FAILED;
 use rc_streams::messages::{HINT, MESSAGE, Messages};
 use std::alloc::AllocError;
 use std::io::{self, ErrorKind, Stderr};
-
-/// A file could not be read, or memory ran out.
-const FAILED: u8 = 111;
 
 /// A fault writer that keeps what was told.
 pub type ToldErrors = Told<Stderr>;

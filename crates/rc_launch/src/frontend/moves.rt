@@ -7,11 +7,9 @@ use rc_db::Db;
 use rc_dbtext::database_of;
 use rc_livetext::read_live;
 use rc_set::Set;
+use rc_streams::ending::REFUSED;
 use rc_streams::messages::{HINT, MESSAGE, Messages};
 use rc_update::{Conversion, Difference, difference_of, staying};
-
-/// The status of a refusal.
-const REFUSED: u8 = 1;
 
 /// Reports why conversions are refused, with the file of the renames, and returns the status.
 pub fn tell_renames(rt: &HostRuntime, path: Option<&str>, fault: &RenameFault<'_>) -> u8 {
