@@ -6,8 +6,8 @@ set -eu
 here=$(realpath "$(dirname "$0")")
 program=$(realpath "$1")
 shift
-[ $# -gt 0 ] || set -- rows words inputs bounds pictures messages sessions scripts schedules starting live order \
-    locking recovery oneshots reports seals restarts status update readme devices keeping memory held drawn compile
+[ $# -gt 0 ] || set -- rows words inputs bounds pictures messages terminal sessions scripts schedules starting live \
+    order locking recovery oneshots reports seals restarts status update readme devices keeping memory held drawn compile
 topics=$*
 . "$here/../lib/library.sh"
 
