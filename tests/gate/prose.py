@@ -3,8 +3,8 @@
 
     tests/gate/prose.py [FILE..]    the documents of the repository without a FILE; with one, no generated ones
 
-A paragraph has at most 600 characters (six lines of 100 columns), a sentence 40 words, a table cell 200 characters, and
-a document the length that LENGTHS gives. Each line that is printed is one place that breaks a rule; the status is 1 then.
+A paragraph has at most 600 characters (six lines of 100 columns), a sentence 40 words, and a table cell 200 characters.
+Each line that is printed is one place that breaks a rule; the status is 1 then.
 """
 
 import pathlib
@@ -14,21 +14,6 @@ import sys
 
 TOP = pathlib.Path(__file__).resolve().parents[2]
 PARAGRAPH, SENTENCE, CELL = 600, 40, 200
-KB = 1024
-LENGTHS = {
-    "README.md": 7 * KB,
-    "CONTRIBUTING.md": 12 * KB,
-    "docs/ARCHITECTURE.md": 14 * KB,
-    "docs/DECISIONS.md": 30 * KB,
-    "docs/COMMANDS.md": 15 * KB,
-    "docs/FORMATS.md": 36 * KB,
-    "docs/MODEL.md": 20 * KB,
-    "docs/PROOF.md": 18 * KB,
-    "docs/PROVING.md": 6 * KB,
-    "docs/S6RC.md": 10 * KB,
-    "docs/TESTS.md": 10 * KB,
-    "docs/TUTORIAL.md": 9 * KB,
-}
 # Their cells are items of man pages, which may be longer.
 LISTS = {"docs/COMMANDS.md", "docs/FORMATS.md"}
 GENERATED = {
@@ -73,8 +58,6 @@ def sentences(text):
 
 def faults(name, text):
     """What breaks a rule in a document."""
-    if len(text.encode()) > LENGTHS.get(name, len(text.encode())):
-        yield 1, f"{len(text.encode())} bytes, of at most {LENGTHS[name]}"
     for kind, number, part in parts(text):
         if kind == "row":
             for cell in map(str.strip, re.split(r"(?<!\\)\|", part)[1:-1]):

@@ -1,7 +1,8 @@
 #!/bin/sh
 # Looks through all scripts of the repository by shellcheck, as `.shellcheckrc` at the top has it, and through those that
 # are whole programs without what is let through there for files that others read. A file that begins with `#!/` has the
-# run bit, and no other has it. The last line is 'N passed, M failed, K skipped'.
+# run bit, and no other has it. All topics of the built program share one shell, so each of their functions has a name of
+# its own. The last line is 'N passed, M failed, K skipped'.
 set -eu
 cd "$(dirname "$0")/../.."
 if ! command -v shellcheck > /dev/null; then
@@ -47,5 +48,14 @@ look() {
 }
 look "$room/parts"
 look "$room/whole" --norc -x -P SCRIPTDIR -e SC2016
+
+doubled=$(grep -hoE '^ *[a-z_]+\(\)' tests/lib/*.sh tests/outside/program.sh tests/outside/trees.sh tests/outside/topics/*.sh |
+    tr -d ' ' | sort | uniq -d | tr '\n' ' ')
+if [ -z "$doubled" ]; then
+    passed=$((passed + 1))
+else
+    failed=$((failed + 1))
+    echo "FAILED: topics have several functions of one name: $doubled"
+fi
 echo "$passed passed, $failed failed, 0 skipped"
 [ "$failed" -eq 0 ]

@@ -1,8 +1,9 @@
 /* Devices that give and take pieces, are interrupted, or fail. Preloaded into a program, this is
  * between it and the calls of the C library by which it reads and writes, and starts others. What
  * each stream does is said by a variable of the environment: READS of standard input, WRITES of
- * standard output, TELLS of standard error, FILES of what the program opens itself, STARTS of each
- * start of a program and each wait for one. Its words, each followed by a number:
+ * standard output, TELLS of standard error, FILES of what the program opens itself, LENGTHS of each
+ * cut of a file to a length, STARTS of each start of a program and each wait for one. Its words, each
+ * followed by a number:
  *   piece       the most bytes that a call gives or takes
  *   interrupts  how often each call is interrupted before it is made
  *   good        how many calls are made before all that follow fail
@@ -26,7 +27,7 @@
 #include <sys/wait.h>
 #include <unistd.h>
 
-enum { INPUT, OUTPUT, FAULTS, OTHERS, PROGRAMS, MANY };
+enum { INPUT, OUTPUT, FAULTS, OTHERS, LENGTHS, PROGRAMS, MANY };
 
 struct device {
     const char *words;
@@ -40,7 +41,7 @@ static int begun;
 
 __attribute__((constructor)) static void begin(void)
 {
-    static const char *const names[MANY] = {"READS", "WRITES", "TELLS", "FILES", "STARTS"};
+    static const char *const names[MANY] = {"READS", "WRITES", "TELLS", "FILES", "LENGTHS", "STARTS"};
     for (int i = 0; i < MANY; i++) {
         devices[i].words = getenv(names[i]);
         unsetenv(names[i]);
@@ -167,6 +168,12 @@ int fchmod(int fd, mode_t mode)
 int fsync(int fd)
 {
     return count(of(fd)) ? -1 : 0;
+}
+
+int ftruncate(int fd, off_t length)
+{
+    NEXT(ftruncate);
+    return count(&devices[LENGTHS]) ? -1 : next(fd, length);
 }
 
 int rename(const char *from, const char *to)

@@ -13,8 +13,9 @@ from collections import Counter
 
 PROGRESS = re.compile(r"undorc: +[0-9]+\.[0-9]+ s  ((up|down) ([a-z]): (started|ok|not started))\Z")
 HELP = re.compile(r"  (nothing is named|options stand|no change is|-p goes) ")
-# What is told of a run log, beside a fault or alone.
-LOG = re.compile(r"undorc: (the next command enters what was moved|\S+\.run can't be written: .*)\Z")
+# What is told of a run log or of the log of commands, beside a fault or alone.
+LOG = re.compile(r"undorc: (the next command enters what was moved|\S+\.run can't be written: .*"
+                 r"|\S+\.log: .*: this command is not entered there)\Z")
 MAY_BE_DONE = ("undorc: Memory", "undorc: Io", "undorc: Write")
 
 

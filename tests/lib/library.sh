@@ -155,7 +155,7 @@ ends() {
     judge "$1" "$2"
 }
 
-# timeless FILE: it without the times of what -v tells
+# timeless FILE: it without the times of what is reported
 timeless() {
     sed 's/^undorc: *[0-9][0-9]*\.[0-9][0-9][0-9] s  //' "$1" > "$1.timeless"
     mv "$1.timeless" "$1"

@@ -2,7 +2,8 @@
 # Drawn and mutated cases, each run by the built program and by the plain one of tests/second, which must
 # agree in status, output, the first line that is told, and files: tests/outside/fuzz.sh SECONDS [SEED [PROGRAM]].
 # Without a seed another one is taken each time, and told. What differs is made smaller and printed with
-# its seed; with 0 seconds the one case of the seed is run. The last line is 'N passed, M failed'.
+# its seed; with 0 seconds the one case of the seed is run. Fewer than five cases a second are a failure. The last line
+# is 'N passed, M failed'.
 set -eu
 here=$(realpath "$(dirname "$0")")
 program=$(realpath "${3:-$here/../../crates/undorc/out/undorc}")

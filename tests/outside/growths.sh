@@ -1,9 +1,10 @@
 #!/bin/sh
 # The calls that the built program scenarios makes where it is given a word, with each growth refused in turn,
 # and each start of a thread: tests/outside/growths.sh PROGRAM. growths.out is what it writes. growths.txt names
-# each call with the number of its growths, and of the threads that it starts. A call of which one is refused tells that, and all is as before; where the
-# last are for the answer to what is done by then, all is as after it. The last line is
-# 'N passed, M failed, K skipped', and the status is 0 where none failed.
+# each call with the number of its growths, and of the threads that it starts; `again` stands behind those
+# that a call asks for again, for less, where they alone are refused. A call of which another one is refused
+# tells that, and all is as before; where the last are for the answer to what is done by then, all is as
+# after it. The last line is 'N passed, M failed, K skipped', and the status is 0 where none failed.
 set -eu
 here=$(realpath "$(dirname "$0")")
 program=$(realpath "$1")
@@ -38,12 +39,15 @@ awk 'NR == FNR { grown[FNR] = $1; started[FNR] = $2; next }
     }
     END { if (place != NR - FNR) print "the counts are of other calls" }' counts out > made
 cp made out
-sed 's/, the last [0-9]* for its answer//' "$here/growths.txt" > out.wanted
+sed -e 's/, the last [0-9]* for its answer//' -e 's/, [0-9 ]* again//g' "$here/growths.txt" > out.wanted
 judge 'the number of growths of each call' 0
 
 # The greatest number of growths, and of threads.
-most=$(tr -c '0-9\n' '\n' < made | sort -n | tail -n 1)
+growths=$(sort -n counts | tail -n 1)
+threads=$(cut -d ' ' -f 2 counts | sort -n | tail -n 1)
 for way in GROWTHS GROWTH THREAD; do
+    most=${growths% *}
+    [ "$way" != THREAD ] || most=$threads
     number=0
     while [ "$number" -le "$most" ]; do
         number=$((number + 1))

@@ -40,17 +40,17 @@ session() {
     expect 0 "$writes" "$tells" "$reads" session -b made "$@"
 }
 
-# tells ANSWERS EVENTS LINES WORDS..: such a session with -v, and what it tells but for the times
+# tells ANSWERS EVENTS LINES WORDS..: such a session with -P, and what it reports but for the times
 tells() {
     wants "$1" "$2"
     printf '%b' "$3" > in
     shift 3
     "$program" compile tree > made
-    runs session -b made -v "$@"
+    runs session -b made -P "$@"
     timeless err
     # What setsid says of a program that can't be started.
     sed -i '/^setsid: /d' err
-    judge "undorc session -b made -v $*" 0
+    judge "undorc session -b made -P $*" 0
 }
 
 # same WHAT: what a script left, in the files `left` and `left.wanted`

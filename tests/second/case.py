@@ -1,8 +1,12 @@
 """A case: what one run of the program is given."""
 
 
-LOOKS = ("live", "journal")
-ONE_SHOTS = ("change", "undo", "redo") + LOOKS
+LOOKS = ("live", "journal", "bundles")
+RUNS = ("change", "undo", "redo")
+EDITS = ("add", "delete")
+ONE_SHOTS = RUNS + EDITS + LOOKS
+# These read no input: they want a database and a file.
+ON_FILES = ("restart", "seal", "status")
 
 
 class Case:
@@ -24,6 +28,9 @@ class Case:
         self.keeps = False
         self.kept = None
         self.bound = None
+        self.force = False
+        self.limit = 0
+        self.workers = None
         self.trees = []
 
     @property
@@ -33,7 +40,7 @@ class Case:
     @property
     def locks(self):
         """Whether the lock of the file of -l is taken: not where it is refused earlier."""
-        moves = self.word in ("session", "change", "undo", "redo", "update") and not self.dry
+        moves = self.word in RUNS + EDITS + ("session", "update", "restart", "seal") and not self.dry
         return moves and self.keeps and not self.early
 
     def files(self, kept):
@@ -59,9 +66,10 @@ class Case:
             return words + self.asked()
         if self.word == "replay":
             return words
-        if self.word not in LOOKS:
+        if self.word in RUNS + ("session", "update", "restart"):
             listed = b",".join(way + b":" + name for way, name in self.failing)
             words += [b"-x", listed or b"none"]
+            words += [b"-w", b"%d" % self.workers] if self.workers else []
         words += [b"-l", b"kept"] if self.keeps else []
         words += [b"-n", b"%d" % self.bound] if self.bound else []
         words += [b"-n"] if self.dry else []
@@ -69,7 +77,9 @@ class Case:
         words += [] if self.renames is None else [b"-f", b"renames"]
         for name in self.restarts:
             words += [b"-R", name]
-        return words + (self.asked() if self.word == "change" else [])
+        words += [b"-t", b"%d" % self.limit] if self.limit else []
+        words += [b"-f"] if self.force else []
+        return words + (self.asked() if self.word == "change" else self.words)
 
     def asked(self):
         """The options and names of a change."""

@@ -3,11 +3,11 @@
 import copy
 
 import plans
-from case import LOOKS, Case
+from case import EDITS, LOOKS, ON_FILES, RUNS, Case
 from commands import do, read_command, task_of
 from database import Database, Service, text_of
 from fields import EACH, FILES, LINES, SCRIPTS, WORDS
-from forms import Refusal
+from forms import Refusal, is_name
 from live import OLD_BOUND, Line, State
 from live import text_of as live_text_of
 from replay import Trace, by_events
@@ -125,12 +125,12 @@ class Drawer:
     def words(self, base, most=3):
         return [self.word(base) for _ in range(self.random.randrange(most + 1))]
 
-    def options(self, odd):
+    def options(self, odd, limited):
         letters = list("u" + plans.Ask.LETTERS) + ["ua", "up", "da"]
         words = self.some([b"-" + self.pick(letters).encode()], 2)
         if odd and self.one_in(8):
             words.append(self.pick([b"-", b"-f", b"-t5", b"-du", b"-uu", b"--", b"-ut", b"-t"]))
-        if self.one_in(8):
+        if self.one_in(limited):
             limits = [b"5", b"0", b"3"] if not odd else NUMBERS + [b"5", b"0", b"00005"]
             words += [b"-t", self.pick([w for w in limits if w])]
         return words
@@ -141,15 +141,17 @@ class Drawer:
         return self.word(base) if self.one_in(6) or not others else self.pick(others[:5])
 
     def line(self, base, looks=True):
+        """A line of a session, or one of a script, whose limits may be reached."""
         drawn = self.random.randrange(20)
         odd = self.one_in(6)
+        limited = 8 if looks else 2
         force = [b"-f"] if self.one_in(2) else []
         if drawn < 7:
-            words = self.options(odd) + [b"change"] + self.words(base)
+            words = self.options(odd, limited) + [b"change"] + self.words(base)
         elif drawn < 12:
-            words = ([b"-t", b"7"] if self.one_in(8) else []) + [b"undo"]
+            words = ([b"-t", b"7"] if self.one_in(limited) else []) + [b"undo"]
         elif drawn < 13:
-            words = ([b"-t", b"7"] if self.one_in(8) else []) + [b"redo"]
+            words = ([b"-t", b"7"] if self.one_in(limited) else []) + [b"redo"]
         elif drawn < 16:
             words = [b"add"] + force + [self.bundle_word(base)] + self.words(base)
         elif drawn < 18:
@@ -157,7 +159,7 @@ class Drawer:
         elif not looks:
             words = [b"undo"]
         elif drawn == 18:
-            words = self.options(odd) + [b"dry"] + self.words(base)
+            words = self.options(odd, limited) + [b"dry"] + self.words(base)
         else:
             words = [self.pick([b"live", b"journal", b"journal", b"bundles"])]
         line = (b"\t " if odd else b" ").join(words)
@@ -192,8 +194,8 @@ class Drawer:
             if worker in trace.held:
                 well = not self.one_in(4)
                 event = ("done", worker, trace.held[worker], well)
-            elif limit and self.one_in(8):
-                event = ("stop", worker, limit + self.random.randrange(3))
+            elif limit and self.one_in(6):
+                event = ("stop", worker, max(0, limit + self.pick([-1, 0, 0, 1, 2])))
             elif ready:
                 event = ("take", worker, self.pick(ready))
             else:
@@ -277,9 +279,10 @@ class Drawer:
                 tree[name][b"producer-for"] = self.file_of_names([reader])
                 old = tree[reader].get(b"consumer-for", b"")
                 tree[reader][b"consumer-for"] = old.rstrip(b"\n") + b"\n" + name
+        names = [b"pipe", b"line"] if len(longruns) > 3 else NAMES
         for name in longruns:
-            if self.one_in(3):
-                tree[name][b"pipeline-name"] = self.pick(NAMES) + b"\n"
+            if not self.one_in(3):
+                tree[name][b"pipeline-name"] = self.pick(names) + b"\n"
 
     def spoil_tree(self, tree):
         """One thing is wrong in it, or strange."""
@@ -308,9 +311,11 @@ class Drawer:
             tree[self.pick(NAMES)] = self.pick([b"a file", {b"type": b"bundle"}])
 
     def trees(self):
-        names = self.random.sample(NAMES[:-2] + [LONG + b"1"], self.random.choice([0, 1, 2, 3, 4, 6, 8]))
-        names = [n for n in names if n[:1] != b"."]
-        kinds = {n: self.pick([b"oneshot", b"longrun", b"longrun", b"bundle"]) for n in names}
+        piped = self.one_in(3)
+        many = self.pick([4, 6, 8] if piped else [0, 1, 2, 3, 4, 6, 8])
+        names = [n for n in self.random.sample(NAMES[:-2] + [LONG + b"1"], many) if n[:1] != b"."]
+        kinds = [b"longrun"] if piped else [b"oneshot", b"longrun", b"longrun", b"bundle"]
+        kinds = {n: self.pick(kinds) for n in names}
         tree = {}
         for place, name in enumerate(names):
             tree[name] = self.entry(name, kinds[name], names if self.one_in(6) else names[:place])
@@ -400,6 +405,7 @@ class Drawer:
             case.failing.append((b"up", self.pick([b"a", b"zz"])))
         case.own = self.ended(self.lines(base, 40))
         case.keeps = self.one_in(2)
+        case.workers = self.workers()
         case.bound = self.pick([None, 3, 4, 5, 9])
         if case.keeps and self.one_in(2):
             case.kept = self.kept(base, case.bound or OLD_BOUND, 3)
@@ -413,21 +419,42 @@ class Drawer:
             text = self.older(text, line.bound)
         return self.mutated(text) if self.one_in(odds) else text
 
+    def workers(self):
+        return self.pick([None, 1, 2, 3, 64])
+
     def one_shot(self):
-        case = Case(self.pick(["change", "change", "change", "undo", "undo", "redo", "live", "journal"]))
+        looks = self.pick(LOOKS + ON_FILES)
+        case = Case(self.pick(["change", "change", "change", "undo", "undo", "redo", "add", "delete", looks, looks]))
         base = self.on_base(case)
-        case.keeps = not self.one_in(6)
+        case.keeps = case.word in ON_FILES or not self.one_in(6)
+        case.in_front = case.in_front and case.word not in ON_FILES
         if case.keeps and not self.one_in(6):
             case.kept = self.kept(base, self.pick([3, 4, OLD_BOUND]), 12)
         case.own = self.pick([b"", b"", b"live\n", b"\xff"]) if case.in_front else b""
-        if case.word in LOOKS:
-            return case
-        case.dry = self.one_in(3)
-        case.failing = self.failing(base)
+        if case.word in RUNS + ("restart",):
+            case.failing = self.failing(base)
+            case.workers = self.workers()
+        if case.word in RUNS:
+            case.dry = self.one_in(3)
         if case.word == "change":
             case.ask = self.ask(base)
             case.ask.limit = self.pick([0, 0, 7])
+        elif case.word in RUNS and not case.dry:
+            case.limit = self.pick([0, 0, 7])
+        elif case.word in EDITS:
+            case.force = self.one_in(2)
+            case.words = [self.fitting(self.bundle_word(base))] + self.fits(base, 3 if case.word == "add" else 1)
+        elif case.word in ("restart", "status"):
+            least = 1 if case.word == "restart" else 0
+            case.words = self.fits(base, 3) or [self.fitting(self.word(base))][:least]
         return case
+
+    def fitting(self, word):
+        """A word that is a name, and may stand on a command line."""
+        return word if is_name(word) and word[:1] != b"-" else self.pick(NAMES)
+
+    def fits(self, base, most):
+        return [self.fitting(word) for word in self.words(base, most)]
 
     def next_base(self, base):
         """The database after some work on its services and bundles."""
@@ -492,6 +519,7 @@ class Drawer:
         case = Case("update")
         base = self.on_base(case)
         case.in_front, case.keeps, case.dry = False, True, self.one_in(4)
+        case.workers = self.workers()
         new = self.next_base(base)
         if self.one_in(3):
             case.renames = self.renames(base, new)
@@ -532,5 +560,5 @@ class Drawer:
 
     def case(self):
         kinds = [self.db, self.plan, self.replay, self.session, self.session, self.compile]
-        kinds += [self.one_shot, self.update]
+        kinds += [self.one_shot, self.one_shot, self.update]
         return self.pick(kinds)()

@@ -1,7 +1,7 @@
 """Draws cases, and compares the built program with the plain one: fuzz.py PROGRAM SECONDS SEED.
 
 The last line is 'N passed, M failed'. A case that differs is made smaller, and printed with its seed;
-fuzz.py PROGRAM 0 SEED runs the one case of that seed.
+fuzz.py PROGRAM 0 SEED runs the one case of that seed. Fewer than LEAST cases a second are a failure.
 """
 
 import os
@@ -18,6 +18,8 @@ from draw import Drawer
 from shrink import shrunk
 
 PATIENCE = 60000
+# Two slow processors that are busy manage fifteen times as many.
+LEAST = 5
 
 
 def write(path, text):
@@ -163,7 +165,11 @@ def main():
     bench.close()
     told = ", ".join(f"{many} of {word}" for word, many in sorted(counts.items()))
     print(f"drawn cases from seed {seed}: {told}")
-    print(f"{tried - failed} passed, {failed} failed")
+    passed = tried - failed
+    if failed == 0 and tried < LEAST * seconds:
+        print(f"FAILED: only {tried} cases were tried, of at least {LEAST * seconds}")
+        failed = 1
+    print(f"{passed} passed, {failed} failed")
     sys.exit(failed > 0)
 
 

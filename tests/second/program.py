@@ -11,7 +11,7 @@ import queries
 import replay
 import sources
 import updates
-from case import ONE_SHOTS
+from case import EDITS, LOOKS as ONCE_LOOKS, ON_FILES, ONE_SHOTS
 from commands import Command, do, fail_by_list, first_missing, has_failed, is_silent, read_command, task_of
 from forms import Failure, Refusal
 
@@ -84,7 +84,7 @@ def session(case, answer):
 def one_shot(case, answer):
     """A session of one line; what only shows something leaves the file alone."""
     base, _, line = begun(case)
-    command = Command(case.word.encode(), ask=case.ask)
+    command = Command(case.word.encode(), case.limit, case.ask, case.force, case.words)
     was = set(line.now().live)
     if case.locks:
         answer.kept = live.text_of(base, line)
@@ -112,6 +112,49 @@ def reports_of(way_of, text):
     return [b"undorc:    0.000 s  %s %s: failed 1\n" % (way_of(name), name) for names in failed for name in names]
 
 
+def restart(case, answer):
+    """What is named and up goes down, with all that needs it, and what went down comes up."""
+    base, _, line = begun(case)
+    was = set(line.now().live)
+    carry_out = fail_by_list(case.failing)
+    answer.kept = live.text_of(base, line)
+    try:
+        fall = do(base, line, Command(b"change", ask=plans.Ask("D", 0, case.words)), carry_out)
+    except Refusal as refusal:
+        answer.out = b"refused " + refusal.text + b"\n"
+        answer.status = 1
+        return
+    again = sorted(was - line.now().live)
+    rise = do(base, line, Command(b"change", ask=plans.Ask("u", 0, again)), carry_out)
+    answer.reports = reports_of(lambda _: b"down", fall) + reports_of(lambda _: b"up", rise)
+    answer.out = fall + rise
+    answer.kept = live.text_of(base, line)
+    answer.status = 2 if has_failed(answer.out) else 0
+
+
+def seal(case, answer):
+    """The current state alone is kept."""
+    base, _, line = begun(case)
+    answer.kept = live.text_of(base, live.Line([line.now()], 0, line.bound))
+    answer.out = b"ok\n"
+
+
+def status(case, answer):
+    """Where services stand: those that are named, or all."""
+    base, _, line = begun(case)
+    now = line.now()
+    try:
+        plans.first_unknown(base, now.bundles, case.words)
+    except Refusal as refusal:
+        answer.out = b"refused " + refusal.text + b"\n"
+        answer.status = 1
+        return
+    asked = plans.selected(base, now.bundles, case.words) if case.words else set(base.services)
+    for name in sorted(asked):
+        answer.out += name + (b" up\n" if name in now.live else b" down\n")
+    answer.status = 3 if case.words and asked - now.live else 0
+
+
 def run_of(case, answer):
     if case.word == "compile":
         answer.out = database.text_of(sources.compile_trees(case.trees))
@@ -121,6 +164,9 @@ def run_of(case, answer):
         return
     if case.word in ONE_SHOTS:
         one_shot(case, answer)
+        return
+    if case.word in ON_FILES:
+        {"restart": restart, "seal": seal, "status": status}[case.word](case, answer)
         return
     if case.word == "update":
         updates.update(case, answer)
@@ -143,7 +189,7 @@ def run_of(case, answer):
 
 def run(case):
     answer = Answer(kept=case.kept)
-    if case.word in ("live", "journal") and not case.keeps:
+    if case.word in EDITS + ONCE_LOOKS and not case.keeps:
         answer.status = 100
         answer.fault = b"undorc: -l is missing, or UNDORC_LIVE: the file that keeps what is up\n"
         return answer

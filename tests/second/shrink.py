@@ -4,7 +4,12 @@ import copy
 
 import database
 import live
+from case import EDITS, ON_FILES
 from forms import Refusal
+
+# Commands that want a file, and those that want a name.
+KEEPING = ("update",) + ON_FILES
+NAMING = ("restart",) + EDITS
 
 
 def parts_of_lines(text):
@@ -66,8 +71,9 @@ def with_part(case, part, value):
 
 
 def smaller(case):
-    for part, less in (("kept", None), ("bound", None), ("keeps", False), ("failing", []), ("restarts", []), ("renames", None)):
-        if getattr(case, part) != less and not (part == "keeps" and (case.kept or case.word == "update")):
+    parts = [("kept", None), ("bound", None), ("keeps", False), ("failing", []), ("restarts", []), ("renames", None)]
+    for part, less in parts + [("workers", None), ("limit", 0), ("force", False)]:
+        if getattr(case, part) != less and not (part == "keeps" and (case.kept or case.word in KEEPING)):
             yield with_part(case, part, less)
     for text in parts_of_lines(case.own):
         yield with_part(case, "own", text)
@@ -85,7 +91,7 @@ def smaller(case):
             yield with_part(case, "kept", text)
     for part in ("failing", "words") if case.query not in (b"list", b"type") else ("failing",):
         some = getattr(case, part)
-        for place in range(len(some)):
+        for place in range(part == "words" and case.word in NAMING, len(some)):
             yield with_part(case, part, some[:place] + some[place + 1 :])
     for trees in smaller_trees(case.trees):
         yield with_part(case, "trees", trees)
@@ -110,7 +116,7 @@ def shrunk(case, differs, tries=3000):
 
 def size(case):
     kept = len(case.kept) + 1 if case.kept is not None else 0
-    flags = (case.bound is not None) + case.keeps
+    flags = (case.bound is not None) + case.keeps + (case.workers is not None) + (case.limit > 0) + case.force
     words = sum(len(w) + 1 for w in case.words) + sum(len(n) + 1 for _, n in case.failing)
     bases = len(case.base or b"") + len(case.other or b"")
     return bases + len(case.own) + kept + flags + words + len(repr(case.trees))

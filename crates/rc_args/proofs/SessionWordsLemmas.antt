@@ -1,4 +1,4 @@
--- What the words ask of `session`, by the matches that `clap` makes of them.
+-- What the words ask of a session, by the matches that `clap` makes of them.
 use Rattle.std.proofs.Common.{◌≡◌, ◌∙◌, ℕ, List, Option, None, Some, sym, subst, codes}
 use Rattle.clap.specs.Matches.{first_value, found_of}
 use Rattle.clap.specs.Words.{Text, first_of, rows_of}
@@ -7,12 +7,6 @@ use Rattle.clap.proofs.WalkLemmas.{first_value-rows}
 use Rattle.rc_args.specs.Limits.{IsLimitIn}
 use Rattle.rc_args.specs.Listed.{Listed, SpellsList}
 use Rattle.rc_args.specs.Programs.{ByPrograms, ByTable, MakesBy, MakesIn, MakingAsk}
-use Rattle.rc_args.specs.SessionAsked.{AsksNoSession}
-use Rattle.rc_args.specs.Words.{rows_for}
-
--- words without matches of `session` ask for none
-pub asked_none : (words : List Text) → rows_for (codes "session") words ≡ None → AsksNoSession words
-asked_none words none ask asks = let both : Some asks.0 ≡ None = sym asks.1 ∙ none in cc
 
 -- what is said of a text that is found in the matches is said of it in their rows, and the other
 -- way round

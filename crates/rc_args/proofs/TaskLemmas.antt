@@ -4,17 +4,12 @@ use Rattle.std.proofs.Common.{false, true, if◌then◌else◌, refl, ap, sym, s
 use Rattle.std.proofs.lemmas.Slice.Eq.{bytes_eq-Decides}
 use Rattle.std.specs.Str.{bytes_eq}
 use Rattle.clap.specs.Words.{Row, Text}
-use Rattle.rc_model.specs.Session.{Add, Change, Delete, Redo, Undo}
-use Rattle.rc_script.specs.Says.{SaysBundles, SaysDry, SaysJournal, SaysLive, SaysNothing, SaysStep}
-use Rattle.rc_script.specs.Says.{SaysWrong}
 use Rattle.rc_args.specs.Words.{rows_for, rows_named}
-use Rattle.rc_args.specs.OnceAsked.{AsksWhatIn, HasNoEvents, OnceAsk, OnceSaying, Said}
-use Rattle.rc_args.specs.OnceAsked.{WantsDryRedo, WantsDryUndo, once_saying_of}
+use Rattle.rc_args.specs.OnceAsked.{OnceAsk}
 use Rattle.rc_args.specs.Task.{AsksEntered, AsksNamed, AsksNoTask, AsksTask}
-use Rattle.rc_args.specs.Task.{IsEventless}
 use Rattle.rc_args.specs.Task.{OfCompile, OfDb, OfOnce, OfPlan, OfReplay, OfRestart, OfSeal}
 use Rattle.rc_args.specs.Task.{OfSession, OfStatus, OfStop, OfUpdate, OfVersion, TaskAsk}
-use Rattle.rc_args.specs.Task.{command_of, task_ask_of}
+use Rattle.rc_args.specs.Task.{command_of}
 use Rattle.rc_args.specs.declared.task.Task.{Task}
 use Rattle.rc_args.specs.declared.task.Task.TheVariants as task
 
@@ -62,28 +57,6 @@ entered_back words entered ask same asks = (
   named_back (command_of ask) entered asks.0 (sym (same (command_of ask)) ∙ asks.1),
   asks.2,
 )
-
--- a session of one line that is asked brings no events
-what_no_events : (rows : List Row) (what : OnceSaying) → AsksWhatIn rows what → HasNoEvents what
-what_no_events rows (Said SaysNothing) asks = tt
-what_no_events rows (Said SaysWrong) asks = tt
-what_no_events rows (Said (SaysStep (Change ask events))) asks = asks.1
-what_no_events rows (Said (SaysStep (Undo limit events))) asks = asks.1
-what_no_events rows (Said (SaysStep (Redo limit events))) asks = asks.1
-what_no_events rows (Said (SaysStep (Add name contents force))) asks = refl
-what_no_events rows (Said (SaysStep (Delete words force))) asks = refl
-what_no_events rows (Said (SaysDry ask)) asks = tt
-what_no_events rows (Said SaysLive) asks = tt
-what_no_events rows (Said SaysBundles) asks = tt
-what_no_events rows (Said SaysJournal) asks = tt
-what_no_events rows WantsDryUndo asks = tt
-what_no_events rows WantsDryRedo asks = tt
-
-pub asked_eventless : (entered : Option (Text × List Row)) (t : Task)
-    → AsksEntered entered (task_ask_of t) → IsEventless t
-asked_eventless entered (task.Once request file) asks =
-    what_no_events asks.0 (once_saying_of request.once) asks.2.0.0
-asked_eventless entered other asks = tt
 
 -- a wrong line asks nothing
 pub wrong_asks : (words : List Text) → ((name : Text) → rows_for name words ≡ None)

@@ -24,6 +24,8 @@ pub mod Programs
 pub mod Reading
 -- What a request of the program says about how transitions are made.
 pub mod Making
+-- Which transitions a command reports, by its flags.
+pub mod Reported
 -- What the words ask of `session`.
 pub mod SessionAsked
 -- What the words ask of a session of one line.

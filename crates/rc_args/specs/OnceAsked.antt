@@ -4,7 +4,7 @@ use Rattle.std.specs.Prelude.{codes}
 use Rattle.clap.specs.Words.{Row, Text, first_of}
 use Rattle.rc_model.specs.Names.{IsName}
 use Rattle.rc_model.specs.Plan.{Ask}
-use Rattle.rc_model.specs.Session.{Add, Change, Delete, Redo, Undo, events_of}
+use Rattle.rc_model.specs.Session.{Add, Change, Delete, Redo, Undo}
 use Rattle.rc_script.specs.Says.{Saying, SaysBundles, SaysDry, SaysJournal, SaysLive, SaysNothing}
 use Rattle.rc_script.specs.Says.{SaysStep, SaysWrong, saying_of}
 use Rattle.rc_args.specs.Words.{is_on, words_in}
@@ -53,11 +53,6 @@ once_command (Said SaysBundles) = codes "bundles"
 once_command (Said SaysJournal) = codes "journal"
 once_command WantsDryUndo = codes "undo"
 once_command WantsDryRedo = codes "redo"
-
--- what one line is to do brings no events
-abbrev pub HasNoEvents : OnceSaying → Type 0
-HasNoEvents (Said (SaysStep command)) = events_of command ≡ []
-HasNoEvents other = Unit {0}
 
 -- the matches of `change` ask this, with the limit that is given
 abbrev pub AsksChangeIn : List Row → Ask → Type 0

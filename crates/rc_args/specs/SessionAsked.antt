@@ -5,18 +5,18 @@ use Rattle.std.specs.Str.Parse.{IsNumeral, digits_value, without_leading_plus}
 use Rattle.clap.specs.Words.{Row, Text, first_of}
 use Rattle.rc_args.specs.Making.{making_ask_of}
 use Rattle.rc_args.specs.Programs.{MakesIn, MakingAsk, StartsBy}
-use Rattle.rc_args.specs.Words.{is_on, rows_for}
+use Rattle.rc_args.specs.Reported.{command_verbosity, lines_verbosity}
+use Rattle.rc_args.specs.Words.{is_on}
 use Rattle.rc_args.specs.declared.session_request.SessionRequest.{SessionRequest}
+use Rattle.rc_args.specs.declared.verbosity.Verbosity.{Verbosity}
 
--- what is asked of a session: how many workers it has, how transitions are made, whether each is
--- reported, or not even those that do not succeed, how many states a new one has at most, the file
--- that it goes on with and is kept in, if one is named, and whether that is waited for where
--- another program holds it
+-- what is asked of a session: how many workers it has, how transitions are made, which of them are
+-- reported, how many states a new one has at most, the file that it goes on with and is kept in, if
+-- one is named, and whether that is waited for where another program holds it
 pub record SessionAsk : Type 0 where
   pub workers : ℕ
   pub making : MakingAsk
-  pub tells : Bool
-  pub quiet : Bool
+  pub verbosity : Verbosity
   pub bound : ℕ
   pub live : Option Text
   pub waits : Bool
@@ -42,25 +42,23 @@ abbrev pub IsBoundIn : Option Text → ℕ → Type 0
 IsBoundIn None bound = bound ≡ 1024
 IsBoundIn (Some text) bound = SpellsBound text bound
 
--- the matches are those of this number of workers, of transitions that are made so, and reported
--- or not, of this bound and of this file, waited for or not
-pub record AsksSessionIn (rows : List Row) (ask : SessionAsk) : Type 0 where
+-- the matches are those of this number of workers, of transitions that are made so, of which these
+-- are reported, of this bound and of this file, waited for or not
+pub record AsksOptionsIn (rows : List Row) (reported : Verbosity) (ask : SessionAsk) : Type 0 where
   pub workers : IsCrewIn (first_of (codes "workers") rows) ask.workers
   pub making : MakesIn rows ask.making
-  pub tells : ask.tells ≡ is_on (codes "verbose") rows
-  pub quiet : ask.quiet ≡ is_on (codes "quiet") rows
+  pub verbosity : ask.verbosity ≡ reported
   pub bound : IsBoundIn (first_of (codes "bound") rows) ask.bound
   pub live : ask.live ≡ first_of (codes "live") rows
   pub waits : ask.waits ≡ is_on (codes "wait") rows
 
--- the words ask this of `session`
-abbrev pub AsksSession : List Text → SessionAsk → Type 0
-AsksSession words ask =
-    (rows : List Row) × (rows_for (codes "session") words ≡ Some rows) × AsksSessionIn rows ask
+-- the matches of `session` ask this
+abbrev pub AsksLinesIn : List Row → SessionAsk → Type 0
+AsksLinesIn rows ask = AsksOptionsIn rows (lines_verbosity rows) ask
 
--- the words ask no session
-abbrev pub AsksNoSession : List Text → Type 0
-AsksNoSession words = (ask : SessionAsk) → AsksSession words ask → ⊥
+-- the matches of another command ask this of its session
+abbrev pub AsksSessionIn : List Row → SessionAsk → Type 0
+AsksSessionIn rows ask = AsksOptionsIn rows (command_verbosity rows) ask
 
 -- it starts programs
 abbrev pub Starts : SessionAsk → Type 0
@@ -71,8 +69,7 @@ abbrev pub session_ask_of : SessionRequest → SessionAsk
 session_ask_of request = record {
   workers = request.workers;
   making = making_ask_of request.making;
-  tells = request.tells;
-  quiet = request.quiet;
+  verbosity = request.verbosity;
   bound = request.bound;
   live = option_map (λ f. f.now) request.live;
   waits = request.waits;

@@ -6,10 +6,10 @@ use Rattle.rc_select.specs.Ask.{ask_of}
 use Rattle.rc_args.specs.Words.{rows_for}
 use Rattle.rc_args.specs.Asked.{ask_in}
 use Rattle.rc_args.specs.CompileAsked.{AsksCompileIn, CompileAsk, compile_ask_of}
-use Rattle.rc_args.specs.OnceAsked.{AsksOnceIn, HasNoEvents, LacksFile, OnceAsk, once_ask_of}
+use Rattle.rc_args.specs.OnceAsked.{AsksOnceIn, LacksFile, OnceAsk, once_ask_of}
 use Rattle.rc_args.specs.OnceAsked.{once_command}
 use Rattle.rc_args.specs.DbAsked.{AsksIn, DbAsk, db_ask_of}
-use Rattle.rc_args.specs.SessionAsked.{AsksSessionIn, SessionAsk, session_ask_of}
+use Rattle.rc_args.specs.SessionAsked.{AsksLinesIn, AsksSessionIn, SessionAsk, session_ask_of}
 use Rattle.rc_args.specs.NamedAsked.{AsksNamesIn, NamedAsk, named_ask_of}
 use Rattle.rc_args.specs.UpdateAsked.{AsksUpdateIn, UpdateAsk, update_ask_of}
 use Rattle.rc_args.specs.Usual.{UsualAsk, first_named, session_by}
@@ -56,7 +56,7 @@ AsksTaskIn rows (OfCompile ask) = AsksCompileIn rows ask
 AsksTaskIn rows (OfDb ask file) = AsksIn rows ask × (file ≡ file_in rows)
 AsksTaskIn rows (OfPlan ask file) = (ask_in rows ≡ Some ask) × (file ≡ file_in rows)
 AsksTaskIn rows (OfReplay file) = file ≡ file_in rows
-AsksTaskIn rows (OfSession ask file) = AsksSessionIn rows ask × (file ≡ file_in rows)
+AsksTaskIn rows (OfSession ask file) = AsksLinesIn rows ask × (file ≡ file_in rows)
 AsksTaskIn rows (OfOnce ask file) = AsksOnceIn rows ask × (file ≡ file_in rows)
 AsksTaskIn rows (OfUpdate ask file) = AsksUpdateIn rows ask × (file ≡ file_in rows)
 AsksTaskIn rows (OfRestart ask file) = AsksNamesIn rows ask × (file ≡ file_in rows)
@@ -128,8 +128,3 @@ task_by usual OfVersion = OfVersion
 abbrev pub LacksItsFile : TaskAsk → Type 0
 LacksItsFile (OfOnce ask file) = LacksFile ask
 LacksItsFile other = ⊥
-
--- a session of one line brings no events
-abbrev pub IsEventless : Task → Type 0
-IsEventless (task.Once request file) = HasNoEvents (once_ask_of request).what
-IsEventless other = Unit {0}

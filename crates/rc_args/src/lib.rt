@@ -19,6 +19,7 @@ mod texts;
 mod transitions;
 mod update_words;
 mod usual;
+mod verbosity;
 
 pub use crate::asked::{WordsFault, asks_help, plan_asked, tell_words};
 pub use crate::cmdline::{NameQuery, NamesQuery};
@@ -30,8 +31,8 @@ pub use crate::program_words::{Making, Programs};
 pub use crate::renames::{RenameFault, renames_in};
 pub use crate::replay_words::replay_asked;
 pub use crate::session_request::SessionRequest;
-pub use crate::session_words::session_asked;
 pub use crate::task::{Task, task_of};
 pub use crate::transitions::{ListFault, Transition, transitions_of};
 pub use crate::update_words::UpdateRequest;
 pub use crate::usual::Usual;
+pub use crate::verbosity::Verbosity;

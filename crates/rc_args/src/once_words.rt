@@ -20,7 +20,7 @@ use crate::usual::Usual;
 use clap::ArgMatches;
 use rc_names::{Name, NameFault};
 use rc_script::SessionLine;
-use rc_session::Step;
+use rc_session::Command;
 use std::alloc::Global;
 
 /// What a session of one line is to do.
@@ -158,8 +158,7 @@ fn change_in(alloc: Global, matches: &ArgMatches<'_>) -> Result<Once, WordsFault
     if is_on(matches, "dry") {
         return Ok(Once::Line(SessionLine::Dry(request)));
     }
-    let step = Step::Change(request, Vec::new(alloc));
-    Ok(Once::Line(SessionLine::Step(step)))
+    Ok(Once::Line(SessionLine::Command(Command::Change(request))))
 }
 
 // What the matches of `undo` ask to be done.
@@ -175,8 +174,7 @@ fn undo_in(alloc: Global, matches: &ArgMatches<'_>) -> Result<Once, WordsFault>
     if is_on(matches, "dry") {
         return Ok(Once::DryUndo);
     }
-    let step = Step::Undo(limit, Vec::new(alloc));
-    Ok(Once::Line(SessionLine::Step(step)))
+    Ok(Once::Line(SessionLine::Command(Command::Undo(limit))))
 }
 
 // What the matches of `redo` ask to be done.
@@ -192,8 +190,7 @@ fn redo_in(alloc: Global, matches: &ArgMatches<'_>) -> Result<Once, WordsFault>
     if is_on(matches, "dry") {
         return Ok(Once::DryRedo);
     }
-    let step = Step::Redo(limit, Vec::new(alloc));
-    Ok(Once::Line(SessionLine::Step(step)))
+    Ok(Once::Line(SessionLine::Command(Command::Redo(limit))))
 }
 
 // What the matches of `add` ask to be done.
@@ -226,7 +223,7 @@ fn bundle_of(alloc: Global, words: &[&str], force: bool) -> Result<Once, WordsFa
         Err(_) => return Err(WordsFault::Name),
     };
     let contents = strings_of(alloc, rest)?;
-    Ok(Once::Line(SessionLine::Step(Step::Add(name, contents, force))))
+    Ok(Once::Line(SessionLine::Command(Command::Add(name, contents, force))))
 }
 
 // What the matches of `delete` ask to be done.
@@ -236,6 +233,6 @@ fn delete_in(alloc: Global, matches: &ArgMatches<'_>) -> Result<Once, WordsFault
     ensures wrong { IfErr result (λ fault. fault ≡ Memory) }
 {
     let names = words_in(alloc, matches)?;
-    let step = Step::Delete(names, is_on(matches, "force"));
-    Ok(Once::Line(SessionLine::Step(step)))
+    let command = Command::Delete(names, is_on(matches, "force"));
+    Ok(Once::Line(SessionLine::Command(command)))
 }

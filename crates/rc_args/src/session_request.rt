@@ -3,6 +3,7 @@ ghost use Rattle.std.specs.Prelude.{◌≤◌};
 
 use crate::program_words::{Making, Programs};
 use crate::usual::{Usual, named_or};
+use crate::verbosity::Verbosity;
 
 /// What the words ask of `session`.
 #[derive(Drop)]
@@ -11,10 +12,8 @@ pub struct SessionRequest<'a> {
     pub workers: u8,
     /// How they are made.
     pub making: Making<'a>,
-    /// Whether to report each transition.
-    pub tells: bool,
-    /// Whether not even those are reported that do not succeed.
-    pub quiet: bool,
+    /// Which transitions are reported.
+    pub verbosity: Verbosity,
     /// How many states a new session has at most.
     pub bound: u32,
     /// The file that the session goes on with, and is kept in.

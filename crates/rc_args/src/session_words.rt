@@ -1,18 +1,17 @@
-//! What the words ask of `session`.
-ghost use Rattle.std.specs.Prelude.{◌≢◌, ◌≤◌, ℕ, map, option_map, string_bytes, IfErr, IfNone};
-ghost use Rattle.std.specs.Prelude.{IfOk, IfSome};
+//! What the words ask of a session.
+ghost use Rattle.std.specs.Prelude.{◌≢◌, ◌≤◌, ℕ, option_map, IfErr, IfNone, IfOk, IfSome};
 ghost use Rattle.clap.specs.Words.{found_of, rows_of};
-ghost use Rattle.rc_args.specs.SessionAsked.{AsksNoSession, AsksSession, AsksSessionIn, IsBoundIn};
+ghost use Rattle.rc_args.specs.SessionAsked.{AsksLinesIn, AsksOptionsIn, AsksSessionIn, IsBoundIn};
 ghost use Rattle.rc_args.specs.SessionAsked.{IsCrewIn, SessionAsk, SpellsBound, SpellsCrew};
 ghost use Rattle.rc_args.specs.SessionAsked.{session_ask_of};
 ghost use Rattle.rc_args.specs.declared.asked.WordsFault.TheVariants.{Memory};
 
 use crate::asked::WordsFault;
 use crate::cmdline::is_on;
-use crate::matched::{command_in, matches_in};
 use crate::program_words::making_in;
 use crate::session_request::SessionRequest;
 use crate::texts::text_in;
+use crate::verbosity::{Verbosity, command_verbosity, lines_verbosity};
 use clap::ArgMatches;
 use rc_line::USUAL_BOUND;
 use std::alloc::Global;
@@ -26,42 +25,42 @@ const MAX_WORKERS: u8 = 64;
 /// The least number that a session may have as the most of its states.
 const LEAST_BOUND: u32 = 3;
 
-/// What the words ask of `session`. The first word is the program's own name.
-pub fn session_asked<'a>(
+/// What the matches of `session` ask.
+pub(crate) fn lines_in<'a>(
     alloc: Global,
-    words: &'a [String],
+    matches: &ArgMatches<'a>,
 ) -> Result<SessionRequest<'a>, WordsFault>
     ensures asked { IfOk result (λ request.
-        AsksSession (map string_bytes words.entry.now) (session_ask_of request)) }
-    ensures wrong { IfErr result (λ fault.
-        fault ≢ Memory → AsksNoSession (map string_bytes words.entry.now)) }
+        AsksLinesIn (rows_of (found_of matches.now)) (session_ask_of request)) }
+    ensures wrong { IfErr result (λ fault. fault ≢ Memory → (ask : SessionAsk) →
+        AsksLinesIn (rows_of (found_of matches.now)) ask → ⊥) }
 {
-    match matches_in(alloc, words) {
-        Ok(matches) => match command_in(&matches, "session") {
-            Some(inner) => {
-                let asked = session_in(alloc, inner);
-                drop(matches);
-                asked
-            }
-            None => {
-                drop(matches);
-                Err(WordsFault::OtherCommand)
-            }
-        },
-        Err(fault) => Err(fault),
-    }
+    options_in(alloc, matches, lines_verbosity(matches))
 }
 
-/// What the matches of `session` ask.
+/// What the matches of another command ask of its session.
 pub(crate) fn session_in<'a>(
     alloc: Global,
     matches: &ArgMatches<'a>,
 ) -> Result<SessionRequest<'a>, WordsFault>
     ensures asked { IfOk result (λ request.
         AsksSessionIn (rows_of (found_of matches.now)) (session_ask_of request)) }
-    ensures wrong { IfErr result (λ fault.
-        fault ≢ Memory → (ask : SessionAsk) → AsksSessionIn (rows_of (found_of matches.now)) ask →
-        ⊥) }
+    ensures wrong { IfErr result (λ fault. fault ≢ Memory → (ask : SessionAsk) →
+        AsksSessionIn (rows_of (found_of matches.now)) ask → ⊥) }
+{
+    options_in(alloc, matches, command_verbosity(matches))
+}
+
+// The options of a session that reports these transitions.
+fn options_in<'a>(
+    alloc: Global,
+    matches: &ArgMatches<'a>,
+    verbosity: Verbosity,
+) -> Result<SessionRequest<'a>, WordsFault>
+    ensures asked { IfOk result (λ request.
+        AsksOptionsIn (rows_of (found_of matches.now)) verbosity (session_ask_of request)) }
+    ensures wrong { IfErr result (λ fault. fault ≢ Memory → (ask : SessionAsk) →
+        AsksOptionsIn (rows_of (found_of matches.now)) verbosity ask → ⊥) }
 {
     let Some(workers) = workers_of(matches.get_str("workers")) else {
         return Err(WordsFault::Workers);
@@ -69,14 +68,11 @@ pub(crate) fn session_in<'a>(
     let Some(bound) = bound_of(matches.get_str("bound")) else {
         return Err(WordsFault::Bound);
     };
-    let tells = is_on(matches, "verbose");
-    let quiet = is_on(matches, "quiet");
     match making_in(alloc, matches) {
         Ok(making) => Ok(SessionRequest {
             workers,
             making,
-            tells,
-            quiet,
+            verbosity,
             bound,
             live: text_in(matches, "live"),
             waits: is_on(matches, "wait"),

@@ -1,7 +1,7 @@
 //! The words of the command line, read once.
 ghost use Rattle.std.specs.Prelude.{◌≡◌, ◌≢◌, map, string_bytes, IfErr, IfOk, OnErr, OnOk};
 ghost use Rattle.clap.specs.Words.{found_of, rows_of, subcommand_rows_of};
-ghost use Rattle.rc_args.specs.Task.{AsksEntered, AsksNamed, AsksNoTask, AsksTask, IsEventless};
+ghost use Rattle.rc_args.specs.Task.{AsksEntered, AsksNamed, AsksNoTask, AsksTask};
 ghost use Rattle.rc_args.specs.Task.{LacksItsFile, TaskAsk, task_ask_of, task_by};
 ghost use Rattle.rc_args.specs.Usual.{usual_ask_of};
 ghost use Rattle.rc_args.specs.declared.asked.WordsFault.TheVariants.{Memory, NoFile};
@@ -14,7 +14,7 @@ use crate::matched::matches_in;
 use crate::named_words::{NamedRequest, named_in};
 use crate::once_words::{OnceRequest, once_in};
 use crate::session_request::SessionRequest;
-use crate::session_words::session_in;
+use crate::session_words::{lines_in, session_in};
 use crate::texts::text_in;
 use crate::update_words::{UpdateRequest, update_in};
 use crate::usual::{Usual, named_or};
@@ -58,7 +58,6 @@ impl<'a> Task<'a> {
     pub fn with_usual(self, usual: Usual<'a>) -> Result<Task<'a>, WordsFault>
         ensures asked { IfOk result (λ task.
             task_ask_of task ≡ task_by (usual_ask_of usual.entry) (task_ask_of self.entry)) }
-        ensures eventless { IsEventless self.entry → IfOk result IsEventless }
         ensures named { OnOk result
             (LacksItsFile (task_by (usual_ask_of usual.entry) (task_ask_of self.entry)) → ⊥) }
         ensures lacks { OnErr result
@@ -103,7 +102,6 @@ impl<'a> Task<'a> {
 pub fn task_of<'a>(alloc: Global, words: &'a [String]) -> Result<Task<'a>, WordsFault>
     ensures asked { IfOk result (λ task.
         AsksTask (map string_bytes words.entry.now) (task_ask_of task)) }
-    ensures eventless { IfOk result IsEventless }
     ensures wrong { IfErr result (λ fault.
         fault ≢ Memory → AsksNoTask (map string_bytes words.entry.now)) }
 {
@@ -148,7 +146,7 @@ fn task_named<'a>(
         "db" => Ok(Task::Db(db_in(alloc, matches)?, base)),
         "plan" => Ok(Task::Plan(plan_in(alloc, matches)?, base)),
         "replay" => Ok(Task::Replay(base)),
-        "session" => Ok(Task::Session(session_in(alloc, matches)?, base)),
+        "session" => Ok(Task::Session(lines_in(alloc, matches)?, base)),
         "update" => Ok(Task::Update(update_in(alloc, matches)?, base)),
         "restart" => Ok(Task::Restart(named_in(alloc, matches)?, base)),
         "seal" => Ok(Task::Seal(session_in(alloc, matches)?, base)),

@@ -1,6 +1,6 @@
 -- The lemmas of rc_board, in reading order.
 
--- What workers make, one event after the other.
+-- What workers make, as events that a gate may say.
 mod Making
 -- A run that workers made completes its command; why one that was begun is not made.
 mod Carrying

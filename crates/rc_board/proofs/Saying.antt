@@ -10,8 +10,9 @@ use Rattle.rc_board.specs.declared.time.Time.{Time}
 use Rattle.rc_board.specs.declared.time.Time.TheVariants.{Late, Early}
 use Rattle.rc_board.specs.declared.worker.Asked.{Asked}
 use Rattle.rc_board.specs.declared.worker.Asked.TheVariants.{Job, Again, Stopped, Over}
+use Rattle.rc_board.specs.declared.transition.Taken.{Taken}
 use Rattle.rc_board.specs.declared.transition.Made.{Made}
-use Rattle.rc_board.specs.Asking.{NotesAsked, NotesEnd, IsAnswered}
+use Rattle.rc_board.specs.Asking.{NotesAsked, NotesEnd, IsMadeOf}
 use Rattle.rc_board.specs.Timing.{IsTimeOf}
 use Rattle.rc_board.specs.Pads.{Written, with_note, AreSaid, IsSaidWith}
 use Rattle.rc_board.proofs.Timing.{in_time, given_late}
@@ -32,10 +33,11 @@ module _ (Answers : ℕ → Way → Outcome → Type 0) (Gives : ℕ → Type 0)
       one)
 
   -- after a worker told how a transition ended
-  pub said_end : (worker : ℕ) (made : Made) → IsAnswered Answers made → NotesEnd old worker made new
-      → AreSaid Answers Gives deadline new.notes
-  said_end worker made answered ends = elim ends [
-    | inl is ↦ said_more (Done worker made.service made.outcome) (Some made.way) answered is
+  pub said_end : (taken : Taken) (made : Made) → IsMadeOf Answers taken made
+      → NotesEnd old taken made.outcome new → AreSaid Answers Gives deadline new.notes
+  said_end taken made of ends = elim ends [
+    | inl is ↦ said_more (Done taken.job.worker taken.job.service made.outcome)
+        (Some taken.job.way) (rw (of.service, of.way) at of.answered) is
     | inr same ↦ said_still same
   ]
 
@@ -45,7 +47,7 @@ module _ (Answers : ℕ → Way → Outcome → Type 0) (Gives : ℕ → Type 0)
   said_asked worker (Late moment) (Job taken) told is = absurd is
   said_asked worker (Early leave) (Job taken) told is =
       said_more (Take worker taken.job.service) (Some taken.job.way)
-      (in_time Gives deadline leave.moment told) is
+      (in_time Gives deadline leave.moment told) is.1
   said_asked worker (Late moment) Again told is = said_still is
   said_asked worker (Early leave) Again told is = said_still is
   said_asked worker (Late moment) Stopped told is =

@@ -1,6 +1,7 @@
 -- The definitions of rc_board, in reading order.
 
--- Events that workers made with a gate: who made each, what the gate said, and which were in time.
+-- Events that workers made with a gate: who made each, what the gate may have said, and whether it
+-- may have given a moment before the deadline.
 pub mod Made
 -- What a worker writes down: its pad.
 pub mod Pads

@@ -37,8 +37,8 @@ abbrev pub own : ℕ → List Event → List Event
 own w events = filter (λ event. worker_of event == w) events
 
 -- what is written down tells of a gate what it may say: an outcome that it may answer for the
--- service and the way written beside it, or a moment that it may give; and a service is taken in
--- time
+-- service and the way written beside it, a moment that it may give, or, where a service was taken,
+-- that it may give one before the deadline
 abbrev pub IsSaidWith : (ℕ → Way → Outcome → Type 0) → (ℕ → Type 0) → Option ℕ → Event
     → Option Way → Type 0
 IsSaidWith Answers Gives deadline (Take w s) way = IsInTime Gives deadline

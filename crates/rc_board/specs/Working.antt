@@ -17,8 +17,9 @@ use Rattle.rc_board.specs.Made.{AreMade, AreTimely}
 
 -- a command was carried out by workers with a gate: it was begun at a moment that the
 -- gate may give; the events that are told are a settled run of its task from then on,
--- none where nothing is to move, and the workers made them with the gate, and took each service
--- before the deadline of this task; and the session did the command with these events
+-- none where nothing is to move, and the workers made them with the gate; where they took a service
+-- under a limit, the gate may give a moment before the deadline of this task; and the session did
+-- the command with these events
 pub record IsCarriedOut (workers : ℕ) (Answers : ℕ → Way → Outcome → Type 0) (Gives : ℕ → Type 0)
     (old : Holding) (command : Command) (told : Reported) (new : Holding) : Type 0 where
   pub crew : IsCrew workers

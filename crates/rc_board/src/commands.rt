@@ -11,9 +11,10 @@ ghost use Rattle.rc_board.specs.Crew.{IsCrew};
 ghost use Rattle.rc_board.specs.Halting.{IsHaltOf};
 ghost use Rattle.rc_board.specs.Working.{IsCarriedOut, IsFault, LeavesSession};
 
+use crate::executor::Executor;
 use crate::fault::Fault;
 use crate::gate::Gate;
-use crate::play::{Halt, played};
+use crate::play::{Course, Halt, played};
 use crate::watch::Watch;
 use rc_select::Request;
 use rc_session::{Begun, Refusal, Report, Session};
@@ -44,9 +45,15 @@ pub fn change<R: Threads + Wait + Sync, G: Gate, W: Watch>(
     if !is_crew(workers) {
         return Err(Fault::Workers);
     }
+    let executor = Executor {
+        rt,
+        alloc,
+        gate,
+        workers,
+    };
     let start = gate.now();
     match session.begin_change(alloc, request, start) {
-        Ok(begun) => carry_out(rt, alloc, session, begun, gate, workers, watch),
+        Ok(begun) => carry_out(&executor, watch, session, begun),
         Err(refusal) => Err(Fault::Refused(refusal)),
     }
 }
@@ -73,9 +80,15 @@ pub fn undo<R: Threads + Wait + Sync, G: Gate, W: Watch>(
     if !is_crew(workers) {
         return Err(Fault::Workers);
     }
+    let executor = Executor {
+        rt,
+        alloc,
+        gate,
+        workers,
+    };
     let start = gate.now();
     match session.begin_undo(alloc, limit, start) {
-        Ok(begun) => carry_out(rt, alloc, session, begun, gate, workers, watch),
+        Ok(begun) => carry_out(&executor, watch, session, begun),
         Err(refusal) => Err(Fault::Refused(refusal)),
     }
 }
@@ -101,9 +114,15 @@ pub fn redo<R: Threads + Wait + Sync, G: Gate, W: Watch>(
     if !is_crew(workers) {
         return Err(Fault::Workers);
     }
+    let executor = Executor {
+        rt,
+        alloc,
+        gate,
+        workers,
+    };
     let start = gate.now();
     match session.begin_redo(alloc, limit, start) {
-        Ok(begun) => carry_out(rt, alloc, session, begun, gate, workers, watch),
+        Ok(begun) => carry_out(&executor, watch, session, begun),
         Err(refusal) => Err(Fault::Refused(refusal)),
     }
 }
@@ -111,21 +130,19 @@ pub fn redo<R: Threads + Wait + Sync, G: Gate, W: Watch>(
 /// Carries a command out that was begun. Where its run can't be made it is given up: nothing was
 /// taken then, or the workers left another board than theirs, and the session is poisoned.
 fn carry_out<R: Threads + Wait + Sync, G: Gate, W: Watch>(
-    rt: &R,
-    alloc: Global,
+    executor: &Executor<'_, R, G>,
+    watch: &W,
     session: &mut Session,
     begun: Begun,
-    gate: &G,
-    workers: u8,
-    watch: &W,
 ) -> Result<Report, Fault>
-    requires crew { IsCrew workers }
+    requires crew { IsCrew executor.now.workers }
     requires whole { session.old.spoiled ≡ false }
     requires begun { (command : Command) × (start : ℕ) × IsBegun session.old command start begun }
     requires course { IsCourse (course_of session.old.database.needs begun.plan begun.deadline) }
     ensures done { (start : ℕ) (command : Command) → IsBegun session.old command start begun →
-        G.gives gate.now start →
-        IfOk result (λ report. IsCarriedOut workers (G.answers gate.now) (G.gives gate.now)
+        G.gives executor.now.gate.now start →
+        IfOk result (λ report. IsCarriedOut executor.now.workers
+        (G.answers executor.now.gate.now) (G.gives executor.now.gate.now)
         (with_line session.old session.old.line) command (told_of report) session.new) }
     ensures halt { IfErr result
         (IsHaltOf (course_of session.old.database.needs begun.plan begun.deadline)) }
@@ -133,17 +150,12 @@ fn carry_out<R: Threads + Wait + Sync, G: Gate, W: Watch>(
         (λ fault. LeavesSession (with_line session.old session.old.line) fault session.new) }
     ensures closed { session.new.begun ≡ false }
 {
-    let deadline = begun.deadline();
-    match played(
-        rt,
-        alloc,
-        session.db().graph(),
-        begun.plan(),
-        deadline,
-        gate,
-        workers,
-        watch,
-    ) {
+    let course = Course {
+        graph: session.db().graph(),
+        plan: begun.plan(),
+        deadline: begun.deadline(),
+    };
+    match played(executor, watch, &course) {
         Ok(run) => Ok(session.complete(begun, run)),
         Err(Halt::Memory) => {
             session.abandon(begun);

@@ -1,4 +1,4 @@
-//! Workers in threads of their own, over one board under a lock.
+//! Workers over one board under a lock: the caller, and others in threads of their own.
 
 ghost use Rattle.std.specs.Prelude.{◌≡◌, ◌≤◌, ◌+◌, [], All, Option, IfOk, IfSome, IsTrue};
 ghost use Rattle.std.specs.Prelude.{vec_len, vec_capacity};
@@ -6,14 +6,15 @@ ghost use Rattle.rc_model.specs.Beside.{planned_count};
 ghost use Rattle.rc_board.specs.Pads.{Written, AreSaid};
 
 use crate::board::{Board, Start};
+use crate::executor::Executor;
 use crate::gate::Gate;
 use crate::glance::Glance;
 use crate::pad::Pad;
-use crate::watch::Watch;
+use crate::watch::{View, Watch};
 use crate::worker::work;
 use rc_core::Run;
 use rc_set::NoMem;
-use std::alloc::Global;
+use std::alloc::{AllocError, Global};
 use std::sync::{Condvar, Mutex, Wait};
 use std::thread;
 use std::thread::{Promise, PromisedHandle, Scope, Threads};
@@ -27,6 +28,30 @@ pub(crate) struct Shared {
     pub(crate) deadline: Option<u64>,
 }
 
+/// What each worker of a run has: the runtime that it waits with, the gate that makes its
+/// transitions, the watch, which it can only show glances to, and what all workers share.
+pub(crate) struct Crew<'a, R, G, W> {
+    pub(crate) rt: &'a R,
+    pub(crate) gate: &'a G,
+    watch: &'a W,
+    pub(crate) shared: &'a Shared,
+}
+
+impl<R, G, W> Clone for Crew<'_, R, G, W> {
+    fn clone(&self) -> Result<Self, AllocError> {
+        Ok(*self)
+    }
+}
+
+impl<R, G, W> Copy for Crew<'_, R, G, W> {}
+
+impl<R, G, W: Watch> Crew<'_, R, G, W> {
+    /// The watch, as workers have it.
+    pub(crate) fn view(&self) -> View<'_, W> {
+        View::new(self.watch)
+    }
+}
+
 /// What one worker owns. The glance is wanting where the watch wants no looks.
 #[derive(Drop)]
 pub(crate) struct Tools {
@@ -35,7 +60,7 @@ pub(crate) struct Tools {
 }
 
 /// What a worker promises of the pad that it hands back: all on it is what the gate may say, and
-/// each take is before the deadline.
+/// where it has a take, the gate may give a moment before the deadline.
 struct Said<'a, G> {
     gate: &'a G,
     deadline: Option<u64>,
@@ -76,7 +101,7 @@ pub(crate) fn tools_of(
 }
 
 /// A glance, where looks are wanted.
-pub(crate) fn glance_of(alloc: Global, run: &Run, looks: bool) -> Result<Option<Glance>, NoMem>
+fn glance_of(alloc: Global, run: &Run, looks: bool) -> Result<Option<Glance>, NoMem>
     requires { run.now.events ≡ [] }
 {
     if looks {
@@ -89,8 +114,7 @@ pub(crate) fn glance_of(alloc: Global, run: &Run, looks: bool) -> Result<Option<
 /// Has the workers make the run on the board, of whom the caller is worker 1, and gives their pads,
 /// that of worker 1 first. None: not all of the others could be started, and nothing was taken.
 pub(crate) fn run_crew<G: Gate, W: Watch, R: Threads + Wait + Sync>(
-    rt: &R,
-    gate: &G,
+    executor: &Executor<'_, R, G>,
     watch: &W,
     shared: &Shared,
     workers: u8,
@@ -101,9 +125,11 @@ pub(crate) fn run_crew<G: Gate, W: Watch, R: Threads + Wait + Sync>(
     requires tools { All (λ (tools : _). tools.pad.notes ≡ []) all.items }
     requires none { (pads.items ≡ []) × (vec_len pads ≡ 0) × (workers ≤ vec_capacity pads) }
     ensures said { IfSome result (λ pads. All (λ (pad : Written).
-        AreSaid (G.answers gate.now) (G.gives gate.now) shared.now.deadline pad.notes) pads.items) }
+        AreSaid (G.answers executor.now.gate.now) (G.gives executor.now.gate.now)
+        shared.now.deadline pad.notes) pads.items) }
     ensures count { IfSome result (λ pads. vec_len pads ≡ workers) }
 {
+    let (rt, gate) = (executor.rt, executor.gate);
     thread::scope(
         thread::scope_env(),
         rt,
@@ -118,7 +144,13 @@ pub(crate) fn run_crew<G: Gate, W: Watch, R: Threads + Wait + Sync>(
         {
             let mut all = all;
             let mut pads = pads;
-            if start_rest(scope, rt, gate, watch, shared, workers, &mut all, &mut pads) {
+            let crew = Crew {
+                rt,
+                gate,
+                watch,
+                shared,
+            };
+            if start_rest(scope, crew, workers, &mut all, &mut pads) {
                 Some(pads)
             } else {
                 None
@@ -132,10 +164,7 @@ pub(crate) fn run_crew<G: Gate, W: Watch, R: Threads + Wait + Sync>(
 /// False: one could not be started.
 fn start_rest<'s, E, G: Gate, W: Watch, R: Threads + Wait + Sync>(
     scope: &'s Scope<'s, E>,
-    rt: &'s R,
-    gate: &'s G,
-    watch: &'s W,
-    shared: &'s Shared,
+    crew: Crew<'s, R, G, W>,
     worker: u8,
     rest: &mut Vec<Tools>,
     pads: &mut Vec<Pad>,
@@ -143,54 +172,65 @@ fn start_rest<'s, E, G: Gate, W: Watch, R: Threads + Wait + Sync>(
     requires some { 1 ≤ worker }
     requires tools { All (λ (tools : _). tools.pad.notes ≡ []) rest.old.items }
     requires said { All (λ (pad : Written).
-        AreSaid (G.answers gate.now) (G.gives gate.now)
-        shared.now.deadline pad.notes) pads.old.items }
+        AreSaid (G.answers crew.gate.now) (G.gives crew.gate.now)
+        crew.shared.now.deadline pad.notes) pads.old.items }
     requires room { vec_len pads.old + worker ≤ vec_capacity pads.old }
     ensures said { All (λ (pad : Written).
-        AreSaid (G.answers gate.now) (G.gives gate.now)
-        shared.now.deadline pad.notes) pads.new.items }
+        AreSaid (G.answers crew.entry.gate.now) (G.gives crew.entry.gate.now)
+        crew.entry.shared.now.deadline pad.notes) pads.new.items }
     ensures bound { vec_len pads.new ≤ vec_len pads.old + worker }
     ensures all { IsTrue result → vec_len pads.new ≡ vec_len pads.old + worker }
     ensures capacity { vec_capacity pads.new ≡ vec_capacity pads.old }
 {
     let Some(tools) = rest.pop() else {
-        set_start(rt, shared, Start::GivenUp);
+        set_start(crew.rt, crew.shared, Start::GivenUp);
         return false;
     };
     if worker == 1 {
-        set_start(rt, shared, Start::Opened);
-        pads.push_reserved(work(rt, gate, watch, shared, worker, tools));
+        set_start(crew.rt, crew.shared, Start::Opened);
+        pads.push_reserved(work(&crew, worker, tools));
         return true;
     }
-    let Some(child) = started(scope, rt, gate, watch, shared, worker, tools) else {
-        set_start(rt, shared, Start::GivenUp);
+    let Some(child) = started(scope, crew, worker, tools) else {
+        set_start(crew.rt, crew.shared, Start::GivenUp);
         return false;
     };
-    let all = start_rest(scope, rt, gate, watch, shared, worker - 1, rest, pads);
-    pads.push_reserved(child.join(rt));
+    let all = start_rest(scope, crew, worker - 1, rest, pads);
+    pads.push_reserved(child.join(crew.rt));
     all
 }
 
 /// Starts a worker. None: it could not be started.
 fn started<'s, E, G: Gate, W: Watch, R: Threads + Wait + Sync>(
     scope: &'s Scope<'s, E>,
-    rt: &'s R,
-    gate: &'s G,
-    watch: &'s W,
-    shared: &'s Shared,
+    crew: Crew<'s, R, G, W>,
     worker: u8,
     tools: Tools,
 ) -> Option<PromisedHandle<Pad, Said<'s, G>>>
     requires { tools.pad.notes ≡ [] }
-    ensures gate { IfSome result (λ child. child.promise.gate.now ≡ gate.entry.now) }
+    ensures gate { IfSome result (λ child. child.promise.gate.now ≡ crew.entry.gate.now) }
     ensures deadline { IfSome result
-        (λ child. child.promise.deadline ≡ shared.entry.now.deadline) }
+        (λ child. child.promise.deadline ≡ crew.entry.shared.now.deadline) }
 {
+    let Crew {
+        rt,
+        gate,
+        watch,
+        shared,
+    } = crew;
     let body = move || -> Pad
         requires { tools.pad.notes ≡ [] }
         ensures { AreSaid (G.answers gate.entry.now) (G.gives gate.entry.now)
             shared.entry.now.deadline result.notes }
-    { work(rt, gate, watch, shared, worker, tools) };
+    {
+        let crew = Crew {
+            rt,
+            gate,
+            watch,
+            shared,
+        };
+        work(&crew, worker, tools)
+    };
     let said = Said {
         gate,
         deadline: shared.deadline,

@@ -2,8 +2,8 @@
 //! opening of the start, or a wait. And how the board that the workers leave is
 //! compared with what they wrote down.
 
-ghost use Rattle.std.specs.Prelude.{◌≡◌, ◌<◌, ◌≤◌, ◌↔◌, Option, None, length, IsTrue, IfOk, IfSome};
-ghost use Rattle.std.specs.Prelude.{IfNone, OnOk, OnErr, MatchBool};
+ghost use Rattle.std.specs.Prelude.{◌≡◌, ◌<◌, ◌≤◌, ◌↔◌, Option, None, length, IsTrue, IfOk, OnOk};
+ghost use Rattle.std.specs.Prelude.{OnErr, MatchBool};
 ghost use Rattle.rc_graph.specs.declared.Way.{Way};
 ghost use Rattle.rc_model.specs.declared.Event.{Event};
 ghost use Rattle.rc_model.specs.Run.{IsWorker, IsFree, IsLegal};
@@ -15,6 +15,7 @@ ghost use Rattle.rc_board.specs.Sight.{IsShown};
 ghost use Rattle.rc_board.specs.Interleaving.{IsMadeByPads};
 
 use crate::board::Board;
+use crate::fault::Strange;
 use crate::glance::Glance;
 use crate::interleaving::{are_interleaved, is_own};
 use crate::pad::Pad;
@@ -116,20 +117,19 @@ pub fn gather(
     deadline: Option<u64>,
     board: Board,
     pads: &[Pad],
-) -> Option<Ended>
+) -> Result<Ended, Strange>
     requires { length pads.now ≤ 64 }
-    ensures some { IfSome result (λ ended. ended ≡ board) }
-    ensures made { IfSome result
-        (λ ended. IsMadeByPads graph.now plan.now deadline pads.now board) }
-    ensures none { IfNone result (IsMadeByPads graph.now plan.now deadline pads.now board → ⊥) }
+    ensures ended { IfOk result (λ ended. ended ≡ board) }
+    ensures ok { OnOk result (IsMadeByPads graph.now plan.now deadline pads.now board) }
+    ensures err { OnErr result (IsMadeByPads graph.now plan.now deadline pads.now board → ⊥) }
 {
     let run = board.into_run();
     if run.is_of(graph, plan, deadline)
         && run.settled()
         && are_interleaved(plan.opening(), pads, run.trace())
     {
-        return Some(run.finish());
+        return Ok(run.finish());
     }
     drop(run);
-    None
+    Err(Strange)
 }

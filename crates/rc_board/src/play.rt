@@ -8,9 +8,10 @@ ghost use Rattle.rc_board.specs.Crew.{IsCrew};
 ghost use Rattle.rc_board.specs.Halting.{MayHalt};
 ghost use Rattle.rc_board.specs.Made.{AreMadeInTime};
 
-use crate::alone::played_alone;
 use crate::board::Board;
 use crate::crew::{Shared, Tools, run_crew, tools_of};
+use crate::executor::Executor;
+use crate::fault::Strange;
 use crate::gate::Gate;
 use crate::laws::gather;
 use crate::pad::Pad;
@@ -44,43 +45,45 @@ impl From<AllocError> for Halt {
     }
 }
 
+/// What is to be made: a plan, and the moment from which its run is to be stopped.
+#[derive(Drop)]
+pub(crate) struct Course<'a> {
+    pub(crate) graph: &'a Graph,
+    pub(crate) plan: &'a Plan,
+    pub(crate) deadline: Option<u64>,
+}
+
 /// Has workers make the run of a plan, of whom the caller is the first. No more are started than
 /// there are services to move. All room that they will need is made before.
 pub(crate) fn played<R: Threads + Wait + Sync, G: Gate, W: Watch>(
-    rt: &R,
-    alloc: Global,
-    graph: &Graph,
-    plan: &Plan,
-    deadline: Option<u64>,
-    gate: &G,
-    workers: u8,
+    executor: &Executor<'_, R, G>,
     watch: &W,
+    course: &Course<'_>,
 ) -> Result<Ended, Halt>
-    requires crew { IsCrew workers }
-    requires course { IsCourse (course_of graph.now plan.now deadline) }
-    ensures course { IfOk result (λ ended. ended.course ≡ course_of graph.now plan.now deadline) }
-    ensures settled { IfOk result
-        (λ ended. IsSettled (course_of graph.now plan.now deadline) ended.events) }
-    ensures made { IfOk result (λ ended.
-        AreMadeInTime workers (G.answers gate.now) (G.gives gate.now) deadline plan.now.opening
-        ended.events) }
-    ensures idle { IfOk result (λ ended.
-        ((s : ℕ) → IsPlanned (course_of graph.now plan.now deadline) s → ⊥) → ended.events ≡ []) }
-    ensures halt { IfErr result (MayHalt (course_of graph.now plan.now deadline)) }
+    requires crew { IsCrew executor.now.workers }
+    requires course { IsCourse
+        (course_of course.now.graph.now course.now.plan.now course.now.deadline) }
+    ensures course { IfOk result (λ ended.
+        ended.course ≡ course_of course.now.graph.now course.now.plan.now course.now.deadline) }
+    ensures settled { IfOk result (λ ended. IsSettled
+        (course_of course.now.graph.now course.now.plan.now course.now.deadline) ended.events) }
+    ensures made { IfOk result (λ ended. AreMadeInTime executor.now.workers
+        (G.answers executor.now.gate.now) (G.gives executor.now.gate.now) course.now.deadline
+        course.now.plan.now.opening ended.events) }
+    ensures idle { IfOk result (λ ended. ((s : ℕ) → IsPlanned
+        (course_of course.now.graph.now course.now.plan.now course.now.deadline) s → ⊥) →
+        ended.events ≡ []) }
+    ensures halt { IfErr result
+        (MayHalt (course_of course.now.graph.now course.now.plan.now course.now.deadline)) }
 {
-    let run = Run::open(alloc, graph, plan, deadline)?;
+    let run = Run::open(executor.alloc, course.graph, course.plan, course.deadline)?;
     let planned = run.planned();
     if planned == 0 {
         return Ok(run.finish());
     }
-    let crew = crew_for(workers, planned);
-    if crew == 1 {
-        return played_alone(alloc, run, deadline, gate, watch);
-    }
-    match room_for(alloc, &run, crew, watch.wants_looks()) {
-        Ok(Room { tools, pads }) => worked(
-            rt, graph, plan, deadline, gate, crew, watch, run, tools, pads,
-        ),
+    let workers = crew_for(executor.workers, planned);
+    match room_for(executor.alloc, &run, workers, watch.wants_looks()) {
+        Ok(room) => worked(executor, watch, course, workers, run, room),
         Err(_) => {
             drop(run);
             Err(Halt::Memory)
@@ -127,36 +130,38 @@ fn crew_for(workers: u8, planned: usize) -> u8
 }
 
 /// Has workers make a run in which something is to move. Takes no memory but that of their threads.
+/// They may be fewer than the executor has.
 fn worked<R: Threads + Wait + Sync, G: Gate, W: Watch>(
-    rt: &R,
-    graph: &Graph,
-    plan: &Plan,
-    deadline: Option<u64>,
-    gate: &G,
-    workers: u8,
+    executor: &Executor<'_, R, G>,
     watch: &W,
+    course: &Course<'_>,
+    workers: u8,
     run: Run,
-    tools: Vec<Tools>,
-    pads: Vec<Pad>,
+    room: Room,
 ) -> Result<Ended, Halt>
     requires crew { IsCrew workers }
-    requires work { (s : ℕ) × IsPlanned (course_of graph.now plan.now deadline) s }
-    requires tools { All (λ (tools : _). tools.pad.notes ≡ []) tools.items }
-    requires pads { (pads.items ≡ []) × (vec_len pads ≡ 0) × (workers ≤ vec_capacity pads) }
-    ensures course { IfOk result (λ ended. ended.course ≡ course_of graph.now plan.now deadline) }
-    ensures settled { IfOk result
-        (λ ended. IsSettled (course_of graph.now plan.now deadline) ended.events) }
-    ensures made { IfOk result (λ ended.
-        AreMadeInTime workers (G.answers gate.now) (G.gives gate.now) deadline plan.now.opening
-        ended.events) }
-    ensures halt { IfErr result (MayHalt (course_of graph.now plan.now deadline)) }
+    requires work { (s : ℕ) × IsPlanned
+        (course_of course.now.graph.now course.now.plan.now course.now.deadline) s }
+    requires tools { All (λ (tools : _). tools.pad.notes ≡ []) room.tools.items }
+    requires pads { (room.pads.items ≡ []) × (vec_len room.pads ≡ 0)
+        × (workers ≤ vec_capacity room.pads) }
+    ensures course { IfOk result (λ ended.
+        ended.course ≡ course_of course.now.graph.now course.now.plan.now course.now.deadline) }
+    ensures settled { IfOk result (λ ended. IsSettled
+        (course_of course.now.graph.now course.now.plan.now course.now.deadline) ended.events) }
+    ensures made { IfOk result (λ ended. AreMadeInTime workers
+        (G.answers executor.now.gate.now) (G.gives executor.now.gate.now) course.now.deadline
+        course.now.plan.now.opening ended.events) }
+    ensures halt { IfErr result
+        (MayHalt (course_of course.now.graph.now course.now.plan.now course.now.deadline)) }
 {
+    let Room { tools, pads } = room;
     let shared = Shared {
         board: Mutex::new(Board::new(run)),
         changed: Condvar::new(),
-        deadline,
+        deadline: course.deadline,
     };
-    let pads = run_crew(rt, gate, watch, &shared, workers, tools, pads);
+    let pads = run_crew(executor, watch, &shared, workers, tools, pads);
     let Shared {
         board,
         changed: _,
@@ -167,8 +172,8 @@ fn worked<R: Threads + Wait + Sync, G: Gate, W: Watch>(
         drop(board);
         return Err(Halt::NoThread);
     };
-    match gather(graph, plan, deadline, board, &pads) {
-        Some(ended) => Ok(ended),
-        None => Err(Halt::Strange),
+    match gather(course.graph, course.plan, course.deadline, board, &pads) {
+        Ok(ended) => Ok(ended),
+        Err(Strange) => Err(Halt::Strange),
     }
 }

@@ -4,8 +4,9 @@ ghost use Rattle.rc_board.specs.Timing.{IsTimeOf};
 
 use crate::gate::Gate;
 
-/// The leave to take one service. It is made by asking the gate for the moment, is given up where a
-/// service is taken, and can't be copied: so the gate is asked before each take.
+/// The leave to take one service: there is no deadline, or the gate gave a moment before it. A
+/// worker asks the gate for one before each take and gives it up with that, but no clause says so:
+/// the clauses say that the gate may give such a moment, and tests that it is asked each time.
 #[derive(Drop)]
 pub(crate) struct Leave {
     /// The moment that it was, where there is a deadline.

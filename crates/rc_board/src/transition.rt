@@ -4,7 +4,7 @@
 //! gate make it, and what was made must be reported to the board.
 
 ghost use Rattle.std.specs.Prelude.{◌≡◌};
-ghost use Rattle.rc_board.specs.Asking.{EntersEnd, IsAnswered};
+ghost use Rattle.rc_board.specs.Asking.{EntersEnd, IsMadeOf};
 
 use crate::board::Board;
 use crate::gate::Gate;
@@ -20,6 +20,7 @@ pub(crate) struct Taken {
 
 /// A transition that a worker has made. `enter` alone spends it.
 pub(crate) struct Made {
+    worker: u8,
     service: u16,
     way: Way,
     outcome: Outcome,
@@ -37,13 +38,15 @@ impl Taken {
 /// Has the gate make the transition of a job, with nothing locked.
 #[inline(always)]
 pub(crate) fn make<G: Gate>(gate: &G, taken: Taken) -> Made
-    ensures { IsAnswered (G.answers gate.now) result }
+    ensures { IsMadeOf (G.answers gate.now) taken result }
 {
     let Taken { job } = taken;
+    let worker = job.worker();
     let service = job.service();
     let way = job.way();
     let outcome = gate.run(job);
     Made {
+        worker,
         service,
         way,
         outcome,
@@ -51,13 +54,14 @@ pub(crate) fn make<G: Gate>(gate: &G, taken: Taken) -> Made
 }
 
 impl Made {
-    /// Reports to the board how a transition ended, and writes it down, where there is room and the
-    /// board accepts it.
+    /// Reports to the board how a transition ended, as the worker that took its job, and writes it
+    /// down, where there is room and the board accepts it.
     #[inline(always)]
-    pub(crate) fn enter(self, board: &mut Board, pad: &mut Pad, worker: u8)
-        ensures { EntersEnd board.old pad.old worker self board.new pad.new }
+    pub(crate) fn enter(self, board: &mut Board, pad: &mut Pad)
+        ensures { EntersEnd board.old pad.old self board.new pad.new }
     {
         let Made {
+            worker,
             service,
             way,
             outcome,

@@ -7,11 +7,12 @@
 //! when nothing will be taken any more.
 
 ghost use Rattle.std.specs.Prelude.{◌≡◌, []};
-ghost use Rattle.rc_board.specs.Asking.{NotesAsked};
+ghost use Rattle.rc_model.specs.declared.Outcome.{Outcome};
+ghost use Rattle.rc_board.specs.Asking.{NotesAsked, NotesEnd};
 ghost use Rattle.rc_board.specs.Pads.{AreSaid};
 
 use crate::board::{Board, Start};
-use crate::crew::{Shared, Tools};
+use crate::crew::{Crew, Shared, Tools};
 use crate::gate::Gate;
 use crate::glance::Glance;
 use crate::laws::{hold_look, hold_stop, hold_take};
@@ -35,28 +36,26 @@ pub(crate) enum Asked {
 
 /// Waits for the start, makes transitions until there are none to make, and hands the pad back.
 pub(crate) fn work<G: Gate, W: Watch, R: Wait>(
-    rt: &R,
-    gate: &G,
-    watch: &W,
-    shared: &Shared,
+    crew: &Crew<'_, R, G, W>,
     worker: u8,
     tools: Tools,
 ) -> Pad
     requires { tools.pad.notes ≡ [] }
-    ensures { AreSaid (G.answers gate.now) (G.gives gate.now) shared.now.deadline result.notes }
+    ensures { AreSaid (G.answers crew.now.gate.now) (G.gives crew.now.gate.now)
+        crew.now.shared.now.deadline result.notes }
 {
     let Tools { pad, glance } = tools;
     let mut pad = pad;
     let mut glance = glance;
-    if !await_start(rt, shared) {
+    if !await_start(crew.rt, crew.shared) {
         return pad;
     }
-    for _ in rt.forever() {
-        if !turn(rt, gate, watch, shared, worker, &mut pad, &mut glance) {
+    for _ in crew.rt.forever() {
+        if !turn(crew, worker, &mut pad, &mut glance) {
             break;
         }
     }
-    shared.changed.notify_all();
+    crew.shared.changed.notify_all();
     pad
 }
 
@@ -74,40 +73,39 @@ fn await_start<R: Wait>(rt: &R, shared: &Shared) -> bool {
 /// there is none yet, it waits for a change. False: nothing is left to do for this worker.
 #[inline(always)]
 fn turn<G: Gate, W: Watch, R: Wait>(
-    rt: &R,
-    gate: &G,
-    watch: &W,
-    shared: &Shared,
+    crew: &Crew<'_, R, G, W>,
     worker: u8,
     pad: &mut Pad,
     glance: &mut Option<Glance>,
 ) -> bool
-    requires { AreSaid (G.answers gate.now) (G.gives gate.now) shared.now.deadline pad.old.notes }
-    ensures { AreSaid (G.answers gate.now) (G.gives gate.now) shared.now.deadline pad.new.notes }
+    requires { AreSaid (G.answers crew.now.gate.now) (G.gives crew.now.gate.now)
+        crew.now.shared.now.deadline pad.old.notes }
+    ensures { AreSaid (G.answers crew.now.gate.now) (G.gives crew.now.gate.now)
+        crew.now.shared.now.deadline pad.new.notes }
 {
-    let time = time_of(gate, shared.deadline);
-    let mut guard = locked(rt, shared);
+    let time = time_of(crew.gate, crew.shared.deadline);
+    let mut guard = locked(crew.rt, crew.shared);
     let asked = next_on(&mut guard, pad, worker, time);
     match asked {
         Asked::Job(taken) => {
-            let_go(shared, guard);
+            let_go(crew.shared, guard);
             let Some(glance) = glance else {
-                transit(rt, gate, shared, worker, pad, taken);
+                transit(crew, pad, taken);
                 return true;
             };
-            look(rt, shared, worker, pad, glance, watch);
-            transit(rt, gate, shared, worker, pad, taken);
-            look(rt, shared, worker, pad, glance, watch);
+            look(crew, worker, pad, glance);
+            transit(crew, pad, taken);
+            look(crew, worker, pad, glance);
             true
         }
         Asked::Again => {
-            await_change(rt, shared, guard);
+            await_change(crew.rt, crew.shared, guard);
             true
         }
         Asked::Stopped => {
             drop(guard);
             if let Some(glance) = glance {
-                look(rt, shared, worker, pad, glance, watch);
+                look(crew, worker, pad, glance);
             }
             false
         }
@@ -121,20 +119,16 @@ fn turn<G: Gate, W: Watch, R: Wait>(
 /// Has the gate make the transition of a job, and reports to the board how it ended, in a hold of
 /// its own. It wakes nobody, since this worker asks for the next job after it.
 #[inline(always)]
-fn transit<G: Gate, R: Wait>(
-    rt: &R,
-    gate: &G,
-    shared: &Shared,
-    worker: u8,
-    pad: &mut Pad,
-    taken: Taken,
-)
-    requires { AreSaid (G.answers gate.now) (G.gives gate.now) shared.now.deadline pad.old.notes }
-    ensures { AreSaid (G.answers gate.now) (G.gives gate.now) shared.now.deadline pad.new.notes }
+fn transit<G: Gate, W: Watch, R: Wait>(crew: &Crew<'_, R, G, W>, pad: &mut Pad, taken: Taken)
+    requires { AreSaid (G.answers crew.now.gate.now) (G.gives crew.now.gate.now)
+        crew.now.shared.now.deadline pad.old.notes }
+    ensures said { AreSaid (G.answers crew.now.gate.now) (G.gives crew.now.gate.now)
+        crew.now.shared.now.deadline pad.new.notes }
+    ensures end { (outcome : Outcome) × NotesEnd pad.old taken outcome pad.new }
 {
-    let made = make(gate, taken);
-    let mut guard = locked(rt, shared);
-    made.enter(&mut guard, pad, worker);
+    let made = make(crew.gate, taken);
+    let mut guard = locked(crew.rt, crew.shared);
+    made.enter(&mut guard, pad);
     drop(guard);
 }
 
@@ -186,20 +180,18 @@ fn next_on(board: &mut Board, pad: &mut Pad, worker: u8, time: Time) -> Asked
 }
 
 /// Looks at the board, and shows it to the watch with nothing locked.
-fn look<R: Wait, W: Watch>(
-    rt: &R,
-    shared: &Shared,
+fn look<G: Gate, W: Watch, R: Wait>(
+    crew: &Crew<'_, R, G, W>,
     worker: u8,
     pad: &Pad,
     glance: &mut Glance,
-    watch: &W,
 ) {
     // A look may take its time, so one that waits may go on.
-    shared.changed.notify_one();
-    let guard = shared.board.lock(rt);
+    crew.shared.changed.notify_one();
+    let guard = crew.shared.board.lock(crew.rt);
     let fits = hold_look(&guard, pad, worker, glance);
     drop(guard);
     if fits {
-        watch.look(glance);
+        crew.view().show(glance, pad, worker);
     }
 }

@@ -23,7 +23,7 @@ use Rattle.rc_cli.specs.Begun.{AreLowered, BeginsOn, BeginsUpdate, SaysLowering,
 use Rattle.rc_script.specs.declared.line.SessionLine.{SessionLine}
 use Rattle.rc_script.specs.declared.line.SessionLine.TheVariants as line_says
 use Rattle.rc_script.specs.Says.{saying_of}
-use Rattle.rc_session.specs.declared.step.Step.{Step}
+use Rattle.rc_session.specs.declared.step.Command.{Command as Plain}
 
 -- no byte of a line is its newline
 no_newline : (line : List ℕ) → (Contains line 10 → ⊥)
@@ -175,10 +175,10 @@ update_same old new list file log d e answer one from to begins = (
 
 -- a line that was read as no step says none
 pub not_step : (read : SessionLine) (command : Command)
-    → ((step : Step) → read ≡ line_says.Step step → ⊥) → saying_of read ≡ SaysStep command → ⊥
+    → ((plain : Plain) → read ≡ line_says.Command plain → ⊥) → saying_of read ≡ SaysStep command → ⊥
 not_step line_says.Nothing command none is = let e = is in cc
 not_step line_says.Wrong command none is = let e = is in cc
-not_step (line_says.Step step) command none is = none step refl
+not_step (line_says.Command plain) command none is = none plain refl
 not_step (line_says.Dry request) command none is = let e = is in cc
 not_step line_says.Live command none is = let e = is in cc
 not_step line_says.Bundles command none is = let e = is in cc

@@ -1,5 +1,5 @@
--- What queries find are services, and what is so of the input that is read.
-use Rattle.std.proofs.Common.{◌≡◌, ℕ, ◌<◌, inl, inr, List, Bool, [], ◌∷◌, ◌++◌, None, Option, Some}
+-- What queries find are services.
+use Rattle.std.proofs.Common.{◌≡◌, ℕ, ◌<◌, inl, inr, List, Bool, [], ◌∷◌, ◌++◌, Some}
 use Rattle.std.proofs.Common.{length, All, slice_index_or, sym, subst, arith}
 use Rattle.std.proofs.lemmas.List.Elements.{All-contains_itself}
 use Rattle.std.proofs.lemmas.Option.{slice_get_within}
@@ -14,7 +14,6 @@ use Rattle.rc_graph.proofs.RowLemmas.{needer_known}
 use Rattle.rc_model.specs.Database.{value_of, Database, IsDatabase, Selected}
 use Rattle.rc_db.proofs.Words.{bound_of_value}
 use Rattle.rc_cli.specs.DbAnswer.{IsFound}
-use Rattle.rc_cli.specs.DbFaults.{IfRead}
 use Rattle.rc_args.specs.declared.cmdline.query_words.NamesQuery.{NamesQuery}
 use Rattle.rc_args.specs.declared.cmdline.query_words.NamesQuery.TheVariants.{Atomics, Dependencies}
 use Rattle.rc_args.specs.declared.cmdline.query_words.NamesQuery.TheVariants.{AllDependencies}
@@ -80,10 +79,3 @@ found_within d Lower AllDependencies In s held within found = elim found [
   | inl here ↦ within s here
   | inr there ↦ reacher_within d s there.2.0 there.0 held there.2.1
 ]
-
--- what follows of the input that is read
-pub if_read_then : (base remaining : Option (List ℕ)) (P Q : List ℕ → Type 0)
-    → ((input : List ℕ) → P input → Q input) → IfRead base remaining P → IfRead base remaining Q
-if_read_then (Some bytes) remaining P Q then h = then [] h
-if_read_then None None P Q then h = tt
-if_read_then None (Some input) P Q then h = then input h

@@ -16,12 +16,12 @@ mod RestartedLemmas
 mod RunLemmas
 -- Words that name services, one by one.
 mod NamedLemmas
--- What `plan` writes and refuses for a spelled database, from the calls that it makes.
-mod PlanLemmas
--- What queries find are services, and what is so of the input that is read.
+-- What queries find are services.
 mod DbLemmas
 -- What is so of a database with its input, and where there is none.
 mod OpenedLemmas
+-- What a query comes to, and what is printed for it.
+mod QueryLemmas
 -- Answers, one after the other.
 mod Telling
 -- How the two steps of an update are served, and how it ends.

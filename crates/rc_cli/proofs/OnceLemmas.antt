@@ -7,7 +7,7 @@ use Rattle.rc_graph.specs.declared.Way.{Way}
 use Rattle.rc_model.specs.Database.{Database}
 use Rattle.rc_model.specs.Line.{Line}
 use Rattle.rc_model.specs.declared.Outcome.{Outcome}
-use Rattle.rc_model.specs.Session.{Command, events_of}
+use Rattle.rc_model.specs.Session.{Command}
 use Rattle.rc_session.specs.Holding.{Holding}
 use Rattle.rc_script.specs.Says.{Saying, SaysNothing, SaysWrong, SaysStep, SaysDry, SaysLive}
 use Rattle.rc_script.specs.Says.{SaysBundles, SaysJournal}
@@ -22,17 +22,12 @@ use Rattle.rc_serve.specs.Ending.{StopsOnce, ending_of}
 use Rattle.rc_serve.specs.Faults.{IsOfLine, IsServeFault, StandsAt}
 use Rattle.rc_serve.specs.Meeting.{IsDoneBy, Meets, WantsWork}
 use Rattle.rc_serve.specs.Keeping.{IsKeptUp, Keeping}
-use Rattle.rc_args.specs.OnceAsked.{HasNoEvents, OnceSaying, Said}
+use Rattle.rc_args.specs.OnceAsked.{OnceSaying, Said}
 use Rattle.rc_cli.specs.Once.{ArrivesOnce, EndsOnce, HoldsOnce, IsCommand, ServedOnce}
 use Rattle.rc_cli.specs.Once.{StopsLine, WantsWorkOnce}
 use Rattle.rc_cli.specs.Storing.{HoldsText}
 use Rattle.rc_cli.proofs.SessionLemmas.{fault_wider}
 use Rattle.rc_cli.proofs.ServingLemmas.{kept_up, of_file}
-
--- what brings no events brings none as a command
-pub no_events : (saying : Saying) (command : Command) → HasNoEvents (Said saying)
-    → saying ≡ SaysStep command → events_of command ≡ []
-no_events saying command none is = subst (λ (s : Saying). HasNoEvents (Said s)) is none
 
 -- a store that is left alone holds what one line that is not kept asks of it
 pub holds_alone : (path : Option Path) (held : Option (List ℕ)) (d : Database) (saying : Saying)

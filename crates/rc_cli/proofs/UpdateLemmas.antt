@@ -1,5 +1,5 @@
 -- How the two steps of an update are served, and how it ends.
-use Rattle.std.proofs.Common.{All, ◌≡◌, ◌≢◌, ◌≤◌, ◌∙◌, ◌++◌, ◌∷◌, ℕ, Bool, true, false, List, []}
+use Rattle.std.proofs.Common.{All, ◌≡◌, ◌≢◌, ◌≤◌, ◌∙◌, ◌++◌, ◌∷◌, ℕ, Bool, false, List, []}
 use Rattle.std.proofs.Common.{Bor, MatchOption, None, Option, Result, Ok, Err, IfErr}
 use Rattle.std.proofs.Common.{inl, inr, ap, refl, sym, subst}
 use Rattle.std.proofs.lemmas.List.Elements.{All-cons, All-nil}
@@ -8,10 +8,8 @@ use Rattle.rc_graph.specs.declared.Way.{Way}
 use Rattle.rc_graph.specs.declared.Way.TheVariants.{Lower, Raise}
 use Rattle.rc_model.specs.Database.{Database}
 use Rattle.rc_model.specs.Line.{IsLine, Line, states, State}
-use Rattle.rc_model.specs.Plan.{Ask}
 use Rattle.rc_session.specs.Holding.{Holding}
 use Rattle.rc_line.specs.Opening.{Journal}
-use Rattle.rc_script.specs.Says.{Saying}
 use Rattle.rc_runner.specs.Gates.{gate_answers, gate_gives}
 use Rattle.rc_runner.specs.declared.session_gate.SessionGate.{SessionGate}
 use Rattle.rc_serve.specs.declared.ending.Ending.{Ending}
@@ -19,7 +17,7 @@ use Rattle.rc_serve.specs.declared.ending.Ending.TheVariants.{Done}
 use Rattle.rc_serve.specs.declared.fault.ServeFault.{ServeFault}
 use Rattle.rc_serve.specs.Ending.{EndsIn, IsDoneAs}
 use Rattle.rc_args.specs.Listed.{Listed}
-use Rattle.rc_args.specs.OnceAsked.{HasNoEvents, OnceSaying, Said}
+use Rattle.rc_args.specs.OnceAsked.{OnceSaying}
 use Rattle.rc_args.specs.Programs.{MakingAsk}
 use Rattle.rc_cli.specs.Filing.{BeginsBy, file_named}
 use Rattle.rc_cli.specs.Gating.{IsGateFor, IsGateless}
@@ -27,7 +25,7 @@ use Rattle.rc_cli.specs.Once.{ServedOnce, ServesOnce}
 use Rattle.rc_cli.specs.Services.{IsDoneFor}
 use Rattle.rc_cli.specs.Serving.{session_on}
 use Rattle.rc_cli.specs.SessionFaults.{IsFileFault}
-use Rattle.rc_cli.specs.Steps.{ended_by, ending_behind, lowering, raising, step_by}
+use Rattle.rc_cli.specs.Steps.{ended_by, ending_behind, lowering, raising}
 use Rattle.rc_cli.specs.declared.sessions.keeping.LiveFile.{LiveFile}
 use Rattle.rc_cli.specs.declared.sessions.session_fault.SessionFault.{SessionFault}
 use Rattle.rc_cli.specs.declared.sessions.session_fault.SessionFault.TheVariants.{OfText, Unknown}
@@ -40,16 +38,6 @@ use Rattle.rc_args.specs.UpdateAsked.{UpdateAsk}
 use Rattle.rc_cli.specs.Updating.{IsUpdate, Parts, ServedBoth, Updated, carried_line, listed_by}
 use Rattle.rc_cli.specs.Updating.{listed_on, making_on, session_with}
 use Rattle.rc_cli.specs.UpdateEnds.{AreFoundInBoth, AreGateless, IsUnreadyUpdate, RunsUpdate}
-
--- a step brings no events
-pub step_eventless : (dry : Bool) (ask : Ask) → HasNoEvents (Said (step_by dry ask))
-step_eventless true ask = tt
-step_eventless false ask = refl
-
-pub says_eventless : (dry : Bool) (ask : Ask) (saying : Saying) → saying ≡ step_by dry ask
-    → HasNoEvents (Said saying)
-says_eventless dry ask saying is =
-    subst (λ (s : Saying). HasNoEvents (Said s)) (sym is) (step_eventless dry ask)
 
 -- a session that stands so has no run begun, and is not poisoned
 pub stands_closed : (session : Holding) (d : Database) (line : Line) → session ≡ session_on d line

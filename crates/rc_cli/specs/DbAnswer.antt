@@ -1,6 +1,6 @@
 -- What is printed for a question, and when it is refused.
-use Rattle.std.specs.Prelude.{◌≡◌, ◌≢◌, ℕ, Bool, true, false, List, [], All, Option, None, Some}
-use Rattle.std.specs.Prelude.{codes, slice_get}
+use Rattle.std.specs.Prelude.{◌≡◌, ◌⊎◌, ◌∷◌, ℕ, Bool, true, false, List, [], All, Option, None}
+use Rattle.std.specs.Prelude.{Some, codes, slice_get}
 use Rattle.std.specs.Fmt.{decimal}
 use Rattle.clap.specs.Words.{Text}
 use Rattle.rc_model.specs.declared.Kind.{Kind}
@@ -15,11 +15,10 @@ use Rattle.rc_db.specs.Service.{limit_of, script_of}
 use Rattle.rc_db.specs.QueryFaults.{AnyName, Asked, IsNamesFault, IsQueryFault, OfBundle, OfLongrun}
 use Rattle.rc_db.specs.QueryFaults.{OfOneshot, OfService}
 use Rattle.rc_db.specs.declared.fault.QueryFault.{QueryFault}
-use Rattle.rc_db.specs.declared.fault.QueryFault.TheVariants as wrong
 use Rattle.rc_db.specs.declared.which.Which.{Which}
 use Rattle.rc_model.specs.Line.{Line, Lists}
 use Rattle.rc_livetext.specs.LiveFaults.{IsLiveFault}
-use Rattle.rc_livetext.specs.declared.fault.LiveFault.TheVariants as live
+use Rattle.rc_livetext.specs.declared.fault.LiveFault.{LiveFault}
 use Rattle.rc_livetext.specs.Spelling as texts
 use Rattle.rc_render.specs.DotText.{dot_text}
 use Rattle.rc_render.specs.Lines.{line, name_lines, names_at}
@@ -30,9 +29,11 @@ use Rattle.rc_args.specs.declared.cmdline.query_words.NameQuery.{NameQuery}
 use Rattle.rc_args.specs.declared.cmdline.query_words.NameQuery.TheVariants as of_name
 use Rattle.rc_args.specs.declared.cmdline.query_words.NamesQuery.{NamesQuery}
 use Rattle.rc_args.specs.declared.cmdline.query_words.NamesQuery.TheVariants as of_names
-use Rattle.rc_cli.specs.declared.queries.db_fault.DbFault.{DbFault}
-use Rattle.rc_cli.specs.declared.queries.db_fault.DbFault.TheVariants.{OfText, OfQuery, OfLive}
-use Rattle.rc_cli.specs.declared.queries.db_fault.DbFault.TheVariants.{Memory}
+use Rattle.rc_streams.specs.declared.input.Failure.TheVariants.{Memory}
+use Rattle.rc_cli.specs.Faults.{IsFromLive}
+use Rattle.rc_cli.specs.DbFaults.{IsFromQuery, OrMemory}
+use Rattle.rc_cli.specs.declared.fault.Fault.{Fault}
+use Rattle.rc_cli.specs.declared.fault.Fault.TheVariants.{Device}
 
 -- the names of the services of which this holds, one a line, in byte order
 abbrev pub IsListed : Database → (ℕ → Type 0) → List ℕ → Type 0
@@ -136,32 +137,23 @@ IsAnswerOf d ask shown (OfNames query names) text = IsNamesAnswer d ask.way quer
 abbrev pub IsAnswerTo : Database → DbAsk → Option (List ℕ) → List ℕ → Type 0
 IsAnswerTo d ask shown text = IsAnswerOf d ask shown ask.question text
 
--- a fault that is one of a query, or out of memory
-abbrev pub IsOfQuery : (QueryFault → Type 0) → DbFault → Type 0
-IsOfQuery Is (OfText fault) = ⊥
-IsOfQuery Is (OfQuery fault) = (fault ≢ wrong.Memory) × Is fault
-IsOfQuery Is (OfLive fault) = ⊥
-IsOfQuery Is Memory = Unit {0}
-
 -- a fault of the text of the session that is to be shown: it is none of the database; or out of
 -- memory
-abbrev pub IsShownFault : Database → Option (List ℕ) → DbFault → Type 0
-IsShownFault d shown (OfText fault) = ⊥
-IsShownFault d shown (OfQuery fault) = ⊥
-IsShownFault d None (OfLive fault) = ⊥
-IsShownFault d (Some bytes) (OfLive fault) = (fault ≢ live.Memory) × IsLiveFault d bytes fault
-IsShownFault d shown Memory = Unit {0}
+abbrev pub IsShownFault : Database → Option (List ℕ) → Fault → Type 0
+IsShownFault d None fault = fault ≡ Device Memory
+IsShownFault d (Some bytes) fault = (fault ≡ Device Memory)
+    ⊎ ((wrong : LiveFault) × IsLiveFault d bytes wrong × IsFromLive wrong fault)
 
 -- when a question has no answer in a database: a picture where the session that it is to show is
 -- refused, a query of names where they are, and each where memory runs out
-abbrev pub IsUnanswered : Database → Option (List ℕ) → Question → DbFault → Type 0
-IsUnanswered d shown Check fault = fault ≡ Memory
+abbrev pub IsUnanswered : Database → Option (List ℕ) → Question → Fault → Type 0
+IsUnanswered d shown Check fault = fault ≡ Device Memory
 IsUnanswered d shown Dot fault = IsShownFault d shown fault
-IsUnanswered d shown (ListOf which) fault = fault ≡ Memory
-IsUnanswered d shown (OfName query name) fault =
-    IsOfQuery (IsQueryFault d (asked_by query) name) fault
-IsUnanswered d shown (OfNames query names) fault =
-    IsOfQuery (IsNamesFault d.names d.table names) fault
+IsUnanswered d shown (ListOf which) fault = fault ≡ Device Memory
+IsUnanswered d shown (OfName query name) fault = (wrong : QueryFault)
+    × OrMemory (IsQueryFault d (asked_by query) name) wrong × IsFromQuery wrong (name ∷ []) fault
+IsUnanswered d shown (OfNames query names) fault = (wrong : QueryFault)
+    × OrMemory (IsNamesFault d.names d.table names) wrong × IsFromQuery wrong names fault
 
 -- what is written for what is asked, in the database that is spelled, where this is
 -- the text of the session to show

@@ -1,9 +1,11 @@
 -- What the program decides of the files and of the messages of a session.
-use Rattle.std.specs.Prelude.{◌≡◌, ℕ, Bool, true, false, List, Option, None, Some}
+use Rattle.std.specs.Prelude.{◌≡◌, ℕ, List, Option, None, Some}
 use Rattle.log.specs.declared.level.LevelFilter.{LevelFilter}
 use Rattle.log.specs.declared.level.LevelFilter.TheVariants.{Info, Off, Warn}
 use Rattle.rc_script.specs.Says.{SaysStep}
 use Rattle.rc_args.specs.OnceAsked.{OnceSaying, Said}
+use Rattle.rc_args.specs.declared.verbosity.Verbosity.{Verbosity}
+use Rattle.rc_args.specs.declared.verbosity.Verbosity.TheVariants.{Failures, Quiet, Transitions}
 use Rattle.rc_cli.specs.declared.sessions.keeping.LiveFile.{LiveFile}
 use Rattle.rc_cli.specs.declared.sessions.keeping.LiveFile.TheVariants.{Missing, Text, Unread}
 
@@ -21,10 +23,8 @@ IsFound None (Text bytes) = ⊥
 IsFound (Some held) Missing = ⊥
 IsFound (Some held) (Text bytes) = bytes.now ≡ held
 
--- up to which level messages are written: that of each transition where it is asked; else that of
--- those which do not succeed, where one line is served and they are not to be silent; else none
-abbrev pub level_by : (tells alone quiet : Bool) → LevelFilter
-level_by true alone quiet = Info
-level_by false true false = Warn
-level_by false true true = Off
-level_by false false quiet = Off
+-- up to which level messages are written where these transitions are reported
+abbrev pub level_by : Verbosity → LevelFilter
+level_by Quiet = Off
+level_by Failures = Warn
+level_by Transitions = Info

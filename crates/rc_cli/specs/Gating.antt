@@ -1,11 +1,13 @@
 -- The gate by which the transitions of a session are made.
-use Rattle.std.specs.Prelude.{◌≡◌, [], Bool, Option, option_map}
+use Rattle.std.specs.Prelude.{◌≡◌, [], Bool, true, false, Option, option_map}
 use Rattle.rc_model.specs.Database.{Database}
 use Rattle.rc_runner.specs.Shell.{scripts_of}
 use Rattle.rc_runner.specs.declared.session_gate.SessionGate.{SessionGate}
 use Rattle.rc_runner.specs.declared.session_gate.SessionGate.TheVariants.{Table, Shell}
 use Rattle.rc_args.specs.Programs.{ByPrograms, ByTable, MakingAsk, controller_in, listed_in}
 use Rattle.rc_args.specs.Programs.{runner_in}
+use Rattle.rc_args.specs.declared.verbosity.Verbosity.{Verbosity}
+use Rattle.rc_args.specs.declared.verbosity.Verbosity.TheVariants.{Failures, Quiet, Transitions}
 use Rattle.rc_serve.specs.declared.fault.ServeFault.TheVariants.{Memory}
 use Rattle.rc_cli.specs.Finding.{AreFound, IsFirstUnknown}
 use Rattle.rc_cli.specs.declared.sessions.host.RunFiles.{RunFiles}
@@ -22,11 +24,17 @@ IsGateFor d (ByPrograms runner controller limit) (Table table) = ⊥
 IsGateFor d (ByPrograms runner controller limit) (Shell shell) =
     shell.scripts ≡ scripts_of d (runner_in runner) (controller_in controller) limit
 
--- a gate that starts programs shows what they write where that is asked; its runs are logged and
--- called off by these files, if there are any
-abbrev pub IsOnFiles : {R L : Type 0} → Bool → Option RunFiles → SessionGate R L → Type 0
-IsOnFiles tells files (Table table) = Unit {0}
-IsOnFiles tells files (Shell shell) = (shell.shows ≡ tells)
+-- what programs write is shown where each transition is reported
+abbrev pub shows_writes : Verbosity → Bool
+shows_writes Quiet = false
+shows_writes Failures = false
+shows_writes Transitions = true
+
+-- a gate that starts programs shows what they write where each transition is reported; its runs are
+-- logged and called off by these files, if there are any
+abbrev pub IsOnFiles : {R L : Type 0} → Verbosity → Option RunFiles → SessionGate R L → Type 0
+IsOnFiles verbosity files (Table table) = Unit {0}
+IsOnFiles verbosity files (Shell shell) = (shell.shows ≡ shows_writes verbosity)
     × (shell.log ≡ option_map (λ f. f.log) files) × (shell.stop ≡ option_map (λ f. f.stop) files)
 
 -- why there is no such gate: the first name that is to fail and is no service's, or out of memory

@@ -26,20 +26,24 @@ pub mod Session
 pub mod SessionFaults
 -- What a session comes to that is launched, with its status and what is told.
 pub mod Launching
+-- Why a command has no answer: the words that are printed for each fault, and its exit status.
+pub mod Faults
 -- Words that are to be names of services, and what refuses them.
 pub mod Named
 -- What `plan` writes: the plan in a database where the given services are up.
 pub mod PlanText
--- When `plan` is refused, and the line that tells the refusal.
+-- When `plan` is refused.
 pub mod PlanFaults
+-- The faults of a query of a database, as those of a command.
+pub mod DbFaults
 -- What is printed for a question, and when it is refused.
 pub mod DbAnswer
--- When `db` refuses, and how it tells that.
-pub mod DbFaults
 -- What a script comes to.
 pub mod Played
 -- What `replay` prints, and when it refuses.
 pub mod Replay
+-- Queries: what each answers and when it is refused, and what is read and printed for all of them.
+pub mod Queries
 -- The two steps of an update: one by the old database, and one by the new.
 pub mod Updating
 -- When an update is refused or fails.

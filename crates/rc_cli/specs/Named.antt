@@ -1,9 +1,11 @@
 -- Words that are to be names of services, and what refuses them.
-use Rattle.std.specs.Prelude.{◌≡◌, ◌==◌, nat_lt, ℕ, List, ◌∷◌, ◌++◌, Some, slice_get, length, All}
-use Rattle.std.specs.Prelude.{Contains, filter}
+use Rattle.std.specs.Prelude.{◌≡◌, ◌⊎◌, ◌==◌, nat_lt, ℕ, List, ◌∷◌, ◌++◌, Some, slice_get, length}
+use Rattle.std.specs.Prelude.{All, Contains, filter}
 use Rattle.std.specs.List.{slice_split}
-use Rattle.rc_cli.specs.declared.queries.named.NamedFault.{NamedFault}
-use Rattle.rc_cli.specs.declared.queries.named.NamedFault.TheVariants.{Unknown, Memory}
+use Rattle.rc_streams.specs.declared.input.Failure.TheVariants.{Memory}
+use Rattle.rc_cli.specs.Faults.{IsFromName}
+use Rattle.rc_cli.specs.declared.fault.Fault.{Fault}
+use Rattle.rc_cli.specs.declared.fault.Fault.TheVariants.{Device}
 
 -- the s-th name is one of the words
 abbrev pub IsNamed : List (List ℕ) → List (List ℕ) → ℕ → Type 0
@@ -22,7 +24,8 @@ IsFirstUnknown names words word = (before : List (List ℕ)) × (after : List (L
 abbrev pub word_lines : List ℕ → List (List ℕ)
 word_lines bytes = filter (λ line. nat_lt 0 (length line)) (slice_split (λ byte. byte == 10) bytes)
 
--- when each fault comes
-abbrev pub IsNamedFault : NamedFault → List (List ℕ) → List (List ℕ) → Type 0
-IsNamedFault (Unknown word) names words = IsFirstUnknown names words word.now
-IsNamedFault Memory names words = Unit {0}
+-- a fault of words: the first that is no name, or out of memory
+abbrev pub IsNamedFault : Fault → List (List ℕ) → List (List ℕ) → Type 0
+IsNamedFault fault names words =
+    ((word : List ℕ) × IsFirstUnknown names words word × IsFromName word fault)
+    ⊎ (fault ≡ Device Memory)

@@ -17,7 +17,7 @@ use Rattle.rc_serve.specs.declared.fault.ServeFault.{ServeFault}
 use Rattle.rc_serve.specs.Ending.{EndsIn, IsDoneAs}
 use Rattle.rc_serve.specs.Meeting.{Doing, IsDoneBy}
 use Rattle.rc_serve.specs.SessionText.{FailsExactly, IsDoneFailing, IsTimeless}
-use Rattle.rc_args.specs.OnceAsked.{HasNoEvents, once_saying_of}
+use Rattle.rc_args.specs.OnceAsked.{once_saying_of}
 use Rattle.rc_args.specs.Programs.{ByPrograms, ByTable, MakingAsk, controller_in, runner_in}
 use Rattle.rc_cli.specs.Filing.{BeginsWith, Filing, HoldsBy}
 use Rattle.rc_cli.specs.Finding.{AreFound}
@@ -39,11 +39,6 @@ Served = Option Path → (was is : Option (List ℕ)) → Doing → EndsIn → E
 abbrev pub OfLines : Service → Type 0 → Type 0
 OfLines Lines P = P
 OfLines other P = ⊥
-
--- what one line is to do brings no events
-abbrev pub IsEventless : Service → Type 0
-IsEventless (OneLine once) = HasNoEvents (once_saying_of once.now)
-IsEventless other = Unit {0}
 
 -- it was served, to its end, or up to a fault if it was begun: all lines of the input, which end as
 -- done; or one line or a restart, with nothing read

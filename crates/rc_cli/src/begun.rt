@@ -6,7 +6,7 @@ ghost use Rattle.rc_model.specs.Database.{Database};
 ghost use Rattle.rc_model.specs.Line.{Line};
 ghost use Rattle.rc_model.specs.Session.{IsLineOf};
 ghost use Rattle.rc_livetext.specs.Spelling.{Spells as SpellsLine};
-ghost use Rattle.rc_session.specs.Commands.{command_of};
+ghost use Rattle.rc_session.specs.Commands.{plain_of};
 ghost use Rattle.rc_update.specs.Conversions.{conversions_of};
 ghost use Rattle.rc_cli.specs.Begun.{AreLowered, BeginsOn, BeginsUpdate, SaysLowering, lowering};
 
@@ -17,7 +17,7 @@ use rc_livetext::{LiveFault, laws as live_laws, read_live};
 use rc_script::laws::lines_say_one_thing;
 use rc_script::{SessionLine, read_line};
 use rc_select::Mode;
-use rc_session::Step;
+use rc_session::Command;
 use rc_set::NoMem;
 use rc_update::{Conversion, carry};
 use std::alloc::{AllocError, Global};
@@ -149,9 +149,9 @@ fn says_lowering(alloc: Global, bytes: &[u8], names: &[String]) -> Result<bool, 
         return Ok(false);
     };
     match read_line(alloc, line)? {
-        SessionLine::Step(step) => {
-            let is = is_lowering(&step, names);
-            drop(step);
+        SessionLine::Command(command) => {
+            let is = is_lowering(&command, names);
+            drop(command);
             Ok(is)
         }
         _ => Ok(false),
@@ -168,14 +168,12 @@ fn first_line(bytes: &[u8]) -> Option<(&[u8], &[u8])>
     Some((&bytes[..end], &bytes[end + 1..]))
 }
 
-// Whether a step is the one that lowers these names, under the least limit.
-fn is_lowering(step: &Step, names: &[String]) -> bool
-    ensures { IsTrue result ↔ (command_of step.now ≡ lowering (map string_bytes names.now)) }
+// Whether a command is the one that lowers these names, under the least limit.
+fn is_lowering(command: &Command, names: &[String]) -> bool
+    ensures { IsTrue result ↔ (plain_of command.now ≡ lowering (map string_bytes names.now)) }
 {
-    match step {
-        Step::Change(request, events) => {
-            events.is_empty() && request.is_plain(Mode::DownAll, names, 1)
-        }
+    match command {
+        Command::Change(request) => request.is_plain(Mode::DownAll, names, 1),
         _ => false,
     }
 }

@@ -1,18 +1,23 @@
 //! Whether a command would move a longrun that no program controls.
 ghost use Rattle.std.specs.Prelude.{◌≡◌, ◌≢◌, ◌≤◌, ◌<◌, ◌↔◌, ℕ, List, None, Some, false, length};
 ghost use Rattle.std.specs.Prelude.{slice_get};
-ghost use Rattle.std.specs.Prelude.{string_bytes, IfNone, IfOk, IfSome, IsTrue, MatchOption};
+ghost use Rattle.std.specs.Prelude.{string_bytes, IfErr, IfNone, IfOk, IfSome, IsTrue, MatchOption};
+ghost use Rattle.std.specs.Prelude.{OnErr, OnOk};
 ghost use Rattle.rc_args.specs.OnceAsked.{Said, once_saying_of};
 ghost use Rattle.rc_args.specs.SessionAsked.{session_ask_of};
 ghost use Rattle.rc_args.specs.UpdateAsked.{update_ask_of};
+ghost use Rattle.rc_model.specs.Beside.{IsCourse};
 ghost use Rattle.rc_model.specs.Database.{IsKind};
 ghost use Rattle.rc_model.specs.Graph.{IsClosed};
 ghost use Rattle.rc_model.specs.Headline.{HasRun};
 ghost use Rattle.rc_model.specs.Line.{Line};
 ghost use Rattle.rc_model.specs.Names.{Has};
 ghost use Rattle.rc_model.specs.declared.Kind.TheVariants.{Longrun};
+ghost use Rattle.rc_model.specs.Run.{course_of};
+ghost use Rattle.rc_model.specs.Session.{IsOwnFault};
 ghost use Rattle.rc_script.specs.Says.{saying_of};
-ghost use Rattle.rc_session.specs.Commands.{command_of};
+ghost use Rattle.rc_session.specs.Commands.{plain_of};
+ghost use Rattle.rc_session.specs.Holding.{IsBegun, IsHindrance, with_run};
 ghost use Rattle.rc_cli.specs.Filing.{BeginsBy, file_named};
 ghost use Rattle.rc_cli.specs.Serving.{session_on};
 ghost use Rattle.rc_cli.specs.Controlled.{IsLongrunOf, LacksController, MovesBySaying};
@@ -32,7 +37,7 @@ use rc_names::Kind;
 use rc_script::SessionLine;
 use rc_select::{Mode, Plan};
 use rc_serve::ServeFault;
-use rc_session::{Refusal, Session, Step};
+use rc_session::{Begun, Command, Refusal, Session};
 use rc_set::{NoMem, Set};
 use std::alloc::{AllocError, Global};
 
@@ -183,8 +188,8 @@ fn moved_from(
             return Err(short);
         }
     };
-    let lowering = step_line(alloc, request.dry, Mode::DownAll, update.lower);
-    let raising = step_line(alloc, request.dry, Mode::Up, update.raise);
+    let lowering = step_line(request.dry, Mode::DownAll, update.lower);
+    let raising = step_line(request.dry, Mode::Up, update.raise);
     match moved_by(alloc, from, &lowering) {
         Ok(None) => {
             let found = raised_by(alloc, new, update.kept, bound, &raising);
@@ -262,47 +267,77 @@ fn moved_by(
         → ⊥)) }
 {
     match line {
-        SessionLine::Step(step) => moved_longrun(alloc, session, step),
+        SessionLine::Command(command) => moved_longrun(alloc, session, command),
         _ => Ok(None),
     }
 }
 
-// A longrun that a step would move.
-fn moved_longrun(alloc: Global, session: &mut Session, step: &Step) -> Result<Option<String>, NoMem>
+// A longrun that a command would move.
+fn moved_longrun(
+    alloc: Global,
+    session: &mut Session,
+    command: &Command,
+) -> Result<Option<String>, NoMem>
     requires closed { session.old.begun ≡ false }
     requires whole { session.old.spoiled ≡ false }
     ensures some { IfOk result (λ found. IfSome found (λ name.
-        MovesLongrunOn session.old.database session.old.line (command_of step.now)
+        MovesLongrunOn session.old.database session.old.line (plain_of command.now)
         (string_bytes name))) }
     ensures none { IfOk result (λ found. IfNone found ((name : List ℕ)
-        → MovesLongrunOn session.old.database session.old.line (command_of step.now) name
+        → MovesLongrunOn session.old.database session.old.line (plain_of command.now) name
         → ⊥)) }
 {
-    match step {
-        Step::Add(..) | Step::Delete(..) => Ok(None),
-        Step::Change(..) | Step::Undo(..) | Step::Redo(..) => begun_longrun(alloc, session, step),
+    match command {
+        Command::Add(..) | Command::Delete(..) => Ok(None),
+        Command::Change(_) | Command::Undo(_) | Command::Redo(_) => {
+            begun_longrun(alloc, session, command)
+        }
     }
 }
 
-// A longrun that the run of a step would move.
-fn begun_longrun(alloc: Global, session: &mut Session, step: &Step) -> Result<Option<String>, NoMem>
+// A longrun that the run of a command would move.
+fn begun_longrun(
+    alloc: Global,
+    session: &mut Session,
+    command: &Command,
+) -> Result<Option<String>, NoMem>
     requires closed { session.old.begun ≡ false }
     requires whole { session.old.spoiled ≡ false }
-    requires run { HasRun (command_of step.now) }
+    requires run { HasRun (plain_of command.now) }
     ensures some { IfOk result (λ found. IfSome found (λ name.
-        MovesLongrunOn session.old.database session.old.line (command_of step.now)
+        MovesLongrunOn session.old.database session.old.line (plain_of command.now)
         (string_bytes name))) }
     ensures none { IfOk result (λ found. IfNone found ((name : List ℕ)
-        → MovesLongrunOn session.old.database session.old.line (command_of step.now) name
+        → MovesLongrunOn session.old.database session.old.line (plain_of command.now) name
         → ⊥)) }
 {
-    let begun = match session.begin(alloc, step, 0) {
+    let begun = match begin_run(alloc, session, command) {
         Ok(begun) => begun,
         Err(refusal) => return none_by(refusal),
     };
     let found = longrun_of(alloc, session.db(), begun.plan());
     session.abandon(begun);
     found
+}
+
+// Begins the run of a command at moment 0, as `Session::begin` begins that of a step.
+fn begin_run(alloc: Global, session: &mut Session, command: &Command) -> Result<Begun, Refusal>
+    requires closed { session.old.begun ≡ false }
+    requires run { HasRun (plain_of command.now) }
+    ensures task { IfOk result (IsBegun session.new (plain_of command.now) 0) }
+    ensures course { IfOk result (λ begun.
+        IsCourse (course_of session.old.database.needs begun.plan begun.deadline)) }
+    ensures begun { OnOk result (session.new ≡ with_run session.old) }
+    ensures err { IfErr result (IsHindrance
+        (IsOwnFault session.old.database session.old.line (plain_of command.now)) session.old) }
+    ensures same { OnErr result (session.new ≡ session.old) }
+{
+    match command {
+        Command::Change(request) => session.begin_change(alloc, request, 0),
+        Command::Undo(limit) => session.begin_undo(alloc, *limit, 0),
+        Command::Redo(limit) => session.begin_redo(alloc, *limit, 0),
+        Command::Add(..) | Command::Delete(..) => unreachable!(),
+    }
 }
 
 // A refused command moves nothing. If memory ran out, it is not known what would move.

@@ -5,6 +5,7 @@
 
 mod begun;
 mod controlled;
+mod fault;
 pub mod laws;
 mod moving;
 pub mod queries;
@@ -20,9 +21,9 @@ pub use crate::controlled::{uncontrolled, uncontrolled_update};
 pub use crate::queries::{db_run, plan_run, replay_run};
 pub use crate::restarting::uncontrolled_restart;
 pub use crate::sealing::seal_as_asked;
-pub use crate::sessions::{LiveFile, Service, Store, TextKeeper, launch, session_run};
+pub use crate::sessions::{LiveFile, Service, Store, TextKeeper, launch};
 pub use crate::status::status_as_asked;
 pub use crate::update::update_as_asked;
 pub use rc_compile::command::compile_run;
-pub use rc_serve::{KeepFault, Keeper, ServeFault, Unkept, serve};
+pub use rc_serve::{KeepFault, Keeper, ServeFault, Unkept, serve, serve_kept};
 pub use rc_streams::{MAX_INPUT, Noted};

@@ -5,11 +5,14 @@ mod db;
 mod db_answer;
 mod db_fault;
 mod named;
+mod outcome;
 mod plan;
 mod played;
 mod replay;
+mod running;
 
-pub use crate::queries::db::{db_as_asked, db_run};
+pub use crate::queries::db::db_run;
 pub use crate::queries::db_fault::query_hint;
-pub use crate::queries::plan::{plan_as_asked, plan_run};
-pub use crate::queries::replay::{replay_as_asked, replay_run};
+pub use crate::queries::plan::plan_run;
+pub use crate::queries::replay::replay_run;
+pub use crate::queries::running::{Query, run_query};

@@ -29,7 +29,7 @@ pub fn uncontrolled_restart(
         (lowering false (named_ask_of request.now).names) name → ⊥)) }
 {
     let names = copied(alloc, &request.names)?;
-    let once = Once::Line(step_line(alloc, false, Mode::DownAll, names));
+    let once = Once::Line(step_line(false, Mode::DownAll, names));
     let found = uncontrolled(alloc, base, live, &request.session, &once);
     drop(once);
     found

@@ -12,7 +12,6 @@ mod one_line;
 mod restarting;
 mod service;
 mod serving;
-mod session;
 mod session_fault;
 mod steps;
 
@@ -24,6 +23,5 @@ pub use crate::sessions::keeping::{KeptText, LiveFile, Store, TextKeeper};
 pub use crate::sessions::launching::{launch, spelled, tell_ended};
 pub use crate::sessions::one_line::line_once;
 pub use crate::sessions::service::{Devices, Outputs, Service};
-pub use crate::sessions::session::session_run;
 pub use crate::sessions::session_fault::SessionFault;
 pub use crate::sessions::steps::{copied, step_line};

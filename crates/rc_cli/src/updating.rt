@@ -10,7 +10,7 @@ ghost use Rattle.rc_script.specs.Says.{saying_of};
 ghost use Rattle.rc_serve.specs.Ending.{IsDoneAs};
 ghost use Rattle.rc_serve.specs.Faults.{IsServeFault};
 ghost use Rattle.rc_args.specs.Making.{making_ask_of};
-ghost use Rattle.rc_args.specs.OnceAsked.{HasNoEvents, Said};
+ghost use Rattle.rc_args.specs.OnceAsked.{Said};
 ghost use Rattle.rc_args.specs.Reading.{listed_of};
 ghost use Rattle.rc_args.specs.SessionAsked.{session_ask_of};
 ghost use Rattle.rc_args.specs.UpdateAsked.{update_ask_of};
@@ -30,7 +30,7 @@ use crate::sessions::{
     Host, LiveFile, Outputs, SessionFault, Store, begin, gate_for, line_once, step_line,
 };
 use log::Log;
-use rc_args::{Making, SessionRequest, Transition, UpdateRequest};
+use rc_args::{Making, SessionRequest, Transition, UpdateRequest, Verbosity};
 use rc_board::Gate;
 use rc_db::Db;
 use rc_graph::Way;
@@ -129,11 +129,11 @@ fn gates_of<'h, 'a, T, L: Log + Sync>(
         × IsGateFor new.now (making_on Raise (making_ask_of asked.now.making)) gates.raises) }
     ensures fault { IfErr result (AreGateless old.now new.now (making_ask_of asked.now.making)) }
 {
-    let lowers = match gate_on(host, old, &asked.making, asked.tells, Way::Lower) {
+    let lowers = match gate_on(host, old, &asked.making, asked.verbosity, Way::Lower) {
         Ok(gate) => gate,
         Err(fault) => return Err(fault),
     };
-    match gate_on(host, new, &asked.making, asked.tells, Way::Raise) {
+    match gate_on(host, new, &asked.making, asked.verbosity, Way::Raise) {
         Ok(raises) => Ok(Gates { lowers, raises }),
         Err(fault) => {
             drop(lowers);
@@ -147,7 +147,7 @@ fn gate_on<'h, 'a, T, L: Log + Sync>(
     host: &Host<'h, T, L>,
     db: &Db,
     making: &Making<'a>,
-    tells: bool,
+    verbosity: Verbosity,
     way: Way,
 ) -> Result<Telling<'h, L, SessionGate<'h, HostRuntime, L>>, SessionFault<'a>>
     ensures made { IfOk result (λ gate.
@@ -160,11 +160,11 @@ fn gate_on<'h, 'a, T, L: Log + Sync>(
                 return Err(SessionFault::Failed(ServeFault::Memory));
             };
             let those = Making::Table(those);
-            let gate = gate_for(host, db, &those, tells);
+            let gate = gate_for(host, db, &those, verbosity);
             drop(those);
             gate
         }
-        Making::Programs(_) => gate_for(host, db, making, tells),
+        Making::Programs(_) => gate_for(host, db, making, verbosity),
     }
 }
 
@@ -239,8 +239,8 @@ fn update_from<T: Threads + Wait + Sync, W: Write, G: Gate, S: Store, L>(
             return Err(ServeFault::Memory);
         }
     };
-    let lowering = step_line(host.alloc, request.dry, Mode::DownAll, update.lower);
-    let raising = step_line(host.alloc, request.dry, Mode::Up, update.raise);
+    let lowering = step_line(request.dry, Mode::DownAll, update.lower);
+    let raising = step_line(request.dry, Mode::Up, update.raise);
     let to = match session_of(host.alloc, new, update.kept, bound) {
         Ok(to) => to,
         Err(_) => {
@@ -283,8 +283,6 @@ fn serve_both<T: Threads + Wait + Sync, W: Write, G: Gate, S: Store, L>(
 ) -> Result<Ending, ServeFault>
     requires from { (from.old.begun ≡ false) × (from.old.spoiled ≡ false) }
     requires to { (ahead.old.to.begun ≡ false) × (ahead.old.to.spoiled ≡ false) }
-    requires lowering { HasNoEvents (Said (saying_of ahead.old.lowering)) }
-    requires raising { HasNoEvents (Said (saying_of ahead.old.raising)) }
     requires writer { HasFailed outputs.old.writer → ⊥ }
     ensures served { ServedBoth result (session_ask_of request.now).live
         (S.holds (store_of outputs.old.keeper)) (S.holds (store_of outputs.new.keeper))

@@ -247,29 +247,6 @@ beq-false true false e same = let bad : true ≡ false = same in cc
 beq-false false true e same = let bad : false ≡ true = same in cc
 beq-false false false e same = let bad : true ≡ false = e in cc
 
--- an ascending list has no number below its place
-pub at_least : (list : List ℕ) (k : ℕ) → IsAscending list → k < length list → k ≤ slice_index list k
-at_least list zero up within = omega arith
-at_least list (suc k) up within =
-    let before : k < suc k = omega arith in
-    let less : slice_index_or list k 0 < slice_index_or list (suc k) 0 =
-    up k (suc k) 0 before within in
-    let far : k ≤ slice_index list k = at_least list k up (omega arith) in
-    omega (arith, less, far)
-
--- and no more of them than there are below a bound
-pub short_list : (list : List ℕ) (bound : ℕ) → IsAscending list → All (λ (t : ℕ). t < bound) list
-    → length list ≤ bound
-short_list list bound up known = elim (cases_eq (length list) 0) [
-  | inl none ↦ omega arith
-  | inr some ↦
-      let last = length list - 1 in
-      let within : last < length list = omega arith in
-      let far : last ≤ slice_index list last = at_least list last up within in
-      let low : slice_index list last < bound = known last 0 within in
-      omega (arith, far, low)
-]
-
 -- all of a list count where all are alike
 pub all_counted : (In : ℕ → Type 0) (list : List ℕ) → IsAscending list
     → ((s : ℕ) → Contains list s → In s) → IsCount (λ t. Contains list t × In t) (length list)

@@ -13,7 +13,7 @@ use Rattle.rc_select.specs.PlanSets.{IsPlan}
 use Rattle.rc_core.specs.declared.tables.Tables.{Tables}
 use Rattle.rc_core.specs.declared.ready.Ready.{Ready}
 use Rattle.rc_core.specs.Tables.{AreFirst, IsKept, IsRoomFor}
-use Rattle.rc_core.specs.Ready.{AreReady, IsFirstReady}
+use Rattle.rc_core.specs.Ready.{AreReady, IsFirstReady, IsPlaced}
 use Rattle.rc_core.specs.Settled.{RunSoFar}
 use Rattle.rc_core.proofs.Opening.{kept_first}
 use Rattle.rc_core.proofs.Readying.{ready_first}
@@ -60,7 +60,7 @@ pub run_first : (needs shared : List (List ℕ)) (plan : PlanSets) (deadline : O
     → trace.items ≡ [] → vec_len trace ≡ 0 → 2 * many + 1 ≤ vec_capacity trace
     → IsRoomFor services left
     → IsKept (course_kept shared opening lower raise deadline) trace t
-    × IsRoomFor (length shared) left
+    × IsPlaced r × IsRoomFor (length shared) left
     × AreReady (course_kept shared opening lower raise deadline) trace.items r.waits.items
     r.queue.items × (length shared ≤ vec_capacity r.queue)
 run_first needs shared plan deadline t r trace left opening lower raise up_lent lower_lent
@@ -74,6 +74,7 @@ run_first needs shared plan deadline t r trace left opening lower raise up_lent 
     rw (same.graph, same.opening_is, same.lower_is, same.raise_is) (
       kept_first c t trace course first empty len
           (subst (λ (n : ℕ). 2 * n + 1 ≤ vec_capacity trace) count room),
+      readied.placed,
       subst (λ (n : ℕ). IsRoomFor n left) bound left_room,
       rw empty (ready_first c t.left r course first.left_ones readied),
       omega (arith, readied.bound, readied.queue.room),

@@ -1,14 +1,13 @@
 -- The counts and the queue say what the events say.
-use Rattle.std.proofs.Common.{◌≡◌, ◌∙◌, ◌↔◌, ◌⊎◌, ◌-◌, ℕ, ◌<◌, ◌≤◌, List, [], ◌∷◌, ◌++◌, Bool, true}
-use Rattle.std.proofs.Common.{false, All, Contains, inl, inr, length, slice_index, slice_index_or}
-use Rattle.std.proofs.Common.{vec_capacity, ap, sym, subst, refl, arith}
+use Rattle.std.proofs.Common.{◌≡◌, ◌∙◌, ◌↔◌, ℕ, ◌<◌, ◌≤◌, List, [], ◌∷◌, ◌++◌, Bool, true, false}
+use Rattle.std.proofs.Common.{Contains, inl, inr, length, slice_index, slice_index_or, vec_capacity}
+use Rattle.std.proofs.Common.{ap, sym, subst, arith}
 use Rattle.std.specs.Global.{Vec}
 use Rattle.std.proofs.lemmas.Bool.{cases_lt, false_from_ne_true}
-use Rattle.std.proofs.lemmas.List.{get_or_past, get_or_default, get_or_append_left}
-use Rattle.std.proofs.lemmas.List.{get_or-append_right, length-append}
-use Rattle.std.proofs.lemmas.List.Elements.{Contains-get_or, Contains-append_left}
-use Rattle.std.proofs.lemmas.List.Elements.{Contains-append_right, Contains-append_cases}
-use Rattle.rc_model.specs.Names.{Has, Holds}
+use Rattle.std.proofs.lemmas.List.{get_or_past}
+use Rattle.std.proofs.lemmas.List.Elements.{Contains-append_left, Contains-append_right}
+use Rattle.std.proofs.lemmas.List.Elements.{Contains-append_cases}
+use Rattle.rc_model.specs.Names.{Has}
 use Rattle.rc_model.proofs.SetMembers.{has_or_lacks, is_set_or_not}
 use Rattle.rc_graph.specs.Order.{AreDistinct}
 use Rattle.rc_graph.proofs.Unmet.{contains_or_lacks}
@@ -17,11 +16,11 @@ use Rattle.rc_model.specs.declared.Outcome.{Outcome}
 use Rattle.rc_model.specs.declared.Event.{Event}
 use Rattle.rc_model.specs.declared.Event.TheVariants.{Take, Done, Stop}
 use Rattle.rc_core.specs.declared.ready.Ready.{Ready}
-use Rattle.rc_model.specs.Run.{Course, IsPlanned, is_success, standing_of, WasTaken, IsLeft}
-use Rattle.rc_model.specs.Run.{IsHeldBy, CanMove, IsLegal, IsRun}
+use Rattle.rc_model.specs.Run.{Course, IsPlanned, is_success, standing_of, WasTaken, IsHeldBy}
+use Rattle.rc_model.specs.Run.{CanMove, IsLegal, IsRun}
 use Rattle.rc_model.specs.Beside.{IsCourse}
-use Rattle.rc_core.specs.Ready.{IsCount, IsMissing, AreReady, IsNext, NotesArrival, DropsTaken}
-use Rattle.rc_core.specs.Ready.{IsLast, IsFirstReady, HasQueue, CanNoteReady, NotesReady}
+use Rattle.rc_core.specs.Ready.{IsCount, IsMissing, AreReady, IsNext, NotesArrival, TakesOut}
+use Rattle.rc_core.specs.Ready.{IsFirstReady, HasQueue, CanNoteReady, NotesReady}
 use Rattle.rc_core.proofs.Counted.{distinct_both, same_count, less_count, none_of_zero}
 use Rattle.rc_core.proofs.Counted.{zero_of_none, some_counts}
 use Rattle.rc_model.proofs.EventLemmas.{still_there, take_then_take, take_then_done, take_then_stop}
@@ -31,17 +30,17 @@ use Rattle.rc_model.proofs.StandingLemmas.{is_down_or_not}
 use Rattle.rc_core.proofs.Missing.{up_or_not, fresh_stands, missing_kept, missing_after_take}
 use Rattle.rc_core.proofs.Missing.{missing_after_failure, next_missing, missing_next}
 use Rattle.rc_core.proofs.Missing.{missing_after_success}
-use Rattle.rc_core.proofs.Dropping.{front_in, front_once, still_in}
 use Rattle.rc_core.proofs.Noting.{left_after_take}
 use Rattle.rc_core.proofs.Places.{move_is_left, planned_within}
 use Rattle.rc_core.proofs.Opening.{none_happened}
 
--- what may be taken was never taken and waits for none
+-- what may be taken is what stands in the queue
 pub ready_moves : (c : Course) (events : List Event) (waits queue : List ℕ) → IsCourse c
     → IsRun c events → AreReady c events waits queue → (s : ℕ)
-    → (IsLeft c events s × (slice_index waits s ≡ 0)) ↔ CanMove c events s
+    → Contains queue s ↔ CanMove c events s
 ready_moves c events waits queue course run ready s = (
-  λ h.
+  λ there.
+      let h = (ready.ones s).0 there in
       let first = fresh_stands c events s run h.0.1 in
       let none =
       none_of_zero (IsMissing c events s) (slice_index waits s) (ready.counts s h.0.0) h.1 in
@@ -70,7 +69,8 @@ ready_moves c events waits queue course run ready s = (
         })
       ],
   λ move.
-      let left = move_is_left c events s move in (
+      let left = move_is_left c events s move in
+      (ready.ones s).1 (
         left,
         zero_of_none (IsMissing c events s) (slice_index waits s) (ready.counts s left.0)
             (λ t missing. elim move [
@@ -87,17 +87,16 @@ ready_moves c events waits queue course run ready s = (
 )
 
 -- after a take
-pub ready_after_take : (c : Course) (events : List Event) (w x : ℕ) (left : List Bool)
-    (old new : Ready) → IsCourse c → IsRun c events → CanMove c events x
-    → AreReady c events old.waits.items old.queue.items
-    → Holds left (IsLeft c (events ++ Take w x ∷ [])) → DropsTaken old left new
-    → AreReady c (events ++ Take w x ∷ []) new.waits.items new.queue.items
-ready_after_take c events w x left old new course run move ready ones drops =
-    let count = λ (s : ℕ). ap (λ (ws : List ℕ). slice_index ws s) drops.waits in
+pub ready_after_take : (c : Course) (events : List Event) (w x : ℕ) (old new : Ready) → IsCourse c
+    → IsRun c events → CanMove c events x → AreReady c events old.waits.items old.queue.items
+    → TakesOut old x new → AreReady c (events ++ Take w x ∷ []) new.waits.items new.queue.items
+ready_after_take c events w x old new course run move ready takes =
+    let count = λ (s : ℕ). ap (λ (ws : List ℕ). slice_index ws s) takes.waits in
     let zero : slice_index old.waits.items x ≡ 0 =
-    ((ready_moves c events old.waits.items old.queue.items course run ready x).1 move).1 in
+    ((ready.ones x).0
+    ((ready_moves c events old.waits.items old.queue.items course run ready x).1 move)).1 in
     record {
-      bound = ap length drops.waits ∙ ready.bound;
+      bound = ap length takes.waits ∙ ready.bound;
       counts =
           λ s planned.
           subst (λ (n : ℕ). IsCount (IsMissing c (events ++ Take w x ∷ []) s) n) (sym (count s))
@@ -109,19 +108,16 @@ ready_after_take c events w x left old new course run move ready ones drops =
         | inl before ↦ ready.taken s (was.0, before)
         | inr now ↦ subst (λ (y : ℕ). slice_index old.waits.items y ≡ 0) (sym now.1) zero
       ];
-      once = front_once old.queue.items left new.queue.items drops.front ready.once;
-      queued = λ s there.
-          let was =
-          ready.queued s (front_in old.queue.items left new.queue.items drops.front s there) in
-          (was.0, count s ∙ was.1);
-      ones = λ s fresh none.
-          let before = ((left_after_take c events w x s).0 fresh).0 in
-          still_in old.queue.items left new.queue.items drops.front s
-          (ready.ones s before (sym (count s) ∙ none)) ((ones s).1 fresh);
-      last = λ s is. elim (has_or_lacks left s) [
-        | inl has ↦ (ones s).0 has
-        | inr lacks ↦ absurd (drops.ends (is.0, subst (λ (t : ℕ). Has left t → ⊥) (sym is.1) lacks))
-      ];
+      once = takes.once;
+      ones = λ s. (
+        λ there.
+            let h = (takes.ones s).0 there in
+            let was = (ready.ones s).0 h.0 in
+            ((left_after_take c events w x s).1 (was.0, h.1), count s ∙ was.1),
+        λ h.
+            let left = (left_after_take c events w x s).0 h.0 in
+            (takes.ones s).1 ((ready.ones s).1 (left.0, sym (count s) ∙ h.1), left.1),
+      );
     }
 
 -- after an event that takes nothing and leaves what is missing
@@ -138,10 +134,11 @@ ready_still c events e waits queue untaken same ready = record {
   idle = ready.idle;
   taken = λ s was. ready.taken s (untaken s was);
   once = ready.once;
-  queued = ready.queued;
-  ones = λ s left none.
-      ready.ones s (left.0, λ was. left.1 (was.0, still_there events e (Take was.0 s) was.1)) none;
-  last = λ s is. let left = ready.last s is in (left.0, λ was. left.1 (untaken s was));
+  ones = λ s. (
+    λ there. let h = (ready.ones s).0 there in ((h.0.0, λ was. h.0.1 (untaken s was)), h.1),
+    λ h. (ready.ones s).1
+        ((h.0.0, λ was. h.0.1 (was.0, still_there events e (Take was.0 s) was.1)), h.1),
+  );
 }
 
 pub ready_after_failure : (c : Course) (events : List Event) (w x : ℕ) (o : Outcome)
@@ -177,34 +174,6 @@ next_waits c events w x waits queue course run held ready s next =
     let planned : IsPlanned c s = elim next [ inl falls ↦ inl falls.1 | inr rises ↦ inr rises.1 ] in
     some_counts (IsMissing c events s) (slice_index waits s) x (ready.counts s planned)
     (next_missing c events w x course run held s next)
-
--- what waits for a service that has arrived is to move
-next_planned : (c : Course) (x s : ℕ) → IsNext c.needs c.lower c.raise x s → IsPlanned c s
-next_planned c x s next = elim next [ inl falls ↦ inl falls.1 | inr rises ↦ inr rises.1 ]
-
--- what stands last in two lists is the last of the first, or stands in the second
-last_of_both : (xs ys : List ℕ) (s : ℕ) → IsLast (xs ++ ys) s → IsLast xs s ⊎ Contains ys s
-last_of_both xs ys s (some, is) =
-    let long = length-append xs ys in
-    elim (cases_lt 0 (length ys)) [
-      | inl more ↦
-          let at : length (xs ++ ys) - 1 - length xs < length ys = omega (arith, long, more) in
-          inr (
-            length (xs ++ ys) - 1 - length xs,
-            at,
-            get_or_default ys (length (xs ++ ys) - 1 - length xs) s 0 at
-                ∙ sym (get_or-append_right xs ys (length xs) (length (xs ++ ys) - 1) 0 refl
-                (omega (arith, long, more))) ∙ is,
-          )
-      | inr none ↦
-          let here : length xs - 1 < length xs = omega (arith, long, some, none) in
-          let end : length (xs ++ ys) - 1 ≡ length xs - 1 = omega (arith, long, none) in
-          inl (
-            omega (arith, here),
-            sym (get_or_append_left xs ys 0 (length xs - 1) here)
-                ∙ sym (ap (λ (k : ℕ). slice_index (xs ++ ys) k) end) ∙ is,
-          )
-    ]
 
 -- after a transition that succeeded
 pub ready_after_success : (c : Course) (events : List Event) (w x : ℕ) (o : Outcome)
@@ -256,52 +225,41 @@ ready_after_success c events w x o old new course run held well ready notes =
       once = subst AreDistinct (sym meets.behind)
           (distinct_both old.queue.items meets.more ready.once meets.once
           (λ s first second.
-          omega (arith, (ready.queued s first).1, ((meets.placed s).0 second).1)));
-      queued = λ s there.
-          elim (Contains-append_cases old.queue.items meets.more s
-          (subst (λ (xs : List ℕ). Contains xs s) meets.behind there)) [
-            | inl earlier ↦
-                let h = ready.queued s earlier in (
-                  h.0,
-                  elim (contains_or_lacks notes.those s) [
-                    | inl in' ↦ absurd (omega (arith, h.1, meets.less s in'))
-                    | inr out ↦ meets.same s out ∙ h.1
-                  ],
-                )
-            | inr now ↦
-                let h = (meets.placed s).0 now in (
-                  next_planned c x s ((notes.same s).0 h.0),
-                  omega (arith, h.1, meets.less s h.0),
-                )
-          ];
-      ones = λ s left none. subst (λ (xs : List ℕ). Contains xs s) (sym meets.behind)
-          (elim (contains_or_lacks notes.those s) [
-            | inl in' ↦ Contains-append_right old.queue.items meets.more s
-                ((meets.placed s).1 (in', omega (arith, none, meets.less s in')))
-            | inr out ↦
-                let fresh : WasTaken events s → ⊥ = λ was.
-                left.1 (was.0, still_there events (Done w x o) (Take was.0 s) was.1) in
-                Contains-append_left old.queue.items meets.more s
-                (ready.ones s (left.0, fresh) (sym (meets.same s out) ∙ none))
-          ]);
-      last = λ s is.
-          elim (last_of_both old.queue.items meets.more s
-          (subst (λ (xs : List ℕ). IsLast xs s) meets.behind is)) [
-            | inl earlier ↦ let left = ready.last s earlier in
-                (left.0, λ was. left.1 (untaken s was))
-            | inr now ↦
-                let h = (meets.placed s).0 now in (
-                  next_planned c x s ((notes.same s).0 h.0),
-                  λ was. omega (arith, ready.taken s (untaken s was), h.1),
-                )
-          ];
+          omega (arith, ((ready.ones s).0 first).1, ((meets.placed s).0 second).1)));
+      ones = λ s. (
+        λ there.
+            elim (Contains-append_cases old.queue.items meets.more s
+            (subst (λ (xs : List ℕ). Contains xs s) meets.behind there)) [
+              | inl earlier ↦
+                  let h = (ready.ones s).0 earlier in (
+                    (h.0.0, λ was. h.0.1 (untaken s was)),
+                    elim (contains_or_lacks notes.those s) [
+                      | inl in' ↦ absurd (omega (arith, h.1, meets.less s in'))
+                      | inr out ↦ meets.same s out ∙ h.1
+                    ],
+                  )
+              | inr now ↦
+                  let h = (meets.placed s).0 now in
+                  let next = (notes.same s).0 h.0 in (
+                    (
+                      elim next [ inl falls ↦ inl falls.1 | inr rises ↦ inr rises.1 ],
+                      λ was. omega (arith, ready.taken s (untaken s was), h.1),
+                    ),
+                    omega (arith, h.1, meets.less s h.0),
+                  )
+            ],
+        λ h. subst (λ (xs : List ℕ). Contains xs s) (sym meets.behind)
+            (elim (contains_or_lacks notes.those s) [
+              | inl in' ↦ Contains-append_right old.queue.items meets.more s
+                  ((meets.placed s).1 (in', omega (arith, h.1, meets.less s in')))
+              | inr out ↦
+                  let fresh : WasTaken events s → ⊥ = λ was.
+                  h.0.1 (was.0, still_there events (Done w x o) (Take was.0 s) was.1) in
+                  Contains-append_left old.queue.items meets.more s
+                  ((ready.ones s).1 ((h.0.0, fresh), sym (meets.same s out) ∙ h.1))
+            ]),
+      );
     }
-
--- what stands last stands in the queue
-pub last_in : (queue : List ℕ) (s : ℕ) → IsLast queue s → Contains queue s
-last_in queue s (some, is) =
-    let low : length queue - 1 < length queue = omega (arith, some) in
-    (length queue - 1, low, get_or_default queue (length queue - 1) s 0 low ∙ is)
 
 -- before the first event
 pub ready_first : (c : Course) (planned : List Bool) (r : Ready) → IsCourse c
@@ -355,11 +313,12 @@ ready_first c set r course all first = record {
   ];
   taken = λ s was. absurd (none_happened _ was.1);
   once = first.queue.once;
-  queued = λ s there. let h = (first.queue.ones s).0 there in ((all s).0 h.0, h.1);
-  ones = λ s left none. (first.queue.ones s).1 ((all s).1 left.0, none);
-  last = λ s is.
-      let h = (first.queue.ones s).0 (last_in r.queue.items s is) in
-      ((all s).0 h.0, λ was. none_happened _ was.1);
+  ones = λ s. (
+    λ there.
+        let h = (first.queue.ones s).0 there in
+        (((all s).0 h.0, λ was. none_happened _ was.1), h.1),
+    λ h. (first.queue.ones s).1 ((all s).1 h.0.0, h.1),
+  );
 }
 
 -- the queue of a run has what the calls on it ask for
@@ -369,18 +328,10 @@ pub has_queue : (c : Course) (events : List Event) (waits : List ℕ) (queue : V
 has_queue c events waits queue course ready room = record {
   once = ready.once;
   none = λ s there.
-      let h = ready.queued s there in
-      (omega (arith, planned_within c s course h.0, ready.bound), h.1);
+      let h = (ready.ones s).0 there in
+      (omega (arith, planned_within c s course h.0.0, ready.bound), h.1);
   room = omega (arith, ready.bound, room);
 }
-
--- what stands in it is a service
-pub queue_known : (c : Course) (events : List Event) (waits queue : List ℕ) (left : List Bool)
-    → IsCourse c → AreReady c events waits queue → length left ≡ length c.needs
-    → All (λ s. s < length left) queue
-queue_known c events waits queue left course ready bound k d low =
-    let there = ready.queued (slice_index_or queue k d) (Contains-get_or queue k d low) in
-    omega (arith, planned_within c (slice_index_or queue k d) course there.0, bound)
 
 -- what waits for some is to move
 waits_are_planned : (c : Course) (events : List Event) (waits queue : List ℕ)
@@ -403,7 +354,10 @@ pub can_note_ready : (c : Course) (events : List Event) (old : Ready) (e : Event
     → IsRun c events → AreReady c events old.waits.items old.queue.items
     → length c.needs ≤ vec_capacity old.queue → IsLegal c events e
     → CanNoteReady c.needs c.lower c.raise old e
-can_note_ready c events old (Take w s) course run ready room legal = tt
+can_note_ready c events old (Take w s) course run ready room legal = (
+  (ready_moves c events old.waits.items old.queue.items course run ready s).1 legal.3,
+  ready.once,
+)
 can_note_ready c events old (Done w s o) course run ready room legal = λ well. record {
   known = planned_within c s course (taken_was_planned c events w s run legal.1.0);
   bound = ready.bound;
@@ -431,19 +385,17 @@ can_note_ready c events old (Done w s o) course run ready room legal = λ well. 
 can_note_ready c events old (Stop w m) course run ready room legal = tt
 
 -- and what was written in says what the events say
-pub ready_noted : (c : Course) (events : List Event) (left : List Bool) (old new : Ready)
-    (e : Event) → IsCourse c → IsRun c events
-    → AreReady c events old.waits.items old.queue.items
+pub ready_noted : (c : Course) (events : List Event) (old new : Ready) (e : Event) → IsCourse c
+    → IsRun c events → AreReady c events old.waits.items old.queue.items
     → length c.needs ≤ vec_capacity old.queue → IsLegal c events e
-    → Holds left (IsLeft c (events ++ e ∷ []))
-    → NotesReady c.needs c.lower c.raise old e left new
+    → NotesReady c.needs c.lower c.raise old e new
     → AreReady c (events ++ e ∷ []) new.waits.items new.queue.items
     × (length c.needs ≤ vec_capacity new.queue)
-ready_noted c events left old new (Take w s) course run ready room legal ones notes = (
-  ready_after_take c events w s left old new course run legal.3 ready ones notes,
+ready_noted c events old new (Take w s) course run ready room legal notes = (
+  ready_after_take c events w s old new course run legal.3 ready notes,
   omega (arith, room, notes.capacity),
 )
-ready_noted c events left old new (Done w s o) course run ready room legal ones notes =
+ready_noted c events old new (Done w s o) course run ready room legal notes =
     elim (is_set_or_not (is_success o)) [
       | inl well ↦ (let arrival = notes.0 well in (
         ready_after_success c events w s o old new course run legal.1 well ready arrival,
@@ -457,7 +409,7 @@ ready_noted c events left old new (Done w s o) course run ready room legal ones 
           (still course run legal.1 fails ready, room)
           )
     ]
-ready_noted c events left old new (Stop w m) course run ready room legal ones notes =
+ready_noted c events old new (Stop w m) course run ready room legal notes =
     subst (λ (r : Ready). AreReady c (events ++ Stop w m ∷ []) r.waits.items r.queue.items
     × (length c.needs ≤ vec_capacity r.queue)) (sym notes)
     (ready_after_stop c events w m old.waits.items old.queue.items course ready, room)

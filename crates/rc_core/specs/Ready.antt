@@ -1,7 +1,7 @@
 -- Which services may be taken: how many others each waits for, and a queue of those that wait for
 -- none.
-use Rattle.std.specs.Prelude.{◌≡◌, ◌≢◌, ◌-◌, ◌<◌, ◌≤◌, ◌⊎◌, ◌↔◌, ℕ, List, Bool, true, false, length}
-use Rattle.std.specs.Prelude.{slice_index, slice_index_or, Contains, vec_len, vec_capacity}
+use Rattle.std.specs.Prelude.{◌≡◌, ◌≢◌, ◌<◌, ◌≤◌, ◌⊎◌, ◌↔◌, ℕ, List, Bool, true, false, length}
+use Rattle.std.specs.Prelude.{slice_index, slice_index_or, Contains, All, vec_len, vec_capacity}
 use Rattle.std.specs.Global.{Vec}
 use Rattle.rc_model.specs.Line.{Lists}
 use Rattle.rc_model.specs.Names.{Has}
@@ -31,27 +31,27 @@ IsMissing c events s t =
     (Has c.raise s × Needs c.needs s t × (standing_of c events t ≢ Up))
     ⊎ (Has c.lower s × Needs c.needs t s × (standing_of c events t ≢ Down))
 
--- this stands last in a queue
-abbrev pub IsLast : List ℕ → ℕ → Type 0
-IsLast queue s = (0 < length queue) × (slice_index queue (length queue - 1) ≡ s)
-
--- what stands last in a queue is none of those that were never taken
-abbrev pub EndsTaken : List Bool → List ℕ → Type 0
-EndsTaken left queue =
-    (0 < length queue) × (Has left (slice_index queue (length queue - 1)) → ⊥)
-
--- the counts are those of what is missing, 0 for what is not to move; the queue has the services
--- that are to move, were never taken and miss nothing, each once. Others that were taken may stand
--- in it too, but not last
+-- the counts are those of what is missing, 0 for what is not to move, and the queue has exactly the
+-- services that are to move, were never taken and miss nothing, each once
 pub record AreReady (c : Course) (events : List Event) (waits queue : List ℕ) : Type 0 where
   pub bound : length waits ≡ length c.needs
   pub counts : (s : ℕ) → IsPlanned c s → IsCount (IsMissing c events s) (slice_index waits s)
   pub idle : (s : ℕ) → (IsPlanned c s → ⊥) → slice_index waits s ≡ 0
   pub taken : (s : ℕ) → WasTaken events s → slice_index waits s ≡ 0
   pub once : AreDistinct queue
-  pub queued : (s : ℕ) → Contains queue s → IsPlanned c s × (slice_index waits s ≡ 0)
-  pub ones : (s : ℕ) → IsLeft c events s → slice_index waits s ≡ 0 → Contains queue s
-  pub last : (s : ℕ) → IsLast queue s → IsLeft c events s
+  pub ones : (s : ℕ) → Contains queue s ↔ (IsLeft c events s × (slice_index waits s ≡ 0))
+
+-- of each service of a queue its place in it is written down
+abbrev pub ArePlaces : List ℕ → List ℕ → Type 0
+ArePlaces queue places =
+    (k : ℕ) → k < length queue → slice_index places (slice_index queue k) ≡ k
+
+-- the places of the queue are written down, in a list with a place for each service
+pub record IsPlaced (r : Ready) : Type 0 where
+  pub bound : length r.places.items ≡ length r.waits.items
+  pub small : length r.waits.items ≤ 4096
+  pub known : All (λ s. s < length r.waits.items) r.queue.items
+  pub places : ArePlaces r.queue.items r.places.items
 
 -- the queue has room for as many services as there are, and in it each stands once and waits for
 -- none
@@ -68,17 +68,11 @@ pub record Arrives (list : List ℕ) (old new : Ready) : Type 0 where
   pub meets : Meets those old.queue.items old.waits.items new.queue.items new.waits.items
   pub capacity : vec_capacity new.queue ≡ vec_capacity old.queue
 
--- what is left of a queue is its front, and nothing that is gone was never taken
-pub record IsFront (old : List ℕ) (left : List Bool) (new : List ℕ) : Type 0 where
-  pub within : length new ≤ length old
-  pub front : (k : ℕ) → k < length new → slice_index new k ≡ slice_index old k
-  pub gone : (k : ℕ) → length new ≤ k → k < length old → Has left (slice_index old k) → ⊥
-
--- what stands last is taken out of the queue, as long as it was taken
-pub record DropsTaken (old : Ready) (left : List Bool) (new : Ready) : Type 0 where
+-- a service is taken out of the queue
+pub record TakesOut (old : Ready) (s : ℕ) (new : Ready) : Type 0 where
   pub waits : new.waits.items ≡ old.waits.items
-  pub front : IsFront old.queue.items left new.queue.items
-  pub ends : EndsTaken left new.queue.items → ⊥
+  pub once : AreDistinct new.queue.items
+  pub ones : (t : ℕ) → Contains new.queue.items t ↔ (Contains old.queue.items t × (t ≢ s))
   pub capacity : vec_capacity new.queue ≡ vec_capacity old.queue
 
 -- a service that has arrived is waited for by this one, which goes the same way
@@ -130,6 +124,7 @@ pub record IsFirstReady (needs : List (List ℕ)) (up lower raise planned : List
   pub counts : (s : ℕ) → s < length needs
       → IsFirstCount needs up lower raise s (slice_index r.waits.items s)
   pub queue : Queues r.waits.items planned r.queue
+  pub placed : IsPlaced r
 
 -- a service that has arrived can be written in: of its neighbours those that wait for it are those
 -- that wait for some, and the queue has room
@@ -146,16 +141,16 @@ pub record CanArrive (needs : List (List ℕ)) (lower raise : List Bool) (s : �
 
 -- an event can be written in
 abbrev pub CanNoteReady : List (List ℕ) → List Bool → List Bool → Ready → Event → Type 0
-CanNoteReady needs lower raise old (Take w s) = Unit {0}
+CanNoteReady needs lower raise old (Take w s) =
+    Contains old.queue.items s × AreDistinct old.queue.items
 CanNoteReady needs lower raise old (Done w s o) =
     is_success o ≡ true → CanArrive needs lower raise s old
 CanNoteReady needs lower raise old (Stop w m) = Unit {0}
 
--- an event is written in, after which these are left
-abbrev pub NotesReady : List (List ℕ) → List Bool → List Bool → Ready → Event → List Bool → Ready
-    → Type 0
-NotesReady needs lower raise old (Take w s) left new = DropsTaken old left new
-NotesReady needs lower raise old (Done w s o) left new =
+-- an event is written in
+abbrev pub NotesReady : List (List ℕ) → List Bool → List Bool → Ready → Event → Ready → Type 0
+NotesReady needs lower raise old (Take w s) new = TakesOut old s new
+NotesReady needs lower raise old (Done w s o) new =
     (is_success o ≡ true → NotesArrival needs lower raise s old new)
     × (is_success o ≡ false → new ≡ old)
-NotesReady needs lower raise old (Stop w m) left new = new ≡ old
+NotesReady needs lower raise old (Stop w m) new = new ≡ old

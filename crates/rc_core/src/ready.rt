@@ -6,9 +6,10 @@ ghost use Rattle.std.specs.Prelude.{length, slice_index, slice_index_or, slice_s
 ghost use Rattle.std.specs.Prelude.{vec_capacity};
 ghost use Rattle.rc_model.specs.Names.{IsAscending};
 ghost use Rattle.rc_model.specs.Graph.{AreNeeds};
-ghost use Rattle.rc_core.specs.Ready.{AreAlike, IsCount, IsLast, HasQueue, Arrives, DropsTaken};
-ghost use Rattle.rc_core.specs.Ready.{EndsTaken, IsFirstReady, IsFirstCount, NotesArrival};
-ghost use Rattle.rc_core.specs.Ready.{Queues, CanArrive, Counts, IsCountUp, IsCountDown};
+ghost use Rattle.rc_graph.specs.Order.{AreDistinct};
+ghost use Rattle.rc_core.specs.Ready.{AreAlike, IsCount, HasQueue, Arrives, TakesOut, IsFirstReady};
+ghost use Rattle.rc_core.specs.Ready.{IsFirstCount, IsNext, NotesArrival, Queues, CanArrive};
+ghost use Rattle.rc_core.specs.Ready.{IsPlaced, ArePlaces, Counts, IsCountUp, IsCountDown};
 
 use rc_graph::Graph;
 use rc_set::{NoMem, Set};
@@ -21,8 +22,9 @@ pub(crate) struct Ready {
     /// it is to come up; of those that need it, where it is to go down.
     pub(crate) waits: Vec<u16>,
     /// The services that are to move, were never taken and wait for none. The last is taken next.
-    /// Before it may stand others that were taken out of turn.
     pub(crate) queue: Vec<u16>,
+    /// Where each service of the queue stands in it.
+    pub(crate) places: Vec<u16>,
 }
 
 impl Ready {
@@ -44,13 +46,18 @@ impl Ready {
     {
         let waits = waits_of(alloc, graph, up, lower, raise)?;
         let queue = queue_of(alloc, &waits, planned)?;
-        Ok(Ready { waits, queue })
+        let places = places_of(alloc, &queue, graph.len())?;
+        Ok(Ready {
+            waits,
+            queue,
+            places,
+        })
     }
 
     /// The service that is to be taken next.
     #[inline(always)]
     pub(crate) fn first(&self) -> Option<u16>
-        ensures some { IfSome result (IsLast self.now.queue.items) }
+        ensures some { IfSome result (λ s. Contains self.now.queue.items s) }
         ensures none { IfNone result (self.now.queue.items ≡ []) }
     {
         match self.queue.last() {
@@ -90,6 +97,8 @@ impl Ready {
         requires lower { length lower.now ≡ length graph.now }
         requires raise { length raise.now ≡ length graph.now }
         requires can { IsTrue well → CanArrive graph.now lower.now raise.now service self.old }
+        requires placed { IsPlaced self.old }
+        ensures placed { IsPlaced self.new }
         ensures arrived { IsTrue well →
             NotesArrival graph.now lower.now raise.now service self.old self.new }
         ensures failed { well ≡ false → self.new ≡ self.old }
@@ -99,26 +108,19 @@ impl Ready {
         }
     }
 
-    /// Takes what stands last out of the queue, as long as that was taken.
+    /// Takes a service out of the queue. What stands last takes its place.
     #[inline(always)]
-    pub(crate) fn drop_taken(&mut self, left: &Set)
-        requires { All (λ s. s < length left.now) self.old.queue.items }
-        ensures { DropsTaken self.old left.now self.new }
+    pub(crate) fn take_out(&mut self, service: u16)
+        requires queued { Contains self.old.queue.items service }
+        requires placed { IsPlaced self.old }
+        ensures taken { TakesOut self.old service self.new }
+        ensures placed { IsPlaced self.new }
     {
-        while self.ends_taken(left) {
-            self.queue.pop();
-        }
-    }
-
-    /// Whether what stands last in the queue was taken.
-    #[inline(always)]
-    fn ends_taken(&self, left: &Set) -> bool
-        requires { All (λ s. s < length left.now) self.now.queue.items }
-        ensures { IsTrue result ↔ EndsTaken left.now self.now.queue.items }
-    {
-        match self.queue.last() {
-            Some(service) => !left.contains(*service),
-            None => false,
+        let at = self.places[service as usize];
+        self.queue.swap_remove(at as usize);
+        if (at as usize) < self.queue.len() {
+            let moved = self.queue[at as usize];
+            self.places[moved as usize] = at;
         }
     }
 
@@ -128,7 +130,9 @@ impl Ready {
         requires list { IsAscending list.now }
         requires known { All (λ t. t < length self.old.waits.items) list.now }
         requires queue { HasQueue self.old.waits.items self.old.queue }
-        ensures { Arrives list.now self.old self.new }
+        requires placed { IsPlaced self.old }
+        ensures arrived { Arrives list.now self.old self.new }
+        ensures placed { IsPlaced self.new }
     {
         for service in list {
             if self.waits_for_some(*service) {
@@ -144,7 +148,9 @@ impl Ready {
         requires lower { length lower.now ≡ length graph.now }
         requires raise { length raise.now ≡ length graph.now }
         requires can { CanArrive graph.now lower.now raise.now service self.old }
-        ensures { NotesArrival graph.now lower.now raise.now service self.old self.new }
+        requires placed { IsPlaced self.old }
+        ensures arrived { NotesArrival graph.now lower.now raise.now service self.old self.new }
+        ensures placed { IsPlaced self.new }
     {
         if lower.contains(service) {
             self.arrive(graph.needs(service));
@@ -160,6 +166,10 @@ impl Ready {
         requires missing { 0 < slice_index self.old.waits.items service }
         requires room { slice_index self.old.waits.items service ≡ 1 →
             vec_len self.old.queue < vec_capacity self.old.queue }
+        requires few { slice_index self.old.waits.items service ≡ 1 →
+            vec_len self.old.queue < length self.old.waits.items }
+        requires out { Contains self.old.queue.items service → ⊥ }
+        requires placed { IsPlaced self.old }
         ensures missing { self.new.waits.items ≡ slice_set self.old.waits.items service
             (slice_index self.old.waits.items service - 1) }
         ensures last { slice_index self.old.waits.items service ≡ 1 →
@@ -167,10 +177,12 @@ impl Ready {
         ensures more { slice_index self.old.waits.items service ≢ 1 →
             self.new.queue.items ≡ self.old.queue.items }
         ensures capacity { vec_capacity self.new.queue ≡ vec_capacity self.old.queue }
+        ensures placed { IsPlaced self.new }
     {
         let left = self.waits[service as usize] - 1;
         self.waits[service as usize] = left;
         if left == 0 {
+            self.places[service as usize] = self.queue.len() as u16;
             self.queue.push_reserved(service);
         }
     }
@@ -306,4 +318,19 @@ fn queue_of(alloc: Global, waits: &[u16], planned: &Set) -> Result<Vec<u16>, NoM
     }
     queue.reverse();
     Ok(queue)
+}
+
+/// Where each service of a queue stands in it.
+fn places_of(alloc: Global, queue: &[u16], services: u16) -> Result<Vec<u16>, NoMem>
+    requires once { AreDistinct queue.now }
+    requires known { All (λ s. s < services) queue.now }
+    requires few { length queue.now ≤ 4096 }
+    ensures bound { IfOk result (λ places. length places.items ≡ services) }
+    ensures places { IfOk result (λ places. ArePlaces queue.now places.items) }
+{
+    let mut places = vec![in alloc; 0; services as usize]?;
+    for (place, service) in queue.iter().enumerate() {
+        places[*service as usize] = place as u16;
+    }
+    Ok(places)
 }

@@ -38,8 +38,7 @@ pub struct NotLegal;
 /// It borrows nothing. No call but `open` can be refused as out of memory. Time: `open` grows with
 /// the services that move and their pairs, `take_apart` with the services that do not arrive, and
 /// both pass over sets and lists a word at a time; `done` grows with those that the service needs
-/// or that need it; the others take one step, and a take passes over what `step` took out of turn
-/// before, each once. So a whole run looks at each service and pair once.
+/// or that need it; the others take one step. So a whole run looks at each service and pair once.
 #[derive(Drop)]
 pub struct Run {
     pub(crate) graph: Graph,
@@ -56,7 +55,7 @@ pub struct Run {
 
 impl Model for Run {
     ghost use Rattle.std.specs.Prelude.{◌≤◌, length, vec_capacity};
-    ghost use Rattle.rc_core.specs.Ready.{AreReady};
+    ghost use Rattle.rc_core.specs.Ready.{AreReady, IsPlaced};
     ghost use Rattle.rc_core.specs.Settled.{RunSoFar};
     ghost use Rattle.rc_core.specs.Tables.{IsKept, IsRoomFor};
 
@@ -81,7 +80,7 @@ impl Model for Run {
       deadline = r.deadline;
     })
         r.trace r.tables
-        × IsRoomFor (length r.graph) r.left_room
+        × IsPlaced r.ready × IsRoomFor (length r.graph) r.left_room
         × AreReady
         (record {
           needs = r.graph;
@@ -293,7 +292,7 @@ impl Run {
         ensures { self.new ≡ with_event self.old (Event.Take worker service) }
     {
         self.tables.note_take(worker, service);
-        self.ready.drop_taken(&self.tables.left);
+        self.ready.take_out(service);
         self.trace.push_reserved(Event::Take(worker, service));
     }
 

@@ -1,6 +1,6 @@
 //! The lines of a text, written at the end of bytes.
-ghost use Rattle.std.specs.Prelude.{◌≡◌, ◌<◌, ◌∷◌, ◌++◌, [], length, map, All, IfSome, OnOk, codes};
-ghost use Rattle.std.specs.Prelude.{string_bytes, unwrap_or};
+ghost use Rattle.std.specs.Prelude.{◌≡◌, ◌<◌, ◌∷◌, ◌++◌, [], length, map, All, IfSome, OnOk, OnErr};
+ghost use Rattle.std.specs.Prelude.{codes, string_bytes, unwrap_or};
 ghost use Rattle.std.specs.Fmt.{decimal};
 ghost use Rattle.std.specs.Option.{option_map};
 ghost use Rattle.rc_dbtext.specs.Text.{OfDown, OfNeeds, OfProducer, OfService, OfUp, body_lines};
@@ -12,7 +12,7 @@ ghost use Rattle.rc_dbtext.specs.Spelling.{body_of, head_of, members, name_at};
 use rc_db::{NoMem, Service};
 use rc_names::{Kind, Name, Names};
 use rc_set::Set;
-use std::alloc::Global;
+use std::alloc::{AllocError, Global};
 
 /// The first line of a service.
 pub(crate) fn push_head(
@@ -66,7 +66,7 @@ pub(crate) fn push_needs(out: &mut Vec<u8>, names: &Names, needs: &[u16]) -> Res
     Ok(())
 }
 
-/// A bundle: its name, and those of its services.
+/// A bundle: its name, and those of its services. Out of memory, the bytes stay as they were.
 #[tactic(auto, using(crate::proofs::LineLemmas::bundle_line))]
 pub fn push_bundle(
     alloc: Global,
@@ -76,21 +76,29 @@ pub fn push_bundle(
     set: &Set,
 ) -> Result<(), NoMem>
     requires { length set.now ≡ length names.now }
-    ensures { OnOk result (out.new.items ≡ out.old.items
+    ensures written { OnOk result (out.new.items ≡ out.old.items
         ++ line_of_words (codes "bundle" ∷ name.now ∷ map (name_at names.now) (members set.now))) }
+    ensures same { OnErr result (out.new.items ≡ out.old.items) }
 {
+    let before = out.len();
     out.extend_from_slice(b"bundle")?;
-    push_word(out, name.text().as_bytes())?;
-    push_set(alloc, out, names, set)?;
-    out.extend_from_slice(b"\n")?;
-    Ok(())
+    if push_word(out, name.text().as_bytes()).is_ok()
+        && push_set(alloc, out, names, set).is_ok()
+        && out.extend_from_slice(b"\n").is_ok()
+    {
+        return Ok(());
+    }
+    out.truncate(before);
+    Err(AllocError)
 }
 
-/// The names of the services of a set, a space before each.
+/// The names of the services of a set, a space before each. Out of memory, the bytes stay as they
+/// were.
 pub fn push_set(alloc: Global, out: &mut Vec<u8>, names: &Names, set: &Set) -> Result<(), NoMem>
     requires { length set.now ≡ length names.now }
-    ensures { OnOk result (out.new.items ≡ out.old.items
+    ensures written { OnOk result (out.new.items ≡ out.old.items
         ++ words_after_spaces (map (name_at names.now) (members set.now))) }
+    ensures same { OnErr result (out.new.items ≡ out.old.items) }
 {
     // The names ascend.
     let _count = names.len();
@@ -195,36 +203,51 @@ pub(crate) fn push_count(
     push_line(out, word, number.as_bytes())
 }
 
-/// A line of two words.
+/// A line of two words. Out of memory, the bytes stay as they were.
 #[tactic(auto, using(crate::proofs::LineLemmas::two_words))]
 pub fn push_line(out: &mut Vec<u8>, first: &[u8], second: &[u8]) -> Result<(), NoMem>
-    ensures { OnOk result (out.new.items ≡ out.old.items
+    ensures written { OnOk result (out.new.items ≡ out.old.items
         ++ line_of_words (first.now ∷ second.now ∷ [])) }
+    ensures same { OnErr result (out.new.items ≡ out.old.items) }
 {
+    let before = out.len();
     out.extend_from_slice(first)?;
-    push_word(out, second)?;
-    out.extend_from_slice(b"\n")?;
-    Ok(())
+    if push_word(out, second).is_ok() && out.extend_from_slice(b"\n").is_ok() {
+        return Ok(());
+    }
+    out.truncate(before);
+    Err(AllocError)
 }
 
-// The names of services, a space before each.
+// The names of services, a space before each. Out of memory, the bytes stay as they were.
 fn push_ids(out: &mut Vec<u8>, names: &Names, ids: &[u16]) -> Result<(), NoMem>
     requires { All (λ id. id < length names.now) ids.now }
-    ensures { OnOk result (out.new.items ≡ out.old.items
+    ensures written { OnOk result (out.new.items ≡ out.old.items
         ++ words_after_spaces (map (name_at names.now) ids.now)) }
+    ensures same { OnErr result (out.new.items ≡ out.old.items) }
 {
+    let before = out.len();
     for id in ids {
-        push_word(out, word_at(names, *id))?;
+        let Ok(()) = push_word(out, word_at(names, *id)) else {
+            out.truncate(before);
+            return Err(AllocError);
+        };
     }
     Ok(())
 }
 
-/// A space and a word.
+/// A space and a word. Out of memory, the bytes stay as they were.
 pub fn push_word(out: &mut Vec<u8>, word: &[u8]) -> Result<(), NoMem>
-    ensures { OnOk result (out.new.items ≡ out.old.items ++ 32 ∷ word.now) }
+    ensures written { OnOk result (out.new.items ≡ out.old.items ++ 32 ∷ word.now) }
+    ensures same { OnErr result (out.new.items ≡ out.old.items) }
 {
+    let before = out.len();
     out.extend_from_slice(b" ")?;
-    out.extend_from_slice(word)
+    if out.extend_from_slice(word).is_err() {
+        out.truncate(before);
+        return Err(AllocError);
+    }
+    Ok(())
 }
 
 // How a kind is written.

@@ -1,12 +1,13 @@
 -- Lists in a table of short vectors: what a row holds, and rows that are counted or added.
 use Rattle.std.proofs.Common.{◌≡◌, ◌∙◌, inl, inr, ℕ, ◌+◌, ◌<◌, ◌↔◌, List, [], All, Contains, length}
-use Rattle.std.proofs.Common.{map, replicate, take, slice_index_or, ◌∷◌, ◌++◌, ◌≤◌, zero, suc, refl}
-use Rattle.std.proofs.Common.{arith, ap, sym, subst}
+use Rattle.std.proofs.Common.{map, replicate, take, slice_index, slice_index_or, ◌∷◌, ◌++◌, ◌≤◌}
+use Rattle.std.proofs.Common.{◌-◌, zero, suc, refl, arith, ap, sym, subst}
 use Rattle.smallvec.specs.SmallVec.{SmallVec}
 use Rattle.std.proofs.lemmas.List.{get_or-map, length-map, map_more, map_push, replicate_more}
 use Rattle.std.proofs.lemmas.List.{take_all}
 use Rattle.std.proofs.lemmas.List.Elements.{Contains-get_or}
-use Rattle.std.proofs.lemmas.Bool.{cases_lt}
+use Rattle.std.proofs.lemmas.Bool.{cases_lt, cases_eq}
+use Rattle.rc_model.specs.Names.{IsAscending}
 use Rattle.rc_model.specs.Graph.{Needs, AreServices}
 use Rattle.rc_graph.specs.Needs.{IsReverse}
 use Rattle.rc_graph.specs.Rows.{rows}
@@ -122,3 +123,26 @@ pub reverse_known : (needs needed_by : List (List ℕ)) → IsReverse needs need
 reverse_known needs needed_by reverse t s h =
     let low : s < length needs = needer_known needs s t ((reverse.same s t).0 h) in
     omega (arith, reverse.few)
+
+-- an ascending list has no number below its place
+pub at_least : (list : List ℕ) (k : ℕ) → IsAscending list → k < length list → k ≤ slice_index list k
+at_least list zero up within = omega arith
+at_least list (suc k) up within =
+    let before : k < suc k = omega arith in
+    let less : slice_index_or list k 0 < slice_index_or list (suc k) 0 =
+    up k (suc k) 0 before within in
+    let far : k ≤ slice_index list k = at_least list k up (omega arith) in
+    omega (arith, less, far)
+
+-- and no more of them than there are below a bound
+pub short_list : (list : List ℕ) (bound : ℕ) → IsAscending list → All (λ (t : ℕ). t < bound) list
+    → length list ≤ bound
+short_list list bound up known = elim (cases_eq (length list) 0) [
+  | inl none ↦ omega arith
+  | inr some ↦
+      let last = length list - 1 in
+      let within : last < length list = omega arith in
+      let far : last ≤ slice_index list last = at_least list last up within in
+      let low : slice_index list last < bound = known last 0 within in
+      omega (arith, far, low)
+]

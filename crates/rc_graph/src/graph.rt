@@ -16,8 +16,8 @@ use std::sync::Arc;
 /// which goes with the last of them.
 ///
 /// Time: `share`, `needs`, `needed_by`, `order` and `len` take one step. `closed`, `up_of` and
-/// `down_of` grow with the members of the set that they are given, or that they return, and the
-/// pairs of these; they look at each word of that set.
+/// `down_of` look once at each service, and at the pairs of those that are in the set that they are
+/// given, or that they return. `same` compares two slices with a number for each service and pair.
 pub struct Graph {
     pub(crate) lists: Arc<Lists, Global>,
 }
@@ -31,6 +31,9 @@ pub(crate) struct Lists {
     pub(crate) needs: Vec<Row>,
     pub(crate) needed_by: Vec<Row>,
     pub(crate) order: Vec<u16>,
+    /// What each service needs once more, in one list, each behind its length. By it two graphs are
+    /// compared. It takes 2 bytes for each service and pair.
+    pub(crate) flat: Vec<u16>,
 }
 
 impl Model for Graph {
@@ -44,7 +47,8 @@ impl Model for Graph {
     ghost view = { λ g. rows (arc_value g.lists).needs.items };
 
     ghost invariant = { λ g. let lists = arc_value g.lists in
-        IsGraph (rows lists.needs.items) (rows lists.needed_by.items) lists.order.items };
+        IsGraph (rows lists.needs.items) (rows lists.needed_by.items) lists.order.items
+        lists.flat.items };
 }
 
 // Not derived: a crate that lets one go calls this, and proves nothing of its parts.
@@ -71,6 +75,13 @@ impl Graph {
         ensures acyclic { IsAcyclic self.now }
     {
         self.lists.needs.len() as u16
+    }
+
+    /// Whether two graphs have as many services, and these need the same.
+    pub fn same(&self, other: &Graph) -> bool
+        ensures { IsTrue result ↔ (self.now ≡ other.now) }
+    {
+        self.lists.flat.as_slice() == other.lists.flat.as_slice()
     }
 
     /// What a service needs, ascending.

@@ -6,6 +6,9 @@ pub mod Works
 pub mod Recovering
 -- What a run log says of the text that stands in the file of its session.
 pub mod Logs
+-- What the two files of a session hold since they were read, and what a crash may have left of
+-- them since.
+pub mod Held
 -- What came of a run log beside the file of a session that is locked.
 pub mod Recovered
 -- What is found beside the file of a session, and that its runs are logged.

@@ -8,8 +8,7 @@ use Rattle.rc_launch.specs.declared.live_store.LiveStore.{LiveStore}
 use Rattle.rc_launch.specs.declared.loading.Loaded.{Loaded}
 use Rattle.rc_launch.specs.declared.opened.Opened.{Opened}
 use Rattle.rc_launch.specs.declared.work.Work.{Work}
-use Rattle.rc_launch.specs.Works.{IsAsLoaded, IsEventless, IsLoaded, MovesBy}
-use Rattle.rc_launch.specs.Works.{again_in, session_in}
+use Rattle.rc_launch.specs.Works.{IsAsLoaded, IsLoaded, MovesBy, again_in, session_in}
 
 -- a command is opened with what was read of it, of the file of its session, and beside that: where
 -- the file is locked its run log was read and dealt with, and runs are logged
@@ -21,7 +20,6 @@ pub record IsOpenedAs (loaded : Loaded) (moves : Bool) (store : LiveStore)
   pub again : (again_in opened.loaded ≡ true) ↔ GoesOnBy loaded opened.note
   pub runs : AreRunsOf (making_ask_of (session_in loaded).making) store opened.runs
   pub moving : opened.moves ≡ moves
-  pub eventless : IsEventless opened.loaded
 
 -- the lock was asked for of this file where something is to be done, and else of none
 abbrev pub LocksFor : (moves : Bool) → (live : Option (Bor (List ℕ))) → LiveStore → Type 0

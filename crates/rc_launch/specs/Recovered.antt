@@ -5,6 +5,7 @@ use Rattle.std.specs.Borrow.{Bor}
 use Rattle.rc_recovery.specs.Files.{Files}
 use Rattle.rc_update.specs.Conversions.{conversions_of}
 use Rattle.rc_cli.specs.Begun.{BeginsUpdate}
+use Rattle.rc_launch.specs.Held.{files_held}
 use Rattle.rc_launch.specs.Logs.{IsCutBy}
 use Rattle.rc_launch.specs.Recovering.{IsNoBase, Leaves, LeavesNothing, LeavesUnfit}
 use Rattle.rc_launch.specs.Works.{base_of, bytes_in, other_of}
@@ -26,10 +27,6 @@ found_in read = option_map (λ bytes. bytes.items) read.found
 abbrev pub files_read : ReadFiles → Files
 files_read read =
     record { file = unwrap_or (found_in read) []; log = read.logged.bytes.items }
-
--- and what they hold since
-abbrev pub files_held : HeldFiles → Files
-files_held held = record { file = held.file.items; log = held.log.items }
 
 -- the log that was read is that of a command on the text that stood in the file
 abbrev pub IsCut : ReadFiles → Type 0

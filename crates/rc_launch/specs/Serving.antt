@@ -48,12 +48,9 @@ abbrev pub IsRestartOf : NamedRequest → Service → Type 0
 IsRestartOf request (Restart names) = map string_bytes names.now ≡ (named_ask_of request).names
 IsRestartOf request other = ⊥
 
--- up to which level messages are written: a session of lines reports no transition unless that is
--- asked
+-- up to which level messages are written
 abbrev pub IsLogFor : Loaded → LevelFilter → Type 0
-IsLogFor (loaded.Lines request base) level = level ≡ level_by request.tells false request.quiet
-IsLogFor other level =
-    level ≡ level_by (session_in other).tells true (session_in other).quiet
+IsLogFor loaded level = level ≡ level_by (session_in loaded).verbosity
 
 -- a command was carried out on what was read, with this status: as a session of lines, or of one
 -- line, as an update, a restart, a seal or a question

@@ -2,7 +2,7 @@
 use Rattle.std.specs.Prelude.{◌≡◌, ◌≢◌, ℕ, Bool, List, Option, None, Some, false}
 use Rattle.std.specs.Prelude.{option_map}
 use Rattle.std.specs.Borrow.{Bor}
-use Rattle.rc_args.specs.OnceAsked.{HasNoEvents, once_ask_of, once_saying_of}
+use Rattle.rc_args.specs.OnceAsked.{once_saying_of}
 use Rattle.rc_args.specs.UpdateAsked.{update_ask_of}
 use Rattle.rc_args.specs.declared.once_words.Once.{Once}
 use Rattle.rc_args.specs.declared.update_words.UpdateRequest.{UpdateRequest}
@@ -32,11 +32,6 @@ MovesBy (work.Restart request file) = Unit {0}
 MovesBy (work.Seal request file) = Unit {0}
 MovesBy (work.Status request file) = ⊥
 
--- one line of it brings no events
-abbrev pub IsEventlessWork : Work → Type 0
-IsEventlessWork (work.Line request file) = HasNoEvents (once_ask_of request).what
-IsEventlessWork other = Unit {0}
-
 -- what is asked of the session, where the databases are read
 abbrev pub session_in : Loaded → SessionRequest
 session_in (loaded.Lines request base) = request
@@ -45,11 +40,6 @@ session_in (loaded.Update request old new) = request.session
 session_in (loaded.Restart request base) = request.session
 session_in (loaded.Seal request base) = request
 session_in (loaded.Status request base) = request.session
-
--- one line of it brings no events
-abbrev pub IsEventless : Loaded → Type 0
-IsEventless (loaded.Line request base) = HasNoEvents (once_ask_of request).what
-IsEventless other = Unit {0}
 
 -- the path of a file that was read, and its bytes
 abbrev pub path_of : FileText → Bor (List ℕ)

@@ -4,7 +4,6 @@
 //! `rc_cli::queries` cover the answers.
 
 mod answers;
-mod asking;
 mod compiling;
 mod databases;
 mod exposure;
@@ -12,12 +11,13 @@ mod fault_lines;
 mod files;
 mod hints;
 mod moves;
+mod querying;
 mod terminal;
 
 pub use crate::frontend::answers::Answers;
-pub use crate::frontend::asking::{Asked, ask};
 pub use crate::frontend::compiling::compile;
 pub use crate::frontend::fault_lines::Told;
 pub use crate::frontend::hints::{Seen, ToldErrors, behind_session, tell_failure, tell_file};
 pub use crate::frontend::moves::{tell_moves, tell_renames};
+pub use crate::frontend::querying::query;
 pub use crate::frontend::terminal::Typed;

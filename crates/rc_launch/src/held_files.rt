@@ -1,22 +1,43 @@
 //! The two files of a session on a disk, as they were read while it was locked.
 ghost use Rattle.std.specs.Prelude.{◌≡◌, IfOk, IsSome, option_map, unwrap_or, []};
+ghost use Rattle.rc_launch.specs.Held.{IsUnwritten, WasLeft, files_held};
 
 use crate::texts::ReadFiles;
 use rc_recovery::{FileFault, TwoFiles};
 use rc_streams::replaced_file::replace;
 use rc_streams::run_file;
 use std::alloc::{AllocError, Global};
-use std::io;
+use std::{io, mem};
 
-/// The file of a session and its run log, with what they hold since they were read and, after a
-/// call that failed, why. Contracts see what was read and written: nobody else writes them while
-/// they are locked.
+/// A write that was begun, with what tells what the files held before it, or what a failed one may
+/// have made of them.
+#[derive(Drop)]
+pub(crate) enum Begun {
+    /// The file was replaced. It had this text before.
+    Replaced(Vec<u8>),
+    /// The log was emptied. It had these bytes before.
+    Emptied(Vec<u8>),
+    /// Bytes were appended to the log, which had so many before.
+    Appended(usize),
+    /// Replacing the file by this text failed.
+    FailedReplace(Vec<u8>),
+    /// Appending these bytes to the log failed, so a part of them may stand there.
+    FailedAppend(Vec<u8>),
+    /// Emptying the log failed.
+    FailedEmpty,
+}
+
+/// The file of a session and its run log, with what they hold since they were read, the writes
+/// that were begun and, after a call that failed, why. Contracts see what was read and written:
+/// nobody else writes them while they are locked.
 #[derive(Drop)]
 pub struct HeldFiles<'a> {
     rt: &'a HostRuntime,
     path: &'a str,
     file: Vec<u8>,
     log: Vec<u8>,
+    /// The last one stands last.
+    begun: Vec<Begun>,
     error: Option<io::Error>,
 }
 
@@ -30,6 +51,7 @@ impl<'a> HeldFiles<'a> {
         ensures file { IfOk result (λ held. held.file.items
             ≡ unwrap_or (option_map (λ bytes. bytes.items) read.now.found) []) }
         ensures log { IfOk result (λ held. held.log.items ≡ read.now.logged.bytes.items) }
+        ensures unwritten { IfOk result IsUnwritten }
     {
         let file = Vec::from_slice(rt.alloc(), read.text())?;
         match Vec::from_slice(rt.alloc(), read.log()) {
@@ -38,6 +60,7 @@ impl<'a> HeldFiles<'a> {
                 path: read.path(),
                 file,
                 log,
+                begun: Vec::new(rt.alloc()),
                 error: None,
             }),
             Err(short) => {
@@ -56,9 +79,9 @@ impl<'a> HeldFiles<'a> {
 }
 
 impl TwoFiles for HeldFiles<'_> {
-    ghost holds = { λ f. record { file = f.file.items; log = f.log.items } };
+    ghost holds = { files_held };
 
-    ghost left = { λ f g. g ≡ record { file = f.file.items; log = f.log.items } };
+    ghost left = { WasLeft };
 
     ghost failed = { λ f. IsSome f.error };
 
@@ -77,16 +100,25 @@ impl TwoFiles for HeldFiles<'_> {
     }
 
     fn append_log(&mut self, bytes: &[u8]) -> Result<(), FileFault> {
-        if self.log.try_reserve(bytes.len()).is_err() {
+        let Ok(copy) = Vec::from_slice(self.rt.alloc(), bytes) else {
+            return Err(FileFault::Memory);
+        };
+        if self.begun.reserve(1).is_err() {
+            drop(copy);
             return Err(FileFault::Memory);
         }
         if let Err(error) = run_file::append(self.rt, self.path, bytes) {
+            self.begun.push_reserved(Begun::FailedAppend(copy));
             self.error = Some(error);
             return Err(FileFault::Io);
         }
+        let length = self.log.len();
         if self.log.extend_from_slice(bytes).is_err() {
+            self.begun.push_reserved(Begun::FailedAppend(copy));
             return Err(FileFault::Memory);
         }
+        drop(copy);
+        self.begun.push_reserved(Begun::Appended(length));
         Ok(())
     }
 
@@ -94,21 +126,31 @@ impl TwoFiles for HeldFiles<'_> {
         let Ok(copy) = Vec::from_slice(self.rt.alloc(), text) else {
             return Err(FileFault::Memory);
         };
-        if let Err(error) = replace(self.rt, self.path, text) {
+        if self.begun.reserve(1).is_err() {
             drop(copy);
+            return Err(FileFault::Memory);
+        }
+        if let Err(error) = replace(self.rt, self.path, text) {
+            self.begun.push_reserved(Begun::FailedReplace(copy));
             self.error = Some(error);
             return Err(FileFault::Io);
         }
-        self.file = copy;
+        let before = mem::replace(&mut self.file, copy);
+        self.begun.push_reserved(Begun::Replaced(before));
         Ok(())
     }
 
     fn empty_log(&mut self) -> Result<(), FileFault> {
+        if self.begun.reserve(1).is_err() {
+            return Err(FileFault::Memory);
+        }
         if let Err(error) = run_file::remove(self.rt, self.path) {
+            self.begun.push_reserved(Begun::FailedEmpty);
             self.error = Some(error);
             return Err(FileFault::Io);
         }
-        self.log.clear();
+        let before = mem::replace(&mut self.log, Vec::new(self.rt.alloc()));
+        self.begun.push_reserved(Begun::Emptied(before));
         Ok(())
     }
 }

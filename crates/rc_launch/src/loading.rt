@@ -1,7 +1,6 @@
 //! The databases of a command are read.
 ghost use Rattle.std.specs.Prelude.{◌≡◌, ◌≢◌, ◌↔◌, None, Some, true, option_map, IfOk, IsTrue};
-ghost use Rattle.rc_launch.specs.Works.{IsAsLoaded, IsEventless, IsEventlessWork, IsLoaded};
-ghost use Rattle.rc_launch.specs.Works.{IsUpdating};
+ghost use Rattle.rc_launch.specs.Works.{IsAsLoaded, IsLoaded, IsUpdating};
 ghost use Rattle.rc_launch.specs.Works.{again_in, base_of, other_of, path_of, session_in};
 ghost use Rattle.rc_launch.specs.declared.work.Work.TheVariants.{Update};
 
@@ -62,7 +61,6 @@ impl<'a> Loaded<'a> {
     pub fn with_again(self, again: bool) -> Loaded<'a>
         ensures same { IsAsLoaded self.entry result }
         ensures again { (again_in result ≡ true) ↔ (IsUpdating self.entry × IsTrue again) }
-        ensures eventless { IsEventless self.entry → IsEventless result }
     {
         match self {
             Loaded::Update(request, old, new) => {
@@ -76,7 +74,6 @@ impl<'a> Loaded<'a> {
 /// Reads the databases of a command.
 pub(crate) fn load<'a>(rt: &HostRuntime, work: Work<'a>) -> Result<Loaded<'a>, OpenFault<'a>>
     ensures loaded { IfOk result (IsLoaded work.entry) }
-    ensures eventless { IsEventlessWork work.entry → IfOk result IsEventless }
 {
     match work {
         Work::Lines(request, file) => {

@@ -2,7 +2,7 @@
 //! what a command that was cut short has moved is entered, and what stands in the file is read.
 ghost use Rattle.std.specs.Prelude.{IfOk};
 ghost use Rattle.rc_launch.specs.Opening.{AreOpened, IsOpenedAs, LocksFor, Replaces};
-ghost use Rattle.rc_launch.specs.Works.{IsEventless, IsEventlessWork, session_in};
+ghost use Rattle.rc_launch.specs.Works.{session_in};
 
 use crate::fault::OpenFault;
 use crate::live_store::LiveStore;
@@ -19,7 +19,6 @@ pub fn open<'a>(
     rt: &'a HostRuntime,
     work: Work<'a>,
 ) -> Result<(Opened<'a>, LiveStore<'a>), OpenFault<'a>>
-    requires eventless { IsEventlessWork work }
     ensures { IfOk result (λ opened. AreOpened work.entry opened.0 opened.1) }
 {
     let moves = work.moves();
@@ -35,7 +34,6 @@ fn open_loaded<'a>(
     loaded: Loaded<'a>,
     moves: bool,
 ) -> Result<(Opened<'a>, LiveStore<'a>), OpenFault<'a>>
-    requires eventless { IsEventless loaded }
     ensures { IfOk result (λ opened. IsOpenedAs loaded.entry moves opened.1 opened.0
         × LocksFor moves (session_in loaded.entry).live opened.1
         × Replaces (session_in loaded.entry).live opened.1) }
@@ -63,7 +61,6 @@ fn open_locked<'a>(
     store: &LiveStore<'a>,
     moves: bool,
 ) -> Result<Opened<'a>, OpenFault<'a>>
-    requires eventless { IsEventless loaded }
     ensures { IfOk result (IsOpenedAs loaded.entry moves store.now) }
 {
     let live = loaded.session().live;

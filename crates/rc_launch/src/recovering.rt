@@ -57,6 +57,7 @@ pub fn recover_by<F: TwoFiles>(
         LeavesNothing base.now (F.holds files.old) (F.holds files.new))) }
     ensures unfit { IsErrOf result Unrecovered.Log →
         LeavesUnfit base.now (F.holds files.old) (F.holds files.new) }
+    ensures same { IsErrOf result Unrecovered.Log → files.new ≡ files.old }
     ensures no_base { IsErrOf result Unrecovered.Database →
         IsNoBase base.now × (F.holds files.new ≡ F.holds files.old) }
     ensures io { IsErrOf result Unrecovered.Io → F.failed files.new }

@@ -2,7 +2,8 @@
 ghost use Rattle.std.specs.Prelude.{◌≡◌, ◌↔◌, IfOk, IsErrOf, IsTrue};
 ghost use Rattle.rc_launch.specs.Beside.{GoesOnBy, IsNoted, IsSeen};
 ghost use Rattle.rc_launch.specs.Recovered.{ComesBy, ComesFor, GoesOn, HasLowered, IsCut};
-ghost use Rattle.rc_launch.specs.Recovered.{IsFirstStep, IsRecovered, files_held, files_read};
+ghost use Rattle.rc_launch.specs.Held.{IsUnwritten, files_held};
+ghost use Rattle.rc_launch.specs.Recovered.{IsFirstStep, IsRecovered, files_read};
 ghost use Rattle.rc_launch.specs.Recovering.{LeavesUnfit};
 
 use crate::fault::OpenFault;
@@ -104,6 +105,7 @@ fn recover_cut<'a>(
 ) -> Result<(Recovery<'a>, bool), OpenFault<'a>>
     requires cut { IsCut read }
     requires held { files_held held ≡ files_read read }
+    requires unwritten { IsUnwritten held }
     ensures recovered { IfOk result (λ found.
         IsRecovered loaded.now read.entry.logged.path found.0) }
     ensures again { IfOk result (λ found. IsTrue found.1 ↔ GoesOn loaded.now found.0) }
@@ -152,6 +154,7 @@ fn recovered(
     loaded: &Loaded<'_>,
     held: &mut HeldFiles<'_>,
 ) -> Result<Came, Option<Unrecovered>>
+    requires { IsUnwritten held.old }
     ensures { IfOk result (ComesFor loaded.now (files_held held.old) (files_held held.new)) }
 {
     let Some(base) = loaded.base() else {
@@ -176,9 +179,11 @@ fn recovered_by(
     base: &[u8],
     held: &mut HeldFiles<'_>,
 ) -> Result<Came, Unrecovered>
+    requires { IsUnwritten held.old }
     ensures came { IfOk result (ComesBy base.now (files_held held.old) (files_held held.new)) }
     ensures unfit { IsErrOf result Unrecovered.Log →
         LeavesUnfit base.now (files_held held.old) (files_held held.new) }
+    ensures same { IsErrOf result Unrecovered.Log → held.new ≡ held.old }
 {
     match recover_by(rt.alloc(), base, held) {
         Ok(Some(report)) => Ok(Came::Entered(report)),

@@ -7,7 +7,7 @@ ghost use Rattle.rc_cli.specs.Storing.{store_of};
 ghost use Rattle.log.specs.Handle.{max_level};
 ghost use Rattle.rc_launch.specs.Serving.{Carries, IsLogFor, IsReadAs};
 ghost use Rattle.rc_launch.specs.Serving.{LacksItsControllerBy, logged_of};
-ghost use Rattle.rc_launch.specs.Works.{IsEventless, bytes_in};
+ghost use Rattle.rc_launch.specs.Works.{bytes_in};
 ghost use Rattle.rc_cli.specs.declared.sessions.keeping.LiveFile.{LiveFile};
 
 use crate::loading::Loaded;
@@ -50,7 +50,6 @@ pub fn serve<'x, T: Threads + Wait + Sync, R: Read, W: Write, F: Write, S: Store
     opened: &'x Opened<'_>,
     devices: &mut Devices<R, W, F, S>,
 ) -> Status
-    requires eventless { IsEventless opened.now.loaded }
     requires reader { HasFailed devices.old.reader → ⊥ }
     requires writer { HasFailed devices.old.outputs.writer → ⊥ }
     ensures { (file : LiveFile) × IsReadAs (λ bytes. bytes.items) opened.now.live.found file
@@ -99,15 +98,14 @@ fn read_of<'x>(opened: &'x Opened<'_>) -> LiveFile<'x>
     live_file(opened.live.found())
 }
 
-// The log of the command: of each transition where that is asked, and of one line alone those that
-// do not succeed.
+// The log of the command, of the transitions that it reports.
 fn log_of<'h>(
     rt: &'h HostRuntime,
     opened: &Opened<'_>,
 ) -> Logged<&'h HostRuntime, Messages<&'h HostRuntime>>
     ensures { IsLogFor opened.now.loaded (max_level result) }
 {
-    log_for(rt, opened.session(), !opened.is_of_lines())
+    log_for(rt, opened.session())
 }
 
 // What the command runs on: with the files of its runs, if it has any.

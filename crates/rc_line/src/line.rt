@@ -487,7 +487,7 @@ impl Line {
         }
     }
 
-    /// Turns the state at a place into the one after it. Out of memory, what is left is neither.
+    /// Turns the state at a place into the one after it. Out of memory, it stays as it was.
     pub fn step_on(
         &self,
         alloc: Global,
@@ -498,10 +498,13 @@ impl Line {
         requires place { place + 1 < length (states self.now.line) }
         requires here { slice_get (states self.now.line) place
             ≡ Some (record { live = live.old; table = table.old }) }
-        ensures { OnOk result (slice_get (states self.now.line) (place + 1)
+        ensures next { OnOk result (slice_get (states self.now.line) (place + 1)
             ≡ Some (record { live = live.new; table = table.new })) }
+        ensures same { OnErr result ((live.new ≡ live.old) × (table.new ≡ table.old)) }
     {
-        self.step_at(place).turn_on(alloc, live, table)?;
+        let (next, other) = self.step_at(place).after(alloc, live, table)?;
+        *live = next;
+        replace(table, other);
         Ok(())
     }
 

@@ -20,7 +20,8 @@ pub trait TwoFiles {
     /// What they hold.
     ghost holds: { Self → Files };
 
-    /// What a crash may have left of them, at some moment since they were opened.
+    /// What a crash may have left of them, at some moment since they were opened. It includes what
+    /// they hold, as each call says.
     ghost left: { Self → Files → Type 0 };
 
     /// Whether a call has failed for the device, or one that reads may.
@@ -28,17 +29,20 @@ pub trait TwoFiles {
 
     /// The bytes of the file.
     fn read_file(&self, alloc: Global) -> Result<Vec<u8>, FileFault>
+        ensures held { left self.now (holds self.now) }
         ensures bytes { IfOk result (λ bytes. bytes.items ≡ (holds self.now).file) }
         ensures io { IsErrOf result FileFault.Io → failed self.now };
 
     /// The bytes of the log.
     fn read_log(&self, alloc: Global) -> Result<Vec<u8>, FileFault>
+        ensures held { left self.now (holds self.now) }
         ensures bytes { IfOk result (λ bytes. bytes.items ≡ (holds self.now).log) }
         ensures io { IsErrOf result FileFault.Io → failed self.now };
 
     /// Appends bytes to the log, by one write.
     fn append_log(&mut self, bytes: &[u8]) -> Result<(), FileFault>
         ensures done { OnOk result (holds self.new ≡ after (holds self.old) (Append bytes.now)) }
+        ensures held { left self.new (holds self.new) }
         ensures moment { AfterCrash (Append bytes.now ∷ []) (holds self.old) (holds self.new) }
         ensures crash { (g : Files) → left self.new g →
             left self.old g ⊎ AfterCrash (Append bytes.now ∷ []) (holds self.old) g }
@@ -47,6 +51,7 @@ pub trait TwoFiles {
     /// Replaces the file whole.
     fn replace_file(&mut self, text: &[u8]) -> Result<(), FileFault>
         ensures done { OnOk result (holds self.new ≡ after (holds self.old) (Replace text.now)) }
+        ensures held { left self.new (holds self.new) }
         ensures moment { AfterCrash (Replace text.now ∷ []) (holds self.old) (holds self.new) }
         ensures crash { (g : Files) → left self.new g →
             left self.old g ⊎ AfterCrash (Replace text.now ∷ []) (holds self.old) g }
@@ -55,6 +60,7 @@ pub trait TwoFiles {
     /// Empties the log.
     fn empty_log(&mut self) -> Result<(), FileFault>
         ensures done { OnOk result (holds self.new ≡ after (holds self.old) Empty) }
+        ensures held { left self.new (holds self.new) }
         ensures moment { AfterCrash (Empty ∷ []) (holds self.old) (holds self.new) }
         ensures crash { (g : Files) → left self.new g →
             left self.old g ⊎ AfterCrash (Empty ∷ []) (holds self.old) g }

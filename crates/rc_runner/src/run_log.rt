@@ -8,7 +8,7 @@ use rc_db::{Db, NoMem};
 use rc_livetext::write_live;
 use rc_names::Names;
 use rc_script::{event_line, step_line};
-use rc_session::{Session, Step};
+use rc_session::{Command, Session};
 use rc_streams::run_file::RunFile;
 use std::alloc::Global;
 
@@ -31,11 +31,11 @@ impl<'a> RunLog<'a> {
         Ok(RunLog { alloc, file, names })
     }
 
-    /// Begins the log of a step from where a session stands. An edit has no run, and no log.
-    pub(crate) fn begin(&self, session: &Session, step: &Step)
+    /// Begins the log of a command from where a session stands. An edit has no run, and no log.
+    pub(crate) fn begin(&self, session: &Session, command: &Command)
         requires { session.now.begun ≡ false }
     {
-        if let Ok(Some(head)) = head_of(self.alloc, session, step) {
+        if let Ok(Some(head)) = head_of(self.alloc, session, command) {
             self.file.begin(&head);
             drop(head);
         }
@@ -55,15 +55,15 @@ impl<'a> RunLog<'a> {
 
     /// Empties the log of a run that is over.
     pub(crate) fn end(&self) {
-        self.file.clear();
+        let _ = self.file.clear();
     }
 }
 
-/// The text of a session, and the line of a step. None: the step has no run.
-fn head_of(alloc: Global, session: &Session, step: &Step) -> Result<Option<Vec<u8>>, NoMem>
+/// The text of a session, and the line of a command. None: the command has no run.
+fn head_of(alloc: Global, session: &Session, command: &Command) -> Result<Option<Vec<u8>>, NoMem>
     requires { session.now.begun ≡ false }
 {
-    let Some(line) = step_line(alloc, step)? else {
+    let Some(line) = step_line(alloc, command)? else {
         return Ok(None);
     };
     match write_live(alloc, session) {

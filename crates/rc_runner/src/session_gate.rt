@@ -5,7 +5,7 @@ use crate::table::TableGate;
 use log::Log;
 use rc_board::Gate;
 use rc_core::{Job, Outcome};
-use rc_session::{Session, Step};
+use rc_session::{Command, Session};
 use std::process::Processes;
 use std::time::Clock;
 
@@ -38,10 +38,10 @@ impl<'a, R: Processes + Clock + Sync, L: Log + Sync> Gate for SessionGate<'a, R,
         }
     }
 
-    fn begin(&self, session: &Session, step: &Step) {
+    fn begin(&self, session: &Session, command: &Command) {
         match self {
-            SessionGate::Table(table) => table.begin(session, step),
-            SessionGate::Shell(shell) => shell.begin(session, step),
+            SessionGate::Table(table) => table.begin(session, command),
+            SessionGate::Shell(shell) => shell.begin(session, command),
         }
     }
 

@@ -9,6 +9,7 @@ ghost use Rattle.rc_runner.specs.Shell.{quiet, scripts_of, seconds_of, text_of};
 
 use crate::copy::{names_of, services_of, words_of};
 use crate::messages::tell;
+use crate::no_log::NoLog;
 use crate::order::{Move, Order, call_to_move, call_to_run};
 use crate::progress::Event;
 use crate::run_log::RunLog;
@@ -20,7 +21,7 @@ use rc_core::{Event as RunEvent, Job, Outcome};
 use rc_db::{Db, NoMem, Service};
 use rc_graph::Way;
 use rc_names::Kind;
-use rc_session::{Session, Step};
+use rc_session::{Command, Session};
 use rc_streams::messages::MESSAGE;
 use rc_streams::run_file::RunFile;
 use rc_streams::stop_file::StopFile;
@@ -49,7 +50,7 @@ pub struct ShellGate<'a, R, L> {
     controller: Vec<String>,
     /// The limit of services without one of their own, in milliseconds; 0 for none.
     limit: u32,
-    /// The log that gets a record for each program that starts.
+    /// The log that gets a record for each program that starts, or can't be started.
     log: &'a L,
     /// Where what they write goes, if anywhere.
     errors: Option<Stderr>,
@@ -79,21 +80,19 @@ impl<'a, R, L> Model for ShellGate<'a, R, L> {
     } };
 }
 
-impl<'a, R: Processes + Clock, L: Log> ShellGate<'a, R, L> {
-    /// A gate for the services of a database, with the words of a runner and of a controller, and
-    /// the limit in milliseconds of services without one of their own. Without a word there is no
-    /// such program, and 0 is no limit. The gate logs each start.
+impl<'a, R: Processes + Clock> ShellGate<'a, R, NoLog> {
+    /// A gate for the services of a database, with the words of a runner and of a controller.
+    /// Without a word there is no such program. A service without a limit of its own has none, and
+    /// nothing is reported.
     pub fn new(
         rt: &'a R,
-        log: &'a L,
         alloc: Global,
         db: &Db,
         runner: &[String],
         controller: &[String],
-        limit: u32,
-    ) -> Result<ShellGate<'a, R, L>, NoMem>
+    ) -> Result<ShellGate<'a, R, NoLog>, NoMem>
         ensures { IfOk result (λ gate. gate ≡ quiet (scripts_of db.now
-            (map string_bytes runner.now) (map string_bytes controller.now) limit)) }
+            (map string_bytes runner.now) (map string_bytes controller.now) 0)) }
     {
         let names = names_of(alloc, db)?;
         let services = services_of(alloc, db)?;
@@ -101,18 +100,65 @@ impl<'a, R: Processes + Clock, L: Log> ShellGate<'a, R, L> {
         let controller = words_of(alloc, controller)?;
         Ok(ShellGate {
             rt,
-            log,
+            log: &NoLog,
             alloc,
             start: Instant::now(rt).ok(),
             names,
             services,
             runner,
             controller,
-            limit,
+            limit: 0,
             errors: None,
             run_log: None,
             stop_file: None,
         })
+    }
+}
+
+impl<'a, R: Processes + Clock, L: Log> ShellGate<'a, R, L> {
+    /// The same gate with this limit, in milliseconds, for services without one of their own. 0 is
+    /// no limit.
+    pub fn with_limit(mut self, limit: u32) -> ShellGate<'a, R, L>
+        ensures { result ≡ record self.entry {
+          scripts = record self.entry.scripts { limit = limit };
+        } }
+    {
+        self.limit = limit;
+        self
+    }
+
+    /// The same gate, which logs each program that it starts, and each that can't be started.
+    pub fn with_log<M: Log>(self, log: &'a M) -> ShellGate<'a, R, M>
+        ensures { result ≡ self.entry }
+    {
+        let ShellGate {
+            rt,
+            alloc,
+            start,
+            names,
+            services,
+            runner,
+            controller,
+            limit,
+            log: _,
+            errors,
+            run_log,
+            stop_file,
+        } = self;
+        ShellGate {
+            rt,
+            alloc,
+            start,
+            names,
+            services,
+            runner,
+            controller,
+            limit,
+            log,
+            errors,
+            run_log,
+            stop_file,
+        }
     }
 
     /// The same gate, which lets each program write there.
@@ -320,9 +366,9 @@ impl<'a, R: Processes + Clock + Sync, L: Log + Sync> Gate for ShellGate<'a, R, L
         millis_since(self.rt, self.start).unwrap_or(0)
     }
 
-    fn begin(&self, session: &Session, step: &Step) {
+    fn begin(&self, session: &Session, command: &Command) {
         if let Some(run_log) = &self.run_log {
-            run_log.begin(session, step);
+            run_log.begin(session, command);
         }
     }
 

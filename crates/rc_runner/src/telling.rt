@@ -10,7 +10,7 @@ use rc_board::Gate;
 use rc_core::{Job, Outcome};
 use rc_db::{Db, NoMem};
 use rc_graph::Way;
-use rc_session::{Session, Step};
+use rc_session::{Command, Session};
 use rc_streams::messages::MESSAGE;
 use std::alloc::Global;
 use std::marker::Model;
@@ -96,8 +96,8 @@ impl<'a, L: Log + Sync, G: Gate + Drop> Gate for Telling<'a, L, G> {
         self.inner.now()
     }
 
-    fn begin(&self, session: &Session, step: &Step) {
-        self.inner.begin(session, step);
+    fn begin(&self, session: &Session, command: &Command) {
+        self.inner.begin(session, command);
     }
 
     fn end(&self) {

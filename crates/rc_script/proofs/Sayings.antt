@@ -1,95 +1,14 @@
 -- What words say, by the verb.
-use Rattle.std.proofs.Common.{◌≡◌, ◌∙◌, ℕ, All, Bool, true, false, List, [], ◌∷◌, Option, Some}
-use Rattle.std.proofs.Common.{None, Result, Ok, Err, inl, inr, refl, sym, ap, subst, arith, length}
+use Rattle.std.proofs.Common.{◌≡◌, ◌∙◌, ℕ, All, Bool, true, false, List, [], ◌∷◌, Result, Ok, Err}
+use Rattle.std.proofs.Common.{inl, inr, refl, sym, ap, subst, arith, length}
 use Rattle.std.proofs.Common.{◌==◌}
 use Rattle.std.proofs.lemmas.Bool.Decides.{Decides-eqb}
 use Rattle.std.specs.Prelude.{IfOk}
 use Rattle.std.specs.Str.{IsUtf8}
-use Rattle.std.specs.Option.{option_map_or}
-use Rattle.rc_model.specs.Session.{Command, Change, Undo, Redo, events_of}
-use Rattle.rc_script.specs.declared.verb.Verb.{Verb}
-use Rattle.rc_script.specs.declared.verb.Verb.TheVariants as verb
 use Rattle.rc_select.specs.declared.request.Choice.{Choice}
 use Rattle.rc_script.specs.Words.{words_in, is_silent}
-use Rattle.rc_script.specs.Options.{front_of, ask_chosen}
-use Rattle.rc_script.specs.Says.{Saying, SaysWrong, SaysStep, SaysDry, SaysLive, SaysBundles}
-use Rattle.rc_script.specs.Says.{SaysJournal, verb_of, addition_of, deletion_of, is_forced}
-use Rattle.rc_script.specs.Says.{unforced, alone, plain, limit_alone, said, behind, sentence}
-use Rattle.rc_script.specs.Says.{HasName, Says, IsSaid}
-
--- what holds of all that may be said, and of what is wrong
-module _ (P : Saying → Type 0) (wrong : P SaysWrong) where
-  pub by_option : {X : Type 0} (f : X → Saying) (o : Option X) → ((x : X) → P (f x))
-      → P (option_map_or f o SaysWrong)
-  by_option f None each = wrong
-  by_option f (Some x) each = each x
-
-  pub by_plain : (saying : Saying) (choices : List Choice) → P saying → P (plain saying choices)
-  by_plain saying [] holds = holds
-  by_plain saying (choice ∷ choices) holds = wrong
-
-  pub by_alone : (saying : Saying) (words : List (List ℕ)) → P saying → P (alone saying words)
-  by_alone saying [] holds = holds
-  by_alone saying (word ∷ words) holds = wrong
-
--- a command that is said has no events
-abbrev BringsNone : Saying → Type 0
-BringsNone (SaysStep command) = events_of command ≡ []
-BringsNone other = Unit {0}
-
-added_none : (force : Bool) (words : List (List ℕ)) → BringsNone (addition_of force words)
-added_none force [] = tt
-added_none force (name ∷ contents) = refl
-
-deleted_none : (force : Bool) (words : List (List ℕ)) → BringsNone (deletion_of force words)
-deleted_none force [] = tt
-deleted_none force (name ∷ names) = refl
-
-said_none : (v : Verb) (choices : List Choice) (words : List (List ℕ))
-    → BringsNone (said v choices words)
-said_none verb.Change choices words =
-    by_option BringsNone tt (λ ask. SaysStep (Change ask [])) (ask_chosen choices words)
-    (λ ask. refl)
-said_none verb.Dry choices words =
-    by_option BringsNone tt (λ ask. SaysDry ask) (ask_chosen choices words) (λ ask. tt)
-said_none verb.Undo choices words =
-    by_option BringsNone tt (λ limit. SaysStep (Undo limit [])) (limit_alone choices words)
-    (λ limit. refl)
-said_none verb.Redo choices words =
-    by_option BringsNone tt (λ limit. SaysStep (Redo limit [])) (limit_alone choices words)
-    (λ limit. refl)
-said_none verb.Add choices words =
-    by_plain BringsNone tt (addition_of (is_forced words) (unforced words)) choices
-    (added_none (is_forced words) (unforced words))
-said_none verb.Delete choices words =
-    by_plain BringsNone tt (deletion_of (is_forced words) (unforced words)) choices
-    (deleted_none (is_forced words) (unforced words))
-said_none verb.Live choices words =
-    by_plain BringsNone tt (alone SaysLive words) choices (by_alone BringsNone tt SaysLive words tt)
-said_none verb.Bundles choices words =
-    by_plain BringsNone tt (alone SaysBundles words) choices
-    (by_alone BringsNone tt SaysBundles words tt)
-said_none verb.Journal choices words =
-    by_plain BringsNone tt (alone SaysJournal words) choices
-    (by_alone BringsNone tt SaysJournal words tt)
-
-behind_none : (choices : List Choice) (words : List (List ℕ)) → BringsNone (behind choices words)
-behind_none choices [] = tt
-behind_none choices (word ∷ words) =
-    by_option BringsNone tt (λ v. said v choices words) (verb_of word)
-    (λ v. said_none v choices words)
-
-sentence_none : (words : List (List ℕ)) → BringsNone (sentence words)
-sentence_none words =
-    by_option BringsNone tt (λ front. behind front.choices front.words) (front_of false words)
-    (λ front. behind_none front.choices front.words)
-
-pub line_none : (line : List ℕ) (command : Command) → Says line (SaysStep command)
-    → events_of command ≡ []
-line_none line command (inl silent) = absurd (let e = silent.1 in cc)
-line_none line command (inr (inl right)) =
-    subst BringsNone (sym right.2) (sentence_none (words_in line))
-line_none line command (inr (inr wrong)) = absurd (let e = wrong.2 in cc)
+use Rattle.rc_script.specs.Says.{Saying, SaysWrong, addition_of, is_forced, unforced}
+use Rattle.rc_script.specs.Says.{plain, sentence, HasName, Says, IsSaid}
 
 -- a line says one thing
 unlike : {P : Type 0} (b : Bool) → b ≡ true → b ≡ false → P

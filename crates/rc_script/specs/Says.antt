@@ -7,7 +7,7 @@ use Rattle.rc_model.specs.Names.{IsName}
 use Rattle.rc_model.specs.Plan.{Ask}
 use Rattle.rc_select.specs.Ask.{ask_of}
 use Rattle.rc_model.specs.Session.{Command, Change, Undo, Redo, Add, Delete}
-use Rattle.rc_session.specs.Commands.{command_of}
+use Rattle.rc_session.specs.Commands.{plain_of}
 use Rattle.rc_script.specs.declared.line.SessionLine.{SessionLine}
 use Rattle.rc_script.specs.declared.line.SessionLine.TheVariants as line
 use Rattle.rc_script.specs.declared.verb.Verb.{Verb}
@@ -31,7 +31,7 @@ pub data Saying : Type 0 where
 abbrev pub saying_of : SessionLine → Saying
 saying_of line.Nothing = SaysNothing
 saying_of line.Wrong = SaysWrong
-saying_of (line.Step step) = SaysStep (command_of step)
+saying_of (line.Command command) = SaysStep (plain_of command)
 saying_of (line.Dry request) = SaysDry (ask_of request)
 saying_of line.Live = SaysLive
 saying_of line.Bundles = SaysBundles

@@ -1,8 +1,8 @@
 //! What the definitions of session lines say by themselves: each a clause
 //! of a function that does nothing.
-ghost use Rattle.std.specs.Prelude.{◌≡◌, ℕ, List, []};
-ghost use Rattle.rc_model.specs.Session.{Command, events_of};
-ghost use Rattle.rc_script.specs.Says.{Saying, SaysStep, Says};
+ghost use Rattle.std.specs.Prelude.{◌≡◌, ℕ, List};
+ghost use Rattle.rc_model.specs.Session.{Command};
+ghost use Rattle.rc_script.specs.Says.{Saying, Says};
 ghost use Rattle.rc_script.specs.Script.{IsScript, IsScriptFault};
 ghost use Rattle.rc_script.specs.declared.script.ScriptFault.{ScriptFault};
 ghost use Rattle.rc_script.specs.declared.script.ScriptFault.TheVariants.{Memory};
@@ -10,12 +10,6 @@ ghost use Rattle.rc_script.specs.declared.script.ScriptFault.TheVariants.{Memory
 /// A line says one thing.
 pub fn lines_say_one_thing()
     ensures { (line : List ℕ) (a b : Saying) → Says line a → Says line b → a ≡ b }
-{}
-
-/// A command that a line gives has no events.
-pub fn lines_give_no_events()
-    ensures { (line : List ℕ) (command : Command) → Says line (SaysStep command) →
-        events_of command ≡ [] }
 {}
 
 /// A script gives one list of commands, and is refused as out of memory alone.

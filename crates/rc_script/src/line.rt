@@ -9,7 +9,7 @@ use crate::verb::Verb;
 use crate::words::{is_silent, texts_of, words_of};
 use rc_names::{Name, NameFault, NoMem};
 use rc_select::{Choice, Request};
-use rc_session::Step;
+use rc_session::Command;
 use std::alloc::{AllocError, Global};
 
 /// What a session line says.
@@ -19,8 +19,8 @@ pub enum SessionLine {
     Nothing,
     /// A line that has no form.
     Wrong,
-    /// A command, without the events of its run.
-    Step(Step),
+    /// A command.
+    Command(Command),
     /// The plan of a change is wanted, and nothing is to be done.
     Dry(Request),
     /// What is live is wanted.
@@ -78,8 +78,8 @@ fn said(alloc: Global, verb: Verb, choices: &[Choice], words: &[&str]) -> Result
     match verb {
         Verb::Change => change(alloc, choices, words),
         Verb::Dry => dry(alloc, choices, words),
-        Verb::Undo => Ok(undo(alloc, choices, words)),
-        Verb::Redo => Ok(redo(alloc, choices, words)),
+        Verb::Undo => Ok(undo(choices, words)),
+        Verb::Redo => Ok(redo(choices, words)),
         Verb::Add => add(alloc, choices, words),
         Verb::Delete => delete(alloc, choices, words),
         Verb::Live => Ok(alone(SessionLine::Live, choices, words)),
@@ -94,7 +94,7 @@ fn change(alloc: Global, choices: &[Choice], words: &[&str]) -> Result<SessionLi
         (said Verb.Change choices.now (map (λ word. word.now) words.now)) (saying_of line)) }
 {
     match request_of(alloc, choices, words)? {
-        Some(request) => Ok(SessionLine::Step(Step::Change(request, Vec::new(alloc)))),
+        Some(request) => Ok(SessionLine::Command(Command::Change(request))),
         None => Ok(SessionLine::Wrong),
     }
 }
@@ -111,23 +111,23 @@ fn dry(alloc: Global, choices: &[Choice], words: &[&str]) -> Result<SessionLine,
 }
 
 /// An undo, where nothing but a limit stands beside it.
-fn undo(alloc: Global, choices: &[Choice], words: &[&str]) -> SessionLine
+fn undo(choices: &[Choice], words: &[&str]) -> SessionLine
     ensures { IsSaid (said Verb.Undo choices.now (map (λ word. word.now) words.now))
         (saying_of result) }
 {
     match limit_alone(choices, words) {
-        Some(limit) => SessionLine::Step(Step::Undo(limit, Vec::new(alloc))),
+        Some(limit) => SessionLine::Command(Command::Undo(limit)),
         None => SessionLine::Wrong,
     }
 }
 
 /// A redo, where nothing but a limit stands beside it.
-fn redo(alloc: Global, choices: &[Choice], words: &[&str]) -> SessionLine
+fn redo(choices: &[Choice], words: &[&str]) -> SessionLine
     ensures { IsSaid (said Verb.Redo choices.now (map (λ word. word.now) words.now))
         (saying_of result) }
 {
     match limit_alone(choices, words) {
-        Some(limit) => SessionLine::Step(Step::Redo(limit, Vec::new(alloc))),
+        Some(limit) => SessionLine::Command(Command::Redo(limit)),
         None => SessionLine::Wrong,
     }
 }
@@ -169,7 +169,7 @@ fn bundle(alloc: Global, name: &str, contents: &[&str], force: bool) -> Result<S
         Err(_) => return Ok(SessionLine::Wrong),
     };
     let contents = strings_of(alloc, contents)?;
-    Ok(SessionLine::Step(Step::Add(name, contents, force)))
+    Ok(SessionLine::Command(Command::Add(name, contents, force)))
 }
 
 /// Bundles that are to go, forced where `-f` stands in front of them.
@@ -182,7 +182,7 @@ fn delete(alloc: Global, choices: &[Choice], words: &[&str]) -> Result<SessionLi
         return Ok(SessionLine::Wrong);
     }
     let names = strings_of(alloc, names)?;
-    Ok(SessionLine::Step(Step::Delete(names, is_forced(words))))
+    Ok(SessionLine::Command(Command::Delete(names, is_forced(words))))
 }
 
 /// Whether `-f` stands in front of words.

@@ -2,7 +2,7 @@
 //! is read back before it is returned, so it says what it was made of.
 ghost use Rattle.std.specs.Prelude.{◌≡◌, ◌++◌, ◌∷◌, [], IfOk, IfSome, IsTrue, Contains};
 ghost use Rattle.std.specs.Prelude.{string_bytes};
-ghost use Rattle.rc_session.specs.Commands.{command_of};
+ghost use Rattle.rc_session.specs.Commands.{plain_of};
 ghost use Rattle.rc_script.specs.RunLines.{IsEventLine, IsStepLine, least_limited};
 ghost use Rattle.rc_script.specs.Says.{Says, SaysStep};
 ghost use Rattle.rc_script.specs.Script.{Happens, IsItem};
@@ -12,22 +12,22 @@ use crate::script::event_of;
 use rc_core::{Event, Outcome};
 use rc_names::{Names, NoMem};
 use rc_select::Request;
-use rc_session::Step;
+use rc_session::Command;
 use std::alloc::Global;
 
-/// A step as a session line, with the least limit that there is and without events; a newline ends
-/// it. None: the step is an edit, or has a word that no line can have.
-pub fn step_line(alloc: Global, step: &Step) -> Result<Option<String>, NoMem>
+/// A command as a session line, with the least limit that there is; a newline ends it. None: the
+/// command is an edit, or has a word that no line can have.
+pub fn step_line(alloc: Global, command: &Command) -> Result<Option<String>, NoMem>
     ensures { IfOk result (λ line. IfSome line (λ text.
-        IsStepLine (command_of step.now) (string_bytes text))) }
+        IsStepLine (plain_of command.now) (string_bytes text))) }
 {
-    let line = match step {
-        Step::Change(request, _) => change_line(alloc, request)?,
-        Step::Undo(..) => String::from_str(alloc, "-t 1 undo")?,
-        Step::Redo(..) => String::from_str(alloc, "-t 1 redo")?,
-        Step::Add(..) | Step::Delete(..) => return Ok(None),
+    let line = match command {
+        Command::Change(request) => change_line(alloc, request)?,
+        Command::Undo(_) => String::from_str(alloc, "-t 1 undo")?,
+        Command::Redo(_) => String::from_str(alloc, "-t 1 redo")?,
+        Command::Add(..) | Command::Delete(..) => return Ok(None),
     };
-    if says_step(alloc, line.as_bytes(), step)? {
+    if says_step(alloc, line.as_bytes(), command)? {
         ended(line)
     } else {
         Ok(None)
@@ -45,30 +45,28 @@ fn change_line(alloc: Global, request: &Request) -> Result<String, NoMem> {
     Ok(line)
 }
 
-/// Whether a line has no newline, and says this step under the least limit.
-fn says_step(alloc: Global, line: &[u8], step: &Step) -> Result<bool, NoMem>
+/// Whether a line has no newline, and says this command under the least limit.
+fn says_step(alloc: Global, line: &[u8], command: &Command) -> Result<bool, NoMem>
     ensures { IfOk result (λ says. IsTrue says → (Contains line.now 10 → ⊥)
-        × Says line.now (SaysStep (least_limited (command_of step.now)))) }
+        × Says line.now (SaysStep (least_limited (plain_of command.now)))) }
 {
     if line.contains(&b'\n') {
         return Ok(false);
     }
     match read_line(alloc, line)? {
-        SessionLine::Step(read) => Ok(is_least_limited(step, &read)),
+        SessionLine::Command(read) => Ok(is_least_limited(command, &read)),
         _ => Ok(false),
     }
 }
 
-/// Whether the second step is the first one under the least limit, without events.
-fn is_least_limited(step: &Step, read: &Step) -> bool
-    ensures { IsTrue result → command_of read.now ≡ least_limited (command_of step.now) }
+/// Whether the second command is the first one under the least limit.
+fn is_least_limited(command: &Command, read: &Command) -> bool
+    ensures { IsTrue result → plain_of read.now ≡ least_limited (plain_of command.now) }
 {
-    match (step, read) {
-        (Step::Change(asked, _), Step::Change(read, events)) => {
-            events.is_empty() && read.is_limited(asked, 1)
-        }
-        (Step::Undo(..), Step::Undo(limit, events)) => events.is_empty() && *limit == 1,
-        (Step::Redo(..), Step::Redo(limit, events)) => events.is_empty() && *limit == 1,
+    match (command, read) {
+        (Command::Change(asked), Command::Change(read)) => read.is_limited(asked, 1),
+        (Command::Undo(_), Command::Undo(limit)) => *limit == 1,
+        (Command::Redo(_), Command::Redo(limit)) => *limit == 1,
         _ => false,
     }
 }

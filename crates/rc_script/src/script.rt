@@ -66,8 +66,8 @@ fn add_line(alloc: Global, names: &Names, steps: &mut Vec<Step>, line: &[u8]) ->
 {
     match read_line(alloc, line)? {
         SessionLine::Nothing => Ok(true),
-        SessionLine::Step(step) => {
-            steps.push(step)?;
+        SessionLine::Command(command) => {
+            steps.push(command.into_step(alloc))?;
             Ok(true)
         }
         SessionLine::Wrong => match event_of(alloc, names, line)? {

@@ -1,15 +1,13 @@
 -- Refusals and faults, and what they leave.
-use Rattle.std.proofs.Common.{◌≡◌, ◌∙◌, ◌⊎◌, inl, inr, ℕ, List, [], true, false, Result, Ok, Err}
+use Rattle.std.proofs.Common.{◌≡◌, ◌∙◌, ◌⊎◌, inl, inr, ℕ, List, true, false, Result, Ok, Err}
 use Rattle.std.proofs.Common.{IfOk, IfErr, OnErr, refl, ap, sym, subst}
-use Rattle.rc_model.specs.declared.Event.{Event}
 use Rattle.rc_model.specs.declared.Refusal.{Refusal}
 use Rattle.rc_model.specs.declared.Refusal.TheVariants.{BadEvent, NotSettled, PruneNeedsUp, Unknown}
 use Rattle.rc_model.specs.declared.Refusal.TheVariants.{IsAtomic, Exists, Missing, Full}
 use Rattle.rc_model.specs.declared.Refusal.TheVariants.{NothingToUndo, NothingToRedo, NotEdit}
 use Rattle.rc_model.specs.declared.Refusal.TheVariants.{Strange, Memory}
 use Rattle.rc_model.specs.Database.{Database}
-use Rattle.rc_model.specs.Session.{Command, Change, Undo, Redo, Add, Delete, events_of, IsOwnFault}
-use Rattle.rc_session.specs.Commands.{with_events}
+use Rattle.rc_model.specs.Session.{Command, IsOwnFault}
 use Rattle.rc_session.specs.Holding.{Holding, IsHindrance}
 use Rattle.rc_board.specs.declared.fault.Fault.{Fault}
 use Rattle.rc_board.specs.declared.fault.Fault.TheVariants as faults
@@ -66,14 +64,6 @@ left_stays old new faults.Strange left closed =
     (ap (λ (h : Holding). h.database) left, ap (λ (h : Holding). h.begun) left)
 left_stays old new (faults.Refused refusal) left closed =
     (ap (λ (h : Holding). h.database) left, ap (λ (h : Holding). h.begun) left ∙ closed)
-
--- a command without events
-pub eventless : (command : Command) → events_of command ≡ [] → with_events command [] ≡ command
-eventless (Change ask events) none = ap (λ (e : List Event). Change ask e) (sym none)
-eventless (Undo limit events) none = ap (λ (e : List Event). Undo limit e) (sym none)
-eventless (Redo limit events) none = ap (λ (e : List Event). Redo limit e) (sym none)
-eventless (Add name contents force) none = refl
-eventless (Delete words force) none = refl
 
 -- what came of a command that workers carry out, and how it was told, is its answer and its ending
 met_by : (workers : ℕ) (Says : ℕ → Way → Outcome → Type 0) (Gives : ℕ → Type 0)

@@ -1,7 +1,7 @@
 //! Session lines and their answers.
 ghost use Rattle.std.specs.Prelude.{◌≡◌, ◌↔◌, [], false, length, IsTrue, IfOk, IfErr};
-ghost use Rattle.rc_model.specs.Session.{Command, events_of};
-ghost use Rattle.rc_session.specs.Commands.{command_of, with_events};
+ghost use Rattle.rc_model.specs.Session.{Command as Does};
+ghost use Rattle.rc_session.specs.Commands.{plain_of};
 ghost use Rattle.rc_board.specs.Crew.{IsCrew};
 ghost use Rattle.rc_board.specs.Working.{HasWork};
 ghost use Rattle.rc_script.specs.Says.{SaysStep, saying_of};
@@ -17,11 +17,10 @@ use crate::fault::ServeFault;
 use crate::keeper::Keeper;
 use crate::runs::told;
 use crate::shows::{bundles_answer, dry_answer, journal_answer, live_answer};
-use rc_board::{Gate, NoWatch, change, redo, undo};
+use rc_board::{Executor, Gate, NoWatch, change, redo, undo};
 use rc_db::Table;
-use rc_script::laws::lines_give_no_events;
 use rc_script::{SessionLine, read_line};
-use rc_session::{Session, Step};
+use rc_session::{Command, Session};
 use rc_set::{NoMem, Set};
 use std::alloc::Global;
 use std::sync::Wait;
@@ -32,20 +31,19 @@ use std::thread::Threads;
 /// An empty line and a comment have no answer.
 #[tactic(none)]
 pub(crate) fn line_answer<T: Threads + Wait + Sync, K: Keeper, G: Gate>(
-    rt: &T,
-    alloc: Global,
+    executor: &Executor<'_, T, G>,
     session: &mut Session,
     keeper: &mut K,
-    gate: &G,
-    workers: u8,
     line: &[u8],
 ) -> Result<Answer, ServeFault>
     requires closed { session.old.begun ≡ false }
-    requires crew { IsCrew workers }
+    requires crew { IsCrew executor.now.workers }
     ensures met { IfOk result (λ answer. MeetsBytes
-        (IsDoneBy workers (G.answers gate.now) (G.gives gate.now))
+        (IsDoneBy executor.now.workers (G.answers executor.now.gate.now)
+        (G.gives executor.now.gate.now))
         session.old.database session.old.line line.now answer.text.items session.new.line) }
-    ensures may { MayMeetBytes (IsDoneBy workers (G.answers gate.now) (G.gives gate.now))
+    ensures may { MayMeetBytes (IsDoneBy executor.now.workers (G.answers executor.now.gate.now)
+        (G.gives executor.now.gate.now))
         session.old.database session.old.line line.now session.new.line }
     ensures stays { Stays session.old session.new }
     ensures fault { IfErr result (EndsLine (K.failed keeper.new)
@@ -56,9 +54,8 @@ pub(crate) fn line_answer<T: Threads + Wait + Sync, K: Keeper, G: Gate>(
     ensures unaltered { session.new.line ≡ session.old.line → keeper.new ≡ keeper.old }
     ensures whole { IsSpoiledBy result session.old session.new }
 {
-    lines_give_no_events();
-    match read_line(alloc, line) {
-        Ok(said) => said_answer(rt, alloc, session, keeper, gate, workers, &said),
+    match read_line(executor.alloc, line) {
+        Ok(said) => said_answer(executor, session, keeper, &said),
         Err(_) => Err(ServeFault::Memory),
     }
 }
@@ -66,23 +63,20 @@ pub(crate) fn line_answer<T: Threads + Wait + Sync, K: Keeper, G: Gate>(
 /// Does what is said, keeps what it altered, and answers.
 #[tactic(none)]
 pub(crate) fn said_answer<T: Threads + Wait + Sync, K: Keeper, G: Gate>(
-    rt: &T,
-    alloc: Global,
+    executor: &Executor<'_, T, G>,
     session: &mut Session,
     keeper: &mut K,
-    gate: &G,
-    workers: u8,
     said: &SessionLine,
 ) -> Result<Answer, ServeFault>
     requires closed { session.old.begun ≡ false }
-    requires crew { IsCrew workers }
-    requires eventless { (command : Command) → saying_of said.now ≡ SaysStep command →
-        events_of command ≡ [] }
+    requires crew { IsCrew executor.now.workers }
     ensures met { IfOk result (λ answer. Ends
-        (IsDoneAs workers (G.answers gate.now) (G.gives gate.now)) answer.ending
+        (IsDoneAs executor.now.workers (G.answers executor.now.gate.now)
+        (G.gives executor.now.gate.now)) answer.ending
         session.old.database session.old.line (saying_of said.now) answer.text.items
         session.new.line) }
-    ensures may { MayMeetSaying (IsDoneBy workers (G.answers gate.now) (G.gives gate.now))
+    ensures may { MayMeetSaying (IsDoneBy executor.now.workers (G.answers executor.now.gate.now)
+        (G.gives executor.now.gate.now))
         session.old.database session.old.line (saying_of said.now) session.new.line }
     ensures stays { Stays session.old session.new }
     ensures fault { IfErr result (EndsLine (K.failed keeper.new)
@@ -94,8 +88,8 @@ pub(crate) fn said_answer<T: Threads + Wait + Sync, K: Keeper, G: Gate>(
     ensures whole { IsSpoiledBy result session.old session.new }
 {
     match said {
-        SessionLine::Step(step) => kept_answer(rt, alloc, session, keeper, gate, workers, step),
-        _ => shown(alloc, session, said),
+        SessionLine::Command(command) => kept_answer(executor, session, keeper, command),
+        _ => shown(executor.alloc, session, said),
     }
 }
 
@@ -103,26 +97,25 @@ pub(crate) fn said_answer<T: Threads + Wait + Sync, K: Keeper, G: Gate>(
 ///
 /// It has altered exactly where its current state has, since neighbours differ.
 fn kept_answer<T: Threads + Wait + Sync, K: Keeper, G: Gate>(
-    rt: &T,
-    alloc: Global,
+    executor: &Executor<'_, T, G>,
     session: &mut Session,
     keeper: &mut K,
-    gate: &G,
-    workers: u8,
-    step: &Step,
+    command: &Command,
 ) -> Result<Answer, ServeFault>
     requires closed { session.old.begun ≡ false }
-    requires crew { IsCrew workers }
+    requires crew { IsCrew executor.now.workers }
     ensures met { IfOk result (λ answer. EndsCommand
-        (IsDoneAs workers (G.answers gate.now) (G.gives gate.now)) answer.ending
-        session.old.database session.old.line (with_events (command_of step.now) [])
+        (IsDoneAs executor.now.workers (G.answers executor.now.gate.now)
+        (G.gives executor.now.gate.now)) answer.ending
+        session.old.database session.old.line (plain_of command.now)
         answer.text.items session.new.line) }
-    ensures may { MayMeet (IsDoneBy workers (G.answers gate.now) (G.gives gate.now))
-        session.old.database session.old.line (with_events (command_of step.now) [])
+    ensures may { MayMeet (IsDoneBy executor.now.workers (G.answers executor.now.gate.now)
+        (G.gives executor.now.gate.now))
+        session.old.database session.old.line (plain_of command.now)
         session.new.line }
     ensures stays { Stays session.old session.new }
     ensures fault { IfErr result (EndsLine (K.failed keeper.new)
-        (HasWork session.old.database session.old.line (with_events (command_of step.now) []))
+        (HasWork session.old.database session.old.line (plain_of command.now))
         session.old session.new) }
     ensures kept { KeepsLine result K.fails (K.keeps keeper.old) (K.keeps keeper.new)
         session.old.database session.old.line session.new.line }
@@ -131,27 +124,27 @@ fn kept_answer<T: Threads + Wait + Sync, K: Keeper, G: Gate>(
 {
     // The session tells that its line is one of its database: so neighbours differ.
     let _ = session.journal();
-    let Ok((live, table)) = current(alloc, session) else {
+    let Ok((live, table)) = current(executor.alloc, session) else {
         return Err(ServeFault::Memory);
     };
-    gate.begin(session, step);
-    let answer = step_answer(rt, alloc, session, gate, workers, step);
+    executor.gate.begin(session, command);
+    let answer = step_answer(executor, session, command);
     let _ = session.journal();
     if is_current(session, &live, &table) {
-        end_unaltered(gate, &answer);
+        end_unaltered(executor.gate, &answer);
         return answer;
     }
-    match keeper.keep(alloc, session) {
+    match keeper.keep(executor.alloc, session) {
         Ok(()) => {
-            gate.end();
+            executor.gate.end();
             answer
         }
         Err(fault) => Err(ServeFault::from(fault)),
     }
 }
 
-/// Tells a gate that a step is over which altered nothing. After a fault it is not told: services
-/// may have moved.
+/// Tells a gate that a command is over which altered nothing. After a fault it is not told, since
+/// services may have moved.
 fn end_unaltered<G: Gate>(gate: &G, answer: &Result<Answer, ServeFault>) {
     if answer.is_ok() {
         gate.end();
@@ -180,7 +173,7 @@ fn is_current(session: &Session, live: &Set, table: &Table) -> bool
 /// Answers what is said where nothing is to be done.
 fn shown(alloc: Global, session: &Session, said: &SessionLine) -> Result<Answer, ServeFault>
     requires closed { session.now.begun ≡ false }
-    requires shows { (command : Command) → saying_of said.now ≡ SaysStep command → ⊥ }
+    requires shows { (command : Does) → saying_of said.now ≡ SaysStep command → ⊥ }
     ensures met { IfOk result (λ answer. Ends IsEditedAs answer.ending session.now.database
         session.now.line (saying_of said.now) answer.text.items session.now.line) }
     ensures fault { IfErr result (EndsSession ⊥ session.now session.now) }
@@ -188,7 +181,7 @@ fn shown(alloc: Global, session: &Session, said: &SessionLine) -> Result<Answer,
     match said {
         SessionLine::Nothing => Ok(done(Vec::new(alloc))),
         SessionLine::Wrong => Ok(refused(Vec::from_slice(alloc, b"refused BadLine\n")?)),
-        SessionLine::Step(_) => unreachable!(),
+        SessionLine::Command(_) => unreachable!(),
         SessionLine::Dry(request) => dry_answer(alloc, session, request),
         SessionLine::Live => Ok(done(live_answer(alloc, session)?)),
         SessionLine::Bundles => Ok(done(bundles_answer(alloc, session)?)),
@@ -196,44 +189,45 @@ fn shown(alloc: Global, session: &Session, said: &SessionLine) -> Result<Answer,
     }
 }
 
-/// Carries a command out, and answers. The events that the step has are not looked at.
+/// Carries a command out, and answers.
 fn step_answer<T: Threads + Wait + Sync, G: Gate>(
-    rt: &T,
-    alloc: Global,
+    executor: &Executor<'_, T, G>,
     session: &mut Session,
-    gate: &G,
-    workers: u8,
-    step: &Step,
+    command: &Command,
 ) -> Result<Answer, ServeFault>
     requires closed { session.old.begun ≡ false }
-    requires crew { IsCrew workers }
+    requires crew { IsCrew executor.now.workers }
     ensures met { IfOk result (λ answer. EndsCommand
-        (IsDoneAs workers (G.answers gate.now) (G.gives gate.now)) answer.ending
-        session.old.database session.old.line (with_events (command_of step.now) [])
+        (IsDoneAs executor.now.workers (G.answers executor.now.gate.now)
+        (G.gives executor.now.gate.now)) answer.ending
+        session.old.database session.old.line (plain_of command.now)
         answer.text.items session.new.line) }
-    ensures may { MayMeet (IsDoneBy workers (G.answers gate.now) (G.gives gate.now))
+    ensures may { MayMeet (IsDoneBy executor.now.workers (G.answers executor.now.gate.now)
+        (G.gives executor.now.gate.now))
         session.old.database session.old.line
-        (with_events (command_of step.now) []) session.new.line }
+        (plain_of command.now) session.new.line }
     ensures stays { Stays session.old session.new }
     ensures fault { IfErr result (EndsSession
         (HasWork session.old.database session.old.line
-        (with_events (command_of step.now) [])) session.old session.new) }
+        (plain_of command.now)) session.old session.new) }
     ensures whole { IsSpoiledBy result session.old session.new }
 {
-    match step {
-        Step::Change(request, _) => {
+    let (rt, alloc) = (executor.rt, executor.alloc);
+    let (gate, workers) = (executor.gate, executor.workers);
+    match command {
+        Command::Change(request) => {
             let outcome = change(rt, alloc, session, request, gate, workers, &NoWatch);
             told(alloc, session.db().names(), &request.names, outcome)
         }
-        Step::Undo(limit, _) => {
+        Command::Undo(limit) => {
             let outcome = undo(rt, alloc, session, *limit, gate, workers, &NoWatch);
             told(alloc, session.db().names(), &[], outcome)
         }
-        Step::Redo(limit, _) => {
+        Command::Redo(limit) => {
             let outcome = redo(rt, alloc, session, *limit, gate, workers, &NoWatch);
             told(alloc, session.db().names(), &[], outcome)
         }
-        Step::Add(name, contents, force) => add_answer(alloc, session, name, contents, *force),
-        Step::Delete(names, force) => delete_answer(alloc, session, names, *force),
+        Command::Add(name, contents, force) => add_answer(alloc, session, name, contents, *force),
+        Command::Delete(names, force) => delete_answer(alloc, session, names, *force),
     }
 }

@@ -1,11 +1,10 @@
 //! A session of one line.
-ghost use Rattle.std.specs.Prelude.{◌≡◌, ◌⊎◌, ℕ, List, [], false, IfErr, IfOk, MatchResult};
+ghost use Rattle.std.specs.Prelude.{◌≡◌, ◌⊎◌, ℕ, List, false, IfErr, IfOk, MatchResult};
 ghost use Rattle.std.specs.Prelude.{OnOk, Ok};
 ghost use Rattle.std.specs.Io.KnownBytes.{Appends};
 ghost use Rattle.rc_streams.specs.Noting.{HasFailed, IsFlushed, inner_of};
-ghost use Rattle.rc_model.specs.Session.{Command, events_of};
 ghost use Rattle.rc_board.specs.Crew.{IsCrew};
-ghost use Rattle.rc_script.specs.Says.{SaysStep, saying_of};
+ghost use Rattle.rc_script.specs.Says.{saying_of};
 ghost use Rattle.rc_serve.specs.Ending.{ArrivesSaying, Ends, IsDoneAs, StopsOnce};
 ghost use Rattle.rc_serve.specs.Faults.{IsOfAnswer, IsServeFault, IsSpoiledBy};
 ghost use Rattle.rc_serve.specs.Keeping.{IsKeptUp};
@@ -17,7 +16,7 @@ use crate::answers::said_answer;
 use crate::ending::Ending;
 use crate::fault::ServeFault;
 use crate::keeper::Keeper;
-use rc_board::Gate;
+use rc_board::{Executor, Gate};
 use rc_script::SessionLine;
 use rc_session::Session;
 use rc_streams::Noted;
@@ -30,24 +29,20 @@ use std::thread::Threads;
 /// Does what one line says, keeps what it altered, and writes its answer, as `serve` does for each
 /// line of its input. Answers how the line ended.
 pub fn answer_once<T: Threads + Wait + Sync, W: Write, K: Keeper, G: Gate>(
-    rt: &T,
-    alloc: Global,
+    executor: &Executor<'_, T, G>,
     session: &mut Session,
     keeper: &mut K,
-    gate: &G,
-    workers: u8,
     said: &SessionLine,
     writer: &mut Noted<W>,
 ) -> Result<Ending, ServeFault>
     requires closed { session.old.begun ≡ false }
-    requires crew { IsCrew workers }
-    requires eventless { (command : Command) → saying_of said.now ≡ SaysStep command
-        → events_of command ≡ [] }
+    requires crew { IsCrew executor.now.workers }
     requires writer { HasFailed writer.old → ⊥ }
 
     // What is said was met, it ended so, and what was written is its answer.
     ensures ended { IfOk result (λ ending. (text : List ℕ) × Ends
-        (IsDoneAs workers (G.answers gate.now) (G.gives gate.now)) ending
+        (IsDoneAs executor.now.workers (G.answers executor.now.gate.now)
+        (G.gives executor.now.gate.now)) ending
         session.old.database session.old.line (saying_of said.now) text session.new.line
         × Appends (W.contents (inner_of writer.old)) (W.contents (inner_of writer.new)) text) }
 
@@ -62,7 +57,8 @@ pub fn answer_once<T: Threads + Wait + Sync, W: Write, K: Keeper, G: Gate>(
 
     // A fault comes as in a session. Nothing of an answer is written before the line is kept.
     ensures stopped { IfErr result (λ fault. StopsOnce
-        (IsDoneBy workers (G.answers gate.now) (G.gives gate.now)) fault
+        (IsDoneBy executor.now.workers (G.answers executor.now.gate.now)
+        (G.gives executor.now.gate.now)) fault
         K.fails (K.keeps keeper.old) (K.keeps keeper.new) (saying_of said.now)
         (W.contents (inner_of writer.old)) (W.contents (inner_of writer.new))
         session.old session.new) }
@@ -76,7 +72,7 @@ pub fn answer_once<T: Threads + Wait + Sync, W: Write, K: Keeper, G: Gate>(
     // The session tells that its line is one of its database.
     let _ = session.db();
     let _ = session.journal();
-    let answer = said_answer(rt, alloc, session, keeper, gate, workers, said)?;
+    let answer = said_answer(executor, session, keeper, said)?;
     write_answer(writer, &answer.text)?;
     Ok(answer.ending)
 }

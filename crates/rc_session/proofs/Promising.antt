@@ -47,7 +47,7 @@ moved_live line (Add name contents force) live new moved = absurd moved
 moved_live line (Delete words force) live new moved = absurd moved
 
 -- an edit is no run
-no_edit_run : (d : Database) (line new : Line) (command : Command) (told : Reported)
+pub no_edit_run : (d : Database) (line new : Line) (command : Command) (told : Reported)
     → HasRun command → DoesByEdit d line command told new → ⊥
 no_edit_run d line new (Change ask events) told has edit = edit.altered
 no_edit_run d line new (Undo limit events) told has edit = edit.altered

@@ -1,21 +1,17 @@
 //! Laws of the definitions, the headline first. The functions do nothing when they run.
 
-ghost use Rattle.std.specs.Prelude.{◌≡◌, ◌↔◌, ℕ, Bool, false, List, [], Option, Some, take};
+ghost use Rattle.std.specs.Prelude.{◌≡◌, ◌↔◌, ℕ, List, [], Option, Some, take};
 ghost use Rattle.std.specs.Prelude.{drop, slice_get, Result};
 ghost use Rattle.rc_model.specs.Database.{Database, IsDatabase};
 ghost use Rattle.rc_model.specs.Plan.{PlanSets};
-ghost use Rattle.rc_model.specs.Names.{Holds};
-ghost use Rattle.rc_graph.specs.declared.Way.{Way};
 ghost use Rattle.rc_model.specs.declared.Event.{Event};
-ghost use Rattle.rc_core.specs.End.{EndOf};
-ghost use Rattle.rc_model.specs.Run.{HasFailed, course_of, IsSettled};
+ghost use Rattle.rc_model.specs.Run.{course_of, IsSettled};
 ghost use Rattle.rc_model.specs.Beside.{IsCourse, IsEditOnly, TargetOf};
-ghost use Rattle.rc_core.specs.Failing.{EndsAs};
 ghost use Rattle.rc_model.specs.Line.{Line, IsNext};
 ghost use Rattle.rc_model.specs.declared.Refusal.{Refusal};
-ghost use Rattle.rc_model.specs.Session.{Command, Undo, Redo, events_of, Reported, IsTask};
+ghost use Rattle.rc_model.specs.Session.{Command, Undo, Redo, Reported, IsTask};
 ghost use Rattle.rc_model.specs.Session.{deadline_of, DoesByRun, IsLineOf, Answers, Plays};
-ghost use Rattle.rc_session.specs.Alike.{IsEndOfFailing};
+ghost use Rattle.rc_session.specs.Alike.{EndsAlike};
 ghost use Rattle.rc_session.specs.Existence.{WaysBack, WaysOn, EachIsAnswered};
 ghost use Rattle.rc_model.specs.Headline.{TargetOfCommand, RunsAreOrderly, ChangesAreEntered};
 ghost use Rattle.rc_model.specs.Headline.{EditsAreEntered, UndosRestore, RedosRestore};
@@ -173,18 +169,10 @@ pub fn ways_of_edits_take_no_events()
         DoesByRun d line (Redo limit events) told new → events ≡ [] }
 {}
 
-/// What is told of a run that was not stopped hangs on what failed, and on nothing else: not on who
-/// was quicker, nor on how many worked.
+/// The end of a run that was not stopped depends on what failed, and on nothing else: not on who
+/// was quicker, nor on how many worked. This holds of each run that a play reports.
 pub fn runs_end_alike()
-    ensures end { (d : Database) (line new : Line) (command : Command) (told : Reported) →
-        IsDatabase d → IsLineOf d line →
-        (run : DoesByRun d line command told new) → told.stopped ≡ false →
-        Holds new.current.live (EndOf (course_of d.needs run.plan run.deadline)
-        (HasFailed (events_of command))) }
-    ensures fails { (d : Database) (line new : Line) (command : Command) (told : Reported) →
-        IsDatabase d → IsLineOf d line →
-        (run : DoesByRun d line command told new) → told.stopped ≡ false →
-        (fails : ℕ → Way → Bool) → EndsAs (course_of d.needs run.plan run.deadline) fails
-        (events_of command) →
-        IsEndOfFailing (course_of d.needs run.plan run.deadline) fails new.current.live told }
+    ensures { (d : Database) (line new : Line) (command : Command) (told : Reported) →
+        IsDatabase d → IsLineOf d line → DoesByRun d line command told new →
+        EndsAlike d line command told new }
 {}

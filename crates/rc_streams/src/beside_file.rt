@@ -1,8 +1,19 @@
 //! Files beside that of a session, whose paths are its path and an ending.
+//!
+//! They belong to the user who runs the program. What stands there is tested on the open file: a
+//! link, or a file of another user, that is put there in between is refused, and nothing of it is
+//! written or cut.
 
 use crate::replaced_file::{beside, check_plain, place};
-use std::fs::File;
-use std::io;
+use std::fs::{self, File, Metadata};
+use std::io::{self, ErrorKind};
+use std::os::unix::fs::{MetadataExt, OpenOptionsExt};
+
+/// The rights of a file that is made: its owner's alone.
+pub(crate) const RIGHTS: u32 = 0o600;
+
+/// How often a file is opened or made while another program makes or removes it.
+const MOST_TRIES: u32 = 100;
 
 /// The path of the file beside a session's file that has this ending.
 pub(crate) fn path_beside(rt: &HostRuntime, path: &str, ending: &str) -> io::Result<String> {
@@ -12,23 +23,134 @@ pub(crate) fn path_beside(rt: &HostRuntime, path: &str, ending: &str) -> io::Res
     beside
 }
 
-/// Opens the file beside a session's file that has this ending, to append, and makes it where it is
-/// missing. It is a plain file, and no stream of the program, also where one of those was closed:
-/// its number is above theirs.
+/// Opens the file beside a session's file that has this ending, to read and append, and makes it
+/// where it is missing.
 pub(crate) fn open_to_append(rt: &HostRuntime, path: &str, ending: &str) -> io::Result<File> {
     let beside = path_beside(rt, path, ending)?;
-    let opened = open_plain(rt, beside.as_str());
+    let opened = open_own(rt, beside.as_str());
     drop(beside);
     opened
 }
 
-/// Opens a plain file to append.
-fn open_plain(rt: &HostRuntime, path: &str) -> io::Result<File> {
+/// Opens a file of this user's to read and append, and makes it where it is missing. It is no
+/// stream of the program, also where one of those was closed: its number is above theirs.
+pub(crate) fn open_own(rt: &HostRuntime, path: &str) -> io::Result<File> {
+    for _ in 0..MOST_TRIES {
+        match open_or_make(rt, path) {
+            // Another program has made it or removed it in between.
+            Err(error) if is_passing(error.kind()) => {}
+            opened => return opened,
+        }
+    }
+    open_or_make(rt, path)
+}
+
+/// Opens a file, or makes it where it is missing.
+fn open_or_make(rt: &HostRuntime, path: &str) -> io::Result<File> {
+    match open_there(rt, path) {
+        Err(error) if error.kind() == ErrorKind::NotFound => make(rt, path),
+        opened => opened,
+    }
+}
+
+/// Whether an error comes of what another program does at the same moment.
+fn is_passing(kind: ErrorKind) -> bool {
+    matches!(kind, ErrorKind::AlreadyExists | ErrorKind::NotFound)
+}
+
+/// Opens a file of this user's that is there, to read and append. A pipe is not waited for, since
+/// it is opened to read as well.
+pub(crate) fn open_there(rt: &HostRuntime, path: &str) -> io::Result<File> {
     check_plain(rt, path)?;
     let mut options = File::options();
-    options.append(true).create(true);
+    options.read(true).append(true);
     let opened = options.open(rt, path)?;
+    match check_own(rt, path, &opened) {
+        Ok(()) => above_streams(opened),
+        Err(error) => {
+            drop(opened);
+            Err(error)
+        }
+    }
+}
+
+/// Makes a file that is not there yet.
+fn make(rt: &HostRuntime, path: &str) -> io::Result<File> {
+    let mut options = File::options();
+    options
+        .read(true)
+        .append(true)
+        .create_new(true)
+        .mode(RIGHTS);
+    above_streams(options.open(rt, path)?)
+}
+
+/// The same file by a number that is none of the program's streams.
+pub(crate) fn above_streams(opened: File) -> io::Result<File> {
     let file = opened.try_clone();
     drop(opened);
     file
+}
+
+/// Fails unless an open file is the plain file at a path, with no other name, and belongs to the
+/// user who runs the program.
+fn check_own(rt: &HostRuntime, path: &str, file: &File) -> io::Result<()> {
+    let opened = file.metadata()?;
+    check_there(rt, path, &opened)?;
+    if opened.uid() == libc::geteuid() {
+        Ok(())
+    } else {
+        Err(refused("belongs to another user"))
+    }
+}
+
+/// Fails unless an open file is the plain file at a path, with no other name.
+pub(crate) fn check_there(rt: &HostRuntime, path: &str, opened: &Metadata) -> io::Result<()> {
+    let found = fs::symlink_metadata(rt, path)?;
+    if !opened.is_file() || !is_same(opened, &found) {
+        Err(refused("is no plain file"))
+    } else if opened.nlink() > 1 {
+        Err(refused("has another name"))
+    } else {
+        Ok(())
+    }
+}
+
+/// Whether two accounts are of one file.
+fn is_same(one: &Metadata, other: &Metadata) -> bool {
+    one.dev() == other.dev() && one.ino() == other.ino()
+}
+
+/// Whether an open file still stands at a path.
+pub(crate) fn stands_at(rt: &HostRuntime, path: &str, file: &File) -> bool {
+    match (file.metadata(), fs::symlink_metadata(rt, path)) {
+        (Ok(opened), Ok(found)) => is_same(&opened, &found),
+        _ => false,
+    }
+}
+
+/// Fails where others than the user who runs the program, and root, may make files in a directory:
+/// who may do that could put a file there that the program takes for its own.
+pub(crate) fn check_folder(rt: &HostRuntime, folder: &str) -> io::Result<()> {
+    let found = fs::metadata(rt, folder)?;
+    let user = libc::geteuid();
+    if found.uid() != user && found.uid() != 0 {
+        Err(refused("its directory belongs to another user"))
+    } else if found.mode() & 0o002 != 0 {
+        Err(refused("everyone may write into its directory"))
+    } else if found.mode() & 0o020 != 0 && !is_own_group(found.gid()) {
+        Err(refused("its group may write into its directory"))
+    } else {
+        Ok(())
+    }
+}
+
+/// Whether a group is that of the user who runs the program alone: it has the user's own number.
+fn is_own_group(group: u32) -> bool {
+    group == libc::getegid() && group == libc::geteuid()
+}
+
+/// Why a file is refused.
+pub(crate) fn refused(why: &str) -> io::Error {
+    io::Error::new(ErrorKind::InvalidInput, why)
 }

@@ -1,10 +1,11 @@
 //! A whole input under a bound, and lines of one; an answer written whole; readers and writers
 //! whose failures are noted; files that are read whole or replaced whole, one that is locked, and
-//! those by which a run is logged and called off; messages on standard error; and how a command
-//! ends.
+//! those by which a run is logged and called off; the log of commands; messages on standard error;
+//! and how a command ends.
 #![tactic(auto)]
 
 mod beside_file;
+pub mod command_log;
 pub mod ending;
 mod input;
 mod lines;
@@ -14,6 +15,7 @@ mod noted;
 pub mod replaced_file;
 pub mod run_file;
 pub mod stop_file;
+mod umask;
 pub mod whole_file;
 pub mod writing;
 

@@ -2,14 +2,15 @@
 //! It is a lock on a file beside it, which is made where it is missing, and stays. Its owner alone
 //! may open it, and it holds the process id of the program that locked it last.
 
-use crate::beside_file::path_beside;
+use crate::beside_file::{RIGHTS, check_folder, open_own, refused, stands_at};
 use crate::messages::{MESSAGE, Messages};
-use crate::replaced_file::check_plain;
+use crate::replaced_file::{beside, check_plain, folder_of, place};
 use crate::stop_file::is_signal_waiting;
 use log::info;
 use std::fs::{self, File, Permissions, TryLockError};
 use std::io::{self, ErrorKind, Write};
-use std::os::unix::fs::{FileExt, OpenOptionsExt, PermissionsExt};
+use std::os::unix::fs::{FileExt, PermissionsExt};
+use std::path::PathBuf;
 use std::time::Duration;
 use std::{process, thread};
 use thiserror::Error;
@@ -23,8 +24,14 @@ const PAUSE: u64 = 10;
 /// After so many pauses it tells what it waits for.
 const ROUNDS_BEFORE_WORD: u64 = 100;
 
-/// The rights of a lock's file: its owner's alone. Who could open it could hold every command up.
-const RIGHTS: u32 = 0o600;
+/// How often the file of a lock may be replaced by another while it is taken.
+const MOST_FILES: u32 = 100;
+
+/// How often those who only look may be in the way of one who takes a lock, and how long each is
+/// given, in milliseconds.
+const MOST_LOOKS: u32 = 1_000;
+
+const LOOK: u64 = 1;
 
 /// Why a lock was not taken.
 #[derive(Debug, Drop, Error)]
@@ -47,31 +54,68 @@ impl LiveLock {
     /// The lock of a program that goes on with the session of this file, which no other may have.
     /// None: a device or a folder stands there, in which no session is kept.
     pub fn take(rt: &HostRuntime, path: &str, waits: bool) -> Result<Option<LiveLock>, LockFault> {
-        let Some(file) = lock_file(rt, path)? else {
+        if !keeps_session(rt, path)? {
             return Ok(None);
-        };
-        let locked = if waits {
-            wait_for(rt, &file, path)
-        } else {
-            lock(&file)
-        };
-        match locked {
-            Ok(()) => {
-                sign(rt, &file);
-                Ok(Some(LiveLock { file }))
-            }
-            Err(fault) => {
-                drop(file);
-                Err(fault)
-            }
+        }
+        let place = place(rt, path)?;
+        let taken = take_at(rt, &place, path, waits);
+        drop(place);
+        match taken {
+            Ok(lock) => Ok(Some(lock)),
+            Err(fault) => Err(fault),
         }
     }
 }
 
-/// Whether a program goes on with the session of this file. Where none does, the lock is taken for
-/// a moment.
+/// The lock of the session at a place, in whose directory nobody else may make files.
+fn take_at(
+    rt: &HostRuntime,
+    place: &PathBuf,
+    path: &str,
+    waits: bool,
+) -> Result<LiveLock, LockFault> {
+    check_folder(rt, folder_of(place))?;
+    let beside = beside(rt, place, ENDING)?;
+    let taken = take_file(rt, beside.as_str(), path, waits);
+    drop(beside);
+    taken
+}
+
+/// The lock on the file at a path. Where it was replaced by another file meanwhile, as one that a
+/// cleaner of the directory has removed, that one is locked.
+fn take_file(
+    rt: &HostRuntime,
+    beside: &str,
+    path: &str,
+    waits: bool,
+) -> Result<LiveLock, LockFault> {
+    for _ in 0..MOST_FILES {
+        let file = open_lock(rt, beside)?;
+        let locked = if waits {
+            wait_for(rt, &file, path)
+        } else {
+            lock(rt, &file)
+        };
+        if let Err(fault) = locked {
+            drop(file);
+            return Err(fault);
+        }
+        if stands_at(rt, beside, &file) {
+            sign(rt, &file);
+            return Ok(LiveLock { file });
+        }
+        drop(file);
+    }
+    Err(LockFault::Failed(refused("is replaced by another again and again")))
+}
+
+/// Whether a program goes on with the session of this file. Where none does, the lock is shared
+/// for a moment, which one who takes it waits for.
 pub fn is_held(rt: &HostRuntime, path: &str) -> io::Result<bool> {
-    let beside = path_beside(rt, path, ENDING)?;
+    let place = place(rt, path)?;
+    let beside = beside(rt, &place, ENDING);
+    drop(place);
+    let beside = beside?;
     let held = is_locked(rt, beside.as_str());
     drop(beside);
     held
@@ -85,21 +129,40 @@ fn is_locked(rt: &HostRuntime, path: &str) -> io::Result<bool> {
         Err(error) if error.kind() == ErrorKind::NotFound => return Ok(false),
         Err(error) => return Err(error),
     };
-    let held = match lock(&file) {
-        Ok(()) => Ok(false),
-        Err(LockFault::Busy(_)) => Ok(true),
-        Err(LockFault::Failed(error)) => Err(error),
-    };
+    let shared = is_shared(&file);
     drop(file);
-    held
+    match shared {
+        Ok(shared) => Ok(!shared),
+        Err(error) => Err(error),
+    }
 }
 
-/// Locks a file.
-fn lock(file: &File) -> Result<(), LockFault> {
-    match file.try_lock() {
-        Ok(()) => Ok(()),
-        Err(TryLockError::WouldBlock) => Err(LockFault::Busy(owner_of(file))),
-        Err(TryLockError::Error(error)) => Err(LockFault::Failed(error)),
+/// Locks a file. Those who only look share it for a moment, and are no other program that goes on
+/// with the session: who has it alone cannot be shared with.
+fn lock(rt: &HostRuntime, file: &File) -> Result<(), LockFault> {
+    for _ in 0..MOST_LOOKS {
+        match file.try_lock() {
+            Ok(()) => return Ok(()),
+            Err(TryLockError::Error(error)) => return Err(LockFault::Failed(error)),
+            Err(TryLockError::WouldBlock) => {}
+        }
+        if !is_shared(file)? {
+            break;
+        }
+        thread::sleep(rt, Duration::from_millis(LOOK));
+    }
+    Err(LockFault::Busy(owner_of(file)))
+}
+
+/// Whether the lock of a file can be shared, which nobody has alone then.
+fn is_shared(file: &File) -> io::Result<bool> {
+    match file.try_lock_shared() {
+        Ok(()) => {
+            file.unlock()?;
+            Ok(true)
+        }
+        Err(TryLockError::WouldBlock) => Ok(false),
+        Err(TryLockError::Error(error)) => Err(error),
     }
 }
 
@@ -126,7 +189,7 @@ fn owner_of(file: &File) -> Option<u32> {
 /// second what is waited for.
 fn wait_for(rt: &HostRuntime, file: &File, path: &str) -> Result<(), LockFault> {
     for round in 0..u64::MAX {
-        match lock(file) {
+        match lock(rt, file) {
             Err(LockFault::Busy(_)) if !is_signal_waiting(rt) => {}
             locked => return locked,
         }
@@ -138,32 +201,22 @@ fn wait_for(rt: &HostRuntime, file: &File, path: &str) -> Result<(), LockFault> 
     Err(LockFault::Busy(None))
 }
 
-/// The file that is locked for this one. None: what stands there is no plain file.
-fn lock_file(rt: &HostRuntime, path: &str) -> io::Result<Option<File>> {
+/// Whether a session can be kept in this file: a plain one stands there, or none.
+fn keeps_session(rt: &HostRuntime, path: &str) -> io::Result<bool> {
     if path.is_empty() {
         return Err(io::Error::from(ErrorKind::NotFound));
     }
     match fs::metadata(rt, path) {
-        Ok(found) if !found.is_file() => return Ok(None),
-        Ok(_) => {}
-        Err(error) if error.kind() == ErrorKind::NotFound => {}
-        Err(error) => return Err(error),
+        Ok(found) => Ok(found.is_file()),
+        Err(error) if error.kind() == ErrorKind::NotFound => Ok(true),
+        Err(error) => Err(error),
     }
-    let beside = path_beside(rt, path, ENDING)?;
-    let file = open_lock(rt, beside.as_str());
-    drop(beside);
-    Ok(Some(file?))
 }
 
-/// Opens the file that is locked, and makes it where it is missing. It is no stream of the program,
-/// also where one of those was closed: its number is above theirs.
+/// Opens the file that is locked, and makes it where it is missing. Its owner alone may open it:
+/// who could would hold every command up.
 fn open_lock(rt: &HostRuntime, path: &str) -> io::Result<File> {
-    check_plain(rt, path)?;
-    let mut options = File::options();
-    options.read(true).write(true).create(true).mode(RIGHTS);
-    let opened = options.open(rt, path)?;
-    let _ = opened.set_permissions(Permissions::from_mode(RIGHTS));
-    let file = opened.try_clone();
-    drop(opened);
-    file
+    let file = open_own(rt, path)?;
+    let _ = file.set_permissions(Permissions::from_mode(RIGHTS));
+    Ok(file)
 }

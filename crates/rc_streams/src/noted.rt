@@ -41,12 +41,10 @@ impl<T> Noted<T> {
     }
 
     /// Whether a call has failed: by an error, by a write that was interrupted or took nothing, or
-    /// by a read
-    /// that was the 1,001st in a row to be interrupted.
+    /// by a read that was the 1,001st in a row to be interrupted.
     ///
-    /// It goes by what the calls of this wrapper answer: no clause says that such an answer is the
-    /// wrapped
-    /// device's own.
+    /// It goes by the results of this wrapper. No clause says that they are those of the wrapped
+    /// device, since the contract of a read or write does not name its result.
     pub fn failed(&self) -> bool
         ensures { result ≡ self.now.failed }
     {

@@ -1,7 +1,11 @@
 //! Files that are replaced whole, so that whoever looks at any moment, also after a program that
-//! was killed, finds the old bytes or the new ones.
+//! was killed, finds the old bytes or the new ones. Until it has its bytes, a file may be read by
+//! its owner alone.
+use crate::beside_file::{RIGHTS, refused};
+use crate::umask::new_rights;
 use std::fs::{self, File, OpenFile, Permissions};
 use std::io::{self, ErrorKind, Write};
+use std::os::unix::fs::OpenOptionsExt;
 use std::path::PathBuf;
 
 /// How many bytes a disk must have room for before anything is done.
@@ -46,10 +50,17 @@ pub fn probe(rt: &HostRuntime, path: &str) -> io::Result<()> {
 /// Makes a file of some bytes in place of what stands there.
 fn make_anew(rt: &HostRuntime, path: &str) -> io::Result<()> {
     clear(rt, path)?;
-    let file = File::create_new(rt, path)?;
+    let file = create(rt, path)?;
     let written = write_room(&file);
     drop(file);
     written
+}
+
+/// Makes a file that is not there yet, for its owner alone.
+fn create(rt: &HostRuntime, path: &str) -> io::Result<File> {
+    let mut options = File::options();
+    options.write(true).create_new(true).mode(RIGHTS);
+    options.open(rt, path)
 }
 
 /// Writes as many bytes as a disk must have room for before anything is done.
@@ -114,7 +125,7 @@ pub(crate) fn place(rt: &HostRuntime, path: &str) -> io::Result<PathBuf> {
 /// waited for.
 pub(crate) fn check_plain(rt: &HostRuntime, path: &str) -> io::Result<()> {
     match fs::symlink_metadata(rt, path) {
-        Ok(found) if !found.is_file() => Err(io::Error::from(ErrorKind::InvalidInput)),
+        Ok(found) if !found.is_file() => Err(refused("is no plain file")),
         Ok(_) => Ok(()),
         Err(error) if error.kind() == ErrorKind::NotFound => Ok(()),
         Err(error) => Err(error),
@@ -175,7 +186,11 @@ fn rename_over(
     rights: Option<Permissions>,
     bytes: &[u8],
 ) -> io::Result<()> {
-    let mut file = File::create_new(rt, beside)?;
+    let rights = match rights {
+        Some(rights) => rights,
+        None => new_rights(rt),
+    };
+    let mut file = create(rt, beside)?;
     let written = write_whole(&mut file, rights, bytes);
     drop(file);
     written?;
@@ -183,21 +198,22 @@ fn rename_over(
     sync_folder(rt, place)
 }
 
-/// Has these rights and these bytes of a file reach the disk.
-fn write_whole(file: &mut File, rights: Option<Permissions>, bytes: &[u8]) -> io::Result<()> {
-    if let Some(rights) = rights {
-        file.set_permissions(rights)?;
-    }
+/// Has these bytes of a file, and then these rights, reach the disk.
+fn write_whole(file: &mut File, rights: Permissions, bytes: &[u8]) -> io::Result<()> {
     file.write_all(bytes)?;
+    file.set_permissions(rights)?;
     file.sync_all()
 }
 
 /// Has the new name of the file reach the disk.
 fn sync_folder(rt: &HostRuntime, place: &PathBuf) -> io::Result<()> {
-    let folder = match place.parent() {
-        Some(parent) => parent.as_str(),
-        None => "",
-    };
-    let folder = if folder.is_empty() { "." } else { folder };
-    File::open(rt, folder)?.sync_all()
+    File::open(rt, folder_of(place))?.sync_all()
+}
+
+/// The directory in which a place is.
+pub(crate) fn folder_of(place: &PathBuf) -> &str {
+    match place.parent() {
+        Some(parent) if !parent.as_str().is_empty() => parent.as_str(),
+        _ => ".",
+    }
 }

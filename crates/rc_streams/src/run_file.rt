@@ -1,11 +1,13 @@
 //! The file beside that of a session in which a run is logged while it is under way: `FILE.run`
 //! beside `FILE`. Who has the lock of `FILE` makes it and removes it.
 
-use crate::beside_file::{open_to_append, path_beside};
+use crate::beside_file::{check_there, open_to_append, path_beside, refused};
 use crate::replaced_file::{check_plain, clear, write_room};
+use crate::umask::new_rights;
 use crate::whole_file;
 use std::fs::{self, File};
 use std::io::{self, ErrorKind, Write};
+use std::os::unix::fs::MetadataExt;
 use std::sync::atomic::{AtomicBool, Ordering};
 
 /// What stands behind the path of a session's file in that of its run log.
@@ -25,16 +27,18 @@ pub struct RunFile {
 
 impl RunFile {
     /// The run log of the session that is kept in the file of this path. It may be read by whom
-    /// that file may be read by.
+    /// that file may be read by, or would be, where it is not there yet.
     pub fn open(rt: &HostRuntime, path: &str) -> io::Result<RunFile> {
         let file = open_to_append(rt, path, ENDING)?;
         if let Err(error) = check_room(&file) {
             drop(file);
             return Err(error);
         }
-        if let Ok(found) = fs::metadata(rt, path) {
-            let _ = file.set_permissions(found.permissions());
-        }
+        let rights = match fs::metadata(rt, path) {
+            Ok(found) => found.permissions(),
+            Err(_) => new_rights(rt),
+        };
+        let _ = file.set_permissions(rights);
         let has_run = match file.metadata() {
             Ok(found) => found.len() > 0,
             Err(_) => true,
@@ -47,9 +51,13 @@ impl RunFile {
         })
     }
 
-    /// Begins anew with these bytes.
+    /// Begins anew with these bytes. Where the log of an earlier run can't be emptied, nothing is
+    /// written: the next recovery would find the new run behind the earlier one, and enter neither.
     pub fn begin(&self, head: &[u8]) {
-        self.clear();
+        if !self.clear() {
+            self.has_failed.store(true, Ordering::SeqCst);
+            return;
+        }
         self.is_open.store(true, Ordering::SeqCst);
         self.has_run.store(true, Ordering::SeqCst);
         self.append(head);
@@ -70,12 +78,15 @@ impl RunFile {
         false
     }
 
-    /// Empties the log. Until the next run begins, nothing is appended.
-    pub fn clear(&self) {
+    /// Empties the log, and returns whether that could be done. Until the next run begins, nothing
+    /// is appended.
+    pub fn clear(&self) -> bool {
         self.is_open.store(false, Ordering::SeqCst);
-        if self.file.set_len(0).is_ok() {
+        let is_empty = self.file.set_len(0).is_ok();
+        if is_empty {
             self.has_run.store(false, Ordering::SeqCst);
         }
+        is_empty
     }
 
     /// Whether the log of a run stands there, of which the session may not know.
@@ -99,19 +110,44 @@ fn check_room(file: &File) -> io::Result<()> {
     written
 }
 
-/// The bytes of the run log of a session's file. None: there is none.
+/// The bytes of the run log of a session's file. None: there is none. It belongs to the user who
+/// runs the program, or to the owner of that file, whose commands made it.
 pub fn read(rt: &HostRuntime, path: &str) -> io::Result<Option<Vec<u8>>> {
     let beside = path_beside(rt, path, ENDING)?;
-    let checked = check_plain(rt, beside.as_str());
-    let read = match checked {
-        Ok(()) => whole_file::read(rt, beside.as_str()),
-        Err(error) => Err(error),
-    };
+    let opened = open_to_read(rt, path, beside.as_str());
     drop(beside);
-    match read {
+    match opened.and_then(|file| whole_file::read_all(rt, file)) {
         Ok(bytes) => Ok(Some(bytes)),
         Err(error) if error.kind() == ErrorKind::NotFound => Ok(None),
         Err(error) => Err(error),
+    }
+}
+
+/// Opens the run log at a path, of this session's file.
+fn open_to_read(rt: &HostRuntime, path: &str, beside: &str) -> io::Result<File> {
+    check_plain(rt, beside)?;
+    let file = File::open(rt, beside)?;
+    match check_owner(rt, path, beside, &file) {
+        Ok(()) => Ok(file),
+        Err(error) => {
+            drop(file);
+            Err(error)
+        }
+    }
+}
+
+/// Fails unless an open file is the run log at a path, and of one who may write it.
+fn check_owner(rt: &HostRuntime, path: &str, beside: &str, file: &File) -> io::Result<()> {
+    let opened = file.metadata()?;
+    check_there(rt, beside, &opened)?;
+    let is_owners = match fs::metadata(rt, path) {
+        Ok(found) => found.uid() == opened.uid(),
+        Err(_) => false,
+    };
+    if is_owners || opened.uid() == libc::geteuid() {
+        Ok(())
+    } else {
+        Err(refused("belongs to another user"))
     }
 }
 

@@ -1,17 +1,15 @@
 //! What calls a run off: a file beside that of its session, `FILE.stop` beside `FILE`, once it is
 //! not empty, and a signal that waits. A run that is called off begins no transition more.
 
-use crate::beside_file::{open_to_append, path_beside};
+use crate::beside_file::{above_streams, open_to_append, path_beside};
 use crate::replaced_file::clear;
+use crate::umask::STATUS;
 use std::fs::File;
 use std::io::{self, Write};
 use std::os::unix::fs::FileExt;
 
 /// What stands behind the path of a session's file in that of this file.
 const ENDING: &str = ".stop";
-
-/// The system's account of the program.
-const STATUS: &str = "/proc/self/status";
 
 /// What stands there before the signals that wait for the program, as a hexadecimal number.
 const WAITING: &[u8] = b"ShdPnd:\t";
@@ -35,7 +33,7 @@ impl StopFile {
         match file.set_len(0) {
             Ok(()) => Ok(StopFile {
                 file,
-                status: File::open(rt, STATUS).ok(),
+                status: account(rt).ok(),
             }),
             Err(error) => {
                 drop(file);
@@ -64,6 +62,11 @@ impl StopFile {
             None => false,
         }
     }
+}
+
+/// The system's account of the program. It is no stream that a script is handed.
+fn account(rt: &HostRuntime) -> io::Result<File> {
+    above_streams(File::open(rt, STATUS)?)
 }
 
 /// Whether a signal that calls a run off waits for the program.

@@ -8,7 +8,12 @@ const MAX_ROOM: u64 = 67_108_864;
 /// The bytes of a file, in a buffer of its size. What has no size, as a pipe, is read in
 /// pieces.
 pub fn read(rt: &HostRuntime, path: &str) -> io::Result<Vec<u8>> {
-    let mut file = File::open(rt, path)?;
+    read_all(rt, File::open(rt, path)?)
+}
+
+/// The bytes of an open file.
+pub(crate) fn read_all(rt: &HostRuntime, file: File) -> io::Result<Vec<u8>> {
+    let mut file = file;
     let size = file.metadata()?.len();
     // One byte more, so that the read that finds the end has room.
     let room = size.min(MAX_ROOM) as usize + 1;

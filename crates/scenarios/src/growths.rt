@@ -4,12 +4,15 @@
 
 ghost use Rattle.std.specs.Prelude.{◌≡◌, false};
 
+mod asked;
 mod begun;
 mod calls;
+mod devices;
 mod lines;
 mod made;
 mod openings;
 mod own;
+mod pushed;
 mod queries;
 mod recovering;
 mod rows;
@@ -22,19 +25,19 @@ mod trees;
 mod values;
 mod workers;
 
+use crate::growths::asked::{show_asked, show_command};
 pub use crate::growths::begun::completed;
-use crate::growths::calls::made;
-use crate::growths::lines::show_edit;
-use crate::growths::openings::{show_change, show_opening};
+use crate::growths::calls::{by_events, made};
+use crate::growths::openings::show_opening;
 use crate::growths::own::show_own;
+use crate::growths::pushed::show_pushed;
 use crate::growths::recovering::show_recovered;
 use crate::growths::rows::{How, ROWS, Row, parts_of};
 use crate::growths::sessions::{show_begun, show_resumed};
 use crate::growths::tables::show_table;
 use crate::growths::told::{show_came, show_line};
-use crate::growths::trees::show_tree;
-use crate::samples::{sample, session_after, steps_of};
-use rc_board::Fault;
+use crate::growths::trees::{show_compiled, show_tree};
+use crate::samples::{is_same_line, sample, session_after, steps_of};
 use rc_livetext::write_live;
 use rc_session::{Session, Step};
 use rc_set::NoMem;
@@ -44,9 +47,10 @@ use std::io::Print;
 use std::sync::Wait;
 use std::test::Fail;
 use std::thread::Threads;
+use std::time::Clock;
 
 /// Each row.
-pub fn show_growths<R: Print + AllocGlobal + Threads + Wait + Sync>(
+pub fn show_growths<R: Print + AllocGlobal + Threads + Wait + Clock + Sync>(
     rt: &R,
     host: &HostRuntime,
 ) -> Result<(), Fail> {
@@ -57,7 +61,7 @@ pub fn show_growths<R: Print + AllocGlobal + Threads + Wait + Sync>(
 }
 
 /// The row's call on a session over the sample.
-fn show_row<R: Print + AllocGlobal + Threads + Wait + Sync>(
+fn show_row<R: Print + AllocGlobal + Threads + Wait + Clock + Sync>(
     rt: &R,
     host: &HostRuntime,
     row: &Row,
@@ -70,7 +74,7 @@ fn show_row<R: Print + AllocGlobal + Threads + Wait + Sync>(
     let mut session = session_after(rt.alloc(), after)?;
     let shown = match how {
         How::Resume | How::Recovered(_) => show_goes_on(rt, &session, what, how),
-        _ => show_on(rt, host, &mut session, what, how, by),
+        _ => show_on(rt, host, &mut session, row),
     };
     drop(session);
     shown
@@ -98,46 +102,57 @@ fn show_goes_on(
     Ok(shown?)
 }
 
-fn show_on<R: Print + AllocGlobal + Threads + Wait + Sync>(
+/// The call by the row's steps.
+fn show_on<R: Print + AllocGlobal + Threads + Wait + Clock + Sync>(
     rt: &R,
     host: &HostRuntime,
     session: &mut Session,
-    what: &str,
-    how: How,
-    by: &str,
+    row: &Row,
 ) -> Result<(), Fail>
     requires { session.old.begun ≡ false }
 {
+    let (call, how) = *row;
+    let (what, after, by) = parts_of(call);
     let steps = steps_of(rt.alloc(), by)?;
-    let shown = show_by(rt, host, session, what, how, &steps);
+    let shown = match how {
+        How::Table(_) | How::Push(_) | How::Own(_) | How::Alter(_) | How::Compile(..) => {
+            Ok(show_apart(rt, session, what, how, steps.first())?)
+        }
+        How::Opening(opening) => {
+            let graph = session.db().graph();
+            Ok(show_opening(rt, graph, session.journal(), what, opening)?)
+        }
+        How::Command(command) => show_command(rt, what, &command),
+        How::Asked(line) => show_asked(rt, session, what, line),
+        _ => {
+            show_call(rt, host, session, what, how, &steps)?;
+            show_left(rt, session, after, by)
+        }
+    };
     drop(steps);
-    Ok(shown?)
+    shown
 }
 
-/// The call by these steps.
-fn show_by<R: Print + AllocGlobal + Threads + Wait + Sync>(
-    rt: &R,
-    host: &HostRuntime,
-    session: &mut Session,
+/// The call on a value of its own.
+fn show_apart(
+    rt: &(impl Print + AllocGlobal),
+    session: &Session,
     what: &str,
     how: How,
-    steps: &[Step],
-) -> io::Result<()>
-    requires { session.old.begun ≡ false }
-{
+    step: Option<&Step>,
+) -> io::Result<()> {
     match how {
-        How::Table(given) => show_table(rt, session.db(), what, steps.first(), given),
+        How::Table(given) => show_table(rt, session.db(), what, step, given),
+        How::Push(pushed) => show_pushed(rt, session.db(), what, pushed),
         How::Own(given) => show_own(rt, what, given),
         How::Alter(altering) => show_tree(rt, what, altering),
-        How::Change => show_change(rt, session.db().graph(), session.journal(), what),
-        How::Line => show_edit(rt, session.journal(), what),
-        How::Opening(opening) => show_opening(rt, session.journal(), what, opening),
-        _ => show_call(rt, host, session, what, how, steps),
+        How::Compile(files, written, said) => show_compiled(rt, what, files, written, said),
+        _ => show_line(rt, "no such call"),
     }
 }
 
-/// The call, what it came to, and whether the session is as it was.
-fn show_call<R: Print + AllocGlobal + Threads + Wait + Sync>(
+/// The call, and what it came to.
+fn show_call<R: Print + AllocGlobal + Threads + Wait + Clock + Sync>(
     rt: &R,
     host: &HostRuntime,
     session: &mut Session,
@@ -146,49 +161,73 @@ fn show_call<R: Print + AllocGlobal + Threads + Wait + Sync>(
     steps: &[Step],
 ) -> io::Result<()>
     requires { session.old.begun ≡ false }
+    ensures { session.new.begun ≡ false }
 {
     let text = write_live(rt.alloc(), session)?;
     let _ = print!(rt; "{what}: ");
     let came = made(rt, host, session, how, steps, &text);
-    let shown = show_after(rt, session, came, &text);
     drop(text);
-    shown
+    show_came(rt, came)
 }
 
-/// What a call came to, and whether the session is as it was.
-fn show_after(
+/// What a session is in the end, beside those in which the steps before the call are played, and
+/// those by which it is made as well.
+fn show_left(
     rt: &(impl Print + AllocGlobal),
-    session: &Session,
-    came: Result<(), Fault>,
-    text: &[u8],
-) -> io::Result<()>
-    requires { session.now.begun ≡ false }
+    session: &mut Session,
+    after: &str,
+    by: &str,
+) -> Result<(), Fail>
+    requires { session.old.begun ≡ false }
 {
-    show_came(rt, came)?;
-    show_session(rt, session, text)
-}
-
-/// Whether a session has this text, or else where it stands.
-fn show_session(rt: &(impl Print + AllocGlobal), session: &Session, text: &[u8]) -> io::Result<()>
-    requires { session.now.begun ≡ false }
-{
-    if session.is_open() {
-        return show_line(rt, "left open");
+    if is_left_so(rt.alloc(), session, after)? {
+        let is_alike = goes_on_alike(rt.alloc(), session, after)?;
+        let left = if is_alike {
+            "as before"
+        } else {
+            "as before, poisoned"
+        };
+        return Ok(show_line(rt, left)?);
     }
-    if has_text(rt.alloc(), session, text)? {
-        return show_line(rt, "as before");
-    }
+    let words = format!(in rt.alloc(); "{after} {by}")?;
     let journal = session.journal();
-    show_place(rt, journal.cursor(), journal.states(), session.live().len())
+    let (cursor, states, live) = (journal.cursor(), journal.states(), session.live().len());
+    let is_played = is_left_so(rt.alloc(), session, &words)?
+        && goes_on_alike(rt.alloc(), session, &words)?;
+    let left = if is_played { "as played" } else { "now" };
+    Ok(println!(rt; "{left} at {cursor} of {states}, {live} live")?)
 }
 
-fn has_text(alloc: Global, session: &Session, text: &[u8]) -> Result<bool, NoMem>
+/// Whether a session has the line that steps leave.
+fn is_left_so(alloc: Global, session: &Session, words: &str) -> Result<bool, Fail>
     requires { session.now.begun ≡ false }
 {
-    let written = write_live(alloc, session)?;
-    Ok(written.as_slice() == text)
+    let other = session_after(alloc, words)?;
+    let is_same = !session.is_open() && is_same_line(session.journal(), other.journal());
+    drop(other);
+    Ok(is_same)
 }
 
-fn show_place(rt: &impl Print, cursor: usize, states: usize, live: u16) -> io::Result<()> {
-    println!(rt; "now at {cursor} of {states}, {live} live")
+/// Whether one more edit is answered, and moves the line, as after these steps.
+fn goes_on_alike(alloc: Global, session: &mut Session, words: &str) -> Result<bool, Fail>
+    requires { session.old.begun ≡ false }
+    ensures { session.new.begun ≡ false }
+{
+    let mut other = session_after(alloc, words)?;
+    let is_alike = is_moved_alike(alloc, session, &mut other);
+    drop(other);
+    Ok(is_alike?)
+}
+
+fn is_moved_alike(alloc: Global, one: &mut Session, other: &mut Session) -> Result<bool, NoMem>
+    requires one { one.old.begun ≡ false }
+    requires other { other.old.begun ≡ false }
+    ensures { one.new.begun ≡ false }
+{
+    let steps = steps_of(alloc, "next")?;
+    let Some(step) = steps.first() else {
+        return Ok(false);
+    };
+    let is_answered = by_events(alloc, one, step) == by_events(alloc, other, step);
+    Ok(is_answered && is_same_line(one.journal(), other.journal()))
 }

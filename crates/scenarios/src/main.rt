@@ -1,10 +1,12 @@
 //! Tests of the libraries that no command of the built program can make. It prints what each shows.
 //!
 //! Values: which texts are names, the words of some refusals, sets of all ids below a bound, parts
-//! of a database that do not fit together, trees in memory, a graph of 4,096 services.
+//! of a database that do not fit together, trees in memory, a graph of 4,096 services. The commands
+//! `compile`, `plan`, `db` and `replay` are called over readers and writers in memory.
 //!
 //! Runs: a run takes each list of events of a small alphabet, and answers a worker that asks for a
-//! job, exactly as a plain program does. Drawn changes end alike in many orders.
+//! job, exactly as a plain program does. Drawn changes end alike in many orders. Workers make
+//! transitions that wait for each other.
 //!
 //! Texts: drawn databases are written and read back, then read with changed bytes.
 //!
@@ -14,9 +16,11 @@
 //! With an argument, the program makes the calls of `growths` instead.
 #![tactic(auto)]
 
+mod commands;
 mod compare;
 mod completed;
 mod crashed;
+mod crews;
 mod device;
 mod drawn;
 mod edits;
@@ -37,8 +41,10 @@ mod tried;
 mod waiting;
 mod wide;
 
+use crate::commands::show_commands;
 use crate::completed::show_completed;
 use crate::crashed::show_crashed;
+use crate::crews::show_crews;
 use crate::failing::show_failing;
 use crate::growths::show_growths;
 use crate::joining::show_joined;
@@ -65,9 +71,11 @@ fn main(rt: HostRuntime) -> Result<(), Fail> {
     show_joined(&rt)?;
     show_tables(&rt)?;
     show_trees(&rt)?;
+    show_commands(&rt)?;
     show_failing(&rt)?;
     show_waiting(&rt)?;
     show_completed(&rt)?;
+    show_crews(&rt)?;
     show_recovered(&rt)?;
     show_crashed(&rt)?;
     show_wide(&rt)?;

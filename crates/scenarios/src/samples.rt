@@ -12,7 +12,7 @@ mod steps;
 mod work;
 
 pub use crate::samples::databases::{
-    BUNDLES, Bundle, Row, SERVICES, joined, name_of, parts_of, put, sample, words_of,
+    BUNDLES, Bundle, Row, SERVICES, joined, many_longruns, name_of, parts_of, put, sample, words_of,
 };
 pub use crate::samples::draw::{Change, Draw, drawn_graph};
 pub use crate::samples::files::MemoryFiles;
@@ -20,6 +20,6 @@ pub use crate::samples::graphs::{
     DB, LOG, NEEDS, NET, ROOT, WEB, graph_of, has_ids, set_of, widest_fan,
 };
 pub use crate::samples::plain::{End, end_of};
-pub use crate::samples::same::is_same;
-pub use crate::samples::steps::{session_after, steps_of, up_site};
+pub use crate::samples::same::{ALL, holds, is_due, is_report, is_same, is_same_line};
+pub use crate::samples::steps::{session_after, steps_of, up_all, up_site};
 pub use crate::samples::work::{carry_out, run_between, settles};

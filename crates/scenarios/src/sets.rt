@@ -39,10 +39,20 @@ fn takes_all(set: &mut Set) -> bool {
 /// Whether a set has all ids below a bound, and the last goes out and comes back in.
 fn are_listed(alloc: Global, set: &mut Set, bound: u16) -> Result<bool, NoMem> {
     let ids = set.ids(alloc)?;
-    let are_all = ids.len() == bound as usize && ids.last().copied() == bound.checked_sub(1);
+    let are_all = are_below(&ids, bound);
     drop(ids);
     let all = set.copy(alloc)?;
     Ok(are_all && comes_back(set, &all))
+}
+
+/// Whether these are all ids below a bound, ascending.
+pub(crate) fn are_below(ids: &[u16], bound: u16) -> bool {
+    for (id, found) in (0..bound).zip(ids) {
+        if *found != id {
+            return false;
+        }
+    }
+    ids.len() == usize::from(bound)
 }
 
 /// Whether a set is the same again when its last id has gone out and come back in.

@@ -1,7 +1,10 @@
-//! Two workers and a third that waits, and the end of their run.
+//! Workers who ask one run on the sample: two that hold a service, a third that waits, and calls
+//! that are not legal; and what is left where a transition fails.
 
 use crate::samples::{DB, LOG, NEEDS, NET, ROOT, WEB, graph_of, run_between};
-use rc_core::{NotLegal, Outcome, Run, Took};
+use crate::steps::make;
+use rc_core::{Event, Finish, NotLegal, Outcome, Run, Took};
+use rc_graph::Graph;
 use std::io;
 use std::test::Fail;
 
@@ -11,28 +14,100 @@ const TAKES: usize = 4;
 /// The names of the sample's services.
 const SERVICES: [&str; 5] = ["db", "log", "net", "root", "web"];
 
-/// Shows a run that brings the sample up.
+/// A call of a run.
+enum Ask {
+    Take(u8),
+    Done(u8, u16),
+    Stop(u8, u64),
+}
+
+/// Two workers hold a service each.
+const HELD: [Event; 2] = [Event::Take(1, LOG), Event::Take(2, ROOT)];
+
+/// What needs nothing comes up, and what needs it fails.
+const FAILED: [Event; 6] = [
+    Event::Take(1, LOG),
+    Event::Take(2, ROOT),
+    Event::Done(1, LOG, Outcome::Ok),
+    Event::Done(2, ROOT, Outcome::Ok),
+    Event::Take(1, NET),
+    Event::Done(1, NET, Outcome::Failed(1)),
+];
+
+/// Under which deadline calls are made after `HELD`, and the calls, each with its name.
+type Scene = (Option<u64>, &'static [(&'static str, Ask)]);
+
+static SCENES: [Scene; 2] = [
+    (
+        None,
+        &[
+            ("take by 1, who holds log", Ask::Take(1)),
+            ("take by 0", Ask::Take(0)),
+            ("take by 65", Ask::Take(65)),
+            ("done by 2 of log", Ask::Done(2, LOG)),
+            ("done by 3 of net", Ask::Done(3, NET)),
+            ("stop without a deadline", Ask::Stop(1, 0)),
+        ],
+    ),
+    (
+        Some(5),
+        &[
+            ("stop before the deadline", Ask::Stop(1, 4)),
+            ("stop at the deadline", Ask::Stop(1, 5)),
+            ("a second stop", Ask::Stop(2, 9)),
+            ("take by 3 after a stop", Ask::Take(3)),
+        ],
+    ),
+];
+
+/// Shows runs that bring the sample up.
 pub(crate) fn show_waiting(rt: &(impl Print + AllocGlobal)) -> Result<(), Fail> {
     let graph = graph_of(rt.alloc(), 5, &NEEDS)?;
-    let run = run_between(rt.alloc(), &graph, &[], &[DB, LOG, NET, ROOT, WEB], None);
+    let shown = show_runs(rt, &graph);
     drop(graph);
-    match run? {
-        Some(run) => Ok(show_run(rt, run)?),
-        None => Ok(println!(rt; "no run")?),
+    shown
+}
+
+fn show_runs(rt: &(impl Print + AllocGlobal), graph: &Graph) -> Result<(), Fail> {
+    show_run(rt, opened(rt, graph, None)?)?;
+    for (deadline, asks) in &SCENES {
+        show_asks(rt, opened(rt, graph, *deadline)?, asks)?;
+    }
+    Ok(show_failure(rt, opened(rt, graph, None)?)?)
+}
+
+fn opened(
+    rt: &(impl Print + AllocGlobal),
+    graph: &Graph,
+    deadline: Option<u64>,
+) -> Result<Run, Fail> {
+    match run_between(rt.alloc(), graph, &[], &[DB, LOG, NET, ROOT, WEB], deadline)? {
+        Some(run) => Ok(run),
+        None => Err(Fail::new("no run")),
     }
 }
 
 fn show_run(rt: &impl Print, mut run: Run) -> io::Result<()> {
     let shown = show_workers(rt, &mut run);
-    if !run.settled() {
-        drop(run);
-        return println!(rt; "not settled");
+    match finish_of(run) {
+        Some(finish) => {
+            let (events, live) = (finish.trace.len(), finish.live.len());
+            drop(finish);
+            shown?;
+            println!(rt; "{events} events, {live} live")
+        }
+        None => println!(rt; "not settled"),
     }
-    let finish = run.finish().take_apart();
-    let (events, live) = (finish.trace.len(), finish.live.len());
-    drop(finish);
-    shown?;
-    println!(rt; "{events} events, {live} live")
+}
+
+/// The end of a run that is settled.
+fn finish_of(run: Run) -> Option<Finish> {
+    if run.settled() {
+        Some(run.finish().take_apart())
+    } else {
+        drop(run);
+        None
+    }
 }
 
 /// Two take a service each, and a third has to wait. Once both are up, one takes the others.
@@ -77,4 +152,47 @@ fn end(run: &mut Run, took: Result<Took, NotLegal>) {
     if let Ok(Took::Job(job)) = took {
         let _ = run.done(job.worker(), job.service(), Outcome::Ok);
     }
+}
+
+/// Shows what calls are answered where log and root are held, and how many events there are then.
+fn show_asks(rt: &impl Print, mut run: Run, asks: &[(&str, Ask)]) -> io::Result<()> {
+    let is_held = make(&mut run, &HELD).is_ok();
+    for (what, ask) in asks {
+        println!(rt; "{what}: {}", answer(&mut run, ask))?;
+    }
+    let (is_front, events) = (run.trace().starts_with(&HELD), run.trace().len());
+    drop(run);
+    println!(rt; "{events} events, as they were: {}", is_held && is_front)
+}
+
+/// What a call is answered.
+fn answer(run: &mut Run, ask: &Ask) -> &'static str {
+    let made = match ask {
+        Ask::Take(worker) => return word(&run.take(*worker)),
+        Ask::Done(worker, service) => run.done(*worker, *service, Outcome::Ok),
+        Ask::Stop(worker, moment) => run.stop(*worker, *moment),
+    };
+    if made.is_ok() { "made" } else { "not legal" }
+}
+
+/// Shows the end of a run in which a service fails that two others need.
+fn show_failure(rt: &impl Print, mut run: Run) -> io::Result<()> {
+    let is_made = make(&mut run, &FAILED).is_ok();
+    let is_right = match finish_of(run) {
+        Some(finish) => is_made && is_blocked(&finish),
+        None => false,
+    };
+    println!(rt; "net fails, so db and web are left: {is_right}")
+}
+
+/// Whether log and root are live, net has failed, db and web were left, and nothing was stopped.
+fn is_blocked(finish: &Finish) -> bool {
+    let live = &finish.live;
+    live.len() == 2
+        && live.bound() == 5
+        && live.contains(LOG)
+        && live.contains(ROOT)
+        && finish.failed.as_slice() == [NET].as_slice()
+        && finish.left.as_slice() == [DB, WEB].as_slice()
+        && !finish.stopped
 }

@@ -1,6 +1,7 @@
 //! A graph of as many services as there may be, of which each but the first needs the first.
 
 use crate::samples::{run_between, set_of, widest_fan};
+use crate::sets::are_below;
 use crate::steps::{make, refuses};
 use rc_core::{Event, Outcome, Run};
 use rc_graph::Graph;
@@ -29,7 +30,7 @@ pub(crate) fn show_wide(rt: &(impl Print + AllocGlobal)) -> Result<(), Fail> {
 
 fn show_fan(rt: &(impl Print + AllocGlobal), graph: &Graph) -> io::Result<()> {
     let all = whole_fan(rt.alloc(), graph)?;
-    let is_whole = all.len() == 4096 && all.last().copied() == Some(4095);
+    let is_whole = are_below(&all, 4096);
     let is_planned = is_planned(rt.alloc(), graph, &all)?;
     println!(rt; "as many services as there may be, all of them: {is_whole}, planned: {is_planned}")
 }

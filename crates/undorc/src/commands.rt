@@ -1,14 +1,13 @@
 //! Commands on the file of a session: their files are opened, they are carried out, and people are
 //! told what helps.
 ghost use Rattle.rc_streams.specs.Noting.{HasFailed};
-ghost use Rattle.rc_launch.specs.Works.{IsEventless, IsEventlessWork};
 
 use crate::history;
 use crate::notes::{tell_left, tell_note, tell_opening};
 use crate::updates::tell_why;
 use crate::workers::tell_workers;
 use log::{error, info, warn};
-use rc_args::Once;
+use rc_args::{Once, Verbosity};
 use rc_cli::sessions::{Devices, Outputs, Store, TextKeeper};
 use rc_launch::frontend::{Answers, Seen, Told, ToldErrors, Typed, behind_session, tell_failure};
 use rc_launch::{LiveStore, Opened, Work, open, serve, uncontrolled_in};
@@ -22,9 +21,7 @@ use std::sync::Wait;
 use std::thread::Threads;
 
 /// Carries a command out, and returns the status.
-pub fn carry_out<T: Threads + Wait + Sync>(rt: &HostRuntime, threads: &T, work: Work<'_>) -> u8
-    requires { IsEventlessWork work }
-{
+pub fn carry_out<T: Threads + Wait + Sync>(rt: &HostRuntime, threads: &T, work: Work<'_>) -> u8 {
     match open(rt, work) {
         Ok((opened, store)) => {
             tell_note(rt, opened.note());
@@ -42,9 +39,7 @@ fn carry_out_on<'x, T: Threads + Wait + Sync>(
     threads: &T,
     opened: &'x Opened<'x>,
     store: LiveStore<'x>,
-) -> u8
-    requires { IsEventless opened.now.loaded }
-{
+) -> u8 {
     if let Some(status) = refused_as_uncontrolled(rt, opened) {
         close(rt, opened);
         drop(store);
@@ -110,7 +105,7 @@ fn enter(rt: &HostRuntime, opened: &Opened<'_>, status: u8) {
     };
     if opened.moves() {
         history::enter(rt, path, opened.live().bytes(), status);
-    } else if opened.session().tells && is_journal(opened.once()) {
+    } else if opened.session().verbosity == Verbosity::Transitions && is_journal(opened.once()) {
         let _ = history::show(rt, path);
     }
 }

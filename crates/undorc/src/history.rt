@@ -3,35 +3,43 @@
 
 use crate::own_name::words;
 use jiff::Timestamp;
+use log::warn;
 use rc_launch::LiveText;
 use rc_names::NoMem;
-use rc_streams::whole_file;
+use rc_streams::command_log;
+use rc_streams::messages::{MESSAGE, Messages};
 use std::fs::File;
-use std::io::{self, ErrorKind, Write};
+use std::io::{self, Write};
 
 /// Appends a line for this command, which ends with this status, where the log is there and the
 /// text of the session is another one than before. A line that can't be written is dropped.
 pub fn enter(rt: &HostRuntime, path: &str, before: Option<&[u8]>, status: u8) {
-    let Ok(log) = format!(in rt.alloc(); "{path}.log") else {
-        return;
-    };
-    if let Ok(mut file) = File::options().append(true).open(rt, log.as_str()) {
-        let live = LiveText::read(rt, Some(path));
-        if let Some(after) = live.bytes() {
-            if before != Some(after) {
-                append(rt, &mut file, status, current_of(after));
-            }
-        }
-        drop(live);
-        drop(file);
+    let live = LiveText::read(rt, Some(path));
+    match live.bytes() {
+        Some(after) if before != Some(after) => enter_at(rt, path, status, current_of(after)),
+        _ => {}
     }
-    drop(log);
+    drop(live);
+}
+
+/// The same of a command that leaves the session at the state of this number.
+fn enter_at(rt: &HostRuntime, path: &str, status: u8, at: usize) {
+    match command_log::open(rt, path) {
+        Ok(Some(file)) => {
+            append(rt, &file, status, at);
+            drop(file);
+        }
+        Ok(None) => {}
+        Err(error) => warn!(Messages(rt); target: MESSAGE,
+            "{path}.log: {error}: this command is not entered there"),
+    }
 }
 
 /// Appends the line of this command.
-fn append(rt: &HostRuntime, file: &mut File, status: u8, at: usize) {
+fn append(rt: &HostRuntime, file: &File, status: u8, at: usize) {
     if let Ok(words) = words(rt) {
         if let Ok(line) = line_of(rt, &words, status, at) {
+            let mut file = file;
             let _ = file.write_all(line.as_bytes());
             drop(line);
         }
@@ -97,16 +105,10 @@ fn current_of(text: &[u8]) -> usize {
 
 /// Prints the log, where it is there.
 pub fn show(rt: &HostRuntime, path: &str) -> io::Result<()> {
-    let log = format!(in rt.alloc(); "{path}.log")?;
-    let read = whole_file::read(rt, log.as_str());
-    drop(log);
-    match read {
-        Ok(text) => {
-            let shown = rt.stdout().write_all(&text);
-            drop(text);
-            shown
-        }
-        Err(error) if error.kind() == ErrorKind::NotFound => Ok(()),
-        Err(error) => Err(error),
-    }
+    let Some(text) = command_log::read(rt, path)? else {
+        return Ok(());
+    };
+    let shown = rt.stdout().write_all(&text);
+    drop(text);
+    shown
 }

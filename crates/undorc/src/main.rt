@@ -1,10 +1,6 @@
 //! `undorc`: hands the process's words, files and streams to the library.
 #![tactic(auto)]
 
-ghost use Rattle.std.specs.Prelude.{IfOk};
-ghost use Rattle.rc_args.specs.Task.{IsEventless};
-ghost use Rattle.rc_launch.specs.Works.{IsEventlessWork};
-
 mod commands;
 mod history;
 mod notes;
@@ -21,8 +17,9 @@ use crate::updates::update;
 use crate::usual::{UsualTexts, usual_at};
 use log::error;
 use rc_args::{Task, Usual, WordsFault, asks_help, task_of, tell_words};
+use rc_cli::queries::Query;
 use rc_launch::Work;
-use rc_launch::frontend::{Asked, ask, compile, tell_failure};
+use rc_launch::frontend::{compile, query, tell_failure};
 use rc_streams::messages::{MESSAGE, Messages};
 use std::alloc::Global;
 use std::io::{self, ErrorKind};
@@ -56,9 +53,7 @@ fn work_by<'a, T: Threads + Wait + Sync>(
     threads: &T,
     words: &'a [String],
     usual: &'a UsualTexts,
-) -> Result<Work<'a>, u8>
-    ensures { IfOk result IsEventlessWork }
-{
+) -> Result<Work<'a>, u8> {
     match usual.texts() {
         Ok(usual) => match task_by(rt.alloc(), words, usual) {
             Ok(task) => work_of(rt, threads, task),
@@ -69,9 +64,11 @@ fn work_by<'a, T: Threads + Wait + Sync>(
 }
 
 /// What the words ask, with these files where they name none.
-fn task_by<'a>(alloc: Global, words: &'a [String], usual: Usual<'a>) -> Result<Task<'a>, WordsFault>
-    ensures { IfOk result IsEventless }
-{
+fn task_by<'a>(
+    alloc: Global,
+    words: &'a [String],
+    usual: Usual<'a>,
+) -> Result<Task<'a>, WordsFault> {
     match task_of(alloc, words) {
         Ok(task) => task.with_usual(usual),
         Err(fault) => Err(fault),
@@ -84,10 +81,7 @@ fn work_of<'a, T: Threads + Wait + Sync>(
     rt: &HostRuntime,
     threads: &T,
     task: Task<'a>,
-) -> Result<Work<'a>, u8>
-    requires { IsEventless task }
-    ensures { IfOk result IsEventlessWork }
-{
+) -> Result<Work<'a>, u8> {
     match task {
         Task::Session(request, file) => Ok(Work::Lines(request, file)),
         Task::Once(request, file) => Ok(Work::Line(request, file)),
@@ -96,9 +90,9 @@ fn work_of<'a, T: Threads + Wait + Sync>(
         Task::Status(request, file) => Ok(Work::Status(request, file)),
         Task::Update(request, file) => Err(update(rt, threads, request, file)),
         Task::Compile(request) => Err(compile(rt, &request)),
-        Task::Db(request, file) => Err(ask(rt, Asked::Db(&request), file)),
-        Task::Plan(request, file) => Err(ask(rt, Asked::Plan(&request), file)),
-        Task::Replay(file) => Err(ask(rt, Asked::Replay, file)),
+        Task::Db(request, file) => Err(query(rt, Query::Db(&request, None), file)),
+        Task::Plan(request, file) => Err(query(rt, Query::Plan(&request), file)),
+        Task::Replay(file) => Err(query(rt, Query::Replay, file)),
         Task::Stop(file) => Err(stop(rt, file)),
         Task::Version => Err(version(rt)),
     }

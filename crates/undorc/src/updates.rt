@@ -2,7 +2,7 @@
 //! why services move.
 
 use crate::commands::carry_out;
-use rc_args::{UpdateRequest, renames_in};
+use rc_args::{UpdateRequest, Verbosity, renames_in};
 use rc_launch::frontend::{tell_file, tell_moves, tell_renames};
 use rc_launch::{Opened, Work};
 use rc_streams::whole_file;
@@ -64,7 +64,7 @@ pub fn tell_why(rt: &HostRuntime, opened: &Opened<'_>, status: u8) {
         opened.other(),
         opened.live().bytes(),
     ) {
-        if status == 0 && request.dry && !request.session.quiet {
+        if status == 0 && request.dry && request.session.verbosity != Verbosity::Quiet {
             tell_moves(rt, old.bytes(), new.bytes(), &request.conversions, live);
         }
     }

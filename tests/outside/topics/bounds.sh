@@ -161,7 +161,7 @@ else
 fi
 
 # A source directory that changes while it is read: what is told is a database, or a refusal that names
-# what was seen.
+# what was seen. Both come in so many runs.
 mkdir -p source spare
 for i in $(seq 40); do
     mkdir "source/s$i"
@@ -180,6 +180,7 @@ while [ ! -e stop ]; do
 done 2> /dev/null &
 changer=$!
 odd=0
+seen=0
 for i in $(seq 200); do
     status=0
     "$program" compile source > out 2> err || status=$?
@@ -189,9 +190,11 @@ for i in $(seq 200); do
         111) grep -q -x -E -e 'undorc: Io( s[0-9]+)?' err || odd=$((odd + 1)) ;;
         *) odd=$((odd + 1)) ;;
     esac
+    [ "$status" -eq 0 ] || seen=$((seen + 1))
 done
 touch stop
 wait "$changer"
+if [ "$seen" -eq 0 ] || [ "$seen" -eq 200 ]; then odd=$((odd + 1)); fi
 echo "$odd" > status
 : > out
 : > err

@@ -8,12 +8,12 @@ tree() {
     rm -rf "$1"
     mkdir "$1"
 }
-oneshot() {
+oneshot_at() {
     mkdir "$1"
     printf oneshot > "$1/type"
     printf up > "$1/up"
 }
-longrun() {
+longrun_at() {
     mkdir "$1"
     printf longrun > "$1/type"
     : > "$1/run"
@@ -49,12 +49,12 @@ judge 'what is compiled is planned on' 0
 
 # Links: one to a directory is an entry of its own name, one to a file is read.
 tree store
-oneshot store/a
+oneshot_at store/a
 tree links
 ln -s ../store/a links/b
 compiles "${one}service b oneshot plain 0 0\\nneeds\\nup 2\\nup\\ndown -\\n$last" links
 tree whole
-oneshot whole/a
+oneshot_at whole/a
 ln -s ../../store/a/up whole/a/down
 compiles "${one}service a oneshot plain 0 0\\nneeds\\nup 2\\nup\\ndown 2\\nup\\n$last" whole
 ln -s whole linked
@@ -63,7 +63,7 @@ compiles "${one}service a oneshot plain 0 0\\nneeds\\nup 2\\nup\\ndown 2\\nup\\n
 # Links that lead nowhere: to nothing, through a file, to themselves. They are no entry, and as a file
 # or a folder they are missing.
 tree lost
-oneshot lost/a
+oneshot_at lost/a
 ln -s nowhere lost/b
 ln -s a/up/x lost/c
 ln -s d lost/d
@@ -87,7 +87,7 @@ fails 1 'NoType a' lost
 
 # Entries that begin with a dot, and entries that are no directories, are skipped.
 tree dots
-oneshot dots/a
+oneshot_at dots/a
 mkdir dots/.b
 ln -s .c dots/.c
 : > dots/.type
@@ -100,7 +100,7 @@ compiles "$one$plain$last" dots
 
 # Files that no table names, and those of another kind, are not looked at.
 tree more
-oneshot more/a
+oneshot_at more/a
 printf '\0' > more/a/readme
 printf '\0' > more/a/run
 printf -- '-' > more/a/contents
@@ -111,18 +111,18 @@ compiles "$one$plain$last" more
 
 # Both forms of a list, and what stands in a folder of names: a file, a directory, a link to nothing.
 tree both
-oneshot both/a
+oneshot_at both/a
 printf 'e\n# b\n\t c \nb' > both/a/dependencies
 mkdir both/a/dependencies.d both/a/dependencies.d/d
 : > both/a/dependencies.d/b
 ln -s nowhere both/a/dependencies.d/e
-for name in b c d e; do oneshot "both/$name"; done
+for name in b c d e; do oneshot_at "both/$name"; done
 text="${first}services 5\\nservice a oneshot plain 0 0\\nneeds b c d e\\nup 2\\nup\\ndown -\\n"
 for name in b c d e; do text="${text}service $name oneshot plain 0 0\\nneeds\\nup 2\\nup\\ndown -\\n"; done
 compiles "$text$last" both
 tree held
-oneshot held/a
-longrun held/b
+oneshot_at held/a
+longrun_at held/b
 bundle held/g 'a\n'
 mkdir held/g/contents.d
 : > held/g/contents.d/b
@@ -142,7 +142,7 @@ fails 111 Io file
 fails 111 Io ''
 fails 111 Io "$(printf '%0256d' 0)"
 tree unread
-oneshot unread/a
+oneshot_at unread/a
 mkdir "unread/$strange"
 fails 111 Io unread
 rmdir "unread/$strange"
@@ -157,13 +157,13 @@ compiles "$one$plain$last" unread
 # Files and folders that can't be read are told with their entry.
 for file in type up down timeout-up dependencies consumer-for pipeline-name; do
     tree unread
-    oneshot unread/a
+    oneshot_at unread/a
     rm -f "unread/a/$file"
     mkdir "unread/a/$file"
     fails 111 'Io a' unread
 done
 tree unread
-oneshot unread/a
+oneshot_at unread/a
 : > unread/a/dependencies.d
 fails 111 'Io a' unread
 rm unread/a/dependencies.d
@@ -187,7 +187,7 @@ if $guest true; then
     program=./guest
     for file in type up dependencies; do
         tree shut
-        oneshot shut/a
+        oneshot_at shut/a
         : > shut/a/dependencies
         compiles "$one$plain$last" shut
         chmod 000 "shut/a/$file"
@@ -242,7 +242,7 @@ fails 1 'TooLong a' wrong
 # What is no plain file is not opened: a pipe, a socket or a device is a fault, and nobody is waited for.
 for file in up type down timeout-up dependencies; do
     tree fifos
-    oneshot fifos/a
+    oneshot_at fifos/a
     rm -f "fifos/a/$file"
     mkfifo "fifos/a/$file"
     expect 111 '' 'undorc: Io a\n' '' compile fifos
@@ -251,7 +251,7 @@ for file in up type down timeout-up dependencies; do
     fails 111 'Io a' fifos
 done
 tree fifos
-oneshot fifos/a
+oneshot_at fifos/a
 mkfifo fifos/a/event fifos/a/flag-essential
 compiles "${one}service a oneshot essential 0 0\\nneeds\\nup 2\\nup\\ndown -\\n$last" fifos
 rm wrong/a/up
@@ -272,33 +272,33 @@ printf 'c\nc\n' > wrong/a/producer-for
 fails 1 'BadName a' wrong
 for file in down type timeout-up dependencies; do
     tree wide
-    oneshot wide/a
+    oneshot_at wide/a
     head -c 65537 /dev/zero | tr '\0' '\n' > "wide/a/$file"
     fails 1 'TooLong a' wide
 done
 tree wide
-oneshot wide/a
+oneshot_at wide/a
 head -c 65535 /dev/zero | tr '\0' '\n' > wide/a/dependencies
 printf b >> wide/a/dependencies
 fails 1 'UnknownIn a b' wide
 tree long
-oneshot long/a
+oneshot_at long/a
 head -c 65536 /dev/zero | tr '\0' 'x' > long/a/up
 printf 4294967295 > long/a/timeout-down
 compiles "${one}service a oneshot plain 0 4294967295\\nneeds\\nup 65536\\n$(cat long/a/up)\\ndown -\\n$last" long
 
 # Entries are in the order of their names' bytes, in whatever order they were made.
 tree bytes
-for name in é aa a Z B; do oneshot "bytes/$name"; done
+for name in é aa a Z B; do oneshot_at "bytes/$name"; done
 text="${first}services 5\\n"
 for name in B Z a aa é; do text="${text}service $name oneshot plain 0 0\\nneeds\\nup 2\\nup\\ndown -\\n"; done
 compiles "$text$last" bytes
 
 # Two sources: an entry comes once, and the first fault in their order is told.
 tree first
-oneshot first/b
+oneshot_at first/b
 tree second
-oneshot second/a
+oneshot_at second/a
 expect 0 "${first}services 2\\n${plain}service b oneshot plain 0 0\\nneeds\\nup 2\\nup\\ndown -\\n$last" '' '' compile first second
 expect 1 '' 'undorc: Twice b\n' '' compile first second first
 expect 111 '' 'undorc: Io\n' '' compile first nowhere first
@@ -309,10 +309,10 @@ expect 111 '' 'undorc: Io\n' '' compile nowhere first
 # A need on a bundle is one on all that it holds, through bundles in bundles; and a pipeline in the sample.
 empty_needs='oneshot plain 0 0\nneeds\nup 2\nup\ndown -\n'
 tree deep
-oneshot deep/a
+oneshot_at deep/a
 printf g > deep/a/dependencies
-oneshot deep/b
-oneshot deep/c
+oneshot_at deep/b
+oneshot_at deep/c
 bundle deep/g 'h\nb\n'
 bundle deep/h 'c\n'
 bundle deep/nil ''
@@ -347,10 +347,10 @@ chained() {
     }')
     text="${first}services 4096\\n$text$last"
     compiles "$text" chain
-    reads "$text"
+    is_database "$text"
 }
-# reads TEXT: a text is a database, to the reader of a whole text and to that of a front.
-reads() {
+# is_database TEXT: a text is a database, to the reader of a whole text and to that of a front.
+is_database() {
     printf '%b' "$1" > base
     expect 0 '' '' '' db -b base check
     expect 0 '' '' "$1" db check
@@ -358,7 +358,7 @@ reads() {
 chained 0
 chained 1
 chained -1
-oneshot chain/s4097
+oneshot_at chain/s4097
 fails 1 TooMany chain
 
 # 4,096 bundles, one more, and a pipeline of a further name and of one of theirs.
@@ -367,13 +367,13 @@ tree many
 for entry in many/b*; do printf bundle > "$entry/type"; done
 text=$(seq -f 'bundle b%g' 1000 5095 | sed 's/$/\\n/' | tr -d '\n')
 compiles "${first}services 0\\nbundles 4096\\n${text}end\\n" many
-reads "${first}services 0\\nbundles 4096\\n${text}end\\n"
+is_database "${first}services 0\\nbundles 4096\\n${text}end\\n"
 bundle many/b5096 ''
 fails 1 TooMany many
 rm -r many/b5096
-longrun many/p
+longrun_at many/p
 printf q > many/p/producer-for
-longrun many/q
+longrun_at many/q
 printf p > many/q/consumer-for
 printf pipe > many/q/pipeline-name
 fails 1 TooMany many

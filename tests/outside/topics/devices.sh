@@ -132,6 +132,67 @@ plans 111 '' '' 'good 0' '' 'cut 0'
 plans 111 '' 'und' 'good 0' '' 'piece 1 good 3'
 plans 111 '' 'undorc: Read\n' 'good 0' '' 'piece 1'
 
+# A session of two lines, kept in a file. Where a read fails, each line is answered that was whole by then, and
+# kept. Where a write fails, a front of the answers is written, and what is kept is the session before the change or
+# after it.
+head='undorc-live 2\nservices db log net root web\nbound 1024\n'
+printf '%b' "${head}now\nbundle site web\nend\n" > kept.0
+printf '%b' "${head}up\nbundle site web\nnow db log net root web\nbundle site web\nend\n" > kept.1
+cp kept.1 kept.2
+printf '%b' '-u change site\nlive\n' > in
+: > wrote.0
+printf '%b' 'raised db log net root web\nok\n' > wrote.1
+{ cat wrote.1; printf '%b' 'live db log net root web\nok\n'; } > wrote.2
+
+# ends_so STATUS FAULT: counts the run before where it ended otherwise
+ends_so() {
+    read -r ended < status
+    firsts err > err.firsts
+    if [ "$ended" -ne "$1" ] || [ "$(cat err.firsts)" != "$2" ]; then unlike=$((unlike + 1)); fi
+}
+# failing_at READS WRITES: the session over such devices
+failing_at() {
+    rm -f kept kept.lock
+    over "$1" "$2" '' session -b base -x none -w 3 -l kept
+}
+unlike=0
+runs=0
+for word in good cut; do
+    for many in 0 1 2 3 4 5; do
+        failing_at "piece 4 $word $many" ''
+        whole=$(head -c $((4 * many)) in | wc -l)
+        ends_so 111 'undorc: Read'
+        if ! cmp -s out "wrote.$whole" || ! cmp -s kept "kept.$whole"; then unlike=$((unlike + 1)); fi
+    done
+    before=-1 many=0
+    failing_at '' "piece 16 $word 0"
+    while [ "$many" -lt 50 ] && [ "$(cat status)" -ne 0 ]; do
+        ends_so 111 'undorc: Write'
+        size=$(wc -c < out)
+        if [ "$size" -le "$before" ] || ! cmp -s -n "$size" out wrote.2; then unlike=$((unlike + 1)); fi
+        if ! cmp -s kept kept.1 && { ! cmp -s kept kept.0 || [ "$size" -gt 0 ]; }; then unlike=$((unlike + 1)); fi
+        before=$size many=$((many + 1)) runs=$((runs + 1))
+        failing_at '' "piece 16 $word $many"
+    done
+    ends_so 0 ''
+    if ! cmp -s out wrote.2 || ! cmp -s kept kept.2; then unlike=$((unlike + 1)); fi
+done
+for reads in 'interrupts 1' 'piece 4 interrupts 1000'; do
+    failing_at "$reads" ''
+    ends_so 0 ''
+    if ! cmp -s out wrote.2 || ! cmp -s kept kept.2; then unlike=$((unlike + 1)); fi
+done
+failing_at 'interrupts 1001' ''
+ends_so 111 'undorc: Read'
+if [ -s out ] || ! cmp -s kept kept.0; then unlike=$((unlike + 1)); fi
+[ "$runs" -ge 8 ] || unlike=$((unlike + 1))
+: > out
+: > err
+echo "$unlike" > status
+wants '' ''
+judge 'two lines over devices that fail at each call (the status is the number of those that end otherwise)' 0
+rm -f kept kept.*
+
 # Sessions on worked lines, and what each front of these is answered.
 sed -n 's/^< //p' "$here/rows/sessions.rows" | head -n 60 > some
 lines=$(wc -l < some)
@@ -199,8 +260,8 @@ for workers in 1 2 3 64; do
     done
 done
 
-# same STATUS FAULT OUTPUT: counts the run before where it is not so.
-same() {
+# counts_unlike STATUS FAULT OUTPUT: counts the run before where it is not so.
+counts_unlike() {
     printf '%b' "$2" > err.wanted
     firsts err > err.firsts
     if [ "$ended" -ne "$1" ] || ! cmp -s err.firsts err.wanted || ! cmp -s out "$3"; then
@@ -208,10 +269,10 @@ same() {
     fi
 }
 
-# failing WORDS..: one after another each call fails by which files are read, and none before or
+# fails_by_files WORDS..: one after another each call fails by which files are read, and none before or
 # after it. Then nothing is written, and what is told is in `told`; or the run is the whole one, as
 # where a listing fails that only spares calls.
-failing() {
+fails_by_files() {
     made=-1 well=0
     unlike=0
     : > told
@@ -223,7 +284,7 @@ failing() {
         read -r ended < status
         if [ "$ended" -eq 0 ]; then
             well=$((well + 1))
-            same 0 '' whole
+            counts_unlike 0 '' whole
         else
             well=0
             if [ "$ended" -ne 111 ] || [ -s out ]; then unlike=$((unlike + 1)); fi
@@ -239,12 +300,12 @@ failing() {
 : > in
 printf '%b' "$sample" > whole
 wants "undorc: Io\\n$(printf 'undorc: Io %s\\n' db log net root site web)" ''
-failing compile "$samples/source"
+fails_by_files compile "$samples/source"
 echo root > in
 printf '%b' "$plan" > whole
 wants 'undorc: Io\n' ''
-failing plan -b base web
+fails_by_files plan -b base web
 : > in
 cp "$samples/sample.dot" whole
 wants 'undorc: Io\n' ''
-failing db -b base dot
+fails_by_files db -b base dot

@@ -114,6 +114,19 @@ line_of 111 'raised log\nok\n' 'undorc: TooLong\n' 'a last line of 65,537 bytes'
 many 65537 x > text
 line_of 111 '' 'undorc: TooLong\n' 'nothing but a line of 65,537 bytes'
 
+# stays WHAT: what is up and kept after an input that is too long: the session after the lines in front of it
+stays() {
+    printf '%b' 'undorc-live 2\nservices db log net root web\nbound 1024\nup\nbundle site web\nnow root\nbundle site web\nend\n' |
+        cmp -s - kept || echo 'another file' >> out
+    "$program" live -b base -l kept < /dev/null >> out 2>> err || echo "live: status $?" >> err
+    judge "$1" 111
+    rm -f kept kept.lock
+}
+{ echo '-u change root'; many 65537 '#'; echo; echo '-u change log'; } > in
+wants 'raised root\nok\nlive root\nok\n' 'undorc: TooLong\n'
+runs session -b base -x none -l kept
+stays 'what is up after a line of 65,537 bytes'
+
 # bounded STATUS OUTPUT FAULT WORDS..: an input at its bound is the one in `whole`. One byte more is the last that is taken,
 # and what is not read is left.
 bounded() {
@@ -147,6 +160,11 @@ bounded 111 'raised log\nok\n12345' 'undorc: TooLong\n' session -b base -x none
 bounded 0 'raised log\nok\nlive log\nok\n' '' session -x none
 { cat base; echo '-u change log'; comments 16776872; echo; printf 12345; } > whole
 bounded 111 '12345' 'undorc: TooLong\n' session -x none
+
+{ echo '-u change root'; comments 16777202; echo; echo '-u change log'; } > in
+wants 'raised root\nok\nlive root\nok\n' 'undorc: TooLong\n'
+runs session -b base -x none -l kept
+stays 'what is up after an input of more than 16,777,216 bytes'
 
 # A short piece comes first, so that the last one, with which the bound is passed, holds a whole line.
 { comments 16777184; echo; echo '-u change log'; printf 123456789; } > whole

@@ -19,7 +19,7 @@ failing() {
         -- $command
 }
 
-command='session -b base -v -w 2'
+command='session -b base -P -w 2'
 
 # Files, each call alone and with all that follow. A script that can't be handed /dev/null is not
 # started.
@@ -45,7 +45,7 @@ failing 12 '' STARTS good 'scripts lost'
 
 # One-shot commands on the same file: a session of the one line says what they are to come to, or of those
 # that have none what they write where nothing fails.
-one_shot() {
+one_shot_over() {
     command=$1 shown=$2
     printf '%s\n' "$shown" > in
     expects none
@@ -61,8 +61,22 @@ one_shot() {
 printf '%s\n' 'change a c' 'change b' undo > in
 rm text.* whole.*
 begins_at session -b base -x none
-one_shot 'change b -b base -x none' 'change b' 20
-one_shot 'undo -b base -x none -w 1' undo 20
-one_shot 'undo -n -b base' '' 5
-one_shot 'redo -n -b base' '' 5
+one_shot_over 'change b -b base -x none' 'change b' 20
+one_shot_over 'undo -b base -x none -w 1' undo 20
+one_shot_over 'undo -n -b base' '' 5
+one_shot_over 'redo -n -b base' '' 5
+
+# A log that can't be emptied when its run is over: the next run is not logged behind it, so nothing of it is
+# started, and what a recovery finds is the log of the first run alone.
+printf 'change a\nchange c\n' > in
+wants 'raised a\nok\nfailed c\nok\n' \
+    'undorc: full.run can'"'"'t be written: what could not be logged was not started\n'
+echo 0 > status
+LOG=ran LD_PRELOAD="$preload" LENGTHS='good 4' "$program" session -b base -l full -w 1 < in > out 2> err || echo $? > status
+judge 'a log that can'"'"'t be emptied gets no second run' 0
+wants 'take 1 a\ndone 1 a ok\n' ''
+sed -n '/^take /p; /^done /p' full.run > out
+: > err
+echo 0 > status
+judge 'and has the lines of the first run alone' 0
 worked_in

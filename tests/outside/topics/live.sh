@@ -13,8 +13,8 @@ goes_on() {
     expect "$status" "$output" "$fault" "$lines" session -b base -x none -l live "$@"
 }
 
-# holds WHAT TEXT: the file `live` has this text, and nothing is left beside it
-holds() {
+# file_holds WHAT TEXT: the file `live` has this text, and nothing is left beside it
+file_holds() {
     passed=$((passed + 1))
     printf '%b' "$2" > live.wanted
     if ! cmp -s live live.wanted || [ -e live.new ]; then
@@ -32,10 +32,10 @@ begins_with() {
 
 # A file that is not there is made, with the bound that is asked.
 goes_on 0 '' '' '' -n 3
-holds 'a fresh session with a bound' "undorc-live 2\\n${services}bound 3\\nnow\\n${site}end\\n"
+file_holds 'a fresh session with a bound' "undorc-live 2\\n${services}bound 3\\nnow\\n${site}end\\n"
 rm live
 goes_on 0 'live\nok\n' '' 'live\n'
-holds 'a fresh session' "undorc-live 2\\n${services}bound 1024\\nnow\\n${site}end\\n"
+file_holds 'a fresh session' "undorc-live 2\\n${services}bound 1024\\nnow\\n${site}end\\n"
 rm live
 
 # A session goes on in the next one: a failed undo, what is left of it, and its end.
@@ -44,22 +44,22 @@ wants 'raised db log net root web\nok\nlowered db net root web\nfailed log\nok\n
 printf 'change site\nundo\n' > in
 runs session -b base -x down:log -l live
 judge 'a failed undo that is kept' 0
-holds 'a failed undo' "undorc-live 2\\n${services}bound 1024\\nup\\n${site}$split"
+file_holds 'a failed undo' "undorc-live 2\\n${services}bound 1024\\nup\\n${site}$split"
 goes_on 0 'at 1 of 3\n0 +log\n1 +db +net +root +web\nok\n' '' 'journal\n' -n 3
-holds 'a look' "undorc-live 2\\n${services}bound 1024\\nup\\n${site}$split"
+file_holds 'a look' "undorc-live 2\\n${services}bound 1024\\nup\\n${site}$split"
 goes_on 0 'lowered log\nok\nlive\nok\n' '' 'undo\nlive\n'
-holds 'what was left of an undo' \
+file_holds 'what was left of an undo' \
     "undorc-live 2\\n${services}bound 1024\\nnow\\n${site}up log\\n${site}up db log net root web\\n${site}end\\n"
 
 # The older form is read, and the newer one written.
 older="undorc-live 1\\n${services}up\\n${site}$split"
 begins_with "$older"
 goes_on 0 'lowered log\nok\nlive\nok\n' '' 'undo\nlive\n'
-holds 'an older text' \
+file_holds 'an older text' \
     "undorc-live 2\\n${services}bound 1024\\nnow\\n${site}up log\\n${site}up db log net root web\\n${site}end\\n"
 
-# refused TEXT WORD: this file is refused with this word and left alone, and nothing of the input is read
-refused() {
+# file_refused TEXT WORD: this file is refused with this word and left alone, and nothing of the input is read
+file_refused() {
     begins_with "$1"
     cp live live.before
     printf 'undo\n' > in
@@ -70,51 +70,51 @@ refused() {
     cmp -s live live.before || echo 'the file was written' >> err
     judge "the file of a session that is refused: $2" 1
 }
-refused '' 'Bad 0'
-refused 'notes\n' 'Bad 0'
-refused "$sample" 'Bad 0'
-refused "undorc-live 3\\n" Version
-refused "undorc-live 01\\n" 'Bad 0'
+file_refused '' 'Bad 0'
+file_refused 'notes\n' 'Bad 0'
+file_refused "$sample" 'Bad 0'
+file_refused "undorc-live 3\\n" Version
+file_refused "undorc-live 01\\n" 'Bad 0'
 head="undorc-live 2\\n${services}"
-refused "undorc-live 2\\nservices db\\nbound 3\\nnow\\nend\\n" OtherDb
-refused "undorc-live 2\\nservices db\\nbound 3\\nnow other\\nend\\n" OtherDb
-refused "${head}bound 3\\nnow other\\n${site}end\\n" Unknown
-refused "${head}bound 3\\nnow web\\nbundle web log\\nend\\n" Unknown
-refused "${head}bound 3\\nnow\\nbundle site other\\nend\\n" Unknown
-refused "${head}bound 3\\nnow web\\n${site}end\\n" 'NotClosed 0'
-refused "${head}bound 3\\nup\\nup net\\nnow net\\nend\\n" 'NotClosed 1'
-refused "${head}bound 3\\nup\\nnow\\nend\\n" SameState
-refused "${head}bound 3\\nup\\nup log\\nnow\\nup log\\nend\\n" OverBound
-refused "${head}bound 2\\nnow\\n${site}end\\n" 'Bad 43'
-refused "${head}bound 4294967296\\nnow\\n${site}end\\n" 'Bad 43'
-refused "${head}bound 03\\nnow\\n${site}end\\n" 'Bad 43'
-refused "${head}now\\n${site}end\\n" 'Bad 43'
-refused "undorc-live 1\\n${services}bound 3\\nnow\\n${site}end\\n" 'Bad 43'
-refused "${head}bound 3\\nnow\\nnow log\\nend\\n" 'Bad 55'
-refused "${head}bound 3\\nup\\nend\\n" 'Bad 54'
-refused "${head}bound 3\\n${site}now\\nend\\n" 'Bad 51'
-refused "${head}bound 3\\nnow net  root\\nend\\n" 'Bad 51'
-refused "${head}bound 3\\nnow root net\\nend\\n" 'Bad 51'
-refused "${head}bound 3\\nnow\\n${site}${site}end\\n" 'Bad 71'
-refused "${head}bound 3\\nnow \\nend\\n" 'Bad 51'
-refused "${head}bound 3\\nnow\\r\\nend\\n" 'Bad 51'
-refused "${head}bound 3\\nnow\\nend\\nend\\n" 'Bad 59'
-refused "${head}bound 3\\nnow\\nend" 'Bad 55'
+file_refused "undorc-live 2\\nservices db\\nbound 3\\nnow\\nend\\n" OtherDb
+file_refused "undorc-live 2\\nservices db\\nbound 3\\nnow other\\nend\\n" OtherDb
+file_refused "${head}bound 3\\nnow other\\n${site}end\\n" Unknown
+file_refused "${head}bound 3\\nnow web\\nbundle web log\\nend\\n" Unknown
+file_refused "${head}bound 3\\nnow\\nbundle site other\\nend\\n" Unknown
+file_refused "${head}bound 3\\nnow web\\n${site}end\\n" 'NotClosed 0'
+file_refused "${head}bound 3\\nup\\nup net\\nnow net\\nend\\n" 'NotClosed 1'
+file_refused "${head}bound 3\\nup\\nnow\\nend\\n" SameState
+file_refused "${head}bound 3\\nup\\nup log\\nnow\\nup log\\nend\\n" OverBound
+file_refused "${head}bound 2\\nnow\\n${site}end\\n" 'Bad 43'
+file_refused "${head}bound 4294967296\\nnow\\n${site}end\\n" 'Bad 43'
+file_refused "${head}bound 03\\nnow\\n${site}end\\n" 'Bad 43'
+file_refused "${head}now\\n${site}end\\n" 'Bad 43'
+file_refused "undorc-live 1\\n${services}bound 3\\nnow\\n${site}end\\n" 'Bad 43'
+file_refused "${head}bound 3\\nnow\\nnow log\\nend\\n" 'Bad 55'
+file_refused "${head}bound 3\\nup\\nend\\n" 'Bad 54'
+file_refused "${head}bound 3\\n${site}now\\nend\\n" 'Bad 51'
+file_refused "${head}bound 3\\nnow net  root\\nend\\n" 'Bad 51'
+file_refused "${head}bound 3\\nnow root net\\nend\\n" 'Bad 51'
+file_refused "${head}bound 3\\nnow\\n${site}${site}end\\n" 'Bad 71'
+file_refused "${head}bound 3\\nnow \\nend\\n" 'Bad 51'
+file_refused "${head}bound 3\\nnow\\r\\nend\\n" 'Bad 51'
+file_refused "${head}bound 3\\nnow\\nend\\nend\\n" 'Bad 59'
+file_refused "${head}bound 3\\nnow\\nend" 'Bad 55'
 
-refused "${head%\\n} x\\nbound 3\\nnow\\nend\\n" OtherDb
-refused "${head}bound 3\\nnow\\nup root\\nbundle site other\\nend\\n" Unknown
+file_refused "${head%\\n} x\\nbound 3\\nnow\\nend\\n" OtherDb
+file_refused "${head}bound 3\\nnow\\nup root\\nbundle site other\\nend\\n" Unknown
 # Of two things that are wrong in one text, the first of: its form, its database, a name, what is not closed, a state that
 # is that before it, and more states than the bound.
-refused "undorc-live 2\\nservices db\\nbound 3\\nnow\\nend\\n\\n" 'Bad 42'
-refused "${head}bound 3\\nup web\\nnow other\\nend\\n" Unknown
-refused "${head}bound 3\\nup\\nup\\nnow web\\nend\\n" 'NotClosed 2'
-refused "${head}bound 3\\nup\\nup\\nup root\\nnow\\nend\\n" SameState
+file_refused "undorc-live 2\\nservices db\\nbound 3\\nnow\\nend\\n\\n" 'Bad 42'
+file_refused "${head}bound 3\\nup web\\nnow other\\nend\\n" Unknown
+file_refused "${head}bound 3\\nup\\nup\\nnow web\\nend\\n" 'NotClosed 2'
+file_refused "${head}bound 3\\nup\\nup\\nup root\\nnow\\nend\\n" SameState
 
 # keeps WHAT TEXT: a session without a line reads this text and writes it back
 keeps() {
     begins_with "$2"
     goes_on 0 '' '' ''
-    holds "$1" "$2"
+    file_holds "$1" "$2"
 }
 keeps 'bundles that come, alter and go' \
     "${head}bound 1024\\nup\\nup\\nbundle a\\nbundle b db web\\nup root\\nbundle a log\\nnow root\\nup\\nend\\n"
@@ -124,10 +124,10 @@ keeps 'as many states as the bound' "${head}bound 3\\nup\\nup root\\nnow\\nend\\
 # The older form has no bound: it has the usual one, or as many as there are states.
 many=$(awk 'BEGIN { for (i = 0; i < 600; i++) printf "up\\nup root\\n" }')
 keeps '1,201 states' "${head}bound 1201\\n${many}now\\nend\\n"
-refused "${head}bound 1200\\n${many}now\\nend\\n" OverBound
+file_refused "${head}bound 1200\\n${many}now\\nend\\n" OverBound
 begins_with "undorc-live 1\\n${services}${many}now\\nend\\n"
 goes_on 0 '' '' ''
-holds '1,201 states of the older form' "${head}bound 1201\\n${many}now\\nend\\n"
+file_holds '1,201 states of the older form' "${head}bound 1201\\n${many}now\\nend\\n"
 # 4,096 services, none needing another, and 1,024 states, each with a hundred services up that follow each other.
 awk 'BEGIN {
     print "undorc-db 1\nservices 4096"
@@ -175,7 +175,7 @@ wants 'raised log\nok\n' ''
 { printf '%b' "$sample"; echo change log; } > in
 runs session -x none -l live
 judge 'a session whose database stands in front of its lines' 0
-holds 'a session whose database stands in front of its lines' \
+file_holds 'a session whose database stands in front of its lines' \
     "undorc-live 2\\n${services}bound 1024\\nup\\n${site}now log\\n${site}end\\n"
 
 # A text that was cut is refused at the first byte of the line that holds the byte where it ends.
@@ -283,7 +283,7 @@ if may_be_nobody 'a session in a folder or file without rights'; then
     setpriv --reuid=65534 --regid=65534 --clear-groups ./undorc session -b base -x none -l shut/live < in > out 2> err || echo $? > status
     judge 'a session in a folder that may not be written' 111
     mv shut/live live
-    holds 'a session in a folder that may not be written' "$kept"
+    file_holds 'a session in a folder that may not be written' "$kept"
     chmod 000 live
     echo 0 > status
     setpriv --reuid=65534 --regid=65534 --clear-groups ./undorc session -b base -x none -l live < in > out 2> err || echo $? > status
@@ -302,7 +302,7 @@ ln live.before other/place.new
 cp live.before old.before
 goes_on 0 'lowered log\nok\n' '' 'undo\n'
 kept_on="undorc-live 2\\n${services}bound 1024\\nnow\\n${site}up log\\n${site}up db log net root web\\n${site}end\\n"
-holds 'a link' "$kept_on"
+file_holds 'a link' "$kept_on"
 wants 'other/place 640\n' ''
 echo 0 > status
 : > err
@@ -317,7 +317,7 @@ wants 'other/place\n' ''
 echo 0 > status
 readlink live > out
 judge 'a link that leads nowhere yet' 0
-holds 'a link that led nowhere' "undorc-live 2\\n${services}bound 1024\\nup\\n${site}now log\\n${site}end\\n"
+file_holds 'a link that led nowhere' "undorc-live 2\\n${services}bound 1024\\nup\\n${site}now log\\n${site}end\\n"
 rm -rf live other
 
 # Answers that nobody reads: what was done is on file, and no more.
@@ -329,7 +329,7 @@ tell 'change root'
 exec 4< /dev/null
 wants 'raised log\nok\n' 'undorc: Write\n'
 ends 'answers of a kept session that nobody reads any more' 111
-holds 'answers that nobody reads any more' \
+file_holds 'answers that nobody reads any more' \
     "undorc-live 2\\n${services}bound 1024\\nup\\n${site}up log\\n${site}now log root\\n${site}end\\n"
 rm live
 

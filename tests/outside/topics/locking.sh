@@ -17,8 +17,8 @@ one() {
         command) "$program" change "$service" -b base -l live "$@" < /dev/null ;;
     esac
 }
-# at_once HOW WORDS..: ten of them at once; each leaves its answer, what it told and its status
-at_once() {
+# ten_at_once HOW WORDS..: ten of them at once; each leaves its answer, what it told and its status
+ten_at_once() {
     rm -f live ./*.out ./*.err ./*.status
     how=$1
     shift
@@ -34,7 +34,7 @@ found() {
 
 for how in session command; do
     # Ten that wait are all done, one after the other, in some order.
-    at_once "$how" -W
+    ten_at_once "$how" -W
     for name in $names; do
         printf 'raised %s\nok\n' "$name" | cmp -s - "$name.out" || echo "$name: another answer"
         # Who waits for more than a second tells so.
@@ -49,7 +49,7 @@ for how in session command; do
     judge "ten at once that wait for the file, each a $how" 0
 
     # Of ten that do not wait each is done, or it is told that the file is in use, and then it did nothing.
-    at_once "$how"
+    ten_at_once "$how"
     found | sort > moved
     for name in $names; do
         case $(cat "$name.status") in
@@ -150,7 +150,7 @@ for base in slow leaves; do
     rm -f live child
     echo 'change s1' > in
     ended=0
-    "$program" session -b "$base" -l live -v < in > out 2> err &
+    "$program" session -b "$base" -l live -P < in > out 2> err &
     killed=$!
     for turn in $(seq 100); do
         [ ! -s child ] || break
@@ -192,7 +192,7 @@ wants '' 'undorc: Write\n'
 judge 'a kept session whose output is closed' 111
 rm -f live live.lock
 echo 0 > status
-"$program" session -b slow -x none -l live -v < in 2>&- > out || echo $? > status
+"$program" session -b slow -x none -l live -P < in 2>&- > out || echo $? > status
 : > err
 wants 'raised s1\nok\n' ''
 judge 'a kept session whose standard error is closed' 0

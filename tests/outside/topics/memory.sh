@@ -145,7 +145,7 @@ begins_at session -b base
 printf '%s\n' 'change b c' undo > in
 expects none
 file='file'
-each 150 "$ample$memory$no_thread" 'answers scripts kept' session -b base -v -w 2
+each 150 "$ample$memory$no_thread" 'answers scripts kept' session -b base -P -w 2
 
 # A session that is not there yet: where its file could not be made nothing is answered.
 printf '%s\n' 'add both a c' 'delete both' > in
@@ -160,7 +160,7 @@ expects none
 for workers in 1 2 3 4; do
     threads=$((workers < 3 ? workers - 1 : 2))
     refusing ways=THREAD "runs=$((2 * threads + 1))" faults=NoThread file=file answers scripts kept \
-        -- session -b base -v -w "$workers"
+        -- session -b base -P -w "$workers"
 done > said
 sort -u said > out
 : > err
@@ -237,7 +237,7 @@ rm status.none
 # What starts scripts is made before the first line of a session is read.
 echo 'change b' > in
 expects none
-each 20 "$ample$memory" 'answers kept scripts' session -b base -v -w 1
+each 20 "$ample$memory" 'answers kept scripts' session -b base -P -w 1
 
 # An update that lowers a service and raises it again. On file is one of the texts in turn: that before, by
 # the old database without the service, by the new one without it, and with it.

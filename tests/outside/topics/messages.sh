@@ -259,11 +259,11 @@ helps 1 'undorc: NotOneshot\n' "the name is a longrun's, and a oneshot is asked 
 helps 1 'undorc: PruneNeedsUp\n' '-p goes with' -- plan -b db -d -p web
 
 # Of what is read: which service lacks which need, and a name of a database on standard input.
-# reads INPUT HELPS..: the run of `helps` after this, on an input
-reads() {
+# helps_on INPUT HELPS..: the run of `helps` after this, on an input
+helps_on() {
     printf '%b' "$1" > given
 }
-reads 'web\n'
+helps_on 'web\n'
 helps 1 'undorc: NotClosed\n' 'web is up and needs disk, which is not among those listed' -- plan -b db all
 cat whole given > front
 mv front given

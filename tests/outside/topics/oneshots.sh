@@ -271,7 +271,7 @@ judge 'a one-shot command whose file may have no bytes' 0
 unaltered 'a file that may have no bytes' 'live
 live.lock'
 rm shut/live.lock
-if [ "$(id -u)" -ne 0 ] || ! mount -t tmpfs -o size=16k none shut 2> /dev/null; then
+if [ "$(id -u)" -ne 0 ] || ! mount -t tmpfs -o size=16k,mode=755 none shut 2> /dev/null; then
     skip 'a full disk, which takes root and the right to mount'
 else
     cp live shut

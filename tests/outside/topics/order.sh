@@ -44,8 +44,8 @@ traced() {
         }' trace > calls
 }
 
-# kept FILE FOLDER: the calls by which a text comes into a file
-kept() {
+# calls_kept FILE FOLDER: the calls by which a text comes into a file
+calls_kept() {
     printf '%s\n' "write $1.new" "fsync $1.new" "rename $1.new $1" "fsync $2"
 }
 
@@ -65,30 +65,30 @@ else
     # beside it finds out whether it could be written.
     printf 'change log\nlive\nundo\n' > in
     traced session -b base -x none -l live
-    { kept live .; kept live .; echo 'write answer'; kept live .; echo 'write answer'; } > calls.wanted
+    { calls_kept live .; calls_kept live .; echo 'write answer'; calls_kept live .; echo 'write answer'; } > calls.wanted
     ordered 'a session of three lines, and the calls by which it is kept'
     : > in
     traced change net -b base -x none -l live
-    { kept live .; echo 'write answer'; } > calls.wanted
+    { calls_kept live .; echo 'write answer'; } > calls.wanted
     ordered 'a one-shot command, and the calls by which it is kept'
     ln -s other/place link
     traced change net -b base -x none -l link
-    { kept other/place other; kept other/place other; echo 'write answer'; } > calls.wanted
+    { calls_kept other/place other; calls_kept other/place other; echo 'write answer'; } > calls.wanted
     ordered 'a one-shot command whose file stands behind a link'
     # An update writes it before each answer, too: what is lowered, the new text, and what is raised.
     sed '/^service net /{n;s/ root$//;}' base > new
     traced update -b base -B new -x none -l live
-    { kept live .; echo 'write answer'; kept live .; kept live .; echo 'write answer'; } > calls.wanted
+    { calls_kept live .; echo 'write answer'; calls_kept live .; calls_kept live .; echo 'write answer'; } > calls.wanted
     ordered 'an update, and the calls by which its file is kept'
     traced compile -o db "$samples/source"
-    kept db . > calls.wanted
+    calls_kept db . > calls.wanted
     ordered 'a database, and the calls by which it is written'
     traced live -b base -l live
     echo 'write answer' > calls.wanted
     ordered 'a look writes nothing'
     # A run is logged before it happens: a take before its program is started, an end before the next take. The log is
     # emptied only once the file has the new text.
-    logged() {
+    run_logged() {
         echo 0 > status
         strace -f -y -s 64 -o trace -e trace=write,execve,rename,renameat2,ftruncate,unlink,unlinkat \
             "$program" "$@" < in > answer 2> err || echo $? > status
@@ -114,14 +114,14 @@ else
     "$program" compile tree > two
     : > in
     "$program" change -b two -x none -l live < in > /dev/null
-    logged change b -w 1 -b two -l live
+    run_logged change b -w 1 -b two -l live
     printf '%s\n' empty head 'take 1 a' start 'done 1 a ok' 'take 1 b' start 'done 1 b ok' replace empty remove > calls.wanted
     ordered 'a run, and its log'
     # A recovery replaces the file, and then removes the log; nothing is started before that.
     "$program" undo -b two -l live < in > /dev/null
     cp live before
     { cat live; printf -- '-t 1 -u change b\ntake 1 a\ndone 1 a ok\n'; } > live.run
-    logged change b -w 1 -b two -l live
+    run_logged change b -w 1 -b two -l live
     printf '%s\n' replace remove empty head 'take 1 b' start 'done 1 b ok' replace empty remove > calls.wanted
     holds 'the recovery is told' grep -qx 'undorc: Recovered' err
     : > err

@@ -43,8 +43,8 @@ cut() {
     wait "$killed" 2> /dev/null || true
     : > go
 }
-# moved WHAT LINES: what the scripts did
-moved() {
+# scripts_ran WHAT LINES: what the scripts did
+scripts_ran() {
     wants "$2" ''
     shown ran
     judge "$1" 0
@@ -89,7 +89,7 @@ for turn in $(seq 250); do
 done
 : > ran
 expect 0 'raised slow top\nok\n' '' '' change -w 1 b top -b base -l live
-moved 'the same command again' 'up slow\nup top\n'
+scripts_ran 'the same command again' 'up slow\nup top\n'
 
 # A run that was cut short before all was tried counts as stopped.
 rm -f live ran
@@ -287,7 +287,7 @@ expect 0 '' '' '' stop -l live
 echo 0 > status
 wait "$called" || echo $? > status
 expect 0 'live a b slow\nok\n' '' '' live -b base -l live
-moved 'what a command moved that was called off' 'up a\nup b\nup slow\n'
+scripts_ran 'what a command moved that was called off' 'up a\nup b\nup slow\n'
 expect 1 '' 'undorc: no command is under way on live\n' '' stop -l live
 expect 1 '' 'undorc: no command is under way on nowhere\n' '' stop -l nowhere
 holds 'stop makes no lock' test ! -e nowhere.lock
@@ -446,7 +446,7 @@ judge 'a log that can grow no more' 2
 # A disk that fills in the midst: the command says what it moved, and the next one enters it.
 if [ "$(id -u)" -eq 0 ] && unshare -m true 2> /dev/null; then
     cat > full.sh <<'END'
-mount -t tmpfs -o size=64k tmpfs disk
+mount -t tmpfs -o size=64k,mode=755 tmpfs disk
 "$1" change -w 1 b top -b base -l disk/live > out 2> err || echo $? > status
 cp disk/live.run full.run
 rm disk/filler

@@ -2,7 +2,7 @@
 # shellcheck source=../trees.sh
 . "$here/trees.sh"
 
-# How a script ends, and what -v tells of it. Each is a change of its own.
+# How a script ends, and what -P reports of it. Each is a change of its own.
 begin_tree
 oneshot good 'exit 0'
 oneshot empty ''
@@ -14,13 +14,13 @@ oneshot shut 'exit 126'
 oneshot missing 'exit 127'
 answers='raised empty good\nfailed killed late missing most shut three\nok\n'
 all='change empty good killed late missing most shut three\n'
-# told_by WORKERS EVENT..: what -v tells of that change, by so many: NAME:HOW of each
+# told_by WORKERS EVENT..: what -P reports of that change, by so many: NAME:HOW of each
 told_by() {
     workers=$1
     shift
     session "$answers" '' "$all" -w "$workers"
     for event; do printf 'up %s: %s\nup %s: started\n' "${event%%:*}" "${event#*:}" "${event%%:*}"; done | sort > left.wanted
-    "$program" session -b made -v -w "$workers" < in 2> left > out
+    "$program" session -b made -P -w "$workers" < in 2> left > out
     timeless left
     sort -o left left
     same "what is told of scripts that end so, by $workers: $*"
@@ -95,6 +95,7 @@ for limit in 0 3000; do
     limit leaves $limit
     for workers in 1 2 64; do
         session 'raised leaves\nok\nlowered leaves\nok\n' '' 'change leaves\nundo\n' -w "$workers"
+        holds "a child is left on each way, by $workers under limit $limit" test "$(wc -l < child)" -eq 2
         # shellcheck disable=SC2094 # nothing writes what is read
         while read -r child; do
             holds "a child that is left lives on, by $workers under limit $limit" kill -0 "$child"
@@ -103,8 +104,8 @@ for limit in 0 3000; do
     done
 done
 
-# What a script writes goes nowhere, and what it reads is nothing: lines of the session stay its own. Under -v what it writes
-# goes where this program's errors go.
+# What a script writes goes nowhere, and what it reads is nothing: lines of the session stay its own. Under -P what it writes
+# goes where this program's errors go; under -v it does not.
 begin_tree
 oneshot writes 'head -c 100000000 /dev/zero; head -c 100000000 /dev/zero >&2'
 oneshot reads 'wc -c > count'
@@ -117,6 +118,7 @@ for workers in 1 64; do
     same "what a script reads, by $workers"
 done
 session 'raised says\nok\n' '' 'change says\n'
+session 'raised says\nok\n' '' 'change says\n' -v
 tells 'raised says\nok\n' 'up says: started\nout\nerr\nup says: ok\n' 'change says\n'
 
 # Where it runs, in which environment, and that no other file is open there.
@@ -212,14 +214,19 @@ expect 0 'live\nok\n' '' "${sample}live\n" session
 expect 0 'raised net root\nok\n' '' "${sample}change net\n" session -w 4
 expect 0 'raised net root\nfailed db log\nblocked web\nok\n' '' "${sample}change site\n" session
 
-# With -x nothing is started, whatever -r and -c hold; how each transition ends is told under -v all the same, at the moment 0.
+# With -x nothing is started, whatever -r and -c hold; how each transition ends is reported under -P all the same, at the
+# moment 0. Under -v those are reported that do not succeed, and no others.
 begin_tree
 oneshot one 'touch started'
 longrun two one
 told='undorc:    0.000 s  up one: ok\nundorc:    0.000 s  up two: ok\n'
 session 'raised one two\nok\nfailed two\nblocked one\nok\n' "${told}undorc:    0.000 s  down two: failed 1\n" \
+    'change two\nundo\n' -P -x down:two
+session 'raised one two\nok\nfailed two\nblocked one\nok\n' 'undorc:    0.000 s  down two: failed 1\n' \
     'change two\nundo\n' -v -x down:two
-session 'raised one two\nok\n' "$told" 'change two\n' -x none -r ./note -c ./note -v
+session 'raised one two\nok\nfailed two\nblocked one\nok\n' '' 'change two\nundo\n' -x down:two
+session 'raised one two\nok\n' "$told" 'change two\n' -x none -r ./note -c ./note -P -v
+session 'raised one two\nok\n' '' 'change two\n' -x none -v
 holds 'with -x nothing is started' test ! -e started
 
 # Two that wait for each other: the number of -w is the one that serves.
@@ -312,7 +319,7 @@ for closed in '2>&-' '2> /dev/full'; do
     wants 'failed one\nok\n' ''
     : > err
     echo 0 > status
-    eval "\"\$program\" session -v -b made < in > out $closed" || echo $? > status
+    eval "\"\$program\" session -P -b made < in > out $closed" || echo $? > status
     judge "a session that has no standard error ($closed)" 0
 done
 begins -b made

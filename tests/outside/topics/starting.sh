@@ -59,19 +59,19 @@ limit long 1
 oneshot six 'sleep 6'
 "$program" compile tree > made
 echo 'change long six' > in
-"$program" session -b made -v -w 2 < in > out 2> left
+"$program" session -b made -P -w 2 < in > out 2> left
 timeless left
 grep -v started left > ends
 mv ends left
 printf '%s\n' 'up long: timed out' 'up six: ok' > left.wanted
 same 'a limit of a second is reached before six seconds are over'
 
-# The times of -v are those at which scripts begin and end: a script that sleeps for 0.3 s ends 0.3 s after it began.
+# The times of -P are those at which scripts begin and end: a script that sleeps for 0.3 s ends 0.3 s after it began.
 begin_tree
 oneshot naps 'sleep 0.3'
 "$program" compile tree > made
 echo 'change naps' > in
-"$program" session -b made -v < in > out 2> told
+"$program" session -b made -P < in > out 2> told
 sed -n 's/^undorc: *\([0-9]*\.[0-9]*\) s  up naps: \([a-z]*\)$/\1 \2/p' told |
     awk '{ at[$2] = $1 } END { print (at["ok"] - at["started"] >= 0.3 ? "so long" : "too short") }' > left
 echo 'so long' > left.wanted
@@ -84,7 +84,7 @@ oneshot 'then' 'echo from then >&2; exit 9' first
 oneshot last true 'then'
 "$program" compile tree > made
 rm -f go
-begins -b made -v -w 2
+begins -b made -P -w 2
 tell 'change last'
 for turn in $(seq 200); do
     [ "$(wc -l < err)" -lt 2 ] || break
@@ -115,13 +115,13 @@ begin_tree
 for number in $(seq 10 73); do oneshot "s$number" 'exit 3'; done
 "$program" compile tree > made
 echo "change $(seq -s ' ' -f s%g 10 73)" > in
-"$program" session -b made -v -w 64 < in > out 2> err
+"$program" session -b made -P -w 64 < in > out 2> err
 grep -c '^undorc:  *[0-9]*\.[0-9][0-9][0-9] s  up s[1-7][0-9]: \(started\|failed 3\)$' err > left
 wc -l < err >> left
 printf '128\n128\n' > left.wanted
 same 'lines of 64 workers'
 
-# What scripts write, both ways, goes where errors go with -v, and nowhere without; nothing stands in the answers, and a
+# What scripts write, both ways, goes where errors go with -P, and nowhere without; nothing stands in the answers, and a
 # child that holds a script's streams is not waited for.
 begin_tree
 oneshot writes 'head -c 50000000 /dev/zero; head -c 50000000 /dev/zero >&2'
@@ -131,7 +131,7 @@ oneshot reads 'wc -c'
 echo 'change leaves reads writes' > in
 wants 'raised leaves reads writes\nok\n' ''
 echo 0 > status
-"$program" session -b made -v < in 2> told > out || echo $? > status
+"$program" session -b made -P < in 2> told > out || echo $? > status
 : > err
 judge 'a session whose scripts write 100 MB' 0
 holds 'a child that is left is not waited for, with -v' kill "$(cat child)"
@@ -154,6 +154,6 @@ for closed in '2>&-' '2> /dev/full'; do
     wants 'raised says\nok\n' ''
     : > err
     echo 0 > status
-    eval "\"\$program\" session -v -b made < in > out $closed" || echo $? > status
+    eval "\"\$program\" session -P -b made < in > out $closed" || echo $? > status
     judge "a session whose scripts write, with $closed" 0
 done

@@ -14,19 +14,19 @@ typed() {
     judge "undorc $* at a terminal" 0
 }
 
-# reads WHAT: the line that announces what is read
-reads() {
+# announces WHAT: the line that announces what is read
+announces() {
     printf '%s\\n' "undorc: reading $1 from the terminal; end it with ^D"
 }
 
-typed '' "$(reads 'the database')" "$none" db check
+typed '' "$(announces 'the database')" "$none" db check
 typed '' '' '' db -b base check
-typed '' "$(reads 'the database and the services that are up')" "$none" plan -D
-typed '' "$(reads 'the services that are up')" '' plan -b base -D
-typed 'live\nat 0 of 1\n' "$(reads 'the database and the script')" "$none" replay
-typed 'live\nat 0 of 1\n' "$(reads 'the script')" '' replay -b base
-typed 'live\nok\n' "$(reads 'the database')" "$none" live -l live
-typed 'live\nok\n' "$(reads "the database and the session's lines")" "${none}live\n" session -x none
+typed '' "$(announces 'the database and the services that are up')" "$none" plan -D
+typed '' "$(announces 'the services that are up')" '' plan -b base -D
+typed 'live\nat 0 of 1\n' "$(announces 'the database and the script')" "$none" replay
+typed 'live\nat 0 of 1\n' "$(announces 'the script')" '' replay -b base
+typed 'live\nok\n' "$(announces 'the database')" "$none" live -l live
+typed 'live\nok\n' "$(announces "the database and the session's lines")" "${none}live\n" session -x none
 typed 'live\nok\n' '' 'live\n' session -b base -x none
 help='undorc: end the session with ^D; its lines are change, undo, redo, live, journal and more\n'
 for word in help '?' quit exit; do

@@ -31,8 +31,8 @@ fresh() {
     cp live.old live
     : > log
 }
-# same WHAT FILE FILE: two files are one
-same() {
+# same_files WHAT FILE FILE: two files are one
+same_files() {
     passed=$((passed + 1))
     if ! cmp -s "$2" "$3"; then
         passed=$((passed - 1))
@@ -45,7 +45,7 @@ same() {
 moved() {
     printf '%b' "$1" > log.wanted
     sort log > log.sorted
-    same "the scripts of undorc $words" log.wanted log.sorted
+    same_files "the scripts of undorc $words" log.wanted log.sorted
 }
 # kept LIVE JOURNAL: what the file says by the new database
 kept() {
@@ -69,7 +69,7 @@ carries() {
     lowers=$1 raises=$2 logged=$3 lives=$4 journals=$5
     shift 5
     update 0 "${lower}ok\n${raise}ok\n" '' -n -q "$@"
-    same "what update -n leaves" live.old live
+    same_files "what update -n leaves" live.old live
     [ -z "$lowers" ] || lower="lowered$lowers\\n"
     [ -z "$raises" ] || raise="raised$raises\\n"
     update 0 "${lower}ok\n${raise}ok\n" '' -x none "$@"
@@ -240,13 +240,13 @@ cp live live.longrun
 fresh
 update 1 '' 'undorc: NoController b\n'
 moved ''
-same 'what an update leaves that would raise a longrun' live.old live
+same_files 'what an update leaves that would raise a longrun' live.old live
 update 1 '' 'undorc: NoController b\n' -R a
 update 0 'lower b c\nok\nraise b c\nok\n' '' -n -q
 update 0 'lowered b c\nok\nraised b c\nok\n' '' -x none
 cp live.longrun live
 expect 1 '' 'undorc: NoController b\n' '' update -b new -B old -l live
-same 'what an update leaves that would lower a longrun' live.longrun live
+same_files 'what an update leaves that would lower a longrun' live.longrun live
 expect 0 'ok\nok\n' '' '' update -b new -B new -l live
 cp live.longrun live
 expect 1 '' 'undorc: NoController b\n' '' update -b new -B new -l live -R b
@@ -266,7 +266,7 @@ rm -f nothing nothing.lock
 expect 0 'ok\nok\n' '' '' update -n -b old -B new -l nothing
 find . -name 'nothing*' > made
 : > none
-same 'update -n makes no file' none made
+same_files 'update -n makes no file' none made
 
 # The bound of the old line is that of the new one.
 rm -f live
@@ -361,7 +361,7 @@ told=$told'undorc: c moves: its dependency b moves\nundorc: d moves: its kind ch
 told=$told'undorc: e moves: it is gone\n'
 update 0 'lower a b c d e\nok\nraise a b c d\nok\n' "$told" -n
 update 0 'lower a b c d e\nok\nraise a b c d\nok\n' '' -n -q
-same 'what update -n with reasons leaves' live.old live
+same_files 'what update -n with reasons leaves' live.old live
 cp old new
 update 0 'lower c e\nok\nraise c e\nok\n' \
     'undorc: c moves: a restart is requested\nundorc: e moves: a restart is requested\n' -n -R c -R e
@@ -379,7 +379,7 @@ refuses() {
     shift 2
     update 1 '' "$fault" -f renames "$@"
     moved ''
-    same 'what an update leaves whose renames are refused' live.old live
+    same_files 'what an update leaves whose renames are refused' live.old live
 }
 refuses 'undorc: BadLine 1\n' 'a\n'
 refuses 'undorc: BadLine 2\n' 'a -> a\na ->\n'
@@ -401,7 +401,7 @@ refuses 'undorc: Unknown z\n' '' -n -R z
 fresh
 update 111 '' 'undorc: Io\n' -f nowhere
 update 111 '' 'undorc: Io\n' -f .
-same 'what an update leaves whose renames are not there' live.old live
+same_files 'what an update leaves whose renames are not there' live.old live
 
 # What fails on its way down is not lowered, nor what it needs: the old database stands, and nothing is raised by the new.
 old_tree
@@ -445,7 +445,7 @@ refused() {
     shift 2
     expect "$status" '' "$fault" '' update -l live "$@"
     moved ''
-    same "what a refused update leaves" live.old live
+    same_files "what a refused update leaves" live.old live
 }
 words=refused
 refused 1 'undorc: Unknown e\n' -b old -B new -x up:e
@@ -517,12 +517,12 @@ until [ -e other.live ]; do sleep 0.05; done
 cp other.live other.before
 expect 111 '' 'undorc: Busy\n' '' update -b other -B new -l other.live -x none
 expect 0 'ok\nok\n' 'undorc: a command is under way\n' '' update -b other -B new -l other.live -n
-same 'what an update that is hindered leaves' other.before other.live
+same_files 'what an update that is hindered leaves' other.before other.live
 { "$program" update -b other -B new -l other.live -W > waited.out 2> waited.err; echo $? > waited; } &
 echo > gate
 wait
 printf 'lowered slow\nok\nok\n' > wanted
-same 'an update that waits' wanted waited.out
+same_files 'an update that waits' wanted waited.out
 expect 0 'live\nok\n' '' '' live -b new -l other.live
 
 # Killed at any moment it leaves the old file or the new one.

@@ -113,6 +113,9 @@ wrong session -r true -r true
 wrong session -c true -c true
 wrong session -v -v
 wrong session -v none
+wrong session -P -P
+wrong session -P none
+wrong session -x none -q
 wrong session -x up -r true -c true -v
 wrong session -x none -l
 wrong session -x none -l live -l live
@@ -143,6 +146,7 @@ says '^  -w <N>  '
 says '^  -r <TEXT>  '
 says '^  -c <TEXT>  '
 says '^  -v  '
+says '^  -P  '
 says '^  -l <FILE>  '
 says '^  -n <N>  '
 says '^  -x <LIST>  '

@@ -1,8 +1,8 @@
-# Each line of -v has the moment 0.
+# Each line of -P has the moment 0.
 # topic: starting
 # fails: the times of a script that sleeps
 case " $* " in
-    *' -v '*)
+    *' -P '*)
         # A script may leave a child that holds the stream, so it is a file and no pipe.
         status=0
         "$RIGHT" "$@" 2> "$WRONG/told.$$" || status=$?

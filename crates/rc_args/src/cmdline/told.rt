@@ -125,7 +125,7 @@ const CONTROLLER: ToldArg = Valued(
     "Start this program, with these words, for a longrun; `up` or `down` and the name are its last words",
 );
 
-// How long a transition may take, and that each is told.
+// How long a transition may take, and that each is reported.
 const USUAL: ToldArg = Valued(
     "usual",
     'T',
@@ -136,7 +136,7 @@ const USUAL: ToldArg = Valued(
 const VERBOSE: ToldArg = Flag(
     "verbose",
     'v',
-    "Tell each transition as it begins and as it ends, on standard error",
+    "Report the start and end of each transition, and what its program writes, on standard error",
 );
 
 const QUIET: ToldArg = Flag(
@@ -200,8 +200,26 @@ const DRY: ToldArg = Flag(
     "Print what would be lowered and raised, and move nothing",
 );
 
-const SESSION: [ToldArg; 10] = [
-    BASE, WORKERS, FAILING, RUNNER, CONTROLLER, USUAL, VERBOSE, LIVE, WAIT, BOUND,
+const SESSION: [ToldArg; 11] = [
+    BASE,
+    WORKERS,
+    FAILING,
+    RUNNER,
+    CONTROLLER,
+    USUAL,
+    Flag(
+        "verbose",
+        'v',
+        "Report each transition that does not succeed, on standard error",
+    ),
+    LIVE,
+    WAIT,
+    BOUND,
+    Flag(
+        "progress",
+        'P',
+        "Report the start and end of each transition, and what its program writes, on standard error",
+    ),
 ];
 
 const CHANGE: [ToldArg; 18] = [

@@ -9,21 +9,23 @@ ghost use Rattle.rc_db.specs.QueryFaults.{AnyName, IsNamesFault, IsQueryFault, O
 ghost use Rattle.rc_db.specs.QueryFaults.{OfOneshot, OfService};
 ghost use Rattle.rc_cli.specs.DbAnswer.{IsAnswerTo, IsContentsText, IsFlagsText, IsFound};
 ghost use Rattle.rc_cli.specs.DbAnswer.{IsKindText, IsLimitText, IsListText, IsNameAnswer};
-ghost use Rattle.rc_cli.specs.DbAnswer.{IsNamesAnswer, IsOfQuery, IsPicture, IsPipelineText};
+ghost use Rattle.rc_cli.specs.DbAnswer.{IsNamesAnswer, IsPicture, IsPipelineText};
 ghost use Rattle.rc_cli.specs.DbAnswer.{IsScriptText, IsShownFault, IsUnanswered, asked_by};
 ghost use Rattle.rc_cli.specs.DbAnswer.{kind_word};
+ghost use Rattle.rc_cli.specs.DbFaults.{OrMemory};
 ghost use Rattle.rc_args.specs.DbAsked.{db_ask_of};
 ghost use Rattle.rc_args.specs.Query.{question_of};
 
-use crate::queries::db_fault::DbFault;
+use crate::fault::Fault;
+use crate::queries::db_fault::query_fault;
 use rc_args::{DbRequest, NameQuery, NamesQuery, Query};
-use rc_db::{Db, QueryFault, Which};
+use rc_db::{Db, NoMem, QueryFault, Which};
 use rc_graph::Way;
 use rc_livetext::read_live;
 use rc_names::Kind;
 use rc_render::{dot_text, id_lines, name_lines};
 use rc_set::Set;
-use std::alloc::Global;
+use std::alloc::{AllocError, Global};
 
 /// What is printed for what is asked.
 pub(crate) fn answer_to(
@@ -31,7 +33,7 @@ pub(crate) fn answer_to(
     db: &Db,
     request: &DbRequest<'_>,
     shown: Option<&[u8]>,
-) -> Result<Vec<u8>, DbFault>
+) -> Result<Vec<u8>, Fault>
     ensures text { IfOk result (λ text. IsAnswerTo db.now (db_ask_of request.now)
         (bytes_of shown.entry) text.items) }
     ensures fault { IfErr result (IsUnanswered db.now (bytes_of shown.entry)
@@ -41,40 +43,45 @@ pub(crate) fn answer_to(
     match &request.query {
         Query::Check => Ok(Vec::new(alloc)),
         Query::Dot => picture(alloc, db, shown),
-        Query::List(which) => list_text(alloc, db, *which),
-        Query::OfName(query, name) => name_text(alloc, db, *query, name, way),
-        Query::OfNames(query, names) => names_text(alloc, db, *query, names, way),
+        Query::List(which) => Ok(list_text(alloc, db, *which)?),
+        Query::OfName(query, name) => match name_text(alloc, db, *query, name, way) {
+            Ok(text) => Ok(text),
+            Err(fault) => Err(query_fault(alloc, fault, &request.query)),
+        },
+        Query::OfNames(query, names) => match names_text(alloc, db, *query, names, way) {
+            Ok(text) => Ok(text),
+            Err(fault) => Err(query_fault(alloc, fault, &request.query)),
+        },
     }
 }
 
 // The picture, in which what is up in a session is filled, and without one nothing.
-fn picture(alloc: Global, db: &Db, shown: Option<&[u8]>) -> Result<Vec<u8>, DbFault>
+fn picture(alloc: Global, db: &Db, shown: Option<&[u8]>) -> Result<Vec<u8>, Fault>
     ensures text { IfOk result (λ text. IsPicture db.now (bytes_of shown.entry) text.items) }
     ensures fault { IfErr result (IsShownFault db.now (bytes_of shown.entry)) }
 {
     match shown {
         Some(bytes) => filled_picture(alloc, db, bytes),
-        None => plain_picture(alloc, db),
+        None => Ok(plain_picture(alloc, db)?),
     }
 }
 
 // The picture with nothing filled.
-fn plain_picture(alloc: Global, db: &Db) -> Result<Vec<u8>, DbFault>
-    ensures text { IfOk result (λ text. text.items ≡ dot_text db.now []) }
-    ensures fault { IfErr result (λ fault. fault ≡ DbFault.Memory) }
+fn plain_picture(alloc: Global, db: &Db) -> Result<Vec<u8>, NoMem>
+    ensures { IfOk result (λ text. text.items ≡ dot_text db.now []) }
 {
     let none = Set::empty(alloc, 0)?;
-    Ok(dot_text(alloc, db, &none)?)
+    dot_text(alloc, db, &none)
 }
 
 // The picture, in which what is up by the text of a session is filled.
-fn filled_picture(alloc: Global, db: &Db, bytes: &[u8]) -> Result<Vec<u8>, DbFault>
+fn filled_picture(alloc: Global, db: &Db, bytes: &[u8]) -> Result<Vec<u8>, Fault>
     ensures text { IfOk result (λ text. IsPicture db.now (Some bytes.now) text.items) }
     ensures fault { IfErr result (IsShownFault db.now (Some bytes.now)) }
 {
     let (line, _states) = match read_live(alloc, bytes, db) {
         Ok(read) => read,
-        Err(fault) => return Err(DbFault::from(fault)),
+        Err(fault) => return Err(Fault::from(fault)),
     };
     let text = dot_text(alloc, db, line.live());
     drop(line);
@@ -82,12 +89,13 @@ fn filled_picture(alloc: Global, db: &Db, bytes: &[u8]) -> Result<Vec<u8>, DbFau
 }
 
 // The names of one sort.
-fn list_text(alloc: Global, db: &Db, which: Which) -> Result<Vec<u8>, DbFault>
-    ensures text { IfOk result (λ text. IsListText db.now which text.items) }
-    ensures fault { IfErr result (λ fault. fault ≡ DbFault.Memory) }
+fn list_text(alloc: Global, db: &Db, which: Which) -> Result<Vec<u8>, NoMem>
+    ensures { IfOk result (λ text. IsListText db.now which text.items) }
 {
-    let names = db.list(alloc, which)?;
-    Ok(name_lines(alloc, &names)?)
+    let Ok(names) = db.list(alloc, which) else {
+        return Err(AllocError);
+    };
+    name_lines(alloc, &names)
 }
 
 // The answer of a query of one name.
@@ -97,9 +105,9 @@ fn name_text(
     query: NameQuery,
     name: &str,
     way: Way,
-) -> Result<Vec<u8>, DbFault>
+) -> Result<Vec<u8>, QueryFault>
     ensures text { IfOk result (λ text. IsNameAnswer db.now way query name.now text.items) }
-    ensures fault { IfErr result (IsOfQuery (IsQueryFault db.now (asked_by query) name.now)) }
+    ensures fault { IfErr result (OrMemory (IsQueryFault db.now (asked_by query) name.now)) }
 {
     match query {
         NameQuery::Kind => kind_text(alloc, db, name),
@@ -111,9 +119,9 @@ fn name_text(
     }
 }
 
-fn kind_text(alloc: Global, db: &Db, name: &str) -> Result<Vec<u8>, DbFault>
+fn kind_text(alloc: Global, db: &Db, name: &str) -> Result<Vec<u8>, QueryFault>
     ensures text { IfOk result (λ text. IsKindText db.now name.now text.items) }
-    ensures fault { IfErr result (IsOfQuery (IsQueryFault db.now AnyName name.now)) }
+    ensures fault { IfErr result (OrMemory (IsQueryFault db.now AnyName name.now)) }
 {
     let kind = db.kind(name)?;
     Ok(Vec::from_slice(alloc, kind_line(kind))?)
@@ -130,17 +138,17 @@ fn kind_line(kind: Kind) -> &'static [u8]
     }
 }
 
-fn limit_text(alloc: Global, db: &Db, name: &str, way: Way) -> Result<Vec<u8>, DbFault>
+fn limit_text(alloc: Global, db: &Db, name: &str, way: Way) -> Result<Vec<u8>, QueryFault>
     ensures text { IfOk result (λ text. IsLimitText db.now way name.now text.items) }
-    ensures fault { IfErr result (IsOfQuery (IsQueryFault db.now OfService name.now)) }
+    ensures fault { IfErr result (OrMemory (IsQueryFault db.now OfService name.now)) }
 {
     let limit = db.limit(name, way)?;
     Ok(format!(in alloc; "{limit}\n")?.into_bytes())
 }
 
-fn flags_text(alloc: Global, db: &Db, name: &str) -> Result<Vec<u8>, DbFault>
+fn flags_text(alloc: Global, db: &Db, name: &str) -> Result<Vec<u8>, QueryFault>
     ensures text { IfOk result (λ text. IsFlagsText db.now name.now text.items) }
-    ensures fault { IfErr result (IsOfQuery (IsQueryFault db.now OfService name.now)) }
+    ensures fault { IfErr result (OrMemory (IsQueryFault db.now OfService name.now)) }
 {
     if db.flags(name)? {
         Ok(Vec::from_slice(alloc, b"essential\n")?)
@@ -149,25 +157,25 @@ fn flags_text(alloc: Global, db: &Db, name: &str) -> Result<Vec<u8>, DbFault>
     }
 }
 
-fn contents_text(alloc: Global, db: &Db, name: &str) -> Result<Vec<u8>, DbFault>
+fn contents_text(alloc: Global, db: &Db, name: &str) -> Result<Vec<u8>, QueryFault>
     ensures text { IfOk result (λ text. IsContentsText db.now name.now text.items) }
-    ensures fault { IfErr result (IsOfQuery (IsQueryFault db.now OfBundle name.now)) }
+    ensures fault { IfErr result (OrMemory (IsQueryFault db.now OfBundle name.now)) }
 {
     let ids = db.contents(alloc, name)?;
     Ok(id_lines(alloc, db.names(), &ids)?)
 }
 
-fn pipeline_text(alloc: Global, db: &Db, name: &str) -> Result<Vec<u8>, DbFault>
+fn pipeline_text(alloc: Global, db: &Db, name: &str) -> Result<Vec<u8>, QueryFault>
     ensures text { IfOk result (λ text. IsPipelineText db.now name.now text.items) }
-    ensures fault { IfErr result (IsOfQuery (IsQueryFault db.now OfLongrun name.now)) }
+    ensures fault { IfErr result (OrMemory (IsQueryFault db.now OfLongrun name.now)) }
 {
     let ids = db.pipeline(alloc, name)?;
     Ok(id_lines(alloc, db.names(), &ids)?)
 }
 
-fn script_text(alloc: Global, db: &Db, name: &str, way: Way) -> Result<Vec<u8>, DbFault>
+fn script_text(alloc: Global, db: &Db, name: &str, way: Way) -> Result<Vec<u8>, QueryFault>
     ensures text { IfOk result (λ text. IsScriptText db.now way name.now text.items) }
-    ensures fault { IfErr result (IsOfQuery (IsQueryFault db.now OfOneshot name.now)) }
+    ensures fault { IfErr result (OrMemory (IsQueryFault db.now OfOneshot name.now)) }
 {
     let text = db.script(alloc, name, way)?;
     Ok(text.into_bytes())
@@ -180,10 +188,10 @@ fn names_text(
     query: NamesQuery,
     names: &[String],
     way: Way,
-) -> Result<Vec<u8>, DbFault>
+) -> Result<Vec<u8>, QueryFault>
     ensures text { IfOk result (λ text.
         IsNamesAnswer db.now way query (map string_bytes names.now) text.items) }
-    ensures fault { IfErr result (IsOfQuery
+    ensures fault { IfErr result (OrMemory
         (IsNamesFault db.now.names db.now.table (map string_bytes names.now))) }
 {
     let ids = ids_found(alloc, db, query, names, way)?;

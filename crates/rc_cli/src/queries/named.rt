@@ -1,28 +1,12 @@
 //! Words that name services.
 ghost use Rattle.std.specs.Prelude.{◌≡◌, ◌<◌, length, map, IfOk, IfErr};
 ghost use Rattle.rc_model.specs.Names.{Holds};
-ghost use Rattle.rc_cli.specs.declared.queries.named.NamedFault.TheVariants.{Memory};
 ghost use Rattle.rc_cli.specs.Named.{IsNamed, AreNamed, IsNamedFault, word_lines};
 
+use crate::fault::{Fault, unknown_name};
 use rc_names::Names;
 use rc_set::{NoMem, Set};
-use std::alloc::{AllocError, Global};
-
-/// Why words are no set of services.
-#[derive(Clone, Copy)]
-pub(crate) enum NamedFault<'a> {
-    /// The first word that names no service.
-    Unknown(&'a [u8]),
-    Memory,
-}
-
-impl From<AllocError> for NamedFault<'_> {
-    ghost from_gives = { λ _ fault. fault ≡ Memory };
-
-    fn from(_: AllocError) -> Self {
-        NamedFault::Memory
-    }
-}
+use std::alloc::Global;
 
 /// The lines of a list of words: empty ones do not count, and the last may lack its newline.
 pub(crate) fn word_lines<'a>(alloc: Global, bytes: &'a [u8]) -> Result<Vec<&'a [u8]>, NoMem>
@@ -36,11 +20,7 @@ pub(crate) fn word_lines<'a>(alloc: Global, bytes: &'a [u8]) -> Result<Vec<&'a [
 }
 
 /// The set of the services that words name.
-pub(crate) fn named_set<'a>(
-    alloc: Global,
-    names: &Names,
-    words: &[&'a [u8]],
-) -> Result<Set, NamedFault<'a>>
+pub(crate) fn named_set(alloc: Global, names: &Names, words: &[&[u8]]) -> Result<Set, Fault>
     ensures bound { IfOk result (λ set. length set ≡ length names.now) }
     ensures members { IfOk result (λ set. Holds set
         (IsNamed names.now (map (λ w. w.now) words.now))) }
@@ -52,7 +32,7 @@ pub(crate) fn named_set<'a>(
     for word in words {
         match names.find_bytes(word) {
             Some(id) => set.insert(id),
-            None => return Err(NamedFault::Unknown(word)),
+            None => return Err(unknown_name(alloc, word)),
         };
     }
     Ok(set)

@@ -2,22 +2,23 @@
 ghost use Rattle.std.specs.Prelude.{◌≡◌, false, map, IfOk, IfErr};
 ghost use Rattle.rc_session.specs.Commands.{command_of};
 ghost use Rattle.rc_session.specs.Report.{answer_of};
-ghost use Rattle.rc_script.specs.Script.{IsScriptFault};
 ghost use Rattle.rc_render.specs.AnswerText.{answers_text};
 ghost use Rattle.rc_cli.specs.Played.{IsTold, IsPlayed, IsReplay};
+ghost use Rattle.rc_cli.specs.Replay.{IsReplayFault};
 
+use crate::fault::Fault;
 use rc_db::Db;
 use rc_names::Names;
 use rc_render::{answer_text, journal_text, live_text};
-use rc_script::{NoMem, ScriptFault, read_script};
+use rc_script::{NoMem, read_script};
 use rc_session::{Refusal, Report, Session, Step};
 use std::alloc::Global;
 
 /// The answers to the commands of a script, carried out on a database from nothing, then
 /// what is live, then the journal.
-pub(crate) fn replay_text(alloc: Global, db: Db, script: &[u8]) -> Result<Vec<u8>, ScriptFault>
+pub(crate) fn replay_text(alloc: Global, db: Db, script: &[u8]) -> Result<Vec<u8>, Fault>
     ensures text { IfOk result (λ text. IsReplay db script.now text.items) }
-    ensures fault { IfErr result (IsScriptFault db.names script.now) }
+    ensures fault { IfErr result (IsReplayFault db.names script.now) }
 {
     let steps = read_script(alloc, db.names(), script)?;
     let text = played_text(alloc, db, &steps)?;

@@ -1,67 +1,22 @@
 //! The command `replay`: commands with the events of their runs, and what they come to.
-ghost use Rattle.std.specs.Prelude.{◌≡◌, ◌≢◌, ◌⊎◌, ◌<◌, ◌≤◌, ◌+◌, [], codes, None, length, map};
-ghost use Rattle.std.specs.Prelude.{string_bytes, IfOk, IfSome};
+ghost use Rattle.std.specs.Prelude.{◌≡◌, ◌≢◌, ◌⊎◌, ◌≤◌, ◌+◌, [], codes, None, length, map};
+ghost use Rattle.std.specs.Prelude.{string_bytes, IfSome};
 ghost use Rattle.std.specs.Io.KnownBytes.{IsAtEnd};
-ghost use Rattle.rc_streams.specs.Input.{AppendsFront, ConsumesAtMost, FailsWith, TellsFailure};
-ghost use Rattle.rc_streams.specs.Input.{WritesAll, WritesFront, failure_text, fault_line};
+ghost use Rattle.rc_streams.specs.Input.{ConsumesAtMost, FailsWith, TellsFailure, WritesAll};
+ghost use Rattle.rc_streams.specs.Input.{WritesFront};
 ghost use Rattle.rc_streams.specs.Noting.{HasFailed, inner_of};
 ghost use Rattle.rc_dbtext.specs.Base.{bytes_of};
 ghost use Rattle.rc_dbtext.specs.Opening.{IsWrongBase};
 ghost use Rattle.rc_args.specs.ReplayAsked.{AsksReplay};
-ghost use Rattle.rc_cli.specs.Replay.{IsReplayFor, IsScriptAs, IsTextAs, TellsReplayFault};
-ghost use Rattle.rc_cli.specs.Replay.{replay_fault_text};
 ghost use Rattle.rc_args.specs.Words.{rows_for};
-ghost use Rattle.rc_cli.specs.declared.queries.replay.ReplayFault.TheVariants.{Memory};
+ghost use Rattle.rc_cli.specs.Queries.{TellsReplayFault};
+ghost use Rattle.rc_cli.specs.Replay.{IsReplayFor};
 
-use crate::queries::played::replay_text;
+use crate::queries::running::{Query, run_query};
 use rc_args::{replay_asked, tell_words};
-use rc_db::NoMem;
-use rc_dbtext::{OpenFault, Opened, TextFault, open, text_word};
-use rc_script::ScriptFault;
-use rc_streams::ending::{REFUSED, fail, write_answer};
-use rc_streams::{Failure, MAX_INPUT, Noted, tell};
-use std::alloc::{AllocError, Global};
+use rc_streams::{Failure, MAX_INPUT, Noted};
+use std::alloc::Global;
 use std::io::{Read, Write};
-
-/// Why there is nothing to print.
-#[derive(Clone, Copy)]
-pub(crate) enum ReplayFault {
-    /// The database text is none.
-    OfText(TextFault),
-    /// The line of this number after the database may not stand where it does.
-    BadLine(usize),
-    Memory,
-}
-
-impl From<AllocError> for ReplayFault {
-    ghost from_gives = { λ _ fault. fault ≡ Memory };
-
-    fn from(_: AllocError) -> Self {
-        ReplayFault::Memory
-    }
-}
-
-impl From<TextFault> for ReplayFault {
-    ghost from_gives = { IsTextAs };
-
-    fn from(fault: TextFault) -> Self {
-        match fault {
-            TextFault::Memory => ReplayFault::Memory,
-            fault => ReplayFault::OfText(fault),
-        }
-    }
-}
-
-impl From<ScriptFault> for ReplayFault {
-    ghost from_gives = { IsScriptAs };
-
-    fn from(fault: ScriptFault) -> Self {
-        match fault {
-            ScriptFault::BadLine(number) => ReplayFault::BadLine(number),
-            ScriptFault::Memory => ReplayFault::Memory,
-        }
-    }
-}
 
 /// Runs `undorc replay` on its words, and answers the status.
 ///
@@ -130,104 +85,7 @@ pub fn replay_run<R: Read, W: Write, F: Write>(
         (R.remaining (inner_of reader.new)) (MAX_INPUT + 1) }
 {
     match replay_asked(alloc, words) {
-        Ok(()) => replay_as_asked(alloc, base, reader, writer, faults),
+        Ok(()) => run_query(alloc, &Query::Replay, base, reader, writer, faults),
         Err(fault) => tell_words(faults, &fault),
-    }
-}
-
-/// Runs `undorc replay`, as `replay_run` does for words that ask it, and answers the status.
-pub fn replay_as_asked<R: Read, W: Write, F: Write>(
-    alloc: Global,
-    base: Option<&[u8]>,
-    reader: &mut Noted<R>,
-    writer: &mut Noted<W>,
-    faults: &mut F,
-) -> u8
-    ensures statuses { (result ≡ 0) ⊎ (result ≡ 1) ⊎ (result ≡ 111) }
-
-    // What was written is what the script comes to, and nothing was told.
-    ensures done { result ≡ 0 → IfSome (R.remaining (inner_of reader.old)) (λ input. WritesAll
-        (IsReplayFor (bytes_of base.entry) input) (W.contents (inner_of writer.old))
-        (W.contents (inner_of writer.new))) }
-    ensures untold { result ≡ 0 → F.contents faults.new ≡ F.contents faults.old }
-
-    // A refusal holds, and a prefix of its line was told, or all of it.
-    ensures refused { result ≡ 1 → IfSome (R.remaining (inner_of reader.old))
-        (λ input. TellsReplayFault
-        (bytes_of base.entry) input (F.contents faults.old) (F.contents faults.new)) }
-
-    // A failure is told by the line of its cause, and what was written is nothing or a prefix of
-    // what the script comes to.
-    ensures failed { result ≡ 111 → TellsFailure (R.remaining (inner_of reader.old))
-        (HasFailed reader.new) (HasFailed writer.new)
-        (F.contents faults.old) (F.contents faults.new) }
-    ensures read { HasFailed reader.new → HasFailed reader.old
-        ⊎ FailsWith Failure.Read result (F.contents faults.old) (F.contents faults.new) }
-    ensures written { HasFailed writer.new → HasFailed writer.old
-        ⊎ FailsWith Failure.Write result (F.contents faults.old) (F.contents faults.new) }
-    ensures begun { result ≡ 111 → (W.contents (inner_of writer.new)
-        ≡ W.contents (inner_of writer.old))
-        ⊎ IfSome (R.remaining (inner_of reader.old)) (λ input. WritesFront
-        (IsReplayFor (bytes_of base.entry) input) (W.contents (inner_of writer.old))
-        (W.contents (inner_of writer.new))) }
-    ensures unwritten { result ≡ 1 → W.contents (inner_of writer.new)
-        ≡ W.contents (inner_of writer.old) }
-
-    // A base comes first: where it is wrong the reader is as it was, nothing is written, and why is
-    // told whatever the reader has.
-    ensures first { IsWrongBase (bytes_of base.entry) → reader.new ≡ reader.old }
-    ensures based { result ≡ 0 → IsWrongBase (bytes_of base.entry) → ⊥ }
-    ensures untrue { result ≡ 1 → IsWrongBase (bytes_of base.entry)
-        → TellsReplayFault (bytes_of base.entry) [] (F.contents faults.old)
-        (F.contents faults.new) }
-
-    // Any other input that was answered was read to its end, and whatever the status, one byte past
-    // the bound is the last that is taken.
-    ensures within { (result ≡ 0) ⊎ (result ≡ 1) → IsWrongBase (bytes_of base.entry)
-        ⊎ IfSome (R.remaining (inner_of reader.old)) (λ input. length input ≤ MAX_INPUT) }
-    ensures end { (result ≡ 0) ⊎ (result ≡ 1) → IsWrongBase (bytes_of base.entry)
-        ⊎ IsAtEnd (R.remaining (inner_of reader.new)) }
-    ensures taken { ConsumesAtMost (R.remaining (inner_of reader.old))
-        (R.remaining (inner_of reader.new)) (MAX_INPUT + 1) }
-{
-    match open(alloc, base, reader) {
-        Ok(Opened { db, input, start }) => match replay_text(alloc, db, &input[start..]) {
-            Ok(text) => write_answer(writer, faults, &text),
-            Err(fault) => tell_replay_fault(alloc, faults, ReplayFault::from(fault)),
-        },
-        Err(OpenFault::OfText(wrong)) => tell_replay_fault(alloc, faults, ReplayFault::from(wrong)),
-        Err(OpenFault::Failed(failure)) => fail(faults, failure),
-    }
-}
-
-/// Tells why there is nothing to print, and answers the status.
-fn tell_replay_fault<F: Write>(alloc: Global, faults: &mut F, fault: ReplayFault) -> u8
-    ensures statuses { (result ≡ 1) ⊎ (result ≡ 111) }
-    ensures refused { result ≡ 1 → (fault ≢ Memory)
-        × AppendsFront (F.contents faults.old) (F.contents faults.new)
-        (fault_line (replay_fault_text fault)) }
-    ensures failed { result ≡ 111 → AppendsFront (F.contents faults.old) (F.contents faults.new)
-        (fault_line (failure_text Failure.Memory)) }
-{
-    if let ReplayFault::Memory = fault {
-        return fail(faults, Failure::Memory);
-    }
-    match text_of(alloc, fault) {
-        Ok(text) => {
-            tell(faults, &text);
-            REFUSED
-        }
-        Err(_) => fail(faults, Failure::Memory),
-    }
-}
-
-/// A refusal in words.
-fn text_of(alloc: Global, fault: ReplayFault) -> Result<Vec<u8>, NoMem>
-    ensures { IfOk result (λ text. text.items ≡ replay_fault_text fault) }
-{
-    match fault {
-        ReplayFault::OfText(fault) => text_word(alloc, fault),
-        ReplayFault::BadLine(number) => Ok(format!(in alloc; "BadLine {number}")?.into_bytes()),
-        ReplayFault::Memory => Vec::from_slice(alloc, b"Memory"),
     }
 }

@@ -8,7 +8,7 @@ ghost use Rattle.rc_args.specs.SessionAsked.{session_ask_of};
 
 use crate::sessions::keeping::LiveFile;
 use log::{LevelFilter, Logged};
-use rc_args::{Once, SessionRequest};
+use rc_args::{Once, SessionRequest, Verbosity};
 use rc_script::SessionLine;
 use rc_serve::KeepFault;
 use rc_streams::messages::Messages;
@@ -20,7 +20,7 @@ pub fn moves(once: Option<&Once>) -> bool
     ensures { IsTrue result ↔ Moves (option_map (λ one. once_saying_of one.now) once.entry) }
 {
     match once {
-        Some(Once::Line(SessionLine::Step(_))) => true,
+        Some(Once::Line(SessionLine::Command(_))) => true,
         Some(_) => false,
         None => true,
     }
@@ -47,27 +47,23 @@ pub fn keep_fault(error: &io::Error) -> KeepFault {
     KeepFault::Io
 }
 
-/// The log of a session: messages on standard error, for each transition where that is asked, and
-/// where one line is served alone for each that does not succeed, unless it is to be quiet.
+/// The log of a session: messages on standard error, of the transitions that it reports.
 pub fn log_for<'h>(
     host: &'h HostRuntime,
     request: &SessionRequest<'_>,
-    alone: bool,
 ) -> Logged<&'h HostRuntime, Messages<&'h HostRuntime>>
-    ensures { max_level result ≡ level_by (session_ask_of request.now).tells alone
-        (session_ask_of request.now).quiet }
+    ensures { max_level result ≡ level_by (session_ask_of request.now).verbosity }
 {
-    let level = level_of(request.tells, alone, request.quiet);
-    Logged::new(host, level, Messages(host))
+    Logged::new(host, level_of(request.verbosity), Messages(host))
 }
 
 // Up to which level messages are written.
-fn level_of(tells: bool, alone: bool, quiet: bool) -> LevelFilter
-    ensures { result ≡ level_by tells alone quiet }
+fn level_of(verbosity: Verbosity) -> LevelFilter
+    ensures { result ≡ level_by verbosity }
 {
-    match (tells, alone, quiet) {
-        (true, _, _) => LevelFilter::Info,
-        (false, true, false) => LevelFilter::Warn,
-        (false, true, true) | (false, false, _) => LevelFilter::Off,
+    match verbosity {
+        Verbosity::Quiet => LevelFilter::Off,
+        Verbosity::Failures => LevelFilter::Warn,
+        Verbosity::Transitions => LevelFilter::Info,
     }
 }

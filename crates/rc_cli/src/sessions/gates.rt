@@ -3,31 +3,31 @@ ghost use Rattle.std.specs.Prelude.{◌≡◌, option_map, IfErr, IfOk};
 ghost use Rattle.rc_runner.specs.Shell.{scripts_of};
 ghost use Rattle.rc_args.specs.Making.{making_ask_of};
 ghost use Rattle.rc_args.specs.Programs.{controller_in, runner_in};
-ghost use Rattle.rc_cli.specs.Gating.{IsGateFor, IsGateless, IsOnFiles};
+ghost use Rattle.rc_cli.specs.Gating.{IsGateFor, IsGateless, IsOnFiles, shows_writes};
 
 use crate::sessions::failing::gate_of;
 use crate::sessions::host::Host;
 use crate::sessions::session_fault::SessionFault;
 use log::Log;
-use rc_args::{Making, Programs};
+use rc_args::{Making, Programs, Verbosity};
 use rc_db::{Db, NoMem};
 use rc_runner::{SessionGate, ShellGate, Telling};
 use rc_serve::ServeFault;
 
-/// The gate that makes the transitions of a database as it is asked. Programs are started by
-/// `host`. Where it is to tell what it does, it does so there.
+/// The gate that makes the transitions of a database as it is asked. `host` starts its programs.
+/// Where each transition is reported, what they write is shown.
 pub fn gate_for<'h, 'a, T, L: Log + Sync>(
     host: &Host<'h, T, L>,
     db: &Db,
     making: &Making<'a>,
-    tells: bool,
+    verbosity: Verbosity,
 ) -> Result<Telling<'h, L, SessionGate<'h, HostRuntime, L>>, SessionFault<'a>>
     ensures made { IfOk result (λ gate. IsGateFor db.now (making_ask_of making.now) gate) }
     ensures files { IfOk result
-        (IsOnFiles tells (option_map (λ files. files.now) host.now.run_files)) }
+        (IsOnFiles verbosity (option_map (λ files. files.now) host.now.run_files)) }
     ensures fault { IfErr result (IsGateless db.now (making_ask_of making.now)) }
 {
-    let gate = match quiet_gate(host, db, making, tells) {
+    let gate = match quiet_gate(host, db, making, verbosity) {
         Ok(gate) => gate,
         Err(fault) => return Err(fault),
     };
@@ -42,11 +42,11 @@ fn quiet_gate<'h, 'a, T, L: Log + Sync>(
     host: &Host<'h, T, L>,
     db: &Db,
     making: &Making<'a>,
-    tells: bool,
+    verbosity: Verbosity,
 ) -> Result<SessionGate<'h, HostRuntime, L>, SessionFault<'a>>
     ensures made { IfOk result (λ gate. IsGateFor db.now (making_ask_of making.now) gate) }
     ensures files { IfOk result
-        (IsOnFiles tells (option_map (λ files. files.now) host.now.run_files)) }
+        (IsOnFiles verbosity (option_map (λ files. files.now) host.now.run_files)) }
     ensures fault { IfErr result (IsGateless db.now (making_ask_of making.now)) }
 {
     match making {
@@ -54,7 +54,7 @@ fn quiet_gate<'h, 'a, T, L: Log + Sync>(
             Ok(gate) => Ok(SessionGate::Table(gate)),
             Err(fault) => Err(SessionFault::from(fault)),
         },
-        Making::Programs(programs) => match shell_gate(host, db, programs, tells) {
+        Making::Programs(programs) => match shell_gate(host, db, programs, verbosity) {
             Ok(gate) => Ok(SessionGate::Shell(gate)),
             Err(_) => Err(SessionFault::Failed(ServeFault::Memory)),
         },
@@ -67,13 +67,13 @@ fn shell_gate<'h, T, L: Log + Sync>(
     host: &Host<'h, T, L>,
     db: &Db,
     programs: &Programs<'_>,
-    tells: bool,
+    verbosity: Verbosity,
 ) -> Result<ShellGate<'h, HostRuntime, L>, NoMem>
     ensures scripts { IfOk result (λ gate. gate.scripts ≡ scripts_of db.now
         (runner_in (option_map (λ text. text.now) programs.now.runner))
         (controller_in (option_map (λ text. text.now) programs.now.controller))
         programs.now.limit) }
-    ensures shows { IfOk result (λ gate. gate.shows ≡ tells) }
+    ensures shows { IfOk result (λ gate. gate.shows ≡ shows_writes verbosity) }
     ensures log { IfOk result (λ gate. gate.log
         ≡ option_map (λ files. files.now.log) host.now.run_files) }
     ensures stop { IfOk result (λ gate. gate.stop
@@ -81,19 +81,12 @@ fn shell_gate<'h, T, L: Log + Sync>(
 {
     let runner = programs.runner_words(host.alloc)?;
     let controller = programs.controller_words(host.alloc)?;
-    let gate = ShellGate::new(
-        host.runtime,
-        host.log,
-        host.alloc,
-        db,
-        &runner,
-        &controller,
-        programs.limit,
-    )?;
-    let gate = if tells {
-        gate.with_errors(host.runtime.stderr())
-    } else {
-        gate
+    let gate = ShellGate::new(host.runtime, host.alloc, db, &runner, &controller)?
+        .with_limit(programs.limit)
+        .with_log(host.log);
+    let gate = match verbosity {
+        Verbosity::Transitions => gate.with_errors(host.runtime.stderr()),
+        Verbosity::Failures | Verbosity::Quiet => gate,
     };
     match host.run_files {
         Some(files) => gate

@@ -7,7 +7,7 @@ ghost use Rattle.rc_dbtext.specs.Base.{Spells, bytes_of};
 ghost use Rattle.rc_args.specs.SessionAsked.{session_ask_of};
 ghost use Rattle.rc_cli.specs.Filing.{CannotKeep};
 ghost use Rattle.rc_cli.specs.Launching.{Launches};
-ghost use Rattle.rc_cli.specs.Services.{IsEventless, OfLines};
+ghost use Rattle.rc_cli.specs.Services.{OfLines};
 ghost use Rattle.rc_cli.specs.Session.{asked_of, asked_with, dealt};
 ghost use Rattle.rc_cli.specs.SessionFaults.{ComesOn, EndsAs, IsEndTold, IsUnspelled};
 ghost use Rattle.rc_cli.specs.SessionFaults.{reading_fault, serve_word, status_of};
@@ -53,7 +53,6 @@ pub fn launch<T: Threads + Wait + Sync, R: Read, W: Write, F: Write, S: Store, L
     live: LiveFile<'_>,
     devices: &mut Devices<R, W, F, S>,
 ) -> u8
-    requires eventless { IsEventless service }
     requires reader { HasFailed devices.old.reader → ⊥ }
     requires writer { HasFailed devices.old.outputs.writer → ⊥ }
     ensures ended { Launches service.entry
@@ -140,7 +139,6 @@ fn launch_on<T: Threads + Wait + Sync, R: Read, W: Write, F: Write, S: Store, L:
     outputs: &mut Outputs<W, S>,
     faults: &mut F,
 ) -> u8
-    requires eventless { IsEventless launch.service }
     requires reader { HasFailed reader.old → ⊥ }
     requires writer { HasFailed outputs.old.writer → ⊥ }
     ensures ended { EndsAs (λ ended. ComesOn ended launch.entry.service (asked_of launch.entry) db
@@ -156,7 +154,7 @@ fn launch_on<T: Threads + Wait + Sync, R: Read, W: Write, F: Write, S: Store, L:
         (R.remaining (inner_of reader.new)) (MAX_INPUT + 1) }
 {
     let request = launch.request;
-    let gate = match gate_for(host, &db, &request.making, request.tells) {
+    let gate = match gate_for(host, &db, &request.making, request.verbosity) {
         Ok(gate) => gate,
         Err(fault) => {
             drop(db);

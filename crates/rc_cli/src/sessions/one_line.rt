@@ -5,7 +5,7 @@ ghost use Rattle.rc_script.specs.Says.{saying_of};
 ghost use Rattle.rc_serve.specs.Ending.{IsDoneAs};
 ghost use Rattle.rc_serve.specs.Faults.{IsServeFault};
 ghost use Rattle.rc_serve.specs.Serving.{Stays};
-ghost use Rattle.rc_args.specs.OnceAsked.{HasNoEvents, Said, once_saying_of};
+ghost use Rattle.rc_args.specs.OnceAsked.{Said, once_saying_of};
 ghost use Rattle.rc_args.specs.SessionAsked.{session_ask_of};
 ghost use Rattle.rc_cli.specs.Once.{IsCommand, ServedOnce};
 ghost use Rattle.rc_cli.specs.Storing.{store_of};
@@ -14,7 +14,7 @@ use crate::sessions::host::Host;
 use crate::sessions::keeping::Store;
 use crate::sessions::service::Outputs;
 use rc_args::{Once, SessionRequest};
-use rc_board::Gate;
+use rc_board::{Executor, Gate};
 use rc_script::SessionLine;
 use rc_serve::{Ending, Keeper, ServeFault, Unkept, answer_once, show_redo, show_undo};
 use rc_session::Session;
@@ -34,7 +34,6 @@ pub(crate) fn serve_once<T: Threads + Wait + Sync, W: Write, G: Gate, S: Store, 
 ) -> Result<Ending, ServeFault>
     requires closed { session.old.begun ≡ false }
     requires whole { session.old.spoiled ≡ false }
-    requires eventless { HasNoEvents (once_saying_of once.now) }
     requires writer { HasFailed outputs.old.writer → ⊥ }
     ensures served { ServedOnce result (session_ask_of request.now).live
         (S.holds (store_of outputs.old.keeper)) (S.holds (store_of outputs.new.keeper))
@@ -64,7 +63,6 @@ pub fn line_once<T: Threads + Wait + Sync, W: Write, G: Gate, S: Store, L>(
 ) -> Result<Ending, ServeFault>
     requires closed { session.old.begun ≡ false }
     requires whole { session.old.spoiled ≡ false }
-    requires eventless { HasNoEvents (Said (saying_of said.now)) }
     requires writer { HasFailed outputs.old.writer → ⊥ }
     ensures served { ServedOnce result (session_ask_of request.now).live
         (S.holds (store_of outputs.old.keeper)) (S.holds (store_of outputs.new.keeper))
@@ -78,31 +76,25 @@ pub fn line_once<T: Threads + Wait + Sync, W: Write, G: Gate, S: Store, L>(
     ensures stays { Stays session.old session.new }
     ensures whole { OnOk result (session.new.spoiled ≡ false) }
 {
+    let executor = Executor {
+        rt: host.threads,
+        alloc: host.alloc,
+        gate,
+        workers: request.workers,
+    };
     if is_kept(request, said) {
         return match outputs.keeper.keep(host.alloc, session) {
             Ok(()) => answer_once(
-                host.threads,
-                host.alloc,
+                &executor,
                 session,
                 &mut outputs.keeper,
-                gate,
-                request.workers,
                 said,
                 &mut outputs.writer,
             ),
             Err(fault) => Err(ServeFault::from(fault)),
         };
     }
-    answer_once(
-        host.threads,
-        host.alloc,
-        session,
-        &mut Unkept,
-        gate,
-        request.workers,
-        said,
-        &mut outputs.writer,
-    )
+    answer_once(&executor, session, &mut Unkept, said, &mut outputs.writer)
 }
 
 // Whether what is said is kept: it is a command, and a file is named.
@@ -112,5 +104,5 @@ fn is_kept(request: &SessionRequest<'_>, said: &SessionLine) -> bool
     ensures alone { (IsTrue result → ⊥) → ((session_ask_of request.now).live ≡ None)
         ⊎ (IsCommand (saying_of said.now) → ⊥) }
 {
-    matches!(said, SessionLine::Step(_)) && request.live.is_some()
+    matches!(said, SessionLine::Command(_)) && request.live.is_some()
 }

@@ -5,7 +5,7 @@ ghost use Rattle.rc_serve.specs.Ending.{IsDoneAs};
 ghost use Rattle.rc_serve.specs.Faults.{IsServeFault};
 ghost use Rattle.rc_streams.specs.Noting.{HasFailed, inner_of};
 ghost use Rattle.rc_script.specs.Says.{saying_of};
-ghost use Rattle.rc_args.specs.OnceAsked.{HasNoEvents, Said};
+ghost use Rattle.rc_args.specs.OnceAsked.{Said};
 ghost use Rattle.rc_args.specs.SessionAsked.{session_ask_of};
 ghost use Rattle.rc_cli.specs.Restarting.{RaisesAgain, Restarted, WentDown, ending_with};
 ghost use Rattle.rc_cli.specs.Steps.{lowering};
@@ -66,7 +66,7 @@ pub(crate) fn restart_in<T: Threads + Wait + Sync, W: Write, G: Gate, S: Store, 
         drop(before);
         return Err(ServeFault::Memory);
     };
-    let line = step_line(host.alloc, false, Mode::DownAll, names);
+    let line = step_line(false, Mode::DownAll, names);
     let first = First { before, line };
     let ended = serve_steps(host, request, session, gate, &first, outputs);
     drop(first);
@@ -85,7 +85,6 @@ fn serve_steps<T: Threads + Wait + Sync, W: Write, G: Gate, S: Store, L>(
     requires closed { session.old.begun ≡ false }
     requires whole { session.old.spoiled ≡ false }
     requires before { first.now.before ≡ session.old.line.current.live }
-    requires eventless { HasNoEvents (Said (saying_of first.now.line)) }
     requires writer { HasFailed outputs.old.writer → ⊥ }
     ensures served { Restarted result (session_ask_of request.now).live
         (S.holds (store_of outputs.old.keeper)) (S.holds (store_of outputs.new.keeper))
@@ -132,7 +131,7 @@ fn raise_again<T: Threads + Wait + Sync, W: Write, G: Gate, S: Store, L>(
     let Ok(down) = went_down(host.alloc, session, before) else {
         return Err(ServeFault::Memory);
     };
-    let raising = step_line(host.alloc, false, Mode::Up, down);
+    let raising = step_line(false, Mode::Up, down);
     let raised = line_once(host, request, session, gate, &raising, outputs);
     drop(raising);
     raised

@@ -8,7 +8,7 @@ ghost use Rattle.rc_serve.specs.Ending.{IsDoneAs};
 ghost use Rattle.rc_serve.specs.Faults.{IsServeFault};
 ghost use Rattle.rc_args.specs.SessionAsked.{session_ask_of};
 ghost use Rattle.rc_cli.specs.Serving.{as_done};
-ghost use Rattle.rc_cli.specs.Services.{ComesFor, IsEventless, Lets, OfLines, done_by};
+ghost use Rattle.rc_cli.specs.Services.{ComesFor, Lets, OfLines, done_by};
 ghost use Rattle.rc_cli.specs.Storing.{store_of};
 
 use crate::sessions::host::Host;
@@ -17,7 +17,7 @@ use crate::sessions::one_line::serve_once;
 use crate::sessions::restarting::restart_in;
 use crate::sessions::service::{Launch, Outputs, Service};
 use rc_board::Gate;
-use rc_serve::{Ending, Keeper, ServeFault, Unkept, serve};
+use rc_serve::{Ending, Keeper, ServeFault, serve, serve_kept};
 use rc_session::Session;
 use rc_streams::{MAX_INPUT, Noted};
 use std::io::{Read, Write};
@@ -34,7 +34,6 @@ pub(crate) fn serve_service<T: Threads + Wait + Sync, R: Read, W: Write, G: Gate
     reader: &mut Noted<R>,
     outputs: &mut Outputs<W, S>,
 ) -> Result<Ending, ServeFault>
-    requires eventless { IsEventless launch.service }
     requires closed { session.old.begun ≡ false }
     requires whole { session.old.spoiled ≡ false }
     requires reader { HasFailed reader.old → ⊥ }
@@ -65,12 +64,11 @@ pub(crate) fn serve_service<T: Threads + Wait + Sync, R: Read, W: Write, G: Gate
                 reader,
                 &mut outputs.writer,
                 session,
-                &mut Unkept,
                 gate,
                 request.workers,
             )),
             Some(_) => match outputs.keeper.keep(host.alloc, session) {
-                Ok(()) => as_done(serve(
+                Ok(()) => as_done(serve_kept(
                     host.threads,
                     host.alloc,
                     reader,

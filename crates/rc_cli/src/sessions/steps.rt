@@ -5,20 +5,20 @@ ghost use Rattle.rc_cli.specs.Steps.{step_ask, step_by};
 
 use rc_script::SessionLine;
 use rc_select::{Mode, Request};
-use rc_session::Step;
+use rc_session::Command;
 use rc_set::NoMem;
 use std::alloc::Global;
 
 /// The line of a step: the change of these names or, where it is only shown, its plan. It has the
 /// greatest limit that there is, so that it can be called off.
-pub fn step_line(alloc: Global, dry: bool, mode: Mode, names: Vec<String>) -> SessionLine
+pub fn step_line(dry: bool, mode: Mode, names: Vec<String>) -> SessionLine
     ensures says { saying_of result ≡ step_by dry (step_ask mode (map string_bytes names.items)) }
 {
     let request = Request::plain(mode, names, u32::MAX);
     if dry {
         return SessionLine::Dry(request);
     }
-    SessionLine::Step(Step::Change(request, Vec::new(alloc)))
+    SessionLine::Command(Command::Change(request))
 }
 
 /// A copy of names.

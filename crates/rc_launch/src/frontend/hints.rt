@@ -4,7 +4,7 @@ use crate::frontend::databases::{behind_end, database_hint, lacking_hint, live_h
 use crate::frontend::fault_lines::Told;
 use log::{error, info};
 use rc_args::{CompileRequest, DbRequest, Query};
-use rc_cli::queries::{db_as_asked, query_hint};
+use rc_cli::queries::{self, query_hint, run_query};
 use rc_compile::command::diagnostics::{
     Hint, Sources, compile_hint, looks_like_entry, unread_files, word_of,
 };
@@ -13,6 +13,7 @@ use rc_streams::Noted;
 use rc_streams::ending::FAILED;
 use rc_streams::messages::{HINT, MESSAGE, Messages};
 use std::alloc::AllocError;
+use std::fmt::{self, Display, Formatter};
 use std::io::{self, ErrorKind, Stderr};
 
 /// A fault writer that keeps what was told.
@@ -64,11 +65,10 @@ impl<'a> Seen<'a> {
 
 /// The status of `db check` on a database.
 fn checked(rt: &HostRuntime, base: Option<&[u8]>, input: &[u8]) -> u8 {
-    db_as_asked(
+    run_query(
         rt.alloc(),
-        &DbRequest::of(Query::Check),
+        &queries::Query::Db(&DbRequest::of(Query::Check), None),
         base,
-        None,
         &mut Noted::new(input),
         &mut Noted::new(io::sink()),
         &mut io::sink(),
@@ -127,9 +127,22 @@ pub fn behind_session(
     behind_database(rt, seen, told);
 }
 
+/// Why a file was not opened, read or written: a word of the program's own, or the system's.
+#[derive(Clone, Copy)]
+struct Reason<'e>(&'e io::Error);
+
+impl Display for Reason<'_> {
+    fn fmt<W: fmt::Write>(&self, f: &mut Formatter<W>) -> fmt::Result {
+        match word_of(self.0.kind()) {
+            Some(word) => f.write_str(word),
+            None => self.0.fmt(f),
+        }
+    }
+}
+
 /// What helps where the file of `-l` could not be written.
 fn unwritten_hint(rt: &HostRuntime, path: &str, error: &io::Error) -> Hint {
-    let what = word_of(error.kind());
+    let what = Reason(error);
     Ok(Some(format!(in rt.alloc(); "{path} can't be replaced by {path}.new: {what}")?))
 }
 
@@ -145,7 +158,7 @@ fn behind_live(
     let (word, rest) = fault;
     match text {
         Err(error) if word == "Io" => {
-            let what = word_of(error.kind());
+            let what = Reason(error);
             Ok(Some(format!(in rt.alloc(); "{path}: {what}")?))
         }
         Ok(Some(bytes)) if word != "Io" => match seen.is_good(rt) {
@@ -181,8 +194,8 @@ pub fn tell_file(rt: &HostRuntime, path: &str, error: &io::Error) -> u8 {
         return tell_failure(rt, "Memory");
     }
     let status = tell_failure(rt, "Io");
-    let word = word_of(error.kind());
-    info!(Messages(rt); target: HINT, "{path}: {word}");
+    let reason = Reason(error);
+    info!(Messages(rt); target: HINT, "{path}: {reason}");
     status
 }
 

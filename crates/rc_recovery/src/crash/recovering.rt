@@ -55,6 +55,7 @@ pub fn recover_files<F: TwoFiles>(
     ensures unfit { IsErrOf result FilesFault.Log →
         IsUnfit db (F.holds files.old).file (F.holds files.old).log
         × (F.holds files.new ≡ F.holds files.old) }
+    ensures same { IsErrOf result FilesFault.Log → files.new ≡ files.old }
     ensures moment { IsCutRecovery db (F.holds files.old) (F.holds files.new) }
     ensures crash { (g : Files) → F.left files.new g → IsCutRecovery db (F.holds files.old) g }
     ensures io { IsErrOf result FilesFault.Io → F.failed files.new }

@@ -9,9 +9,9 @@ ghost use Rattle.rc_model.specs.Beside.{TargetOf};
 ghost use Rattle.rc_session.specs.Commands.{command_of};
 ghost use Rattle.rc_session.specs.Holding.{IsOfSession};
 
-use crate::growths::calls::{by_events, planned};
+use crate::growths::calls::{WRONG, by_events, planned};
 use crate::growths::told::go_on_to;
-use crate::samples::{ROOT, run_between, settles};
+use crate::samples::{ALL, DB, LOG, NET, ROOT, WEB, is_report, run_between, settles};
 use crate::steps::make;
 use rc_core::{Ended, Event, Outcome, Run, Standing};
 use rc_graph::Graph;
@@ -57,7 +57,7 @@ fn begun_by_name(alloc: Global, session: &mut Session, step: &Step) -> Result<Be
         Step::Change(request, _) => session.begin_change(alloc, request, 0),
         Step::Undo(limit, _) => session.begin_undo(alloc, *limit, 0),
         Step::Redo(limit, _) => session.begin_redo(alloc, *limit, 0),
-        _ => Err(Refusal::Strange),
+        _ => Err(WRONG),
     }
 }
 
@@ -71,7 +71,7 @@ fn refused(alloc: Global, session: &mut Session, step: &Step) -> Result<(), Refu
     if matches!(planned, Err(Refusal::Strange)) && matches!(made, Err(Refusal::Strange)) {
         Ok(())
     } else {
-        Err(Refusal::NotEdit)
+        Err(WRONG)
     }
 }
 
@@ -88,12 +88,30 @@ pub(crate) fn recovered(alloc: Global, session: &mut Session, step: &Step) -> Re
     ensures { session.new.begun ≡ false }
 {
     if !has_run(step) {
-        return Err(Refusal::Strange);
+        return Err(WRONG);
     }
     match recover(alloc, session, step) {
-        Ok(_) => Ok(()),
+        Ok(report) => {
+            let is_right = is_cut(&report);
+            drop(report);
+            if is_right { Ok(()) } else { Err(WRONG) }
+        }
         Err(refusal) => Err(refusal),
     }
+}
+
+/// Whether `root` was raised where nothing was live, the others were not tried, and the run was
+/// stopped.
+fn is_cut(report: &Report) -> bool {
+    report.opening.is_empty()
+        && report.raised.as_slice() == [ROOT].as_slice()
+        && report.lowered.is_empty()
+        && report.failed.is_empty()
+        && report.blocked.is_empty()
+        && report.untried.as_slice() == [DB, LOG, NET, WEB].as_slice()
+        && report.kept.is_empty()
+        && report.stopped
+        && report.trace.len() == 3
 }
 
 /// Completes the run of a step. Whether that moves all services.
@@ -107,16 +125,21 @@ pub(crate) fn all_moved(
 {
     match completed(rt, session, step, true) {
         Ok(report) => {
-            let moved = report.lowered.len().saturating_add(report.raised.len());
+            let is_right = moves_all(step, &report);
             drop(report);
-            if moved == 5 {
-                Ok(())
-            } else {
-                Err(Refusal::Strange)
-            }
+            if is_right { Ok(()) } else { Err(WRONG) }
         }
         Err(refusal) => Err(refusal),
     }
+}
+
+/// Whether a report is that of a step of which all services move, in whatever order.
+fn moves_all(step: &Step, report: &Report) -> bool {
+    let (opening, lowered, raised): (&[u16], &[u16], &[u16]) = match step {
+        Step::Undo(..) => (&ALL, &ALL, &[]),
+        _ => (&[], &[], &ALL),
+    };
+    report.trace.len() == 10 && is_report(report, opening, lowered, raised, &report.trace)
 }
 
 /// Begins the run of a step, runs it, and completes it, and names each further call or none.
@@ -130,7 +153,7 @@ pub fn completed(
     ensures { session.new.begun ≡ false }
 {
     if !has_run(step) {
-        return Err(Refusal::Strange);
+        return Err(WRONG);
     }
     let begun = session.begin(rt.alloc(), step, 0)?;
     match ended(

@@ -2,10 +2,11 @@
 
 ghost use Rattle.std.specs.Prelude.{◌≡◌, false};
 
+use crate::growths::asked::begins;
 use crate::growths::begun::{abandoned, all_moved, is_stopped, recovered};
 use crate::growths::lines::{is_of_states, is_stepped_on};
 use crate::growths::made::is_made;
-use crate::growths::queries::{is_answer, is_planned};
+use crate::growths::queries::{is_answer, is_fall_of_root, is_planned};
 use crate::growths::rows::How;
 use crate::growths::serving::{is_gate, is_locked, is_telling, served};
 use crate::growths::texts::is_text;
@@ -13,16 +14,18 @@ use crate::growths::told::came_of;
 use crate::growths::trees::{is_from_folder, is_from_memory};
 use crate::growths::values::is_value;
 use crate::growths::workers::{by_workers, within};
+use crate::samples::is_due;
 use rc_board::Fault;
-use rc_session::{Refusal, Session, Step};
+use rc_session::{Refusal, Report, Session, Step};
 use rc_set::NoMem;
 use std::alloc::{AllocGlobal, Global};
 use std::io::Print;
 use std::sync::Wait;
 use std::thread::Threads;
+use std::time::Clock;
 
-/// Makes a call on a session that has this text. A wrong answer is told as a strange one.
-pub(crate) fn made<R: Print + AllocGlobal + Threads + Wait + Sync>(
+/// Calls a session that has this text. A wrong answer is reported as strange.
+pub(crate) fn made<R: Print + AllocGlobal + Threads + Wait + Clock + Sync>(
     rt: &R,
     host: &HostRuntime,
     session: &mut Session,
@@ -37,7 +40,7 @@ pub(crate) fn made<R: Print + AllocGlobal + Threads + Wait + Sync>(
         How::Workers(workers) => by_workers(rt, session, workers, steps.first()),
         How::Within => within(rt, session, steps.first()),
         How::Serve(serving) => served(rt, session, serving),
-        How::Of(_) | How::Text(..) | How::Stop | How::States | How::StepOn => {
+        How::Of(_) | How::Text(..) | How::Stop | How::States | How::StepOn | How::Begins => {
             came_of(is_right(host, session, how, text))
         }
         How::Make(_) | How::Memory | How::Folder | How::Lock => {
@@ -67,6 +70,7 @@ fn is_right(
         How::Text(text, due) => is_text(rt.alloc(), session, text, due),
         How::Stop => is_stopped(rt, session.db().graph()),
         How::States => is_of_states(rt, session.db().table(), session.table()),
+        How::Begins => begins(rt, session.db(), text),
         _ => is_stepped_on(rt, session.journal(), session.table()),
     }
 }
@@ -81,19 +85,19 @@ fn is_own(rt: &HostRuntime, session: &Session, how: How) -> Result<bool, NoMem> 
     }
 }
 
+/// What stands for a wrong answer: no call here is refused for it.
+pub(crate) const WRONG: Refusal = Refusal::Full;
+
 /// A call by the first of these steps, or by all.
 fn played(rt: &HostRuntime, session: &mut Session, how: How, steps: &[Step]) -> Result<(), Refusal>
     requires { session.old.begun ≡ false }
     ensures { session.new.begun ≡ false }
 {
     let Some(step) = steps.first() else {
-        return Err(Refusal::Strange);
+        return Err(WRONG);
     };
     match how {
-        How::Play => match session.play(rt.alloc(), steps) {
-            Ok(_) => Ok(()),
-            Err(_) => Err(Refusal::Memory),
-        },
+        How::Play => played_all(rt.alloc(), session, steps),
         How::Complete => all_moved(rt, session, step),
         How::Abandon => abandoned(rt, session, step, false),
         How::Spoil => abandoned(rt, session, step, true),
@@ -101,10 +105,36 @@ fn played(rt: &HostRuntime, session: &mut Session, how: How, steps: &[Step]) -> 
         How::Recover => recovered(rt.alloc(), session, step),
         How::Edit => edited(rt.alloc(), session, step),
         How::Dry => planned(rt.alloc(), session, step),
-        _ => Err(Refusal::Strange),
+        _ => Err(WRONG),
     }
 }
 
+/// Plays steps, each of which moves all services or is an edit. Whether the answers say so.
+fn played_all(alloc: Global, session: &mut Session, steps: &[Step]) -> Result<(), Refusal>
+    requires { session.old.begun ≡ false }
+    ensures { session.new.begun ≡ false }
+{
+    match session.play(alloc, steps) {
+        Ok(played) => {
+            let is_right = are_due(steps, &played.answers);
+            drop(played);
+            if is_right { Ok(()) } else { Err(WRONG) }
+        }
+        Err(_) => Err(Refusal::Memory),
+    }
+}
+
+fn are_due(steps: &[Step], answers: &[Result<Report, Refusal>]) -> bool {
+    for (step, answer) in steps.iter().zip(answers) {
+        match answer {
+            Ok(report) if is_due(step, report) => {}
+            _ => return false,
+        }
+    }
+    steps.len() == answers.len()
+}
+
+/// Calls what carries out a step of this kind. A wrong answer is reported as strange.
 pub(crate) fn by_events(alloc: Global, session: &mut Session, step: &Step) -> Result<(), Refusal>
     requires { session.old.begun ≡ false }
     ensures { session.new.begun ≡ false }
@@ -119,7 +149,11 @@ pub(crate) fn by_events(alloc: Global, session: &mut Session, step: &Step) -> Re
         Step::Delete(names, force) => return session.bundle_delete(alloc, names, *force),
     };
     match answer {
-        Ok(_) => Ok(()),
+        Ok(report) => {
+            let is_right = is_due(step, &report);
+            drop(report);
+            if is_right { Ok(()) } else { Err(WRONG) }
+        }
         Err(refusal) => Err(refusal),
     }
 }
@@ -131,7 +165,7 @@ fn edited(alloc: Global, session: &mut Session, step: &Step) -> Result<(), Refus
     match step {
         Step::Undo(..) => session.undo_edit(alloc),
         Step::Redo(..) => session.redo_edit(alloc),
-        _ => Err(Refusal::Strange),
+        _ => Err(WRONG),
     }
 }
 
@@ -154,12 +188,17 @@ fn is_asked(
     }
 }
 
+/// A plan alone. Whether it is the one by which `root` would go down where all are up.
 pub(crate) fn planned(alloc: Global, session: &Session, step: &Step) -> Result<(), Refusal> {
     let Step::Change(request, _) = step else {
-        return Err(Refusal::Strange);
+        return Err(WRONG);
     };
     match session.dry(alloc, request) {
-        Ok(_) => Ok(()),
+        Ok(plan) => {
+            let is_right = is_fall_of_root(&plan);
+            drop(plan);
+            if is_right { Ok(()) } else { Err(WRONG) }
+        }
         Err(refusal) => Err(refusal),
     }
 }

@@ -1,17 +1,13 @@
-//! Calls on lines.
+//! Lines that are made of states, and steps along a line.
 
 ghost use Rattle.std.specs.Prelude.{◌≡◌, false, length, IfOk};
-ghost use Rattle.rc_model.specs.Database.{Bundles};
-ghost use Rattle.rc_line.specs.Opening.{IsEditFrom};
 
-use crate::growths::told::{fault_of, go_on_to, show_came, show_line, show_same};
-use crate::samples::{LOG, ROOT, set_of};
-use rc_bundle::Edit;
+use crate::growths::told::go_on_to;
+use crate::samples::{LOG, ROOT, holds, set_of};
 use rc_db::Table;
 use rc_line::Line;
 use rc_set::{NoMem, Set};
-use std::alloc::{AllocError, AllocGlobal, Global};
-use std::io;
+use std::alloc::{AllocGlobal, Global};
 use std::io::Print;
 
 /// Whether the line of two states has them, and stands on the second.
@@ -59,9 +55,51 @@ fn of_two(
     let held = vec![in rt.alloc(); first, second]?;
     go_on_to(rt, "Line::from_states");
     match Line::from_states(rt.alloc(), held, 1, 3) {
-        Ok(line) => Ok(line.states() == 2 && line.cursor() == 1),
+        Ok(line) => Ok(is_line_of_two(&line) && is_fresh_by_last(rt, &line)?),
         Err(short) => Err(short),
     }
+}
+
+/// Whether a line of at most three states stands on its second, in which two services are live that
+/// were raised, and which has a bundle more.
+fn is_line_of_two(line: &Line) -> bool
+    requires { line.now.is_open ≡ false }
+{
+    if line.states() != 2 || line.cursor() != 1 || line.bound() != 3 {
+        return false;
+    }
+    let entry = line.entry(0);
+    let is_raised = entry.raised() == [LOG, ROOT].as_slice() && entry.lowered().is_empty();
+    is_raised && entry.edit().len() == 1 && holds(line.live(), &[LOG, ROOT])
+}
+
+/// Whether lines that begin with the last state of a line stand on it alone.
+fn is_fresh_by_last(rt: &(impl Print + AllocGlobal), line: &Line) -> Result<bool, NoMem>
+    requires { line.now.is_open ≡ false }
+{
+    if line.states() == 0 {
+        return Ok(false);
+    }
+    let place = line.states() - 1;
+    go_on_to(rt, "Line::state");
+    let (live, table) = line.state(rt.alloc(), place)?;
+    let (again, bundles) = line.state(rt.alloc(), place)?;
+    go_on_to(rt, "Line::new and with_bound");
+    let usual = Line::new(rt.alloc(), live, table);
+    let bounded = Line::with_bound(rt.alloc(), again, bundles, 3);
+    let is_right = is_fresh(&usual, line, 1024) && is_fresh(&bounded, line, 3);
+    drop((usual, bounded));
+    Ok(is_right)
+}
+
+/// Whether a line has the current state of another alone.
+fn is_fresh(line: &Line, other: &Line, bound: u32) -> bool {
+    line.states() == 1
+        && line.cursor() == 0
+        && line.bound() == bound
+        && !line.is_open()
+        && holds(line.live(), &[LOG, ROOT])
+        && line.table().same(other.table())
 }
 
 /// Whether a step on from the state before the last leads to the table of the last.
@@ -85,116 +123,4 @@ pub fn is_stepped_on(
         Ok(()) => Ok(is_same),
         Err(short) => Err(short),
     }
-}
-
-/// An edit of a copy of a line that removes all bundles, and whether that is the line as it was.
-pub fn show_edit(rt: &(impl Print + AllocGlobal), line: &Line, what: &str) -> io::Result<()>
-    requires { line.now.is_open ≡ false }
-{
-    let mut copied = line.copy(rt.alloc())?;
-    let shown = show_on(rt, &mut copied, line, what);
-    drop(copied);
-    shown
-}
-
-fn show_on(
-    rt: &(impl Print + AllocGlobal),
-    copied: &mut Line,
-    line: &Line,
-    what: &str,
-) -> io::Result<()>
-    requires copied { copied.old.is_open ≡ false }
-    requires line { line.now.is_open ≡ false }
-{
-    let edit = edit_to_none(rt.alloc(), copied)?;
-    let _ = print!(rt; "{what}: ");
-    let came = entered(rt, copied, edit);
-    show_came(rt, fault_of(came))?;
-    if copied.is_open() {
-        return show_line(rt, "left open");
-    }
-    let is_same = is_same_line(rt.alloc(), copied, line)?;
-    show_same(rt, is_same)
-}
-
-/// The edit that removes all bundles of a line.
-fn edit_to_none(alloc: Global, line: &Line) -> Result<Edit, NoMem>
-    requires { line.now.is_open ≡ false }
-    ensures { IfOk result (λ edit. (table : Bundles) × IsEditFrom line.now.line edit table) }
-{
-    let none = Table::new(alloc);
-    let _bundles = none.len();
-    let edit = Edit::between(alloc, line.table(), &none);
-    drop(none);
-    edit
-}
-
-fn entered(rt: &(impl Print + AllocGlobal), line: &mut Line, edit: Edit) -> Result<(), NoMem>
-    requires closed { line.old.is_open ≡ false }
-    requires made { (table : Bundles) × IsEditFrom line.old.line edit table }
-{
-    match line.open_edit(rt.alloc(), &edit) {
-        Ok(opening) => {
-            go_on_to(rt, "close_edit");
-            line.close_edit(opening, edit);
-            Ok(())
-        }
-        Err(_) => Err(AllocError),
-    }
-}
-
-/// Whether two lines have the same states, and stand on the same one.
-fn is_same_line(alloc: Global, one: &Line, other: &Line) -> Result<bool, NoMem>
-    requires one { one.now.is_open ≡ false }
-    requires other { other.now.is_open ≡ false }
-{
-    if one.states() != other.states() || one.cursor() != other.cursor() {
-        return Ok(false);
-    }
-    for place in 0..one.states() {
-        if !is_same_at(alloc, one, other, place)? {
-            return Ok(false);
-        }
-    }
-    Ok(true)
-}
-
-fn is_same_at(alloc: Global, one: &Line, other: &Line, place: usize) -> Result<bool, NoMem>
-    requires one { one.now.is_open ≡ false }
-    requires other { other.now.is_open ≡ false }
-{
-    if place >= one.states() {
-        return Ok(false);
-    }
-    let state = one.state(alloc, place)?;
-    is_state_at(alloc, other, place, &state)
-}
-
-fn is_state_at(
-    alloc: Global,
-    line: &Line,
-    place: usize,
-    state: &(Set, Table),
-) -> Result<bool, NoMem>
-    requires { line.now.is_open ≡ false }
-{
-    if place >= line.states() {
-        return Ok(false);
-    }
-    let found = line.state(alloc, place)?;
-    Ok(is_same_state(&found, state))
-}
-
-fn is_same_state(one: &(Set, Table), other: &(Set, Table)) -> bool {
-    one.0.bound() == other.0.bound() && one.0.same(&other.0) && one.1.same(&other.1)
-}
-
-/// Whether two lines have as many states, and stand on the same one.
-pub fn is_alike(one: &Line, other: &Line) -> bool {
-    one.states() == other.states()
-        && one.cursor() == other.cursor()
-        && one.bound() == other.bound()
-        && one.live().bound() == other.live().bound()
-        && one.live().same(other.live())
-        && one.table().same(other.table())
 }

@@ -1,5 +1,5 @@
-//! Values that calls make one after the other: a graph of a draft, a database of its text, lines of
-//! an input, names of a line, and the end of a run.
+//! Values that calls make one after the other: a graph of a draft, a database of its text, an input
+//! and its lines, names of a line, and the end of a run.
 
 ghost use Rattle.std.specs.Prelude.{◌≡◌, length};
 
@@ -10,23 +10,19 @@ use rc_db::Db;
 use rc_dbtext::lexer::{NameWord, ascend, names_of};
 use rc_dbtext::syntax::{FormFault, read_form};
 use rc_dbtext::{
-    TextFault, known_set, push_bundle, push_line, push_set, push_word, read_db, read_db_front,
-    write_db,
+    OpenFault, TextFault, database_of, known_set, open, read_db, read_db_front, write_db,
 };
 use rc_graph::{Draft, Graph, GraphFault};
-use rc_names::{Name, Names};
+use rc_names::Names;
 use rc_recovery::{with_ends, with_stop};
 use rc_script::{texts_of, words_of};
-use rc_set::{NoMem, Set};
+use rc_set::NoMem;
 use rc_streams::{Failure, Lines, Noted, read_all};
 use std::alloc::{AllocError, AllocGlobal, Global};
 use std::io::Print;
 
 /// An input of two lines, the first of which has two names.
 const INPUT: &[u8] = b"db log\nnet";
-
-/// A bundle as a line of the text of a database, and lines that are in none.
-const LINES: &[u8] = b"bundle site web\n web and its consumersservices of the whole sample 5\n";
 
 /// Two transitions that are under way.
 const TAKEN: [Event; 2] = [Event::Take(1, NET), Event::Take(2, LOG)];
@@ -54,8 +50,6 @@ pub enum Made {
     Names,
     /// The words of a line, and their texts.
     Words,
-    /// Lines of a text.
-    Lines,
     /// The ends of transitions that were under way, and a stop after them.
     Ends,
 }
@@ -69,7 +63,6 @@ pub fn is_made(rt: &(impl Print + AllocGlobal), db: &Db, made: Made) -> Result<b
         Made::Input => is_input(rt),
         Made::Names => are_names(rt, db),
         Made::Words => are_words(rt.alloc()),
-        Made::Lines => are_lines(rt, db),
         Made::Ends => are_ends(rt),
     }
 }
@@ -133,7 +126,34 @@ fn is_text_of(rt: &(impl Print + AllocGlobal), text: &mut Vec<u8>, db: &Db) -> R
     let is_front = is_at_front(rt.alloc(), text, long, db)?;
     go_on_to(rt, "rc_dbtext::syntax::read_form");
     let is_form = is_form(rt.alloc(), text)?;
-    Ok(is_whole && is_front && is_form)
+    go_on_to(rt, "database_of");
+    let is_before = is_before(rt.alloc(), text, db)?;
+    go_on_to(rt, "rc_dbtext::open");
+    Ok(is_opened(rt.alloc(), text, long, db)? && is_before && is_whole && is_front && is_form)
+}
+
+/// Whether a text at the front of an input is read as a database, before a byte that is left.
+fn is_before(alloc: Global, bytes: &[u8], db: &Db) -> Result<bool, NoMem> {
+    match database_of(alloc, None, bytes) {
+        Ok((other, rest)) => Ok(is_read(Ok(other), db)? && rest.len() == 1),
+        Err(fault) => is_read(Err(fault), db),
+    }
+}
+
+/// Whether an input is read whole, and as many bytes at its beginning as a database.
+fn is_opened(alloc: Global, bytes: &[u8], long: usize, db: &Db) -> Result<bool, NoMem> {
+    match open(alloc, None, &mut Noted::new(bytes)) {
+        Ok(opened) => {
+            let is_whole = opened.input.as_slice() == bytes && opened.start == long;
+            let is_right = is_whole && is_same(db, &opened.db);
+            drop(opened);
+            Ok(is_right)
+        }
+        Err(OpenFault::OfText(TextFault::Memory) | OpenFault::Failed(Failure::Memory)) => {
+            Err(AllocError)
+        }
+        Err(_) => Ok(false),
+    }
 }
 
 /// Whether a text says five services and a bundle, and one byte follows.
@@ -237,37 +257,6 @@ fn are_words(alloc: Global) -> Result<bool, NoMem> {
         Some(texts) => Ok(matches!(texts.as_slice(), ["db", _])),
         None => Ok(false),
     }
-}
-
-/// Whether the line of a bundle is written, and others behind it.
-fn are_lines(rt: &(impl Print + AllocGlobal), db: &Db) -> Result<bool, NoMem> {
-    let (names, table) = (db.names(), db.table());
-    if table.len() == 0 {
-        return Ok(false);
-    }
-    let (name, set) = table.at(0);
-    let mut text = Vec::new(rt.alloc());
-    push_lines(rt, &mut text, names, name, set)?;
-    Ok(text.as_slice() == LINES)
-}
-
-fn push_lines(
-    rt: &(impl Print + AllocGlobal),
-    text: &mut Vec<u8>,
-    names: &Names,
-    name: &Name,
-    set: &Set,
-) -> Result<(), NoMem>
-    requires { length set.now ≡ length names.now }
-{
-    let alloc = rt.alloc();
-    push_bundle(alloc, text, names, name, set)?;
-    go_on_to(rt, "push_set");
-    push_set(alloc, text, names, set)?;
-    go_on_to(rt, "push_word");
-    push_word(text, b"and its consumers")?;
-    go_on_to(rt, "push_line");
-    push_line(text, b"services of the whole sample", b"5")
 }
 
 /// Whether the ends of two takes are added, and then a stop.

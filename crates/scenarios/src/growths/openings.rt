@@ -1,9 +1,13 @@
-//! Openings of a line that are given up.
+//! Openings of a copy of a line, which are closed or given up.
 
 ghost use Rattle.std.specs.Prelude.{◌≡◌, false, length, IfOk, IfSome};
+ghost use Rattle.rc_model.specs.Database.{Bundles};
+ghost use Rattle.rc_line.specs.Opening.{IsEditFrom};
 
-use crate::growths::lines::is_alike;
-use crate::growths::told::{go_on_to, show_end};
+use crate::growths::told::{fault_of, go_on_to, show_came, show_line};
+use crate::samples::{DB, LOG, NET, ROOT, WEB, is_same_line, set_of};
+use rc_bundle::Edit;
+use rc_db::Table;
 use rc_graph::Graph;
 use rc_line::Line;
 use rc_select::{Plan, between};
@@ -12,16 +16,25 @@ use std::alloc::{AllocError, AllocGlobal, Global};
 use std::io;
 use std::io::Print;
 
-/// Where a line is opened to.
+/// To what a line is opened, and how that ends.
 #[derive(Clone, Copy)]
 pub enum Opening {
+    /// To an undo, which is given up.
     Undo,
+    /// To a redo, which is given up.
     Redo,
+    /// To an undo of a change that brought all up, after which one service is live.
+    Split,
+    /// To a change that lowers all.
+    Change,
+    /// To an edit that removes all bundles.
+    Edit,
 }
 
-/// Opens a copy of a line and gives that up, and tells whether it stands where the line does.
+/// Opens a copy of a line, and shows whether it is as the line is in the end.
 pub fn show_opening(
     rt: &(impl Print + AllocGlobal),
+    graph: &Graph,
     line: &Line,
     what: &str,
     opening: Opening,
@@ -29,19 +42,69 @@ pub fn show_opening(
     requires { line.now.is_open ≡ false }
 {
     let mut copied = line.copy(rt.alloc())?;
-    let _ = print!(rt; "{what}: ");
-    let came = given_up(rt, &mut copied, opening);
-    let is_same = !copied.is_open() && is_alike(&copied, line);
+    let came = match opening {
+        Opening::Edit => emptied(rt, &mut copied, what),
+        Opening::Change => lowered_all(rt, graph, &mut copied, what),
+        Opening::Split => split(rt, &mut copied, what),
+        _ => given_up(rt, &mut copied, what, opening),
+    };
+    let left = left_so(&copied, line, opening);
     drop(copied);
-    show_end(rt, came, is_same)
+    show_came(rt, fault_of(came))?;
+    show_line(rt, left)
 }
 
-fn given_up(rt: &(impl Print + AllocGlobal), line: &mut Line, opening: Opening) -> Result<(), NoMem>
+/// What a line is in the end beside what it was.
+fn left_so(copied: &Line, line: &Line, opening: Opening) -> &'static str
+    requires { line.now.is_open ≡ false }
+{
+    if copied.is_open() {
+        "left open"
+    } else if is_same_line(copied, line) {
+        "as before"
+    } else if is_moved(copied, opening) {
+        "moved"
+    } else {
+        "altered"
+    }
+}
+
+/// Whether a line of three states has moved: where it stands, and by which entry it came there. An
+/// undo that was split has a further one.
+fn is_moved(line: &Line, opening: Opening) -> bool
+    requires { line.now.is_open ≡ false }
+{
+    if line.states() != 3 {
+        return false;
+    }
+    let (first, second) = (line.entry(0), line.entry(1));
+    match opening {
+        Opening::Split => {
+            line.cursor() == 1
+                && first.raised() == [LOG].as_slice()
+                && second.raised() == [DB, NET, ROOT, WEB].as_slice()
+        }
+        Opening::Change => {
+            line.cursor() == 2
+                && line.live().is_empty()
+                && second.lowered() == [DB, LOG, NET, ROOT, WEB].as_slice()
+        }
+        _ => line.cursor() == 2 && line.table().len() == 0 && second.edit().len() > 0,
+    }
+}
+
+fn given_up(
+    rt: &(impl Print + AllocGlobal),
+    line: &mut Line,
+    what: &str,
+    opening: Opening,
+) -> Result<(), NoMem>
     requires { line.old.is_open ≡ false }
 {
+    let _ = print!(rt; "{what}: ");
     let opened = match opening {
         Opening::Undo => line.open_undo(rt.alloc()),
-        Opening::Redo => line.open_redo(rt.alloc()),
+        _ => line.open_redo(rt.alloc()),
     };
     match opened {
         Ok(opened) => {
@@ -53,53 +116,49 @@ fn given_up(rt: &(impl Print + AllocGlobal), line: &mut Line, opening: Opening) 
     }
 }
 
-/// Opens a copy of a line to a change that lowers all, and closes that.
-pub fn show_change(
-    rt: &(impl Print + AllocGlobal),
-    graph: &Graph,
-    line: &Line,
-    what: &str,
-) -> io::Result<()>
-    requires { line.now.is_open ≡ false }
+/// Opens a line to an undo, and closes it where only `log` is live.
+fn split(rt: &(impl Print + AllocGlobal), line: &mut Line, what: &str) -> Result<(), NoMem>
+    requires { line.old.is_open ≡ false }
 {
-    let mut copied = line.copy(rt.alloc())?;
-    let shown = show_lowered(rt, graph, &mut copied, what);
-    drop(copied);
-    shown
+    let live = set_of(rt.alloc(), line.live().bound(), &[LOG])?;
+    let _ = print!(rt; "{what}: ");
+    let came = closed_on(rt, line, &live);
+    drop(live);
+    came
 }
 
-fn show_lowered(
-    rt: &(impl Print + AllocGlobal),
-    graph: &Graph,
-    copied: &mut Line,
-    what: &str,
-) -> io::Result<()>
-    requires { copied.old.is_open ≡ false }
+fn closed_on(rt: &(impl Print + AllocGlobal), line: &mut Line, live: &Set) -> Result<(), NoMem>
+    requires closed { line.old.is_open ≡ false }
+    requires live { length live.now ≡ length line.old.line.current.live }
 {
-    let (states, live) = (copied.states(), copied.live().len());
-    let none = Set::empty(rt.alloc(), copied.live().bound())?;
-    let came = lowered_all(rt, graph, copied, what, &none);
-    drop(none);
-    let is_same = copied.states() == states && copied.live().len() == live;
-    show_end(rt, came, is_same && !copied.is_open())
+    match line.open_undo(rt.alloc()) {
+        Ok(opening) => {
+            go_on_to(rt, "close");
+            line.close(opening, live);
+            Ok(())
+        }
+        Err(_) => Err(AllocError),
+    }
 }
 
+/// Opens a line to a change that lowers all, and closes that.
 fn lowered_all(
     rt: &(impl Print + AllocGlobal),
     graph: &Graph,
-    copied: &mut Line,
+    line: &mut Line,
     what: &str,
-    none: &Set,
 ) -> Result<(), NoMem>
-    requires closed { copied.old.is_open ≡ false }
-    requires none { length none.now ≡ length copied.old.line.current.live }
+    requires { line.old.is_open ≡ false }
 {
-    let plan = plan_to(rt.alloc(), graph, copied.live(), none);
+    let none = Set::empty(rt.alloc(), line.live().bound())?;
+    let plan = plan_to(rt.alloc(), graph, line.live(), &none);
     let _ = print!(rt; "{what}: ");
-    match plan {
-        Ok(Some(plan)) => lowered(rt, copied, &plan, none),
+    let came = match plan {
+        Ok(Some(plan)) => lowered(rt, line, &plan, &none),
         _ => Err(AllocError),
-    }
+    };
+    drop(none);
+    came
 }
 
 /// The plan from some services to others, where none of them lacks what it needs.
@@ -135,6 +194,41 @@ fn lowered(
         Ok(opening) => {
             go_on_to(rt, "close");
             line.close(opening, none);
+            Ok(())
+        }
+        Err(_) => Err(AllocError),
+    }
+}
+
+/// Opens a line to an edit that removes all bundles, and closes that.
+fn emptied(rt: &(impl Print + AllocGlobal), line: &mut Line, what: &str) -> Result<(), NoMem>
+    requires { line.old.is_open ≡ false }
+{
+    let edit = edit_to_none(rt.alloc(), line)?;
+    let _ = print!(rt; "{what}: ");
+    entered(rt, line, edit)
+}
+
+/// The edit that removes all bundles of a line.
+fn edit_to_none(alloc: Global, line: &Line) -> Result<Edit, NoMem>
+    requires { line.now.is_open ≡ false }
+    ensures { IfOk result (λ edit. (table : Bundles) × IsEditFrom line.now.line edit table) }
+{
+    let none = Table::new(alloc);
+    let _bundles = none.len();
+    let edit = Edit::between(alloc, line.table(), &none);
+    drop(none);
+    edit
+}
+
+fn entered(rt: &(impl Print + AllocGlobal), line: &mut Line, edit: Edit) -> Result<(), NoMem>
+    requires closed { line.old.is_open ≡ false }
+    requires made { (table : Bundles) × IsEditFrom line.old.line edit table }
+{
+    match line.open_edit(rt.alloc(), &edit) {
+        Ok(opening) => {
+            go_on_to(rt, "close_edit");
+            line.close_edit(opening, edit);
             Ok(())
         }
         Err(_) => Err(AllocError),

@@ -2,8 +2,8 @@
 
 ghost use Rattle.std.specs.Prelude.{◌≡◌, length, IfOk};
 
-use crate::growths::told::{fault_of, go_on_to, show_came, show_end, show_same};
-use crate::samples::{name_of, put, set_of};
+use crate::growths::told::{came_of, fault_of, go_on_to, show_came, show_end, show_same};
+use crate::samples::{holds, name_of, put, set_of};
 use rc_db::{MAX_BUNDLES, Table};
 use rc_graph::Draft;
 use rc_names::{MAX_NAMES, Name, Names};
@@ -53,8 +53,9 @@ fn show_added(rt: &(impl Print + AllocGlobal), what: &str, names: &mut Names) ->
     add_eight(rt.alloc(), names)?;
     let (added, again) = two_names(rt.alloc())?;
     let _ = print!(rt; "{what}: ");
-    let came = named(rt, names, added, again);
-    show_end(rt, came, are_eight(names))
+    let is_right = named(rt, names, added, again);
+    show_came(rt, came_of(is_right))?;
+    show_same(rt, are_eight(names))
 }
 
 /// A name that comes before the eight, twice.
@@ -71,18 +72,19 @@ fn add_eight(alloc: Global, names: &mut Names) -> Result<(), NoMem> {
     Ok(())
 }
 
-fn add(names: &mut Names, name: Name) -> Result<(), NoMem> {
-    if names.len() < MAX_NAMES {
-        names.add(name)?;
+/// Adds a name. Whether it is new.
+fn add(names: &mut Names, name: Name) -> Result<bool, NoMem> {
+    if names.len() >= MAX_NAMES {
+        return Ok(false);
     }
-    Ok(())
+    names.add(name)
 }
 
-/// Adds a name, and once more.
-fn named(rt: &impl Print, names: &mut Names, added: Name, again: Name) -> Result<(), NoMem> {
-    add(names, added)?;
+/// Adds a name, and once more. Whether it was new the first time alone.
+fn named(rt: &impl Print, names: &mut Names, added: Name, again: Name) -> Result<bool, NoMem> {
+    let is_new = add(names, added)?;
     go_on_to(rt, "add of a name that is there");
-    add(names, again)
+    Ok(!add(names, again)? && is_new && names.len() == 9 && names.find("a") == Some(0))
 }
 
 fn are_eight(names: &Names) -> bool {
@@ -177,9 +179,10 @@ fn show_put(
 ) -> io::Result<()> {
     let (name, set, again) = bundle_of(rt.alloc())?;
     let _ = print!(rt; "{what}: ");
-    let came = put_twice(rt, table, &name, set, again);
+    let is_right = put_twice(rt, table, &name, set, again);
     drop(name);
-    show_end(rt, came, table.same(before))
+    show_came(rt, came_of(is_right))?;
+    show_same(rt, table.same(before))
 }
 
 /// The name of a bundle, and its set twice.
@@ -190,25 +193,35 @@ fn bundle_of(alloc: Global) -> Result<(Name, Set, Set), NoMem> {
     Ok((name, set, again))
 }
 
-/// Puts a bundle in, puts it in once more, and takes it out.
+/// Puts a bundle in, puts it in once more, and takes it out. Whether it was new the first time
+/// alone, and is what was put in.
 fn put_twice(
     rt: &impl Print,
     table: &mut Table,
     name: &Name,
     set: Set,
     again: Set,
-) -> Result<(), NoMem> {
-    put_one(table, name, set)?;
+) -> Result<bool, NoMem> {
+    let is_new = put_one(table, name, set)?.is_none() && table.len() == 9;
     go_on_to(rt, "set of a name that is there");
-    put_one(table, name, again)?;
+    let is_old = is_of_two(put_one(table, name, again)?) && table.len() == 9;
     go_on_to(rt, "clear");
-    table.clear(name.text());
-    Ok(())
+    Ok(is_of_two(table.clear(name.text())) && is_new && is_old && table.len() == 8)
 }
 
-fn put_one(table: &mut Table, name: &Name, set: Set) -> Result<(), NoMem> {
-    if table.len() < MAX_BUNDLES {
-        table.set(name, set)?;
+/// Whether a set has the services of the bundle.
+fn is_of_two(set: Option<Set>) -> bool {
+    match set {
+        Some(set) => holds(&set, &[0, 1]),
+        None => false,
     }
-    Ok(())
+}
+
+/// Puts a bundle in, and returns the one in whose place it comes.
+fn put_one(table: &mut Table, name: &Name, set: Set) -> Result<Option<Set>, NoMem> {
+    if table.len() < MAX_BUNDLES {
+        return table.set(name, set);
+    }
+    drop(set);
+    Ok(None)
 }

@@ -1,9 +1,10 @@
 //! Queries of the sample database.
 
-use crate::samples::NET;
+use crate::samples::{DB, LOG, NET, ROOT, WEB, holds};
 use rc_db::{Db, QueryFault, Which};
 use rc_graph::Way;
-use rc_select::{PlanFault, Request, plan};
+use rc_names::Name;
+use rc_select::{Plan, PlanFault, Request, plan};
 use rc_set::{NoMem, Set};
 use std::alloc::{AllocError, Global};
 
@@ -19,6 +20,7 @@ pub enum Query {
     Dependencies,
     AllDependencies,
     Selected,
+    ServiceCopy,
 }
 
 /// Whether a query answers what is due. The words of the queries that have some are `site`.
@@ -26,7 +28,7 @@ pub fn is_answer(alloc: Global, db: &Db, query: Query, words: &[String]) -> Resu
     match query {
         Query::List => is_listed(alloc, db),
         Query::Script => has_script(alloc, db),
-        Query::ServiceScript => has_text(alloc, db),
+        Query::ServiceScript | Query::ServiceCopy => has_text(alloc, db, query),
         Query::Contents => are_ids(db.contents(alloc, "site"), &[4]),
         Query::Pipeline => are_ids(db.pipeline(alloc, "web"), &[1, 4]),
         Query::Selected => is_selected(alloc, db, words),
@@ -61,9 +63,21 @@ fn are_ids(answer: Result<Vec<u16>, QueryFault>, wanted: &[u16]) -> Result<bool,
 
 fn is_listed(alloc: Global, db: &Db) -> Result<bool, NoMem> {
     match db.list(alloc, Which::All) {
-        Ok(names) => Ok(names.len() == 6),
+        Ok(names) => Ok(are_all(&names)),
         Err(_) => Err(AllocError),
     }
+}
+
+/// The names of the sample.
+const NAMES: [&str; 6] = ["db", "log", "net", "root", "site", "web"];
+
+fn are_all(names: &[&Name]) -> bool {
+    for (name, text) in names.iter().zip(&NAMES) {
+        if name.text() != *text {
+            return false;
+        }
+    }
+    names.len() == NAMES.len()
 }
 
 fn has_script(alloc: Global, db: &Db) -> Result<bool, NoMem> {
@@ -74,32 +88,45 @@ fn has_script(alloc: Global, db: &Db) -> Result<bool, NoMem> {
     }
 }
 
-/// Whether the first oneshot has this text by itself.
-fn has_text(alloc: Global, db: &Db) -> Result<bool, NoMem> {
+/// Whether the first oneshot has this text by itself, or whether a copy of it is the same.
+fn has_text(alloc: Global, db: &Db, query: Query) -> Result<bool, NoMem> {
     if db.names().len() <= NET {
         return Ok(false);
     }
-    let text = db.service(NET).script(alloc, Way::Raise)?;
+    let service = db.service(NET);
+    if let Query::ServiceCopy = query {
+        return Ok(service.copy(alloc)?.same(service));
+    }
+    let text = service.script(alloc, Way::Raise)?;
     Ok(text.as_str() == "true\n")
 }
 
 fn is_selected(alloc: Global, db: &Db, words: &[String]) -> Result<bool, NoMem> {
     match db.selected(alloc, db.table(), words) {
-        Ok(set) => Ok(set.len() == 1 && set.bound() == 5 && set.contains(4)),
+        Ok(set) => Ok(set.bound() == 5 && holds(&set, &[WEB])),
         Err(QueryFault::Memory) => Err(AllocError),
         Err(_) => Ok(false),
     }
 }
 
-/// Whether what is up stays as it is by a request.
+/// Whether `root` would go down by a request, as far as it may.
 pub fn is_planned(alloc: Global, db: &Db, up: &Set, request: &Request) -> Result<bool, NoMem> {
     let graph = db.graph();
     if up.bound() != graph.len() || up.bound() != db.names().len() || !graph.closed(up) {
         return Ok(false);
     }
     match plan(alloc, db, db.table(), up, request) {
-        Ok(plan) => Ok(plan.raise().is_empty() && plan.lower().is_empty()),
+        Ok(plan) => Ok(is_fall_of_root(&plan)),
         Err(PlanFault::Memory) => Err(AllocError),
         Err(_) => Ok(false),
     }
+}
+
+/// Whether a plan is the one by which `root` would go down where all are up: what needs it does,
+/// and it is kept, since it is essential.
+pub fn is_fall_of_root(plan: &Plan) -> bool {
+    holds(plan.opening(), &[DB, LOG, NET, ROOT, WEB])
+        && holds(plan.lower(), &[DB, NET, WEB])
+        && plan.raise().is_empty()
+        && holds(plan.kept(), &[ROOT])
 }

@@ -1,29 +1,106 @@
 //! The calls: the name of each, after which steps it is made, by which, and how.
 
+use crate::growths::asked::Command as Run;
 use crate::growths::made::Made;
 use crate::growths::openings::Opening as OpenTo;
 use crate::growths::own::Given;
-use crate::growths::queries::Query::{
-    self, AllDependencies, Atomics, Contents, Dependencies, List, Pipeline, Script, Selected,
-    ServiceScript,
-};
+use crate::growths::pushed::Pushed;
+use crate::growths::queries::Query::AllDependencies;
+use crate::growths::queries::Query::Atomics;
+use crate::growths::queries::Query::Contents;
+use crate::growths::queries::Query::Dependencies;
+use crate::growths::queries::Query::List;
+use crate::growths::queries::Query::Pipeline;
+use crate::growths::queries::Query::Script;
+use crate::growths::queries::Query::Selected;
+use crate::growths::queries::Query::ServiceCopy;
+use crate::growths::queries::Query::ServiceScript;
+use crate::growths::queries::Query::{self};
 use crate::growths::recovering::Recovering;
-use crate::growths::rows::How::{
-    Abandon, Alter, Ask, By, Change, Complete, Dry, Edit, Folder, Line, Lock, Make, Memory, Of,
-    Opening, Own, Plan, Play, Recover, Recovered, Resume, Serve, Session, Shell, Spoil, States,
-    StepOn, Stop, Table, Tell, Text, Within, Workers,
-};
+use crate::growths::rows::How::Abandon;
+use crate::growths::rows::How::Alter;
+use crate::growths::rows::How::Ask;
+use crate::growths::rows::How::Asked;
+use crate::growths::rows::How::Begins;
+use crate::growths::rows::How::By;
+use crate::growths::rows::How::Command;
+use crate::growths::rows::How::Compile;
+use crate::growths::rows::How::Complete;
+use crate::growths::rows::How::Dry;
+use crate::growths::rows::How::Edit;
+use crate::growths::rows::How::Folder;
+use crate::growths::rows::How::Lock;
+use crate::growths::rows::How::Make;
+use crate::growths::rows::How::Memory;
+use crate::growths::rows::How::Of;
+use crate::growths::rows::How::Opening;
+use crate::growths::rows::How::Own;
+use crate::growths::rows::How::Plan;
+use crate::growths::rows::How::Play;
+use crate::growths::rows::How::Push;
+use crate::growths::rows::How::Recover;
+use crate::growths::rows::How::Recovered;
+use crate::growths::rows::How::Resume;
+use crate::growths::rows::How::Serve;
+use crate::growths::rows::How::Session;
+use crate::growths::rows::How::Shell;
+use crate::growths::rows::How::Spoil;
+use crate::growths::rows::How::States;
+use crate::growths::rows::How::StepOn;
+use crate::growths::rows::How::Stop;
+use crate::growths::rows::How::Table;
+use crate::growths::rows::How::Tell;
+use crate::growths::rows::How::Text;
+use crate::growths::rows::How::Within;
+use crate::growths::rows::How::Workers;
 use crate::growths::serving::Serving;
-use crate::growths::texts::Text::{
-    self as Texts, AddRefusal, Answer, Bundles, Dot, EventLine, Ids, Journal, Live, ReadLine,
-    ReadScript, Refusal, Report, StepLine, StepRefusal,
-};
+use crate::growths::texts::Text::AddRefusal;
+use crate::growths::texts::Text::Answer;
+use crate::growths::texts::Text::Bundles;
+use crate::growths::texts::Text::Dot;
+use crate::growths::texts::Text::EventLine;
+use crate::growths::texts::Text::Ids;
+use crate::growths::texts::Text::Journal;
+use crate::growths::texts::Text::Letters;
+use crate::growths::texts::Text::Live;
+use crate::growths::texts::Text::LiveWord;
+use crate::growths::texts::Text::ReadLine;
+use crate::growths::texts::Text::ReadScript;
+use crate::growths::texts::Text::Refusal;
+use crate::growths::texts::Text::Report;
+use crate::growths::texts::Text::StepLine;
+use crate::growths::texts::Text::StepRefusal;
+use crate::growths::texts::Text::TextWord;
+use crate::growths::texts::Text::UnknownWord;
+use crate::growths::texts::Text::{self as Texts};
 use crate::growths::trees::Altering;
-use crate::growths::values::Value::{
-    self, Carry, DownOf, EditBetween, EditCopy, GraphShare, LineCopy, LineState, LiveForm,
-    NameCopy, NameOf, NameRead, PadNew, PlanBetween, PlanUp, ReadLive, SetCopy, SetEmpty, SetIds,
-    TableCopy, UpOf, WriteLive,
-};
+use crate::growths::values::Value::Carry;
+use crate::growths::values::Value::Difference;
+use crate::growths::values::Value::DownOf;
+use crate::growths::values::Value::EditBetween;
+use crate::growths::values::Value::EditCopy;
+use crate::growths::values::Value::GraphShare;
+use crate::growths::values::Value::LineCopy;
+use crate::growths::values::Value::LineState;
+use crate::growths::values::Value::LiveForm;
+use crate::growths::values::Value::NameCopy;
+use crate::growths::values::Value::NameOf;
+use crate::growths::values::Value::NameRead;
+use crate::growths::values::Value::NamesOf;
+use crate::growths::values::Value::PadNew;
+use crate::growths::values::Value::PlanBetween;
+use crate::growths::values::Value::PlanUp;
+use crate::growths::values::Value::ReadLive;
+use crate::growths::values::Value::Renames;
+use crate::growths::values::Value::SetCopy;
+use crate::growths::values::Value::SetEmpty;
+use crate::growths::values::Value::SetIds;
+use crate::growths::values::Value::Staying;
+use crate::growths::values::Value::TableCopy;
+use crate::growths::values::Value::Transitions;
+use crate::growths::values::Value::UpOf;
+use crate::growths::values::Value::WriteLive;
+use crate::growths::values::Value::{self};
 
 #[derive(Clone, Copy)]
 pub(crate) enum How {
@@ -61,9 +138,7 @@ pub(crate) enum How {
     Text(Texts, &'static str),
     /// From the state before the last to that.
     StepOn,
-    /// On a copy of the session's line.
-    Line,
-    /// On such a copy, which is opened and given up.
+    /// On a copy of the session's line, which is opened and then closed or given up.
     Opening(OpenTo),
     /// A session of its own, with at most so many states, 0 for the usual number.
     Session(u32),
@@ -73,6 +148,16 @@ pub(crate) enum How {
     Recovered(Recovering),
     /// On a value of its own.
     Own(Given),
+    /// On a text that has bytes before.
+    Push(Pushed),
+    /// On trees that have these files beside others. It writes, or says of a fault, what follows.
+    Compile(&'static str, &'static str, &'static str),
+    /// A command by its words.
+    Command(Run),
+    /// What the words ask for.
+    Asked(&'static str),
+    /// On the log of an update.
+    Begins,
     /// Values that are made one after the other.
     Make(Made),
     /// On a tree in memory, which is altered.
@@ -83,8 +168,6 @@ pub(crate) enum How {
     Folder,
     /// As a plan that stands on the database alone.
     Plan,
-    /// On a copy of the session's line, which is opened to a change and closed.
-    Change,
     /// As what is served of a session.
     Serve(Serving),
     /// A gate that starts programs.
@@ -122,7 +205,59 @@ const PICTURE: &str = r#"digraph undorc {
 }
 "#;
 
-pub(crate) static ROWS: [Row; 123] = [
+/// What is compiled of a oneshot and a bundle of it.
+const COMPILED: &str = "undorc-db 1\nservices 1\nservice b oneshot plain 0 0\nneeds\nup 4\n\
+    true\ndown -\nbundles 1\nbundle a b\nend\n";
+
+const PLAN: Run = Run {
+    line: "plan -u web",
+    by_base: false,
+    own: "root\n",
+    written: "raise db log net web\n",
+    said: "",
+};
+
+const NO_PLAN: Run = Run {
+    line: "plan -u nosuch",
+    by_base: true,
+    own: "root\n",
+    written: "",
+    said: "undorc: Unknown nosuch\n",
+};
+
+const QUERY: Run = Run {
+    line: "db list all",
+    by_base: true,
+    own: "",
+    written: "db\nlog\nnet\nroot\nsite\nweb\n",
+    said: "",
+};
+
+const NO_QUERY: Run = Run {
+    line: "db contents web",
+    by_base: false,
+    own: "",
+    written: "",
+    said: "undorc: NotBundle\n",
+};
+
+const REPLAY: Run = Run {
+    line: "replay",
+    by_base: false,
+    own: "change log\ntake 1 log\ndone 1 log ok\n",
+    written: "raised log\nok\nlive log\nat 1 of 2\n0 +log\n",
+    said: "",
+};
+
+const NO_REPLAY: Run = Run {
+    line: "replay",
+    by_base: true,
+    own: "undo\nfrob\n",
+    written: "",
+    said: "undorc: BadLine 2\n",
+};
+
+pub(crate) static ROWS: [Row; 161] = [
     (
         "Set::empty, and insert, remove, contains, join, without, same, len, is_empty and bound; \
          after up",
@@ -147,20 +282,36 @@ pub(crate) static ROWS: [Row; 123] = [
     ("Edit::copy; after up add", Of(EditCopy)),
     ("rc_select::between; after up", Of(PlanBetween)),
     ("rc_select::plan_up", Of(PlanUp)),
-    ("rc_select::plan; after up; by up", Plan),
+    ("rc_select::plan; after up; by down", Plan),
     ("rc_update::carry; after up", Of(Carry)),
+    ("rc_update::staying; after up", Of(Staying)),
+    ("rc_update::names_of; after up", Of(NamesOf)),
+    ("difference_of, twice; after up", Of(Difference)),
     ("Line::copy; after up add back", Of(LineCopy)),
     ("Line::state; after up add", Of(LineState)),
     ("two states; after add", States),
     ("Line::state; after up add", StepOn),
-    ("Line::open_new; after up", Change),
-    ("Line::open_edit", Line),
+    ("Line::open_new; after up", Opening(OpenTo::Change)),
+    (
+        "Line::open_new, where it is full; after three up add",
+        Opening(OpenTo::Change),
+    ),
+    ("Line::open_edit; after up", Opening(OpenTo::Edit)),
+    (
+        "Line::open_edit, where it is full; after three up add",
+        Opening(OpenTo::Edit),
+    ),
+    (
+        "Line::open_undo, where it is full; after three up add back",
+        Opening(OpenTo::Split),
+    ),
     ("Line::open_undo; after up add", Opening(OpenTo::Undo)),
     ("Line::open_redo; after up add back", Opening(OpenTo::Redo)),
     ("Db::list; by up", Ask(List)),
     ("Db::contents; by up", Ask(Contents)),
     ("Db::script; by up", Ask(Script)),
     ("Service::script; by up", Ask(ServiceScript)),
+    ("Service::copy; by up", Ask(ServiceCopy)),
     ("Db::pipeline; by up", Ask(Pipeline)),
     ("Db::atomics; by up", Ask(Atomics)),
     ("Db::dependencies; by up", Ask(Dependencies)),
@@ -177,6 +328,18 @@ pub(crate) static ROWS: [Row; 123] = [
     ),
     ("a tree in memory", Memory),
     ("FolderTree::open", Folder),
+    (
+        "compile_run, text_of",
+        Compile(
+            "b/type=oneshot b/up=true a/type=bundle a/contents=b",
+            COMPILED,
+            "",
+        ),
+    ),
+    (
+        "compile_run, text_of and tell_trees",
+        Compile("a/dependencies=nosuch", "", "undorc: UnknownIn a nosuch\n"),
+    ),
     ("write_db", Make(Made::Text)),
     ("write_live; after up add", Of(WriteLive)),
     ("read_live; after up add", Of(ReadLive)),
@@ -184,7 +347,10 @@ pub(crate) static ROWS: [Row; 123] = [
     ("rc_streams::read_all", Make(Made::Input)),
     ("rc_dbtext::lexer::names_of", Make(Made::Names)),
     ("rc_script::words_of and texts_of", Make(Made::Words)),
-    ("push_bundle", Make(Made::Lines)),
+    ("push_bundle", Push(Pushed::Bundle)),
+    ("push_set", Push(Pushed::Set)),
+    ("push_word", Push(Pushed::Word)),
+    ("push_line", Push(Pushed::Line)),
     ("with_ends", Make(Made::Ends)),
     ("logged_events", Recovered(Recovering::Texts)),
     ("recover_files", Recovered(Recovering::Files)),
@@ -224,6 +390,12 @@ pub(crate) static ROWS: [Row; 123] = [
     ("event_line", Text(EventLine, "take 1 root\n")),
     ("read_line", Text(ReadLine, "-u change site")),
     ("read_script", Text(ReadScript, "undo\n")),
+    ("Request::letters", Text(Letters, "Dpa")),
+    ("rc_dbtext::text_word", Text(TextWord, "Bad 326")),
+    ("live_word", Text(LiveWord, "NotClosed 0")),
+    ("unknown_word", Text(UnknownWord, "Unknown nosuch")),
+    ("transitions_of", Of(Transitions)),
+    ("renames_in", Of(Renames)),
     ("rc_bundle::add; by add", Table(true)),
     ("rc_bundle::delete; by delete", Table(true)),
     ("rc_bundle::added; by add", Table(false)),
@@ -231,6 +403,7 @@ pub(crate) static ROWS: [Row; 123] = [
     ("a plan and Run::open", Stop),
     ("Pad::new", Of(PadNew)),
     ("Session::begin_change; by up", Spoil),
+    ("Session::begin_change; by up", Abandon),
     ("Session::begin_undo; after up; by undo", Abandon),
     ("Session::begin_redo; after up undo; by redo", Abandon),
     ("Session::begin of a change; by up", Complete),
@@ -247,8 +420,8 @@ pub(crate) static ROWS: [Row; 123] = [
     ("redo_edit of nothing; by on", Edit),
     ("undo_edit of a change; after up; by back", Edit),
     ("redo_edit of a change; after up undo; by on", Edit),
-    ("Session::play; after up; by add delete back", Play),
-    ("Session::dry; after up; by up", Dry),
+    ("Session::play; by up add delete back", Play),
+    ("Session::dry; after up; by down", Dry),
     ("change by 1; by up", Workers(1)),
     ("undo by 1; after up; by undo", Workers(1)),
     ("redo by 1; after up undo; by redo", Workers(1)),
@@ -265,10 +438,44 @@ pub(crate) static ROWS: [Row; 123] = [
     ("ShellGate::new; by up", Shell),
     ("Telling::new; by up", Tell),
     ("LiveLock::take", Lock),
-    ("serve of a change by 1", Serve(Serving::Input(1))),
-    ("serve of a change by 3", Serve(Serving::Input(3))),
+    ("serve of a change by 1; by up", Serve(Serving::Input(1))),
+    ("serve of a change by 3; by up", Serve(Serving::Input(3))),
     ("serve by 0", Serve(Serving::Input(0))),
-    ("answer_once of an undo; after up", Serve(Serving::Once)),
+    (
+        "answer_once of an undo; after up; by undo",
+        Serve(Serving::Once),
+    ),
     ("show_undo; after up", Serve(Serving::ShowUndo)),
     ("show_redo; after up undo", Serve(Serving::ShowRedo)),
+    ("plan_run", Command(PLAN)),
+    ("plan_run of a name that is none", Command(NO_PLAN)),
+    ("db_run", Command(QUERY)),
+    ("db_run of a bundle that is none", Command(NO_QUERY)),
+    ("replay_run", Command(REPLAY)),
+    ("replay_run of a line that is none", Command(NO_REPLAY)),
+    ("task_of compile", Asked("compile tree")),
+    ("task_of db", Asked("db -b base list all")),
+    ("task_of plan", Asked("plan -b base -up site")),
+    ("task_of replay", Asked("replay -b base")),
+    (
+        "task_of session",
+        Asked("session -b base -n 3 -w 2 -c s6-svc\tx"),
+    ),
+    (
+        "task_of change; after up",
+        Asked("change -d net -b base -l live"),
+    ),
+    (
+        "task_of update; after up",
+        Asked("update -b base -B new -l live -R net"),
+    ),
+    (
+        "task_of restart; after up",
+        Asked("restart -b base -l live net"),
+    ),
+    ("task_of seal", Asked("seal -b base -l live")),
+    ("task_of status", Asked("status -b base -l live web")),
+    ("task_of stop", Asked("stop -l live")),
+    ("task_of version", Asked("version")),
+    ("write_db, and a log; after up", Begins),
 ];

@@ -3,20 +3,20 @@
 
 ghost use Rattle.std.specs.Prelude.{◌≡◌, false};
 
-use rc_board::{Fault, Gate};
+use crate::growths::devices::Due;
+use rc_board::{Executor, Fault, Gate};
 use rc_db::Db;
 use rc_runner::{ShellGate, StepClock, TableGate, Telling};
 use rc_script::SessionLine;
 use rc_serve::{Ending, ServeFault, Unkept, answer_once, serve, show_redo, show_undo};
-use rc_session::{Refusal, Session, Step};
+use rc_session::{Command, Refusal, Session};
 use rc_set::NoMem;
 use rc_streams::Noted;
 use rc_streams::live_lock::{LiveLock, LockFault};
 use rc_streams::messages::Messages;
 use rc_streams::run_file::RunFile;
 use std::alloc::{AllocError, AllocGlobal};
-use std::io;
-use std::io::{ErrorKind, Write};
+use std::io::ErrorKind;
 use std::sync::Wait;
 use std::thread::Threads;
 
@@ -37,39 +37,17 @@ pub(crate) enum Serving {
 }
 
 /// The bytes that are due.
-fn answer_of(serving: Serving) -> &'static [u8] {
+fn answer_of(serving: Serving) -> &'static str {
     match serving {
-        Serving::Input(_) => b"raised db log net root web\nok\n",
-        Serving::Once => b"lowered db log net root web\nok\n",
-        Serving::ShowUndo => b"lower db log net root web\nok\n",
-        Serving::ShowRedo => b"raise db log net root web\nok\n",
+        Serving::Input(_) => "raised db log net root web\nok\n",
+        Serving::Once => "lowered db log net root web\nok\n",
+        Serving::ShowUndo => "lower db log net root web\nok\n",
+        Serving::ShowRedo => "raise db log net root web\nok\n",
     }
 }
 
 /// Within so many milliseconds a gate is made.
 const MOST: u64 = 60_000;
-
-/// A writer that takes the bytes that are due, and no others. It takes no memory.
-#[derive(Drop)]
-struct Due {
-    left: &'static [u8],
-}
-
-impl Write for Due {
-    fn write(&mut self, buf: &[u8]) -> io::Result<usize> {
-        match self.left.strip_prefix(buf) {
-            Some(left) => {
-                self.left = left;
-                Ok(buf.len())
-            }
-            None => Err(io::Error::from(ErrorKind::InvalidData)),
-        }
-    }
-
-    fn flush(&mut self) -> io::Result<()> {
-        Ok(())
-    }
-}
 
 /// Serves a session, and looks whether the answer is whole.
 pub(crate) fn served<R: AllocGlobal + Threads + Wait + Sync>(
@@ -80,11 +58,9 @@ pub(crate) fn served<R: AllocGlobal + Threads + Wait + Sync>(
     requires { session.old.begun ≡ false }
     ensures { session.new.begun ≡ false }
 {
-    let mut due = Due {
-        left: answer_of(serving),
-    };
+    let mut due = Due::new(answer_of(serving));
     let ended = ended(rt, session, serving, &mut due);
-    let is_whole = due.left.is_empty();
+    let is_whole = due.is_whole();
     drop(due);
     match ended {
         Ok(_) if is_whole => Ok(()),
@@ -125,17 +101,7 @@ fn input_ended<R: AllocGlobal + Threads + Wait + Sync>(
     let gate = TableGate::new(Vec::new(alloc), StepClock::new(Vec::new(alloc)));
     let mut reader = Noted::new(LINE);
     let mut writer = Noted::new(due);
-    let mut keeper = Unkept;
-    let ended = serve(
-        rt,
-        alloc,
-        &mut reader,
-        &mut writer,
-        session,
-        &mut keeper,
-        &gate,
-        workers,
-    );
+    let ended = serve(rt, alloc, &mut reader, &mut writer, session, &gate, workers);
     drop(gate);
     match ended {
         Ok(()) => Ok(Ending::Done),
@@ -154,19 +120,17 @@ fn once_ended<R: AllocGlobal + Threads + Wait + Sync>(
 {
     let alloc = rt.alloc();
     let gate = TableGate::new(Vec::new(alloc), StepClock::new(Vec::new(alloc)));
-    let said = SessionLine::Step(Step::Undo(0, Vec::new(alloc)));
+    let said = SessionLine::Command(Command::Undo(0));
     let mut writer = Noted::new(due);
     let mut keeper = Unkept;
-    let ended = answer_once(
+    let executor = Executor {
         rt,
         alloc,
-        session,
-        &mut keeper,
-        &gate,
-        1,
-        &said,
-        &mut writer,
-    );
+        gate: &gate,
+        workers: 1,
+    };
+    let ended = answer_once(&executor, session, &mut keeper, &said, &mut writer);
+    drop(executor);
     drop((gate, said));
     ended
 }
@@ -174,7 +138,9 @@ fn once_ended<R: AllocGlobal + Threads + Wait + Sync>(
 /// Whether a gate for a database is made, which logs its runs, and its clock goes from then on.
 pub(crate) fn is_gate(rt: &HostRuntime, db: &Db, words: &[String]) -> Result<bool, NoMem> {
     let log = Messages(rt);
-    let gate = ShellGate::new(rt, &log, rt.alloc(), db, words, words, 7)?;
+    let gate = ShellGate::new(rt, rt.alloc(), db, words, words)?
+        .with_limit(7)
+        .with_log(&log);
     // The log is opened between the two parts, where no growth is refused.
     let _ = print!(rt; "done; ");
     match RunFile::open(rt, "live") {

@@ -5,14 +5,17 @@ ghost use Rattle.std.specs.Prelude.{◌≡◌, false};
 use crate::growths::openings::plan_to;
 use crate::samples::ROOT;
 use rc_core::Event;
+use rc_dbtext::{TextFault, text_word};
 use rc_graph::Graph;
+use rc_livetext::{LiveFault, live_word};
 use rc_names::Names;
 use rc_render::{
     add_refusal_text, answer_text, bundles_text, dot_text, id_lines, journal_text, live_text,
-    name_lines, plan_text, refusal_text, report_text, step_refusal_text, with_ok,
+    name_lines, plan_text, refusal_text, report_text, step_refusal_text, unknown_word, with_ok,
 };
 use rc_script::{ScriptFault, SessionLine, event_line, read_line, read_script, step_line};
-use rc_session::{Refusal, Report, Session, Step};
+use rc_select::{Mode, Request};
+use rc_session::{Command, Refusal, Report, Session, Step};
 use rc_set::{NoMem, Set};
 use std::alloc::{AllocError, Global};
 
@@ -36,6 +39,10 @@ pub enum Text {
     EventLine,
     ReadLine,
     ReadScript,
+    Letters,
+    TextWord,
+    LiveWord,
+    UnknownWord,
 }
 
 /// Writes a text, or reads one. Whether it is the one that is due.
@@ -45,7 +52,7 @@ pub fn is_text(alloc: Global, session: &Session, text: Text, due: &str) -> Resul
     let names = session.db().names();
     match text {
         Text::StepLine | Text::EventLine => is_line(alloc, names, text, due),
-        Text::ReadLine => is_step(read_line(alloc, due.as_bytes())),
+        Text::ReadLine => is_command(read_line(alloc, due.as_bytes())),
         Text::ReadScript => is_one_step(read_script(alloc, names, due.as_bytes())),
         _ => {
             let written = written(alloc, session, names, text)?;
@@ -72,8 +79,20 @@ fn written(alloc: Global, session: &Session, names: &Names, text: Text) -> Resul
         Text::AddRefusal if !names.is_empty() => {
             add_refusal_text(alloc, names.name_of(0), &[], Refusal::Exists)
         }
+        Text::Letters => letters(alloc),
+        Text::TextWord => text_word(alloc, TextFault::Bad(326)),
+        Text::LiveWord => live_word(alloc, LiveFault::NotClosed(0)),
+        Text::UnknownWord => unknown_word(alloc, b"nosuch"),
         _ => refused_step(alloc, names, text),
     }
+}
+
+/// The letters of a change with all options.
+fn letters(alloc: Global) -> Result<Vec<u8>, NoMem> {
+    let mut request = Request::plain(Mode::DownAll, Vec::new(alloc), 0);
+    request.prune = true;
+    request.all = true;
+    Ok(request.letters(alloc)?.into_bytes())
 }
 
 /// The plan that brings these up where nothing is.
@@ -124,12 +143,12 @@ fn refused_step(alloc: Global, names: &Names, text: Text) -> Result<Vec<u8>, NoM
 
 /// Whether the line of a step or an event is this one.
 fn is_line(alloc: Global, names: &Names, text: Text, due: &str) -> Result<bool, NoMem> {
-    let step = Step::Undo(0, Vec::new(alloc));
+    let command = Command::Undo(0);
     let line = match text {
-        Text::StepLine => step_line(alloc, &step),
+        Text::StepLine => step_line(alloc, &command),
         _ => event_line(alloc, names, Event::Take(1, ROOT)),
     };
-    drop(step);
+    drop(command);
     match line {
         Ok(Some(line)) => Ok(line.as_str() == due),
         Ok(None) => Ok(false),
@@ -137,13 +156,13 @@ fn is_line(alloc: Global, names: &Names, text: Text, due: &str) -> Result<bool, 
     }
 }
 
-/// Whether a line says a step.
-fn is_step(read: Result<SessionLine, NoMem>) -> Result<bool, NoMem> {
+/// Whether a line says a command.
+fn is_command(read: Result<SessionLine, NoMem>) -> Result<bool, NoMem> {
     match read {
         Ok(line) => {
-            let is_step = matches!(&line, SessionLine::Step(_));
+            let is_command = matches!(&line, SessionLine::Command(_));
             drop(line);
-            Ok(is_step)
+            Ok(is_command)
         }
         Err(short) => Err(short),
     }

@@ -4,12 +4,15 @@ ghost use Rattle.std.specs.Prelude.{IfOk, map};
 ghost use Rattle.rc_source.specs.Meaning.{AreMeanings};
 ghost use Rattle.rc_source.specs.Said.{meaning_of};
 
+use crate::growths::devices::{Due, ended};
 use crate::growths::told::{fault_of, go_on_to, show_came, show_same};
 use crate::trees::put_all;
+use rc_cli::compile_run;
 use rc_compile::{CompileFault, compile};
 use rc_db::Db;
 use rc_set::NoMem;
 use rc_source::{Definition, FolderTree, MemoryTree, SourceFault, Tree, TreeFault, read_all};
+use rc_streams::Noted;
 use std::alloc::{AllocError, AllocGlobal, Global};
 use std::io;
 use std::io::Print;
@@ -77,6 +80,40 @@ fn has_up<T: Tree>(alloc: Global, tree: &mut T) -> Result<bool, TreeFault> {
         Some(bytes) => Ok(bytes.as_slice() == b"true".as_slice()),
         None => Ok(false),
     }
+}
+
+/// Compiles these files with those of both services, and shows what that came to.
+pub(crate) fn show_compiled(
+    rt: &(impl Print + AllocGlobal),
+    what: &str,
+    files: &str,
+    written: &'static str,
+    said: &'static str,
+) -> io::Result<()> {
+    let mut trees = [MemoryTree::new(rt.alloc())];
+    let shown = show_run(rt, &mut trees, what, files, written, said);
+    drop(trees);
+    shown
+}
+
+fn show_run(
+    rt: &(impl Print + AllocGlobal),
+    trees: &mut [MemoryTree],
+    what: &str,
+    files: &str,
+    written: &'static str,
+    said: &'static str,
+) -> io::Result<()> {
+    for tree in &mut *trees {
+        put_all(tree, FILES)?;
+        put_all(tree, files)?;
+    }
+    let (mut writer, mut faults) = (Due::new(written), Due::new(said));
+    let _ = print!(rt; "{what}: ");
+    let status = compile_run(rt.alloc(), trees, &mut Noted::new(&mut writer), &mut faults);
+    let due = u8::from(!said.is_empty());
+    show_came(rt, ended(status, due, &writer, &faults))?;
+    show_same(rt, true)
 }
 
 /// Whether a tree in memory says what it holds, and is compiled.

@@ -2,8 +2,8 @@
 
 ghost use Rattle.std.specs.Prelude.{◌≡◌, false, length};
 
-use crate::growths::lines::is_alike;
-use crate::samples::has_ids;
+use crate::growths::asked::{are_listed, are_renames, are_words};
+use crate::samples::{ALL, LOG, NET, ROOT, has_ids, holds, is_same_line};
 use rc_board::Pad;
 use rc_bundle::Edit;
 use rc_db::Db;
@@ -14,7 +14,7 @@ use rc_names::{Name, NameFault, Names, is_name};
 use rc_select::{Plan, between, plan_up};
 use rc_session::Session;
 use rc_set::{NoMem, Set};
-use rc_update::carry;
+use rc_update::{Conversion, Difference, Update, carry, difference_of, names_of, staying};
 use std::alloc::{AllocError, Global};
 
 /// What a call makes.
@@ -41,6 +41,11 @@ pub enum Value {
     LiveForm,
     PadNew,
     Carry,
+    Staying,
+    NamesOf,
+    Difference,
+    Transitions,
+    Renames,
 }
 
 /// Makes a value. Whether it is right.
@@ -60,7 +65,11 @@ pub fn is_value(alloc: Global, session: &Session, value: Value, text: &[u8]) -> 
             None => Ok(false),
         },
         Value::PadNew => Ok(Pad::new(alloc, 5)?.room() == 11),
-        Value::Carry => is_carried(alloc, session.db(), session.live()),
+        Value::Carry | Value::Staying | Value::NamesOf | Value::Difference => {
+            is_updated(alloc, session.db(), session.live(), value)
+        }
+        Value::Transitions => are_listed(alloc),
+        Value::Renames => are_renames(alloc),
         _ => is_on_session(alloc, session, value, text),
     }
 }
@@ -72,7 +81,7 @@ fn is_set(alloc: Global, set: &Set, value: Value) -> Result<bool, NoMem> {
             Ok(is_filled(&mut made, set))
         }
         Value::SetCopy => Ok(set.copy(alloc)?.same(set)),
-        _ => has_ids(alloc, set, &[0, 1, 2, 3, 4]),
+        _ => has_ids(alloc, set, &ALL),
     }
 }
 
@@ -105,17 +114,40 @@ fn is_same_name(alloc: Global, text: &str) -> Result<bool, NoMem> {
     Ok(Name::of(alloc, text)?.text() == text)
 }
 
-/// Whether all that is live stays, from a database to itself.
-fn is_carried(alloc: Global, db: &Db, live: &Set) -> Result<bool, NoMem> {
-    let _names = db.names();
-    if live.bound() != db.graph().len() || !db.graph().closed(live) {
+/// What an update comes to from a database to itself, of services that are all live. Where one is
+/// restarted, that goes down with what needs it.
+fn is_updated(alloc: Global, db: &Db, live: &Set, value: Value) -> Result<bool, NoMem> {
+    let restart = [Conversion {
+        old: b"net",
+        new: b"net",
+        restart: true,
+    }];
+    let names = db.names();
+    if live.bound() != names.len() || names.len() <= NET || !db.graph().closed(live) {
         return Ok(false);
     }
-    let update = carry(alloc, db, db, &[], live)?;
-    let stays = update.lower.is_empty() && update.kept.len() == live.len();
-    let is_right = stays && update.raise.len() == live.len() as usize;
-    drop(update);
-    Ok(is_right)
+    match value {
+        Value::Carry => is_carried(&carry(alloc, db, db, &restart, live)?),
+        Value::Staying => Ok(holds(&staying(alloc, db, db, &restart, live)?, &[LOG, ROOT])),
+        Value::NamesOf => {
+            let names = names_of(alloc, names, live)?;
+            Ok(are_words(&names, &["db", "log", "net", "root", "web"]))
+        }
+        _ => {
+            let found = difference_of(alloc, db, NET, &restart, db)?;
+            let other = difference_of(alloc, db, NET, &[], db)?;
+            Ok(found == Some(Difference::Restart) && other.is_none())
+        }
+    }
+}
+
+/// Whether one service is lowered, two stay, and all are raised.
+fn is_carried(update: &Update) -> Result<bool, NoMem> {
+    Ok(
+        are_words(&update.lower, &["net"])
+            && holds(&update.kept, &[LOG, ROOT])
+            && are_words(&update.raise, &["db", "log", "net", "root", "web"]),
+    )
 }
 
 fn is_copied(alloc: Global, names: &Names) -> Result<bool, NoMem> {
@@ -131,14 +163,12 @@ fn is_on_graph(alloc: Global, graph: &Graph, set: &Set, value: Value) -> Result<
     }
     match value {
         Value::GraphShare => Ok(graph.share()?.len() == 5),
-        Value::PlanBetween => Ok(between(alloc, graph, set, set)?.raise().is_empty()),
-        _ => {
-            let closed = match value {
-                Value::UpOf => graph.up_of(alloc, set),
-                _ => graph.down_of(alloc, set),
-            };
-            Ok(closed?.len() == 5)
+        Value::PlanBetween => {
+            let plan = between(alloc, graph, set, set)?;
+            Ok(plan.lower().is_empty() && plan.raise().is_empty() && holds(plan.opening(), &ALL))
         }
+        Value::UpOf => Ok(holds(&graph.up_of(alloc, set)?, &ALL)),
+        _ => Ok(holds(&graph.down_of(alloc, set)?, &ALL)),
     }
 }
 
@@ -155,7 +185,7 @@ fn is_rise_of_all(plan: &Plan) -> bool {
     plan.opening().is_empty()
         && plan.lower().is_empty()
         && plan.kept().is_empty()
-        && plan.raise().len() == 5
+        && holds(plan.raise(), &ALL)
 }
 
 fn is_on_session(alloc: Global, session: &Session, value: Value, text: &[u8]) -> Result<bool, NoMem>
@@ -202,7 +232,7 @@ fn is_on_line(alloc: Global, line: &Line, value: Value) -> Result<bool, NoMem>
         return Ok(false);
     }
     match value {
-        Value::LineCopy => Ok(is_alike(&line.copy(alloc)?, line)),
+        Value::LineCopy => Ok(is_same_line(&line.copy(alloc)?, line)),
         Value::EditCopy => Ok(line.entry(1).edit().copy(alloc)?.len() == 1),
         _ => {
             let state = line.state(alloc, 0)?;

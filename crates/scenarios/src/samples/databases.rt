@@ -4,6 +4,7 @@ ghost use Rattle.std.specs.Prelude.{◌<◌, ◌≤◌, length};
 
 use crate::samples::graphs::{LOG, NEEDS, WEB, graph_of, set_of};
 use rc_db::{Db, MAX_BUNDLES, NoMem, Parts, Service, Table};
+use rc_dbtext::read_db;
 use rc_names::{Kind, MAX_NAMES, Name, Names};
 use rc_set::Set;
 use std::alloc::{AllocError, Global};
@@ -33,6 +34,31 @@ pub const BUNDLES: [Bundle; 1] = [("site", &[WEB])];
 pub fn sample(alloc: Global) -> Result<Db, Fail> {
     let parts = parts_of(alloc, &SERVICES, &SERVICES, &NEEDS, &BUNDLES)?;
     joined(parts)
+}
+
+/// A database of so many longruns that need nothing, and of the bundle `all` that has them.
+pub fn many_longruns(alloc: Global, many: u16) -> Result<Db, Fail> {
+    let text = longruns_text(alloc, many)?;
+    match read_db(alloc, text.as_bytes()) {
+        Ok(db) => Ok(db),
+        Err(fault) => Err(Fail::new(fault)),
+    }
+}
+
+/// Its text. The names are numbers of three digits, so at most 900 of them ascend.
+fn longruns_text(alloc: Global, many: u16) -> Result<String, NoMem> {
+    let mut text = format!(in alloc; "undorc-db 1\nservices {many}\n")?;
+    let mut bundle = String::from_str(alloc, "bundles 1\nbundle all")?;
+    for id in 0..many {
+        let name = id.saturating_add(100);
+        text.push_str(&format!(in alloc;
+            "service {name} longrun plain 0 0\nneeds\nproducer -\n"
+        )?)?;
+        bundle.push_str(&format!(in alloc; " {name}")?)?;
+    }
+    text.push_str(&bundle)?;
+    text.push_str("\nend\n")?;
+    Ok(text)
 }
 
 /// The database of parts that fit.

@@ -21,14 +21,22 @@ const FALL: [u16; 5] = [WEB, LOG, DB, NET, ROOT];
 enum Act {
     /// Brings `site` up, within a limit if that is not 0.
     Up(u32),
+    /// Brings `net` up.
+    Net,
+    /// Brings `log` up alone, beside what is essential. It has no events.
+    Prune,
     /// The same, of which only one service came up.
     Cut,
     /// Undoes a change, by taking these services, or an edit.
     Undo(&'static [u16]),
     /// Redoes a change or an edit.
     Redo(&'static [u16]),
+    /// Plans to bring `root` down, beside what is essential. It has no events.
+    Down,
     /// Defines the bundle `pair`.
     Add,
+    /// Defines the bundle `next`, also where there is one.
+    Next,
     /// Removes `site`.
     Delete,
 }
@@ -38,12 +46,16 @@ fn act_of(word: &str) -> Option<Act> {
     match word {
         "up" => Some(Act::Up(0)),
         "limited" => Some(Act::Up(5)),
+        "net" => Some(Act::Net),
+        "prune" => Some(Act::Prune),
         "cut" => Some(Act::Cut),
         "undo" => Some(Act::Undo(&FALL)),
         "redo" => Some(Act::Redo(&RISE)),
         "back" => Some(Act::Undo(&[])),
         "on" => Some(Act::Redo(&[])),
+        "down" => Some(Act::Down),
         "add" => Some(Act::Add),
+        "next" => Some(Act::Next),
         "delete" => Some(Act::Delete),
         _ => None,
     }
@@ -63,10 +75,14 @@ pub fn steps_of(alloc: Global, words: &str) -> Result<Vec<Step>, NoMem> {
 fn step_of(alloc: Global, act: Act) -> Result<Step, NoMem> {
     match act {
         Act::Up(limit) => up_site(alloc, limit, &RISE),
+        Act::Net => up_all(alloc, &["net"], 0, &[ROOT, NET]),
+        Act::Prune => change_of(alloc, Mode::Up, true, "log"),
+        Act::Down => change_of(alloc, Mode::Down, false, "root"),
         Act::Cut => up_site(alloc, 5, &[ROOT]),
         Act::Undo(order) => Ok(Step::Undo(0, run_of(alloc, order)?)),
         Act::Redo(order) => Ok(Step::Redo(0, run_of(alloc, order)?)),
-        Act::Add => add_pair(alloc),
+        Act::Add => add_bundle(alloc, "pair", false),
+        Act::Next => add_bundle(alloc, "next", true),
         Act::Delete => Ok(Step::Delete(words_of(alloc, &["site"])?, false)),
     }
 }
@@ -83,22 +99,39 @@ fn run_of(alloc: Global, services: &[u16]) -> Result<Vec<Event>, NoMem> {
 
 /// A change that brings `site` up, in which one worker takes these services.
 pub fn up_site(alloc: Global, limit: u32, order: &[u16]) -> Result<Step, NoMem> {
-    let names = words_of(alloc, &["site"])?;
-    let request = Request::plain(Mode::Up, names, limit);
+    up_all(alloc, &["site"], limit, order)
+}
+
+/// The same of these names.
+pub fn up_all(alloc: Global, names: &[&str], limit: u32, order: &[u16]) -> Result<Step, NoMem> {
+    let request = Request::plain(Mode::Up, words_of(alloc, names)?, limit);
     Ok(Step::Change(request, run_of(alloc, order)?))
 }
 
-fn add_pair(alloc: Global) -> Result<Step, NoMem> {
-    let contents = words_of(alloc, &["db", "log"])?;
-    Ok(Step::Add(name_of(alloc, "pair")?, contents, false))
+/// A change of a name that has no events.
+fn change_of(alloc: Global, mode: Mode, prune: bool, name: &str) -> Result<Step, NoMem> {
+    let mut request = Request::plain(mode, words_of(alloc, &[name])?, 0);
+    request.prune = prune;
+    Ok(Step::Change(request, Vec::new(alloc)))
 }
 
-/// A session over the sample in which the steps that these words say are played.
+/// Defines a bundle of two services.
+fn add_bundle(alloc: Global, name: &str, force: bool) -> Result<Step, NoMem> {
+    let contents = words_of(alloc, &["db", "log"])?;
+    Ok(Step::Add(name_of(alloc, name)?, contents, force))
+}
+
+/// A session over the sample in which the steps that these words say are played. Behind the word
+/// `three` it has at most three states.
 pub fn session_after(alloc: Global, words: &str) -> Result<Session, Fail>
     ensures { IfOk result (λ session. session.begun ≡ false) }
 {
     let db = sample(alloc)?;
-    let mut session = Session::new(alloc, db)?;
+    let mut session = if words.starts_with("three") {
+        Session::with_bound(alloc, db, 3)?
+    } else {
+        Session::new(alloc, db)?
+    };
     match set_up(alloc, &mut session, words) {
         Ok(()) => Ok(session),
         Err(short) => {

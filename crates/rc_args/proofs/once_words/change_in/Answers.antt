@@ -28,7 +28,7 @@ returns-clause-asked c = (
   refl,
   (
     sym c.is_on.ensures ∙ c.if-is_on.false,
-    c.new.ensures.items,
+    refl,
     (
       unlimited (rows_of (found_of c.args.matches.now)) (ask_of c.in_ok-request.request)
           c.in_ok-request.ensures.asked,

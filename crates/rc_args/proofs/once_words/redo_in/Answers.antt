@@ -25,7 +25,7 @@ returns-clause-asked c = (
   refl,
   (
     sym c.is_on.ensures ∙ c.if-is_on.false,
-    c.new.ensures.items,
+    refl,
     limit_found c.args.matches.now _ c.in-Some.limit c.get_str.ensures c.in-Some.ensures.some,
   ),
 )

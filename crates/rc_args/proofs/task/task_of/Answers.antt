@@ -1,17 +1,12 @@
 use Rattle.std.proofs.lemmas.Result.{IfOk-weaker, IfErr-weaker}
 use Rattle.rc_args.specs.Task.{task_ask_of}
-use Rattle.rc_args.proofs.TaskLemmas.{asked_eventless, entered_back, entered_right, wrong_asks}
+use Rattle.rc_args.proofs.TaskLemmas.{entered_back, entered_right, wrong_asks}
 use Rattle.rc_args.proofs.task.task_of.Goals as goal
 
 pub returns-in-Ok-clause-asked : goal.returns-in-Ok-clause-asked
 returns-in-Ok-clause-asked c =
     IfOk-weaker c.task_in-task.result _ _
     (λ task asks. entered_right _ _ (task_ask_of task) c.in-Ok.ensures.rows asks)
-    c.task_in-task.ensures.asked
-
-pub returns-in-Ok-clause-eventless : goal.returns-in-Ok-clause-eventless
-returns-in-Ok-clause-eventless c =
-    IfOk-weaker c.task_in-task.result _ _ (λ task asks. asked_eventless _ task asks)
     c.task_in-task.ensures.asked
 
 pub returns-in-Ok-clause-wrong : goal.returns-in-Ok-clause-wrong

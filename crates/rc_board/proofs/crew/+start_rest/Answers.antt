@@ -50,8 +50,8 @@ push_reserved-requires g t c =
 pub returns-then-worker-eq1-clause-said : goal.returns-then-worker-eq1-clause-said
 returns-then-worker-eq1-clause-said g t c =
     let said : (Written → Type 0) =
-    λ pad. AreSaid (g.G.Gate.answers c.args.gate.now) (g.G.Gate.gives c.args.gate.now)
-    c.args.shared.now.deadline pad.notes in
+    λ pad. AreSaid (g.G.Gate.answers c.args.crew.gate.now) (g.G.Gate.gives c.args.crew.gate.now)
+    c.args.crew.shared.now.deadline pad.notes in
     subst (λ (pads : List Written). All said pads) (sym c.push_reserved.ensures.items)
     (All-push said c.args.pads.now.items c.work.result c.requires.said c.work.ensures)
 
@@ -100,10 +100,11 @@ push_reserved-requires-2 g t c =
 pub returns-clause-said : goal.returns-clause-said
 returns-clause-said g t c =
     let said : (Written → Type 0) =
-    λ pad. AreSaid (g.G.Gate.answers c.args.gate.now) (g.G.Gate.gives c.args.gate.now)
-    c.args.shared.now.deadline pad.notes in
+    λ pad. AreSaid (g.G.Gate.answers c.args.crew.gate.now) (g.G.Gate.gives c.args.crew.gate.now)
+    c.args.crew.shared.now.deadline pad.notes in
     let there : said c.join.result =
-    subst (λ gate. AreSaid (g.G.Gate.answers gate) (g.G.Gate.gives gate) c.args.shared.now.deadline
+    subst (λ gate. AreSaid (g.G.Gate.answers gate) (g.G.Gate.gives gate)
+    c.args.crew.shared.now.deadline
     c.join.result.notes)
     c.in-Some-started.ensures.gate
     (subst (λ (deadline : Option ℕ). AreSaid

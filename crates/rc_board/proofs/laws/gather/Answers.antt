@@ -27,8 +27,8 @@ made_by needs plan deadline pads run board same course settled interleaved =
 pub finish-requires : goal.finish-requires
 finish-requires c = c.settled.ensures.0 c.if-settled.true
 
-pub returns-then-are_interleaved-clause-made : goal.returns-then-are_interleaved-clause-made
-returns-then-are_interleaved-clause-made c =
+pub returns-then-are_interleaved-clause-ok : goal.returns-then-are_interleaved-clause-ok
+returns-then-are_interleaved-clause-ok c =
     let course : c.into_run-run.result.course
     ≡ course_of c.args.graph.now c.args.plan.now c.args.deadline = search rules in
     made_by c.args.graph.now c.args.plan.now c.args.deadline c.args.pads.now c.into_run-run.result

@@ -1,4 +1,4 @@
-use Rattle.std.proofs.Common.{◌≡◌, ◌∙◌, ◌<◌, ◌≤◌, ℕ, [], IfOk, ap, sym, subst, rules}
+use Rattle.std.proofs.Common.{◌≡◌, ◌∙◌, ◌<◌, ◌≤◌, ℕ, [], ap, sym, subst, rules}
 use Rattle.std.proofs.Math.Nat.{min-le_left}
 use Rattle.rc_model.specs.Run.{IsPlanned, course_of, IsSettled}
 use Rattle.rc_model.specs.Beside.{planned_count}
@@ -6,12 +6,13 @@ use Rattle.rc_core.specs.Settled.{RunSoFar}
 use Rattle.rc_board.specs.Made.{AreMadeInTime}
 use Rattle.rc_board.proofs.Counting.{idle_settled, none_planned, one_planned, few_planned}
 use Rattle.rc_board.proofs.Counting.{ok_always}
-use Rattle.rc_board.proofs.Making.{made_none, ok_by_more, may_halt}
+use Rattle.rc_board.proofs.Making.{made_none, ok_by_more}
 use Rattle.rc_board.proofs.play.played.Goals as goal
 
 pub finish-requires : goal.finish-requires
 finish-requires g c =
-    let course = course_of c.args.graph.now c.args.plan.now c.args.deadline in
+    let course =
+    course_of c.args.course.now.graph.now c.args.course.now.plan.now c.args.course.now.deadline in
     let zero : c.planned-planned.result ≡ 0 = search rules in
     let none : planned_count course ≡ 0 =
     sym (ap (λ (r : RunSoFar). planned_count r.course) c.in_ok-run.ensures)
@@ -21,7 +22,8 @@ finish-requires g c =
 
 pub worked-requires-clause-work : goal.worked-requires-clause-work
 worked-requires-clause-work g c κs within =
-    let course = course_of c.args.graph.now c.args.plan.now c.args.deadline in
+    let course =
+    course_of c.args.course.now.graph.now c.args.course.now.plan.now c.args.course.now.deadline in
     let some : 0 < c.planned-planned.result = search rules in
     one_planned course c.planned-planned.result
     (c.planned-planned.ensures ∙ ap (λ (r : RunSoFar). planned_count r.course) c.in_ok-run.ensures)
@@ -29,7 +31,8 @@ worked-requires-clause-work g c κs within =
 
 pub returns-in-Ok-clause-idle : goal.returns-in-Ok-clause-idle
 returns-in-Ok-clause-idle g c =
-    let course = course_of c.args.graph.now c.args.plan.now c.args.deadline in
+    let course =
+    course_of c.args.course.now.graph.now c.args.course.now.plan.now c.args.course.now.deadline in
     let some : 0 < c.planned-planned.result = search rules in
     let one = one_planned course c.planned-planned.result
     (c.planned-planned.ensures ∙ ap (λ (r : RunSoFar). planned_count r.course) c.in_ok-run.ensures)
@@ -38,33 +41,15 @@ returns-in-Ok-clause-idle g c =
     (λ ended. ((s : ℕ) → IsPlanned course s → ⊥) → ended.events ≡ [])
     (λ ended none. absurd (none one.0 one.1))
 
-pub returns-then-crew-eq1-clause-idle : goal.returns-then-crew-eq1-clause-idle
-returns-then-crew-eq1-clause-idle g c =
-    let course = course_of c.args.graph.now c.args.plan.now c.args.deadline in
-    let some : 0 < c.planned-planned.result = search rules in
-    let one = one_planned course c.planned-planned.result
-    (c.planned-planned.ensures ∙ ap (λ (r : RunSoFar). planned_count r.course) c.in_ok-run.ensures)
-    some in
-    ok_always c.played_alone.result
-    (λ ended. ((s : ℕ) → IsPlanned course s → ⊥) → ended.events ≡ [])
-    (λ ended none. absurd (none one.0 one.1))
-
-pub returns-then-crew-eq1-clause-halt : goal.returns-then-crew-eq1-clause-halt
-returns-then-crew-eq1-clause-halt g c =
-    let course = course_of c.args.graph.now c.args.plan.now c.args.deadline in
-    let some : 0 < c.planned-planned.result = search rules in
-    let one = one_planned course c.planned-planned.result
-    (c.planned-planned.ensures ∙ ap (λ (r : RunSoFar). planned_count r.course) c.in_ok-run.ensures)
-    some in
-    may_halt course c.played_alone.result one
-
 pub returns-in-Ok-clause-made : goal.returns-in-Ok-clause-made
 returns-in-Ok-clause-made g c =
-    let fewer : c.crew_for-crew.result ≤ c.args.workers =
-    subst (λ (n : ℕ). n ≤ c.args.workers) (sym c.crew_for-crew.ensures.fewer)
-    (min-le_left c.args.workers c.planned-planned.result) in
-    ok_by_more (g.G.Gate.answers c.args.gate.now) (g.G.Gate.gives c.args.gate.now)
-    c.args.deadline c.args.plan.now.opening c.crew_for-crew.result c.args.workers
+    let fewer : c.crew_for-workers.result ≤ c.args.executor.now.workers =
+    subst (λ (n : ℕ). n ≤ c.args.executor.now.workers) (sym c.crew_for-workers.ensures.fewer)
+    (min-le_left c.args.executor.now.workers c.planned-planned.result) in
+    ok_by_more (g.G.Gate.answers c.args.executor.now.gate.now)
+    (g.G.Gate.gives c.args.executor.now.gate.now)
+    c.args.course.now.deadline c.args.course.now.plan.now.opening c.crew_for-workers.result
+    c.args.executor.now.workers
     c.worked.result fewer
     c.worked.ensures.made
 
@@ -74,7 +59,8 @@ returns-then-planned-eq0-clause-course g c =
 
 pub returns-then-planned-eq0-clause-settled : goal.returns-then-planned-eq0-clause-settled
 returns-then-planned-eq0-clause-settled g c =
-    let course = course_of c.args.graph.now c.args.plan.now c.args.deadline in
+    let course =
+    course_of c.args.course.now.graph.now c.args.course.now.plan.now c.args.course.now.deadline in
     let zero : c.planned-planned.result ≡ 0 = search rules in
     let none : planned_count course ≡ 0 =
     sym (ap (λ (r : RunSoFar). planned_count r.course) c.in_ok-run.ensures)
@@ -85,37 +71,18 @@ returns-then-planned-eq0-clause-settled g c =
 
 pub returns-then-planned-eq0-clause-made : goal.returns-then-planned-eq0-clause-made
 returns-then-planned-eq0-clause-made g c =
-    let answers = g.G.Gate.answers c.args.gate.now in
-    let gives = g.G.Gate.gives c.args.gate.now in
-    subst (λ (r : RunSoFar). AreMadeInTime c.args.workers answers gives c.args.deadline
-    c.args.plan.now.opening r.events)
+    let answers = g.G.Gate.answers c.args.executor.now.gate.now in
+    let gives = g.G.Gate.gives c.args.executor.now.gate.now in
+    subst (λ (r : RunSoFar). AreMadeInTime c.args.executor.now.workers answers gives
+    c.args.course.now.deadline
+    c.args.course.now.plan.now.opening r.events)
     (sym (c.finish.ensures.run ∙ c.in_ok-run.ensures))
-    (made_none answers gives c.args.deadline c.args.plan.now.opening c.args.workers)
+    (made_none answers gives c.args.course.now.deadline c.args.course.now.plan.now.opening
+    c.args.executor.now.workers)
 
 pub returns-then-planned-eq0-clause-idle : goal.returns-then-planned-eq0-clause-idle
 returns-then-planned-eq0-clause-idle g c none =
     ap (λ (r : RunSoFar). r.events) (c.finish.ensures.run ∙ c.in_ok-run.ensures)
-
-pub returns-then-crew-eq1-clause-course : goal.returns-then-crew-eq1-clause-course
-returns-then-crew-eq1-clause-course g c =
-    subst (λ (r : RunSoFar). IfOk c.played_alone.result (λ ended. ended.course ≡ r.course))
-    c.in_ok-run.ensures c.played_alone.ensures.course
-
-pub returns-then-crew-eq1-clause-settled : goal.returns-then-crew-eq1-clause-settled
-returns-then-crew-eq1-clause-settled g c =
-    subst (λ (r : RunSoFar). IfOk c.played_alone.result (λ ended. IsSettled r.course ended.events))
-    c.in_ok-run.ensures c.played_alone.ensures.settled
-
-pub returns-then-crew-eq1-clause-made : goal.returns-then-crew-eq1-clause-made
-returns-then-crew-eq1-clause-made g c =
-    let answers = g.G.Gate.answers c.args.gate.now in
-    let gives = g.G.Gate.gives c.args.gate.now in
-    ok_by_more answers gives c.args.deadline c.args.plan.now.opening 1 c.args.workers
-    c.played_alone.result
-    c.requires.crew.0
-    (subst (λ (r : RunSoFar). IfOk c.played_alone.result
-    (λ ended. AreMadeInTime 1 answers gives r.course.deadline r.course.up ended.events))
-    c.in_ok-run.ensures c.played_alone.ensures.made)
 
 pub room_for-requires-clause-fresh : goal.room_for-requires-clause-fresh
 room_for-requires-clause-fresh g c = ap (λ (r : RunSoFar). r.events) c.in_ok-run.ensures

@@ -1,5 +1,5 @@
 use Rattle.std.proofs.Common.{map, string_bytes}
-use Rattle.rc_session.specs.Commands.{command_of}
+use Rattle.rc_session.specs.Commands.{plain_of}
 use Rattle.rc_cli.proofs.BegunLemmas.{none_said, not_step, said_once, step_said}
 use Rattle.rc_cli.specs.Begun.{lowering}
 use Rattle.rc_script.specs.Says.{saying_of}
@@ -13,22 +13,22 @@ returns-in_default c = (
       c.in_default.ensures.none says),
 )
 
-pub returns-in-Step : goal.returns-in-Step
-returns-in-Step c =
+pub returns-in-Command : goal.returns-in-Command
+returns-in-Command c =
     step_said c.args.bytes.now c.in-Some.line.now c.in-Some._rest.now
     (map string_bytes c.args.names.now)
-    (command_of c.in-Step.step) c.is_lowering-is.result c.lines_say_one_thing.ensures
+    (plain_of c.in-Command.command) c.is_lowering-is.result c.lines_say_one_thing.ensures
     c.in-Some.ensures.line
-    (rw c.in-Step.is at c.in_ok-step.ensures.said) c.is_lowering-is.ensures
+    (rw c.in-Command.is at c.in_ok-command.ensures.said) c.is_lowering-is.ensures
 
 pub returns : goal.returns
 returns c = (
   λ no. let wrong = no in cc,
   λ says. absurd
-      (not_step c.in_ok-step.field-0 (lowering (map string_bytes c.args.names.now))
-      c.in_default-2.not-Step
+      (not_step c.in_ok-command.field-0 (lowering (map string_bytes c.args.names.now))
+      c.in_default-2.not-Command
       (said_once c.args.bytes.now c.in-Some.line.now c.in-Some._rest.now
       (map string_bytes c.args.names.now)
-      (saying_of c.in_ok-step.field-0) c.lines_say_one_thing.ensures c.in-Some.ensures.line
-      c.in_ok-step.ensures.said says)),
+      (saying_of c.in_ok-command.field-0) c.lines_say_one_thing.ensures c.in-Some.ensures.line
+      c.in_ok-command.ensures.said says)),
 )

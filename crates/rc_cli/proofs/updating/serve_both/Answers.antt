@@ -15,9 +15,6 @@ line_once-requires-clause-closed g c κs within = c.requires.from.0
 pub line_once-requires-clause-whole : goal.line_once-requires-clause-whole
 line_once-requires-clause-whole g c κs within = c.requires.from.1
 
-pub line_once-requires-clause-eventless : goal.line_once-requires-clause-eventless
-line_once-requires-clause-eventless g c κs within = c.requires.lowering
-
 pub line_once-requires-clause-writer : goal.line_once-requires-clause-writer
 line_once-requires-clause-writer g c κs within = c.requires.writer
 
@@ -26,10 +23,6 @@ line_once-requires-in-Ok-Done-clause-closed g c κs within = c.requires.to.0
 
 pub line_once-requires-in-Ok-Done-clause-whole : goal.line_once-requires-in-Ok-Done-clause-whole
 line_once-requires-in-Ok-Done-clause-whole g c κs within = c.requires.to.1
-
-pub line_once-requires-in-Ok-Done-clause-eventless :
-    goal.line_once-requires-in-Ok-Done-clause-eventless
-line_once-requires-in-Ok-Done-clause-eventless g c κs within = c.requires.raising
 
 pub line_once-requires-in-Ok-Done-clause-writer : goal.line_once-requires-in-Ok-Done-clause-writer
 line_once-requires-in-Ok-Done-clause-writer g c κs within = c.in-Ok-Done.ensures.sound

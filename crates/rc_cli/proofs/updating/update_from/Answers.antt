@@ -1,6 +1,4 @@
-use Rattle.std.proofs.Common.{◌≡◌, ap, inl, map, refl}
-use Rattle.std.specs.String.{string_bytes}
-use Rattle.rc_model.specs.declared.Mode.TheVariants.{DownAll, Up}
+use Rattle.std.proofs.Common.{◌≡◌, ap, inl, refl}
 use Rattle.rc_streams.specs.Noting.{inner_of}
 use Rattle.rc_script.specs.Says.{saying_of}
 use Rattle.rc_args.specs.OnceAsked.{Said}
@@ -8,9 +6,8 @@ use Rattle.rc_args.specs.SessionAsked.{session_ask_of}
 use Rattle.rc_serve.specs.Ending.{IsDoneAs}
 use Rattle.rc_cli.specs.Storing.{store_of}
 use Rattle.rc_update.specs.Conversions.{conversions_of}
-use Rattle.rc_cli.specs.Steps.{step_ask}
 use Rattle.rc_cli.specs.Updating.{Parts, carried_line, parts_of, session_with}
-use Rattle.rc_cli.proofs.UpdateLemmas.{journal_bound, line_bound, says_eventless, stands_closed}
+use Rattle.rc_cli.proofs.UpdateLemmas.{journal_bound, line_bound, stands_closed}
 use Rattle.rc_cli.proofs.UpdateLemmas.{update_with, updated_by, with_bound}
 use Rattle.rc_cli.proofs.updating.update_from.Goals as goal
 
@@ -59,18 +56,6 @@ pub serve_both-ended-requires-clause-to : goal.serve_both-ended-requires-clause-
 serve_both-ended-requires-clause-to g c κs within =
     stands_closed c.in-Ok-session_of.to c.args.new
     (carried_line c.args.new c.in-Ok.update.kept c.bound-bound.result) c.in-Ok-session_of.ensures
-
-pub serve_both-ended-requires-clause-lowering : goal.serve_both-ended-requires-clause-lowering
-serve_both-ended-requires-clause-lowering g c κs within =
-    says_eventless c.args.request.now.dry
-    (step_ask DownAll (map string_bytes c.in-Ok.update.lower.items))
-    (saying_of c.step_line-lowering.result) c.step_line-lowering.ensures.says
-
-pub serve_both-ended-requires-clause-raising : goal.serve_both-ended-requires-clause-raising
-serve_both-ended-requires-clause-raising g c κs within =
-    says_eventless c.args.request.now.dry
-    (step_ask Up (map string_bytes c.in-Ok.update.raise.items))
-    (saying_of c.step_line-raising.result) c.step_line-raising.ensures.says
 
 pub serve_both-ended-requires-clause-writer : goal.serve_both-ended-requires-clause-writer
 serve_both-ended-requires-clause-writer g c κs within = c.requires.writer

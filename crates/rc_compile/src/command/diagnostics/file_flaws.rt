@@ -63,7 +63,7 @@ fn add_unread(search: &mut Search<'_>, path: &str, is_folder: bool) {
         Found::Other if !is_folder => "is a pipe, a socket or a device, where a file is due",
         _ => match opened(search, path, is_folder) {
             None | Some(ErrorKind::NotFound | ErrorKind::FilesystemLoop) => return,
-            Some(kind) => word_of(kind),
+            Some(kind) => word_of(kind).unwrap_or(UNREADABLE),
         },
     };
     search.said.add_row(path, ": ", why);
@@ -205,22 +205,27 @@ pub(crate) fn add_root(search: &mut Search<'_>) {
     for root in search.roots {
         let root = root.as_str();
         if let Some(kind) = opened(search, root, true) {
-            search.said.add_row(root, ": ", word_of(kind));
+            search
+                .said
+                .add_row(root, ": ", word_of(kind).unwrap_or(UNREADABLE));
             return;
         }
     }
 }
 
-/// The system's word for an error.
-pub fn word_of(kind: ErrorKind) -> &'static str {
+/// What is said of an error that has no word of its own.
+const UNREADABLE: &str = "can't be read or written";
+
+/// The word for an error, of those that are met most often.
+pub fn word_of(kind: ErrorKind) -> Option<&'static str> {
     match kind {
-        ErrorKind::NotFound => "no such file or directory",
-        ErrorKind::PermissionDenied => "permission denied",
-        ErrorKind::IsADirectory => "is a directory",
-        ErrorKind::NotADirectory => "is no directory",
-        ErrorKind::FilesystemLoop => "a link leads back to itself",
-        ErrorKind::StorageFull => "no space left on the device",
-        ErrorKind::ReadOnlyFilesystem => "the file system is read-only",
-        _ => "can't be read or written",
+        ErrorKind::NotFound => Some("no such file or directory"),
+        ErrorKind::PermissionDenied => Some("permission denied"),
+        ErrorKind::IsADirectory => Some("is a directory"),
+        ErrorKind::NotADirectory => Some("is no directory"),
+        ErrorKind::FilesystemLoop => Some("a link leads back to itself"),
+        ErrorKind::StorageFull => Some("no space left on the device"),
+        ErrorKind::ReadOnlyFilesystem => Some("the file system is read-only"),
+        _ => None,
     }
 }

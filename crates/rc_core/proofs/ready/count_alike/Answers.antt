@@ -1,6 +1,6 @@
 use Rattle.std.proofs.Common.{◌≡◌, ◌∙◌, ◌<◌, ℕ, false, length, slice_index_or, sym, arith}
-use Rattle.rc_core.proofs.Arriving.{beq-true, beq-false, short_list, all_counted, none_of_them}
-use Rattle.rc_core.proofs.Arriving.{each_listed}
+use Rattle.rc_graph.proofs.RowLemmas.{short_list}
+use Rattle.rc_core.proofs.Arriving.{beq-true, beq-false, all_counted, none_of_them, each_listed}
 use Rattle.rc_core.proofs.ready.count_alike.Goals as goal
 
 pub overflow_cast-result : goal.overflow_cast-result

@@ -3,7 +3,8 @@ use Rattle.std.proofs.Common.{slice_index_or, sym, subst, arith}
 use Rattle.std.proofs.lemmas.List.{take_more, take_all}
 use Rattle.rc_core.specs.Ready.{IsCount}
 use Rattle.rc_core.proofs.Arriving.{beq-true, beq-false, none_counted, one_counted, one_passed_by}
-use Rattle.rc_core.proofs.Arriving.{above_front, at_least, same_truth}
+use Rattle.rc_graph.proofs.RowLemmas.{at_least}
+use Rattle.rc_core.proofs.Arriving.{above_front, same_truth}
 use Rattle.rc_core.proofs.ready.count_of.Goals as goal
 use Rattle.rc_core.proofs.ready.count_of.Goals.{then-contains-inside, else-contains-inside}
 

@@ -8,7 +8,7 @@ pub loop-id-preserved : goal.loop-id-preserved
 loop-id-preserved c =
     let so_far : List ℕ = c.args.out.now.items ++ words_after_spaces
     (map (name_at c.args.names.now) (take c.loop-id.id-index c.args.ids.now)) in
-    c.in_ok-push_word.ensures ∙ ap (λ (l : List ℕ). l ++ 32 ∷ c.word_at.result.now)
+    c.in-Ok.ensures.written ∙ ap (λ (l : List ℕ). l ++ 32 ∷ c.word_at.result.now)
     c.loop-id.invariant ∙ ap (λ (w : List ℕ). so_far ++ 32 ∷ w) c.word_at.ensures
     ∙ spaced_more (name_at c.args.names.now) c.args.out.now.items c.args.ids.now c.loop-id.id-index
     0 c.loop-id-test.true

@@ -11,12 +11,12 @@ push_ids-requires c =
     (ids_low c.args.names.now c.len-count.ensures.names.order c.args.set.now c.in_ok-ids.ids.items
     c.requires c.in_ok-ids.ensures)
 
-pub returns : goal.returns
-returns c =
+pub returns-clause-written : goal.returns-clause-written
+returns-clause-written c =
     let named : map (name_at c.args.names.now) c.in_ok-ids.ids.items
     ≡ map (name_at c.args.names.now) (members c.args.set.now) =
     same_members c.args.names.now c.len-count.ensures.names.order c.args.set.now
     c.in_ok-ids.ids.items c.requires c.in_ok-ids.ensures in
-    c.in_ok-push_ids.ensures
+    c.in_ok-push_ids.ensures.written
     ∙ ap (λ (l : List (List ℕ)). c.args.out.now.items ++ words_after_spaces l)
     (ap (map (name_at c.args.names.now)) c.as_slice.ensures.value ∙ named)

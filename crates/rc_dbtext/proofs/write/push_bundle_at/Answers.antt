@@ -18,4 +18,5 @@ returns c = λ text text_at.
     (sym c.table-table.ensures.table) ∙ c.at.ensures in
     bundle_written c.args.db.now c.names-names.ensures.database c.names-names.result.now
     c.args.place c.at.result.0.now c.at.result.1.now text c.args.out.now.items
-    c.push_bundle.new.out.items c.names-names.ensures.names here text_at c.in_ok-push_bundle.ensures
+    c.push_bundle.new.out.items c.names-names.ensures.names here text_at
+    c.in_ok-push_bundle.ensures.written

@@ -9,7 +9,7 @@ returns c =
     let last : c.extend_from_slice.new.self.items ≡ c.push_bundles.new.out.items
     ++ (codes "end" ++ 10 ∷ []) = search rules in
     let first : c.push_line.new.out.items ≡ line_of_words (codes "undorc-db" ∷ codes "1" ∷ []) =
-    c.in_ok-push_line.ensures
+    c.in_ok-push_line.ensures.written
     ∙ ap (λ (l : List ℕ). l ++ line_of_words (codes "undorc-db" ∷ codes "1" ∷ []))
     c.new-out.ensures.items in
     parts_written c.args.db.now c.push_line.new.out.items c.push_services.new.out.items

@@ -19,5 +19,4 @@ returns-in-Ok-runs c = record {
   runs = subst (λ (r : SessionRequest). AreRunsOf (making_ask_of r.making) c.args.store.now
       c.in-Ok-runs.runs) c.session-2.ensures c.in-Ok-runs.ensures.made;
   moving = refl;
-  eventless = c.with_again.ensures.eventless c.requires.eventless;
 }

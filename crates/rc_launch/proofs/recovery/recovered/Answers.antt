@@ -1,5 +1,5 @@
 use Rattle.std.proofs.Common.{refl}
-use Rattle.rc_launch.specs.Recovered.{files_held}
+use Rattle.rc_launch.specs.Held.{files_held}
 use Rattle.rc_launch.proofs.RecoveryLemmas.{came_first, came_second}
 use Rattle.rc_launch.proofs.recovery.recovered.Goals as goal
 

@@ -19,7 +19,7 @@ loop-place-preserved c =
     grown c.push_bundle.new.out.items c.loop-place.out.items c.args.out.now.items
     (bundle_bytes c.args.names.now (take c.loop-place.place c.args.table.now)) _
     (spell (OfBundle (bundle_text c.args.names.now (c.at.result.0.now, c.at.result.1.now))))
-    c.in_ok-push_bundle.ensures c.loop-place.invariant
+    c.in_ok-push_bundle.ensures.written c.loop-place.invariant
     (ap (bundle_bytes c.args.names.now)
     (take_next c.args.table.now c.loop-place.place _ c.at.ensures)
     ∙ bundles_push c.args.names.now (take c.loop-place.place c.args.table.now)

@@ -9,7 +9,7 @@ pub returns : goal.returns
 returns c =
     let names : List (List ℕ) = map (name_at c.args.names.now) (members c.args.live.now) in
     c.in_ok-extend_from_slice-2.ensures.items
-    ∙ (ap (λ (t : List ℕ). t ++ 10 ∷ []) (c.in_ok-push_set.ensures
+    ∙ (ap (λ (t : List ℕ). t ++ 10 ∷ []) (c.in_ok-push_set.ensures.written
     ∙ ap (λ (t : List ℕ). t ++ words_after_spaces names)
     (c.in_ok-extend_from_slice.ensures.items ∙ ap (λ (t : List ℕ). c.args.out.now.items ++ t)
     c.word_of.ensures))

@@ -11,7 +11,7 @@ pub loop-id-preserved : goal.loop-id-preserved
 loop-id-preserved c =
     grown c.push_word.new.out.items c.loop-id.out.items (c.args.out.now.items ++ codes "services")
     (words_after_spaces (take c.loop-id.id c.args.names.now)) _ (32 ∷ c.name_of.result.now)
-    (c.in_ok-push_word.ensures ∙ ap (λ (name : List ℕ). c.loop-id.out.items ++ 32 ∷ name)
+    (c.in_ok-push_word.ensures.written ∙ ap (λ (name : List ℕ). c.loop-id.out.items ++ 32 ∷ name)
     (c.as_bytes.ensures.value ∙ c.text.ensures.bytes))
     c.loop-id.invariant
     (ap words_after_spaces

@@ -23,7 +23,7 @@ step_on-requires-clause-here c = c.loop-place.invariant.here
 pub push_state-requires-in-loop-place : goal.push_state-requires-in-loop-place
 push_state-requires-in-loop-place c =
     at_place (IsWithin (length c.args.names.now)) (states c.args.line.now.line)
-    (c.loop-place.place + 1) _ c.in_ok-step_on.ensures c.requires.sets
+    (c.loop-place.place + 1) _ c.in_ok-step_on.ensures.next c.requires.sets
 
 pub loop-place-init : goal.loop-place-init
 loop-place-init c =
@@ -43,14 +43,14 @@ loop-place-preserved c =
     let line = c.args.line.now.line in
     let s : State = record { live = c.step_on.new.live; table = c.step_on.new.table } in
     record {
-      here = c.in_ok-step_on.ensures;
+      here = c.in_ok-step_on.ensures.next;
       said =
           grown c.push_state-in-loop-place.new.out.items c.loop-place.out.items c.args.out.now.items
           (state_bytes c.args.names.now (cursor line) 0
           (take (c.loop-place.place + 1) (states line))) _ _
           c.in_ok-push_state-2.ensures c.loop-place.invariant.said
           (states_next c.args.names.now (cursor line) (states line) (c.loop-place.place + 1) s
-          c.in_ok-step_on.ensures
+          c.in_ok-step_on.ensures.next
           ∙ ap (λ (k : ℕ). state_bytes c.args.names.now (cursor line) 0
           (take (c.loop-place.place + 1) (states line)) ++ spells spell
           (state_lines (k == (c.loop-place.place + 1)) (state_text c.args.names.now s)))

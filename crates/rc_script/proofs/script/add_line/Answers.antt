@@ -1,8 +1,8 @@
 use Rattle.std.proofs.Common.{◌≡◌, ◌∙◌, ◌∷◌, ◌++◌, [], ℕ, List, Some, map, refl, sym, ap}
 use Rattle.std.proofs.lemmas.List.{map-append}
 use Rattle.rc_model.specs.Session.{Command}
-use Rattle.rc_session.specs.Commands.{command_of}
-use Rattle.rc_session.specs.declared.step.Step.{Step}
+use Rattle.rc_session.specs.Commands.{command_of, plain_of}
+use Rattle.rc_session.specs.declared.step.Command.{Command as Plain}
 use Rattle.rc_script.specs.declared.line.SessionLine.{SessionLine}
 use Rattle.rc_script.specs.declared.line.SessionLine.TheVariants as variants
 use Rattle.rc_script.specs.Says.{Says, SaysNothing, SaysWrong, SaysStep, SaysLive, SaysBundles}
@@ -14,10 +14,10 @@ use Rattle.rc_script.proofs.script.add_line.Goals as goal
 -- a line that is no command and has a form may not stand in a script
 no_command : (names : List (List ℕ)) (line : List ℕ) (old : List Command) (read : SessionLine)
     → Says line (saying_of read) → (read ≡ variants.Nothing → ⊥) → (read ≡ variants.Wrong → ⊥)
-    → ((step : Step) → read ≡ variants.Step step → ⊥) → CannotAdd names line old
+    → ((command : Plain) → read ≡ variants.Command command → ⊥) → CannotAdd names line old
 no_command names line old variants.Nothing says nothing wrong step = absurd (nothing refl)
 no_command names line old variants.Wrong says nothing wrong step = absurd (wrong refl)
-no_command names line old (variants.Step it) says nothing wrong step = absurd (step it refl)
+no_command names line old (variants.Command it) says nothing wrong step = absurd (step it refl)
 no_command names line old (variants.Dry request) says nothing wrong step =
     (OtherForm, (saying_of (variants.Dry request), says, refl), refl)
 no_command names line old variants.Live says nothing wrong step =
@@ -46,17 +46,19 @@ pub returns : goal.returns
 returns c =
     no_command c.args.names.now c.args.line.now (map command_of c.args.steps.now.items)
     c.in_ok-read_line.field-0 c.in_ok-read_line.ensures.said c.in_default.not-Nothing
-    c.in_default.not-Wrong c.in_default.not-Step
+    c.in_default.not-Wrong c.in_default.not-Command
 
-pub returns-in-Step : goal.returns-in-Step
-returns-in-Step c =
-    let command = command_of c.in-Step.step in
+pub returns-in-Command : goal.returns-in-Command
+returns-in-Command c =
+    let command = plain_of c.in-Command.command in
     let pushed : map command_of c.push.new.self.items ≡ map command_of c.args.steps.now.items
     ++ command ∷ [] =
-    ap (map command_of) c.in_ok-push-in-Step.ensures.items
-    ∙ map-append command_of c.args.steps.now.items (c.in-Step.step ∷ []) in (
+    ap (map command_of) c.in_ok-push-in-Command.ensures.items
+    ∙ map-append command_of c.args.steps.now.items (c.into_step.result ∷ [])
+    ∙ ap (λ (one : Command). map command_of c.args.steps.now.items ++ one ∷ [])
+    c.into_step.ensures in (
       Starts command,
-      (SaysStep command, rw c.in-Step.is at c.in_ok-read_line.ensures.said, refl),
+      (SaysStep command, rw c.in-Command.is at c.in_ok-read_line.ensures.said, refl),
       ap Some (sym pushed),
     )
 

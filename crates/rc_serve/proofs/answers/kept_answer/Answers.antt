@@ -1,5 +1,5 @@
-use Rattle.std.proofs.Common.{◌∙◌, [], inl, ap, sym, subst, length}
-use Rattle.rc_session.specs.Commands.{command_of, with_events}
+use Rattle.std.proofs.Common.{◌∙◌, inl, ap, sym, subst, length}
+use Rattle.rc_session.specs.Commands.{plain_of}
 use Rattle.rc_board.specs.Working.{HasWork}
 use Rattle.rc_serve.specs.declared.fault.ServeFault.{ServeFault}
 use Rattle.rc_serve.specs.Faults.{Spoils}
@@ -25,7 +25,7 @@ pub returns-then-is_current-clause-fault : goal.returns-then-is_current-clause-f
 returns-then-is_current-clause-fault g c =
     ends_line (g.K.Keeper.failed c.args.keeper.now)
     (HasWork c.args.session.now.database c.args.session.now.line
-    (with_events (command_of c.args.step.now) [])) c.step_answer-answer.result c.args.session.now
+    (plain_of c.args.command.now)) c.step_answer-answer.result c.args.session.now
     c.step_answer-answer.new.session c.step_answer-answer.ensures.fault
 
 pub returns-then-is_current-clause-kept : goal.returns-then-is_current-clause-kept
@@ -33,9 +33,10 @@ returns-then-is_current-clause-kept g c =
     let here = c.is_current.ensures.0 c.if-is_current.true in
     line_still c.step_answer-answer.result g.K.Keeper.fails (g.K.Keeper.keeps c.args.keeper.now)
     c.args.session.now.database c.args.session.now.line c.step_answer-answer.new.session.line
-    (met_still c.args.workers (g.G.Gate.answers c.args.gate.now) (g.G.Gate.gives c.args.gate.now)
+    (met_still c.args.executor.now.workers (g.G.Gate.answers c.args.executor.now.gate.now)
+    (g.G.Gate.gives c.args.executor.now.gate.now)
     c.args.session.now.database c.args.session.now.line c.journal.ensures.states
-    (with_events (command_of c.args.step.now) []) c.step_answer-answer.new.session.line
+    (plain_of c.args.command.now) c.step_answer-answer.new.session.line
     c.step_answer-answer.ensures.may
     (same_state c.step_answer-answer.new.session.line.current c.args.session.now.line.current
     (here.0 ∙ c.in-Ok.ensures.0) (here.1 ∙ c.in-Ok.ensures.1)))
@@ -44,7 +45,7 @@ pub returns-in-Ok-keep-clause-fault : goal.returns-in-Ok-keep-clause-fault
 returns-in-Ok-keep-clause-fault g c =
     ends_line (g.K.Keeper.failed c.keep.new.self)
     (HasWork c.args.session.now.database c.args.session.now.line
-    (with_events (command_of c.args.step.now) [])) c.step_answer-answer.result c.args.session.now
+    (plain_of c.args.command.now)) c.step_answer-answer.result c.args.session.now
     c.step_answer-answer.new.session c.step_answer-answer.ensures.fault
 
 pub returns-in-Ok-keep-clause-kept : goal.returns-in-Ok-keep-clause-kept
@@ -70,11 +71,11 @@ pub returns-clause-fault : goal.returns-clause-fault
 returns-clause-fault g c =
     subst (λ (f : ServeFault). EndsLine (g.K.Keeper.failed c.keep.new.self)
     (HasWork c.args.session.now.database c.args.session.now.line
-    (with_events (command_of c.args.step.now) [])) c.args.session.now
+    (plain_of c.args.command.now)) c.args.session.now
     c.step_answer-answer.new.session f) (sym c.from.ensures)
     (keep_ends (g.K.Keeper.failed c.keep.new.self)
     (HasWork c.args.session.now.database c.args.session.now.line
-    (with_events (command_of c.args.step.now) [])) c.in-Err.fault c.args.session.now
+    (plain_of c.args.command.now)) c.in-Err.fault c.args.session.now
     c.step_answer-answer.new.session c.in-Err.ensures.io)
 
 pub returns-clause-whole : goal.returns-clause-whole
@@ -84,7 +85,7 @@ returns-clause-whole g c =
     (keep_spoils c.in-Err.fault c.args.session.now c.step_answer-answer.new.session
     (altered_sound
     (HasWork c.args.session.now.database c.args.session.now.line
-    (with_events (command_of c.args.step.now) [])) c.step_answer-answer.result c.args.session.now
+    (plain_of c.args.command.now)) c.step_answer-answer.result c.args.session.now
     c.step_answer-answer.new.session c.step_answer-answer.ensures.fault
     c.step_answer-answer.ensures.whole
     (is_altered c.is_current.result c.args.session.now.line c.step_answer-answer.new.session.line

@@ -1,5 +1,5 @@
-use Rattle.std.proofs.Common.{inl, inr, refl, subst}
-use Rattle.rc_script.specs.Says.{Saying, Says, saying_of}
+use Rattle.std.proofs.Common.{inl, inr, refl}
+use Rattle.rc_script.specs.Says.{saying_of}
 use Rattle.rc_serve.specs.Meeting.{IsDoneBy, WantsWork}
 use Rattle.rc_serve.specs.Serving.{BytesWantWork}
 use Rattle.rc_serve.proofs.Keeping.{ends_line_as, kept_none}
@@ -12,16 +12,10 @@ said_answer-requires-clause-closed g c κs within = c.requires.closed
 pub said_answer-requires-clause-crew : goal.said_answer-requires-clause-crew
 said_answer-requires-clause-crew g c κs within = c.requires.crew
 
-pub said_answer-requires-clause-eventless : goal.said_answer-requires-clause-eventless
-said_answer-requires-clause-eventless g c κs within = λ command is. c.lines_give_no_events.ensures
-    c.args.line.now command
-    (subst (λ (s : Saying). Says c.args.line.now s) is
-    (read_says _ c.args.line.now c.read_line.result c.in-Ok.said c.in-Ok.is
-    c.read_line.ensures.said))
-
 pub returns-in-Ok-clause-met : goal.returns-in-Ok-clause-met
 returns-in-Ok-clause-met g c =
-    bytes_met c.args.workers (g.G.Gate.answers c.args.gate.now) (g.G.Gate.gives c.args.gate.now)
+    bytes_met c.args.executor.now.workers (g.G.Gate.answers c.args.executor.now.gate.now)
+    (g.G.Gate.gives c.args.executor.now.gate.now)
     c.args.line.now (saying_of c.in-Ok.said) c.args.session.now.database c.args.session.now.line
     c.said_answer.result c.said_answer.new.session.line
     (read_says _ c.args.line.now c.read_line.result c.in-Ok.said c.in-Ok.is
@@ -29,8 +23,8 @@ returns-in-Ok-clause-met g c =
 
 pub returns-in-Ok-clause-may : goal.returns-in-Ok-clause-may
 returns-in-Ok-clause-may g c =
-    bytes_may (IsDoneBy c.args.workers (g.G.Gate.answers c.args.gate.now)
-    (g.G.Gate.gives c.args.gate.now)) c.args.line.now (saying_of c.in-Ok.said)
+    bytes_may (IsDoneBy c.args.executor.now.workers (g.G.Gate.answers c.args.executor.now.gate.now)
+    (g.G.Gate.gives c.args.executor.now.gate.now)) c.args.line.now (saying_of c.in-Ok.said)
     c.args.session.now.database c.args.session.now.line c.said_answer.new.session.line
     (read_says _ c.args.line.now c.read_line.result c.in-Ok.said c.in-Ok.is
     c.read_line.ensures.said) c.said_answer.ensures.may

@@ -1,5 +1,5 @@
-use Rattle.std.proofs.Common.{[], ap, refl}
-use Rattle.rc_session.specs.Commands.{command_of, with_events}
+use Rattle.std.proofs.Common.{ap, refl}
+use Rattle.rc_session.specs.Commands.{plain_of}
 use Rattle.rc_script.specs.Says.{saying_of}
 use Rattle.rc_board.specs.Working.{HasWork}
 use Rattle.rc_serve.specs.Ending.{IsDoneAs, IsEditedAs}
@@ -19,64 +19,68 @@ kept_answer-requires-clause-crew g c κs within = c.requires.crew
 pub shown-requires : goal.shown-requires
 shown-requires g c = record {
   closed = c.requires.closed;
-  shows = λ command is. not_step c.args.said.now command c.in_default.not-Step is;
+  shows = λ command is. not_step c.args.said.now command c.in_default.not-Command is;
 }
 
-pub returns-in-Step-clause-met : goal.returns-in-Step-clause-met
-returns-in-Step-clause-met g c =
-    step_met (IsDoneAs c.args.workers (g.G.Gate.answers c.args.gate.now)
-    (g.G.Gate.gives c.args.gate.now)) (saying_of c.args.said.now) (command_of c.in-Step.step)
+pub returns-in-Command-clause-met : goal.returns-in-Command-clause-met
+returns-in-Command-clause-met g c =
+    step_met (IsDoneAs c.args.executor.now.workers (g.G.Gate.answers c.args.executor.now.gate.now)
+    (g.G.Gate.gives c.args.executor.now.gate.now)) (saying_of c.args.said.now)
+    (plain_of c.in-Command.command)
     c.args.session.now.database c.args.session.now.line c.kept_answer.result
-    c.kept_answer.new.session.line (ap saying_of c.in-Step.is)
-    (c.requires.eventless (command_of c.in-Step.step) (ap saying_of c.in-Step.is))
+    c.kept_answer.new.session.line (ap saying_of c.in-Command.is)
     c.kept_answer.ensures.met
 
-pub returns-in-Step-clause-may : goal.returns-in-Step-clause-may
-returns-in-Step-clause-may g c =
-    step_may (IsDoneBy c.args.workers (g.G.Gate.answers c.args.gate.now)
-    (g.G.Gate.gives c.args.gate.now)) (saying_of c.args.said.now) (command_of c.in-Step.step)
+pub returns-in-Command-clause-may : goal.returns-in-Command-clause-may
+returns-in-Command-clause-may g c =
+    step_may (IsDoneBy c.args.executor.now.workers (g.G.Gate.answers c.args.executor.now.gate.now)
+    (g.G.Gate.gives c.args.executor.now.gate.now)) (saying_of c.args.said.now)
+    (plain_of c.in-Command.command)
     c.args.session.now.database c.args.session.now.line c.kept_answer.new.session.line
-    (ap saying_of c.in-Step.is)
-    (c.requires.eventless (command_of c.in-Step.step) (ap saying_of c.in-Step.is))
+    (ap saying_of c.in-Command.is)
     c.kept_answer.ensures.may
 
-pub returns-in-Step-clause-stays : goal.returns-in-Step-clause-stays
-returns-in-Step-clause-stays g c = c.kept_answer.ensures.stays
+pub returns-in-Command-clause-stays : goal.returns-in-Command-clause-stays
+returns-in-Command-clause-stays g c = c.kept_answer.ensures.stays
 
-pub returns-in-Step-clause-fault : goal.returns-in-Step-clause-fault
-returns-in-Step-clause-fault g c =
+pub returns-in-Command-clause-fault : goal.returns-in-Command-clause-fault
+returns-in-Command-clause-fault g c =
     ends_line_as (g.K.Keeper.failed c.kept_answer.new.keeper)
     (HasWork c.args.session.now.database c.args.session.now.line
-    (with_events (command_of c.in-Step.step) []))
+    (plain_of c.in-Command.command))
     (WantsWork c.args.session.now.database c.args.session.now.line (saying_of c.args.said.now))
     c.kept_answer.result c.args.session.now c.kept_answer.new.session
-    (step_wants (saying_of c.args.said.now) (command_of c.in-Step.step) c.args.session.now.database
-    c.args.session.now.line (ap saying_of c.in-Step.is)
-    (c.requires.eventless (command_of c.in-Step.step) (ap saying_of c.in-Step.is)))
+    (step_wants (saying_of c.args.said.now) (plain_of c.in-Command.command)
+    c.args.session.now.database
+    c.args.session.now.line (ap saying_of c.in-Command.is))
     c.kept_answer.ensures.fault
 
-pub returns-in-Step-clause-kept : goal.returns-in-Step-clause-kept
-returns-in-Step-clause-kept g c = c.kept_answer.ensures.kept
+pub returns-in-Command-clause-kept : goal.returns-in-Command-clause-kept
+returns-in-Command-clause-kept g c = c.kept_answer.ensures.kept
 
-pub returns-in-Step-clause-whole : goal.returns-in-Step-clause-whole
-returns-in-Step-clause-whole g c = c.kept_answer.ensures.whole
+pub returns-in-Command-clause-whole : goal.returns-in-Command-clause-whole
+returns-in-Command-clause-whole g c = c.kept_answer.ensures.whole
 
-pub returns-in-Step-clause-unaltered : goal.returns-in-Step-clause-unaltered
-returns-in-Step-clause-unaltered g c = c.kept_answer.ensures.unaltered
+pub returns-in-Command-clause-unaltered : goal.returns-in-Command-clause-unaltered
+returns-in-Command-clause-unaltered g c = c.kept_answer.ensures.unaltered
 
 pub returns-in_default : goal.returns-in_default
 returns-in_default g c = record {
   met =
       said_met_on IsEditedAs
-      (IsDoneAs c.args.workers (g.G.Gate.answers c.args.gate.now) (g.G.Gate.gives c.args.gate.now))
+      (IsDoneAs c.args.executor.now.workers (g.G.Gate.answers c.args.executor.now.gate.now)
+      (g.G.Gate.gives c.args.executor.now.gate.now))
       c.args.session.now.database c.args.session.now.line (saying_of c.args.said.now) c.shown.result
       c.args.session.now.line
-      (λ ending command text done. edited_as c.args.workers (g.G.Gate.answers c.args.gate.now)
-      (g.G.Gate.gives c.args.gate.now) ending c.args.session.now.database c.args.session.now.line
+      (λ ending command text done. edited_as c.args.executor.now.workers
+      (g.G.Gate.answers c.args.executor.now.gate.now)
+      (g.G.Gate.gives c.args.executor.now.gate.now) ending c.args.session.now.database
+      c.args.session.now.line
       command text c.args.session.now.line done) c.shown.ensures.met;
   may =
-      may_stay (IsDoneBy c.args.workers (g.G.Gate.answers c.args.gate.now)
-      (g.G.Gate.gives c.args.gate.now)) c.args.session.now.database c.args.session.now.line
+      may_stay (IsDoneBy c.args.executor.now.workers (g.G.Gate.answers c.args.executor.now.gate.now)
+      (g.G.Gate.gives c.args.executor.now.gate.now)) c.args.session.now.database
+      c.args.session.now.line
       (saying_of c.args.said.now);
   stays = (refl, c.requires.closed);
   fault =

@@ -13,13 +13,15 @@ use Rattle.rc_serve.proofs.one_line.answer_once.Goals as goal
 pub returns-in_err-answer-clause-stopped : goal.returns-in_err-answer-clause-stopped
 returns-in_err-answer-clause-stopped g c =
     let stops : StopsOnce
-    (IsDoneBy c.args.workers (g.G.Gate.answers c.args.gate.now) (g.G.Gate.gives c.args.gate.now))
+    (IsDoneBy c.args.executor.now.workers (g.G.Gate.answers c.args.executor.now.gate.now)
+    (g.G.Gate.gives c.args.executor.now.gate.now))
     c.in_err-answer.field-0.0 g.K.Keeper.fails (g.K.Keeper.keeps c.args.keeper.now)
     (g.K.Keeper.keeps c.said_answer.new.keeper) (saying_of c.args.said.now)
     (g.W.Write.contents (inner_of c.args.writer.now))
     (g.W.Write.contents (inner_of c.args.writer.now)) c.args.session.now c.said_answer.new.session =
-    once_short (IsDoneBy c.args.workers (g.G.Gate.answers c.args.gate.now)
-    (g.G.Gate.gives c.args.gate.now)) g.K.Keeper.fails (g.K.Keeper.keeps c.args.keeper.now)
+    once_short (IsDoneBy c.args.executor.now.workers (g.G.Gate.answers c.args.executor.now.gate.now)
+    (g.G.Gate.gives c.args.executor.now.gate.now)) g.K.Keeper.fails
+    (g.K.Keeper.keeps c.args.keeper.now)
     (g.K.Keeper.keeps c.said_answer.new.keeper) (saying_of c.args.said.now)
     (g.W.Write.contents (inner_of c.args.writer.now)) c.args.session.now c.said_answer.new.session
     (g.K.Keeper.failed c.said_answer.new.keeper) c.in_err-answer.field-0.0
@@ -30,21 +32,24 @@ returns-in_err-answer-clause-stopped g c =
 pub returns-in_err-write_answer-clause-stopped : goal.returns-in_err-write_answer-clause-stopped
 returns-in_err-write_answer-clause-stopped g c =
     let stops : StopsOnce
-    (IsDoneBy c.args.workers (g.G.Gate.answers c.args.gate.now) (g.G.Gate.gives c.args.gate.now))
+    (IsDoneBy c.args.executor.now.workers (g.G.Gate.answers c.args.executor.now.gate.now)
+    (g.G.Gate.gives c.args.executor.now.gate.now))
     (of_failure c.in_err-write_answer.field-0.0) g.K.Keeper.fails
     (g.K.Keeper.keeps c.args.keeper.now) (g.K.Keeper.keeps c.said_answer.new.keeper)
     (saying_of c.args.said.now) (g.W.Write.contents (inner_of c.args.writer.now))
     (g.W.Write.contents (inner_of c.write_answer.new.writer)) c.args.session.now
     c.said_answer.new.session =
     once_writing
-    (IsDoneBy c.args.workers (g.G.Gate.answers c.args.gate.now) (g.G.Gate.gives c.args.gate.now))
+    (IsDoneBy c.args.executor.now.workers (g.G.Gate.answers c.args.executor.now.gate.now)
+    (g.G.Gate.gives c.args.executor.now.gate.now))
     g.K.Keeper.fails (g.K.Keeper.keeps c.args.keeper.now)
     (g.K.Keeper.keeps c.said_answer.new.keeper) (saying_of c.args.said.now)
     (g.W.Write.contents (inner_of c.args.writer.now)) c.args.session.now c.said_answer.new.session
     c.in_err-write_answer.field-0.0 (g.W.Write.contents (inner_of c.write_answer.new.writer))
     c.in_ok-answer.answer.text.items
     (write_fault c.in_err-write_answer.field-0.0 c.in_err-write_answer.ensures.fault.0)
-    (ends_by c.args.workers (g.G.Gate.answers c.args.gate.now) (g.G.Gate.gives c.args.gate.now)
+    (ends_by c.args.executor.now.workers (g.G.Gate.answers c.args.executor.now.gate.now)
+    (g.G.Gate.gives c.args.executor.now.gate.now)
     c.in_ok-answer.answer.ending c.args.session.now.database c.args.session.now.line
     (saying_of c.args.said.now) c.in_ok-answer.answer.text.items c.said_answer.new.session.line
     c.in_ok-answer.ensures.met)
@@ -55,8 +60,9 @@ returns-in_err-write_answer-clause-stopped g c =
 
 pub returns-clause-arrives : goal.returns-clause-arrives
 returns-clause-arrives g c is =
-    saying_arrives c.args.workers (g.G.Gate.answers c.args.gate.now)
-    (g.G.Gate.gives c.args.gate.now) c.in_ok-answer.answer.ending c.args.session.now.database
+    saying_arrives c.args.executor.now.workers (g.G.Gate.answers c.args.executor.now.gate.now)
+    (g.G.Gate.gives c.args.executor.now.gate.now) c.in_ok-answer.answer.ending
+    c.args.session.now.database
     c.args.session.now.line (saying_of c.args.said.now) c.in_ok-answer.answer.text.items
     c.said_answer.new.session.line
     c.db.ensures.database c.journal.ensures.states c.in_ok-answer.ensures.met cc

@@ -1,5 +1,5 @@
 use Rattle.std.proofs.Common.{◌≡◌, ◌≤◌, ◌∙◌, ◌∷◌, ◌++◌, ◌+◌, [], ℕ, List, Bor, length, map, take}
-use Rattle.std.proofs.Common.{get_or, sym, subst, arith}
+use Rattle.std.proofs.Common.{get_or, inl, sym, subst, arith}
 use Rattle.std.proofs.lemmas.List.{take_all, length-map}
 use Rattle.rc_model.specs.Names.{Holds}
 use Rattle.rc_cli.specs.Named.{IsNamed, AreNamed}
@@ -33,8 +33,10 @@ loop-word-preserved c =
 
 pub returns-in-None-clause-fault : goal.returns-in-None-clause-fault
 returns-in-None-clause-fault c =
-    first_unknown (λ w. w.now) c.args.names.now c.args.words.now c.loop-word.word-index none
-    c.loop-word-test.true c.loop-word.invariant.known c.in-None.ensures.missing
+    let unknown = first_unknown (λ w. w.now) c.args.names.now c.args.words.now
+    c.loop-word.word-index none c.loop-word-test.true c.loop-word.invariant.known
+    c.in-None.ensures.missing in
+    inl (_, unknown, c.unknown_name.ensures)
 
 pub returns-clause-members : goal.returns-clause-members
 returns-clause-members c =

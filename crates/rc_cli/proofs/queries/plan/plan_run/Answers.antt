@@ -2,14 +2,14 @@ use Rattle.std.proofs.Common.{inl, inr, map, string_bytes}
 use Rattle.rc_select.specs.Ask.{ask_of}
 use Rattle.rc_dbtext.specs.Base.{bytes_of}
 use Rattle.rc_streams.specs.Noting.{inner_of}
-use Rattle.rc_cli.proofs.PlanLemmas.{if_some_then}
+use Rattle.rc_cli.proofs.QueryLemmas.{if_some_then}
 use Rattle.rc_cli.proofs.RunLemmas.{never_wrong, plan_begun, plan_written, some_asked}
 use Rattle.rc_cli.proofs.RunLemmas.{status_wider}
 use Rattle.rc_cli.proofs.queries.plan.plan_run.Goals as goal
 
 pub returns-in-Ok : goal.returns-in-Ok
 returns-in-Ok g c =
-    let run = c.plan_as_asked.ensures in
+    let run = c.run_query.ensures in
     let ask = ask_of c.in-Ok.request in
     let asked = c.in-Ok.ensures.asked in
     let words = map string_bytes c.args.words.now in

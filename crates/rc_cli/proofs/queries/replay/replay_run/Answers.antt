@@ -4,7 +4,7 @@ use Rattle.rc_cli.proofs.queries.replay.replay_run.Goals as goal
 
 pub returns-in-Ok : goal.returns-in-Ok
 returns-in-Ok g c =
-    let run = c.replay_as_asked.ensures in
+    let run = c.run_query.ensures in
     record {
       statuses = status_wider _ run.statuses;
       done = run.done;

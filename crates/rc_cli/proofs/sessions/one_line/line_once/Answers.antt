@@ -3,18 +3,9 @@ use Rattle.rc_streams.specs.Noting.{inner_of}
 use Rattle.rc_script.specs.Says.{saying_of}
 use Rattle.rc_args.specs.SessionAsked.{session_ask_of}
 use Rattle.rc_cli.specs.Storing.{HoldsText, store_of}
-use Rattle.rc_cli.proofs.OnceLemmas.{fault_with, holds_alone, holds_text, no_events}
-use Rattle.rc_cli.proofs.OnceLemmas.{served_line}
+use Rattle.rc_cli.proofs.OnceLemmas.{fault_with, holds_alone, holds_text, served_line}
 use Rattle.rc_cli.proofs.ServingLemmas.{keep_of_file}
 use Rattle.rc_cli.proofs.sessions.one_line.line_once.Goals as goal
-
-pub answer_once-requires-clause-eventless : goal.answer_once-requires-clause-eventless
-answer_once-requires-clause-eventless g c κs within command is =
-    no_events (saying_of c.args.said.now) command c.requires.eventless is
-
-pub answer_once-requires-2-clause-eventless : goal.answer_once-requires-2-clause-eventless
-answer_once-requires-2-clause-eventless g c κs within command is =
-    no_events (saying_of c.args.said.now) command c.requires.eventless is
 
 pub returns-in-Ok-clause-served : goal.returns-in-Ok-clause-served
 returns-in-Ok-clause-served g c =

@@ -1,9 +1,8 @@
-use Rattle.std.proofs.Common.{[], refl, subst}
+use Rattle.std.proofs.Common.{[], refl}
 use Rattle.rc_model.specs.Session.{Redo, Undo}
 use Rattle.rc_streams.specs.Noting.{inner_of}
-use Rattle.rc_args.specs.OnceAsked.{HasNoEvents, WantsDryRedo, WantsDryUndo, once_saying_of}
+use Rattle.rc_args.specs.OnceAsked.{WantsDryRedo, WantsDryUndo}
 use Rattle.rc_args.specs.SessionAsked.{session_ask_of}
-use Rattle.rc_args.specs.declared.once_words.Once.{Once}
 use Rattle.rc_serve.specs.Ending.{IsDoneAs}
 use Rattle.rc_cli.specs.Storing.{store_of}
 use Rattle.rc_cli.proofs.OnceLemmas.{fault_with, shown_way}
@@ -38,10 +37,6 @@ returns-in-DryRedo-clause-served g c =
 pub returns-in-DryRedo-clause-fault : goal.returns-in-DryRedo-clause-fault
 returns-in-DryRedo-clause-fault g c =
     fault_with c.show_redo.result ⊥ _ ⊥ ⊥ _ (λ x. x) (λ none. absurd none) c.show_redo.ensures.fault
-
-pub line_once-requires-clause-eventless : goal.line_once-requires-clause-eventless
-line_once-requires-clause-eventless g c κs within =
-    subst (λ (o : Once). HasNoEvents (once_saying_of o)) c.in-Line.is c.requires.eventless
 
 pub returns-in-Line-clause-served : goal.returns-in-Line-clause-served
 returns-in-Line-clause-served g c = rw c.in-Line.is c.line_once.ensures.served

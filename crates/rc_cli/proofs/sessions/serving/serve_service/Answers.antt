@@ -1,4 +1,5 @@
-use Rattle.std.proofs.Common.{ap, option_map}
+use Rattle.std.proofs.Common.{ap, inl, option_map}
+use Rattle.std.proofs.lemmas.Result.{IfErr-weaker, on_ok_weaker}
 use Rattle.rc_streams.specs.Exchange.{exchanged}
 use Rattle.rc_serve.specs.Ending.{IsDoneAs}
 use Rattle.rc_args.specs.SessionAsked.{session_ask_of}
@@ -21,7 +22,11 @@ returns-in-None-clause-served g c fails lets =
     c.serve.ensures.play
     c.serve.result c.as_done.result c.args.launch.service fails c.in-Lines.is
     c.as_done.ensures c.serve.ensures.done c.serve.ensures.text
-    c.serve.ensures.begun c.serve.ensures.front c.serve.ensures.kept lets
+    (IfErr-weaker c.serve.result _ _ (λ fault served. (served, inl (inl tt)))
+    c.serve.ensures.begun)
+    (λ f exact timeless. IfErr-weaker c.serve.result _ _ (λ fault served. (served, inl (inl tt)))
+    (c.serve.ensures.front f exact timeless))
+    (on_ok_weaker c.serve.result (λ all. inl tt) c.serve.ensures.done) lets
 
 pub returns-in-Ok-clause-served : goal.returns-in-Ok-clause-served
 returns-in-Ok-clause-served g c fails lets =
@@ -31,16 +36,16 @@ returns-in-Ok-clause-served g c fails lets =
     let answers = g.G.Gate.answers c.args.gate.now in
     let gives = g.G.Gate.gives c.args.gate.now in
     let io =
-    exchanged g.R.Read.remaining g.W.Write.contents c.args.reader.now c.serve-in-Ok.new.reader
-    c.args.outputs.now.writer c.serve-in-Ok.new.writer in
+    exchanged g.R.Read.remaining g.W.Write.contents c.args.reader.now c.serve_kept.new.reader
+    c.args.outputs.now.writer c.serve_kept.new.writer in
     let first = g.S.Store.holds (store_of c.keep.new.self) in
-    let is = g.S.Store.holds (store_of c.serve-in-Ok.new.keeper) in
+    let is = g.S.Store.holds (store_of c.serve_kept.new.keeper) in
     lines_come workers answers gives (IsDoneAs workers answers gives) io c.args.session.now
-    c.serve-in-Ok.new.session (λ fault. Unit {0}) (HoldsText first) (HoldsText is) path held is
+    c.serve_kept.new.session (λ fault. Unit {0}) (HoldsText first) (HoldsText is) path held is
     c.in-Ok.ensures.kept
     (holds_named path held is
     (named_some (λ f. f.now) c.args.launch.request.now.live _ c.in-Some.is))
-    c.serve-in-Ok.ensures.play
-    c.serve-in-Ok.result c.as_done-in-Ok.result c.args.launch.service fails c.in-Lines.is
-    c.as_done-in-Ok.ensures c.serve-in-Ok.ensures.done c.serve-in-Ok.ensures.text
-    c.serve-in-Ok.ensures.begun c.serve-in-Ok.ensures.front c.serve-in-Ok.ensures.kept lets
+    c.serve_kept.ensures.play
+    c.serve_kept.result c.as_done-in-Ok.result c.args.launch.service fails c.in-Lines.is
+    c.as_done-in-Ok.ensures c.serve_kept.ensures.done c.serve_kept.ensures.text
+    c.serve_kept.ensures.begun c.serve_kept.ensures.front c.serve_kept.ensures.kept lets

@@ -15,17 +15,17 @@ arrive-requires-else-contains-clause-known c =
     needers_within c.args.graph.now c.needed_by.result.now c.args.service
     (length c.args.self.now.waits.items) c.needed_by.ensures.same c.requires.can.bound
 
-pub returns-then-contains : goal.returns-then-contains
-returns-then-contains c =
+pub returns-then-contains-clause-arrived : goal.returns-then-contains-clause-arrived
+returns-then-contains-clause-arrived c =
     let lower = c.if-contains.ensures.0 refl in
     record {
-      those = c.arrive.ensures.those;
+      those = c.arrive.ensures.arrived.those;
       same = λ t. (
         λ there.
-            let h = (c.arrive.ensures.same t).0 there in
+            let h = (c.arrive.ensures.arrived.same t).0 there in
             let need = subst (λ (list : List ℕ). Contains list t) c.needs.ensures.list h.0 in
             inl (lower, c.requires.can.falls t lower need h.1, need),
-        λ next. (c.arrive.ensures.same t).1 (elim next [
+        λ next. (c.arrive.ensures.arrived.same t).1 (elim next [
           | inl falls ↦ (
             subst (λ (list : List ℕ). Contains list t) (sym c.needs.ensures.list)
                 falls.2,
@@ -34,22 +34,22 @@ returns-then-contains c =
           | inr rises ↦ absurd (rises.0 lower)
         ]),
       );
-      meets = c.arrive.ensures.meets;
-      capacity = c.arrive.ensures.capacity;
+      meets = c.arrive.ensures.arrived.meets;
+      capacity = c.arrive.ensures.arrived.capacity;
     }
 
-pub returns-else-contains : goal.returns-else-contains
-returns-else-contains c =
+pub returns-else-contains-clause-arrived : goal.returns-else-contains-clause-arrived
+returns-else-contains-clause-arrived c =
     let out : Has c.args.lower.now c.args.service → ⊥ = λ lower. let bad : false ≡ true =
     c.if-contains.ensures.1 lower in cc in
     record {
-      those = c.arrive-else-contains.ensures.those;
+      those = c.arrive-else-contains.ensures.arrived.those;
       same = λ t. (
         λ there.
-            let h = (c.arrive-else-contains.ensures.same t).0 there in
+            let h = (c.arrive-else-contains.ensures.arrived.same t).0 there in
             let need = (c.needed_by.ensures.same t).0 h.0 in
             inr (out, c.requires.can.rises t out need h.1, need),
-        λ next. (c.arrive-else-contains.ensures.same t).1 (elim next [
+        λ next. (c.arrive-else-contains.ensures.arrived.same t).1 (elim next [
           | inl falls ↦ absurd (out falls.0)
           | inr rises ↦ (
             (c.needed_by.ensures.same t).1 rises.2,
@@ -57,6 +57,6 @@ returns-else-contains c =
           )
         ]),
       );
-      meets = c.arrive-else-contains.ensures.meets;
-      capacity = c.arrive-else-contains.ensures.capacity;
+      meets = c.arrive-else-contains.ensures.arrived.meets;
+      capacity = c.arrive-else-contains.ensures.arrived.capacity;
     }

@@ -5,7 +5,6 @@ use Rattle.rc_core.specs.Settled.{RunSoFar}
 use Rattle.rc_core.specs.Tables.{NotesDone}
 use Rattle.rc_core.proofs.Places.{places}
 use Rattle.rc_core.proofs.Keeping.{kept_on, room_for}
-use Rattle.rc_core.proofs.Noting.{noted}
 use Rattle.rc_core.proofs.Readying.{can_note_ready, ready_noted}
 use Rattle.rc_core.proofs.run.Run.add_done.Goals as goal
 
@@ -23,8 +22,11 @@ note_end-requires-clause-can c well =
     let legal =
     subst (λ (r : RunSoFar). IsLegal r.course r.events done) (sym c.self.view_is) c.requires in
     can_note_ready _ _ c.self.inside.ready done c.self.invariant.0.course
-    c.self.invariant.0.run c.self.invariant.2 c.self.invariant.3 legal
+    c.self.invariant.0.run c.self.invariant.3 c.self.invariant.4 legal
     (sym c.went_well-well.ensures ∙ well)
+
+pub note_end-requires-clause-placed : goal.note_end-requires-clause-placed
+note_end-requires-clause-placed c = c.self.invariant.1
 
 pub push_reserved-requires : goal.push_reserved-requires
 push_reserved-requires c =
@@ -41,21 +43,19 @@ invariant_of-self c =
     let legal =
     subst (λ (r : RunSoFar). IsLegal r.course r.events done) (sym c.self.view_is) c.requires in
     let kept = c.self.invariant.0 in
-    let notes =
-    subst (λ (well : Bool). NotesDone c.self.inside.tables c.args.worker c.args.service well
-    c.note_done.new.self) c.went_well-well.ensures c.note_done.ensures in
-    let after =
-    noted _ _ _ c.note_done.new.self done kept.course kept.run kept.tables legal notes in
     let ready =
-    ready_noted _ _ c.note_done.new.self.left c.self.inside.ready c.note_end.new.self done
-    kept.course kept.run c.self.invariant.2 c.self.invariant.3 legal after.left_ones (
+    ready_noted _ _ c.self.inside.ready c.note_end.new.self done kept.course kept.run
+    c.self.invariant.3 c.self.invariant.4 legal (
       λ well. c.note_end.ensures.arrived (c.went_well-well.ensures ∙ well),
       λ fails. c.note_end.ensures.failed (c.went_well-well.ensures ∙ fails),
     ) in (
-      kept_on _ _ _ _ c.note_done.new.self done kept legal notes
+      kept_on _ _ _ _ c.note_done.new.self done kept legal
+          (subst (λ (well : Bool). NotesDone c.self.inside.tables c.args.worker c.args.service well
+          c.note_done.new.self) c.went_well-well.ensures c.note_done.ensures)
           c.push_reserved.ensures.items c.push_reserved.ensures.len
           c.push_reserved.ensures.capacity,
-      c.self.invariant.1,
+      c.note_end.ensures.placed,
+      c.self.invariant.2,
       rw c.push_reserved.ensures.items ready.0,
       ready.1,
     )

@@ -3,7 +3,6 @@ use Rattle.rc_model.specs.declared.Event.TheVariants.{Stop}
 use Rattle.rc_model.specs.Run.{IsLegal}
 use Rattle.rc_core.specs.Settled.{RunSoFar}
 use Rattle.rc_core.proofs.Keeping.{kept_on, room_for}
-use Rattle.rc_core.proofs.Noting.{noted}
 use Rattle.rc_core.proofs.Readying.{ready_noted}
 use Rattle.rc_core.proofs.run.Run.add_stop.Goals as goal
 
@@ -20,15 +19,13 @@ invariant_of-self c =
     let legal =
     subst (λ (r : RunSoFar). IsLegal r.course r.events stop) (sym c.self.view_is) c.requires in
     let kept = c.self.invariant.0 in
-    let after =
-    noted _ _ _ c.note_stop.new.self stop kept.course kept.run kept.tables legal
-    c.note_stop.ensures in
     let ready =
-    ready_noted _ _ c.note_stop.new.self.left c.self.inside.ready c.self.inside.ready stop
-    kept.course kept.run c.self.invariant.2 c.self.invariant.3 legal after.left_ones refl in (
+    ready_noted _ _ c.self.inside.ready c.self.inside.ready stop kept.course kept.run
+    c.self.invariant.3 c.self.invariant.4 legal refl in (
       kept_on _ _ _ _ _ stop kept legal c.note_stop.ensures c.push_reserved.ensures.items
           c.push_reserved.ensures.len c.push_reserved.ensures.capacity,
       c.self.invariant.1,
+      c.self.invariant.2,
       rw c.push_reserved.ensures.items ready.0,
       ready.1,
     )

@@ -34,12 +34,13 @@ returns-then-service-len c =
 pub returns : goal.returns
 returns c =
     let moves =
-    ready_moves _ _ _ _ c.self.invariant.0.course c.self.invariant.0.run c.self.invariant.2
+    ready_moves _ _ _ _ c.self.invariant.0.course c.self.invariant.0.run c.self.invariant.3
     c.args.service in
+    let ones = c.self.invariant.3.ones c.args.service in
     let left =
     (c.self.invariant.0.tables.left_ones c.args.service).0 (c.if-not-contains.ensures.0 refl) in
     subst (λ (r : RunSoFar). IsTrue c.waits_for_none.result
     ↔ CanMove r.course r.events c.args.service) c.self.view_is (
-      λ yes. moves.0 (left, c.waits_for_none.ensures.0 yes),
-      λ move. c.waits_for_none.ensures.1 (moves.1 move).1,
+      λ yes. moves.0 (ones.1 (left, c.waits_for_none.ensures.0 yes)),
+      λ move. c.waits_for_none.ensures.1 (ones.0 (moves.1 move)).1,
     )

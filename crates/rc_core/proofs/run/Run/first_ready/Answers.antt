@@ -2,7 +2,7 @@ use Rattle.std.proofs.Common.{ℕ, List, Contains, Option, Some, None, IfSome, I
 use Rattle.rc_graph.proofs.PairLemmas.{no_member}
 use Rattle.rc_model.specs.Run.{CanMove}
 use Rattle.rc_core.specs.Settled.{RunSoFar}
-use Rattle.rc_core.proofs.Readying.{ready_moves, last_in}
+use Rattle.rc_core.proofs.Readying.{ready_moves}
 use Rattle.rc_core.proofs.run.Run.first_ready.Goals as goal
 
 -- what follows of the value, and of its absence
@@ -19,10 +19,9 @@ returns-clause-some c =
     subst (λ (r : RunSoFar). IfSome c.first.result (λ s. CanMove r.course r.events s))
     c.self.view_is
     (some_weaker c.first.result _ _
-    (λ s last.
-    let ready = c.self.invariant.2 in
-    (ready_moves _ _ _ _ c.self.invariant.0.course c.self.invariant.0.run ready s).0
-    (ready.last s last, (ready.queued s (last_in _ s last)).1)) c.first.ensures.some)
+    (λ s there.
+    (ready_moves _ _ _ _ c.self.invariant.0.course c.self.invariant.0.run c.self.invariant.3
+    s).0 there) c.first.ensures.some)
 
 pub returns-clause-none : goal.returns-clause-none
 returns-clause-none c =
@@ -30,9 +29,7 @@ returns-clause-none c =
     c.self.view_is
     (none_weaker c.first.result _ _
     (λ empty s move.
-    let ready = c.self.invariant.2 in
-    let here =
-    (ready_moves _ _ _ _ c.self.invariant.0.course c.self.invariant.0.run ready s).1 move in
     no_member s
-    (subst (λ (queue : List ℕ). Contains queue s) empty (ready.ones s here.0 here.1)))
-    c.first.ensures.none)
+    (subst (λ (queue : List ℕ). Contains queue s) empty
+    ((ready_moves _ _ _ _ c.self.invariant.0.course c.self.invariant.0.run c.self.invariant.3
+    s).1 move))) c.first.ensures.none)

@@ -1,0 +1,75 @@
+//! Runs `db`, `plan` and `replay` on the database of `-b` or at the front of standard input.
+use crate::frontend::fault_lines::Told;
+use crate::frontend::files::base_at;
+use crate::frontend::hints::{Seen, behind_session, tell_file};
+use crate::frontend::terminal::Typed;
+use rc_cli::queries::{Query, run_query};
+use rc_streams::{Noted, whole_file};
+use std::io;
+
+/// Runs a query on the file of `-b`, and returns its status: 0, 1 for a refusal, or 111 for a
+/// failure. A picture shows the session in the file of `-l`; if that is missing, no service is up.
+pub fn query(rt: &HostRuntime, query: Query<'_, '_>, file: Option<&str>) -> u8 {
+    match base_at(rt, file) {
+        Ok(base) => {
+            let live = whole_file::read_optional(rt, live_of(query));
+            let status = query_on(rt, query, file, base.as_deref(), &live);
+            drop(live);
+            drop(base);
+            status
+        }
+        Err(error) => tell_file(rt, file.unwrap_or(""), &error),
+    }
+}
+
+/// Runs a query on the bytes of both files.
+fn query_on(
+    rt: &HostRuntime,
+    query: Query<'_, '_>,
+    file: Option<&str>,
+    base: Option<&[u8]>,
+    live: &io::Result<Option<Vec<u8>>>,
+) -> u8 {
+    let shown = match live {
+        Ok(shown) => shown.as_deref(),
+        Err(error) => return tell_file(rt, live_of(query).unwrap_or(""), error),
+    };
+    let mut typed = Typed::new(rt, Some(input_of(query, file.is_some())));
+    let mut told = Told::new(rt.alloc(), rt.stderr());
+    let query = showing(query, shown);
+    let reader = &mut Noted::new(&mut typed);
+    let writer = &mut Noted::new(rt.stdout());
+    let status = run_query(rt.alloc(), &query, base, reader, writer, &mut told);
+    let seen = Seen::new(file, base, typed.kept());
+    behind_session(rt, live_of(query), live, None, &seen, &told);
+    drop(told);
+    drop(typed);
+    status
+}
+
+/// The query with the text of the session that it shows.
+fn showing<'a, 'r>(query: Query<'a, 'r>, shown: Option<&'a [u8]>) -> Query<'a, 'r> {
+    match query {
+        Query::Db(request, _) => Query::Db(request, shown),
+        other => other,
+    }
+}
+
+/// The file of `-l`, if the query shows a session.
+fn live_of<'r>(query: Query<'_, 'r>) -> Option<&'r str> {
+    match query {
+        Query::Db(request, _) => request.live,
+        Query::Plan(_) | Query::Replay => None,
+    }
+}
+
+/// What the query reads from standard input, in words. `is_file`: `-b` names the database.
+fn input_of(query: Query<'_, '_>, is_file: bool) -> &'static str {
+    match (query, is_file) {
+        (Query::Db(..), _) => "the database",
+        (Query::Plan(_), true) => "the services that are up",
+        (Query::Plan(_), false) => "the database and the services that are up",
+        (Query::Replay, true) => "the script",
+        (Query::Replay, false) => "the database and the script",
+    }
+}

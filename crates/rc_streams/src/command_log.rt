@@ -1,0 +1,29 @@
+//! The log of the commands that altered a session: `FILE.log` beside `FILE`, where it is there.
+
+use crate::beside_file::{open_there, path_beside};
+use crate::whole_file;
+use std::fs::File;
+use std::io::{self, ErrorKind};
+
+/// What stands behind the path of a session's file in that of its log.
+const ENDING: &str = ".log";
+
+/// Opens the log to append. None: there is none.
+pub fn open(rt: &HostRuntime, path: &str) -> io::Result<Option<File>> {
+    let beside = path_beside(rt, path, ENDING)?;
+    let opened = open_there(rt, beside.as_str());
+    drop(beside);
+    match opened {
+        Ok(file) => Ok(Some(file)),
+        Err(error) if error.kind() == ErrorKind::NotFound => Ok(None),
+        Err(error) => Err(error),
+    }
+}
+
+/// The bytes of the log. None: there is none.
+pub fn read(rt: &HostRuntime, path: &str) -> io::Result<Option<Vec<u8>>> {
+    let beside = path_beside(rt, path, ENDING)?;
+    let read = whole_file::read_optional(rt, Some(beside.as_str()));
+    drop(beside);
+    read
+}
