@@ -3,7 +3,7 @@
 -- What `clap`'s clauses say of the program's own rule.
 pub mod WordsLemmas
 -- What the words ask, by the matches that `clap` makes of them.
-mod TaskLemmas
+mod InvocationLemmas
 -- What the words ask of `db`, by the matches that `clap` makes of them.
 mod DbAskedLemmas
 -- What the words ask of `session`, by the matches that `clap` makes of them.

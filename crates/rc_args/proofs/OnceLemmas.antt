@@ -17,7 +17,7 @@ use Rattle.rc_args.specs.Limits.{IsRunLimitIn}
 use Rattle.rc_args.specs.OnceAsked.{Adds, AsksWhat, OnceSaying, Said, WantsDryRedo, WantsDryUndo}
 use Rattle.rc_args.specs.OnceAsked.{once_command}
 use Rattle.rc_args.proofs.SessionWordsLemmas.{found_as, found_back}
-use Rattle.rc_args.proofs.TaskLemmas.{apart}
+use Rattle.rc_args.proofs.InvocationLemmas.{apart}
 
 -- what flags ask has no limit
 unlimited_by : (on : List ℕ → Bool) (words : List (List ℕ)) (mode : Option Mode) (ask : Ask)

@@ -41,6 +41,6 @@ pub mod CompileAsked
 -- What the words ask of `replay`.
 pub mod ReplayAsked
 -- What a command is given where its words name nothing.
-pub mod Usual
+pub mod Defaults
 -- What the words ask, of whichever command.
-pub mod Task
+pub mod Invocation

@@ -2,15 +2,15 @@
 ghost use Rattle.std.specs.Prelude.{◌≡◌, ◌≢◌, IfErr, IfOk};
 ghost use Rattle.clap.specs.Words.{found_of, rows_of};
 ghost use Rattle.rc_args.specs.NamedAsked.{AsksNamesIn, NamedAsk, named_ask_of};
-ghost use Rattle.rc_args.specs.Usual.{session_by, usual_ask_of};
+ghost use Rattle.rc_args.specs.Defaults.{session_by, defaults_ask_of};
 ghost use Rattle.rc_args.specs.declared.asked.WordsFault.TheVariants.{Memory};
 
 use crate::asked::WordsFault;
+use crate::defaults::Defaults;
 use crate::once_words::are_one_line;
 use crate::session_request::SessionRequest;
 use crate::session_words::session_in;
 use crate::texts::words_in;
-use crate::usual::Usual;
 use clap::ArgMatches;
 use std::alloc::Global;
 
@@ -25,14 +25,14 @@ pub struct NamedRequest<'a> {
 
 impl<'a> NamedRequest<'a> {
     /// The same, with these where the words name nothing.
-    pub fn with_usual(self, usual: Usual<'a>) -> NamedRequest<'a>
+    pub fn with_defaults(self, defaults: Defaults<'a>) -> NamedRequest<'a>
         ensures { named_ask_of result ≡ record (named_ask_of self.entry) {
-          session = session_by (usual_ask_of usual.entry) (named_ask_of self.entry).session;
+          session = session_by (defaults_ask_of defaults.entry) (named_ask_of self.entry).session;
         } }
     {
         let NamedRequest { session, names } = self;
         NamedRequest {
-            session: session.with_usual(usual),
+            session: session.with_defaults(defaults),
             names,
         }
     }

@@ -2,7 +2,7 @@
 ghost use Rattle.std.specs.Prelude.{◌≡◌, ◌≢◌, ◌↔◌, codes, map, All, IfErr, IfOk};
 ghost use Rattle.std.specs.Prelude.{IsTrue};
 ghost use Rattle.clap.specs.Words.{found_of, rows_of};
-ghost use Rattle.rc_args.specs.Usual.{session_by, usual_ask_of};
+ghost use Rattle.rc_args.specs.Defaults.{session_by, defaults_ask_of};
 ghost use Rattle.rc_args.specs.OnceAsked.{AreOneLine, IsOneLine, IsShown, LacksFile};
 ghost use Rattle.rc_args.specs.Words.{words_in as words_rows};
 ghost use Rattle.rc_args.specs.OnceAsked.{Adds, AsksOnceIn, AsksWhat, OnceAsk};
@@ -12,11 +12,11 @@ ghost use Rattle.rc_args.specs.declared.asked.WordsFault.TheVariants.{Memory};
 
 use crate::asked::{WordsFault, plan_in};
 use crate::cmdline::is_on;
+use crate::defaults::Defaults;
 use crate::limits::run_limit_of;
 use crate::session_request::SessionRequest;
 use crate::session_words::session_in;
 use crate::texts::{strings_of, words_in};
-use crate::usual::Usual;
 use clap::ArgMatches;
 use rc_names::{Name, NameFault};
 use rc_script::SessionLine;
@@ -45,15 +45,15 @@ pub struct OnceRequest<'a> {
 
 impl<'a> OnceRequest<'a> {
     /// The same, with these where the words name nothing.
-    pub fn with_usual(self, usual: Usual<'a>) -> OnceRequest<'a>
+    pub fn with_defaults(self, defaults: Defaults<'a>) -> OnceRequest<'a>
         ensures { once_ask_of result ≡ record (once_ask_of self.entry) {
-          session = session_by (usual_ask_of usual.entry) (once_ask_of self.entry).session;
+          session = session_by (defaults_ask_of defaults.entry) (once_ask_of self.entry).session;
         } }
     {
         let OnceRequest { once, session } = self;
         OnceRequest {
             once,
-            session: session.with_usual(usual),
+            session: session.with_defaults(defaults),
         }
     }
 

@@ -1,8 +1,8 @@
 //! What is asked of a session.
 ghost use Rattle.std.specs.Prelude.{◌≤◌};
 
+use crate::defaults::{Defaults, named_or};
 use crate::program_words::{Making, Programs};
-use crate::usual::{Usual, named_or};
 use crate::verbosity::Verbosity;
 
 /// What the words ask of `session`.
@@ -27,21 +27,21 @@ pub struct SessionRequest<'a> {
 impl<'a> SessionRequest<'a> {
     ghost use Rattle.std.specs.Prelude.{◌≡◌, ◌↔◌, IsTrue};
     ghost use Rattle.rc_args.specs.SessionAsked.{Starts, session_ask_of};
-    ghost use Rattle.rc_args.specs.Usual.{session_by, usual_ask_of};
+    ghost use Rattle.rc_args.specs.Defaults.{session_by, defaults_ask_of};
 
-    /// The same, with these where the words name nothing. Where nothing is started the usual file
+    /// The same, with these where the words name nothing. Where nothing is started the default file
     /// is left alone.
-    pub fn with_usual(mut self, usual: Usual<'a>) -> SessionRequest<'a>
+    pub fn with_defaults(mut self, defaults: Defaults<'a>) -> SessionRequest<'a>
         ensures { session_ask_of result
-            ≡ session_by (usual_ask_of usual.entry) (session_ask_of self.entry) }
+            ≡ session_by (defaults_ask_of defaults.entry) (session_ask_of self.entry) }
     {
         match self.making {
             Making::Table(_) => self,
             Making::Programs(programs) => {
-                self.live = named_or(self.live, usual.live);
+                self.live = named_or(self.live, defaults.live);
                 self.making = Making::Programs(Programs {
-                    runner: named_or(programs.runner, usual.runner),
-                    controller: named_or(programs.controller, usual.controller),
+                    runner: named_or(programs.runner, defaults.runner),
+                    controller: named_or(programs.controller, defaults.controller),
                     limit: programs.limit,
                 });
                 self

@@ -3,16 +3,16 @@ ghost use Rattle.std.specs.Prelude.{◌≡◌, ◌≢◌, codes, map, IfErr, IfO
 ghost use Rattle.clap.specs.Words.{found_of, rows_of};
 ghost use Rattle.rc_args.specs.Words.{values_in};
 ghost use Rattle.rc_args.specs.UpdateAsked.{AsksUpdateIn, UpdateAsk, restart_of, update_ask_of};
-ghost use Rattle.rc_args.specs.Usual.{session_by, usual_ask_of};
+ghost use Rattle.rc_args.specs.Defaults.{session_by, defaults_ask_of};
 ghost use Rattle.rc_args.specs.declared.asked.WordsFault.TheVariants.{Memory};
 ghost use Rattle.rc_update.specs.Conversions.{conversion_of, conversions_of};
 
 use crate::asked::WordsFault;
 use crate::cmdline::is_on;
+use crate::defaults::Defaults;
 use crate::session_request::SessionRequest;
 use crate::session_words::session_in;
 use crate::texts::text_in;
-use crate::usual::Usual;
 use clap::ArgMatches;
 use rc_update::Conversion;
 use std::alloc::{AllocError, Global};
@@ -38,9 +38,9 @@ pub struct UpdateRequest<'a> {
 
 impl<'a> UpdateRequest<'a> {
     /// The same request, with these where the words name nothing.
-    pub fn with_usual(self, usual: Usual<'a>) -> UpdateRequest<'a>
+    pub fn with_defaults(self, defaults: Defaults<'a>) -> UpdateRequest<'a>
         ensures { update_ask_of result ≡ record (update_ask_of self.entry) {
-          session = session_by (usual_ask_of usual.entry) (update_ask_of self.entry).session;
+          session = session_by (defaults_ask_of defaults.entry) (update_ask_of self.entry).session;
         } }
     {
         let UpdateRequest {
@@ -52,7 +52,7 @@ impl<'a> UpdateRequest<'a> {
             again,
         } = self;
         UpdateRequest {
-            session: session.with_usual(usual),
+            session: session.with_defaults(defaults),
             new,
             renames,
             conversions,

@@ -1,7 +1,7 @@
 -- What a command would move, and that there is no other.
-use Rattle.std.proofs.Common.{◌≡◌, ◌≢◌, ◌∙◌, ◌++◌, ℕ, Bool, true, false, List, [], Option, Some}
-use Rattle.std.proofs.Common.{inl, inr}
-use Rattle.std.proofs.Common.{◌∷◌, Result, Ok, Err, None, IfNone, IfOk, IfSome, refl, subst, sym}
+use Rattle.std.proofs.Common.{◌≡◌, ◌≢◌, ◌∙◌, ℕ, Bool, true, false, List, Option, Some, ap, inl}
+use Rattle.std.proofs.Common.{inr, string_bytes}
+use Rattle.std.proofs.Common.{Result, Ok, Err, None, IfNone, IfOk, IfSome, refl, subst, sym}
 use Rattle.rc_model.specs.Database.{Database, IsDatabase}
 use Rattle.rc_model.specs.Line.{Line}
 use Rattle.rc_model.specs.Names.{Has}
@@ -9,30 +9,44 @@ use Rattle.rc_model.specs.Plan.{PlanSets}
 use Rattle.rc_model.specs.Session.{Command, IsLineOf, IsOwnFault, IsTask}
 use Rattle.rc_model.specs.declared.Refusal.{Refusal}
 use Rattle.rc_model.specs.declared.Refusal.TheVariants as refusal
-use Rattle.rc_session.specs.Holding.{Holding, IsBegun, IsHindrance, Task, with_run}
+use Rattle.rc_session.specs.Holding.{Holding, IsBegun, IsHindrance, Task, with_line, with_run}
 use Rattle.rc_session.proofs.Excluding.{one_set, one_task, task_not_own}
-use Rattle.rc_args.specs.OnceAsked.{OnceSaying}
-use Rattle.rc_args.specs.SessionAsked.{SessionAsk}
+use Rattle.rc_script.specs.Says.{saying_of}
+use Rattle.rc_args.specs.OnceAsked.{OnceSaying, Said}
 use Rattle.rc_args.specs.UpdateAsked.{UpdateAsk}
-use Rattle.rc_dbtext.specs.Base.{Spells}
-use Rattle.rc_db.specs.Database.{IsWritable}
-use Rattle.rc_dbtext.specs.Spelling.{spelling as spelling_of}
 use Rattle.rc_livetext.specs.Spelling.{Spells as SpellsLine}
-use Rattle.rc_livetext.specs.declared.fault.LiveFault.TheVariants as live
-use Rattle.rc_serve.specs.declared.fault.ServeFault.TheVariants.{Memory}
 use Rattle.rc_cli.specs.Filing.{BeginsBy, file_named}
 use Rattle.rc_cli.specs.Serving.{session_on}
+use Rattle.rc_cli.specs.Session.{Asked}
+use Rattle.rc_cli.specs.SessionFaults.{IsControlled}
+use Rattle.rc_cli.specs.UpdateEnds.{AreFoundInBoth, IsControlledUpdate, IsNoneAhead}
+use Rattle.rc_cli.specs.UpdateEnds.{IsUnreadyUpdate}
+use Rattle.rc_cli.specs.declared.sessions.session_fault.SessionFault.{SessionFault}
+use Rattle.rc_cli.specs.declared.sessions.session_fault.SessionFault.TheVariants.{OfText, Unknown}
+use Rattle.rc_cli.specs.declared.sessions.session_fault.SessionFault.TheVariants.{OfLive, Failed}
+use Rattle.rc_cli.specs.declared.sessions.session_fault.SessionFault.TheVariants.{NoController}
 use Rattle.rc_cli.specs.declared.sessions.keeping.LiveFile.{LiveFile}
 use Rattle.rc_cli.specs.declared.sessions.keeping.LiveFile.TheVariants.{Missing, Text, Unread}
+use Rattle.rc_cli.specs.declared.sessions.service.Service.{Service}
+use Rattle.rc_cli.specs.declared.updating.Ahead.{Ahead}
 use Rattle.rc_update.specs.Carrying.{Carried, StaysUp}
 use Rattle.rc_update.specs.Conversions.{Conversion}
-use Rattle.rc_update.specs.Knowing.{AreKnown, IsFirstStranger}
-use Rattle.rc_cli.specs.Controlled.{IsLongrunOf, MovesByParts, MovesBySaying, MovesByUpdate}
-use Rattle.rc_cli.specs.Controlled.{MovesFrom, MovesLongrun, MovesLongrunOn, UpdateMovesFrom}
-use Rattle.rc_cli.specs.Controlled.{UpdateMovesLongrun}
-use Rattle.rc_cli.specs.Steps.{lowering, raising}
-use Rattle.rc_cli.specs.Updating.{IsUpdate, Parts, carried_line}
-use Rattle.rc_cli.proofs.BegunLemmas.{one_base, one_list}
+use Rattle.rc_update.specs.Knowing.{AreKnown}
+use Rattle.rc_cli.specs.Controlled.{IsLongrunOf, IsUncontrolled, IsUncontrolledUpdate}
+use Rattle.rc_cli.specs.Controlled.{LacksController, MovesAhead, MovesByParts, MovesByService}
+use Rattle.rc_cli.specs.Controlled.{MovesBySaying, MovesByUpdate, MovesLongrunOn}
+use Rattle.rc_cli.specs.Updating.{IsAhead, IsUpdate, Parts, carried_line}
+use Rattle.rc_cli.proofs.BegunLemmas.{one_list}
+
+-- a session whose run was given up is as before
+pub given_up : (old new : Holding) → old.begun ≡ false
+    → new ≡ with_line (with_run old) (with_run old).line → new ≡ old
+given_up old new closed is = is ∙ ap (λ (b : Bool). record {
+  database = old.database;
+  line = old.line;
+  begun = b;
+  spoiled = old.spoiled;
+}) (sym closed)
 
 -- what follows where there is none, or some
 pub none_weaker : {A E : Type 0} (r : Result (Option A) E) (P Q : Type 0) → (P → Q)
@@ -59,15 +73,6 @@ pub refused_some : {A E : Type 0} (r : Result (Option A) E) (X : Type 0) (P : A 
 refused_some (Ok None) X P is = tt
 refused_some (Ok (Some x)) X P is = let clash : Some x ≡ None = is.0 in cc
 refused_some (Err e) X P is = tt
-
--- where a conversion names what its database lacks not all are known
-pub strange : (old new : List (List ℕ)) (list : List Conversion) (name : List ℕ)
-    → IsFirstStranger old new list name → AreKnown old new list → ⊥
-strange old new [] name is known = absurd is
-strange old new (first ∷ more) name is known = elim is [
-  | inl here ↦ elim here [ inl lacks ↦ lacks.0 known.0.0 | inr lacks ↦ lacks.1 known.0.1 ]
-  | inr there ↦ strange old new more name there.1 known.1
-]
 
 -- a session begins on one line
 pub begins_once : (d : Database) (bound : ℕ) (file : LiveFile) (a b : Line) → IsDatabase d
@@ -116,39 +121,6 @@ begun_moves old new task command d plan is begun same also none =
     (subst (λ (p : PlanSets). IsLongrunOf new.database p name) (sym also)
     (subst (λ (h : Holding). IsLongrunOf h.database task.plan name) (sym is) on))))
 
--- where a line moves nothing, a command that says it on this database does not, where its session
--- begins
-pub none_from : (base : List ℕ) (ask : SessionAsk) (file : LiveFile) (what : OnceSaying)
-    (d : Database) (line : Line)
-    → ((a b : Database) (x y : List ℕ) → IsDatabase a → IsWritable a → IsDatabase b
-    → IsWritable b → spelling_of a ++ x ≡ spelling_of b ++ y → a ≡ b)
-    → ((d : Database) (bytes : List ℕ) (a b : Line) → IsDatabase d → IsLineOf d a → IsLineOf d b
-    → SpellsLine d bytes a → SpellsLine d bytes b → a ≡ b)
-    → Spells (Some base) [] d [] → BeginsBy d ask.bound (file_named ask.live file) line
-    → ((name : List ℕ) → MovesBySaying d line what name → ⊥)
-    → (name : List ℕ) → MovesLongrun base ask file what name → ⊥
-none_from base ask file what d line one same spells begins none name moves =
-    let from : MovesFrom d ask file what name =
-    subst (λ (x : Database). MovesFrom x ask file what name)
-    (one_base base moves.0 d one moves.1 spells) moves.2 in
-    none name (subst (λ (l : Line). MovesBySaying d l what name)
-    (begins_once d ask.bound (file_named ask.live file) from.0 line spells.0 same from.1 begins)
-    from.2)
-
--- where no session begins on this database, the command moves nothing
-pub none_there : (base : List ℕ) (ask : SessionAsk) (file : LiveFile) (what : OnceSaying)
-    (d : Database)
-    → ((a b : Database) (x y : List ℕ) → IsDatabase a → IsWritable a → IsDatabase b
-    → IsWritable b → spelling_of a ++ x ≡ spelling_of b ++ y → a ≡ b)
-    → Spells (Some base) [] d []
-    → ((line : Line) → BeginsBy d ask.bound (file_named ask.live file) line → ⊥)
-    → (name : List ℕ) → MovesLongrun base ask file what name → ⊥
-none_there base ask file what d one spells none name moves =
-    let from : MovesFrom d ask file what name =
-    subst (λ (x : Database). MovesFrom x ask file what name)
-    (one_base base moves.0 d one moves.1 spells) moves.2 in
-    none from.0 from.1
-
 -- an update has the same parts, whatever shows it
 parts_once : (d e : Database) (list : List Conversion) (again : Bool) (line : Line) (p q : Parts)
     → IsUpdate d e list again line p → IsUpdate d e list again line q → p ≡ q
@@ -160,102 +132,112 @@ parts_once d e list again line p q first second =
     let raise = one_list e _ p.raise q.raise first.raise second.raise in
     λ k. record { lower = lower k; kept = kept k; raise = raise k }
 
--- where neither step moves anything the update does not
-pub no_step : (d e : Database) (ask : UpdateAsk) (line : Line) (parts : Parts)
-    → IsUpdate d e ask.conversions ask.again line parts
-    → ((name : List ℕ) → MovesBySaying d line (lowering ask.dry parts.lower) name → ⊥)
-    → ((name : List ℕ) → MovesBySaying e (carried_line e parts.kept line.bound)
-    (raising ask.dry parts.raise) name → ⊥)
-    → (name : List ℕ) → MovesByUpdate d e ask line name → ⊥
-no_step d e ask line parts update down up name moves =
-    let is : MovesByParts d e ask line parts name =
-    subst (λ (p : Parts). MovesByParts d e ask line p name)
-    (parts_once d e ask.conversions ask.again line moves.0 parts moves.1 update) moves.2 in
-    elim is [ inl there ↦ down name there | inr there ↦ up name there ]
+-- what a service would move from where a session stands that has begun, is what it would move
+pub uncontrolled_here : (service : Service) (asked : Asked) (d : Database) (h : Holding)
+    (name : List ℕ)
+    → ((start : Line) × BeginsBy d asked.ask.bound (file_named asked.ask.live asked.file) start
+    × (h ≡ session_on d start))
+    → (asked.base ≢ None) × LacksController asked.ask
+    × MovesByService service h.database h.line name
+    → IsUncontrolled service asked d name
+uncontrolled_here service asked d h name begun moves = record {
+  base = moves.0;
+  lacks = moves.1;
+  line = begun.0;
+  begins = begun.1;
+  moves = subst (λ (k : Holding). MovesByService service k.database k.line name) begun.2 moves.2;
+}
 
--- where an update moves nothing from where its session begins, it does not
-pub none_between : (d e : Database) (ask : UpdateAsk) (file : LiveFile) (line : Line)
+-- and where that is nothing it moves nothing
+pub controlled_here : (service : Service) (asked : Asked) (d : Database) (h : Holding)
     → IsDatabase d
     → ((d : Database) (bytes : List ℕ) (a b : Line) → IsDatabase d → IsLineOf d a → IsLineOf d b
     → SpellsLine d bytes a → SpellsLine d bytes b → a ≡ b)
-    → BeginsBy d ask.session.bound (file_named ask.session.live file) line
-    → ((name : List ℕ) → MovesByUpdate d e ask line name → ⊥)
-    → (name : List ℕ) → UpdateMovesFrom d e ask file name → ⊥
-none_between d e ask file line is same begins none name moves =
-    none name (subst (λ (l : Line). MovesByUpdate d e ask l name)
-    (begins_once d ask.session.bound (file_named ask.session.live file) moves.1.0 line is same
-    moves.1.1 begins) moves.1.2)
-
--- and the same of the databases of two texts
-pub none_of_texts : (old new : List ℕ) (d e : Database) (ask : UpdateAsk) (file : LiveFile)
-    → ((a b : Database) (x y : List ℕ) → IsDatabase a → IsWritable a → IsDatabase b
-    → IsWritable b → spelling_of a ++ x ≡ spelling_of b ++ y → a ≡ b)
-    → Spells (Some old) [] d [] → Spells (Some new) [] e []
-    → ((name : List ℕ) → UpdateMovesFrom d e ask file name → ⊥)
-    → (name : List ℕ) → UpdateMovesLongrun old new ask file name → ⊥
-none_of_texts old new d e ask file one from to none name moves =
-    none name
-    (subst (λ (x : Database). UpdateMovesFrom x e ask file name)
-    (one_base old moves.0 d one moves.2 from)
-    (subst (λ (y : Database). UpdateMovesFrom moves.0 y ask file name)
-    (one_base new moves.1 e one moves.3 to) moves.4))
-
--- where neither line moves anything the update does not
-pub no_line : (d e : Database) (ask : UpdateAsk) (line : Line) (parts : Parts) (bound : ℕ)
-    (low high : OnceSaying) → IsUpdate d e ask.conversions ask.again line parts
-    → low ≡ lowering ask.dry parts.lower → high ≡ raising ask.dry parts.raise
-    → bound ≡ line.bound → ((name : List ℕ) → MovesBySaying d line low name → ⊥)
-    → ((name : List ℕ) → MovesBySaying e (carried_line e parts.kept bound) high name → ⊥)
-    → (name : List ℕ) → MovesByUpdate d e ask line name → ⊥
-no_line d e ask line parts bound low high update is also same down up =
-    no_step d e ask line parts update
-    (λ name on. down name (subst (λ (w : OnceSaying). MovesBySaying d line w name) (sym is) on))
-    (λ name on. up name (subst (λ (b : ℕ). MovesBySaying e (carried_line e parts.kept b) high name)
-    (sym same) (subst (λ (w : OnceSaying). MovesBySaying e (carried_line e parts.kept line.bound) w
-    name) (sym also) on)))
-
--- what an update moves from where a session stands that has begun
-pub held_moves : (d e : Database) (ask : UpdateAsk) (file : LiveFile) (h : Holding)
-    → AreKnown d.names e.names ask.conversions
-    → ((start : Line) × BeginsBy d ask.session.bound (file_named ask.session.live file) start
+    → ((start : Line) × BeginsBy d asked.ask.bound (file_named asked.ask.live asked.file) start
     × (h ≡ session_on d start))
-    → (name : List ℕ) → MovesByUpdate h.database e ask h.line name
-    → UpdateMovesFrom d e ask file name
-held_moves d e ask file h known begun name moves = (
+    → (asked.base ≢ None → LacksController asked.ask → (name : List ℕ)
+    → MovesByService service h.database h.line name → ⊥)
+    → IsControlled service asked d
+controlled_here service asked d h is same begun none name un =
+    none un.base un.lacks name
+    (subst (λ (k : Holding). MovesByService service k.database k.line name) (sym begun.2)
+    (subst (λ (l : Line). MovesByService service d l name)
+    (begins_once d asked.ask.bound (file_named asked.ask.live asked.file) un.line begun.0 is same
+    un.begins begun.1) un.moves))
+
+-- the same of an update, by what is ahead of it
+pub uncontrolled_ahead : (old new : Database) (ask : UpdateAsk) (file : LiveFile) (from : Holding)
+    (ahead : Ahead) (name : List ℕ)
+    → ((start : Line) × BeginsBy old ask.session.bound (file_named ask.session.live file) start
+    × (from ≡ session_on old start))
+    → IsAhead ask from new ahead → LacksController ask.session × MovesAhead from ahead name
+    → IsUncontrolledUpdate old new ask file name
+uncontrolled_ahead old new ask file from ahead name (start, begins, stands) there both = record {
+  lacks = both.0;
+  line = start;
+  begins = begins;
+  moves =
+      let on : IsAhead ask (session_on old start) new ahead =
+      subst (λ (h : Holding). IsAhead ask h new ahead) stands there in
+      let moves : MovesAhead (session_on old start) ahead name =
+      subst (λ (h : Holding). MovesAhead h ahead name) stands both.1 in (
+        on.parts,
+        on.update,
+        elim moves [
+          | inl low ↦ inl (subst (λ (w : OnceSaying). MovesBySaying old start w name) on.lowers low)
+          | inr up ↦ inr (subst (λ (w : OnceSaying). MovesBySaying new
+              (carried_line new on.parts.kept start.bound) w name) on.raises
+              (subst (λ (h : Holding). MovesBySaying h.database h.line
+              (Said (saying_of ahead.raising)) name) on.to up))
+        ],
+      );
+}
+
+-- so why there is nothing ahead of an update is why it is not begun
+pub ahead_unready : (fault : SessionFault) (old new : Database) (ask : UpdateAsk)
+    (file : LiveFile) (from : Holding) → AreKnown old.names new.names ask.conversions
+    → AreFoundInBoth old new ask.session.making
+    → ((start : Line) × BeginsBy old ask.session.bound (file_named ask.session.live file) start
+    × (from ≡ session_on old start))
+    → IsNoneAhead ask from new fault → IsUnreadyUpdate ask file old new fault
+ahead_unready (OfText fault) old new ask file from known found begun is = absurd is
+ahead_unready (Unknown word) old new ask file from known found begun is = absurd is
+ahead_unready (OfLive fault) old new ask file from known found begun is = absurd is
+ahead_unready (NoController name) old new ask file from known found begun is = (
   known,
-  (
-    begun.0,
-    begun.1,
-    subst (λ (k : Holding). MovesByUpdate k.database e ask k.line name) begun.2 moves,
-  ),
+  found,
+  uncontrolled_ahead old new ask file from is.0 (string_bytes name) begun is.1
+      (is.2, is.3),
 )
+ahead_unready (Failed fault) old new ask file from known found begun is = inl is
 
--- and where that is nothing
-pub held_none : (d e : Database) (ask : UpdateAsk) (file : LiveFile) (h : Holding) → IsDatabase d
+-- and where neither step moves one the update moves none
+pub controlled_ahead : (old new : Database) (ask : UpdateAsk) (file : LiveFile) (from : Holding)
+    (ahead : Ahead) → IsDatabase old
     → ((d : Database) (bytes : List ℕ) (a b : Line) → IsDatabase d → IsLineOf d a → IsLineOf d b
     → SpellsLine d bytes a → SpellsLine d bytes b → a ≡ b)
-    → ((start : Line) × BeginsBy d ask.session.bound (file_named ask.session.live file) start
-    × (h ≡ session_on d start))
-    → ((name : List ℕ) → MovesByUpdate h.database e ask h.line name → ⊥)
-    → (name : List ℕ) → UpdateMovesFrom d e ask file name → ⊥
-held_none d e ask file h is same begun none =
-    none_between d e ask file begun.0 is same begun.1
-    (λ name on. none name (subst (λ (k : Holding). MovesByUpdate k.database e ask k.line name)
-    (sym begun.2) on))
-
--- the same of one line
-pub held_from : (base : List ℕ) (ask : SessionAsk) (file : LiveFile) (what : OnceSaying)
-    (d : Database) (h : Holding)
-    → ((a b : Database) (x y : List ℕ) → IsDatabase a → IsWritable a → IsDatabase b
-    → IsWritable b → spelling_of a ++ x ≡ spelling_of b ++ y → a ≡ b)
-    → ((d : Database) (bytes : List ℕ) (a b : Line) → IsDatabase d → IsLineOf d a → IsLineOf d b
-    → SpellsLine d bytes a → SpellsLine d bytes b → a ≡ b)
-    → Spells (Some base) [] d []
-    → ((start : Line) × BeginsBy d ask.bound (file_named ask.live file) start
-    × (h ≡ session_on d start))
-    → ((name : List ℕ) → MovesBySaying h.database h.line what name → ⊥)
-    → (name : List ℕ) → MovesLongrun base ask file what name → ⊥
-held_from base ask file what d h one same spells begun none =
-    none_from base ask file what d begun.0 one same spells begun.1
-    (λ name on. none name (subst (λ (k : Holding). MovesBySaying k.database k.line what name)
-    (sym begun.2) on))
+    → ((start : Line) × BeginsBy old ask.session.bound (file_named ask.session.live file) start
+    × (from ≡ session_on old start))
+    → IsAhead ask from new ahead
+    → (LacksController ask.session → (name : List ℕ) → MovesAhead from ahead name → ⊥)
+    → IsControlledUpdate old new ask file
+controlled_ahead old new ask file from ahead is same (start, begins, stands) there none name un =
+    let on : IsAhead ask (session_on old start) new ahead =
+    subst (λ (h : Holding). IsAhead ask h new ahead) stands there in
+    let moved : MovesByUpdate old new ask start name =
+    subst (λ (l : Line). MovesByUpdate old new ask l name)
+    (begins_once old ask.session.bound (file_named ask.session.live file) un.line start is same
+    un.begins begins) un.moves in
+    let by : MovesByParts old new ask start on.parts name =
+    subst (λ (p : Parts). MovesByParts old new ask start p name)
+    (parts_once old new ask.conversions ask.again start moved.0 on.parts moved.1 on.update)
+    moved.2 in
+    none un.lacks name (subst (λ (h : Holding). MovesAhead h ahead name) (sym stands)
+    (elim by [
+      | inl low ↦ inl (subst (λ (w : OnceSaying). MovesBySaying old start w name)
+          (sym on.lowers) low)
+      | inr up ↦ inr (subst (λ (h : Holding). MovesBySaying h.database h.line
+          (Said (saying_of ahead.raising)) name) (sym on.to)
+          (subst (λ (w : OnceSaying). MovesBySaying new
+          (carried_line new on.parts.kept start.bound) w name) (sym on.raises) up))
+    ]))

@@ -32,7 +32,7 @@ use Rattle.rc_cli.specs.Services.{ComesFor, IsDoneFor, Lets, OfLines, RunsGated,
 use Rattle.rc_cli.specs.Services.{done_by}
 use Rattle.rc_cli.specs.Serving.{IsOfFile, session_on}
 use Rattle.rc_cli.specs.Session.{Asked, Dealing, Opens, Runs, RunsOn, filing_by}
-use Rattle.rc_cli.specs.SessionFaults.{AreAllFound, ComesBy, ComesOn, IsEndTold, IsFileFault}
+use Rattle.rc_cli.specs.SessionFaults.{AreAllFound, ComesBy, ComesOn, IsEndTold, IsUnbegun}
 use Rattle.rc_cli.specs.SessionFaults.{IsTold, IsUnready, IsUnserved, IsUnspelled}
 use Rattle.rc_cli.specs.SessionFaults.{reading_fault, serve_word}
 use Rattle.rc_cli.specs.declared.sessions.keeping.LiveFile.{LiveFile}
@@ -40,6 +40,7 @@ use Rattle.rc_cli.specs.declared.sessions.service.Service.{Service}
 use Rattle.rc_cli.specs.declared.sessions.session_fault.SessionFault.{SessionFault}
 use Rattle.rc_cli.specs.declared.sessions.session_fault.SessionFault.TheVariants.{OfText, Unknown}
 use Rattle.rc_cli.specs.declared.sessions.session_fault.SessionFault.TheVariants.{OfLive, Failed}
+use Rattle.rc_cli.specs.declared.sessions.session_fault.SessionFault.TheVariants.{NoController}
 use Rattle.rc_cli.proofs.SessionLemmas.{begin_fault, clock_timeless, fault_wider, table_exact}
 
 -- a failed read is told as that
@@ -67,20 +68,22 @@ past_found d (ByPrograms runner controller limit) (made.Table table) is = absurd
 past_found d (ByPrograms runner controller limit) (made.Shell shell) is = ([], tt)
 
 -- why there is no gate, and why a session does not begin past one, it is not begun
-pub gateless_unready : (fault : SessionFault) (ask : SessionAsk) (file : LiveFile) (d : Database)
-    → IsGateless d ask.making fault → IsUnready ask file d fault
-gateless_unready (OfText fault) ask file d is = is
-gateless_unready (Unknown word) ask file d is = is
-gateless_unready (OfLive fault) ask file d is = absurd is
-gateless_unready (Failed fault) ask file d is = inl is
+pub gateless_unready : (fault : SessionFault) (service : Service) (asked : Asked) (d : Database)
+    → IsGateless d asked.ask.making fault → IsUnready service asked d fault
+gateless_unready (OfText fault) service asked d is = is
+gateless_unready (Unknown word) service asked d is = is
+gateless_unready (OfLive fault) service asked d is = absurd is
+gateless_unready (NoController name) service asked d is = absurd is
+gateless_unready (Failed fault) service asked d is = inl is
 
-pub begin_unready : (fault : SessionFault) (ask : SessionAsk) (file : LiveFile) (d : Database)
-    → AreAllFound d (listed_in ask.making) → IsFileFault (file_named ask.live file) d fault
-    → IsUnready ask file d fault
-begin_unready (OfText fault) ask file d found is = is
-begin_unready (Unknown word) ask file d found is = absurd is
-begin_unready (OfLive fault) ask file d found is = (found, is)
-begin_unready (Failed fault) ask file d found is = inr is
+pub begin_unready : (fault : SessionFault) (service : Service) (asked : Asked) (d : Database)
+    → AreAllFound d (listed_in asked.ask.making) → IsUnbegun service asked d fault
+    → IsUnready service asked d fault
+begin_unready (OfText fault) service asked d found is = is
+begin_unready (Unknown word) service asked d found is = absurd is
+begin_unready (OfLive fault) service asked d found is = (found, is)
+begin_unready (NoController name) service asked d found is = (found, is)
+begin_unready (Failed fault) service asked d found is = inr is
 
 -- what comes of commands that are done past the gate that makes transitions as it is asked
 pub past_gate : {R L : Type 0} (d : Database) (workers : ℕ) (making : MakingAsk)
@@ -146,6 +149,7 @@ module _ (service : Service) (asked : Asked) (deal : Dealing) (base : Option (Li
   )
   unspelled_ends (Unknown word) input reads is = absurd is
   unspelled_ends (OfLive fault) input reads is = absurd is
+  unspelled_ends (NoController name) input reads is = absurd is
   unspelled_ends (Failed fault) input reads is =
       subst (λ (f : ServeFault). ComesBy (Err (Failed f)) service asked deal reader writer keeper)
       (sym is) (tt, inl (tt, none, left))
@@ -240,7 +244,9 @@ module _ (service : Service) (asked : Asked) (deal inner : Dealing) (base : Opti
       → ComesOn result service asked d inner (OfLines service reader) writer
       (CannotKeep asked.ask asked.file failed)
       → ComesBy result service asked deal more writer (CannotKeep asked.ask asked.file failed)
-  comes_in (Ok ending) reader more writer failed so run = runs_in (ComesFor service (Ok ending)) run
+  unfolding runs_in
+  comes_in (Ok ending) reader more writer failed so run =
+      (runs_in (ComesFor service (Ok ending)) run.1, run.0)
   comes_in (Err fault) reader more writer failed so (inl (un, alone)) = by fault un
     where
       none : deal.io.gained ≡ deal.io.written
@@ -255,7 +261,7 @@ module _ (service : Service) (asked : Asked) (deal inner : Dealing) (base : Opti
           × Reads b deal.io.input deal.io.left input × Spells b input d rest) (sym same)
           (stands_in base deal.io.input deal.io.left inner.io.input inner.io.left d opened alone.0)
 
-      by : (fault : SessionFault) → IsUnready asked.ask asked.file d fault
+      by : (fault : SessionFault) → IsUnready service asked d fault
           → ComesBy (Err fault) service asked deal more writer
           (CannotKeep asked.ask asked.file failed)
       by (OfText fault) un = absurd un
@@ -263,13 +269,15 @@ module _ (service : Service) (asked : Asked) (deal inner : Dealing) (base : Opti
           ((stands.0, stands.2, (d, stands.1, stands.3, un)), none, left)
       by (OfLive fault) un =
           ((stands.0, stands.2, (d, stands.1, stands.3, un.0, un.1)), none, left)
+      by (NoController name) un =
+          ((stands.0, stands.2, (d, stands.1, stands.3, un.0, un.1)), none, left)
       by (Failed fault) un =
           let of = unready_fault asked.ask asked.file fault more writer failed un in
           (of.1, inl (unserved fault asked.base deal.io.input of.0, none, left))
-  comes_in (Err fault) reader more writer failed so (inr (why, is, wrong, run)) =
+  comes_in (Err fault) reader more writer failed so (inr (why, is, wrong, controlled, run)) =
       subst (λ (f : SessionFault).
       ComesBy (Err f) service asked deal more writer (CannotKeep asked.ask asked.file failed))
       (sym is) (
         fault_wider why _ _ _ _ _ _ so (λ w. w) (λ k. k) wrong,
-        inr (runs_in (ComesFor service (Err why)) run),
+        inr (runs_in (ComesFor service (Err why)) run, controlled),
       )

@@ -17,7 +17,7 @@ use Rattle.rc_serve.specs.declared.ending.Ending.TheVariants.{Done}
 use Rattle.rc_serve.specs.declared.fault.ServeFault.{ServeFault}
 use Rattle.rc_serve.specs.Ending.{EndsIn, IsDoneAs}
 use Rattle.rc_args.specs.Listed.{Listed}
-use Rattle.rc_args.specs.OnceAsked.{OnceSaying}
+use Rattle.rc_args.specs.OnceAsked.{OnceSaying, Said}
 use Rattle.rc_args.specs.Programs.{MakingAsk}
 use Rattle.rc_cli.specs.Filing.{BeginsBy, file_named}
 use Rattle.rc_cli.specs.Gating.{IsGateFor, IsGateless}
@@ -30,12 +30,16 @@ use Rattle.rc_cli.specs.declared.sessions.keeping.LiveFile.{LiveFile}
 use Rattle.rc_cli.specs.declared.sessions.session_fault.SessionFault.{SessionFault}
 use Rattle.rc_cli.specs.declared.sessions.session_fault.SessionFault.TheVariants.{OfText, Unknown}
 use Rattle.rc_cli.specs.declared.sessions.session_fault.SessionFault.TheVariants.{OfLive, Failed}
+use Rattle.rc_cli.specs.declared.sessions.session_fault.SessionFault.TheVariants.{NoController}
 use Rattle.rc_cli.proofs.LaunchLemmas.{past_found, past_gate}
 use Rattle.rc_update.specs.Conversions.{Conversion, conversions_of}
 use Rattle.rc_update.specs.Knowing.{AreKnown, IsFirstStranger}
 use Rattle.rc_update.specs.declared.conversion.Conversion.{Conversion as Given}
 use Rattle.rc_args.specs.UpdateAsked.{UpdateAsk}
-use Rattle.rc_cli.specs.Updating.{IsUpdate, Parts, ServedBoth, Updated, carried_line, listed_by}
+use Rattle.rc_cli.specs.Updating.{IsAhead, IsUpdate, Parts, ServedBoth, Updated, carried_line}
+use Rattle.rc_cli.specs.Updating.{listed_by}
+use Rattle.rc_cli.specs.declared.updating.Ahead.{Ahead}
+use Rattle.rc_script.specs.Says.{saying_of}
 use Rattle.rc_cli.specs.Updating.{listed_on, making_on, session_with}
 use Rattle.rc_cli.specs.UpdateEnds.{AreFoundInBoth, AreGateless, IsUnreadyUpdate, RunsUpdate}
 
@@ -110,7 +114,7 @@ pub updated_by : (result : Result Ending ServeFault) (path : Option Path)
     → ServedBoth result path was is As At what then written gained from to
     → Updated result path was is As At list dry again written gained from new
 updated_by result path was is As At list dry again what then written gained from to new parts update
-    there first second served = inr (
+    there first second served = (
       parts,
       update,
       subst (λ (h : Holding). ServedBoth result path was is As At (lowering dry parts.lower)
@@ -120,6 +124,21 @@ updated_by result path was is As At list dry again what then written gained from
           (subst (λ (t : OnceSaying). ServedBoth result path was is As At what t written gained
           from to) second served)),
     )
+
+-- the same of a session that stands as another one
+pub updated_as : (result : Result Ending ServeFault) (path : Option Path)
+    (was is : Option (List ℕ)) (As At : EndsIn) (written gained : Option (List ℕ))
+    (ask : UpdateAsk) (stands from : Holding) (new : Database) (ahead : Ahead)
+    → stands ≡ from → IsAhead ask from new ahead
+    → ServedBoth result path was is As At (Said (saying_of ahead.lowering))
+    (Said (saying_of ahead.raising)) written gained stands ahead.to
+    → Updated result path was is As At ask.conversions ask.dry ask.again written gained from new
+updated_as result path was is As At written gained ask stands from new ahead same there served =
+    updated_by result path was is As At ask.conversions ask.dry ask.again
+    (Said (saying_of ahead.lowering)) (Said (saying_of ahead.raising)) written gained from ahead.to
+    new there.parts there.update there.to there.lowers there.raises
+    (subst (λ (h : Holding). ServedBoth result path was is As At (Said (saying_of ahead.lowering))
+    (Said (saying_of ahead.raising)) written gained h ahead.to) same served)
 
 -- the same update by the list that a slice is of
 pub update_with : (old new : Database) (xs ys : List Given) (again : Bool) (line : Line)
@@ -150,6 +169,7 @@ pub gates_unready : (fault : SessionFault) (ask : UpdateAsk) (file : LiveFile)
 gates_unready (OfText fault) ask file old new known is = is
 gates_unready (Unknown word) ask file old new known is = inr (known, is)
 gates_unready (OfLive fault) ask file old new known is = absurd is
+gates_unready (NoController name) ask file old new known is = absurd is
 gates_unready (Failed fault) ask file old new known is = inl is
 
 pub begin_unready : (fault : SessionFault) (ask : UpdateAsk) (file : LiveFile)
@@ -160,6 +180,7 @@ pub begin_unready : (fault : SessionFault) (ask : UpdateAsk) (file : LiveFile)
 begin_unready (OfText fault) ask file old new known found is = is
 begin_unready (Unknown word) ask file old new known found is = absurd is
 begin_unready (OfLive fault) ask file old new known found is = (known, found, is)
+begin_unready (NoController name) ask file old new known found is = absurd is
 begin_unready (Failed fault) ask file old new known found is = inr is
 
 -- past the gates of both steps an update is carried out from where the session of the old database
@@ -209,6 +230,7 @@ pub first_gateless : (fault : SessionFault) (old new : Database) (making : Makin
 first_gateless (OfText fault) old new making is = absurd is
 first_gateless (Unknown word) old new making is = inl is
 first_gateless (OfLive fault) old new making is = absurd is
+first_gateless (NoController name) old new making is = absurd is
 first_gateless (Failed fault) old new making is = is
 
 pub second_gateless : {R L : Type 0} (fault : SessionFault) (old new : Database)
@@ -218,6 +240,7 @@ second_gateless (OfText fault) old new making gate made is = absurd is
 second_gateless (Unknown word) old new making gate made is =
     inr (past_found old (making_on Lower making) gate made, is)
 second_gateless (OfLive fault) old new making gate made is = absurd is
+second_gateless (NoController name) old new making gate made is = absurd is
 second_gateless (Failed fault) old new making gate made is = is
 
 -- the session with what stays, by its bound

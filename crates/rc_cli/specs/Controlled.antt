@@ -1,20 +1,25 @@
 -- A command that would move a longrun which no program controls.
-use Rattle.std.specs.Prelude.{◌≡◌, ◌⊎◌, ℕ, List, Option, None, Some, [], slice_get}
+use Rattle.std.specs.Prelude.{◌≡◌, ◌≢◌, ◌⊎◌, ℕ, List, Option, None, Some, false, map, slice_get}
+use Rattle.std.specs.Prelude.{string_bytes}
 use Rattle.rc_model.specs.Database.{Database, IsKind}
 use Rattle.rc_model.specs.Line.{Line}
 use Rattle.rc_model.specs.Names.{Has}
 use Rattle.rc_model.specs.Plan.{PlanSets}
 use Rattle.rc_model.specs.Session.{Command, IsTask}
 use Rattle.rc_model.specs.declared.Kind.TheVariants.{Longrun}
-use Rattle.rc_script.specs.Says.{SaysStep}
-use Rattle.rc_args.specs.OnceAsked.{OnceSaying, Said}
+use Rattle.rc_script.specs.Says.{SaysStep, saying_of}
+use Rattle.rc_session.specs.Holding.{Holding}
+use Rattle.rc_args.specs.OnceAsked.{OnceSaying, Said, once_saying_of}
 use Rattle.rc_args.specs.Programs.{ByPrograms, ByTable, MakingAsk}
 use Rattle.rc_args.specs.SessionAsked.{SessionAsk}
 use Rattle.rc_args.specs.UpdateAsked.{UpdateAsk}
-use Rattle.rc_dbtext.specs.Base.{Spells}
 use Rattle.rc_cli.specs.Filing.{BeginsBy, file_named}
+use Rattle.rc_cli.specs.Session.{Asked}
+use Rattle.rc_cli.specs.declared.updating.Ahead.{Ahead}
 use Rattle.rc_cli.specs.declared.sessions.keeping.LiveFile.{LiveFile}
-use Rattle.rc_update.specs.Knowing.{AreKnown}
+use Rattle.rc_cli.specs.declared.sessions.service.Service.{Service}
+use Rattle.rc_cli.specs.declared.sessions.service.Service.TheVariants.{Lines, Line as OneLine}
+use Rattle.rc_cli.specs.declared.sessions.service.Service.TheVariants.{Restart}
 use Rattle.rc_cli.specs.Steps.{lowering, raising}
 use Rattle.rc_cli.specs.Updating.{IsUpdate, Parts, carried_line}
 
@@ -41,15 +46,28 @@ abbrev pub MovesBySaying : Database → Line → OnceSaying → List ℕ → Typ
 MovesBySaying d line (Said (SaysStep command)) name = MovesLongrunOn d line command name
 MovesBySaying d line other name = ⊥
 
--- the same where its session begins
-abbrev pub MovesFrom : Database → SessionAsk → LiveFile → OnceSaying → List ℕ → Type 0
-MovesFrom d ask file what name = (line : Line)
-    × BeginsBy d ask.bound (file_named ask.live file) line × MovesBySaying d line what name
+-- the first line of a service moves it: the one line, or of a restart that which lowers
+abbrev pub MovesByService : Service → Database → Line → List ℕ → Type 0
+MovesByService Lines d line name = ⊥
+MovesByService (OneLine once) d line name = MovesBySaying d line (once_saying_of once.now) name
+MovesByService (Restart names) d line name =
+    MovesBySaying d line (lowering false (map string_bytes names.now)) name
 
--- the same on the database of a text
-abbrev pub MovesLongrun : List ℕ → SessionAsk → LiveFile → OnceSaying → List ℕ → Type 0
-MovesLongrun base ask file what name =
-    (d : Database) × Spells (Some base) [] d [] × MovesFrom d ask file what name
+-- it would be moved from where the session begins, and no program controls it. Where the database
+-- is read from the input that is not asked
+pub record IsUncontrolled (service : Service) (asked : Asked) (d : Database)
+    (name : List ℕ) : Type 0 where
+  pub base : asked.base ≢ None
+  pub lacks : LacksController asked.ask
+  pub line : Line
+  pub begins : BeginsBy d asked.ask.bound (file_named asked.ask.live asked.file) line
+  pub moves : MovesByService service d line name
+
+-- one of two steps that are ahead moves it, each on its session
+abbrev pub MovesAhead : Holding → Ahead → List ℕ → Type 0
+MovesAhead from ahead name =
+    MovesBySaying from.database from.line (Said (saying_of ahead.lowering)) name
+    ⊎ MovesBySaying ahead.to.database ahead.to.line (Said (saying_of ahead.raising)) name
 
 -- one of the two steps of an update that has these parts moves it, from where the session of the
 -- old database stands
@@ -64,14 +82,10 @@ MovesByUpdate old new ask line name = (parts : Parts)
     × IsUpdate old new ask.conversions ask.again line parts
     × MovesByParts old new ask line parts name
 
--- the same where the session of the old database begins, if the conversions name services of both
-abbrev pub UpdateMovesFrom : (old new : Database) → UpdateAsk → LiveFile → List ℕ → Type 0
-UpdateMovesFrom old new ask file name = AreKnown old.names new.names ask.conversions
-    × ((line : Line) × BeginsBy old ask.session.bound (file_named ask.session.live file) line
-    × MovesByUpdate old new ask line name)
-
--- the same on the databases of two texts
-abbrev pub UpdateMovesLongrun : (old new : List ℕ) → UpdateAsk → LiveFile → List ℕ → Type 0
-UpdateMovesLongrun old new ask file name = (from : Database) × (to : Database)
-    × Spells (Some old) [] from [] × Spells (Some new) [] to []
-    × UpdateMovesFrom from to ask file name
+-- the same where the session of the old database begins, and no program controls it
+pub record IsUncontrolledUpdate (old new : Database) (ask : UpdateAsk) (file : LiveFile)
+    (name : List ℕ) : Type 0 where
+  pub lacks : LacksController ask.session
+  pub line : Line
+  pub begins : BeginsBy old ask.session.bound (file_named ask.session.live file) line
+  pub moves : MovesByUpdate old new ask line name

@@ -22,6 +22,10 @@ pub mod Services
 pub mod Storing
 -- What a session of the program is, and what goes through its devices.
 pub mod Session
+-- The two steps of an update: one by the old database, and one by the new.
+pub mod Updating
+-- A command that would move a longrun which no program controls.
+pub mod Controlled
 -- When a session is refused or fails, and how it tells that.
 pub mod SessionFaults
 -- What a session comes to that is launched, with its status and what is told.
@@ -44,14 +48,10 @@ pub mod Played
 pub mod Replay
 -- Queries: what each answers and when it is refused, and what is read and printed for all of them.
 pub mod Queries
--- The two steps of an update: one by the old database, and one by the new.
-pub mod Updating
 -- When an update is refused or fails.
 pub mod UpdateEnds
 -- The run log of the first step of an update.
 pub mod Begun
--- A command that would move a longrun which no program controls.
-pub mod Controlled
 -- What `seal` makes of a session: a line of its current state alone.
 pub mod Sealing
 -- Where services stand, as `status` prints it.

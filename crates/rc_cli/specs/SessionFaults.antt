@@ -1,6 +1,6 @@
 -- When a session is refused or fails, and how it tells that.
 use Rattle.std.specs.Prelude.{◌≡◌, ◌≢◌, ◌⊎◌, ℕ, List, Option, codes, ◌<◌, None, IfSome, length}
-use Rattle.std.specs.Prelude.{Result, Ok, Err}
+use Rattle.std.specs.Prelude.{◌++◌, Result, Ok, Err, string_bytes}
 use Rattle.rc_graph.specs.declared.Way.{Way}
 use Rattle.rc_livetext.specs.LiveFaults.{IsLiveFault}
 use Rattle.rc_livetext.specs.declared.fault.LiveFault.{LiveFault}
@@ -24,8 +24,8 @@ use Rattle.rc_serve.specs.declared.fault.ServeFault.TheVariants.{Read, Write, To
 use Rattle.rc_serve.specs.declared.fault.ServeFault.TheVariants.{NoThread, Strange, Workers, Io}
 use Rattle.rc_args.specs.Listed.{Listed}
 use Rattle.rc_args.specs.Programs.{listed_in}
-use Rattle.rc_args.specs.SessionAsked.{SessionAsk}
 use Rattle.rc_cli.specs.Filing.{FailsToBegin, IsFileRefused, file_named}
+use Rattle.rc_cli.specs.Controlled.{IsUncontrolled}
 use Rattle.rc_cli.specs.Finding.{AreFound, IsFirstUnknown}
 use Rattle.rc_cli.specs.Services.{ComesFor}
 use Rattle.rc_cli.specs.Session.{Asked, Dealing, IsUntouched, Runs, RunsOn}
@@ -36,12 +36,14 @@ use Rattle.rc_cli.specs.declared.sessions.service.Service.{Service}
 use Rattle.rc_cli.specs.declared.sessions.session_fault.SessionFault.{SessionFault}
 use Rattle.rc_cli.specs.declared.sessions.session_fault.SessionFault.TheVariants.{OfText, Unknown}
 use Rattle.rc_cli.specs.declared.sessions.session_fault.SessionFault.TheVariants.{OfLive, Failed}
+use Rattle.rc_cli.specs.declared.sessions.session_fault.SessionFault.TheVariants.{NoController}
 
 -- it is a refusal, and no failure
 abbrev pub IsRefusal : SessionFault → Type 0
 IsRefusal (OfText fault) = Unit {0}
 IsRefusal (Unknown word) = Unit {0}
 IsRefusal (OfLive fault) = Unit {0}
+IsRefusal (NoController name) = Unit {0}
 IsRefusal (Failed fault) = ⊥
 
 -- each name that is to fail is a service's
@@ -49,17 +51,20 @@ abbrev pub AreAllFound : Database → List Listed → Type 0
 AreAllFound d listed = (table : List (ℕ × Way)) × AreFound d.names listed table
 
 -- when each refusal comes: those of the database text, then the first name that is to fail and is
--- no service's, and then those of the text that stands in the file
-abbrev pub IsSessionRefused : SessionFault → SessionAsk → LiveFile → Option (List ℕ) → List ℕ
-    → Type 0
-IsSessionRefused (OfText fault) ask file base input =
-    (fault ≢ text.Memory) × IsTextFault base input fault
-IsSessionRefused (Unknown word) ask file base input = (d : Database) × (rest : List ℕ)
-    × Spells base input d rest × IsFirstUnknown d.names (listed_in ask.making) word.now
-IsSessionRefused (OfLive fault) ask file base input = (d : Database) × (rest : List ℕ)
-    × Spells base input d rest × AreAllFound d (listed_in ask.making)
-    × IsFileRefused d (file_named ask.live file) fault
-IsSessionRefused (Failed fault) ask file base input = ⊥
+-- no service's, then those of the text that stands in the file, and then that of a longrun which
+-- no program controls
+abbrev pub IsSessionRefused : SessionFault → Service → Asked → List ℕ → Type 0
+IsSessionRefused (OfText fault) service asked input =
+    (fault ≢ text.Memory) × IsTextFault asked.base input fault
+IsSessionRefused (Unknown word) service asked input = (d : Database) × (rest : List ℕ)
+    × Spells asked.base input d rest × IsFirstUnknown d.names (listed_in asked.ask.making) word.now
+IsSessionRefused (OfLive fault) service asked input = (d : Database) × (rest : List ℕ)
+    × Spells asked.base input d rest × AreAllFound d (listed_in asked.ask.making)
+    × IsFileRefused d (file_named asked.ask.live asked.file) fault
+IsSessionRefused (NoController name) service asked input = (d : Database) × (rest : List ℕ)
+    × Spells asked.base input d rest × AreAllFound d (listed_in asked.ask.making)
+    × IsUncontrolled service asked d (string_bytes name)
+IsSessionRefused (Failed fault) service asked input = ⊥
 
 -- a failure to read the whole input, as a fault of serving
 abbrev pub reading_fault : Failure → ServeFault
@@ -100,20 +105,35 @@ IsUnspelled base input (Failed fault) = fault ≡ Memory
 IsUnspelled base input other = ⊥
 
 -- why a session on a database is not begun: a name that is to fail is no service's; its file is
--- refused, only after that; the file could not be read, or out of memory
-abbrev pub IsUnready : SessionAsk → LiveFile → Database → SessionFault → Type 0
-IsUnready ask file d (OfText fault) = ⊥
-IsUnready ask file d (Unknown word) = IsFirstUnknown d.names (listed_in ask.making) word.now
-IsUnready ask file d (OfLive fault) =
-    AreAllFound d (listed_in ask.making) × IsFileRefused d (file_named ask.live file) fault
-IsUnready ask file d (Failed fault) =
-    (fault ≡ Memory) ⊎ FailsToBegin (file_named ask.live file) fault
+-- refused, only after that; it would move a longrun that no program controls, only after those;
+-- the file could not be read, or out of memory
+abbrev pub IsUnready : Service → Asked → Database → SessionFault → Type 0
+IsUnready service asked d (OfText fault) = ⊥
+IsUnready service asked d (Unknown word) =
+    IsFirstUnknown d.names (listed_in asked.ask.making) word.now
+IsUnready service asked d (OfLive fault) = AreAllFound d (listed_in asked.ask.making)
+    × IsFileRefused d (file_named asked.ask.live asked.file) fault
+IsUnready service asked d (NoController name) = AreAllFound d (listed_in asked.ask.making)
+    × IsUncontrolled service asked d (string_bytes name)
+IsUnready service asked d (Failed fault) =
+    (fault ≡ Memory) ⊎ FailsToBegin (file_named asked.ask.live asked.file) fault
+
+-- why the session of a service does not begin: for its file, or for a longrun that it would move
+-- and no program controls
+abbrev pub IsUnbegun : Service → Asked → Database → SessionFault → Type 0
+IsUnbegun service asked d (NoController name) =
+    IsUncontrolled service asked d (string_bytes name)
+IsUnbegun service asked d fault = IsFileFault (file_named asked.ask.live asked.file) d fault
+
+-- each longrun that would be moved has a program that controls it, where that is asked
+abbrev pub IsControlled : Service → Asked → Database → Type 0
+IsControlled service asked d = (name : List ℕ) → IsUncontrolled service asked d name → ⊥
 
 -- a refusal holds
-abbrev pub IsRefusedBy : SessionFault → Asked → (remaining after : Option (List ℕ)) → Type 0
-IsRefusedBy fault asked remaining after = (input : List ℕ)
-    × Reads asked.base remaining after input
-    × IsSessionRefused fault asked.ask asked.file asked.base input
+abbrev pub IsRefusedBy : SessionFault → Service → Asked → (remaining after : Option (List ℕ))
+    → Type 0
+IsRefusedBy fault service asked remaining after = (input : List ℕ)
+    × Reads asked.base remaining after input × IsSessionRefused fault service asked input
 
 -- a session was not begun: nothing was written, and its store was left alone
 abbrev pub IsNotBegun : ServeFault → Option (List ℕ) → Dealing → Type 0
@@ -126,23 +146,28 @@ IsNotBegun fault base deal = IsUnserved fault base deal.io.input
 abbrev pub ComesOn : Result Ending SessionFault → Service → Asked → Database → Dealing
     → (reader writer keeper : Type 0) → Type 0
 ComesOn (Ok ending) service asked d deal reader writer keeper =
-    RunsOn (ComesFor service (Ok ending)) asked d deal
+    IsControlled service asked d × RunsOn (ComesFor service (Ok ending)) asked d deal
 ComesOn (Err fault) service asked d deal reader writer keeper =
-    (IsUnready asked.ask asked.file d fault × IsUntouched deal)
+    (IsUnready service asked d fault × IsUntouched deal)
     ⊎ ((why : ServeFault) × (fault ≡ Failed why) × IsServeFault reader writer keeper why
-    × RunsOn (ComesFor service (Err why)) asked d deal)
+    × IsControlled service asked d × RunsOn (ComesFor service (Err why)) asked d deal)
+
+-- it was served so, and moves no longrun that no program controls
+abbrev pub RunsControlled : Service → Result Ending ServeFault → Asked → Dealing → Type 0
+RunsControlled service result asked deal = (run : Runs (ComesFor service result) asked deal)
+    × IsControlled service asked run.database
 
 -- what a session comes to: it was served to its end; or it is refused, with nothing written and its
 -- store left alone; or a fault came, before it was begun or where it was served
 abbrev pub ComesBy : Result Ending SessionFault → Service → Asked → Dealing
     → (reader writer keeper : Type 0) → Type 0
 ComesBy (Ok ending) service asked deal reader writer keeper =
-    Runs (ComesFor service (Ok ending)) asked deal
+    RunsControlled service (Ok ending) asked deal
 ComesBy (Err (Failed fault)) service asked deal reader writer keeper =
     IsServeFault reader writer keeper fault
-    × (IsNotBegun fault asked.base deal ⊎ Runs (ComesFor service (Err fault)) asked deal)
+    × (IsNotBegun fault asked.base deal ⊎ RunsControlled service (Err fault) asked deal)
 ComesBy (Err fault) service asked deal reader writer keeper =
-    IsRefusedBy fault asked deal.io.input deal.io.left
+    IsRefusedBy fault service asked deal.io.input deal.io.left
     × (deal.io.gained ≡ deal.io.written) × (deal.is ≡ deal.was)
 
 -- a fault of the database text, as one of the session
@@ -176,6 +201,7 @@ abbrev pub session_fault_text : SessionFault → List ℕ
 session_fault_text (OfText fault) = text_word fault
 session_fault_text (Unknown word) = unknown_word word.now
 session_fault_text (OfLive fault) = live_word fault
+session_fault_text (NoController name) = codes "NoController " ++ string_bytes name
 session_fault_text (Failed fault) = serve_word fault
 
 -- as which fault of serving a failure is told: as its own, or as out of memory
@@ -184,6 +210,7 @@ abbrev pub IsToldAs : SessionFault → ServeFault → Type 0
 IsToldAs (OfText fault) told = told ≡ Memory
 IsToldAs (Unknown word) told = told ≡ Memory
 IsToldAs (OfLive fault) told = told ≡ Memory
+IsToldAs (NoController name) told = told ≡ Memory
 IsToldAs (Failed fault) told = told ≡ fault
 
 -- how a fault is told: a refusal with status 1; a failure with 111, and as out of memory a refusal

@@ -1,5 +1,6 @@
 -- When an update is refused or fails.
 use Rattle.std.specs.Prelude.{◌≡◌, ◌⊎◌, ℕ, List, [], Option, Some, Result, Ok, Err}
+use Rattle.std.specs.Prelude.{string_bytes}
 use Rattle.rc_graph.specs.declared.Way.TheVariants.{Lower, Raise}
 use Rattle.rc_model.specs.Database.{Database}
 use Rattle.rc_model.specs.Line.{Line}
@@ -12,6 +13,7 @@ use Rattle.rc_args.specs.UpdateAsked.{UpdateAsk}
 use Rattle.rc_update.specs.Knowing.{AreKnown, IsFirstStranger}
 use Rattle.rc_dbtext.specs.Base.{Spells}
 use Rattle.rc_cli.specs.Filing.{BeginsBy, CannotKeep, FailsToBegin, IsFileRefused, file_named}
+use Rattle.rc_cli.specs.Controlled.{IsUncontrolledUpdate, LacksController, MovesAhead}
 use Rattle.rc_cli.specs.Finding.{IsFirstUnknown}
 use Rattle.rc_cli.specs.Serving.{session_on}
 use Rattle.rc_cli.specs.SessionFaults.{AreAllFound, EndsAs, IsUndone, IsUnspelled}
@@ -19,7 +21,10 @@ use Rattle.rc_cli.specs.declared.sessions.keeping.LiveFile.{LiveFile}
 use Rattle.rc_cli.specs.declared.sessions.session_fault.SessionFault.{SessionFault}
 use Rattle.rc_cli.specs.declared.sessions.session_fault.SessionFault.TheVariants.{OfText, Unknown}
 use Rattle.rc_cli.specs.declared.sessions.session_fault.SessionFault.TheVariants.{OfLive, Failed}
-use Rattle.rc_cli.specs.Updating.{AreDoneFor, Updated, making_on}
+use Rattle.rc_cli.specs.declared.sessions.session_fault.SessionFault.TheVariants.{NoController}
+use Rattle.rc_cli.specs.Updating.{AreDoneFor, IsAhead, Updated, making_on}
+use Rattle.rc_cli.specs.declared.updating.Ahead.{Ahead}
+use Rattle.rc_session.specs.Holding.{Holding}
 
 -- an update came to this where it was carried out from where the session of the old database begins
 abbrev pub RunsUpdate : Result Ending ServeFault → UpdateAsk → LiveFile → (old new : Database)
@@ -51,7 +56,7 @@ AreGateless old new making other = ⊥
 
 -- why an update is not begun: a conversion names no service of its database; a name that is to
 -- fail is no service's, only after that; its file is refused, only after those; the file could not
--- be read, or out of memory
+-- be read, or out of memory; and that it would move a longrun which no program controls comes last
 abbrev pub IsUnreadyUpdate : UpdateAsk → LiveFile → (old new : Database) → SessionFault → Type 0
 IsUnreadyUpdate ask file old new (OfText fault) = ⊥
 IsUnreadyUpdate ask file old new (Unknown word) =
@@ -61,8 +66,24 @@ IsUnreadyUpdate ask file old new (Unknown word) =
 IsUnreadyUpdate ask file old new (OfLive fault) = AreKnown old.names new.names ask.conversions
     × AreFoundInBoth old new ask.session.making
     × IsFileRefused old (file_named ask.session.live file) fault
+IsUnreadyUpdate ask file old new (NoController name) =
+    AreKnown old.names new.names ask.conversions × AreFoundInBoth old new ask.session.making
+    × IsUncontrolledUpdate old new ask file (string_bytes name)
 IsUnreadyUpdate ask file old new (Failed fault) =
     (fault ≡ Memory) ⊎ FailsToBegin (file_named ask.session.live file) fault
+
+-- why there is nothing ahead of an update from where a session stands: a step would move a longrun
+-- that no program controls, or out of memory
+abbrev pub IsNoneAhead : UpdateAsk → Holding → Database → SessionFault → Type 0
+IsNoneAhead ask from new (NoController name) = (ahead : Ahead) × IsAhead ask from new ahead
+    × LacksController ask.session × MovesAhead from ahead (string_bytes name)
+IsNoneAhead ask from new (Failed fault) = fault ≡ Memory
+IsNoneAhead ask from new other = ⊥
+
+-- each longrun that would be moved has a program that controls it
+abbrev pub IsControlledUpdate : (old new : Database) → UpdateAsk → LiveFile → Type 0
+IsControlledUpdate old new ask file = (name : List ℕ)
+    → IsUncontrolledUpdate old new ask file name → ⊥
 
 -- what an update from one database to another comes to: each conversion names services of theirs,
 -- each name that is to fail is a service's, and it was carried out, or shown; or it was not begun,
@@ -70,11 +91,12 @@ IsUnreadyUpdate ask file old new (Failed fault) =
 abbrev pub UpdatesOn : Result Ending SessionFault → UpdateAsk → LiveFile → (old new : Database)
     → (was is written gained : Option (List ℕ)) → (writer keeper : Type 0) → Type 0
 UpdatesOn (Ok ending) ask file old new was is written gained writer keeper =
-    AreKnown old.names new.names ask.conversions
+    AreKnown old.names new.names ask.conversions × IsControlledUpdate old new ask file
     × RunsUpdate (Ok ending) ask file old new was is written gained
 UpdatesOn (Err fault) ask file old new was is written gained writer keeper =
     (IsUnreadyUpdate ask file old new fault × (gained ≡ written) × (is ≡ was))
     ⊎ ((why : ServeFault) × (fault ≡ Failed why) × IsServeFault ⊥ writer keeper why
+    × IsControlledUpdate old new ask file
     × RunsUpdate (Err why) ask file old new was is written gained)
 
 -- why there are not both databases: the text of the old one is refused, or where it is one that of

@@ -14,15 +14,18 @@ use Rattle.rc_serve.specs.declared.ending.Ending.TheVariants.{Done}
 use Rattle.rc_serve.specs.declared.fault.ServeFault.{ServeFault}
 use Rattle.rc_serve.specs.Ending.{EndsIn}
 use Rattle.rc_args.specs.Listed.{Listed}
-use Rattle.rc_args.specs.OnceAsked.{OnceSaying}
+use Rattle.rc_args.specs.OnceAsked.{OnceSaying, Said}
+use Rattle.rc_args.specs.UpdateAsked.{UpdateAsk}
+use Rattle.rc_script.specs.Says.{saying_of}
 use Rattle.rc_args.specs.Programs.{ByPrograms, ByTable, MakingAsk}
 use Rattle.rc_cli.specs.Once.{ServedOnce, ServesOnce}
 use Rattle.rc_cli.specs.Services.{IsDoneFor}
 use Rattle.rc_cli.specs.Serving.{session_on}
-use Rattle.rc_cli.specs.Steps.{IsShort, ended_by, ending_behind, lowering, raising}
+use Rattle.rc_cli.specs.Steps.{ended_by, ending_behind, lowering, raising}
 use Rattle.rc_update.specs.Carrying.{AreNamesOf, Carried, IsAlteredUp, StaysUp}
 use Rattle.rc_update.specs.Conversions.{Conversion}
 use Rattle.rc_update.specs.declared.carrying.Update.{Update}
+use Rattle.rc_cli.specs.declared.updating.Ahead.{Ahead}
 
 -- of transitions that are listed those of one way
 abbrev pub listed_by : Way → Way → Listed → List Listed → List Listed
@@ -127,12 +130,21 @@ ServedBoth result path was is As At what then written gained from to =
 abbrev pub session_with : Database → Parts → Holding → Holding
 session_with new parts from = session_on new (carried_line new parts.kept from.line.bound)
 
--- an update from where a session stands came to this, or out of memory before its first step
+-- what is ahead of an update from where the session of the old database stands: the session of
+-- the new one, with what stays live, and the lines of both steps
+pub record IsAhead (ask : UpdateAsk) (from : Holding) (new : Database) (ahead : Ahead)
+    : Type 0 where
+  pub parts : Parts
+  pub update : IsUpdate from.database new ask.conversions ask.again from.line parts
+  pub to : ahead.to ≡ session_with new parts from
+  pub lowers : Said (saying_of ahead.lowering) ≡ lowering ask.dry parts.lower
+  pub raises : Said (saying_of ahead.raising) ≡ raising ask.dry parts.raise
+
+-- an update from where a session stands came to this
 abbrev pub Updated : Result Ending ServeFault → Option Path → (was is : Option (List ℕ))
     → (As At : EndsIn) → List Conversion → (dry again : Bool)
     → (written gained : Option (List ℕ)) → Holding → Database → Type 0
-Updated result path was is As At list dry again written gained from new =
-    IsShort result was is written gained
-    ⊎ ((parts : Parts) × IsUpdate from.database new list again from.line parts
+Updated result path was is As At list dry again written gained from new = (parts : Parts)
+    × IsUpdate from.database new list again from.line parts
     × ServedBoth result path was is As At (lowering dry parts.lower) (raising dry parts.raise)
-    written gained from (session_with new parts from))
+    written gained from (session_with new parts from)

@@ -1,16 +1,14 @@
 //! Whether a command would move a longrun that no program controls.
-ghost use Rattle.std.specs.Prelude.{◌≡◌, ◌≢◌, ◌≤◌, ◌<◌, ◌↔◌, ℕ, List, None, Some, false, length};
-ghost use Rattle.std.specs.Prelude.{slice_get};
+ghost use Rattle.std.specs.Prelude.{◌≡◌, ◌≢◌, ◌<◌, ◌↔◌, ℕ, List, None, Some, false, length};
+ghost use Rattle.std.specs.Prelude.{map, slice_get};
 ghost use Rattle.std.specs.Prelude.{string_bytes, IfErr, IfNone, IfOk, IfSome, IsTrue, MatchOption};
 ghost use Rattle.std.specs.Prelude.{OnErr, OnOk};
-ghost use Rattle.rc_args.specs.OnceAsked.{Said, once_saying_of};
+ghost use Rattle.rc_args.specs.OnceAsked.{Said};
 ghost use Rattle.rc_args.specs.SessionAsked.{session_ask_of};
-ghost use Rattle.rc_args.specs.UpdateAsked.{update_ask_of};
+ghost use Rattle.rc_dbtext.specs.Base.{bytes_of};
 ghost use Rattle.rc_model.specs.Beside.{IsCourse};
 ghost use Rattle.rc_model.specs.Database.{IsKind};
-ghost use Rattle.rc_model.specs.Graph.{IsClosed};
 ghost use Rattle.rc_model.specs.Headline.{HasRun};
-ghost use Rattle.rc_model.specs.Line.{Line};
 ghost use Rattle.rc_model.specs.Names.{Has};
 ghost use Rattle.rc_model.specs.declared.Kind.TheVariants.{Longrun};
 ghost use Rattle.rc_model.specs.Run.{course_of};
@@ -18,101 +16,98 @@ ghost use Rattle.rc_model.specs.Session.{IsOwnFault};
 ghost use Rattle.rc_script.specs.Says.{saying_of};
 ghost use Rattle.rc_session.specs.Commands.{plain_of};
 ghost use Rattle.rc_session.specs.Holding.{IsBegun, IsHindrance, with_run};
-ghost use Rattle.rc_cli.specs.Filing.{BeginsBy, file_named};
-ghost use Rattle.rc_cli.specs.Serving.{session_on};
-ghost use Rattle.rc_cli.specs.Controlled.{IsLongrunOf, LacksController, MovesBySaying};
-ghost use Rattle.rc_cli.specs.Controlled.{MovesByUpdate, MovesLongrun, MovesLongrunOn};
-ghost use Rattle.rc_cli.specs.Controlled.{UpdateMovesFrom, UpdateMovesLongrun};
-ghost use Rattle.rc_cli.specs.Updating.{carried_line};
+ghost use Rattle.rc_cli.specs.Controlled.{IsLongrunOf, LacksController, MovesAhead};
+ghost use Rattle.rc_cli.specs.Controlled.{MovesByService, MovesBySaying, MovesLongrunOn};
+ghost use Rattle.rc_cli.specs.Steps.{lowering};
 
-use crate::begun::database_in;
-use crate::moving::update_of;
-use crate::sessions::{LiveFile, SessionFault, begin, step_line};
-use crate::updating::{session_of, stranger};
-use rc_args::{Making, Once, SessionRequest, UpdateRequest};
+use crate::sessions::{Launch, Service, copied, step_line};
+use crate::updating::Ahead;
+use rc_args::{Making, Once, SessionRequest};
 use rc_db::Db;
-use rc_dbtext::laws as text_laws;
-use rc_livetext::laws as live_laws;
 use rc_names::Kind;
 use rc_script::SessionLine;
 use rc_select::{Mode, Plan};
-use rc_serve::ServeFault;
 use rc_session::{Begun, Command, Refusal, Session};
 use rc_set::{NoMem, Set};
 use std::alloc::{AllocError, Global};
 
-/// A longrun that a command of one line would move, where programs are started and none controls
-/// longruns. None: there is none, or the command is refused.
-pub fn uncontrolled(
+/// A longrun that the first line of a service would move, where programs are started and none
+/// controls longruns. None: there is none, the line is refused, or the database is read from the
+/// input.
+pub(crate) fn uncontrolled(
     alloc: Global,
-    base: &[u8],
-    live: LiveFile<'_>,
-    request: &SessionRequest<'_>,
-    once: &Once,
+    launch: &Launch<'_>,
+    session: &mut Session,
 ) -> Result<Option<String>, NoMem>
+    requires closed { session.old.begun ≡ false }
+    requires whole { session.old.spoiled ≡ false }
     ensures some { IfOk result (λ found. IfSome found (λ name.
-        LacksController (session_ask_of request.now)
-        × MovesLongrun base.now (session_ask_of request.now) live.entry (once_saying_of once.now)
+        (bytes_of launch.now.base ≢ None) × LacksController (session_ask_of launch.now.request.now)
+        × MovesByService launch.now.service session.old.database session.old.line
         (string_bytes name))) }
-    ensures none { IfOk result (λ found. IfNone found (
-        LacksController (session_ask_of request.now) → (name : List ℕ)
-        → MovesLongrun base.now (session_ask_of request.now) live.entry (once_saying_of once.now)
-        name → ⊥)) }
+    ensures none { IfOk result (λ found. IfNone found (bytes_of launch.now.base ≢ None →
+        LacksController (session_ask_of launch.now.request.now) → (name : List ℕ) →
+        MovesByService launch.now.service session.old.database session.old.line name → ⊥)) }
+    ensures same { session.new ≡ session.old }
 {
-    text_laws::spelling_is_unique();
-    live_laws::spelling_is_unique();
-    if !lacks_controller(request) {
+    if launch.base.is_none() || !lacks_controller(launch.request) {
         return Ok(None);
     }
-    let Once::Line(line) = once else {
-        return Ok(None);
-    };
-    let Some(db) = database_in(alloc, base)? else {
-        return Ok(None);
-    };
-    let _names = db.names();
-    let Some(mut session) = session_in(alloc, db, request, live)? else {
-        return Ok(None);
-    };
-    let found = moved_by(alloc, &mut session, line);
-    drop(session);
+    match launch.service {
+        Service::Lines | Service::Line(Once::DryUndo | Once::DryRedo) => Ok(None),
+        Service::Line(Once::Line(line)) => moved_by(alloc, session, line),
+        Service::Restart(names) => moved_down(alloc, session, names),
+    }
+}
+
+// A longrun that the first step of a restart would move.
+fn moved_down(
+    alloc: Global,
+    session: &mut Session,
+    names: &[String],
+) -> Result<Option<String>, NoMem>
+    requires closed { session.old.begun ≡ false }
+    requires whole { session.old.spoiled ≡ false }
+    ensures some { IfOk result (λ found. IfSome found (λ name.
+        MovesBySaying session.old.database session.old.line
+        (lowering false (map string_bytes names.now)) (string_bytes name))) }
+    ensures none { IfOk result (λ found. IfNone found ((name : List ℕ) →
+        MovesBySaying session.old.database session.old.line
+        (lowering false (map string_bytes names.now)) name → ⊥)) }
+    ensures same { session.new ≡ session.old }
+{
+    let names = copied(alloc, names)?;
+    let line = step_line(false, Mode::DownAll, names);
+    let found = moved_by(alloc, session, &line);
+    drop(line);
     found
 }
 
 /// A longrun that either step of an update would move, where programs are started and none controls
-/// longruns. None: there is none, or the update is refused.
-pub fn uncontrolled_update(
+/// longruns. None: there is none, or that step is refused.
+pub(crate) fn uncontrolled_step(
     alloc: Global,
-    old: &[u8],
-    new: &[u8],
-    live: LiveFile<'_>,
-    request: &UpdateRequest<'_>,
+    request: &SessionRequest<'_>,
+    from: &mut Session,
+    ahead: &mut Ahead,
 ) -> Result<Option<String>, NoMem>
+    requires from { (from.old.begun ≡ false) × (from.old.spoiled ≡ false) }
+    requires to { (ahead.old.to.begun ≡ false) × (ahead.old.to.spoiled ≡ false) }
     ensures some { IfOk result (λ found. IfSome found (λ name.
-        LacksController (update_ask_of request.now).session
-        × UpdateMovesLongrun old.now new.now (update_ask_of request.now) live.entry
-        (string_bytes name))) }
+        LacksController (session_ask_of request.now)
+        × MovesAhead from.old ahead.old (string_bytes name))) }
     ensures none { IfOk result (λ found. IfNone found (
-        LacksController (update_ask_of request.now).session → (name : List ℕ)
-        → UpdateMovesLongrun old.now new.now (update_ask_of request.now) live.entry name → ⊥)) }
+        LacksController (session_ask_of request.now) → (name : List ℕ) →
+        MovesAhead from.old ahead.old name → ⊥)) }
+    ensures from { from.new ≡ from.old }
+    ensures ahead { ahead.new ≡ ahead.old }
 {
-    text_laws::spelling_is_unique();
-    if !lacks_controller(&request.session) {
+    if !lacks_controller(request) {
         return Ok(None);
     }
-    let Some(from) = database_in(alloc, old)? else {
-        return Ok(None);
-    };
-    match database_in(alloc, new) {
-        Ok(Some(to)) => moved_between(alloc, from, to, live, request),
-        Ok(None) => {
-            drop(from);
-            Ok(None)
-        }
-        Err(short) => {
-            drop(from);
-            Err(short)
-        }
+    match moved_by(alloc, from, &ahead.lowering) {
+        Ok(None) => moved_by(alloc, &mut ahead.to, &ahead.raising),
+        found => found,
     }
 }
 
@@ -123,131 +118,6 @@ fn lacks_controller(request: &SessionRequest<'_>) -> bool
     match &request.making {
         Making::Table(_) => false,
         Making::Programs(programs) => programs.controller.is_none(),
-    }
-}
-
-// A longrun that an update from one database to another would move. None: there is none, or the
-// update is refused.
-fn moved_between(
-    alloc: Global,
-    old: Db,
-    new: Db,
-    live: LiveFile<'_>,
-    request: &UpdateRequest<'_>,
-) -> Result<Option<String>, NoMem>
-    ensures some { IfOk result (λ found. IfSome found (λ name.
-        UpdateMovesFrom old new (update_ask_of request.now) live.entry (string_bytes name))) }
-    ensures none { IfOk result (λ found. IfNone found ((name : List ℕ)
-        → UpdateMovesFrom old new (update_ask_of request.now) live.entry name → ⊥)) }
-{
-    live_laws::spelling_is_unique();
-    if let Some(_name) = stranger(request, &old, &new) {
-        drop((old, new));
-        return Ok(None);
-    }
-    let _names = old.names();
-    match session_in(alloc, old, &request.session, live) {
-        Ok(Some(mut session)) => {
-            let found = moved_from(alloc, &mut session, new, request);
-            drop(session);
-            found
-        }
-        Ok(None) => {
-            drop(new);
-            Ok(None)
-        }
-        Err(short) => {
-            drop(new);
-            Err(short)
-        }
-    }
-}
-
-// A longrun that an update would move from where the session of the old database stands.
-fn moved_from(
-    alloc: Global,
-    from: &mut Session,
-    new: Db,
-    request: &UpdateRequest<'_>,
-) -> Result<Option<String>, NoMem>
-    requires closed { from.old.begun ≡ false }
-    requires whole { from.old.spoiled ≡ false }
-    ensures some { IfOk result (λ found. IfSome found (λ name.
-        MovesByUpdate from.old.database new (update_ask_of request.now) from.old.line
-        (string_bytes name))) }
-    ensures none { IfOk result (λ found. IfNone found ((name : List ℕ)
-        → MovesByUpdate from.old.database new (update_ask_of request.now) from.old.line name
-        → ⊥)) }
-{
-    let bound = from.journal().bound();
-    let list = request.conversions.as_slice();
-    let update = match update_of(alloc, from, &new, list, request.again) {
-        Ok(update) => update,
-        Err(short) => {
-            drop(new);
-            return Err(short);
-        }
-    };
-    let lowering = step_line(request.dry, Mode::DownAll, update.lower);
-    let raising = step_line(request.dry, Mode::Up, update.raise);
-    match moved_by(alloc, from, &lowering) {
-        Ok(None) => {
-            let found = raised_by(alloc, new, update.kept, bound, &raising);
-            drop((lowering, raising));
-            found
-        }
-        found => {
-            drop((new, update.kept, lowering, raising));
-            found
-        }
-    }
-}
-
-// A longrun that the line of the second step would move, on the session of the new database.
-fn raised_by(
-    alloc: Global,
-    new: Db,
-    kept: Set,
-    bound: u32,
-    raising: &SessionLine,
-) -> Result<Option<String>, NoMem>
-    requires length { length kept ≡ length new.names }
-    requires closed { IsClosed new.needs (Has kept) }
-    requires bound { 3 ≤ bound }
-    ensures some { IfOk result (λ found. IfSome found (λ name.
-        MovesBySaying new (carried_line new kept bound) (Said (saying_of raising.now))
-        (string_bytes name))) }
-    ensures none { IfOk result (λ found. IfNone found ((name : List ℕ)
-        → MovesBySaying new (carried_line new kept bound) (Said (saying_of raising.now)) name
-        → ⊥)) }
-{
-    let mut to = session_of(alloc, new, kept, bound)?;
-    let found = moved_by(alloc, &mut to, raising);
-    drop(to);
-    found
-}
-
-// The session that goes on with what stood in its file. None: none begins there.
-fn session_in(
-    alloc: Global,
-    db: Db,
-    request: &SessionRequest<'_>,
-    live: LiveFile<'_>,
-) -> Result<Option<Session>, NoMem>
-    ensures some { IfOk result (λ read. IfSome read (λ session. (start : Line)
-        × BeginsBy db request.now.bound
-        (file_named (session_ask_of request.now).live live.entry) start
-        × (session ≡ session_on db start))) }
-    ensures none { IfOk result (λ read. IfNone read ((start : Line)
-        → BeginsBy db request.now.bound
-        (file_named (session_ask_of request.now).live live.entry) start → ⊥)) }
-{
-    live_laws::spelling_is_not_refused();
-    let _names = db.names();
-    match begin(alloc, db, request, live) {
-        Ok(session) => Ok(Some(session)),
-        Err(SessionFault::Failed(ServeFault::Memory)) => Err(AllocError),
-        Err(_) => Ok(None),
     }
 }
 
@@ -265,6 +135,7 @@ fn moved_by(
     ensures none { IfOk result (λ found. IfNone found ((name : List ℕ)
         → MovesBySaying session.old.database session.old.line (Said (saying_of line.now)) name
         → ⊥)) }
+    ensures same { session.new ≡ session.old }
 {
     match line {
         SessionLine::Command(command) => moved_longrun(alloc, session, command),
@@ -286,6 +157,7 @@ fn moved_longrun(
     ensures none { IfOk result (λ found. IfNone found ((name : List ℕ)
         → MovesLongrunOn session.old.database session.old.line (plain_of command.now) name
         → ⊥)) }
+    ensures same { session.new ≡ session.old }
 {
     match command {
         Command::Add(..) | Command::Delete(..) => Ok(None),
@@ -310,6 +182,7 @@ fn begun_longrun(
     ensures none { IfOk result (λ found. IfNone found ((name : List ℕ)
         → MovesLongrunOn session.old.database session.old.line (plain_of command.now) name
         → ⊥)) }
+    ensures same { session.new ≡ session.old }
 {
     let begun = match begin_run(alloc, session, command) {
         Ok(begun) => begun,

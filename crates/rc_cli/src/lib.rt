@@ -9,7 +9,6 @@ mod fault;
 pub mod laws;
 mod moving;
 pub mod queries;
-mod restarting;
 mod sealing;
 pub mod sessions;
 mod status;
@@ -17,9 +16,7 @@ mod update;
 mod updating;
 
 pub use crate::begun::begins_update;
-pub use crate::controlled::{uncontrolled, uncontrolled_update};
 pub use crate::queries::{db_run, plan_run, replay_run};
-pub use crate::restarting::uncontrolled_restart;
 pub use crate::sealing::seal_as_asked;
 pub use crate::sessions::{LiveFile, Service, Store, TextKeeper, launch};
 pub use crate::status::status_as_asked;

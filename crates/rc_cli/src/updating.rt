@@ -1,6 +1,6 @@
 //! The two steps of an update: how their transitions are made, what they move, and that they are
 //! kept.
-ghost use Rattle.std.specs.Prelude.{◌≡◌, ◌≢◌, ◌≤◌, ◌++◌, [], None, false, length, map};
+ghost use Rattle.std.specs.Prelude.{◌≡◌, ◌≢◌, ◌≤◌, ◌++◌, ℕ, List, [], None, false, length, map};
 ghost use Rattle.std.specs.Prelude.{IfErr, IfOk, MatchOption, OnOk};
 ghost use Rattle.rc_graph.specs.declared.Way.TheVariants.{Lower, Raise};
 ghost use Rattle.rc_model.specs.Graph.{IsClosed};
@@ -21,10 +21,12 @@ ghost use Rattle.rc_cli.specs.Steps.{ended_by, ending_behind};
 ghost use Rattle.rc_cli.specs.Storing.{store_of};
 ghost use Rattle.rc_update.specs.Conversions.{conversions_of};
 ghost use Rattle.rc_update.specs.Knowing.{AreKnown, IsFirstStranger};
-ghost use Rattle.rc_cli.specs.Updating.{ServedBoth, Updated, carried_line, listed_by, listed_on};
+ghost use Rattle.rc_cli.specs.Updating.{IsAhead, ServedBoth, carried_line, listed_by, listed_on};
 ghost use Rattle.rc_cli.specs.Updating.{making_on};
-ghost use Rattle.rc_cli.specs.UpdateEnds.{AreGateless, UpdatesOn};
+ghost use Rattle.rc_cli.specs.Controlled.{LacksController, MovesAhead};
+ghost use Rattle.rc_cli.specs.UpdateEnds.{AreGateless, IsNoneAhead, UpdatesOn};
 
+use crate::controlled::uncontrolled_step;
 use crate::moving::update_of;
 use crate::sessions::{
     Host, LiveFile, Outputs, SessionFault, Store, begin, gate_for, line_once, step_line,
@@ -35,6 +37,7 @@ use rc_board::Gate;
 use rc_db::Db;
 use rc_graph::Way;
 use rc_line::Line;
+use rc_livetext::laws as live_laws;
 use rc_runner::{SessionGate, Telling};
 use rc_script::SessionLine;
 use rc_select::Mode;
@@ -56,10 +59,10 @@ struct Gates<G> {
 
 /// What is ahead of an update: the session of the new database, and the lines of both steps.
 #[derive(Drop)]
-struct Ahead {
-    to: Session,
-    lowering: SessionLine,
-    raising: SessionLine,
+pub(crate) struct Ahead {
+    pub to: Session,
+    pub lowering: SessionLine,
+    pub raising: SessionLine,
 }
 
 /// Carries what is live over from a database to another: past the gates of both steps, from where
@@ -79,6 +82,8 @@ pub(crate) fn update_on<'a, T: Threads + Wait + Sync, W: Write, S: Store, L: Log
         (HasFailed outputs.new.writer) (CannotKeep (session_ask_of request.now.session) live.entry
         (S.failed (store_of outputs.new.keeper))) }
 {
+    live_laws::spelling_is_unique();
+    let _names = old.names();
     if let Some(name) = stranger(request, &old, &new) {
         drop((old, new));
         return Err(SessionFault::Unknown(name));
@@ -98,8 +103,15 @@ pub(crate) fn update_on<'a, T: Threads + Wait + Sync, W: Write, S: Store, L: Log
             return Err(fault);
         }
     };
-    let ended = update_from(host, request, &mut from, new, &gates, outputs);
-    drop((from, gates));
+    let mut ahead = match ahead_controlled(host.alloc, request, &mut from, new) {
+        Ok(ahead) => ahead,
+        Err(fault) => {
+            drop((gates, from));
+            return Err(fault);
+        }
+    };
+    let ended = serve_both(host, asked, &mut from, &mut ahead, &gates, outputs);
+    drop((gates, from, ahead));
     match ended {
         Ok(ending) => Ok(ending),
         Err(fault) => Err(SessionFault::Failed(fault)),
@@ -200,62 +212,71 @@ fn push_on<'a>(
     Ok(())
 }
 
-// Carries over what is live in a session.
-fn update_from<T: Threads + Wait + Sync, W: Write, G: Gate, S: Store, L>(
-    host: &Host<'_, T, L>,
+// What is ahead of an update from where the session of the old database stands, if neither step
+// moves a longrun that no program controls.
+fn ahead_controlled<'a>(
+    alloc: Global,
     request: &UpdateRequest<'_>,
     from: &mut Session,
     new: Db,
-    gates: &Gates<G>,
-    outputs: &mut Outputs<W, S>,
-) -> Result<Ending, ServeFault>
+) -> Result<Ahead, SessionFault<'a>>
     requires closed { from.old.begun ≡ false }
     requires whole { from.old.spoiled ≡ false }
-    requires writer { HasFailed outputs.old.writer → ⊥ }
-    ensures served { Updated result (session_ask_of request.now.session).live
-        (S.holds (store_of outputs.old.keeper)) (S.holds (store_of outputs.new.keeper))
-        (IsDoneAs request.now.session.workers (G.answers gates.now.lowers)
-        (G.gives gates.now.lowers))
-        (IsDoneAs request.now.session.workers (G.answers gates.now.raises)
-        (G.gives gates.now.raises))
-        (conversions_of request.now.conversions.items) request.now.dry request.now.again
-        (W.contents (inner_of outputs.old.writer)) (W.contents (inner_of outputs.new.writer))
-        from.old new }
-    ensures fault { IfErr result (IsServeFault ⊥ (HasFailed outputs.new.writer)
-        (((session_ask_of request.now.session).live ≢ None)
-        × S.failed (store_of outputs.new.keeper))) }
+    ensures ahead { IfOk result (IsAhead (update_ask_of request.now) from.old new) }
+    ensures controlled { IfOk result (λ ahead.
+        LacksController (session_ask_of request.now.session) → (name : List ℕ)
+        → MovesAhead from.old ahead name → ⊥) }
+    ensures fault { IfErr result (IsNoneAhead (update_ask_of request.now) from.old new) }
+    ensures same { from.new ≡ from.old }
+{
+    let mut ahead = ahead_of(alloc, request, from, new)?;
+    match uncontrolled_step(alloc, &request.session, from, &mut ahead) {
+        Ok(None) => Ok(ahead),
+        Ok(Some(name)) => {
+            drop(ahead);
+            Err(SessionFault::NoController(name))
+        }
+        Err(_) => {
+            drop(ahead);
+            Err(SessionFault::Failed(ServeFault::Memory))
+        }
+    }
+}
+
+// What is ahead of an update from there.
+fn ahead_of(
+    alloc: Global,
+    request: &UpdateRequest<'_>,
+    from: &Session,
+    new: Db,
+) -> Result<Ahead, NoMem>
+    requires closed { from.now.begun ≡ false }
+    ensures ahead { IfOk result (IsAhead (update_ask_of request.now) from.now new) }
+    ensures stands { IfOk result (λ ahead.
+        (ahead.to.begun ≡ false) × (ahead.to.spoiled ≡ false)) }
 {
     let bound = from.journal().bound();
-    let update = match update_of(
-        host.alloc,
-        from,
-        &new,
-        request.conversions.as_slice(),
-        request.again,
-    ) {
+    let list = request.conversions.as_slice();
+    let update = match update_of(alloc, from, &new, list, request.again) {
         Ok(update) => update,
-        Err(_) => {
+        Err(short) => {
             drop(new);
-            return Err(ServeFault::Memory);
+            return Err(short);
         }
     };
     let lowering = step_line(request.dry, Mode::DownAll, update.lower);
     let raising = step_line(request.dry, Mode::Up, update.raise);
-    let to = match session_of(host.alloc, new, update.kept, bound) {
-        Ok(to) => to,
-        Err(_) => {
+    match session_of(alloc, new, update.kept, bound) {
+        Ok(to) => Ok(Ahead {
+            to,
+            lowering,
+            raising,
+        }),
+        Err(short) => {
             drop((lowering, raising));
-            return Err(ServeFault::Memory);
+            Err(short)
         }
-    };
-    let mut ahead = Ahead {
-        to,
-        lowering,
-        raising,
-    };
-    let ended = serve_both(host, &request.session, from, &mut ahead, gates, outputs);
-    drop(ahead);
-    ended
+    }
 }
 
 /// The session of a database whose line has one state, in which these services are live.

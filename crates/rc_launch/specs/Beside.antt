@@ -5,7 +5,8 @@ use Rattle.rc_args.specs.Programs.{MakingAsk, StartsBy}
 use Rattle.rc_launch.specs.Recovered.{GoesOn, IsRecovered}
 use Rattle.rc_launch.specs.declared.live_store.LiveStore.{LiveStore}
 use Rattle.rc_launch.specs.declared.loading.Loaded.{Loaded}
-use Rattle.rc_launch.specs.declared.loading.Loaded.TheVariants as loaded
+use Rattle.rc_args.specs.declared.session_command.SessionCommand.{SessionCommand}
+use Rattle.rc_args.specs.declared.session_command.SessionCommand.TheVariants.{Status}
 use Rattle.rc_launch.specs.declared.opened.Note.{Note}
 use Rattle.rc_launch.specs.declared.opened.Note.TheVariants as note
 use Rattle.rc_launch.specs.declared.runs.Runs.{Runs}
@@ -33,12 +34,16 @@ IsFoundBy loaded path locked note.UnderWay = locked → ⊥
 IsFoundBy loaded path locked note.Cut = locked → ⊥
 IsFoundBy loaded path locked (note.Logged log) = ⊥
 
--- what was found beside the file of a session, if one is named; where it is to be shown where
--- services stand, the run log was read
+-- what was found beside the file of a session; where it is to be shown where services stand, the
+-- run log was read
+abbrev pub IsNotedFor : SessionCommand → Loaded → Bor (List ℕ) → (locked : Type 0) → Note → Type 0
+IsNotedFor (Status request) loaded path locked note = IsLogOf path note
+IsNotedFor other loaded path locked note = IsFoundBy loaded path locked note
+
+-- the same, if one is named
 abbrev pub IsNoted : Loaded → (live : Option (Bor (List ℕ))) → (locked : Type 0) → Note → Type 0
 IsNoted loaded None locked note = IsSeen note
-IsNoted (loaded.Status request base) (Some path) locked note = IsLogOf path note
-IsNoted other (Some path) locked note = IsFoundBy other path locked note
+IsNoted loaded (Some path) locked note = IsNotedFor loaded.command loaded path locked note
 
 -- the command goes on with an update that was cut short
 abbrev pub GoesOnBy : Loaded → Note → Type 0

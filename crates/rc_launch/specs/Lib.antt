@@ -1,7 +1,7 @@
 -- The definitions of rc_launch, in reading order.
 
 -- What is asked of the file of a session, and what is read for it.
-pub mod Works
+pub mod Loading
 -- What a recovery makes of the two files of a session, by the text of a database.
 pub mod Recovering
 -- What a run log says of the text that stands in the file of its session.

@@ -7,8 +7,8 @@ use Rattle.rc_launch.specs.Beside.{AreRunsOf, GoesOnBy, IsLocked, IsNoted, locke
 use Rattle.rc_launch.specs.declared.live_store.LiveStore.{LiveStore}
 use Rattle.rc_launch.specs.declared.loading.Loaded.{Loaded}
 use Rattle.rc_launch.specs.declared.opened.Opened.{Opened}
-use Rattle.rc_launch.specs.declared.work.Work.{Work}
-use Rattle.rc_launch.specs.Works.{IsAsLoaded, IsLoaded, MovesBy, again_in, session_in}
+use Rattle.rc_args.specs.declared.session_command.SessionCommand.{SessionCommand}
+use Rattle.rc_launch.specs.Loading.{IsAsLoaded, IsLoaded, MovesBy, again_in, session_in}
 
 -- a command is opened with what was read of it, of the file of its session, and beside that: where
 -- the file is locked its run log was read and dealt with, and runs are logged
@@ -31,10 +31,11 @@ Replaces None store = Unit {0}
 Replaces (Some path) store = store.path ≡ path
 
 -- the files of a command are opened
-pub record AreOpened (asked : Work) (opened : Opened) (store : LiveStore) : Type 0 where
+pub record AreOpened (asked : SessionCommand) (file : Option (Bor (List ℕ)))
+    (opened : Opened) (store : LiveStore) : Type 0 where
   pub read : Loaded
   pub moves : Bool
-  pub loaded : IsLoaded asked read
+  pub loaded : IsLoaded asked file read
   pub opened_as : IsOpenedAs read moves store opened
   pub moving : (moves ≡ true) ↔ MovesBy asked
   pub locked : LocksFor moves (session_in read).live store

@@ -8,10 +8,12 @@ use Rattle.rc_cli.specs.Begun.{BeginsUpdate}
 use Rattle.rc_launch.specs.Held.{files_held}
 use Rattle.rc_launch.specs.Logs.{IsCutBy}
 use Rattle.rc_launch.specs.Recovering.{IsNoBase, Leaves, LeavesNothing, LeavesUnfit}
-use Rattle.rc_launch.specs.Works.{base_of, bytes_in, other_of}
+use Rattle.rc_launch.specs.Loading.{bytes_in, bytes_of}
 use Rattle.rc_launch.specs.declared.held_files.HeldFiles.{HeldFiles}
 use Rattle.rc_launch.specs.declared.loading.Loaded.{Loaded}
-use Rattle.rc_launch.specs.declared.loading.Loaded.TheVariants as loaded
+use Rattle.rc_args.specs.declared.session_command.SessionCommand.{SessionCommand}
+use Rattle.rc_args.specs.declared.session_command.SessionCommand.TheVariants.{Update}
+use Rattle.rc_launch.specs.declared.texts.FileText.{FileText}
 use Rattle.rc_launch.specs.declared.recovered.Came.{Came}
 use Rattle.rc_launch.specs.declared.recovered.Came.TheVariants.{Entered, NoDatabase, Nothing}
 use Rattle.rc_launch.specs.declared.recovered.Came.TheVariants.{Stale}
@@ -48,8 +50,8 @@ Comes (Some base) (Some other) old new came = ComesBy base old new came
 
 -- what comes of it by the databases of a command
 abbrev pub ComesFor : Loaded → (old new : Files) → Came → Type 0
-ComesFor loaded old new came = Comes (option_map bytes_in (base_of loaded))
-    (option_map bytes_in (other_of loaded)) old new came
+ComesFor loaded old new came = Comes (option_map bytes_in loaded.base)
+    (option_map bytes_in loaded.new) old new came
 
 -- a log that is not empty was dealt with: it is removed where it is of another text, and else
 -- recovered by the databases of the command
@@ -77,10 +79,13 @@ HasLowered (Entered report) = (rest : List ℕ) × (report.items ≡ codes "lowe
 HasLowered other = ⊥
 
 -- the log that was read is that of the first step of the update that is asked for
-abbrev pub IsFirstStep : Loaded → ReadFiles → Type 0
-IsFirstStep (loaded.Update request old new) read = BeginsUpdate (bytes_in old) (bytes_in new)
+abbrev pub IsFirstStepOf : SessionCommand → (old new : Option FileText) → ReadFiles → Type 0
+IsFirstStepOf (Update request) old new read = BeginsUpdate (bytes_of old) (bytes_of new)
     (conversions_of request.conversions.items) (files_read read).file (files_read read).log
-IsFirstStep other read = ⊥
+IsFirstStepOf other old new read = ⊥
+
+abbrev pub IsFirstStep : Loaded → ReadFiles → Type 0
+IsFirstStep loaded read = IsFirstStepOf loaded.command loaded.base loaded.new read
 
 -- the command goes on with an update that was cut short in its first step, which had lowered
 -- something: where it had not, the last entry of the session is that of an earlier command

@@ -1,14 +1,12 @@
 -- What a command comes to on what was read for it.
-use Rattle.std.specs.Prelude.{◌≡◌, ℕ, List, [], Option, Some, false, true}
+use Rattle.std.specs.Prelude.{◌≡◌, ℕ, List, [], Option}
 use Rattle.std.specs.Prelude.{option_map, IfOk, OnErr}
 use Rattle.std.specs.Prelude.{Result, map, string_bytes}
 use Rattle.rc_args.specs.NamedAsked.{named_ask_of}
-use Rattle.rc_args.specs.OnceAsked.{once_saying_of}
 use Rattle.rc_args.specs.SessionAsked.{session_ask_of}
 use Rattle.rc_args.specs.UpdateAsked.{update_ask_of}
 use Rattle.rc_args.specs.declared.named_words.NamedRequest.{NamedRequest}
 use Rattle.rc_args.specs.declared.once_words.OnceRequest.{OnceRequest}
-use Rattle.rc_cli.specs.Controlled.{LacksController, MovesLongrun, UpdateMovesLongrun}
 use Rattle.rc_cli.specs.Sealing.{SealsAs}
 use Rattle.rc_cli.specs.Status.{TellsStatus}
 use Rattle.rc_cli.specs.UpdateEnds.{Updates}
@@ -17,16 +15,17 @@ use Rattle.rc_cli.specs.Deciding.{IsFound, level_by}
 use Rattle.rc_cli.specs.Filing.{IsUnread}
 use Rattle.rc_cli.specs.Launching.{Launches}
 use Rattle.rc_cli.specs.Session.{Dealing, asked_with}
-use Rattle.rc_cli.specs.Steps.{lowering}
 use Rattle.rc_cli.specs.declared.sessions.keeping.LiveFile.{LiveFile}
 use Rattle.rc_cli.specs.declared.sessions.service.Service.{Service}
 use Rattle.rc_cli.specs.declared.sessions.service.Service.TheVariants.{Lines, Line as OneLine}
 use Rattle.rc_cli.specs.declared.sessions.service.Service.TheVariants.{Restart}
 use Rattle.rc_launch.specs.declared.loading.Loaded.{Loaded}
-use Rattle.rc_launch.specs.declared.loading.Loaded.TheVariants as loaded
+use Rattle.rc_launch.specs.declared.texts.FileText.{FileText}
+use Rattle.rc_args.specs.declared.session_command.SessionCommand.{SessionCommand}
+use Rattle.rc_args.specs.declared.session_command.SessionCommand.TheVariants as command
 use Rattle.rc_launch.specs.declared.opened.Note.{Note}
 use Rattle.rc_launch.specs.declared.opened.Note.TheVariants as note
-use Rattle.rc_launch.specs.Works.{bytes_in, session_in}
+use Rattle.rc_launch.specs.Loading.{bytes_in, bytes_of, session_in}
 
 -- the bytes of the run log that was read
 abbrev pub logged_of : Note → List ℕ
@@ -54,41 +53,38 @@ IsLogFor loaded level = level ≡ level_by (session_in loaded).verbosity
 
 -- a command was carried out on what was read, with this status: as a session of lines, or of one
 -- line, as an update, a restart, a seal or a question
-abbrev pub Carries : Loaded → (log : List ℕ) → LiveFile → (status : ℕ) → Dealing
-    → (reader writer keeper : Type 0)
+abbrev pub CarriesOut : SessionCommand → (base new : Option FileText) → (log : List ℕ) → LiveFile
+    → (status : ℕ) → Dealing → (reader writer keeper : Type 0)
     → (before after : Option (List ℕ)) → Type 0
-Carries (loaded.Lines request base) log file status deal reader writer keeper before after =
+CarriesOut (command.Lines request) base new log file status deal reader writer keeper before
+    after =
     Launches Lines (asked_with (session_ask_of request) (option_map bytes_in base) file) status
     deal reader writer keeper before after
-Carries (loaded.Line request base) log file status deal reader writer keeper before after =
+CarriesOut (command.Line request) base new log file status deal reader writer keeper before after =
     (service : Service) × IsLineOf request service
     × Launches service (asked_with (session_ask_of request.session) (option_map bytes_in base) file)
     status deal reader writer keeper before after
-Carries (loaded.Update request old new) log file status deal reader writer keeper before after =
-    Updates (bytes_in old) (bytes_in new) (update_ask_of request) file status deal.was deal.is
+CarriesOut (command.Update request) base new log file status deal reader writer keeper before
+    after =
+    Updates (bytes_of base) (bytes_of new) (update_ask_of request) file status deal.was deal.is
     deal.io.written deal.io.gained writer keeper before after
-Carries (loaded.Restart request base) log file status deal reader writer keeper before after =
+CarriesOut (command.Restart request) base new log file status deal reader writer keeper before
+    after =
     (service : Service) × IsRestartOf request service
-    × Launches service (asked_with (session_ask_of request.session) (Some (bytes_in base)) file)
+    × Launches service (asked_with (session_ask_of request.session) (option_map bytes_in base) file)
     status deal reader writer keeper before after
-Carries (loaded.Seal request base) log file status deal reader writer keeper before after =
-    SealsAs (bytes_in base) request.bound file status deal.was deal.is deal.io.written
+CarriesOut (command.Seal request) base new log file status deal reader writer keeper before after =
+    SealsAs (bytes_of base) request.bound file status deal.was deal.is deal.io.written
     deal.io.gained writer keeper before after
-Carries (loaded.Status request base) log file status deal reader writer keeper before after =
-    TellsStatus (bytes_in base) (named_ask_of request) file log status writer
+CarriesOut (command.Status request) base new log file status deal reader writer keeper before
+    after =
+    TellsStatus (bytes_of base) (named_ask_of request) file log status writer
     deal.io.written deal.io.gained before after
 
--- a longrun of this name would be moved, and no program is named that controls longruns
-abbrev pub LacksItsControllerBy : Loaded → LiveFile → List ℕ → Type 0
-LacksItsControllerBy (loaded.Line request (Some base)) file name =
-    LacksController (session_ask_of request.session)
-    × MovesLongrun (bytes_in base) (session_ask_of request.session) file
-    (once_saying_of request.once) name
-LacksItsControllerBy (loaded.Update request old new) file name =
-    LacksController (session_ask_of request.session)
-    × UpdateMovesLongrun (bytes_in old) (bytes_in new) (update_ask_of request) file name
-LacksItsControllerBy (loaded.Restart request base) file name =
-    LacksController (session_ask_of request.session)
-    × MovesLongrun (bytes_in base) (session_ask_of request.session) file
-    (lowering false (named_ask_of request).names) name
-LacksItsControllerBy other file name = ⊥
+-- the same of a command that was loaded
+abbrev pub Carries : Loaded → (log : List ℕ) → LiveFile → (status : ℕ) → Dealing
+    → (reader writer keeper : Type 0)
+    → (before after : Option (List ℕ)) → Type 0
+Carries loaded log file status deal reader writer keeper before after =
+    CarriesOut loaded.command loaded.base loaded.new log file status deal reader writer keeper
+    before after

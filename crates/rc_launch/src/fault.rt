@@ -1,14 +1,10 @@
 //! Why the files of a command are not opened.
-use rc_args::WordsFault;
 use std::io;
 use thiserror::Error;
 
 /// Why the files of a command are not opened. Nothing has moved then.
 #[derive(Debug, Drop, Error)]
 pub enum OpenFault<'a> {
-    /// The words do not name the files that it needs.
-    #[error("a file is not named")]
-    Words(WordsFault),
     /// This file can't be read.
     #[error("a file can't be read")]
     File(&'a str, io::Error),

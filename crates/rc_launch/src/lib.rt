@@ -18,7 +18,6 @@ mod runs;
 mod serving;
 mod texts;
 mod tried_lock;
-mod work;
 
 pub use crate::fault::OpenFault;
 pub use crate::held_files::HeldFiles;
@@ -28,6 +27,5 @@ pub use crate::opening::open;
 pub use crate::recovered::{Came, Recovery};
 pub use crate::recovering::{Unrecovered, left_report, recover_by};
 pub use crate::runs::Runs;
-pub use crate::serving::{Status, serve, uncontrolled_in};
+pub use crate::serving::{Status, serve};
 pub use crate::texts::{FileText, LiveText, LogText, ReadFiles};
-pub use crate::work::Work;

@@ -1,24 +1,21 @@
 //! The databases of a command are read.
-ghost use Rattle.std.specs.Prelude.{◌≡◌, ◌≢◌, ◌↔◌, None, Some, true, option_map, IfOk, IsTrue};
-ghost use Rattle.rc_launch.specs.Works.{IsAsLoaded, IsLoaded, IsUpdating};
-ghost use Rattle.rc_launch.specs.Works.{again_in, base_of, other_of, path_of, session_in};
-ghost use Rattle.rc_launch.specs.declared.work.Work.TheVariants.{Update};
+ghost use Rattle.std.specs.Prelude.{◌≡◌, ◌↔◌, true, option_map, IfOk, IsTrue};
+ghost use Rattle.rc_launch.specs.Loading.{IsAsLoaded, IsLoaded, IsUpdating, MovesBy};
+ghost use Rattle.rc_launch.specs.Loading.{again_in, bytes_of, new_file, path_of, session_in};
 
 use crate::fault::OpenFault;
 use crate::texts::FileText;
-use crate::work::Work;
-use rc_args::{NamedRequest, OnceRequest, SessionRequest, UpdateRequest, WordsFault};
+use rc_args::{SessionCommand, SessionRequest};
+use rc_cli::sessions::moves;
 
 /// A command on the file of a session, with the databases that it names.
 #[derive(Drop)]
-pub(crate) enum Loaded<'a> {
-    Lines(SessionRequest<'a>, Option<FileText<'a>>),
-    Line(OnceRequest<'a>, Option<FileText<'a>>),
-    /// The old database and the new one.
-    Update(UpdateRequest<'a>, FileText<'a>, FileText<'a>),
-    Restart(NamedRequest<'a>, FileText<'a>),
-    Seal(SessionRequest<'a>, FileText<'a>),
-    Status(NamedRequest<'a>, FileText<'a>),
+pub(crate) struct Loaded<'a> {
+    pub command: SessionCommand<'a>,
+    /// The file of `-b`, if one is named.
+    pub base: Option<FileText<'a>>,
+    /// The file of the new database of an update.
+    pub new: Option<FileText<'a>>,
 }
 
 impl<'a> Loaded<'a> {
@@ -26,35 +23,7 @@ impl<'a> Loaded<'a> {
     pub fn session(&self) -> &SessionRequest<'a>
         ensures { result.now ≡ session_in self.now }
     {
-        match self {
-            Loaded::Lines(request, _) | Loaded::Seal(request, _) => request,
-            Loaded::Line(request, _) => &request.session,
-            Loaded::Update(request, _, _) => &request.session,
-            Loaded::Restart(request, _) | Loaded::Status(request, _) => &request.session,
-        }
-    }
-
-    /// The file of `-b`, if one is named.
-    pub fn base(&self) -> Option<&FileText<'a>>
-        ensures { option_map (λ text. text.now) result ≡ base_of self.now }
-    {
-        match self {
-            Loaded::Lines(_, base) | Loaded::Line(_, base) => base.as_ref(),
-            Loaded::Update(_, base, _)
-            | Loaded::Restart(_, base)
-            | Loaded::Seal(_, base)
-            | Loaded::Status(_, base) => Some(base),
-        }
-    }
-
-    /// The file of the new database of an update.
-    pub fn other(&self) -> Option<&FileText<'a>>
-        ensures { option_map (λ text. text.now) result ≡ other_of self.now }
-    {
-        match self {
-            Loaded::Update(_, _, new) => Some(new),
-            _ => None,
-        }
+        self.command.session()
     }
 
     /// The same, of an update that was begun before or not.
@@ -62,89 +31,76 @@ impl<'a> Loaded<'a> {
         ensures same { IsAsLoaded self.entry result }
         ensures again { (again_in result ≡ true) ↔ (IsUpdating self.entry × IsTrue again) }
     {
-        match self {
-            Loaded::Update(request, old, new) => {
-                Loaded::Update(request.with_again(again), old, new)
-            }
+        let Loaded { command, base, new } = self;
+        let command = match command {
+            SessionCommand::Update(request) => SessionCommand::Update(request.with_again(again)),
             other => other,
-        }
+        };
+        Loaded { command, base, new }
     }
 }
 
-/// Reads the databases of a command.
-pub(crate) fn load<'a>(rt: &HostRuntime, work: Work<'a>) -> Result<Loaded<'a>, OpenFault<'a>>
-    ensures loaded { IfOk result (IsLoaded work.entry) }
+/// Whether something is to be done, and not only shown.
+pub(crate) fn moves_by(command: &SessionCommand<'_>) -> bool
+    ensures { IsTrue result ↔ MovesBy command.now }
 {
-    match work {
-        Work::Lines(request, file) => {
-            let base = base_at(rt, file)?;
-            Ok(Loaded::Lines(request, base))
-        }
-        Work::Line(request, file) => {
-            let base = base_at(rt, file)?;
-            Ok(Loaded::Line(request, base))
-        }
-        Work::Update(request, file) => load_update(rt, request, file),
-        Work::Restart(request, file) => {
-            let base = both_at(rt, file, request.session.live)?;
-            Ok(Loaded::Restart(request, base))
-        }
-        Work::Status(request, file) => {
-            let base = both_at(rt, file, request.session.live)?;
-            Ok(Loaded::Status(request, base))
-        }
-        Work::Seal(request, file) => {
-            let base = both_at(rt, file, request.live)?;
-            Ok(Loaded::Seal(request, base))
-        }
+    match command {
+        SessionCommand::Lines(_) | SessionCommand::Restart(_) | SessionCommand::Seal(_) => true,
+        SessionCommand::Line(request) => moves(Some(&request.once)),
+        SessionCommand::Update(request) => !request.dry,
+        SessionCommand::Status(_) => false,
     }
 }
 
-// Reads both databases of an update.
-fn load_update<'a>(
+/// The bytes of a database that is needed: none, where no file is named. Of a command that needs
+/// one the file is named.
+pub(crate) fn bytes_of<'b>(text: &'b Option<FileText<'_>>) -> &'b [u8]
+    ensures { result.now ≡ bytes_of text.now }
+{
+    match text {
+        Some(text) => text.bytes(),
+        None => &[],
+    }
+}
+
+/// Reads the databases of a command: that of this file, and the new one of an update.
+pub(crate) fn load<'a>(
     rt: &HostRuntime,
-    request: UpdateRequest<'a>,
+    command: SessionCommand<'a>,
     file: Option<&'a str>,
 ) -> Result<Loaded<'a>, OpenFault<'a>>
-    ensures { IfOk result (IsLoaded (Update request.entry file.entry)) }
+    ensures loaded { IfOk result (IsLoaded command.entry file.entry) }
 {
-    let (Some(file), Some(_)) = (file, request.session.live) else {
-        drop(request);
-        return Err(OpenFault::Words(WordsFault::Files));
-    };
-    match (FileText::read(rt, file), FileText::read(rt, request.new)) {
-        (Ok(old), Ok(new)) => Ok(Loaded::Update(request, old, new)),
+    let new = new_file(&command);
+    match (read_at(rt, file), read_at(rt, new)) {
+        (Ok(base), Ok(new)) => Ok(Loaded { command, base, new }),
         (Err(fault), new) => {
-            drop((request, new));
+            drop((command, new));
             Err(fault)
         }
-        (Ok(old), Err(fault)) => {
-            drop((request, old));
+        (Ok(base), Err(fault)) => {
+            drop((command, base));
             Err(fault)
         }
     }
 }
 
-// The file of `-b`, where the file of a session is named, too.
-fn both_at<'a>(
-    rt: &HostRuntime,
-    file: Option<&'a str>,
-    live: Option<&str>,
-) -> Result<FileText<'a>, OpenFault<'a>>
-    ensures { IfOk result (λ text. (Some text.path ≡ file.entry) × (live.entry ≢ None)) }
+// The path of the new database of an update.
+fn new_file<'a>(command: &SessionCommand<'a>) -> Option<&'a str>
+    ensures { result ≡ new_file command.now }
 {
-    match (file, live) {
-        (Some(path), Some(_)) => FileText::read(rt, path),
-        _ => Err(OpenFault::Words(WordsFault::Both)),
+    match command {
+        SessionCommand::Update(request) => Some(request.new),
+        _ => None,
     }
 }
 
-// The file of `-b`, if one is named.
-fn base_at<'a>(
+// A file, if one is named.
+fn read_at<'a>(
     rt: &HostRuntime,
     file: Option<&'a str>,
 ) -> Result<Option<FileText<'a>>, OpenFault<'a>>
-    ensures { IfOk result (λ base. option_map path_of base ≡ file.entry) }
+    ensures { IfOk result (λ text. option_map path_of text ≡ file.entry) }
 {
     match file {
         Some(path) => match FileText::read(rt, path) {

@@ -1,13 +1,12 @@
 //! A command whose files are opened.
-ghost use Rattle.std.specs.Prelude.{◌≡◌, ◌↔◌, IsTrue, option_map};
-ghost use Rattle.rc_launch.specs.Works.{IsOfLines, base_of, once_in, other_of, session_in};
-ghost use Rattle.rc_launch.specs.Works.{update_in};
+ghost use Rattle.std.specs.Prelude.{◌≡◌, option_map};
+ghost use Rattle.rc_launch.specs.Loading.{session_in};
 
 use crate::loading::Loaded;
 use crate::recovered::Recovery;
 use crate::runs::Runs;
 use crate::texts::{FileText, LiveText, LogText};
-use rc_args::{Once, SessionRequest, UpdateRequest};
+use rc_args::{SessionCommand, SessionRequest};
 
 /// What was found beside the file of a session.
 #[derive(Drop)]
@@ -51,45 +50,25 @@ impl<'a> Opened<'a> {
         self.moves
     }
 
-    /// The one line that is served, if it is one.
-    pub fn once(&self) -> Option<&Once>
-        ensures { option_map (λ once. once.now) result ≡ once_in self.now.loaded }
+    /// What is asked.
+    pub fn command(&self) -> &SessionCommand<'a>
+        ensures { result.now ≡ self.now.loaded.command }
     {
-        match &self.loaded {
-            Loaded::Line(request, _) => Some(&request.once),
-            _ => None,
-        }
-    }
-
-    /// What is asked of an update, if it is one.
-    pub fn update(&self) -> Option<&UpdateRequest<'a>>
-        ensures { option_map (λ request. request.now) result ≡ update_in self.now.loaded }
-    {
-        match &self.loaded {
-            Loaded::Update(request, _, _) => Some(request),
-            _ => None,
-        }
-    }
-
-    /// Whether the lines of an input are served.
-    pub fn is_of_lines(&self) -> bool
-        ensures { IsTrue result ↔ IsOfLines self.now.loaded }
-    {
-        matches!(&self.loaded, Loaded::Lines(_, _))
+        &self.loaded.command
     }
 
     /// The file of `-b`, if one is named.
     pub fn base(&self) -> Option<&FileText<'a>>
-        ensures { option_map (λ text. text.now) result ≡ base_of self.now.loaded }
+        ensures { option_map (λ text. text.now) result ≡ self.now.loaded.base }
     {
-        self.loaded.base()
+        self.loaded.base.as_ref()
     }
 
     /// The file of the new database of an update.
-    pub fn other(&self) -> Option<&FileText<'a>>
-        ensures { option_map (λ text. text.now) result ≡ other_of self.now.loaded }
+    pub fn new_base(&self) -> Option<&FileText<'a>>
+        ensures { option_map (λ text. text.now) result ≡ self.now.loaded.new }
     {
-        self.loaded.other()
+        self.loaded.new.as_ref()
     }
 
     /// What stood in the file of the session.

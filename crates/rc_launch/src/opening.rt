@@ -2,27 +2,28 @@
 //! what a command that was cut short has moved is entered, and what stands in the file is read.
 ghost use Rattle.std.specs.Prelude.{IfOk};
 ghost use Rattle.rc_launch.specs.Opening.{AreOpened, IsOpenedAs, LocksFor, Replaces};
-ghost use Rattle.rc_launch.specs.Works.{session_in};
+ghost use Rattle.rc_launch.specs.Loading.{session_in};
 
 use crate::fault::OpenFault;
 use crate::live_store::LiveStore;
-use crate::loading::{Loaded, load};
+use crate::loading::{Loaded, load, moves_by};
 use crate::opened::Opened;
 use crate::recovery::note_of;
 use crate::texts::LiveText;
-use crate::work::Work;
+use rc_args::SessionCommand;
 use rc_streams::live_lock::LockFault;
 
-/// Opens the files of a command. The file of its session is locked where something is to be done,
-/// and not where that is only shown.
+/// Opens the files of a command, whose database is that of this file. The file of its session is
+/// locked where something is to be done, and not where that is only shown.
 pub fn open<'a>(
     rt: &'a HostRuntime,
-    work: Work<'a>,
+    command: SessionCommand<'a>,
+    file: Option<&'a str>,
 ) -> Result<(Opened<'a>, LiveStore<'a>), OpenFault<'a>>
-    ensures { IfOk result (λ opened. AreOpened work.entry opened.0 opened.1) }
+    ensures { IfOk result (λ opened. AreOpened command.entry file.entry opened.0 opened.1) }
 {
-    let moves = work.moves();
-    match load(rt, work) {
+    let moves = moves_by(&command);
+    match load(rt, command, file) {
         Ok(loaded) => open_loaded(rt, loaded, moves),
         Err(fault) => Err(fault),
     }

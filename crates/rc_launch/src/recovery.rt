@@ -9,11 +9,12 @@ ghost use Rattle.rc_launch.specs.Recovering.{LeavesUnfit};
 use crate::fault::OpenFault;
 use crate::fronts::{behind, is_of};
 use crate::held_files::HeldFiles;
-use crate::loading::Loaded;
+use crate::loading::{Loaded, bytes_of};
 use crate::opened::Note;
 use crate::recovered::{Came, Recovery};
 use crate::recovering::{Unrecovered, recover_by};
 use crate::texts::{LiveText, LogText, ReadFiles};
+use rc_args::SessionCommand;
 use rc_cli::begins_update;
 use rc_names::NoMem;
 use rc_recovery::TwoFiles;
@@ -35,8 +36,8 @@ pub(crate) fn note_of<'a>(
     let Some(path) = live else {
         return Ok((Note::Nothing, false));
     };
-    match loaded {
-        Loaded::Status(_, _) => match LogText::read(rt, path) {
+    match &loaded.command {
+        SessionCommand::Status(_) => match LogText::read(rt, path) {
             Ok(log) => Ok((Note::Logged(log), false)),
             Err(fault) => Err(fault),
         },
@@ -127,9 +128,10 @@ fn recover_cut<'a>(
 fn is_first_step(rt: &HostRuntime, loaded: &Loaded<'_>, read: &ReadFiles<'_>) -> Result<bool, NoMem>
     ensures { IfOk result (λ is. IsTrue is ↔ IsFirstStep loaded.now read.now) }
 {
-    match loaded {
-        Loaded::Update(request, old, new) => {
-            let (old, new, list) = (old.bytes(), new.bytes(), request.conversions.as_slice());
+    match &loaded.command {
+        SessionCommand::Update(request) => {
+            let (old, new) = (bytes_of(&loaded.base), bytes_of(&loaded.new));
+            let list = request.conversions.as_slice();
             begins_update(rt.alloc(), old, new, list, read.text(), read.log())
         }
         _ => Ok(false),
@@ -157,12 +159,12 @@ fn recovered(
     requires { IsUnwritten held.old }
     ensures { IfOk result (ComesFor loaded.now (files_held held.old) (files_held held.new)) }
 {
-    let Some(base) = loaded.base() else {
+    let Some(base) = &loaded.base else {
         return Err(None);
     };
     match recovered_by(rt, base.bytes(), held) {
         Ok(came) => Ok(came),
-        Err(Unrecovered::Log) => match loaded.other() {
+        Err(Unrecovered::Log) => match &loaded.new {
             Some(other) => match recovered_by(rt, other.bytes(), held) {
                 Ok(came) => Ok(came),
                 Err(fault) => Err(Some(fault)),

@@ -1,25 +1,21 @@
 //! A command is carried out on its files.
-ghost use Rattle.std.specs.Prelude.{◌≡◌, ℕ, List, IfNone, IfOk, IfSome, MatchOption, option_map};
-ghost use Rattle.std.specs.Prelude.{string_bytes};
+ghost use Rattle.std.specs.Prelude.{◌≡◌, option_map};
 ghost use Rattle.rc_streams.specs.Noting.{HasFailed};
 ghost use Rattle.rc_cli.specs.Session.{dealt};
 ghost use Rattle.rc_cli.specs.Storing.{store_of};
 ghost use Rattle.log.specs.Handle.{max_level};
 ghost use Rattle.rc_launch.specs.Serving.{Carries, IsLogFor, IsReadAs};
-ghost use Rattle.rc_launch.specs.Serving.{LacksItsControllerBy, logged_of};
-ghost use Rattle.rc_launch.specs.Works.{bytes_in};
+ghost use Rattle.rc_launch.specs.Serving.{logged_of};
+ghost use Rattle.rc_launch.specs.Loading.{bytes_in};
 ghost use Rattle.rc_cli.specs.declared.sessions.keeping.LiveFile.{LiveFile};
 
-use crate::loading::Loaded;
+use crate::loading::{Loaded, bytes_of};
 use crate::opened::{Note, Opened};
 use crate::texts::FileText;
 use log::Logged;
+use rc_args::SessionCommand;
 use rc_cli::sessions::{Devices, Host, LiveFile, Service, Store, launch, live_file, log_for};
-use rc_cli::{
-    seal_as_asked, status_as_asked, uncontrolled, uncontrolled_restart, uncontrolled_update,
-    update_as_asked,
-};
-use rc_names::NoMem;
+use rc_cli::{seal_as_asked, status_as_asked, update_as_asked};
 use rc_streams::messages::Messages;
 use std::io::{Read, Write};
 use std::sync::Wait;
@@ -63,32 +59,31 @@ pub fn serve<'x, T: Threads + Wait + Sync, R: Read, W: Write, F: Write, S: Store
     let log = log_of(&*rt, opened);
     let host = host_of(&*rt, &*threads, &log, &*opened);
     let live = read_of(opened);
-    match &opened.loaded {
-        Loaded::Lines(request, base) => Status {
-            code: launch(&host, request, Service::Lines, base_in(base), live, devices),
-        },
-        Loaded::Line(request, base) => {
+    let Loaded { command, base, new } = &opened.loaded;
+    let code = match command {
+        SessionCommand::Lines(request) => {
+            launch(&host, request, Service::Lines, base_in(base), live, devices)
+        }
+        SessionCommand::Line(request) => {
             let (session, service) = (&request.session, Service::Line(&request.once));
-            let code = launch(&host, session, service, base_in(base), live, devices);
-            Status { code }
+            launch(&host, session, service, base_in(base), live, devices)
         }
-        Loaded::Update(request, old, new) => Status {
-            code: update_as_asked(&host, request, old.bytes(), new.bytes(), live, devices),
-        },
-        Loaded::Restart(request, base) => {
+        SessionCommand::Update(request) => {
+            update_as_asked(&host, request, bytes_of(base), bytes_of(new), live, devices)
+        }
+        SessionCommand::Restart(request) => {
             let (session, service) = (&request.session, Service::Restart(&request.names));
-            let code = launch(&host, session, service, Some(base.bytes()), live, devices);
-            Status { code }
+            launch(&host, session, service, base_in(base), live, devices)
         }
-        Loaded::Seal(request, base) => Status {
-            code: seal_as_asked(rt.alloc(), request, base.bytes(), live, devices),
-        },
-        Loaded::Status(request, base) => {
+        SessionCommand::Seal(request) => {
+            seal_as_asked(rt.alloc(), request, bytes_of(base), live, devices)
+        }
+        SessionCommand::Status(request) => {
             let log = logged_in(&opened.note);
-            let code = status_as_asked(rt.alloc(), request, base.bytes(), live, log, devices);
-            Status { code }
+            status_as_asked(rt.alloc(), request, bytes_of(base), live, log, devices)
         }
-    }
+    };
+    Status { code }
 }
 
 // What stood in the file of its session.
@@ -148,42 +143,5 @@ fn base_in<'b>(base: &'b Option<FileText<'_>>) -> Option<&'b [u8]>
     match base {
         Some(text) => Some(text.bytes()),
         None => None,
-    }
-}
-
-/// A longrun that a command of one line, a restart or an update would move, where programs are
-/// started and none controls longruns. None: there is none, or the command is refused.
-pub fn uncontrolled_in(rt: &HostRuntime, opened: &Opened<'_>) -> Result<Option<String>, NoMem>
-    ensures { IfOk result (λ found. (file : LiveFile)
-        × IsReadAs (λ bytes. bytes.items) opened.now.live.found file
-        × MatchOption found
-        ((name : List ℕ) → LacksItsControllerBy opened.now.loaded file name → ⊥)
-        (λ name. LacksItsControllerBy opened.now.loaded file (string_bytes name))) }
-{
-    uncontrolled_by(rt, &opened.loaded, live_file(opened.live.found()))
-}
-
-// The same of what stood in the file of the session.
-fn uncontrolled_by(
-    rt: &HostRuntime,
-    loaded: &Loaded<'_>,
-    live: LiveFile<'_>,
-) -> Result<Option<String>, NoMem>
-    ensures some { IfOk result (λ found. IfSome found (λ name.
-        LacksItsControllerBy loaded.now live.entry (string_bytes name))) }
-    ensures none { IfOk result (λ found. IfNone found ((name : List ℕ)
-        → LacksItsControllerBy loaded.now live.entry name → ⊥)) }
-{
-    let alloc = rt.alloc();
-    match loaded {
-        Loaded::Line(request, base) => match base {
-            Some(base) => uncontrolled(alloc, base.bytes(), live, &request.session, &request.once),
-            None => Ok(None),
-        },
-        Loaded::Update(request, old, new) => {
-            uncontrolled_update(alloc, old.bytes(), new.bytes(), live, request)
-        }
-        Loaded::Restart(request, base) => uncontrolled_restart(alloc, base.bytes(), live, request),
-        _ => Ok(None),
     }
 }

@@ -123,7 +123,7 @@ fn show_on<R: Print + AllocGlobal + Threads + Wait + Clock + Sync>(
             Ok(show_opening(rt, graph, session.journal(), what, opening)?)
         }
         How::Command(command) => show_command(rt, what, &command),
-        How::Asked(line) => show_asked(rt, session, what, line),
+        How::Asked(line) => show_asked(rt, what, line),
         _ => {
             show_call(rt, host, session, what, how, &steps)?;
             show_left(rt, session, after, by)

@@ -6,23 +6,28 @@ use crate::history;
 use crate::notes::{tell_left, tell_note, tell_opening};
 use crate::updates::tell_why;
 use crate::workers::tell_workers;
-use log::{error, info, warn};
-use rc_args::{Once, Verbosity};
+use log::warn;
+use rc_args::{Once, SessionCommand, Verbosity};
 use rc_cli::sessions::{Devices, Outputs, Store, TextKeeper};
-use rc_launch::frontend::{Answers, Seen, Told, ToldErrors, Typed, behind_session, tell_failure};
-use rc_launch::{LiveStore, Opened, Work, open, serve, uncontrolled_in};
+use rc_launch::frontend::{Answers, Seen, Told, ToldErrors, Typed, behind_session};
+use rc_launch::{LiveStore, Opened, open, serve};
 use rc_names::NoMem;
 use rc_script::SessionLine;
 use rc_streams::Noted;
 use rc_streams::ending::REFUSED;
-use rc_streams::messages::{HINT, MESSAGE, Messages};
+use rc_streams::messages::{MESSAGE, Messages};
 use std::io;
 use std::sync::Wait;
 use std::thread::Threads;
 
-/// Carries a command out, and returns the status.
-pub fn carry_out<T: Threads + Wait + Sync>(rt: &HostRuntime, threads: &T, work: Work<'_>) -> u8 {
-    match open(rt, work) {
+/// Carries a command out, whose database is that of a file, and returns the status.
+pub fn carry_out<'a, T: Threads + Wait + Sync>(
+    rt: &'a HostRuntime,
+    threads: &T,
+    command: SessionCommand<'a>,
+    file: Option<&'a str>,
+) -> u8 {
+    match open(rt, command, file) {
         Ok((opened, store)) => {
             tell_note(rt, opened.note());
             let status = carry_out_on(rt, threads, &opened, store);
@@ -40,11 +45,6 @@ fn carry_out_on<'x, T: Threads + Wait + Sync>(
     opened: &'x Opened<'x>,
     store: LiveStore<'x>,
 ) -> u8 {
-    if let Some(status) = refused_as_uncontrolled(rt, opened) {
-        close(rt, opened);
-        drop(store);
-        return status;
-    }
     let mut typed = Typed::new(rt, reads(opened));
     let mut answers = Answers::new(rt, base_in(opened));
     let store = store.with_text(opened.live());
@@ -63,25 +63,6 @@ fn carry_out_on<'x, T: Threads + Wait + Sync>(
     tell_why(rt, opened, status);
     tell_left(rt, opened);
     status
-}
-
-/// The status of a command that would move a longrun where none is named that controls them: it is
-/// refused, before anything has moved. For a command that only shows something, nothing is read for
-/// that.
-fn refused_as_uncontrolled(rt: &HostRuntime, opened: &Opened<'_>) -> Option<u8> {
-    if !opened.moves() {
-        return None;
-    }
-    match uncontrolled_in(rt, opened) {
-        Ok(Some(name)) => {
-            error!(Messages(rt); target: MESSAGE, "NoController {name}");
-            info!(Messages(rt); target: HINT, "{name} is a longrun; -c names its controller");
-            drop(name);
-            Some(REFUSED)
-        }
-        Ok(None) => None,
-        Err(_) => Some(tell_failure(rt, "Memory")),
-    }
 }
 
 /// Removes the files of the runs of a command that is over, and tells where the log could not be
@@ -105,14 +86,19 @@ fn enter(rt: &HostRuntime, opened: &Opened<'_>, status: u8) {
     };
     if opened.moves() {
         history::enter(rt, path, opened.live().bytes(), status);
-    } else if opened.session().verbosity == Verbosity::Transitions && is_journal(opened.once()) {
+    } else if opened.session().verbosity == Verbosity::Transitions && is_journal(opened.command()) {
         let _ = history::show(rt, path);
     }
 }
 
 /// Whether the line shows the journal.
-fn is_journal(once: Option<&Once>) -> bool {
-    matches!(once, Some(Once::Line(SessionLine::Journal)))
+fn is_journal(command: &SessionCommand<'_>) -> bool {
+    match command {
+        SessionCommand::Line(request) => {
+            matches!(request.once, Once::Line(SessionLine::Journal))
+        }
+        _ => false,
+    }
 }
 
 /// Devices that have not failed yet, with standard error for faults.
@@ -146,7 +132,7 @@ fn reads(opened: &Opened<'_>) -> Option<&'static str> {
     if opened.base().is_some() {
         return None;
     }
-    if opened.is_of_lines() {
+    if matches!(opened.command(), SessionCommand::Lines(_)) {
         return Some("the database and the session's lines");
     }
     Some("the database")
@@ -189,7 +175,7 @@ fn seen_of<'a>(
         return Ok(Seen::new(None, None, input));
     };
     let seen = Seen::new(Some(base.path()), Some(base.bytes()), input);
-    if let Some(new) = opened.other() {
+    if let Some(new) = opened.new_base() {
         let other = Seen::new(Some(new.path()), Some(new.bytes()), None);
         if seen.is_good(rt)? && !other.is_good(rt)? {
             return Ok(other);

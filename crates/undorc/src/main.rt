@@ -2,30 +2,26 @@
 #![tactic(auto)]
 
 mod commands;
+mod defaults;
 mod history;
 mod notes;
 mod own_name;
 mod stopping;
 mod updates;
-mod usual;
 mod workers;
 
 use crate::commands::carry_out;
+use crate::defaults::{DefaultTexts, defaults_at};
 use crate::own_name::words;
 use crate::stopping::stop;
 use crate::updates::update;
-use crate::usual::{UsualTexts, usual_at};
 use log::error;
-use rc_args::{Task, Usual, WordsFault, asks_help, task_of, tell_words};
+use rc_args::{Invocation, SessionCommand, WordsFault, asks_help, invocation_of, tell_words};
 use rc_cli::queries::Query;
-use rc_launch::Work;
 use rc_launch::frontend::{compile, query, tell_failure};
 use rc_streams::messages::{MESSAGE, Messages};
-use std::alloc::Global;
 use std::io::{self, ErrorKind};
 use std::process::ExitCode;
-use std::sync::Wait;
-use std::thread::Threads;
 
 /// A wrong command line.
 const WRONG_LINE: u8 = 100;
@@ -35,9 +31,20 @@ const VERSION: &str = "undorc 0.2.0";
 fn main(rt: HostRuntime) -> ExitCode {
     let status = match words(&rt) {
         Ok(words) => {
-            let usual = usual_at(&rt);
-            match work_by(&rt, &rt, &words, &usual) {
-                Ok(work) => carry_out(&rt, &rt, work),
+            let defaults = defaults_at(&rt);
+            match asked(&rt, &words, &defaults) {
+                Ok(invocation) => match invocation {
+                    Invocation::Session(command, file) => match command {
+                        SessionCommand::Update(request) => update(&rt, &rt, request, file),
+                        other => carry_out(&rt, &rt, other, file),
+                    },
+                    Invocation::Compile(request) => compile(&rt, &request),
+                    Invocation::Db(request, file) => query(&rt, Query::Db(&request, None), file),
+                    Invocation::Plan(request, file) => query(&rt, Query::Plan(&request), file),
+                    Invocation::Replay(file) => query(&rt, Query::Replay, file),
+                    Invocation::Stop(file) => stop(&rt, file.unwrap_or("")),
+                    Invocation::Version => version(&rt),
+                },
                 Err(status) => status,
             }
         }
@@ -46,55 +53,19 @@ fn main(rt: HostRuntime) -> ExitCode {
     ExitCode::from(status)
 }
 
-/// What the words ask of the file of a session, with these files where they name none. What they
-/// ask of anything else is done, and its status returned.
-fn work_by<'a, T: Threads + Wait + Sync>(
+/// What the command line asks for, by these defaults. Where it asks for nothing, that is told, and
+/// the status returned.
+fn asked<'a>(
     rt: &HostRuntime,
-    threads: &T,
     words: &'a [String],
-    usual: &'a UsualTexts,
-) -> Result<Work<'a>, u8> {
-    match usual.texts() {
-        Ok(usual) => match task_by(rt.alloc(), words, usual) {
-            Ok(task) => work_of(rt, threads, task),
+    defaults: &'a DefaultTexts,
+) -> Result<Invocation<'a>, u8> {
+    match defaults.texts() {
+        Ok(defaults) => match invocation_of(rt.alloc(), words, defaults) {
+            Ok(invocation) => Ok(invocation),
             Err(fault) => Err(tell_wrong(rt, &fault)),
         },
         Err(error) => Err(tell(rt, "a variable of the environment", &error)),
-    }
-}
-
-/// What the words ask, with these files where they name none.
-fn task_by<'a>(
-    alloc: Global,
-    words: &'a [String],
-    usual: Usual<'a>,
-) -> Result<Task<'a>, WordsFault> {
-    match task_of(alloc, words) {
-        Ok(task) => task.with_usual(usual),
-        Err(fault) => Err(fault),
-    }
-}
-
-/// What a task asks of the file of a session. Any other task is carried out, and its status
-/// returned.
-fn work_of<'a, T: Threads + Wait + Sync>(
-    rt: &HostRuntime,
-    threads: &T,
-    task: Task<'a>,
-) -> Result<Work<'a>, u8> {
-    match task {
-        Task::Session(request, file) => Ok(Work::Lines(request, file)),
-        Task::Once(request, file) => Ok(Work::Line(request, file)),
-        Task::Restart(request, file) => Ok(Work::Restart(request, file)),
-        Task::Seal(request, file) => Ok(Work::Seal(request, file)),
-        Task::Status(request, file) => Ok(Work::Status(request, file)),
-        Task::Update(request, file) => Err(update(rt, threads, request, file)),
-        Task::Compile(request) => Err(compile(rt, &request)),
-        Task::Db(request, file) => Err(query(rt, Query::Db(&request, None), file)),
-        Task::Plan(request, file) => Err(query(rt, Query::Plan(&request), file)),
-        Task::Replay(file) => Err(query(rt, Query::Replay, file)),
-        Task::Stop(file) => Err(stop(rt, file)),
-        Task::Version => Err(version(rt)),
     }
 }
 

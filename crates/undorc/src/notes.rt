@@ -1,6 +1,5 @@
 //! Messages about the lock and the run log beside the file of a session.
 use log::info;
-use rc_args::tell_words;
 use rc_launch::frontend::{tell_failure, tell_file};
 use rc_launch::{FileText, LiveText, Note, OpenFault, Opened, left_report};
 use rc_streams::messages::{HINT, MESSAGE, Messages};
@@ -59,7 +58,6 @@ fn tell_report(rt: &HostRuntime, report: &[u8]) {
 /// Tells why the files of a command were not opened, and returns the status.
 pub fn tell_opening(rt: &HostRuntime, fault: &OpenFault<'_>) -> u8 {
     match fault {
-        OpenFault::Words(fault) => tell_words(&mut rt.stderr(), fault),
         OpenFault::File(path, error) => tell_file(rt, path, error),
         OpenFault::Busy(path, owner) => {
             let status = tell_failure(rt, "Busy");

@@ -1,7 +1,6 @@
 //! `stop`: the command that goes on with a session is called off.
 
 use log::info;
-use rc_args::{WordsFault, tell_words};
 use rc_launch::frontend::tell_file;
 use rc_streams::ending::{DONE, REFUSED};
 use rc_streams::messages::{MESSAGE, Messages};
@@ -9,10 +8,7 @@ use rc_streams::{live_lock, stop_file};
 
 /// Calls off the command that goes on with the session in this file, and returns the status: 0
 /// where there is one, 1 where none is under way.
-pub fn stop(rt: &HostRuntime, file: Option<&str>) -> u8 {
-    let Some(path) = file else {
-        return tell_words(&mut rt.stderr(), &WordsFault::Session);
-    };
+pub fn stop(rt: &HostRuntime, path: &str) -> u8 {
     match live_lock::is_held(rt, path) {
         Ok(true) => match stop_file::call_off(rt, path) {
             Ok(()) => DONE,

@@ -2,9 +2,9 @@
 //! why services move.
 
 use crate::commands::carry_out;
-use rc_args::{UpdateRequest, Verbosity, renames_in};
+use rc_args::{SessionCommand, UpdateRequest, Verbosity, renames_in};
+use rc_launch::Opened;
 use rc_launch::frontend::{tell_file, tell_moves, tell_renames};
-use rc_launch::{Opened, Work};
 use rc_streams::whole_file;
 use std::sync::Wait;
 use std::thread::Threads;
@@ -39,7 +39,7 @@ fn update_by<'x, T: Threads + Wait + Sync>(
     match renames_in(rt.alloc(), &request.conversions, text) {
         Ok(list) => {
             let request = request.with_conversions(list);
-            carry_out(rt, threads, Work::Update(request, file))
+            carry_out(rt, threads, SessionCommand::Update(request), file)
         }
         Err(fault) => tell_renames(rt, request.renames, &fault),
     }
@@ -58,10 +58,10 @@ fn renames_at(rt: &HostRuntime, path: Option<&str>) -> Result<Vec<u8>, u8> {
 
 /// Tells why an update that was shown moves services.
 pub fn tell_why(rt: &HostRuntime, opened: &Opened<'_>, status: u8) {
-    if let (Some(request), Some(old), Some(new), Some(live)) = (
-        opened.update(),
+    if let (SessionCommand::Update(request), Some(old), Some(new), Some(live)) = (
+        opened.command(),
         opened.base(),
-        opened.other(),
+        opened.new_base(),
         opened.live().bytes(),
     ) {
         if status == 0 && request.dry && request.session.verbosity != Verbosity::Quiet {

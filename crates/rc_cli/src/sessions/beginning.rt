@@ -1,24 +1,58 @@
 //! Where a session begins: with nothing up, or where the text of its file stands.
-ghost use Rattle.std.specs.Prelude.{◌≡◌, ◌≤◌, IfErr, IfOk};
+ghost use Rattle.std.specs.Prelude.{◌≡◌, ◌≤◌, IfErr, IfOk, OnOk};
 ghost use Rattle.rc_session.specs.Holding.{first_line};
 ghost use Rattle.rc_args.specs.SessionAsked.{session_ask_of};
 ghost use Rattle.rc_cli.specs.Filing.{BeginsBy, file_named};
 ghost use Rattle.rc_cli.specs.Serving.{session_on};
-ghost use Rattle.rc_cli.specs.SessionFaults.{IsFileFault, IsTextFaultOf};
+ghost use Rattle.rc_cli.specs.Session.{asked_of};
+ghost use Rattle.rc_cli.specs.SessionFaults.{IsControlled, IsFileFault, IsTextFaultOf, IsUnbegun};
 ghost use Rattle.rc_cli.specs.declared.sessions.session_fault.SessionFault.TheVariants.{Failed};
 ghost use Rattle.rc_serve.specs.declared.fault.ServeFault.TheVariants.{Memory};
 ghost use Rattle.rc_model.specs.Line.{Line};
 ghost use Rattle.rc_livetext.specs.Spelling.{Spells};
 ghost use Rattle.rc_model.specs.Session.{IsLineOf};
 
+use crate::controlled::uncontrolled;
 use crate::sessions::keeping::LiveFile;
+use crate::sessions::service::Launch;
 use crate::sessions::session_fault::SessionFault;
 use rc_args::SessionRequest;
 use rc_db::Db;
-use rc_livetext::read_live;
+use rc_livetext::{laws as live_laws, read_live};
 use rc_serve::ServeFault;
 use rc_session::Session;
 use std::alloc::Global;
+
+/// The session of a service on a database, where it begins, if the service moves no longrun that no
+/// program controls.
+pub(crate) fn begin_controlled<'a>(
+    alloc: Global,
+    db: Db,
+    launch: &Launch<'_>,
+) -> Result<Session, SessionFault<'a>>
+    ensures begun { IfOk result (λ session. (start : Line)
+        × BeginsBy db (asked_of launch.now).ask.bound
+        (file_named (asked_of launch.now).ask.live (asked_of launch.now).file) start
+        × (session ≡ session_on db start)) }
+    ensures controlled { OnOk result
+        (IsControlled launch.now.service (asked_of launch.now) db) }
+    ensures fault { IfErr result (IsUnbegun launch.now.service (asked_of launch.now) db) }
+{
+    live_laws::spelling_is_unique();
+    let _names = db.names();
+    let mut session = begin(alloc, db, launch.request, launch.live)?;
+    match uncontrolled(alloc, launch, &mut session) {
+        Ok(None) => Ok(session),
+        Ok(Some(name)) => {
+            drop(session);
+            Err(SessionFault::NoController(name))
+        }
+        Err(_) => {
+            drop(session);
+            Err(SessionFault::Failed(ServeFault::Memory))
+        }
+    }
+}
 
 /// A session on a database, where it begins.
 pub fn begin<'a>(

@@ -14,7 +14,7 @@ ghost use Rattle.rc_cli.specs.SessionFaults.{reading_fault, serve_word, status_o
 ghost use Rattle.rc_cli.specs.Storing.{store_of};
 ghost use Rattle.rc_serve.specs.declared.fault.ServeFault.TheVariants.{Read as Unread};
 
-use crate::sessions::beginning::begin;
+use crate::sessions::beginning::begin_controlled;
 use crate::sessions::gates::gate_for;
 use crate::sessions::host::Host;
 use crate::sessions::keeping::{LiveFile, Store};
@@ -161,7 +161,7 @@ fn launch_on<T: Threads + Wait + Sync, R: Read, W: Write, F: Write, S: Store, L:
             return tell_ended(host.alloc, faults, Err(fault));
         }
     };
-    let mut session = match begin(host.alloc, db, request, launch.live) {
+    let mut session = match begin_controlled(host.alloc, db, &launch) {
         Ok(session) => session,
         Err(fault) => {
             drop(gate);

@@ -1,5 +1,5 @@
 //! Why a session of the program ends, and how that is told.
-ghost use Rattle.std.specs.Prelude.{◌≡◌, IfOk};
+ghost use Rattle.std.specs.Prelude.{◌≡◌, ◌++◌, codes, IfOk};
 ghost use Rattle.rc_streams.specs.Input.{AppendsFront, fault_line};
 ghost use Rattle.rc_cli.specs.SessionFaults.{IsGateFailing, IsLiveFailing, IsRefusal};
 ghost use Rattle.rc_cli.specs.SessionFaults.{IsTextFailing, IsTold, serve_word};
@@ -20,7 +20,7 @@ use std::io::Write;
 use thiserror::Error;
 
 /// Why a session ends before its input does, or is not begun.
-#[derive(Clone, Copy, PartialEq, Eq, Debug, Error)]
+#[derive(Debug, Drop, Error)]
 pub enum SessionFault<'a> {
     /// The database text is none.
     #[error(transparent)]
@@ -31,6 +31,9 @@ pub enum SessionFault<'a> {
     /// The file's text is none of a session on the database.
     #[error(transparent)]
     OfLive(LiveFault),
+    /// The longrun of this name would be moved, and no program is named that controls it.
+    #[error("no program controls {0}")]
+    NoController(String),
     /// A device, memory or a thread failed.
     #[error(transparent)]
     Failed(ServeFault),
@@ -98,6 +101,7 @@ pub(crate) fn tell_session_fault<F: Write>(
         SessionFault::OfText(_) => tell_refusal(alloc, faults, fault),
         SessionFault::Unknown(_) => tell_refusal(alloc, faults, fault),
         SessionFault::OfLive(_) => tell_refusal(alloc, faults, fault),
+        SessionFault::NoController(_) => tell_refusal(alloc, faults, fault),
     }
 }
 
@@ -106,7 +110,9 @@ fn tell_refusal<F: Write>(alloc: Global, faults: &mut F, fault: SessionFault<'_>
     requires { IsRefusal fault }
     ensures { IsTold fault.entry result (F.contents faults.old) (F.contents faults.new) }
 {
-    match text_of(alloc, fault) {
+    let text = text_of(alloc, &fault);
+    drop(fault);
+    match text {
         Ok(text) => {
             tell(faults, &text);
             REFUSED
@@ -141,14 +147,24 @@ fn serve_word(fault: ServeFault) -> &'static [u8]
     }
 }
 
-// A fault in words: of an unknown name the name, too.
-fn text_of(alloc: Global, fault: SessionFault<'_>) -> Result<Vec<u8>, NoMem>
-    ensures { IfOk result (λ text. text.items ≡ session_fault_text fault.entry) }
+// A fault in words: of an unknown name, or of a longrun, the name, too.
+fn text_of(alloc: Global, fault: &SessionFault<'_>) -> Result<Vec<u8>, NoMem>
+    ensures { IfOk result (λ text. text.items ≡ session_fault_text fault.now) }
 {
     match fault {
-        SessionFault::OfText(fault) => text_word(alloc, fault),
+        SessionFault::OfText(fault) => text_word(alloc, *fault),
         SessionFault::Unknown(word) => unknown_word(alloc, word),
-        SessionFault::OfLive(fault) => live_word(alloc, fault),
-        SessionFault::Failed(fault) => Vec::from_slice(alloc, serve_word(fault)),
+        SessionFault::OfLive(fault) => live_word(alloc, *fault),
+        SessionFault::NoController(name) => uncontrolled_word(alloc, name),
+        SessionFault::Failed(fault) => Vec::from_slice(alloc, serve_word(*fault)),
     }
+}
+
+// That no program controls the longrun of this name, in words.
+fn uncontrolled_word(alloc: Global, name: &str) -> Result<Vec<u8>, NoMem>
+    ensures { IfOk result (λ text. text.items ≡ codes "NoController " ++ name.now) }
+{
+    let mut text = Vec::from_slice(alloc, b"NoController ")?;
+    text.extend_from_slice(name.as_bytes())?;
+    Ok(text)
 }

@@ -115,6 +115,10 @@ pub fn behind_session(
     seen: &Seen<'_>,
     told: &ToldErrors,
 ) {
+    if let Ok(Some(("NoController", name))) = told.fault() {
+        info!(Messages(rt); target: HINT, "{name} is a longrun; -c names its controller");
+        return;
+    }
     if let (Some(path), Ok(Some(fault))) = (live, told.fault()) {
         let hint = match (fault.0, unwritten) {
             ("Io", Some(error)) => unwritten_hint(rt, path, error),

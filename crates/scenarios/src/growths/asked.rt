@@ -1,23 +1,30 @@
 //! Commands by their words: what these ask for, and what `plan`, `db` and `replay` come to.
 
-ghost use Rattle.std.specs.Prelude.{◌≡◌, false};
-
 use crate::commands::{argv_of, run};
 use crate::growths::devices::{Due, ended};
 use crate::growths::told::{came_of, go_on_to, show_came, show_same};
 use crate::samples::sample;
-use rc_args::{Making, Task, WordsFault, renames_in, task_of, transitions_of};
-use rc_cli::{LiveFile, begins_update, uncontrolled, uncontrolled_restart, uncontrolled_update};
+use rc_args::{
+    Defaults, Invocation, Making, SessionCommand, WordsFault, invocation_of, renames_in,
+    transitions_of,
+};
+use rc_cli::begins_update;
 use rc_db::Db;
 use rc_dbtext::write_db;
 use rc_graph::Way;
-use rc_livetext::write_live;
-use rc_session::Session;
 use rc_set::NoMem;
 use rc_update::Conversion;
 use std::alloc::{AllocError, AllocGlobal, Global};
 use std::io::Print;
 use std::test::Fail;
+
+/// The words name all that they want.
+const DEFAULTS: Defaults<'static> = Defaults {
+    base: None,
+    live: None,
+    runner: None,
+    controller: None,
+};
 
 /// A run of `plan`, `db` or `replay` on the sample.
 #[derive(Clone, Copy)]
@@ -66,36 +73,24 @@ pub(crate) fn show_command(
 /// Reads the words of a command, and shows what that came to.
 pub(crate) fn show_asked(
     rt: &(impl Print + AllocGlobal),
-    session: &Session,
     what: &str,
     line: &str,
-) -> Result<(), Fail>
-    requires { session.now.begun ≡ false }
-{
-    let live = write_live(rt.alloc(), session)?;
-    let base = write_db(rt.alloc(), session.db())?;
+) -> Result<(), Fail> {
     let words = argv_of(rt.alloc(), line)?;
     let _ = print!(rt; "{what}: ");
-    let is_right = is_asked(rt, &words, line, &base, &live);
+    let is_right = is_asked(rt, &words, line);
     show_came(rt, came_of(is_right))?;
     Ok(show_same(rt, true)?)
 }
 
-/// Whether the words ask for what they say, and what they would move is found.
-fn is_asked(
-    rt: &(impl Print + AllocGlobal),
-    words: &[String],
-    line: &str,
-    base: &[u8],
-    live: &[u8],
-) -> Result<bool, NoMem> {
-    match task_of(rt.alloc(), words) {
-        Ok(task) => {
-            go_on_to(rt, "what it moves");
-            let is_moved = is_moved(rt.alloc(), &task, base, live);
-            let is_right = line.starts_with(word_of(&task));
-            drop(task);
-            Ok(is_moved? && is_right)
+/// Whether the words ask for what they say.
+fn is_asked(rt: &(impl Print + AllocGlobal), words: &[String], line: &str) -> Result<bool, NoMem> {
+    match invocation_of(rt.alloc(), words, DEFAULTS) {
+        Ok(asked) => {
+            let is_right = line.starts_with(word_of(&asked));
+            let are_right = are_programs(rt, &asked);
+            drop(asked);
+            Ok(are_right? && is_right)
         }
         Err(WordsFault::Memory) => Err(AllocError),
         Err(fault) => {
@@ -106,47 +101,34 @@ fn is_asked(
 }
 
 /// The word of a command.
-fn word_of(task: &Task<'_>) -> &'static str {
-    match task {
-        Task::Compile(_) => "compile",
-        Task::Db(..) => "db",
-        Task::Plan(..) => "plan",
-        Task::Replay(_) => "replay",
-        Task::Session(..) => "session",
-        Task::Once(..) => "change",
-        Task::Update(..) => "update",
-        Task::Restart(..) => "restart",
-        Task::Seal(..) => "seal",
-        Task::Status(..) => "status",
-        Task::Stop(_) => "stop",
-        Task::Version => "version",
+fn word_of(asked: &Invocation<'_>) -> &'static str {
+    match asked {
+        Invocation::Compile(_) => "compile",
+        Invocation::Db(..) => "db",
+        Invocation::Plan(..) => "plan",
+        Invocation::Replay(_) => "replay",
+        Invocation::Session(SessionCommand::Lines(_), _) => "session",
+        Invocation::Session(SessionCommand::Line(_), _) => "change",
+        Invocation::Session(SessionCommand::Update(_), _) => "update",
+        Invocation::Session(SessionCommand::Restart(_), _) => "restart",
+        Invocation::Session(SessionCommand::Seal(_), _) => "seal",
+        Invocation::Session(SessionCommand::Status(_), _) => "status",
+        Invocation::Stop(_) => "stop",
+        Invocation::Version => "version",
     }
 }
 
-/// Whether a longrun is found that a task moves without a controller, where it is to move some; and
-/// the programs of a session.
-fn is_moved(alloc: Global, task: &Task<'_>, base: &[u8], text: &[u8]) -> Result<bool, NoMem> {
-    let live = LiveFile::Text(text);
-    let found = match task {
-        Task::Once(asked, _) => uncontrolled(alloc, base, live, &asked.session, &asked.once)?,
-        Task::Update(asked, _) => uncontrolled_update(alloc, base, base, live, asked)?,
-        Task::Restart(asked, _) => uncontrolled_restart(alloc, base, live, asked)?,
-        Task::Session(asked, _) => return are_programs(alloc, &asked.making),
-        _ => return Ok(true),
+/// Whether the programs of a session are the usual shell, and a controller of two words.
+fn are_programs(rt: &(impl Print + AllocGlobal), asked: &Invocation<'_>) -> Result<bool, NoMem> {
+    let Invocation::Session(SessionCommand::Lines(request), _) = asked else {
+        return Ok(true);
     };
-    match found {
-        Some(name) => Ok(matches!(name.as_str(), "db" | "log" | "web")),
-        None => Ok(false),
-    }
-}
-
-/// Whether the programs are the usual shell, and a controller of two words.
-fn are_programs(alloc: Global, making: &Making<'_>) -> Result<bool, NoMem> {
-    let Making::Programs(programs) = making else {
+    let Making::Programs(programs) = &request.making else {
         return Ok(false);
     };
-    let runner = programs.runner_words(alloc)?;
-    let controller = programs.controller_words(alloc)?;
+    go_on_to(rt, "its programs");
+    let runner = programs.runner_words(rt.alloc())?;
+    let controller = programs.controller_words(rt.alloc())?;
     Ok(are_words(&runner, &["/bin/sh", "-c"]) && are_words(&controller, &["s6-svc", "x"]))
 }
 

@@ -2,7 +2,7 @@ use Rattle.std.proofs.Common.{◌∙◌, codes, sym}
 use Rattle.std.proofs.lemmas.Result.{IfErr-weaker, IfOk-weaker}
 use Rattle.rc_args.proofs.DbAskedLemmas.{asked_none}
 use Rattle.rc_args.specs.DbAsked.{AsksIn}
-use Rattle.rc_args.proofs.TaskLemmas.{same_rows}
+use Rattle.rc_args.proofs.InvocationLemmas.{same_rows}
 use Rattle.rc_args.proofs.db_words.db_asked.Goals as goal
 
 pub returns-in-Some-clause-asked : goal.returns-in-Some-clause-asked

@@ -2,7 +2,7 @@ use Rattle.std.proofs.Common.{◌≢◌}
 use Rattle.rc_model.specs.declared.Refusal.TheVariants.{Memory}
 use Rattle.rc_session.specs.Commands.{plain_of}
 use Rattle.rc_cli.proofs.ControlledLemmas.{begun_moves, none_weaker, refused_moves, refused_none}
-use Rattle.rc_cli.proofs.ControlledLemmas.{refused_some}
+use Rattle.rc_cli.proofs.ControlledLemmas.{given_up, refused_some}
 use Rattle.rc_cli.proofs.controlled.begun_longrun.Goals as goal
 
 pub returns-in-Err-clause-some : goal.returns-in-Err-clause-some
@@ -23,3 +23,7 @@ returns-clause-none c =
     c.db.result.now c.plan.result.now c.in-Ok.ensures.begun c.in-Ok.ensures.task c.db.ensures.db
     c.plan.ensures)
     c.longrun_of-found.ensures.none
+
+pub returns-clause-same : goal.returns-clause-same
+returns-clause-same c = given_up c.args.session.now c.abandon.new.self c.requires.closed
+    (rw c.in-Ok.ensures.begun at c.abandon.ensures)

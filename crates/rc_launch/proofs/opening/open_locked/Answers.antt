@@ -2,7 +2,7 @@ use Rattle.std.proofs.Common.{◌∙◌, ap, refl, subst}
 use Rattle.rc_args.specs.Making.{making_ask_of}
 use Rattle.rc_args.specs.declared.session_request.SessionRequest.{SessionRequest}
 use Rattle.rc_launch.specs.Beside.{AreRunsOf, IsLocked, IsNoted}
-use Rattle.rc_launch.specs.Works.{again_in}
+use Rattle.rc_launch.specs.Loading.{again_in}
 use Rattle.rc_launch.proofs.NotedLemmas.{again_as, noted_as}
 use Rattle.rc_launch.proofs.opening.open_locked.Goals as goal
 

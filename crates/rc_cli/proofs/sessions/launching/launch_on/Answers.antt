@@ -15,23 +15,24 @@ returns-in-Err-clause-ended g c =
     let asked = asked_of c.args.launch in (
       Err c.in-Err.fault,
       inl (
-        gateless_unready c.in-Err.fault asked.ask asked.file c.args.db c.in-Err.ensures.fault,
+        gateless_unready c.in-Err.fault c.args.launch.service asked c.args.db
+            c.in-Err.ensures.fault,
         (refl, refl, refl),
       ),
       c.tell_ended.ensures,
     )
 
-pub returns-in-Err-begin-clause-ended : goal.returns-in-Err-begin-clause-ended
-returns-in-Err-begin-clause-ended g c =
+pub returns-in-Err-begin_controlled-clause-ended : goal.returns-in-Err-begin_controlled-clause-ended
+returns-in-Err-begin_controlled-clause-ended g c =
     let asked = asked_of c.args.launch in (
-      Err c.in-Err-begin.fault,
+      Err c.in-Err-begin_controlled.fault,
       inl (
-        begin_unready c.in-Err-begin.fault asked.ask asked.file c.args.db
+        begin_unready c.in-Err-begin_controlled.fault c.args.launch.service asked c.args.db
             (past_found c.args.db asked.ask.making c.in-Ok.gate c.in-Ok.ensures.made)
-            c.in-Err-begin.ensures.fault,
+            c.in-Err-begin_controlled.ensures.fault,
         (refl, refl, refl),
       ),
-      c.tell_ended-in-Err-begin.ensures,
+      c.tell_ended-in-Err-begin_controlled.ensures,
     )
 
 pub returns-in-Ok-ended-clause-ended : goal.returns-in-Ok-ended-clause-ended
@@ -41,9 +42,13 @@ returns-in-Ok-ended-clause-ended g c =
     c.args.reader.now c.serve_service-ended.new.reader
     c.args.outputs.now c.serve_service-ended.new.outputs in (
       Ok c.in-Ok-ended.ending,
-      runs_past (ComesFor c.args.launch.service (Ok c.in-Ok-ended.ending)) asked c.args.db deal
-          c.in-Ok.gate c.in-Ok-begin.session c.serve_service-ended.new.session c.in-Ok.ensures.made
-          c.in-Ok-begin.ensures.begun c.in-Ok-ended.ensures.served,
+      (
+        c.in-Ok-begin_controlled.ensures.controlled,
+        runs_past (ComesFor c.args.launch.service (Ok c.in-Ok-ended.ending)) asked c.args.db deal
+            c.in-Ok.gate c.in-Ok-begin_controlled.session c.serve_service-ended.new.session
+            c.in-Ok.ensures.made c.in-Ok-begin_controlled.ensures.begun
+            c.in-Ok-ended.ensures.served,
+      ),
       c.tell_ended-in-Ok-ended.ensures,
     )
 
@@ -59,9 +64,11 @@ returns-in-Err-ended-clause-ended g c =
         refl,
         fault_wider c.in-Err-ended.fault _ _ _ _ _ _ (λ r. r) (λ w. w) (λ k. (k.0, inr k.1))
             c.in-Err-ended.ensures.fault,
+        c.in-Ok-begin_controlled.ensures.controlled,
         runs_past (ComesFor c.args.launch.service (Err c.in-Err-ended.fault)) asked c.args.db deal
-            c.in-Ok.gate c.in-Ok-begin.session c.serve_service-ended.new.session
-            c.in-Ok.ensures.made c.in-Ok-begin.ensures.begun c.in-Err-ended.ensures.served,
+            c.in-Ok.gate c.in-Ok-begin_controlled.session c.serve_service-ended.new.session
+            c.in-Ok.ensures.made c.in-Ok-begin_controlled.ensures.begun
+            c.in-Err-ended.ensures.served,
       ),
       c.tell_ended-in-Err-ended.ensures,
     )

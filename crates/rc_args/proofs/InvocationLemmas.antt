@@ -6,12 +6,11 @@ use Rattle.std.specs.Str.{bytes_eq}
 use Rattle.clap.specs.Words.{Row, Text}
 use Rattle.rc_args.specs.Words.{rows_for, rows_named}
 use Rattle.rc_args.specs.OnceAsked.{OnceAsk}
-use Rattle.rc_args.specs.Task.{AsksEntered, AsksNamed, AsksNoTask, AsksTask}
-use Rattle.rc_args.specs.Task.{OfCompile, OfDb, OfOnce, OfPlan, OfReplay, OfRestart, OfSeal}
-use Rattle.rc_args.specs.Task.{OfSession, OfStatus, OfStop, OfUpdate, OfVersion, TaskAsk}
-use Rattle.rc_args.specs.Task.{command_of}
-use Rattle.rc_args.specs.declared.task.Task.{Task}
-use Rattle.rc_args.specs.declared.task.Task.TheVariants as task
+use Rattle.rc_args.specs.Invocation.{InvokesEntered, InvokesNamed, InvokesNothing, Invokes}
+use Rattle.rc_args.specs.Invocation.{OfCompile, OfDb, OfOnce, OfPlan, OfReplay, OfRestart, OfSeal}
+use Rattle.rc_args.specs.Invocation.{OfSession, OfStatus, OfStop, OfUpdate, OfVersion}
+use Rattle.rc_args.specs.Invocation.{InvocationAsk}
+use Rattle.rc_args.specs.Invocation.{command_of}
 
 -- the command that was entered has its matches, and is the one that has them
 named_self : (name : Text) (rows : List Row) → rows_named name (Some (name, rows)) ≡ Some rows
@@ -39,9 +38,9 @@ same_rows Says found rows other is too =
     subst (λ (o : Option (List Row)). IfSome o Says) (sym too ∙ is)
 
 -- what was entered asks what the words ask, where they have no fault
-pub entered_right : (words : List Text) (entered : Option (Text × List Row)) (ask : TaskAsk)
+pub entered_right : (words : List Text) (entered : Option (Text × List Row)) (ask : InvocationAsk)
     → ((name : Text) → rows_for name words ≡ rows_named name entered)
-    → AsksEntered entered ask → AsksTask words ask
+    → InvokesEntered entered ask → Invokes words ask
 entered_right words entered ask same asks = (
   asks.0,
   same (command_of ask)
@@ -49,9 +48,9 @@ entered_right words entered ask same asks = (
   asks.2,
 )
 
-pub entered_back : (words : List Text) (entered : Option (Text × List Row)) (ask : TaskAsk)
+pub entered_back : (words : List Text) (entered : Option (Text × List Row)) (ask : InvocationAsk)
     → ((name : Text) → rows_for name words ≡ rows_named name entered)
-    → AsksTask words ask → AsksEntered entered ask
+    → Invokes words ask → InvokesEntered entered ask
 entered_back words entered ask same asks = (
   asks.0,
   named_back (command_of ask) entered asks.0 (sym (same (command_of ask)) ∙ asks.1),
@@ -60,7 +59,7 @@ entered_back words entered ask same asks = (
 
 -- a wrong line asks nothing
 pub wrong_asks : (words : List Text) → ((name : Text) → rows_for name words ≡ None)
-    → AsksNoTask words
+    → InvokesNothing words
 wrong_asks words wrong ask asks =
     let both : None ≡ Some asks.0 = sym (wrong (command_of ask)) ∙ asks.1 in cc
 
@@ -77,11 +76,11 @@ pub others_none : (name : Text) (rows : List Row) → (name ≡ codes "compile" 
     → (name ≡ codes "session" → ⊥) → (name ≡ codes "update" → ⊥) → (name ≡ codes "restart" → ⊥)
     → (name ≡ codes "seal" → ⊥) → (name ≡ codes "status" → ⊥)
     → (name ≡ codes "stop" → ⊥) → (name ≡ codes "version" → ⊥)
-    → ((ask : OnceAsk) (file : Option Text) → AsksNamed name rows (OfOnce ask file) → ⊥)
-    → (ask : TaskAsk) → AsksNamed name rows ask → ⊥
+    → ((ask : OnceAsk) (file : Option Text) → InvokesNamed name rows (OfOnce ask file) → ⊥)
+    → (ask : InvocationAsk) → InvokesNamed name rows ask → ⊥
 others_none name rows compile db plan replay session update restart seal status stop version none
     ask =
-    elim ask as (λ (a : TaskAsk). AsksNamed name rows a → ⊥) [
+    elim ask as (λ (a : InvocationAsk). InvokesNamed name rows a → ⊥) [
       | OfCompile ask ↦ λ asks. compile asks.0
       | OfDb ask file ↦ λ asks. db asks.0
       | OfPlan ask file ↦ λ asks. plan asks.0

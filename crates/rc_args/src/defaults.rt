@@ -1,24 +1,24 @@
 //! What a command is given where its words name nothing.
 ghost use Rattle.std.specs.Prelude.{◌≡◌, option_map};
-ghost use Rattle.rc_args.specs.Usual.{first_named};
+ghost use Rattle.rc_args.specs.Defaults.{first_named};
 
 /// The files of `-b` and `-l`, and the programs of `-r` and `-c`, where the words name none.
 #[derive(Clone, Copy)]
-pub struct Usual<'a> {
+pub struct Defaults<'a> {
     pub base: Option<&'a str>,
     pub live: Option<&'a str>,
     pub runner: Option<&'a str>,
     pub controller: Option<&'a str>,
 }
 
-/// What is named, or where nothing is the usual.
-pub(crate) fn named_or<'a>(named: Option<&'a str>, usual: Option<&'a str>) -> Option<&'a str>
+/// What is named, or where nothing is the default.
+pub(crate) fn named_or<'a>(named: Option<&'a str>, default: Option<&'a str>) -> Option<&'a str>
     ensures { option_map (λ text. text.now) result
         ≡ first_named (option_map (λ text. text.now) named.entry)
-        (option_map (λ text. text.now) usual.entry) }
+        (option_map (λ text. text.now) default.entry) }
 {
     match named {
         Some(text) => Some(text),
-        None => usual,
+        None => default,
     }
 }

@@ -1,6 +1,6 @@
 use Rattle.std.proofs.lemmas.Result.{err_from_is_err_and}
-use Rattle.rc_args.proofs.TaskLemmas.{others_none}
-use Rattle.rc_args.proofs.task.task_named.Goals as goal
+use Rattle.rc_args.proofs.InvocationLemmas.{others_none}
+use Rattle.rc_args.proofs.invocation.invocation_named.Goals as goal
 
 pub returns-in_err-once_in-in_default-clause-wrong :
     goal.returns-in_err-once_in-in_default-clause-wrong

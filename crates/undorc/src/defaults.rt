@@ -1,22 +1,22 @@
 //! The files of `-b` and `-l`, and the programs of `-r` and `-c`, where the words name none: the
 //! environment's UNDORC_DB, UNDORC_LIVE, UNDORC_RUNNER and UNDORC_CONTROLLER.
-use rc_args::Usual;
+use rc_args::Defaults;
 use std::env::{self, VarError};
 use std::io::{self, ErrorKind};
 
 /// What was read of these variables.
 #[derive(Drop)]
-pub struct UsualTexts {
+pub struct DefaultTexts {
     base: Result<String, VarError>,
     live: Result<String, VarError>,
     runner: Result<String, VarError>,
     controller: Result<String, VarError>,
 }
 
-impl UsualTexts {
+impl DefaultTexts {
     /// The texts that they name.
-    pub fn texts(&self) -> io::Result<Usual<'_>> {
-        Ok(Usual {
+    pub fn texts(&self) -> io::Result<Defaults<'_>> {
+        Ok(Defaults {
             base: named(&self.base)?,
             live: named(&self.live)?,
             runner: named(&self.runner)?,
@@ -26,8 +26,8 @@ impl UsualTexts {
 }
 
 /// Reads these variables.
-pub fn usual_at(rt: &HostRuntime) -> UsualTexts {
-    UsualTexts {
+pub fn defaults_at(rt: &HostRuntime) -> DefaultTexts {
+    DefaultTexts {
         base: env::var(rt, "UNDORC_DB"),
         live: env::var(rt, "UNDORC_LIVE"),
         runner: env::var(rt, "UNDORC_RUNNER"),

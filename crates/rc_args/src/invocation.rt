@@ -1,0 +1,187 @@
+//! The command line, read once.
+ghost use Rattle.std.specs.Prelude.{◌≡◌, ◌≢◌, ◌↔◌, map, string_bytes, IfErr, IfOk, IsTrue};
+ghost use Rattle.std.specs.Prelude.{OnErr, OnOk};
+ghost use Rattle.clap.specs.Words.{found_of, rows_of, subcommand_rows_of};
+ghost use Rattle.rc_args.specs.Invocation.{InvocationAsk, Invokes, InvokesBy, InvokesEntered};
+ghost use Rattle.rc_args.specs.Invocation.{InvokesNamed, InvokesNothing, IsUsageFault};
+ghost use Rattle.rc_args.specs.Invocation.{LacksItsFile, invocation_ask_of, invocation_by};
+ghost use Rattle.rc_args.specs.Invocation.{wanted_files};
+ghost use Rattle.rc_args.specs.Defaults.{defaults_ask_of};
+ghost use Rattle.rc_args.specs.declared.asked.WordsFault.TheVariants.{Memory};
+
+use crate::asked::{WordsFault, plan_in};
+use crate::cmdline::entered;
+use crate::compile_words::{CompileRequest, compile_in};
+use crate::db_words::{DbRequest, db_in};
+use crate::defaults::{Defaults, named_or};
+use crate::matched::matches_in;
+use crate::named_words::named_in;
+use crate::once_words::once_in;
+use crate::session_command::SessionCommand;
+use crate::session_words::{lines_in, session_in};
+use crate::texts::text_in;
+use crate::update_words::update_in;
+use clap::ArgMatches;
+use rc_select::Request;
+use std::alloc::Global;
+
+/// What a command line asks for.
+#[derive(Drop)]
+pub enum Invocation<'a> {
+    /// The database that these source directories define.
+    Compile(CompileRequest<'a>),
+    /// The answer of a question about the database of this file.
+    Db(DbRequest<'a>, Option<&'a str>),
+    /// The plan of a change.
+    Plan(Request, Option<&'a str>),
+    /// What a script comes to.
+    Replay(Option<&'a str>),
+    /// A command on the file of a session, and the file of its database.
+    Session(SessionCommand<'a>, Option<&'a str>),
+    /// That the command which goes on with the session of this file is called off.
+    Stop(Option<&'a str>),
+    /// Which version this is.
+    Version,
+}
+
+/// What a command line asks for, by these defaults. Each file that its command needs is named; a
+/// line of which that is not so is refused, as one that asks for nothing. The first word is the
+/// program's own name.
+pub fn invocation_of<'a>(
+    alloc: Global,
+    words: &'a [String],
+    defaults: Defaults<'a>,
+) -> Result<Invocation<'a>, WordsFault>
+    ensures asked { IfOk result (λ invocation. InvokesBy (defaults_ask_of defaults.entry)
+        (map string_bytes words.entry.now) (invocation_ask_of invocation)) }
+    ensures wrong { IfErr result (λ fault. fault ≢ Memory →
+        IsUsageFault (defaults_ask_of defaults.entry) (map string_bytes words.entry.now) fault) }
+{
+    match said_by(alloc, words) {
+        Ok(said) => said.with_defaults(defaults),
+        Err(fault) => Err(fault),
+    }
+}
+
+// What the words ask for. The first word is the program's own name.
+fn said_by<'a>(alloc: Global, words: &'a [String]) -> Result<Invocation<'a>, WordsFault>
+    ensures asked { IfOk result (λ invocation.
+        Invokes (map string_bytes words.entry.now) (invocation_ask_of invocation)) }
+    ensures wrong { IfErr result (λ fault.
+        fault ≢ Memory → InvokesNothing (map string_bytes words.entry.now)) }
+{
+    match matches_in(alloc, words) {
+        Ok(matches) => {
+            let invocation = invocation_in(alloc, &matches);
+            drop(matches);
+            invocation
+        }
+        Err(fault) => Err(fault),
+    }
+}
+
+// What the matches ask for.
+fn invocation_in<'a>(alloc: Global, matches: &ArgMatches<'a>) -> Result<Invocation<'a>, WordsFault>
+    ensures asked { IfOk result (λ invocation.
+        InvokesEntered (subcommand_rows_of matches.now) (invocation_ask_of invocation)) }
+    ensures wrong { IfErr result (λ fault. fault ≢ Memory → (ask : InvocationAsk) →
+        InvokesEntered (subcommand_rows_of matches.now) ask → ⊥) }
+{
+    match entered(matches) {
+        Some((name, inner)) => invocation_named(alloc, name, inner),
+        None => Err(WordsFault::OtherCommand),
+    }
+}
+
+// What the matches of the command of this name ask for.
+fn invocation_named<'a>(
+    alloc: Global,
+    name: &str,
+    matches: &ArgMatches<'a>,
+) -> Result<Invocation<'a>, WordsFault>
+    ensures asked { IfOk result (λ invocation.
+        InvokesNamed name.now (rows_of (found_of matches.now)) (invocation_ask_of invocation)) }
+    ensures wrong { IfErr result (λ fault. fault ≢ Memory → (ask : InvocationAsk) →
+        InvokesNamed name.now (rows_of (found_of matches.now)) ask → ⊥) }
+{
+    let base = text_in(matches, "base");
+    let command = match name {
+        "compile" => return Ok(Invocation::Compile(compile_in(alloc, matches)?)),
+        "db" => return Ok(Invocation::Db(db_in(alloc, matches)?, base)),
+        "plan" => return Ok(Invocation::Plan(plan_in(alloc, matches)?, base)),
+        "replay" => return Ok(Invocation::Replay(base)),
+        "stop" => return Ok(Invocation::Stop(text_in(matches, "live"))),
+        "version" => return Ok(Invocation::Version),
+        "session" => SessionCommand::Lines(lines_in(alloc, matches)?),
+        "update" => SessionCommand::Update(update_in(alloc, matches)?),
+        "restart" => SessionCommand::Restart(named_in(alloc, matches)?),
+        "seal" => SessionCommand::Seal(session_in(alloc, matches)?),
+        "status" => SessionCommand::Status(named_in(alloc, matches)?),
+        _ => SessionCommand::Line(once_in(alloc, name, matches)?),
+    };
+    Ok(Invocation::Session(command, base))
+}
+
+impl<'a> Invocation<'a> {
+    // The same, by these defaults. One that needs a file is refused where there is none.
+    fn with_defaults(self, defaults: Defaults<'a>) -> Result<Invocation<'a>, WordsFault>
+        ensures asked { IfOk result (λ invocation. invocation_ask_of invocation
+            ≡ invocation_by (defaults_ask_of defaults.entry) (invocation_ask_of self.entry)) }
+        ensures named { OnOk result (LacksItsFile
+            (invocation_by (defaults_ask_of defaults.entry) (invocation_ask_of self.entry)) → ⊥) }
+        ensures lacks { OnErr result (LacksItsFile
+            (invocation_by (defaults_ask_of defaults.entry) (invocation_ask_of self.entry))) }
+        ensures fault { IfErr result (λ fault. fault ≡ wanted_files
+            (invocation_by (defaults_ask_of defaults.entry) (invocation_ask_of self.entry))) }
+    {
+        let invocation = self.joined(defaults);
+        if invocation.lacks_its_file() {
+            let fault = invocation.wanted_files();
+            drop(invocation);
+            return Err(fault);
+        }
+        Ok(invocation)
+    }
+
+    // The same, by these defaults.
+    fn joined(self, defaults: Defaults<'a>) -> Invocation<'a>
+        ensures { invocation_ask_of result
+            ≡ invocation_by (defaults_ask_of defaults.entry) (invocation_ask_of self.entry) }
+    {
+        match self {
+            Invocation::Db(request, file) => Invocation::Db(request, named_or(file, defaults.base)),
+            Invocation::Plan(request, file) => {
+                Invocation::Plan(request, named_or(file, defaults.base))
+            }
+            Invocation::Replay(file) => Invocation::Replay(named_or(file, defaults.base)),
+            Invocation::Session(command, file) => {
+                let file = named_or(file, defaults.base);
+                Invocation::Session(command.with_defaults(defaults), file)
+            }
+            Invocation::Stop(file) => Invocation::Stop(named_or(file, defaults.live)),
+            other => other,
+        }
+    }
+
+    // Whether a file that it needs is not named.
+    fn lacks_its_file(&self) -> bool
+        ensures { IsTrue result ↔ LacksItsFile (invocation_ask_of self.now) }
+    {
+        match self {
+            Invocation::Session(command, file) => command.lacks_its_file(*file),
+            Invocation::Stop(file) => file.is_none(),
+            _ => false,
+        }
+    }
+
+    // Which files it wants.
+    fn wanted_files(&self) -> WordsFault
+        ensures { result ≡ wanted_files (invocation_ask_of self.now) }
+    {
+        match self {
+            Invocation::Session(command, _) => command.wanted_files(),
+            Invocation::Stop(_) => WordsFault::Session,
+            _ => WordsFault::Both,
+        }
+    }
+}

@@ -1,0 +1,103 @@
+//! What a command line asks of the file of a session.
+ghost use Rattle.std.specs.Prelude.{◌≡◌, ◌↔◌, IsTrue, Option, option_map};
+ghost use Rattle.clap.specs.Words.{Text};
+ghost use Rattle.rc_args.specs.Defaults.{defaults_ask_of, first_named};
+ghost use Rattle.rc_args.specs.Invocation.{LacksOne, command_session, invocation_by};
+ghost use Rattle.rc_args.specs.Invocation.{LacksItsFile, on_session, wanted_files};
+
+use crate::asked::WordsFault;
+use crate::defaults::Defaults;
+use crate::named_words::NamedRequest;
+use crate::once_words::OnceRequest;
+use crate::session_request::SessionRequest;
+use crate::update_words::UpdateRequest;
+
+/// A command on the file of a session.
+#[derive(Drop)]
+pub enum SessionCommand<'a> {
+    /// The lines of an input.
+    Lines(SessionRequest<'a>),
+    /// One line.
+    Line(OnceRequest<'a>),
+    /// What is live is carried over from the database to another.
+    Update(UpdateRequest<'a>),
+    /// Services go down and come up again.
+    Restart(NamedRequest<'a>),
+    /// The history around the current state is forgotten.
+    Seal(SessionRequest<'a>),
+    /// It is shown where services stand.
+    Status(NamedRequest<'a>),
+}
+
+impl<'a> SessionCommand<'a> {
+    /// What is asked of the session.
+    pub fn session(&self) -> &SessionRequest<'a>
+        ensures { result.now ≡ command_session self.now }
+    {
+        match self {
+            SessionCommand::Lines(request) | SessionCommand::Seal(request) => request,
+            SessionCommand::Line(request) => &request.session,
+            SessionCommand::Update(request) => &request.session,
+            SessionCommand::Restart(request) | SessionCommand::Status(request) => &request.session,
+        }
+    }
+
+    /// The same, with these where the words name nothing.
+    pub(crate) fn with_defaults(self, defaults: Defaults<'a>) -> SessionCommand<'a>
+        ensures { (file : Option Text) → on_session result (first_named file
+            (defaults_ask_of defaults.entry).base)
+            ≡ invocation_by (defaults_ask_of defaults.entry) (on_session self.entry file) }
+    {
+        match self {
+            SessionCommand::Lines(request) => {
+                SessionCommand::Lines(request.with_defaults(defaults))
+            }
+            SessionCommand::Line(request) => SessionCommand::Line(request.with_defaults(defaults)),
+            SessionCommand::Update(request) => {
+                SessionCommand::Update(request.with_defaults(defaults))
+            }
+            SessionCommand::Restart(request) => {
+                SessionCommand::Restart(request.with_defaults(defaults))
+            }
+            SessionCommand::Seal(request) => SessionCommand::Seal(request.with_defaults(defaults)),
+            SessionCommand::Status(request) => {
+                SessionCommand::Status(request.with_defaults(defaults))
+            }
+        }
+    }
+
+    /// Whether the file of its database, or that of the session, is needed and not named.
+    pub(crate) fn lacks_its_file(&self, base: Option<&str>) -> bool
+        ensures { IsTrue result ↔ LacksItsFile (on_session self.now
+            (option_map (λ f. f.now) base.entry)) }
+    {
+        match self {
+            SessionCommand::Lines(_) => false,
+            SessionCommand::Line(request) => request.lacks_file(),
+            SessionCommand::Update(request) => lacks_one(base, request.session.live),
+            SessionCommand::Restart(request) | SessionCommand::Status(request) => {
+                lacks_one(base, request.session.live)
+            }
+            SessionCommand::Seal(request) => lacks_one(base, request.live),
+        }
+    }
+
+    /// Which files it wants.
+    pub(crate) fn wanted_files(&self) -> WordsFault
+        ensures { (file : Option Text) → result ≡ wanted_files (on_session self.now file) }
+    {
+        match self {
+            SessionCommand::Line(_) => WordsFault::NoFile,
+            SessionCommand::Update(_) => WordsFault::Files,
+            _ => WordsFault::Both,
+        }
+    }
+}
+
+// Whether one of two files is not named.
+fn lacks_one(base: Option<&str>, live: Option<&str>) -> bool
+    ensures { IsTrue result ↔ LacksOne (option_map (λ f. f.now) base.entry)
+        (option_map (λ f. f.now) live.entry) }
+{
+    base.is_none() || live.is_none()
+}
