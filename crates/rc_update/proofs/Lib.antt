@@ -1,5 +1,5 @@
-mod CarryingLemmas
+pub mod CarryingLemmas
 mod DifferenceLemmas
-mod DistinctLemmas
+pub mod DistinctLemmas
 mod NeedsLemmas
 mod PassingLemmas

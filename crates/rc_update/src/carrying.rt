@@ -182,8 +182,8 @@ fn add_altered(
     Ok(())
 }
 
-// The services of the new database as which these of the old one go on.
-fn carried(
+/// The services of the new database as which these of the old one go on.
+pub(crate) fn carried(
     alloc: Global,
     old: &Db,
     new: &Db,

@@ -2,6 +2,7 @@
 //! what is lowered before, what is raised after, and how a service that moves differs.
 #![tactic(auto)]
 
+mod border;
 mod carrying;
 mod conversion;
 mod difference;
@@ -10,6 +11,7 @@ mod knowing;
 pub mod laws;
 mod twins;
 
+pub use crate::border::are_carried;
 pub use crate::carrying::{Update, carry, names_of, staying};
 pub use crate::conversion::Conversion;
 pub use crate::difference::{Difference, difference_of};
