@@ -1,0 +1,22 @@
+-- The lemmas of rc_historytext, in reading order.
+
+-- The words of a line are words and UTF-8.
+mod LineWords
+-- Where a line is due and others stand, or none.
+mod Missing
+-- A line that is due is read once, and lines that are due are.
+mod Once
+-- Lines that are due, in parts, and those of a history.
+mod Rows
+-- What follows from each place on, and a history that has it.
+mod Rests
+-- Where a line is missing, reading is stuck.
+mod Stopping
+-- What was read of bytes.
+mod Reading
+-- The lines of a history tell which one it is.
+mod Structure
+-- What refuses bytes is one, and refuses no text.
+mod OneFault
+-- What is written line by line is the text.
+mod Writing

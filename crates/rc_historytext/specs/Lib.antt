@@ -1,0 +1,10 @@
+-- The definitions of rc_historytext, in reading order.
+
+-- The text of a history: what it gives, its lines and their bytes, and what may be spelled.
+pub mod Text
+-- When bytes are refused that are to be the text of a history.
+pub mod Faults
+-- Which line is due where, for reading alone: that it is what the texts say is a lemma.
+pub mod Due
+-- What stands in front of bytes, a line or none, for reading alone.
+pub mod Standing

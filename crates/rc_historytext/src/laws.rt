@@ -1,0 +1,26 @@
+//! Laws of the text, each the contract of a function that does nothing.
+ghost use Rattle.std.specs.Prelude.{◌≡◌, ◌≢◌, ◌++◌, ℕ, List, []};
+ghost use Rattle.rc_historytext.specs.Text.{HistoryText, IsHistoryText, history_text};
+ghost use Rattle.rc_historytext.specs.Faults.{IsHistoryFault};
+ghost use Rattle.rc_historytext.specs.declared.fault.HistoryFault.{HistoryFault};
+ghost use Rattle.rc_historytext.specs.declared.fault.HistoryFault.TheVariants.{Memory};
+
+/// No text is a proper prefix of another, and each is the text of one history.
+pub fn text_is_unique()
+    ensures front { (a b : HistoryText) (rest : List ℕ) → IsHistoryText a → IsHistoryText b
+        → history_text a ++ rest ≡ history_text b → rest ≡ [] }
+    ensures value { (a b : HistoryText) (x y : List ℕ) → IsHistoryText a → IsHistoryText b
+        → history_text a ++ x ≡ history_text b ++ y → a ≡ b }
+{}
+
+/// The text of a history is refused as out of memory alone: what was written is read back.
+pub fn text_is_not_refused()
+    ensures { (t : HistoryText) (fault : HistoryFault) → IsHistoryText t
+        → IsHistoryFault (history_text t) fault → fault ≡ Memory }
+{}
+
+/// What refuses bytes is one, out of memory aside.
+pub fn faults_are_one()
+    ensures { (bytes : List ℕ) (a b : HistoryFault) → IsHistoryFault bytes a
+        → IsHistoryFault bytes b → a ≢ Memory → b ≢ Memory → a ≡ b }
+{}

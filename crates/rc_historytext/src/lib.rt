@@ -1,0 +1,19 @@
+//! The text of a history that goes across updates: the place of its present generation, and of each
+//! generation its database and its session, as bytes, with its marks and its renames. The texts of
+//! databases and sessions are not read here. No command uses it yet.
+//!
+//! Time and memory of reading grow with the lines outside these texts, those of writing with all
+//! bytes.
+#![tactic(auto)]
+
+mod fault;
+mod forms;
+pub mod laws;
+mod lines;
+mod read;
+mod write;
+
+pub use crate::fault::HistoryFault;
+pub use crate::forms::{GenerationForm, HistoryForm, RenameForm};
+pub use crate::read::read_history;
+pub use crate::write::write_history;

@@ -1,0 +1,106 @@
+//! From a history to its text.
+ghost use Rattle.std.specs.Prelude.{◌≡◌, ◌∷◌, ◌++◌, map, IfOk, OnOk};
+ghost use Rattle.std.specs.List.{flat_map};
+ghost use Rattle.rc_dbtext.specs.Words.{line_of_words};
+ghost use Rattle.rc_dbtext.specs.Form.{spells};
+ghost use Rattle.rc_historytext.specs.Text.{OfRename, generation_lines, history_text};
+ghost use Rattle.rc_historytext.specs.Text.{mark_word, spell};
+ghost use Rattle.rc_historytext.specs.Standing.{block};
+
+use crate::forms::{GenerationForm, HistoryForm, RenameForm};
+use rc_dbtext::{push_line, push_word};
+use std::alloc::{AllocError, Global};
+
+/// The text of a history.
+pub fn write_history(alloc: Global, form: &HistoryForm<'_>) -> Result<Vec<u8>, AllocError>
+    ensures { IfOk result (λ text. text.items ≡ history_text form.now) }
+{
+    let present = form.present.to_string(alloc)?;
+    let count = form.generations.len().to_string(alloc)?;
+    let mut out = Vec::new(alloc);
+    push_line(&mut out, b"undorc-history", b"1")?;
+    push_words(
+        &mut out,
+        b"at",
+        &[present.as_bytes(), b"of", count.as_bytes()],
+    )?;
+    push_generations(alloc, &mut out, form.generations.as_slice())?;
+    out.extend_from_slice(b"end\n")?;
+    Ok(out)
+}
+
+// The lines of generations.
+fn push_generations(
+    alloc: Global,
+    out: &mut Vec<u8>,
+    generations: &[GenerationForm<'_>],
+) -> Result<(), AllocError>
+    ensures { OnOk result (out.new.items
+        ≡ out.old.items ++ spells spell (flat_map generation_lines generations.now)) }
+{
+    for generation in generations {
+        push_generation(alloc, out, generation)?;
+    }
+    Ok(())
+}
+
+// The lines of a generation.
+fn push_generation(
+    alloc: Global,
+    out: &mut Vec<u8>,
+    generation: &GenerationForm<'_>,
+) -> Result<(), AllocError>
+    ensures { OnOk result (out.new.items
+        ≡ out.old.items ++ spells spell (generation_lines generation.now)) }
+{
+    let first = mark(generation.first_passed);
+    push_words(out, b"generation", &[first, mark(generation.last_passed)])?;
+    push_text(alloc, out, b"database", generation.database)?;
+    push_text(alloc, out, b"session", generation.session)?;
+    let count = generation.renames.len().to_string(alloc)?;
+    push_line(out, b"renames", count.as_bytes())?;
+    push_renames(out, generation.renames.as_slice())?;
+    Ok(())
+}
+
+// How a mark is written.
+fn mark(is_passed: bool) -> &'static [u8]
+    ensures { result.now ≡ mark_word is_passed }
+{
+    if is_passed { b"passed" } else { b"stop" }
+}
+
+// A text after the line that says how long it is.
+fn push_text(alloc: Global, out: &mut Vec<u8>, word: &[u8], text: &[u8]) -> Result<(), AllocError>
+    ensures { OnOk result (out.new.items ≡ out.old.items ++ block word.now text.now) }
+{
+    let long = text.len().to_string(alloc)?;
+    push_line(out, word, long.as_bytes())?;
+    out.extend_from_slice(text)?;
+    Ok(())
+}
+
+// The lines of renames.
+fn push_renames(out: &mut Vec<u8>, renames: &[RenameForm<'_>]) -> Result<(), AllocError>
+    ensures { OnOk result (out.new.items
+        ≡ out.old.items ++ spells spell (map OfRename renames.now)) }
+{
+    for rename in renames {
+        let old = rename.old.text().as_bytes();
+        push_words(out, b"rename", &[old, rename.new.text().as_bytes()])?;
+    }
+    Ok(())
+}
+
+// A line of a word and others.
+fn push_words(out: &mut Vec<u8>, first: &[u8], others: &[&[u8]]) -> Result<(), AllocError>
+    ensures { OnOk result (out.new.items
+        ≡ out.old.items ++ line_of_words (first.now ∷ map (λ word. word.now) others.now)) }
+{
+    out.extend_from_slice(first)?;
+    for word in others {
+        push_word(out, word)?;
+    }
+    out.extend_from_slice(b"\n")?;
+    Ok(())
+}
