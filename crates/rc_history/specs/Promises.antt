@@ -126,11 +126,19 @@ FirstHalvesLeaveWhatGoesOn h = (list : List Conversion) (d : Database) (ask : As
     MovesInside h (Change ask events) (Ok report) new → WentWell (Ok report) →
     (s : ℕ) → Has new.present.line.current.live s → IsUnaltered h.present.base d list s
 
--- the second history is the first one without its oldest generation, or without the later ones
+-- the second history is the first one without its oldest generation
+abbrev pub DropsOldest : History → History → Type 0
+DropsOldest h new = (gone : Generation) × (h.earlier ≡ gone ∷ new.earlier)
+    × (new.present ≡ h.present) × (new.later ≡ h.later)
+
+-- or without the later ones
+abbrev pub DropsLater : History → History → Type 0
+DropsLater h new =
+    (new.earlier ≡ h.earlier) × (new.present ≡ h.present) × (new.later ≡ [])
+
+-- one of both
 abbrev pub DropsEnd : History → History → Type 0
-DropsEnd h new = ((gone : Generation) × (h.earlier ≡ gone ∷ new.earlier)
-    × (new.present ≡ h.present) × (new.later ≡ h.later))
-    ⊎ ((new.earlier ≡ h.earlier) × (new.present ≡ h.present) × (new.later ≡ []))
+DropsEnd h new = DropsOldest h new ⊎ DropsLater h new
 
 -- the present line has room for one state more
 abbrev pub HasRoom : History → Type 0

@@ -20,3 +20,11 @@ mod Structure
 mod OneFault
 -- What is written line by line is the text.
 mod Writing
+-- Texts that tell generations, in parts.
+mod TellingLemmas
+-- What is done on the text is done in the history that it tells.
+mod Moving
+-- Each move leaves what has a text.
+mod Kept
+-- What calls make of the generations.
+mod Changed

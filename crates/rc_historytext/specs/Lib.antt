@@ -4,6 +4,10 @@
 pub mod Text
 -- When bytes are refused that are to be the text of a history.
 pub mod Faults
+-- The moves of a history, on what its text gives.
+pub mod Moves
+-- Which history a text tells.
+pub mod Telling
 -- Which line is due where, for reading alone: that it is what the texts say is a lemma.
 pub mod Due
 -- What stands in front of bytes, a line or none, for reading alone.

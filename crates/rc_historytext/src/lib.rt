@@ -1,6 +1,7 @@
-//! The text of a history that goes across updates: the place of its present generation, and of each
-//! generation its database and its session, as bytes, with its marks and its renames. The texts of
-//! databases and sessions are not read here. No command uses it yet.
+//! The text of a history that goes across updates, and the moves of a history on it: the place of
+//! its present generation, and of each generation its database and its session, as bytes, with its
+//! marks and its renames. The texts of databases and sessions are not read here. No command uses it
+//! yet.
 //!
 //! Time and memory of reading grow with the lines outside these texts, those of writing with all
 //! bytes.
@@ -10,6 +11,8 @@ mod fault;
 mod forms;
 pub mod laws;
 mod lines;
+pub mod move_laws;
+mod moves;
 mod read;
 mod write;
 

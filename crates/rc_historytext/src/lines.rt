@@ -17,7 +17,7 @@ use rc_dbtext::lexer::{
 };
 
 /// The most generations.
-const MAX_GENERATIONS: u32 = 8;
+pub(crate) const MAX_GENERATIONS: u32 = 8;
 
 /// Why reading ends early.
 pub enum LineFault {

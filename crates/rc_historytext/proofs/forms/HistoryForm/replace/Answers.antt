@@ -1,0 +1,17 @@
+use Rattle.std.proofs.Common.{◌∙◌, ◌<◌, ℕ, List, length, ap, subst, sym}
+use Rattle.rc_historytext.specs.Text.{GenerationText, HistoryText}
+use Rattle.rc_historytext.specs.Moves.{with_session}
+use Rattle.rc_historytext.proofs.Changed.{put_is}
+use Rattle.rc_historytext.proofs.forms.HistoryForm.replace.Goals as goal
+
+pub returns : goal.returns
+returns c =
+    let present : ℕ = c.self.inside.present in
+    let gs : List GenerationText = c.self.inside.generations.items in
+    let low : present < length gs =
+    subst (λ (t : HistoryText). t.present < length t.generations) (sym c.self.view_is) c.requires in
+    ap (λ (all : List GenerationText). record { present = present; generations = all })
+    (put_is present gs c.index_mut.result.now c.put_session.new.generation c.args.session.now
+    c.args.first_passed c.args.last_passed low c.index_mut.ensures.value c.put_session.ensures)
+    ∙ ap (λ (t : HistoryText).
+    with_session t c.args.session.now c.args.first_passed c.args.last_passed) c.self.view_is
