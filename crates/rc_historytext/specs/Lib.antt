@@ -4,6 +4,8 @@
 pub mod Text
 -- When bytes are refused that are to be the text of a history.
 pub mod Faults
+-- How a fault of the text of a history is told.
+pub mod HistoryFaultWord
 -- The moves of a history, on what its text gives.
 pub mod Moves
 -- Which history a text tells.

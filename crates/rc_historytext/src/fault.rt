@@ -1,5 +1,9 @@
-//! Why bytes are not the text of a history.
+//! The faults of the text of a history, and the words that commands print for them.
 
+ghost use Rattle.std.specs.Prelude.{◌≡◌, IfOk};
+ghost use Rattle.rc_historytext.specs.HistoryFaultWord.{history_word};
+
+use std::alloc::{AllocError, Global};
 use thiserror::Error;
 
 /// Why bytes are not the text of a history.
@@ -13,4 +17,15 @@ pub enum HistoryFault {
     Version,
     #[error("out of memory")]
     Memory,
+}
+
+/// A fault of the text of a history in words.
+pub fn history_word(alloc: Global, fault: HistoryFault) -> Result<Vec<u8>, AllocError>
+    ensures { IfOk result (λ text. text.items ≡ history_word fault) }
+{
+    match fault {
+        HistoryFault::Bad(offset) => Ok(format!(in alloc; "Bad {offset}")?.into_bytes()),
+        HistoryFault::Version => Vec::from_slice(alloc, b"Version"),
+        HistoryFault::Memory => Vec::from_slice(alloc, b"Memory"),
+    }
 }

@@ -16,7 +16,7 @@ mod moves;
 mod read;
 mod write;
 
-pub use crate::fault::HistoryFault;
+pub use crate::fault::{HistoryFault, history_word};
 pub use crate::forms::{GenerationForm, HistoryForm, RenameForm};
 pub use crate::read::read_history;
 pub use crate::write::write_history;
