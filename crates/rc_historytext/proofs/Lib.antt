@@ -28,3 +28,5 @@ mod Moving
 mod Kept
 -- What calls make of the generations.
 mod Changed
+-- The texts of a generation stand in the text of a history.
+mod Standings

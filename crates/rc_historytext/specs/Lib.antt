@@ -4,6 +4,8 @@
 pub mod Text
 -- When bytes are refused that are to be the text of a history.
 pub mod Faults
+-- Where the texts of the present generation stand in the text of a history.
+pub mod Offsets
 -- How a fault of the text of a history is told.
 pub mod HistoryFaultWord
 -- The moves of a history, on what its text gives.

@@ -1,6 +1,8 @@
 //! Laws of the text, each the contract of a function that does nothing.
-ghost use Rattle.std.specs.Prelude.{◌≡◌, ◌≢◌, ◌++◌, ℕ, List, []};
-ghost use Rattle.rc_historytext.specs.Text.{HistoryText, IsHistoryText, history_text};
+ghost use Rattle.std.specs.Prelude.{◌≡◌, ◌≢◌, ◌++◌, ℕ, List, [], Some, slice_get};
+ghost use Rattle.rc_historytext.specs.Text.{GenerationText, HistoryText, IsHistoryText};
+ghost use Rattle.rc_historytext.specs.Text.{history_text};
+ghost use Rattle.rc_historytext.specs.Offsets.{before_database, before_session};
 ghost use Rattle.rc_historytext.specs.Faults.{IsHistoryFault};
 ghost use Rattle.rc_historytext.specs.declared.fault.HistoryFault.{HistoryFault};
 ghost use Rattle.rc_historytext.specs.declared.fault.HistoryFault.TheVariants.{Memory};
@@ -23,4 +25,14 @@ pub fn text_is_not_refused()
 pub fn faults_are_one()
     ensures { (bytes : List ℕ) (a b : HistoryFault) → IsHistoryFault bytes a
         → IsHistoryFault bytes b → a ≢ Memory → b ≢ Memory → a ≡ b }
+{}
+
+/// The texts of the present generation stand behind what is before them.
+pub fn texts_stand_where_they_are_told()
+    ensures database { (t : HistoryText) (g : GenerationText)
+        → slice_get t.generations t.present ≡ Some g
+        → (rest : List ℕ) × (history_text t ≡ before_database t g ++ (g.database ++ rest)) }
+    ensures session { (t : HistoryText) (g : GenerationText)
+        → slice_get t.generations t.present ≡ Some g
+        → (rest : List ℕ) × (history_text t ≡ before_session t g ++ (g.session ++ rest)) }
 {}

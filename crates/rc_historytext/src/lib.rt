@@ -13,6 +13,7 @@ pub mod laws;
 mod lines;
 pub mod move_laws;
 mod moves;
+mod offsets;
 mod read;
 mod write;
 

@@ -1,10 +1,10 @@
 //! From a history to its text.
-ghost use Rattle.std.specs.Prelude.{◌≡◌, ◌∷◌, ◌++◌, map, IfOk, OnOk};
+ghost use Rattle.std.specs.Prelude.{◌≡◌, [], ◌∷◌, ◌++◌, map, IfOk, OnOk};
 ghost use Rattle.std.specs.List.{flat_map};
 ghost use Rattle.rc_dbtext.specs.Words.{line_of_words};
 ghost use Rattle.rc_dbtext.specs.Form.{spells};
-ghost use Rattle.rc_historytext.specs.Text.{OfRename, generation_lines, history_text};
-ghost use Rattle.rc_historytext.specs.Text.{mark_word, spell};
+ghost use Rattle.rc_historytext.specs.Text.{First, OfMarks, OfPlace, OfRename, generation_lines};
+ghost use Rattle.rc_historytext.specs.Text.{history_text, mark_word, spell};
 ghost use Rattle.rc_historytext.specs.Standing.{block};
 
 use crate::forms::{GenerationForm, HistoryForm, RenameForm};
@@ -15,22 +15,32 @@ use std::alloc::{AllocError, Global};
 pub fn write_history(alloc: Global, form: &HistoryForm<'_>) -> Result<Vec<u8>, AllocError>
     ensures { IfOk result (λ text. text.items ≡ history_text form.now) }
 {
-    let present = form.present.to_string(alloc)?;
-    let count = form.generations.len().to_string(alloc)?;
     let mut out = Vec::new(alloc);
-    push_line(&mut out, b"undorc-history", b"1")?;
-    push_words(
-        &mut out,
-        b"at",
-        &[present.as_bytes(), b"of", count.as_bytes()],
-    )?;
+    push_place(alloc, &mut out, form.present, form.generations.len())?;
     push_generations(alloc, &mut out, form.generations.as_slice())?;
     out.extend_from_slice(b"end\n")?;
     Ok(out)
 }
 
-// The lines of generations.
-fn push_generations(
+/// The first line, and that of the place of the present generation.
+pub(crate) fn push_place(
+    alloc: Global,
+    out: &mut Vec<u8>,
+    present: u32,
+    count: usize,
+) -> Result<(), AllocError>
+    ensures { OnOk result (out.new.items
+        ≡ out.old.items ++ spells spell (First ∷ OfPlace present count ∷ [])) }
+{
+    let present = present.to_string(alloc)?;
+    let count = count.to_string(alloc)?;
+    push_line(out, b"undorc-history", b"1")?;
+    push_words(out, b"at", &[present.as_bytes(), b"of", count.as_bytes()])?;
+    Ok(())
+}
+
+/// The lines of generations.
+pub(crate) fn push_generations(
     alloc: Global,
     out: &mut Vec<u8>,
     generations: &[GenerationForm<'_>],
@@ -53,13 +63,25 @@ fn push_generation(
     ensures { OnOk result (out.new.items
         ≡ out.old.items ++ spells spell (generation_lines generation.now)) }
 {
-    let first = mark(generation.first_passed);
-    push_words(out, b"generation", &[first, mark(generation.last_passed)])?;
+    push_marks(out, generation)?;
     push_text(alloc, out, b"database", generation.database)?;
     push_text(alloc, out, b"session", generation.session)?;
     let count = generation.renames.len().to_string(alloc)?;
     push_line(out, b"renames", count.as_bytes())?;
     push_renames(out, generation.renames.as_slice())?;
+    Ok(())
+}
+
+/// The line of a generation's marks.
+pub(crate) fn push_marks(
+    out: &mut Vec<u8>,
+    generation: &GenerationForm<'_>,
+) -> Result<(), AllocError>
+    ensures { OnOk result (out.new.items ≡ out.old.items
+        ++ spell (OfMarks generation.now.first_passed generation.now.last_passed)) }
+{
+    let first = mark(generation.first_passed);
+    push_words(out, b"generation", &[first, mark(generation.last_passed)])?;
     Ok(())
 }
 
@@ -70,8 +92,13 @@ fn mark(is_passed: bool) -> &'static [u8]
     if is_passed { b"passed" } else { b"stop" }
 }
 
-// A text after the line that says how long it is.
-fn push_text(alloc: Global, out: &mut Vec<u8>, word: &[u8], text: &[u8]) -> Result<(), AllocError>
+/// A text after the line that says how long it is.
+pub(crate) fn push_text(
+    alloc: Global,
+    out: &mut Vec<u8>,
+    word: &[u8],
+    text: &[u8],
+) -> Result<(), AllocError>
     ensures { OnOk result (out.new.items ≡ out.old.items ++ block word.now text.now) }
 {
     let long = text.len().to_string(alloc)?;
