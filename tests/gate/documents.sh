@@ -1,5 +1,6 @@
 # What the documents say of the sources: each crate of crates.txt stands in the tree of docs/ARCHITECTURE.md and in the
-# tables of docs/PROOF.md, and each definition and call that docs/MODEL.md names is there, and each file that any names.
+# tables of docs/PROOF.md, and each definition and call that docs/MODEL.md names is there, each call that
+# docs/ARCHITECTURE.md counts, and each file that any names.
 # pages.sh reads this file.
 
 # The crates of the product, and those that test.
@@ -33,6 +34,11 @@ holds 'docs/MODEL.md'
 cp found wanted
 cp product found
 holds 'crates.txt, of the crates of docs/MODEL.md,'
+
+# The calls from `main` to a run are as docs/ARCHITECTURE.md counts them.
+echo counted > wanted
+{ "$top/tests/gate/calls.py" && echo counted; } > found
+equals 'the calls of docs/ARCHITECTURE.md'
 
 # Files that documents name are there.
 grep -h -o -E '`(tests|docs|contrib|packaging|man|crates)/[A-Za-z0-9_./-]*`' "$top"/*.md "$top"/docs/*.md "$top"/contrib/*.md |
