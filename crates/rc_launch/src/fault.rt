@@ -1,10 +1,14 @@
 //! Why the files of a command are not opened.
+use rc_streams::inherited::Unfit;
 use std::io;
 use thiserror::Error;
 
 /// Why the files of a command are not opened. Nothing has moved then.
 #[derive(Debug, Drop, Error)]
 pub enum OpenFault<'a> {
+    /// Scripts can't be run with what the program inherits.
+    #[error("scripts can't be run")]
+    Unfit(Unfit),
     /// This file can't be read.
     #[error("a file can't be read")]
     File(&'a str, io::Error),

@@ -5,8 +5,10 @@ ghost use Rattle.rc_launch.specs.Loading.{again_in, bytes_of, new_file, path_of,
 
 use crate::fault::OpenFault;
 use crate::texts::FileText;
-use rc_args::{SessionCommand, SessionRequest};
+use rc_args::{Making, Once, SessionCommand, SessionRequest};
 use rc_cli::sessions::moves;
+use rc_script::SessionLine;
+use rc_session::Command;
 
 /// A command on the file of a session, with the databases that it names.
 #[derive(Drop)]
@@ -26,6 +28,16 @@ impl<'a> Loaded<'a> {
         self.command.session()
     }
 
+    /// Whether scripts may be run for it: a lone edit runs none, and neither does a seal.
+    pub fn runs_scripts(&self) -> bool {
+        let making = &self.session().making;
+        match &self.command {
+            SessionCommand::Line(request) => starts(making) && !is_edit(&request.once),
+            SessionCommand::Seal(_) | SessionCommand::Status(_) => false,
+            _ => starts(making),
+        }
+    }
+
     /// The same, of an update that was begun before or not.
     pub fn with_again(self, again: bool) -> Loaded<'a>
         ensures same { IsAsLoaded self.entry result }
@@ -38,6 +50,19 @@ impl<'a> Loaded<'a> {
         };
         Loaded { command, base, new }
     }
+}
+
+// Whether transitions are made by programs that are started.
+fn starts(making: &Making<'_>) -> bool {
+    matches!(making, Making::Programs(_))
+}
+
+// Whether a line alters bundles, and moves nothing.
+fn is_edit(once: &Once) -> bool {
+    matches!(
+        once,
+        Once::Line(SessionLine::Command(Command::Add(_, _, _) | Command::Delete(_, _)))
+    )
 }
 
 /// Whether something is to be done, and not only shown.

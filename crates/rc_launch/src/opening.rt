@@ -1,8 +1,9 @@
 //! The files of a command are opened: its databases are read, the file of its session is locked,
-//! what a command that was cut short has moved is entered, and what stands in the file is read.
+//! what a command that was cut short has moved is entered, and what stands in the file is read. A
+//! command that may run scripts is refused before that where the program can't run them.
 ghost use Rattle.std.specs.Prelude.{IfOk};
 ghost use Rattle.rc_launch.specs.Opening.{AreOpened, IsOpenedAs, LocksFor, Replaces};
-ghost use Rattle.rc_launch.specs.Loading.{session_in};
+ghost use Rattle.rc_launch.specs.Loading.{IsLoaded, session_in};
 
 use crate::fault::OpenFault;
 use crate::live_store::LiveStore;
@@ -11,6 +12,7 @@ use crate::opened::Opened;
 use crate::recovery::note_of;
 use crate::texts::LiveText;
 use rc_args::SessionCommand;
+use rc_streams::inherited::unfit_for_scripts;
 use rc_streams::live_lock::LockFault;
 
 /// Opens the files of a command, whose database is that of this file. The file of its session is
@@ -23,10 +25,32 @@ pub fn open<'a>(
     ensures { IfOk result (λ opened. AreOpened command.entry file.entry opened.0 opened.1) }
 {
     let moves = moves_by(&command);
-    match load(rt, command, file) {
+    match load_fit(rt, command, file, moves) {
         Ok(loaded) => open_loaded(rt, loaded, moves),
         Err(fault) => Err(fault),
     }
+}
+
+// Reads the databases of a command that can do what it may have to.
+fn load_fit<'a>(
+    rt: &'a HostRuntime,
+    command: SessionCommand<'a>,
+    file: Option<&'a str>,
+    moves: bool,
+) -> Result<Loaded<'a>, OpenFault<'a>>
+    ensures loaded { IfOk result (IsLoaded command.entry file.entry) }
+{
+    let loaded = match load(rt, command, file) {
+        Ok(loaded) => loaded,
+        Err(fault) => return Err(fault),
+    };
+    if moves && loaded.runs_scripts() {
+        if let Some(unfit) = unfit_for_scripts(rt) {
+            drop(loaded);
+            return Err(OpenFault::Unfit(unfit));
+        }
+    }
+    Ok(loaded)
 }
 
 // Locks the file of the session, and goes on.

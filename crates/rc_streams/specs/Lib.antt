@@ -8,3 +8,5 @@ pub mod Exchange
 pub mod Input
 -- What is taken from a reader, line by line.
 pub mod Taking
+-- With what a program inherits it can't run scripts.
+pub mod Inheriting

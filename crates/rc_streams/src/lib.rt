@@ -1,12 +1,13 @@
 //! A whole input under a bound, and lines of one; an answer written whole; readers and writers
 //! whose failures are noted; files that are read whole or replaced whole, one that is locked, and
-//! those by which a run is logged and called off; the log of commands; messages on standard error;
-//! and how a command ends.
+//! those by which a run is logged and called off; the log of commands; what is inherited; messages
+//! on standard error; and how a command ends.
 #![tactic(auto)]
 
 mod beside_file;
 pub mod command_log;
 pub mod ending;
+pub mod inherited;
 mod input;
 mod lines;
 pub mod live_lock;

@@ -2,6 +2,7 @@
 use log::info;
 use rc_launch::frontend::{tell_failure, tell_file};
 use rc_launch::{FileText, LiveText, Note, OpenFault, Opened, left_report};
+use rc_streams::inherited::Unfit;
 use rc_streams::messages::{HINT, MESSAGE, Messages};
 use rc_streams::run_file;
 use std::io;
@@ -58,6 +59,7 @@ fn tell_report(rt: &HostRuntime, report: &[u8]) {
 /// Tells why the files of a command were not opened, and returns the status.
 pub fn tell_opening(rt: &HostRuntime, fault: &OpenFault<'_>) -> u8 {
     match fault {
+        OpenFault::Unfit(unfit) => tell_inherited(rt, *unfit),
         OpenFault::File(path, error) => tell_file(rt, path, error),
         OpenFault::Busy(path, owner) => {
             let status = tell_failure(rt, "Busy");
@@ -80,6 +82,18 @@ pub fn tell_opening(rt: &HostRuntime, fault: &OpenFault<'_>) -> u8 {
         ),
         OpenFault::Memory => tell_failure(rt, "Memory"),
     }
+}
+
+/// Reports why scripts can't be run with what the program inherits, and returns the status.
+fn tell_inherited(rt: &HostRuntime, unfit: Unfit) -> u8 {
+    let status = tell_failure(rt, "Inherited");
+    match unfit {
+        Unfit::ChildIgnored => info!(Messages(rt); target: HINT,
+            "SIGCHLD is ignored, which hides how scripts end: start undorc by env --default-signal"),
+        Unfit::SizeLimited => info!(Messages(rt); target: HINT,
+            "files are limited in size, at which SIGXFSZ ends undorc: raise it by ulimit -f unlimited"),
+    }
+    status
 }
 
 /// Reports why a file beside that of `-l` can't be read or written, and returns the status.

@@ -157,3 +157,42 @@ for closed in '2>&-' '2> /dev/full'; do
     eval "\"\$program\" session -P -b made < in > out $closed" || echo $? > status
     judge "a session whose scripts write, with $closed" 0
 done
+
+# What is inherited: where SIGCHLD is ignored the system tells no end of a script, and where files are limited in size
+# SIGXFSZ may end undorc, unless it is ignored. Nothing is started then. What runs no script is done.
+begin_tree
+oneshot one 'echo up >> ran'
+"$program" compile tree > made
+# inherits WHAT STATUS OUTPUT FAULT COMMAND..: a command that is started like this
+inherits() {
+    what=$1 wanted=$2
+    wants "$3" "$4"
+    shift 4
+    rm -f ran
+    echo 0 > status
+    "$@" < /dev/null > out 2> err || echo $? > status
+    judge "$what" "$wanted"
+}
+limited() {
+    (ulimit -f 2000 && exec "$@")
+}
+rm -f started started.*
+if env --ignore-signal=CHLD true 2> /dev/null; then
+    ignoring="env --ignore-signal=CHLD"
+    for words in "change one" "restart one" "session"; do
+        # shellcheck disable=SC2086
+        inherits "$words where SIGCHLD is ignored" 111 '' 'undorc: Inherited\n' $ignoring "$program" $words -b made -l started
+        holds "$words where SIGCHLD is ignored, and nothing is started" test ! -e ran
+        # shellcheck disable=SC2086
+        inherits "$words where files are limited" 111 '' 'undorc: Inherited\n' limited "$program" $words -b made -l started
+        holds "$words where files are limited, and nothing is started" test ! -e ran
+    done
+    # shellcheck disable=SC2086
+    inherits 'an edit where SIGCHLD is ignored' 0 'ok\n' '' $ignoring "$program" add all one -b made -l started
+    # shellcheck disable=SC2086
+    inherits 'a trial where SIGCHLD is ignored' 0 'raised one\nok\n' '' $ignoring "$program" change one -b made -x none
+    inherits 'a change where files are limited and SIGXFSZ is ignored' 0 'raised one\nok\n' '' \
+        limited env --ignore-signal=XFSZ "$program" change one -b made -l started
+else
+    skip 'what is inherited, which takes env of GNU coreutils'
+fi
