@@ -4,6 +4,8 @@ It is written from docs/FORMATS.md, docs/COMMANDS.md and docs/MODEL.md, and shar
 It is plain and slow, and reads no wrong command line.
 """
 
+import re
+
 import database
 import live
 import plans
@@ -17,6 +19,9 @@ from forms import Failure, Refusal
 
 LONGEST_LINE = 65536
 LOOKS = (b"live", b"bundles", b"journal")
+# Control characters, and how those are written on standard error that have an escape of their own.
+CONTROL = re.compile(rb"[\x00-\x1f\x7f]|\xc2[\x80-\x9f]")
+ESCAPES = {b"\0": rb"\0", b"\t": rb"\t", b"\n": rb"\n", b"\r": rb"\r"}
 
 
 class Answer:
@@ -30,6 +35,11 @@ class Answer:
         self.fault = fault
         self.kept = kept
         self.circle = circle
+
+
+def shown(text):
+    """A text as standard error has it: with its control characters as escapes."""
+    return CONTROL.sub(lambda found: ESCAPES.get(found[0]) or rb"\u{%x}" % ord(found[0].decode()), text)
 
 
 def base_and_input(case):
@@ -197,6 +207,6 @@ def run(case):
         run_of(case, answer)
     except Refusal as refusal:
         answer.status = 111 if isinstance(refusal, Failure) else 1
-        answer.fault = b"undorc: " + refusal.text + b"\n"
+        answer.fault = b"undorc: " + shown(refusal.text) + b"\n"
         answer.circle = getattr(refusal, "steps", None)
     return answer

@@ -22,6 +22,9 @@ pub enum OpenFault<'a> {
     /// The run log of this file can't be read, written or removed.
     #[error("the run log can't be used")]
     Log(&'a str, io::Error),
+    /// The file by which the command on this file is called off can't be used.
+    #[error("the file that calls a command off can't be used")]
+    Stop(&'a str, io::Error),
     /// The run log of this file is of a command that was cut short, and no database is named.
     #[error("the run log needs a database")]
     NoBase(&'a str),

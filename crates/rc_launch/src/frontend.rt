@@ -17,7 +17,9 @@ mod terminal;
 pub use crate::frontend::answers::Answers;
 pub use crate::frontend::compiling::compile;
 pub use crate::frontend::fault_lines::Told;
-pub use crate::frontend::hints::{Seen, ToldErrors, behind_session, tell_failure, tell_file};
+pub use crate::frontend::hints::{
+    Seen, ToldErrors, behind_session, tell_failure, tell_file, told_errors,
+};
 pub use crate::frontend::moves::{tell_moves, tell_renames};
 pub use crate::frontend::querying::query;
 pub use crate::frontend::terminal::Typed;

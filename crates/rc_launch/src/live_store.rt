@@ -8,7 +8,7 @@ ghost use Rattle.rc_launch.specs.Beside.{AreRunsOf, IsLocked};
 ghost use Rattle.rc_launch.specs.Logs.{text_in};
 ghost use Rattle.rc_launch.specs.Opening.{LocksFor, Replaces};
 
-use crate::runs::Runs;
+use crate::runs::{Runs, RunsFault};
 use crate::texts::LiveText;
 use crate::tried_lock::TriedLock;
 use rc_args::Making;
@@ -114,7 +114,7 @@ impl<'a> LiveStore<'a> {
 
     /// Makes the files of the runs of a session that is to start programs: those beside the file of
     /// `-l`, where that is locked.
-    pub fn runs(&self, making: &Making<'_>) -> io::Result<Option<Runs<'a>>>
+    pub(crate) fn runs(&self, making: &Making<'_>) -> Result<Option<Runs<'a>>, RunsFault>
         ensures made { IfOk result (AreRunsOf (making_ask_of making.now) self.now) }
         ensures unasked { OnErr result (StartsBy (making_ask_of making.now) × IsLocked self.now) }
     {

@@ -10,6 +10,7 @@ use crate::live_store::LiveStore;
 use crate::loading::{Loaded, load, moves_by};
 use crate::opened::Opened;
 use crate::recovery::note_of;
+use crate::runs::RunsFault;
 use crate::texts::LiveText;
 use rc_args::SessionCommand;
 use rc_streams::inherited::unfit_for_scripts;
@@ -104,10 +105,18 @@ fn open_locked<'a>(
             runs,
             moves,
         }),
-        Err(error) => {
+        Err(fault) => {
             drop((loaded, note));
-            Err(OpenFault::Log(live.unwrap_or(""), error))
+            Err(runs_fault(live.unwrap_or(""), fault))
         }
+    }
+}
+
+// Why the files of the runs of a session are not opened.
+fn runs_fault<'a>(path: &'a str, fault: RunsFault) -> OpenFault<'a> {
+    match fault {
+        RunsFault::Log(error) => OpenFault::Log(path, error),
+        RunsFault::Stop(error) => OpenFault::Stop(path, error),
     }
 }
 

@@ -2,7 +2,16 @@
 ghost use Rattle.std.specs.Prelude.{◌≡◌, IfOk};
 
 use rc_cli::sessions::RunFiles;
+use rc_streams::run_file::RunFile;
+use rc_streams::stop_file::StopFile;
 use std::io;
+
+/// Why the files of the runs of a session can't be used.
+#[derive(Debug, Drop)]
+pub(crate) enum RunsFault {
+    Log(io::Error),
+    Stop(io::Error),
+}
 
 /// The files by which the runs of a session are logged and called off, beside the file of this
 /// path. Nothing but opening them makes one.
@@ -14,13 +23,23 @@ pub struct Runs<'a> {
 
 impl<'a> Runs<'a> {
     /// The files beside that of a session that is locked.
-    pub(crate) fn open(rt: &HostRuntime, path: &'a str) -> io::Result<Runs<'a>>
+    pub(crate) fn open(rt: &HostRuntime, path: &'a str) -> Result<Runs<'a>, RunsFault>
         ensures { IfOk result (λ runs. runs.path ≡ path.entry) }
     {
-        Ok(Runs {
-            path,
-            files: RunFiles::open(rt, path)?,
-        })
+        let log = match RunFile::open(rt, path) {
+            Ok(log) => log,
+            Err(error) => return Err(RunsFault::Log(error)),
+        };
+        match StopFile::open(rt, path) {
+            Ok(stop) => Ok(Runs {
+                path,
+                files: RunFiles { log, stop },
+            }),
+            Err(error) => {
+                drop(log);
+                Err(RunsFault::Stop(error))
+            }
+        }
     }
 
     /// The path of the file of the session.

@@ -7,6 +7,7 @@
 mod beside_file;
 pub mod command_log;
 pub mod ending;
+pub mod escaping;
 pub mod inherited;
 mod input;
 mod lines;

@@ -3,6 +3,7 @@
 
 ghost use Rattle.std.specs.Prelude.{true, [], Some};
 
+use crate::escaping::Shown;
 use log::kv::Source;
 use log::span::Spans;
 use log::{Log, Metadata, Record};
@@ -15,8 +16,8 @@ pub const MESSAGE: &str = "undorc";
 pub const HINT: &str = "undorc::hint";
 
 /// A log that writes each record to the standard error of `E`: one line in one write, after
-/// `undorc: `, or after two spaces where its target is `HINT`. It drops a line that can't be
-/// written.
+/// `undorc: `, or after two spaces where its target is `HINT`. Control characters are written as
+/// escapes. It drops a line that can't be written.
 #[derive(Drop)]
 pub struct Messages<E>(pub E);
 
@@ -31,7 +32,7 @@ impl<E: Eprint> Log for Messages<E> {
 
     fn log<D: Display, K: Source, S: Spans>(&self, record: &Record<'_, D, K, S>) {
         let front = front_of(record.target());
-        let message = record.args();
+        let message = Shown(record.args());
         let _ = self.0.eprintln(format_args!("{front}{message}"));
     }
 

@@ -9,7 +9,7 @@ use crate::workers::tell_workers;
 use log::warn;
 use rc_args::{Once, SessionCommand, Verbosity};
 use rc_cli::sessions::{Devices, Outputs, Store, TextKeeper};
-use rc_launch::frontend::{Answers, Seen, Told, ToldErrors, Typed, behind_session};
+use rc_launch::frontend::{Answers, Seen, ToldErrors, Typed, behind_session, told_errors};
 use rc_launch::{LiveStore, Opened, open, serve};
 use rc_names::NoMem;
 use rc_script::SessionLine;
@@ -117,7 +117,7 @@ fn devices_of<R, W, S: Store>(
             writer: Noted::new(writer),
             keeper: TextKeeper::new(store),
         },
-        faults: Told::new(rt.alloc(), rt.stderr()),
+        faults: told_errors(rt),
     }
 }
 

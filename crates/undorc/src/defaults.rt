@@ -1,6 +1,8 @@
 //! The files of `-b` and `-l`, and the programs of `-r` and `-c`, where the words name none: the
 //! environment's UNDORC_DB, UNDORC_LIVE, UNDORC_RUNNER and UNDORC_CONTROLLER.
-use rc_args::Defaults;
+use rc_args::{Defaults, Invocation, Making, Once, SessionCommand, SessionRequest};
+use rc_script::SessionLine;
+use rc_session::Command;
 use std::env::{self, VarError};
 use std::io::{self, ErrorKind};
 
@@ -14,13 +16,14 @@ pub struct DefaultTexts {
 }
 
 impl DefaultTexts {
-    /// The texts that they name.
+    /// The texts that they name. For a variable that is no text its own name stands behind a NUL,
+    /// which no word of a command line has, and `unread_in` says whether an invocation uses it.
     pub fn texts(&self) -> io::Result<Defaults<'_>> {
         Ok(Defaults {
-            base: named(&self.base)?,
-            live: named(&self.live)?,
-            runner: named(&self.runner)?,
-            controller: named(&self.controller)?,
+            base: named(&self.base, "\0UNDORC_DB")?,
+            live: named(&self.live, "\0UNDORC_LIVE")?,
+            runner: named(&self.runner, "\0UNDORC_RUNNER")?,
+            controller: named(&self.controller, "\0UNDORC_CONTROLLER")?,
         })
     }
 }
@@ -36,12 +39,68 @@ pub fn defaults_at(rt: &HostRuntime) -> DefaultTexts {
 }
 
 /// What a variable names. One that is empty names nothing.
-fn named(read: &Result<String, VarError>) -> io::Result<Option<&str>> {
+fn named<'a>(
+    read: &'a Result<String, VarError>,
+    unread: &'static str,
+) -> io::Result<Option<&'a str>> {
     match read {
         Ok(text) if text.is_empty() => Ok(None),
         Ok(text) => Ok(Some(text.as_str())),
         Err(VarError::NotPresent) => Ok(None),
-        Err(VarError::NotUnicode) => Err(io::Error::from(ErrorKind::InvalidData)),
+        Err(VarError::NotUnicode) => Ok(Some(unread)),
         Err(VarError::OutOfMemory) => Err(io::Error::from(ErrorKind::OutOfMemory)),
+    }
+}
+
+/// A variable that an invocation uses and that is no text, if there is one.
+pub fn unread_in(invocation: &Invocation<'_>) -> Option<&'static str> {
+    match invocation {
+        Invocation::Compile(_) | Invocation::Version => None,
+        Invocation::Db(request, base) => unread(*base).or(unread(request.live)),
+        Invocation::Plan(_, base) | Invocation::Replay(base) => unread(*base),
+        Invocation::Session(command, base) => {
+            unread_of(command.session(), *base, runs_scripts(command))
+        }
+        Invocation::Stop(live) => unread(*live),
+    }
+}
+
+/// The same of a session, which runs scripts or not.
+fn unread_of(session: &SessionRequest<'_>, base: Option<&str>, runs: bool) -> Option<&'static str> {
+    let files = unread(base).or(unread(session.live));
+    match &session.making {
+        Making::Programs(programs) if runs => {
+            files.or(unread(programs.runner).or(unread(programs.controller)))
+        }
+        _ => files,
+    }
+}
+
+/// Whether a command may run scripts.
+fn runs_scripts(command: &SessionCommand<'_>) -> bool {
+    match command {
+        SessionCommand::Lines(_) | SessionCommand::Restart(_) => true,
+        SessionCommand::Line(request) => is_run(&request.once),
+        SessionCommand::Update(request) => !request.dry,
+        SessionCommand::Seal(_) | SessionCommand::Status(_) => false,
+    }
+}
+
+/// Whether a line may run scripts.
+fn is_run(once: &Once) -> bool {
+    matches!(
+        once,
+        Once::Line(SessionLine::Command(Command::Change(_) | Command::Undo(_) | Command::Redo(_)))
+    )
+}
+
+/// The variable that stands in a place, if it is no text.
+fn unread(named: Option<&str>) -> Option<&'static str> {
+    match named? {
+        "\0UNDORC_DB" => Some("UNDORC_DB"),
+        "\0UNDORC_LIVE" => Some("UNDORC_LIVE"),
+        "\0UNDORC_RUNNER" => Some("UNDORC_RUNNER"),
+        "\0UNDORC_CONTROLLER" => Some("UNDORC_CONTROLLER"),
+        _ => None,
     }
 }

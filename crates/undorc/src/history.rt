@@ -12,7 +12,7 @@ use std::fs::File;
 use std::io::{self, Write};
 
 /// Appends a line for this command, which ends with this status, where the log is there and the
-/// text of the session is another one than before. A line that can't be written is dropped.
+/// text of the session is another one than before. Tells why a line can't be written.
 pub fn enter(rt: &HostRuntime, path: &str, before: Option<&[u8]>, status: u8) {
     let live = LiveText::read(rt, Some(path));
     match live.bytes() {
@@ -24,27 +24,41 @@ pub fn enter(rt: &HostRuntime, path: &str, before: Option<&[u8]>, status: u8) {
 
 /// The same of a command that leaves the session at the state of this number.
 fn enter_at(rt: &HostRuntime, path: &str, status: u8, at: usize) {
-    match command_log::open(rt, path) {
+    let entered = match command_log::open(rt, path) {
         Ok(Some(file)) => {
-            append(rt, &file, status, at);
+            let entered = append(rt, &file, status, at);
             drop(file);
+            entered
         }
-        Ok(None) => {}
-        Err(error) => warn!(Messages(rt); target: MESSAGE,
-            "{path}.log: {error}: this command is not entered there"),
+        Ok(None) => Ok(()),
+        Err(error) => Err(error),
+    };
+    if let Err(error) = entered {
+        warn!(Messages(rt); target: MESSAGE,
+            "{path}.log: {error}: this command is not entered there");
     }
 }
 
-/// Appends the line of this command.
-fn append(rt: &HostRuntime, file: &File, status: u8, at: usize) {
-    if let Ok(words) = words(rt) {
-        if let Ok(line) = line_of(rt, &words, status, at) {
-            let mut file = file;
-            let _ = file.write_all(line.as_bytes());
-            drop(line);
-        }
-        drop(words);
+/// Appends the line of this command. Where it can't be written whole, nothing of it stays.
+fn append(rt: &HostRuntime, file: &File, status: u8, at: usize) -> io::Result<()> {
+    let words = words(rt)?;
+    let line = line_of(rt, &words, status, at);
+    drop(words);
+    let line = line?;
+    let written = write_whole(file, line.as_bytes());
+    drop(line);
+    written
+}
+
+/// Appends bytes to a file, or none of them.
+fn write_whole(file: &File, bytes: &[u8]) -> io::Result<()> {
+    let length = file.metadata()?.len();
+    let mut out = file;
+    let written = out.write_all(bytes);
+    if written.is_err() {
+        let _ = file.set_len(length);
     }
+    written
 }
 
 /// The line of a command: when, by whom, with which status, at which state, and its words.

@@ -11,7 +11,7 @@ mod updates;
 mod workers;
 
 use crate::commands::carry_out;
-use crate::defaults::{DefaultTexts, defaults_at};
+use crate::defaults::{DefaultTexts, defaults_at, unread_in};
 use crate::own_name::words;
 use crate::stopping::stop;
 use crate::updates::update;
@@ -19,6 +19,7 @@ use log::error;
 use rc_args::{Invocation, SessionCommand, WordsFault, asks_help, invocation_of, tell_words};
 use rc_cli::queries::Query;
 use rc_launch::frontend::{compile, query, tell_failure};
+use rc_streams::escaping::Escaped;
 use rc_streams::messages::{MESSAGE, Messages};
 use std::io::{self, ErrorKind};
 use std::process::ExitCode;
@@ -48,7 +49,7 @@ fn main(rt: HostRuntime) -> ExitCode {
                 Err(status) => status,
             }
         }
-        Err(error) => tell(&rt, "a word of the command line", &error),
+        Err(error) => tell(&rt, &error),
     };
     ExitCode::from(status)
 }
@@ -62,10 +63,17 @@ fn asked<'a>(
 ) -> Result<Invocation<'a>, u8> {
     match defaults.texts() {
         Ok(defaults) => match invocation_of(rt.alloc(), words, defaults) {
-            Ok(invocation) => Ok(invocation),
+            Ok(invocation) => match unread_in(&invocation) {
+                Some(variable) => {
+                    let status = tell_unread(rt, variable);
+                    drop(invocation);
+                    Err(status)
+                }
+                None => Ok(invocation),
+            },
             Err(fault) => Err(tell_wrong(rt, &fault)),
         },
-        Err(error) => Err(tell(rt, "a variable of the environment", &error)),
+        Err(_) => Err(tell_failure(rt, "Memory")),
     }
 }
 
@@ -75,7 +83,7 @@ fn tell_wrong(rt: &HostRuntime, fault: &WordsFault) -> u8 {
     if asks_help(fault) {
         return tell_words(&mut rt.stdout(), fault);
     }
-    tell_words(&mut rt.stderr(), fault)
+    tell_words(&mut Escaped::of_text(rt.stderr()), fault)
 }
 
 /// Prints which version this is.
@@ -86,11 +94,16 @@ fn version(rt: &HostRuntime) -> u8 {
     0
 }
 
-/// Tells why words could not be read, and returns the status.
-fn tell(rt: &HostRuntime, what: &str, error: &io::Error) -> u8 {
+/// Tells why the words of the command line could not be read, and returns the status.
+fn tell(rt: &HostRuntime, error: &io::Error) -> u8 {
     if error.kind() == ErrorKind::InvalidData {
-        error!(Messages(rt); target: MESSAGE, "{what} is not UTF-8");
-        return WRONG_LINE;
+        return tell_unread(rt, "a word of the command line");
     }
     tell_failure(rt, "Memory")
+}
+
+/// Tells what is no text, and returns the status.
+fn tell_unread(rt: &HostRuntime, what: &str) -> u8 {
+    error!(Messages(rt); target: MESSAGE, "{what} is not UTF-8");
+    WRONG_LINE
 }

@@ -70,6 +70,7 @@ pub fn tell_opening(rt: &HostRuntime, fault: &OpenFault<'_>) -> u8 {
         }
         OpenFault::Lock(path, error) => tell_beside(rt, path, ".lock", error),
         OpenFault::Log(path, error) => tell_beside(rt, path, ".run", error),
+        OpenFault::Stop(path, error) => tell_beside(rt, path, ".stop", error),
         OpenFault::NoBase(path) => tell_unfit(
             rt,
             path,

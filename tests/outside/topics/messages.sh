@@ -1,5 +1,7 @@
 # What stands after a fault: the mistakes of a newcomer, each with its first line, which scripts read, and with words
 # that must stand after it, for people. program.sh reads this file.
+# shellcheck source=../trees.sh
+. "$here/trees.sh"
 mkdir messages
 cd messages
 
@@ -337,4 +339,37 @@ if may_be_nobody 'a file without the right to read'; then
     wants '' ''
     judge 'which file, and that permission is denied' 0
 fi
+
+# Words with control characters do nothing to a terminal, and make no line of their own: they are written as escapes.
+control=$(printf 'x\033[31m\a\302\233y\nundorc: z')
+newcomer
+rm -f state state.*
+"$program" compile services > db
+: > state.log
+# escapes WORDS..: what a command of these words reports has the control characters as escapes, and no others
+escapes() {
+    "$program" "$@" < /dev/null > out 2> err || true
+    holds "undorc $1 with control characters writes escapes" grep -q -F 'x\u{1b}[31m\u{7}\u{9b}y' err
+    holds "undorc $1 with control characters writes no others" sh -c '! LC_ALL=C grep -q "[[:cntrl:]]" err'
+}
+escapes live -b "$control" -l state
+escapes change web -b db -x none -l "nowhere/$control"
+escapes compile "$control"
+escapes change -b db -x none -l state "${control%%
+*}"
+escapes db -b db type "$control"
+escapes stop -l "$control"
+escapes change -b db -x "up:$control" -l state
+escapes "${control%%
+*}"
+mkdir "services/$control"
+escapes compile services
+rmdir "services/$control"
+"$program" change web -b "./db" -x none -l state < /dev/null > out
+"$program" add "all-$(printf '\001')" -b db -l state < /dev/null > out 2>&1 || true
+ln -s db "$control"
+"$program" undo -b "$control" -l state -x none < /dev/null > out
+rm "$control"
+holds 'the log of commands has escapes' grep -q -F 'x\u{1b}[31m\u{7}\u{9b}y\nundorc: z' state.log
+holds 'the log of commands has no control characters' sh -c '! LC_ALL=C grep -q "[[:cntrl:]]" state.log'
 cd ..

@@ -223,6 +223,21 @@ expect 0 'live\nok\n' '' '' live -l live
 UNDORC_DB=''
 expect 0 'live\nok\n' '' "$sample" live -l live
 unset UNDORC_DB
+# One that is no text is named, and only to commands that use it.
+for variable in UNDORC_DB UNDORC_LIVE UNDORC_RUNNER UNDORC_CONTROLLER; do
+    export "$variable=$strange"
+    expect 0 'undorc 0.2.0\n' '' '' version
+    expect 0 'live\nok\n' '' '' live -b base -l live
+    expect 0 'raised net root\nok\n' '' '' change net -b base -x none -l other.live
+    case $variable in
+        UNDORC_DB) wrong change net -x none ;;
+        UNDORC_LIVE) wrong live -b base ;;
+        *) wrong change net -b base -l other.live ;;
+    esac
+    says "^undorc: $variable is not UTF-8\$"
+    unset "$variable"
+    rm other.live*
+done
 
 expect 0 'undorc 0.2.0\n' '' '' version
 

@@ -160,6 +160,8 @@ for what in 'mkdir live.run' 'mkfifo live.run' 'ln -s elsewhere live.run' 'mkdir
     $what
     expect 111 '' 'undorc: Io\n' '' change a -b base -l live
     expect 111 '' 'undorc: Io\n' 'change a\n' session -b base -l live
+    "$program" change a -b base -l live < /dev/null > /dev/null 2> told || true
+    holds "$what, and the file is named" grep -q "^  ${what##* }: " told
     rm -rf live.run live.stop
 done
 holds 'nothing was started without a log' test ! -e ran

@@ -128,6 +128,17 @@ for what in 'mkfifo live.log' 'ln -s kept live.log' 'mkdir live.log'; do
 done
 rm -rf live.log
 
+# A line that can't be written there is reported, and no part of it stays.
+rm -f live live.*
+head -c 65536 /dev/zero | tr '\0' '\n' > live.log
+echo 0 > status
+env --ignore-signal=XFSZ prlimit --fsize=65540 "$program" change a -b base -l live -x none < /dev/null > out 2> told || echo $? > status
+sed 's/live.log: .*: this/live.log: ..: this/' told > err
+wants 'raised a\nok\n' 'undorc: live.log: ..: this command is not entered there\n'
+judge 'a log of commands that can not grow' 0
+holds 'no part of a line stays in it' test "$(stat -c %s live.log)" -eq 65536
+rm live.log
+
 # Who only looks is in nobody's way.
 rm -f live live.*
 "$program" change a -b base -l live -x none < /dev/null > /dev/null

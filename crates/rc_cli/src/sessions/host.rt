@@ -2,7 +2,6 @@
 use rc_streams::run_file::{self, RunFile};
 use rc_streams::stop_file::{self, StopFile};
 use std::alloc::Global;
-use std::io;
 
 /// What a session runs on: the threads of its workers, the runtime that starts programs, the log
 /// that takes messages, the files of its runs, if it has any, and memory.
@@ -24,18 +23,6 @@ pub struct RunFiles {
 }
 
 impl RunFiles {
-    /// The files beside that of this path.
-    pub fn open(rt: &HostRuntime, path: &str) -> io::Result<RunFiles> {
-        let log = RunFile::open(rt, path)?;
-        match StopFile::open(rt, path) {
-            Ok(stop) => Ok(RunFiles { log, stop }),
-            Err(error) => {
-                drop(log);
-                Err(error)
-            }
-        }
-    }
-
     /// Removes them, but for the log of a run of which the session may not know. The lock of the
     /// session is still held.
     pub fn remove(&self, rt: &HostRuntime, path: &str) {

@@ -1,6 +1,5 @@
 //! `compile`: the database of source directories, on standard output or in a file.
 use crate::frontend::exposure::{restrict, warn_of_links};
-use crate::frontend::fault_lines::Told;
 use crate::frontend::hints;
 use rc_args::CompileRequest;
 use rc_compile::command::{compile_run, tell_trees, text_of};
@@ -28,7 +27,7 @@ fn compile_trees(
     request: &CompileRequest<'_>,
     trees: &mut [FolderTree<HostRuntime>],
 ) -> u8 {
-    let mut told = Told::new(rt.alloc(), rt.stderr());
+    let mut told = hints::told_errors(rt);
     let status = match request.output {
         Some(path) => compile_into(rt, request, trees, path, &mut told),
         None => compile_run(rt.alloc(), trees, &mut Noted::new(rt.stdout()), &mut told),
@@ -48,7 +47,7 @@ fn compile_into(
     request: &CompileRequest<'_>,
     trees: &mut [FolderTree<HostRuntime>],
     path: &str,
-    told: &mut Told<io::Stderr>,
+    told: &mut hints::ToldErrors,
 ) -> u8 {
     match text_of(rt.alloc(), trees) {
         Ok(text) => {

@@ -11,13 +11,19 @@ use rc_compile::command::diagnostics::{
 use rc_names::NoMem;
 use rc_streams::Noted;
 use rc_streams::ending::FAILED;
+use rc_streams::escaping::{Escaped, Shown};
 use rc_streams::messages::{HINT, MESSAGE, Messages};
 use std::alloc::AllocError;
 use std::fmt::{self, Display, Formatter};
 use std::io::{self, ErrorKind, Stderr};
 
 /// A fault writer that keeps what was told.
-pub type ToldErrors = Told<Stderr>;
+pub type ToldErrors = Told<Escaped<Stderr>>;
+
+/// A fault writer that has told nothing yet.
+pub fn told_errors(rt: &HostRuntime) -> ToldErrors {
+    Told::new(rt.alloc(), Escaped::of_lines(rt.stderr()))
+}
 
 /// What helps after what `compile` told, and what was not looked at.
 pub fn behind_compile(rt: &HostRuntime, request: &CompileRequest<'_>, told: &ToldErrors) {
@@ -146,7 +152,7 @@ impl Display for Reason<'_> {
 
 /// What helps where the file of `-l` could not be written.
 fn unwritten_hint(rt: &HostRuntime, path: &str, error: &io::Error) -> Hint {
-    let what = Reason(error);
+    let (path, what) = (Shown(&path), Reason(error));
     Ok(Some(format!(in rt.alloc(); "{path} can't be replaced by {path}.new: {what}")?))
 }
 
@@ -162,7 +168,7 @@ fn behind_live(
     let (word, rest) = fault;
     match text {
         Err(error) if word == "Io" => {
-            let what = Reason(error);
+            let (path, what) = (Shown(&path), Reason(error));
             Ok(Some(format!(in rt.alloc(); "{path}: {what}")?))
         }
         Ok(Some(bytes)) if word != "Io" => match seen.is_good(rt) {
@@ -209,13 +215,14 @@ pub fn tell_failure(rt: &HostRuntime, word: &str) -> u8 {
     FAILED
 }
 
-/// Reports what helps, if anything does, as records of this target. Returns whether nothing more is
-/// to be looked for: something was reported, or memory ran out.
+/// Reports what helps, if anything does, as records of this target, one for each line. Returns
+/// whether nothing more is to be looked for: something was reported, or memory ran out.
 fn tell_found(rt: &HostRuntime, target: &str, hint: Hint) -> bool {
     match hint {
         Ok(Some(text)) => {
-            let lines = text.as_str();
-            info!(Messages(rt); target: target, "{lines}");
+            for line in text.as_str().split('\n') {
+                info!(Messages(rt); target: target, "{line}");
+            }
             drop(text);
             true
         }

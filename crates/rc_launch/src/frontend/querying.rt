@@ -1,7 +1,6 @@
 //! Runs `db`, `plan` and `replay` on the database of `-b` or at the front of standard input.
-use crate::frontend::fault_lines::Told;
 use crate::frontend::files::base_at;
-use crate::frontend::hints::{Seen, behind_session, tell_file};
+use crate::frontend::hints::{Seen, behind_session, tell_file, told_errors};
 use crate::frontend::terminal::Typed;
 use rc_cli::queries::{Query, run_query};
 use rc_streams::{Noted, whole_file};
@@ -35,7 +34,7 @@ fn query_on(
         Err(error) => return tell_file(rt, live_of(query).unwrap_or(""), error),
     };
     let mut typed = Typed::new(rt, Some(input_of(query, file.is_some())));
-    let mut told = Told::new(rt.alloc(), rt.stderr());
+    let mut told = told_errors(rt);
     let query = showing(query, shown);
     let reader = &mut Noted::new(&mut typed);
     let writer = &mut Noted::new(rt.stdout());

@@ -90,7 +90,7 @@ fn add_step(search: &mut Search<'_>, from: &str, to: &str) {
     let Some(entry) = search.entry(from) else {
         return;
     };
-    search.said.begin_line("  ");
+    search.said.begin_line();
     if add_place(search, &entry, to) {
         search.said.add(" names ");
     } else {

@@ -3,6 +3,7 @@
 use crate::command::diagnostics::entries::Entry;
 use crate::command::diagnostics::name_flaws::{WrongName, wrong_name};
 use rc_names::NoMem;
+use rc_streams::escaping::Shown;
 use std::alloc::{AllocError, Global};
 use std::io::{self, ErrorKind};
 
@@ -43,16 +44,17 @@ impl Said {
         self.text.is_empty()
     }
 
-    /// Ends the line that was said, if one was, and begins another with this.
-    pub(crate) fn begin_line(&mut self, front: &str) {
+    /// Ends the line that was said, if one was, so that another begins.
+    pub(crate) fn begin_line(&mut self) {
         if !self.text.is_empty() {
-            self.add_row("\n", front, "");
+            let added = self.text.push('\n');
+            self.note(added);
         }
     }
 
-    /// Adds a text.
+    /// Adds a text, with its control characters as escapes: it begins no line.
     pub fn add(&mut self, text: &str) {
-        let added = self.text.push_str(text);
+        let added = write!(self.text, "{}", Shown(&text));
         self.note(added);
     }
 

@@ -7,9 +7,6 @@ use crate::command::diagnostics::said::Hint;
 use crate::command::diagnostics::search::Search;
 use rc_names::Kind;
 
-/// What stands in front of a note.
-const NOTE: &str = "undorc: ";
-
 /// The files that supervisors look at.
 const SUPERVISED: [&str; 22] = [
     "run",
@@ -93,7 +90,7 @@ fn add_notes(search: &mut Search<'_>, entry: &Entry<'_, '_>) {
     }
     drop(files);
     if is_empty {
-        search.said.begin_line(NOTE);
+        search.said.begin_line();
         search.said.add_row(entry.root, "/", entry.name);
         search.said.add(" is a bundle without contents");
     }
@@ -104,7 +101,7 @@ fn add_note(search: &mut Search<'_>, entry: &Entry<'_, '_>, file: &str) {
     if entry.reads(file) {
         let bytes = search.file(entry, file);
         if let Some(offset) = offset_of(&bytes, b'\r') {
-            search.said.begin_line(NOTE);
+            search.said.begin_line();
             search.said.add_file(entry, file);
             search.said.add_number(line_at(&bytes, offset));
             search
@@ -113,7 +110,7 @@ fn add_note(search: &mut Search<'_>, entry: &Entry<'_, '_>, file: &str) {
         }
         drop(bytes);
     } else if !SUPERVISED.contains(&file) && !file.starts_with('.') {
-        search.said.begin_line(NOTE);
+        search.said.begin_line();
         search.said.add_file(entry, file);
         search.said.add(" is not looked at");
     }
@@ -126,7 +123,7 @@ fn add_unjoined(search: &mut Search<'_>, entry: &Entry<'_, '_>, file: &str) {
     let names = name_at(text_of(&list), 0).is_some();
     drop(list);
     if names && entry.kind == Some(Kind::Longrun) && !search.is_executable(entry, "run") {
-        search.said.begin_line(NOTE);
+        search.said.begin_line();
         search.said.add_file(entry, file);
         search.said.add(" is not joined (run is not executable)");
     }
