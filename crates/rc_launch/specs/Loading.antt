@@ -41,6 +41,14 @@ abbrev pub new_file : SessionCommand → Option (Bor (List ℕ))
 new_file (command.Update request) = Some request.new
 new_file other = None
 
+-- the lines of an input are served
+abbrev pub AreLines : SessionCommand → Type 0
+AreLines (command.Lines request) = Unit {0}
+AreLines other = ⊥
+
+abbrev pub IsOfLines : Loaded → Type 0
+IsOfLines loaded = AreLines loaded.command
+
 -- it is an update
 abbrev pub IsUpdate : SessionCommand → Type 0
 IsUpdate (command.Update request) = Unit {0}

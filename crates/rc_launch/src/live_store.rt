@@ -32,13 +32,15 @@ pub struct LiveStore<'a> {
 }
 
 impl<'a> LiveStore<'a> {
-    /// The file of `-l`, where one is named. It is locked where a session is to do something, and
-    /// waited for or not where another program holds it.
+    /// The file of `-l`, where one is named. It is locked where a session is to do something, for
+    /// a program that serves the lines of an input or not, and waited for or not where another
+    /// program holds it.
     pub fn open(
         rt: &'a HostRuntime,
         live: Option<&'a str>,
         moves: bool,
         waits: bool,
+        is_of_lines: bool,
     ) -> Result<LiveStore<'a>, LockFault>
         ensures locked { IfOk result (LocksFor moves live.entry) }
         ensures path { IfOk result (Replaces live.entry) }
@@ -49,7 +51,7 @@ impl<'a> LiveStore<'a> {
             None => "",
         };
         let lock = match locked(live, moves) {
-            Some(path) => Some(TriedLock::take(rt, path, waits)?),
+            Some(path) => Some(TriedLock::take(rt, path, waits, is_of_lines)?),
             None => None,
         };
         Ok(LiveStore {
@@ -113,8 +115,12 @@ impl<'a> LiveStore<'a> {
     }
 
     /// Makes the files of the runs of a session that is to start programs: those beside the file of
-    /// `-l`, where that is locked.
-    pub(crate) fn runs(&self, making: &Making<'_>) -> Result<Option<Runs<'a>>, RunsFault>
+    /// `-l`, where that is locked. The session serves the lines of an input or not.
+    pub(crate) fn runs(
+        &self,
+        making: &Making<'_>,
+        is_of_lines: bool,
+    ) -> Result<Option<Runs<'a>>, RunsFault>
         ensures made { IfOk result (AreRunsOf (making_ask_of making.now) self.now) }
         ensures unasked { OnErr result (StartsBy (making_ask_of making.now) × IsLocked self.now) }
     {
@@ -122,6 +128,7 @@ impl<'a> LiveStore<'a> {
             (Making::Programs(_), Some(lock)) if lock.is_held() => Ok(Some(Runs::open(
                 self.rt,
                 lock.path(),
+                is_of_lines,
             )?)),
             _ => Ok(None),
         }

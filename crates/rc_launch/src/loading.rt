@@ -1,6 +1,6 @@
 //! The databases of a command are read.
 ghost use Rattle.std.specs.Prelude.{◌≡◌, ◌↔◌, true, option_map, IfOk, IsTrue};
-ghost use Rattle.rc_launch.specs.Loading.{IsAsLoaded, IsLoaded, IsUpdating, MovesBy};
+ghost use Rattle.rc_launch.specs.Loading.{IsAsLoaded, IsLoaded, IsOfLines, IsUpdating, MovesBy};
 ghost use Rattle.rc_launch.specs.Loading.{again_in, bytes_of, new_file, path_of, session_in};
 
 use crate::fault::OpenFault;
@@ -26,6 +26,13 @@ impl<'a> Loaded<'a> {
         ensures { result.now ≡ session_in self.now }
     {
         self.command.session()
+    }
+
+    /// Whether the lines of an input are served.
+    pub fn is_of_lines(&self) -> bool
+        ensures { IsTrue result ↔ IsOfLines self.now }
+    {
+        matches!(&self.command, SessionCommand::Lines(_))
     }
 
     /// Whether scripts may be run for it: a lone edit runs none, and neither does a seal.

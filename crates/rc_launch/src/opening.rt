@@ -65,7 +65,7 @@ fn open_loaded<'a>(
         × Replaces (session_in loaded.entry).live opened.1) }
 {
     let (live, waits) = (loaded.session().live, loaded.session().waits);
-    match LiveStore::open(rt, live, moves, waits) {
+    match LiveStore::open(rt, live, moves, waits, loaded.is_of_lines()) {
         Ok(store) => match open_locked(rt, loaded, &store, moves) {
             Ok(opened) => Ok((opened, store)),
             Err(fault) => {
@@ -97,7 +97,7 @@ fn open_locked<'a>(
             return Err(fault);
         }
     };
-    match store.runs(&loaded.session().making) {
+    match store.runs(&loaded.session().making, loaded.is_of_lines()) {
         Ok(runs) => Ok(Opened {
             loaded: loaded.with_again(again),
             live: LiveText::read(rt, live),

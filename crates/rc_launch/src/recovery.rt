@@ -49,7 +49,7 @@ pub(crate) fn note_of<'a>(
     }
 }
 
-// Reads the run log of a session, and enters what it leaves. What called its command off is
+// Reads the run log of a session, and enters what it leaves. What calls off other commands is
 // removed. The second value: whether that was the first step of the update that is asked for.
 fn recover<'a>(
     rt: &'a HostRuntime,
@@ -63,7 +63,7 @@ fn recover<'a>(
         Ok(log) => log,
         Err(fault) => return Err(fault),
     };
-    let _ = stop_file::remove(rt, path);
+    let _ = stop_file::clear_others(rt, path, loaded.is_of_lines());
     if log.bytes().is_empty() {
         return Ok((Recovery::Bare(log), false));
     }

@@ -22,15 +22,20 @@ pub struct Runs<'a> {
 }
 
 impl<'a> Runs<'a> {
-    /// The files beside that of a session that is locked.
-    pub(crate) fn open(rt: &HostRuntime, path: &'a str) -> Result<Runs<'a>, RunsFault>
+    /// The files beside that of a session that is locked, and that serves the lines of an input or
+    /// not.
+    pub(crate) fn open(
+        rt: &HostRuntime,
+        path: &'a str,
+        is_of_lines: bool,
+    ) -> Result<Runs<'a>, RunsFault>
         ensures { IfOk result (λ runs. runs.path ≡ path.entry) }
     {
         let log = match RunFile::open(rt, path) {
             Ok(log) => log,
             Err(error) => return Err(RunsFault::Log(error)),
         };
-        match StopFile::open(rt, path) {
+        match StopFile::open(rt, path, is_of_lines) {
             Ok(stop) => Ok(Runs {
                 path,
                 files: RunFiles { log, stop },

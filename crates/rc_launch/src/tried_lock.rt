@@ -12,14 +12,19 @@ pub(crate) struct TriedLock<'a> {
 }
 
 impl<'a> TriedLock<'a> {
-    /// Asks for the lock of the session of this file, and waits for it or not where another program
-    /// holds it.
-    pub fn take(rt: &HostRuntime, path: &'a str, waits: bool) -> Result<TriedLock<'a>, LockFault>
+    /// Asks for the lock of the session of this file, for a program that serves the lines of an
+    /// input or not, and waits for it or not where another program holds it.
+    pub fn take(
+        rt: &HostRuntime,
+        path: &'a str,
+        waits: bool,
+        is_of_lines: bool,
+    ) -> Result<TriedLock<'a>, LockFault>
         ensures { IfOk result (λ tried. tried.path ≡ path.entry) }
     {
         Ok(TriedLock {
             path,
-            lock: LiveLock::take(rt, path, waits)?,
+            lock: LiveLock::take(rt, path, waits, is_of_lines)?,
         })
     }
 

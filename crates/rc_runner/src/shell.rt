@@ -367,12 +367,18 @@ impl<'a, R: Processes + Clock + Sync, L: Log + Sync> Gate for ShellGate<'a, R, L
     }
 
     fn begin(&self, session: &Session, command: &Command) {
+        if let Some(file) = self.stop_file {
+            file.begin();
+        }
         if let Some(run_log) = &self.run_log {
             run_log.begin(session, command);
         }
     }
 
     fn end(&self) {
+        if let Some(file) = self.stop_file {
+            file.end();
+        }
         if let Some(run_log) = &self.run_log {
             run_log.end();
         }

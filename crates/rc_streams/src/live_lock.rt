@@ -1,9 +1,10 @@
 //! The lock of the file in which a session is kept, so that one program at a time goes on with it.
 //! It is a lock on a file beside it, which is made where it is missing, and stays. Its owner alone
-//! may open it, and it holds the process id of the program that locked it last.
+//! may open it, and it names the program that locked it last.
 
 use crate::beside_file::{RIGHTS, check_folder, open_own, refused, stands_at};
 use crate::messages::{MESSAGE, Messages};
+use crate::process_start::{own_start, start_of};
 use crate::replaced_file::{beside, check_plain, folder_of, place};
 use crate::stop_file::is_signal_waiting;
 use log::info;
@@ -27,6 +28,12 @@ const ROUNDS_BEFORE_WORD: u64 = 100;
 /// How often the file of a lock may be replaced by another while it is taken.
 const MOST_FILES: u32 = 100;
 
+/// How often one who looks for the program that has a lock pauses until that has signed it.
+const ROUNDS_BEFORE_OWNER: u64 = 100;
+
+/// What stands behind the name of a program that serves the lines of an input.
+const LINES: &str = " lines";
+
 /// How often those who only look may be in the way of one who takes a lock, and how long each is
 /// given, in milliseconds.
 const MOST_LOOKS: u32 = 1_000;
@@ -43,6 +50,32 @@ pub enum LockFault {
     Failed(#[from] io::Error),
 }
 
+/// The name of a program that has a lock.
+#[derive(Clone, Copy, PartialEq, Eq, Debug)]
+pub struct Owner {
+    pub id: u32,
+    /// When it was started, in ticks since the system was; 0 where that can't be seen.
+    pub started: u64,
+    /// Whether it serves the lines of an input.
+    pub is_of_lines: bool,
+}
+
+impl Owner {
+    /// This program.
+    pub(crate) fn own(rt: &HostRuntime, is_of_lines: bool) -> Owner {
+        Owner {
+            id: process::id(rt.process()),
+            started: own_start(rt).unwrap_or(0),
+            is_of_lines,
+        }
+    }
+
+    /// Whether it goes on.
+    fn is_alive(&self, rt: &HostRuntime) -> bool {
+        start_of(rt, self.id) == Some(self.started)
+    }
+}
+
 /// A lock, held until it is dropped, or the program ends, in whatever way. Programs that it starts
 /// do not have it.
 #[derive(Drop)]
@@ -51,14 +84,20 @@ pub struct LiveLock {
 }
 
 impl LiveLock {
-    /// The lock of a program that goes on with the session of this file, which no other may have.
-    /// None: a device or a folder stands there, in which no session is kept.
-    pub fn take(rt: &HostRuntime, path: &str, waits: bool) -> Result<Option<LiveLock>, LockFault> {
+    /// The lock of a program that goes on with the session of this file, which no other may have,
+    /// and that serves the lines of an input or not. None: a device or a folder stands there, in
+    /// which no session is kept.
+    pub fn take(
+        rt: &HostRuntime,
+        path: &str,
+        waits: bool,
+        is_of_lines: bool,
+    ) -> Result<Option<LiveLock>, LockFault> {
         if !keeps_session(rt, path)? {
             return Ok(None);
         }
         let place = place(rt, path)?;
-        let taken = take_at(rt, &place, path, waits);
+        let taken = take_at(rt, &place, path, waits, is_of_lines);
         drop(place);
         match taken {
             Ok(lock) => Ok(Some(lock)),
@@ -73,10 +112,11 @@ fn take_at(
     place: &PathBuf,
     path: &str,
     waits: bool,
+    is_of_lines: bool,
 ) -> Result<LiveLock, LockFault> {
     check_folder(rt, folder_of(place))?;
     let beside = beside(rt, place, ENDING)?;
-    let taken = take_file(rt, beside.as_str(), path, waits);
+    let taken = take_file(rt, beside.as_str(), path, waits, is_of_lines);
     drop(beside);
     taken
 }
@@ -88,6 +128,7 @@ fn take_file(
     beside: &str,
     path: &str,
     waits: bool,
+    is_of_lines: bool,
 ) -> Result<LiveLock, LockFault> {
     for _ in 0..MOST_FILES {
         let file = open_lock(rt, beside)?;
@@ -101,7 +142,7 @@ fn take_file(
             return Err(fault);
         }
         if stands_at(rt, beside, &file) {
-            sign(rt, &file);
+            sign(&file, Owner::own(rt, is_of_lines));
             return Ok(LiveLock { file });
         }
         drop(file);
@@ -116,23 +157,74 @@ pub fn is_held(rt: &HostRuntime, path: &str) -> io::Result<bool> {
     let beside = beside(rt, &place, ENDING);
     drop(place);
     let beside = beside?;
-    let held = is_locked(rt, beside.as_str());
+    let held = look_at(rt, beside.as_str());
     drop(beside);
-    held
+    Ok(held?.is_held)
 }
 
-/// Whether the file of a lock is locked. One that is missing is not.
-fn is_locked(rt: &HostRuntime, path: &str) -> io::Result<bool> {
+/// The program that goes on with the session of this file. None: none does. One that has the lock
+/// and has not signed it yet is waited for. Where the one that signed it last can't be seen, as
+/// from another container, it is taken for that one.
+pub(crate) fn owner_at(rt: &HostRuntime, path: &str) -> io::Result<Option<Owner>> {
+    let place = place(rt, path)?;
+    let beside = beside(rt, &place, ENDING);
+    drop(place);
+    let beside = beside?;
+    let owner = owner_in(rt, beside.as_str());
+    drop(beside);
+    owner
+}
+
+/// The same by the path of the lock.
+fn owner_in(rt: &HostRuntime, beside: &str) -> io::Result<Option<Owner>> {
+    let mut signed = None;
+    for _ in 0..ROUNDS_BEFORE_OWNER {
+        let found = look_at(rt, beside)?;
+        if !found.is_held {
+            return Ok(None);
+        }
+        signed = found.owner;
+        if let Some(owner) = found.owner {
+            if owner.is_alive(rt) {
+                return Ok(Some(owner));
+            }
+        }
+        thread::sleep(rt, Duration::from_millis(PAUSE));
+    }
+    match signed {
+        Some(owner) => Ok(Some(owner)),
+        None => Err(refused("is held by a program that has not signed its lock")),
+    }
+}
+
+/// What is seen of a lock: whether a program has it, and which one signed it last.
+#[derive(Clone, Copy)]
+struct Look {
+    is_held: bool,
+    owner: Option<Owner>,
+}
+
+/// Looks at the file of a lock. One that is missing is not locked.
+fn look_at(rt: &HostRuntime, path: &str) -> io::Result<Look> {
     check_plain(rt, path)?;
     let file = match File::open(rt, path) {
         Ok(file) => file,
-        Err(error) if error.kind() == ErrorKind::NotFound => return Ok(false),
+        Err(error) if error.kind() == ErrorKind::NotFound => {
+            return Ok(Look {
+                is_held: false,
+                owner: None,
+            });
+        }
         Err(error) => return Err(error),
     };
     let shared = is_shared(&file);
+    let owner = owner_of(&file);
     drop(file);
     match shared {
-        Ok(shared) => Ok(!shared),
+        Ok(shared) => Ok(Look {
+            is_held: !shared,
+            owner,
+        }),
         Err(error) => Err(error),
     }
 }
@@ -151,7 +243,7 @@ fn lock(rt: &HostRuntime, file: &File) -> Result<(), LockFault> {
         }
         thread::sleep(rt, Duration::from_millis(LOOK));
     }
-    Err(LockFault::Busy(owner_of(file)))
+    Err(LockFault::Busy(id_of(owner_of(file))))
 }
 
 /// Whether the lock of a file can be shared, which nobody has alone then.
@@ -166,23 +258,40 @@ fn is_shared(file: &File) -> io::Result<bool> {
     }
 }
 
-/// Writes this program's process id into the file of a lock that it has. Where that fails, no owner
+/// Writes the name of this program into the file of a lock that it has. Where that fails, no owner
 /// is known, and the lock is as good.
-fn sign(rt: &HostRuntime, file: &File) {
-    let id = process::id(rt.process());
+fn sign(file: &File, owner: Owner) {
+    let (id, started) = (owner.id, owner.started);
+    let behind = if owner.is_of_lines { LINES } else { "" };
     if file.set_len(0).is_err() {
         return;
     }
     let mut out = file;
-    let _ = write!(out, "{id}\n");
+    let _ = write!(out, "{id} {started}{behind}\n");
 }
 
-/// The process id in the file of a lock, if it holds one whole.
-fn owner_of(file: &File) -> Option<u32> {
-    let mut buffer = [0; 16];
+/// The program that the file of a lock names, if it holds that whole.
+fn owner_of(file: &File) -> Option<Owner> {
+    let mut buffer = [0; 64];
     let count = file.read_at(&mut buffer, 0).ok()?;
-    let text = str::from_utf8(&buffer[..count.min(16)]).ok()?;
-    text.strip_suffix('\n')?.parse().ok()
+    owner_named(str::from_utf8(&buffer[..count.min(64)]).ok()?)
+}
+
+/// Its process id.
+fn id_of(owner: Option<Owner>) -> Option<u32> {
+    Some(owner?.id)
+}
+
+/// The program that a text names.
+fn owner_named(text: &str) -> Option<Owner> {
+    let line = text.strip_suffix('\n')?;
+    let name = line.strip_suffix(LINES).unwrap_or(line);
+    let (id, started) = name.split_once(' ')?;
+    Some(Owner {
+        id: id.parse().ok()?,
+        started: started.parse().ok()?,
+        is_of_lines: line.len() > name.len(),
+    })
 }
 
 /// Waits until a file can be locked, or a signal waits that calls this program off. Tells after a

@@ -1,15 +1,32 @@
-//! What calls a run off: a file beside that of its session, `FILE.stop` beside `FILE`, once it is
-//! not empty, and a signal that waits. A run that is called off begins no transition more.
+//! What calls a run off: a line of a file beside that of its session, `FILE.stop` beside `FILE`,
+//! and a signal that waits. A run that is called off begins no transition more.
+//!
+//! The line names the program that it means, as the lock of the session does, and where that serves
+//! lines the number of the run. So no later command and no later line is called off by it, and it
+//! may be written before the program looks for it.
 
-use crate::beside_file::{above_streams, open_to_append, path_beside};
+use crate::beside_file::{above_streams, open_there, open_to_append, path_beside, stands_at};
+use crate::live_lock::{Owner, owner_at};
 use crate::replaced_file::clear;
 use crate::umask::STATUS;
 use std::fs::File;
-use std::io::{self, Write};
+use std::io::{self, ErrorKind, Write};
 use std::os::unix::fs::FileExt;
+use std::sync::atomic::{AtomicU64, Ordering};
 
 /// What stands behind the path of a session's file in that of this file.
 const ENDING: &str = ".stop";
+
+/// How a line begins that calls a run off, and one that says which run is under way.
+const STOP: &str = "stop";
+
+const RUN: &str = "run";
+
+/// How many bytes of the file are looked at, from its end.
+const MOST: usize = 4096;
+
+/// How often the file may be removed while a line is written there.
+const MOST_FILES: u32 = 100;
 
 /// What stands there before the signals that wait for the program, as a hexadecimal number.
 const WAITING: &[u8] = b"ShdPnd:\t";
@@ -23,35 +40,52 @@ const CALLING_OFF: u64 = 0x4003;
 pub struct StopFile {
     file: File,
     status: Option<File>,
+    owner: Owner,
+    /// The number of the run that is under way, or was last; always 0 of a program that serves no
+    /// lines.
+    run: AtomicU64,
 }
 
 impl StopFile {
-    /// The file for the session that is kept in the file of this path, emptied. The program has
-    /// the lock of that session.
-    pub fn open(rt: &HostRuntime, path: &str) -> io::Result<StopFile> {
+    /// The file for the session that is kept in the file of this path. The program has the lock of
+    /// that session, and serves the lines of an input or not.
+    pub fn open(rt: &HostRuntime, path: &str, is_of_lines: bool) -> io::Result<StopFile> {
         let file = open_to_append(rt, path, ENDING)?;
-        match file.set_len(0) {
-            Ok(()) => Ok(StopFile {
-                file,
-                status: account(rt).ok(),
-            }),
-            Err(error) => {
-                drop(file);
-                Err(error)
-            }
+        Ok(StopFile {
+            file,
+            status: account(rt).ok(),
+            owner: Owner::own(rt, is_of_lines),
+            run: AtomicU64::new(0),
+        })
+    }
+
+    /// Says which run is under way, where lines are served: it begins.
+    pub fn begin(&self) {
+        if self.owner.is_of_lines {
+            let run = self.run.load(Ordering::SeqCst).saturating_add(1);
+            self.run.store(run, Ordering::SeqCst);
+            let _ = self.file.set_len(0);
+            let _ = write_line(&self.file, RUN, &self.owner, run);
+        }
+    }
+
+    /// Says that no run is under way, where lines are served.
+    pub fn end(&self) {
+        if self.owner.is_of_lines {
+            let _ = self.file.set_len(0);
         }
     }
 
     /// Whether the run is called off.
     pub fn is_called_off(&self) -> bool {
-        self.is_written() || self.is_signalled()
+        self.is_named() || self.is_signalled()
     }
 
-    /// Whether the file is not empty.
-    fn is_written(&self) -> bool {
-        match self.file.metadata() {
-            Ok(found) => found.len() > 0,
-            Err(_) => false,
+    /// Whether a line of the file calls the run off.
+    fn is_named(&self) -> bool {
+        match number_in(&self.file, STOP, &self.owner) {
+            Some(run) => run == self.run.load(Ordering::SeqCst),
+            None => false,
         }
     }
 
@@ -61,6 +95,52 @@ impl StopFile {
             Some(status) => is_told_in(status),
             None => false,
         }
+    }
+}
+
+/// Writes a line on a run of a program, by one write.
+fn write_line(file: &File, word: &str, owner: &Owner, run: u64) -> io::Result<()> {
+    let (id, started) = (owner.id, owner.started);
+    let mut out = file;
+    write!(out, "{word} {id} {started} {run}\n")
+}
+
+/// The number of a run in the last line of a file that begins with this word and names this
+/// program.
+fn number_in(file: &File, word: &str, owner: &Owner) -> Option<u64> {
+    let length = file.metadata().ok()?.len();
+    if length == 0 {
+        return None;
+    }
+    let mut buffer = [0; MOST];
+    let count = file
+        .read_at(&mut buffer, length.saturating_sub(MOST as u64))
+        .ok()?;
+    last_number(&buffer[..count.min(MOST)], word, owner)
+}
+
+/// The same in the text of the file.
+fn last_number(text: &[u8], word: &str, owner: &Owner) -> Option<u64> {
+    let mut last = None;
+    for line in text.split(|byte| *byte == b'\n') {
+        if let Some(run) = number_by(line, word, owner) {
+            last = Some(run);
+        }
+    }
+    last
+}
+
+/// The same in a line.
+fn number_by(line: &[u8], word: &str, owner: &Owner) -> Option<u64> {
+    let mut words = str::from_utf8(line).ok()?.split(' ');
+    let is_so = words.next()? == word
+        && words.next()?.parse() == Ok(owner.id)
+        && words.next()?.parse() == Ok(owner.started);
+    let run = words.next()?.parse().ok()?;
+    if is_so && words.next().is_none() {
+        Some(run)
+    } else {
+        None
     }
 }
 
@@ -90,10 +170,111 @@ fn is_told_in(status: &File) -> bool {
     }
 }
 
-/// Calls off the command that goes on with the session in the file of this path.
-pub fn call_off(rt: &HostRuntime, path: &str) -> io::Result<()> {
-    let mut file = open_to_append(rt, path, ENDING)?;
-    file.write_all(b"stop\n")
+/// Calls off the command that goes on with the session in the file of this path, and returns
+/// whether there is one: a program that serves lines has one only while it runs a line. No other
+/// command is called off, and this one begins no transition more.
+pub fn call_off(rt: &HostRuntime, path: &str) -> io::Result<bool> {
+    let Some(owner) = owner_at(rt, path)? else {
+        return Ok(false);
+    };
+    for _ in 0..MOST_FILES {
+        let beside = path_beside(rt, path, ENDING)?;
+        let called = call_off_at(rt, path, beside.as_str(), &owner);
+        drop(beside);
+        match called? {
+            Called::Off => return Ok(true),
+            Called::Idle => return Ok(false),
+            Called::Removed => {}
+        }
+        if owner_at(rt, path)? != Some(owner) {
+            return Ok(true);
+        }
+    }
+    Ok(true)
+}
+
+/// What came of a line that calls a run off.
+#[derive(Clone, Copy)]
+enum Called {
+    /// It stands there.
+    Off,
+    /// No run is under way.
+    Idle,
+    /// It stands in a file that was removed meanwhile, as by a command that is over.
+    Removed,
+}
+
+/// Calls off the run of a program by a line of the file at a path.
+fn call_off_at(rt: &HostRuntime, path: &str, beside: &str, owner: &Owner) -> io::Result<Called> {
+    let file = match open_for(rt, path, beside, owner) {
+        Ok(file) => file,
+        Err(error) if error.kind() == ErrorKind::NotFound => return Ok(Called::Idle),
+        Err(error) => return Err(error),
+    };
+    let run = if owner.is_of_lines {
+        number_in(&file, RUN, owner)
+    } else {
+        Some(0)
+    };
+    let Some(run) = run else {
+        drop(file);
+        return Ok(Called::Idle);
+    };
+    let written = write_line(&file, STOP, owner, run);
+    let stands = stands_at(rt, beside, &file);
+    drop(file);
+    written?;
+    Ok(if stands { Called::Off } else { Called::Removed })
+}
+
+/// Opens the file, and makes it where it is missing, unless the program makes it before its first
+/// run.
+fn open_for(rt: &HostRuntime, path: &str, beside: &str, owner: &Owner) -> io::Result<File> {
+    if owner.is_of_lines {
+        open_there(rt, beside)
+    } else {
+        open_to_append(rt, path, ENDING)
+    }
+}
+
+/// Removes what stands in the place of the file for a session, unless it calls this program off,
+/// which has the lock of that session, and serves the lines of an input or not.
+pub fn clear_others(rt: &HostRuntime, path: &str, is_of_lines: bool) -> io::Result<()> {
+    let beside = path_beside(rt, path, ENDING)?;
+    let owner = Owner::own(rt, is_of_lines);
+    let cleared = match open_there(rt, beside.as_str()) {
+        Ok(file) => {
+            let cleared = clear_unless_named(rt, path, beside.as_str(), &file, &owner);
+            drop(file);
+            cleared
+        }
+        Err(_) => clear(rt, beside.as_str()),
+    };
+    drop(beside);
+    cleared
+}
+
+/// Removes the file that is open, unless it calls off a program that serves no lines. A line that
+/// is written before it is removed goes into the next one. Who writes later sees that it is
+/// removed.
+fn clear_unless_named(
+    rt: &HostRuntime,
+    path: &str,
+    beside: &str,
+    file: &File,
+    owner: &Owner,
+) -> io::Result<()> {
+    if number_in(file, STOP, owner) == Some(0) {
+        return Ok(());
+    }
+    clear(rt, beside)?;
+    if number_in(file, STOP, owner) == Some(0) {
+        let next = open_to_append(rt, path, ENDING)?;
+        let written = write_line(&next, STOP, owner, 0);
+        drop(next);
+        return written;
+    }
+    Ok(())
 }
 
 /// Removes the file for the session in the file of this path, if there is one.

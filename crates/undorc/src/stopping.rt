@@ -4,16 +4,13 @@ use log::info;
 use rc_launch::frontend::tell_file;
 use rc_streams::ending::{DONE, REFUSED};
 use rc_streams::messages::{MESSAGE, Messages};
-use rc_streams::{live_lock, stop_file};
+use rc_streams::stop_file;
 
 /// Calls off the command that goes on with the session in this file, and returns the status: 0
-/// where there is one, 1 where none is under way.
+/// where there is one, which begins no transition more; 1 where none is under way.
 pub fn stop(rt: &HostRuntime, path: &str) -> u8 {
-    match live_lock::is_held(rt, path) {
-        Ok(true) => match stop_file::call_off(rt, path) {
-            Ok(()) => DONE,
-            Err(error) => tell_file(rt, path, &error),
-        },
+    match stop_file::call_off(rt, path) {
+        Ok(true) => DONE,
         Ok(false) => {
             info!(Messages(rt); target: MESSAGE, "no command is under way on {path}");
             REFUSED

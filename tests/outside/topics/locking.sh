@@ -89,8 +89,9 @@ expect 111 '' 'undorc: Busy\n' '' change s2 -b base -x none -l live
 expect 111 '' 'undorc: Busy\n' '' undo -b base -x none -l live
 # Who has it is named.
 "$program" undo -b base -x none -l live < /dev/null > out 2> told || true
-grep -cx "  process $(cat live.lock) goes on with live" told > out
-tr '\0' ' ' < "/proc/$(cat live.lock)/cmdline" | grep -o 'session -b base -x none -l live' >> out
+read -r owner _ < live.lock
+grep -cx "  process $owner goes on with live" told > out
+tr '\0' ' ' < "/proc/$owner/cmdline" | grep -o 'session -b base -x none -l live' >> out
 wants '1\nsession -b base -x none -l live\n' ''
 : > err
 echo 0 > status
@@ -197,9 +198,9 @@ echo 0 > status
 wants 'raised s1\nok\n' ''
 judge 'a kept session whose standard error is closed' 0
 wants '1\n' ''
-grep -cxE '[0-9]+' live.lock > out
-[ "$(wc -l < live.lock)" -eq 1 ] || echo 'more than a process id' >> out
-judge 'the locked file has a process id and nothing else' 0
+grep -cxE '[0-9]+ [0-9]+ lines' live.lock > out
+[ "$(wc -l < live.lock)" -eq 1 ] || echo 'more than a name' >> out
+judge 'the locked file names its owner and nothing else' 0
 
 # Whoever holds the lock: a look needs none, and a session is refused, or waits.
 if ! command -v flock > /dev/null; then

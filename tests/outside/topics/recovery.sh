@@ -395,6 +395,60 @@ echo "$ended" >> out
 wants 'raised a b slow top\nok\n143\n' ''
 judge 'orderly that waits for another where env blocks nothing' 0
 
+# A command is called off from the moment on at which it has the lock, also before it has opened its other files.
+if command -v strace > /dev/null && command -v flock > /dev/null; then
+    rm -f live ran go begun
+    echo 0 > status
+    ASAN_OPTIONS=detect_leaks=0 strace -f -o /dev/null -P live.run -e inject=openat:delay_enter=400000 \
+        "$program" change -w 1 b -b base -l live < /dev/null > out 2> err &
+    called=$!
+    until [ -s live.lock ] && ! flock -n live.lock true; do sleep 0.02; done
+    expect 0 '' '' '' stop -l live
+    wait "$called" || echo $? > status
+    "$program" live -b base -l live > out
+    wants 'live\nok\n' ''
+    : > err
+    echo 0 > status
+    judge 'a command that is called off as soon as it has the lock' 0
+    holds 'and nothing was started' test ! -e ran
+else
+    skip 'a command that is called off as soon as it has the lock, which takes strace and flock'
+fi
+
+# What names another command calls none off: here what was left behind by one that is over.
+rm -f live ran go begun
+echo 0 > status
+"$program" change -w 1 top -b base -l live < /dev/null > out 2> err &
+called=$!
+until_begun
+printf 'stop 1 1 0\nstop\n' >> live.stop
+: > go
+wait "$called" || echo $? > status
+wants 'raised a b slow top\nok\n' ''
+judge 'a line that calls off another command' 0
+printf 'stop 1 1 0\nstop\n' > live.stop
+expect 0 'lowered a b slow top\nok\n' '' '' undo -b base -l live
+holds 'what called others off is removed' test ! -e live.stop
+
+# A line of a session is called off, and no later one. Between two lines there is none.
+rm -f live ran go begun
+begins -b base -l live -w 1
+tell '-t 60000 change top'
+until_begun
+"$program" stop -l live || echo "$?" >> out
+: > go
+hear
+ended=0
+"$program" stop -l live 2> told || ended=$?
+echo "$ended" >> out
+cat told >> out
+tell '-t 60000 change top'
+hear
+tell '-t 60000 undo'
+hear
+wants 'raised a b slow\nuntried top\nok\n1\nundorc: no command is under way on live\nraised top\nok\nlowered top\nok\n' ''
+ends 'a line of a session that is called off' 0
+
 # A limit of 0 is none, and such a command can't be called off.
 rm -f live ran go begun
 echo 0 > status

@@ -182,7 +182,7 @@ pub(crate) fn is_telling(rt: &HostRuntime, db: &Db) -> Result<bool, NoMem> {
 
 /// Whether a file in which no session is kept yet can be locked.
 pub(crate) fn is_locked(rt: &HostRuntime) -> Result<bool, NoMem> {
-    match LiveLock::take(rt, "live", false) {
+    match LiveLock::take(rt, "live", false, false) {
         Ok(lock) => {
             let is_locked = lock.is_some();
             drop(lock);
