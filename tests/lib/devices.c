@@ -111,6 +111,14 @@ ssize_t write(int fd, const void *from, size_t bytes)
     return count(of(fd)) ? -1 : next(fd, from, piece(of(fd), bytes));
 }
 
+/* The room that is reserved in a file is one call for each block. */
+ssize_t pwrite(int fd, const void *from, size_t bytes, off_t place)
+{
+    NEXT(pwrite);
+    size_t part = bytes > 0 && *(const char *)from == ' ' ? bytes : piece(of(fd), bytes);
+    return count(of(fd)) ? -1 : next(fd, from, part, place);
+}
+
 /* One part of several is enough. */
 ssize_t writev(int fd, const struct iovec *parts, int many)
 {

@@ -14,6 +14,7 @@ The words are those of the program, which reads the file `in`. The names, beside
     keeps    the word before the name of that file, where it is not `-l`
     log      a file with the text of the run log beside that file, which is to stay as it is
     lanes    how many runs are made side by side
+    harmless how many calls in a row a command does at most whose failure changes nothing
 Each run has files of its own, which are removed after it.
 """
 
@@ -25,7 +26,7 @@ from ended import Rules, lines_of
 
 FLAGS = ("alone", "answers", "scripts", "kept", "fresh", "lost", "notes")
 USUAL = {"ways": "", "from": "0", "device": "", "does": "", "least": "1", "runs": "", "file": "", "keeps": "-l",
-         "log": "", "lanes": "4", "faults": "", "told": "", "read": "", "written": ""}
+         "log": "", "lanes": "4", "harmless": "9", "faults": "", "told": "", "read": "", "written": ""}
 # More runs than these are none that come to an end.
 MOST = 5000
 AROUND = dict(os.environ)
@@ -135,7 +136,7 @@ class Run:
     def is_last(self, well):
         """Whether no run is to come after it; `well` is how many ended well before it."""
         if not self.options["way"]:
-            return well >= 9 and self.is_well()
+            return well >= int(self.options["harmless"]) and self.is_well()
         grown = self.grown[self.options["way"] == "THREAD":]
         return not grown or int(self.options["from"]) + self.number > grown[0]
 

@@ -49,8 +49,9 @@ pub(crate) fn note_of<'a>(
     }
 }
 
-// Reads the run log of a session, and enters what it leaves. What calls off other commands is
-// removed. The second value: whether that was the first step of the update that is asked for.
+// Reads the run log of a session, and enters what it leaves. The room that is reserved in it is
+// given back, and what calls off other commands is removed. The second value: whether that was the
+// first step of the update that is asked for.
 fn recover<'a>(
     rt: &'a HostRuntime,
     path: &'a str,
@@ -59,6 +60,7 @@ fn recover<'a>(
     ensures recovered { IfOk result (λ found. IsRecovered loaded.now path.entry found.0) }
     ensures again { IfOk result (λ found. IsTrue found.1 ↔ GoesOn loaded.now found.0) }
 {
+    let _ = run_file::give_room(rt, path);
     let log = match LogText::read(rt, path) {
         Ok(log) => log,
         Err(fault) => return Err(fault),

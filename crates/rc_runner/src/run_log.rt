@@ -9,7 +9,7 @@ use rc_livetext::write_live;
 use rc_names::Names;
 use rc_script::{event_line, step_line};
 use rc_session::{Command, Session};
-use rc_streams::run_file::RunFile;
+use rc_streams::run_file::{Room, RunFile};
 use std::alloc::Global;
 
 /// The log of a run: the text of the session from which it began, its step, and a line for each
@@ -31,12 +31,13 @@ impl<'a> RunLog<'a> {
         Ok(RunLog { alloc, file, names })
     }
 
-    /// Begins the log of a command from where a session stands. An edit has no run, and no log.
+    /// Begins the log of a command from where a session stands, with room for all of its lines. An
+    /// edit has no run, and no log.
     pub(crate) fn begin(&self, session: &Session, command: &Command)
         requires { session.now.begun ≡ false }
     {
         if let Ok(Some(head)) = head_of(self.alloc, session, command) {
-            self.file.begin(&head);
+            self.file.begin(&head, room_of(&self.names));
             drop(head);
         }
     }
@@ -57,6 +58,15 @@ impl<'a> RunLog<'a> {
     pub(crate) fn end(&self) {
         let _ = self.file.clear();
     }
+}
+
+/// The room for the runs of services of these names.
+fn room_of(names: &Names) -> Room {
+    let mut length: u64 = 0;
+    for service in 0..names.len() {
+        length = length.saturating_add(names.name_of(service).text().len() as u64);
+    }
+    Room::of(names.len() as u64, length)
 }
 
 /// The text of a session, and the line of a command. None: the command has no run.

@@ -5,12 +5,19 @@
 //! written or cut.
 
 use crate::replaced_file::{beside, check_plain, place};
-use std::fs::{self, File, Metadata};
+use std::fs::{self, File, Metadata, OpenOptions};
 use std::io::{self, ErrorKind};
 use std::os::unix::fs::{MetadataExt, OpenOptionsExt};
 
 /// The rights of a file that is made: its owner's alone.
 pub(crate) const RIGHTS: u32 = 0o600;
+
+/// How a file is opened: to read and append, or to read and write at any place.
+#[derive(Clone, Copy)]
+pub(crate) enum Access {
+    Append,
+    Write,
+}
 
 /// How often a file is opened or made while another program makes or removes it.
 const MOST_TRIES: u32 = 100;
@@ -26,29 +33,39 @@ pub(crate) fn path_beside(rt: &HostRuntime, path: &str, ending: &str) -> io::Res
 /// Opens the file beside a session's file that has this ending, to read and append, and makes it
 /// where it is missing.
 pub(crate) fn open_to_append(rt: &HostRuntime, path: &str, ending: &str) -> io::Result<File> {
+    open_beside(rt, path, ending, Access::Append)
+}
+
+/// The same, to read and write at any place.
+pub(crate) fn open_to_write(rt: &HostRuntime, path: &str, ending: &str) -> io::Result<File> {
+    open_beside(rt, path, ending, Access::Write)
+}
+
+/// Opens the file beside a session's file that has this ending, and makes it where it is missing.
+fn open_beside(rt: &HostRuntime, path: &str, ending: &str, access: Access) -> io::Result<File> {
     let beside = path_beside(rt, path, ending)?;
-    let opened = open_own(rt, beside.as_str());
+    let opened = open_own(rt, beside.as_str(), access);
     drop(beside);
     opened
 }
 
-/// Opens a file of this user's to read and append, and makes it where it is missing. It is no
-/// stream of the program, also where one of those was closed: its number is above theirs.
-pub(crate) fn open_own(rt: &HostRuntime, path: &str) -> io::Result<File> {
+/// Opens a file of this user's, and makes it where it is missing. It is no stream of the program,
+/// also where one of those was closed: its number is above theirs.
+pub(crate) fn open_own(rt: &HostRuntime, path: &str, access: Access) -> io::Result<File> {
     for _ in 0..MOST_TRIES {
-        match open_or_make(rt, path) {
+        match open_or_make(rt, path, access) {
             // Another program has made it or removed it in between.
             Err(error) if is_passing(error.kind()) => {}
             opened => return opened,
         }
     }
-    open_or_make(rt, path)
+    open_or_make(rt, path, access)
 }
 
 /// Opens a file, or makes it where it is missing.
-fn open_or_make(rt: &HostRuntime, path: &str) -> io::Result<File> {
-    match open_there(rt, path) {
-        Err(error) if error.kind() == ErrorKind::NotFound => make(rt, path),
+fn open_or_make(rt: &HostRuntime, path: &str, access: Access) -> io::Result<File> {
+    match open_there(rt, path, access) {
+        Err(error) if error.kind() == ErrorKind::NotFound => make(rt, path, access),
         opened => opened,
     }
 }
@@ -58,12 +75,11 @@ fn is_passing(kind: ErrorKind) -> bool {
     matches!(kind, ErrorKind::AlreadyExists | ErrorKind::NotFound)
 }
 
-/// Opens a file of this user's that is there, to read and append. A pipe is not waited for, since
-/// it is opened to read as well.
-pub(crate) fn open_there(rt: &HostRuntime, path: &str) -> io::Result<File> {
+/// Opens a file of this user's that is there. A pipe is not waited for, since it is opened to read
+/// as well.
+pub(crate) fn open_there(rt: &HostRuntime, path: &str, access: Access) -> io::Result<File> {
     check_plain(rt, path)?;
-    let mut options = File::options();
-    options.read(true).append(true);
+    let mut options = options_for(access);
     let opened = options.open(rt, path)?;
     match check_own(rt, path, &opened) {
         Ok(()) => above_streams(opened),
@@ -75,14 +91,20 @@ pub(crate) fn open_there(rt: &HostRuntime, path: &str) -> io::Result<File> {
 }
 
 /// Makes a file that is not there yet.
-fn make(rt: &HostRuntime, path: &str) -> io::Result<File> {
-    let mut options = File::options();
-    options
-        .read(true)
-        .append(true)
-        .create_new(true)
-        .mode(RIGHTS);
+fn make(rt: &HostRuntime, path: &str, access: Access) -> io::Result<File> {
+    let mut options = options_for(access);
+    options.create_new(true).mode(RIGHTS);
     above_streams(options.open(rt, path)?)
+}
+
+/// How a file is opened.
+fn options_for(access: Access) -> OpenOptions {
+    let mut options = File::options();
+    match access {
+        Access::Append => options.read(true).append(true),
+        Access::Write => options.read(true).write(true),
+    };
+    options
 }
 
 /// The same file by a number that is none of the program's streams.

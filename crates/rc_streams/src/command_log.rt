@@ -1,6 +1,6 @@
 //! The log of the commands that altered a session: `FILE.log` beside `FILE`, where it is there.
 
-use crate::beside_file::{open_there, path_beside};
+use crate::beside_file::{Access, open_there, path_beside};
 use crate::whole_file;
 use std::fs::File;
 use std::io::{self, ErrorKind};
@@ -11,7 +11,7 @@ const ENDING: &str = ".log";
 /// Opens the log to append. None: there is none.
 pub fn open(rt: &HostRuntime, path: &str) -> io::Result<Option<File>> {
     let beside = path_beside(rt, path, ENDING)?;
-    let opened = open_there(rt, beside.as_str());
+    let opened = open_there(rt, beside.as_str(), Access::Append);
     drop(beside);
     match opened {
         Ok(file) => Ok(Some(file)),

@@ -2,7 +2,7 @@
 //! It is a lock on a file beside it, which is made where it is missing, and stays. Its owner alone
 //! may open it, and it names the program that locked it last.
 
-use crate::beside_file::{RIGHTS, check_folder, open_own, refused, stands_at};
+use crate::beside_file::{Access, RIGHTS, check_folder, open_own, refused, stands_at};
 use crate::messages::{MESSAGE, Messages};
 use crate::process_start::{own_start, start_of};
 use crate::replaced_file::{beside, check_plain, folder_of, place};
@@ -325,7 +325,7 @@ fn keeps_session(rt: &HostRuntime, path: &str) -> io::Result<bool> {
 /// Opens the file that is locked, and makes it where it is missing. Its owner alone may open it:
 /// who could would hold every command up.
 fn open_lock(rt: &HostRuntime, path: &str) -> io::Result<File> {
-    let file = open_own(rt, path)?;
+    let file = open_own(rt, path, Access::Append)?;
     let _ = file.set_permissions(Permissions::from_mode(RIGHTS));
     Ok(file)
 }

@@ -64,7 +64,7 @@ fn create(rt: &HostRuntime, path: &str) -> io::Result<File> {
 }
 
 /// Writes as many bytes as a disk must have room for before anything is done.
-pub(crate) fn write_room(file: &File) -> io::Result<()> {
+fn write_room(file: &File) -> io::Result<()> {
     let mut out = file;
     out.write_all(&[b'\n'; ROOM])
 }

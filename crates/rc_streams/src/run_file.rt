@@ -1,22 +1,73 @@
 //! The file beside that of a session in which a run is logged while it is under way: `FILE.run`
 //! beside `FILE`. Who has the lock of `FILE` makes it and removes it.
+//!
+//! Before a run begins, its log gets the room that it may need, and that of the text which is to
+//! replace the file of the session: blanks behind its head. They are no line, since no newline ends
+//! them. Each line is written over blanks, within a page, so that a program that is killed leaves
+//! all of it or a part that no newline ends, or nothing.
 
-use crate::beside_file::{check_there, open_to_append, path_beside, refused};
-use crate::replaced_file::{check_plain, clear, write_room};
+ghost use Rattle.std.specs.Prelude.{◌≤◌};
+
+use crate::beside_file::{
+    Access, check_there, open_there, open_to_append, open_to_write, path_beside, refused,
+};
+use crate::replaced_file::{check_plain, clear};
 use crate::umask::new_rights;
 use crate::whole_file;
 use std::fs::{self, File};
 use std::io::{self, ErrorKind, Write};
-use std::os::unix::fs::MetadataExt;
-use std::sync::atomic::{AtomicBool, Ordering};
+use std::os::unix::fs::{FileExt, MetadataExt};
+use std::sync::atomic::{AtomicBool, AtomicU64, Ordering};
 
 /// What stands behind the path of a session's file in that of its run log.
 const ENDING: &str = ".run";
 
-/// A run log that is open to append.
+/// What a write of the system moves at once.
+const PAGE: u64 = 4096;
+
+/// How many bytes the two lines of a service have at most, without its name.
+const LINES: u64 = 32;
+
+/// How many bytes a file is read or filled by at once.
+const PIECE: usize = 4096;
+
+/// The room for the runs of a session: how many bytes its services may add to a log, and to a text.
+#[derive(Clone, Copy)]
+pub struct Room {
+    lines: u64,
+    names: u64,
+}
+
+impl Room {
+    /// The room for so many services, whose names have so many bytes.
+    pub fn of(services: u64, names: u64) -> Room {
+        let lines = services
+            .saturating_mul(LINES)
+            .saturating_add(names.saturating_mul(2));
+        Room {
+            // A line that does not fit on a page any more begins the next one.
+            lines: lines.saturating_add(lines / 10).saturating_add(PAGE),
+            names: names.saturating_add(services),
+        }
+    }
+
+    /// How many bytes are reserved behind the text of a session: the lines of a run, and that text
+    /// with one state more, whose bundles are at most those that stand there.
+    fn behind(self, text: u64) -> u64 {
+        self.lines
+            .saturating_add(self.names)
+            .saturating_add(text.saturating_mul(2))
+            .saturating_add(PAGE)
+    }
+}
+
+/// A run log that is open.
 #[derive(Drop)]
 pub struct RunFile {
     file: File,
+    /// Where the next line goes, and where the room ends that was reserved.
+    place: AtomicU64,
+    end: AtomicU64,
     /// Whether a run has begun, and each of its lines so far was written whole.
     is_open: AtomicBool,
     /// Whether the log of a run stands there.
@@ -26,18 +77,19 @@ pub struct RunFile {
 }
 
 impl RunFile {
-    /// The run log of the session that is kept in the file of this path. It may be read by whom
-    /// that file may be read by, or would be, where it is not there yet.
-    pub fn open(rt: &HostRuntime, path: &str) -> io::Result<RunFile> {
-        let file = open_to_append(rt, path, ENDING)?;
-        if let Err(error) = check_room(&file) {
+    /// The run log of the session that is kept in the file of this path, where a disk has this
+    /// room for a run of it. It may be read by whom that file may be read by, or would be, where it
+    /// is not there yet.
+    pub fn open(rt: &HostRuntime, path: &str, room: Room) -> io::Result<RunFile> {
+        let file = open_to_write(rt, path, ENDING)?;
+        let (rights, length) = match fs::metadata(rt, path) {
+            Ok(found) => (found.permissions(), found.len()),
+            Err(_) => (new_rights(rt), 0),
+        };
+        if let Err(error) = check_room(&file, length.saturating_add(room.behind(length))) {
             drop(file);
             return Err(error);
         }
-        let rights = match fs::metadata(rt, path) {
-            Ok(found) => found.permissions(),
-            Err(_) => new_rights(rt),
-        };
         let _ = file.set_permissions(rights);
         let has_run = match file.metadata() {
             Ok(found) => found.len() > 0,
@@ -45,37 +97,77 @@ impl RunFile {
         };
         Ok(RunFile {
             file,
+            place: AtomicU64::new(0),
+            end: AtomicU64::new(0),
             is_open: AtomicBool::new(false),
             has_run: AtomicBool::new(has_run),
             has_failed: AtomicBool::new(false),
         })
     }
 
-    /// Begins anew with these bytes. Where the log of an earlier run can't be emptied, nothing is
-    /// written: the next recovery would find the new run behind the earlier one, and enter neither.
-    pub fn begin(&self, head: &[u8]) {
-        if !self.clear() {
-            self.has_failed.store(true, Ordering::SeqCst);
+    /// Begins anew with these bytes, the text of a session and a step, and reserves room. Where the
+    /// log of an earlier run can't be emptied, nothing is written: the next recovery would find the
+    /// new run behind the earlier one, and enter neither. Where there is no room, nothing stays,
+    /// and no line is written.
+    pub fn begin(&self, head: &[u8], room: Room) {
+        let length = head.len() as u64;
+        let end = length.saturating_add(room.behind(length));
+        if !self.clear() || self.file.write_all_at(head, 0).is_err() {
+            self.fail();
             return;
         }
-        self.is_open.store(true, Ordering::SeqCst);
         self.has_run.store(true, Ordering::SeqCst);
-        self.append(head);
+        if fill(&self.file, length, end).is_err() {
+            let _ = self.clear();
+            self.fail();
+            return;
+        }
+        self.place.store(length, Ordering::SeqCst);
+        self.end.store(end, Ordering::SeqCst);
+        self.is_open.store(true, Ordering::SeqCst);
     }
 
-    /// Appends a line by one write, and returns whether all of it was written. After a line that
-    /// was not, nothing more is: it would stand behind half a line.
+    /// Writes a line behind those before it, and returns whether all of it was written. After a
+    /// line that was not, nothing more is.
     pub fn append(&self, line: &[u8]) -> bool {
         if !self.is_open.load(Ordering::SeqCst) {
             return false;
         }
-        let mut file = &self.file;
-        if file.write_all(line).is_ok() {
-            return true;
+        if let Some(place) = self.take_place(line.len() as u64) {
+            if self.file.write_all_at(line, place).is_ok() {
+                return true;
+            }
         }
+        self.fail();
+        false
+    }
+
+    /// Notes that a line could not be written.
+    fn fail(&self) {
         self.is_open.store(false, Ordering::SeqCst);
         self.has_failed.store(true, Ordering::SeqCst);
-        false
+    }
+
+    /// Takes the place of a line of so many bytes, which no other line gets. None: there is no room
+    /// any more.
+    fn take_place(&self, length: u64) -> Option<u64> {
+        for _ in 0..u64::MAX {
+            let now = self.place.load(Ordering::SeqCst);
+            let place = place_from(now, length);
+            let behind = place.saturating_add(length);
+            if behind > self.end.load(Ordering::SeqCst) {
+                return None;
+            }
+            let (taken, failed) = (Ordering::SeqCst, Ordering::SeqCst);
+            if self
+                .place
+                .compare_exchange(now, behind, taken, failed)
+                .is_ok()
+            {
+                return Some(place);
+            }
+        }
+        None
     }
 
     /// Empties the log, and returns whether that could be done. Until the next run begins, nothing
@@ -100,14 +192,91 @@ impl RunFile {
     }
 }
 
-/// Fails where a disk has no room for a log. Where the log of an earlier run stands, that is left.
-fn check_room(file: &File) -> io::Result<()> {
+/// The first place from which a line of so many bytes does not go over the end of a page.
+fn place_from(place: u64, length: u64) -> u64
+    ensures later { place ≤ result }
+{
+    let left = PAGE - place % PAGE;
+    if length <= left {
+        place
+    } else {
+        place.saturating_add(left)
+    }
+}
+
+/// Fails where a disk has no room for so many bytes. Where the log of an earlier run stands, that
+/// is left.
+fn check_room(file: &File, room: u64) -> io::Result<()> {
     if file.metadata()?.len() > 0 {
         return Ok(());
     }
-    let written = write_room(file);
+    let filled = fill(file, 0, room);
     file.set_len(0)?;
-    written
+    filled
+}
+
+/// Fills a file with blanks, from a place to its new end.
+fn fill(file: &File, from: u64, end: u64) -> io::Result<()> {
+    let blanks = [b' '; PIECE];
+    let mut place = from;
+    for _ in 0..u64::MAX {
+        if place >= end {
+            break;
+        }
+        let count = (end - place).min(PIECE as u64) as usize;
+        file.write_all_at(&blanks[..count], place)?;
+        place = place.saturating_add(count as u64);
+    }
+    Ok(())
+}
+
+/// Gives the room back that is reserved in the run log of a session's file, if there is one: that
+/// file is to be replaced, and no line is written any more.
+pub fn give_room(rt: &HostRuntime, path: &str) -> io::Result<()> {
+    let beside = path_beside(rt, path, ENDING)?;
+    let opened = open_there(rt, beside.as_str(), Access::Write);
+    drop(beside);
+    let file = match opened {
+        Ok(file) => file,
+        Err(error) if error.kind() == ErrorKind::NotFound => return Ok(()),
+        Err(error) => return Err(error),
+    };
+    let given = match unfilled(&file) {
+        Ok(end) => file.set_len(end),
+        Err(error) => Err(error),
+    };
+    drop(file);
+    given
+}
+
+/// How long a file is without the blanks at its end.
+fn unfilled(file: &File) -> io::Result<u64> {
+    let mut end = file.metadata()?.len();
+    let mut buffer = [0; PIECE];
+    for _ in 0..u64::MAX {
+        if end == 0 {
+            break;
+        }
+        let start = (end - 1) / PAGE * PAGE;
+        let count = file.read_at(&mut buffer, start)?;
+        let used = used_in(&buffer[..count.min(PIECE)]);
+        if used > 0 {
+            return Ok(start.saturating_add(used as u64));
+        }
+        end = start;
+    }
+    Ok(0)
+}
+
+/// How many bytes there are without the blanks at the end.
+fn used_in(bytes: &[u8]) -> usize {
+    let mut used = 0;
+    for place in 0..bytes.len() {
+        if bytes[place] != b' ' {
+            used = place + 1;
+        }
+    }
+    used
 }
 
 /// The bytes of the run log of a session's file. None: there is none. It belongs to the user who

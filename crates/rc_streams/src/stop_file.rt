@@ -5,7 +5,9 @@
 //! lines the number of the run. So no later command and no later line is called off by it, and it
 //! may be written before the program looks for it.
 
-use crate::beside_file::{above_streams, open_there, open_to_append, path_beside, stands_at};
+use crate::beside_file::{
+    Access, above_streams, open_there, open_to_append, path_beside, stands_at,
+};
 use crate::live_lock::{Owner, owner_at};
 use crate::replaced_file::clear;
 use crate::umask::STATUS;
@@ -231,7 +233,7 @@ fn call_off_at(rt: &HostRuntime, path: &str, beside: &str, owner: &Owner) -> io:
 /// run.
 fn open_for(rt: &HostRuntime, path: &str, beside: &str, owner: &Owner) -> io::Result<File> {
     if owner.is_of_lines {
-        open_there(rt, beside)
+        open_there(rt, beside, Access::Append)
     } else {
         open_to_append(rt, path, ENDING)
     }
@@ -242,7 +244,7 @@ fn open_for(rt: &HostRuntime, path: &str, beside: &str, owner: &Owner) -> io::Re
 pub fn clear_others(rt: &HostRuntime, path: &str, is_of_lines: bool) -> io::Result<()> {
     let beside = path_beside(rt, path, ENDING)?;
     let owner = Owner::own(rt, is_of_lines);
-    let cleared = match open_there(rt, beside.as_str()) {
+    let cleared = match open_there(rt, beside.as_str(), Access::Append) {
         Ok(file) => {
             let cleared = clear_unless_named(rt, path, beside.as_str(), &file, &owner);
             drop(file);

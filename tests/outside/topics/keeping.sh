@@ -15,7 +15,7 @@ expects none
 # one removes.
 failing() {
     # shellcheck disable=SC2086
-    all_end "0\n$2" "undorc $command, whose $3 are '$4'" "device=$3" "does=$4" "least=$1" "file=$file" answers kept $5 \
+    all_end "0\n$2" "undorc $command, whose $3 are '$4'" "device=$3" "does=$4" "least=$1" "file=$file" harmless=40 answers kept $5 \
         -- $command
 }
 
@@ -72,7 +72,7 @@ printf 'change a\nchange c\n' > in
 wants 'raised a\nok\nfailed c\nok\n' \
     'undorc: full.run can'"'"'t be written: what could not be logged was not started\n'
 echo 0 > status
-LOG=ran LD_PRELOAD="$preload" LENGTHS='good 4' "$program" session -b base -l full -w 1 < in > out 2> err || echo $? > status
+LOG=ran LD_PRELOAD="$preload" LENGTHS='good 5' "$program" session -b base -l full -w 1 < in > out 2> err || echo $? > status
 judge 'a log that can'"'"'t be emptied gets no second run' 0
 wants 'take 1 a\ndone 1 a ok\n' ''
 sed -n '/^take /p; /^done /p' full.run > out

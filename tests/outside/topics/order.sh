@@ -86,16 +86,19 @@ else
     traced live -b base -l live
     echo 'write answer' > calls.wanted
     ordered 'a look writes nothing'
-    # A run is logged before it happens: a take before its program is started, an end before the next take. The log is
-    # emptied only once the file has the new text.
+    # A run is logged before it happens: a take before its program is started, an end before the next take. Before that the
+    # room of its lines is taken. The log gives it back before the file is replaced, and is emptied only once that has the
+    # new text.
     run_logged() {
         echo 0 > status
-        strace -f -y -s 64 -o trace -e trace=write,execve,rename,renameat2,ftruncate,unlink,unlinkat \
+        strace -f -y -s 64 -o trace -e trace=pwrite64,execve,rename,renameat2,ftruncate,unlink,unlinkat \
             "$program" "$@" < in > answer 2> err || echo $? > status
         awk '
             / = -1 / { next }
-            /write\(.*\/live\.run>, "undorc-live/ { print "head"; next }
-            /write\(.*\/live\.run>, "(take|done) / {
+            /pwrite64\(.*\/live\.run>, "undorc-live/ { print "head"; next }
+            /pwrite64\(.*\/live\.run>, "  / { print "room"; next }
+            /ftruncate\(.*\/live\.run>, [1-9]/ { print "give"; next }
+            /pwrite64\(.*\/live\.run>, "(take|done) / {
                 sub(/.*live\.run>, "/, "")
                 sub(/\\n".*/, "")
                 print
@@ -115,14 +118,15 @@ else
     : > in
     "$program" change -b two -x none -l live < in > /dev/null
     run_logged change b -w 1 -b two -l live
-    printf '%s\n' empty head 'take 1 a' start 'done 1 a ok' 'take 1 b' start 'done 1 b ok' replace empty remove > calls.wanted
+    printf '%s\n' room empty head room 'take 1 a' start 'done 1 a ok' 'take 1 b' start 'done 1 b ok' \
+        give replace empty remove > calls.wanted
     ordered 'a run, and its log'
     # A recovery replaces the file, and then removes the log; nothing is started before that.
     "$program" undo -b two -l live < in > /dev/null
     cp live before
     { cat live; printf -- '-t 1 -u change b\ntake 1 a\ndone 1 a ok\n'; } > live.run
     run_logged change b -w 1 -b two -l live
-    printf '%s\n' replace remove empty head 'take 1 b' start 'done 1 b ok' replace empty remove > calls.wanted
+    printf '%s\n' give replace remove room empty head room 'take 1 b' start 'done 1 b ok' give replace empty remove > calls.wanted
     holds 'the recovery is told' grep -qx 'undorc: Recovered' err
     : > err
     ordered 'a recovery, and then a run'

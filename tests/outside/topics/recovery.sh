@@ -50,11 +50,16 @@ scripts_ran() {
     judge "$1" 0
 }
 
+# lines_of LOG: it without the room that is reserved behind its lines
+lines_of() {
+    sed '/^ *$/d' "$1"
+}
+
 for signal in KILL TERM INT HUP QUIT; do
     rm -f live ran
     cut "$signal" change -w 1 b top
     # The log is the text of the session, the step under the least limit, and the events.
-    sed '1,/^end$/d' live.run > log
+    lines_of live.run | sed '1,/^end$/d' > log
     wants '-t 1 -u change b top\ntake 1 a\ndone 1 a ok\ntake 1 b\ndone 1 b ok\ntake 1 slow\n' ''
     shown log
     judge "the run log of a change that $signal ends" 0
@@ -95,7 +100,7 @@ scripts_ran 'the same command again' 'up slow\nup top\n'
 rm -f live ran
 cut KILL change -w 1 top
 printf 'ok\n' > out.wanted
-sed '1,/^end$/d' live.run | sed '/^take 1 slow$/d' > log
+lines_of live.run | sed '1,/^end$/d; /^take 1 slow$/d' > log
 sed '/^end$/q' live.run > text
 cat text log > live.run
 expect 0 'ok\n' 'undorc: Recovered\n' '' change -b base -l live
@@ -104,7 +109,8 @@ expect 0 'at 1 of 2\n0 +a +b\nok\n' '' '' journal -b base -l live
 # Each front of a log gives the state before, or one of what its whole lines say.
 rm -f live ran
 cut KILL change -w 1 b top
-cp live.run whole
+holds 'room is reserved behind the lines of a log' test "$(tail -c 4000 live.run | tr -d ' ' | wc -c)" -eq 0
+lines_of live.run > whole
 cp live before
 size=$(stat -c %s whole)
 front=$(stat -c %s before)
@@ -125,6 +131,19 @@ for bytes in 1 20 "$((front - 1))"; do
     head -c "$bytes" whole > live.run
     expect 0 'ok\n' '' '' change -b base -l live
 done
+
+# A line that was cut short over the room behind it is none.
+for bytes in $(seq "$front" "$size"); do
+    cp before live
+    { head -c "$bytes" whole; printf '%5000s' ''; } > live.run
+    "$program" change -b base -l live < /dev/null > said 2>&1 || cat said >> states
+    "$program" live -b base -l live | head -n 1 >> states
+done
+wants 'live\nlive a\nlive a b\nlive\nlive a\nlive a b\n' ''
+uniq states > out
+: > err
+echo 0 > status
+judge 'each front of a run log with room behind it' 0
 
 # A log of another text is removed, and never entered later.
 cp before live
@@ -178,7 +197,7 @@ hear
 [ ! -s live.run ] || echo 'the log of a line that is over' >> out
 tell 'change top'
 until_begun
-sed '1,/^end$/d' live.run >> out
+lines_of live.run | sed '1,/^end$/d' >> out
 # By its path: another build may be tested at the same time.
 pkill -KILL -f "$program session -b base -l live -w 1\$"
 exec 3>&-
@@ -477,7 +496,7 @@ judge 'a command that waits for another is called off' 111
 : > go
 wait "$called"
 
-# A log that can grow no more: what it does not hold is not started.
+# A log that could not hold its run: nothing is started.
 begin_tree
 mkdir tree/all
 echo bundle > tree/all/type
@@ -489,44 +508,80 @@ done
 "$program" compile tree > long
 rm -f live ran
 echo 0 > status
-env --ignore-signal=XFSZ prlimit --fsize=4096 "$program" change -w 1 all -b long -l live < /dev/null > answer 2> err || echo $? > status
-sed -n '/^undorc: l/p' err > out
-sed 's/ .*//' answer >> out
-"$program" live -b long -l live < /dev/null | sed -n '1s/^live //p' | wc -w > up
-wc -l < ran >> up
-uniq up | wc -l >> out
-: > err
-wants "undorc: live.run can't be written: what could not be logged was not started\nraised\nfailed\nok\n1\n" ''
-judge 'a log that can grow no more' 2
+env --ignore-signal=XFSZ prlimit --fsize=4096 "$program" change -w 1 all -b long -l live < /dev/null > out 2> err || echo $? > status
+holds 'a log that could not hold its run is named' grep -q '^  live.run: ' err
+wants '' 'undorc: Io\n'
+judge 'a log that could not hold its run' 111
+holds 'a log that could not hold its run, and nothing is started' test ! -e ran
 
-# A disk that fills in the midst: the command says what it moved, and the next one enters it.
+# A file that can't be replaced after a run: the command says what it moved, and the next one enters it.
+begin_tree
+oneshot a 'echo up a >> ran'
+oneshot b 'echo up b >> ran'
+oneshot slow 'mkdir live.new' a
+oneshot top 'echo up top >> ran' slow
+"$program" compile tree > base
+rm -rf live live.* ran
+echo 0 > status
+"$program" change -w 1 b top -b base -l live < /dev/null > out 2> told || echo $? > status
+sed -n '/^undorc: the next/,$p' told > out
+firsts told | grep -v '^undorc: the next' > err
+wants 'undorc: the next command enters what was moved\n  raised a b slow top\n' 'undorc: Io\n'
+judge 'a file that can not be replaced after a run' 111
+rmdir live.new
+expect 0 'ok\n' 'undorc: Recovered\n' '' change -b base -l live
+expect 0 'at 1 of 2\n0 +a +b +slow +top\nok\n' '' '' journal -b base -l live
+
+# A disk that fills: the room of a run is taken before it begins, so a command moves nothing, or all, and FILE says which.
 if [ "$(id -u)" -eq 0 ] && unshare -m true 2> /dev/null; then
-    cat > full.sh <<'END'
-mount -t tmpfs -o size=64k,mode=755 tmpfs disk
-"$1" change -w 1 b top -b base -l disk/live > out 2> err || echo $? > status
-cp disk/live.run full.run
-rm disk/filler
-"$1" journal -b base -l disk/live > seen 2>&1
-"$1" change -b base -l disk/live > after 2> told
-"$1" journal -b base -l disk/live >> after
-END
-    rm -f ran go begun
     mkdir disk
-    # The script that is under way fills the disk, so that the file can't be replaced.
+    # The script that is under way fills the disk.
     begin_tree
     oneshot a 'echo up a >> ran'
     oneshot b 'echo up b >> ran'
     oneshot slow 'head -c 65536 /dev/zero > disk/filler 2> /dev/null; true' a
     oneshot top 'echo up top >> ran' slow
     "$program" compile tree > base
+    cat > full.sh <<'END'
+mount -t tmpfs -o size=64k,mode=755 tmpfs disk
+"$1" change -w 1 b top -b base -l disk/live > out 2> err || echo $? > status
+"$1" journal -b base -l disk/live >> out 2>> err
+END
     echo 0 > status
     unshare -m sh full.sh "$program" < /dev/null > /dev/null 2>&1
-    sed -n '/^undorc: the next/,$p' err > out
-    cat after told >> out
-    firsts err > err.firsts
-    grep -v '^undorc: the next\|^undorc: disk/live.run can' err.firsts > err
-    wants 'undorc: the next command enters what was moved\n  raised a b slow top\nok\nat 1 of 2\n0 +a +b +slow +top\nok\nundorc: Recovered\n  raised a b slow top\n' 'undorc: Io\n'
-    judge 'a disk that fills in the midst of a change' 111
+    wants 'raised a b slow top\nok\nat 1 of 2\n0 +a +b +slow +top\nok\n' ''
+    judge 'a disk that fills in the midst of a change' 0
+    # Whatever room there is.
+    begin_tree
+    for number in $(seq 60); do
+        oneshot "s$number" "echo 'up s$number' >> ran"
+        down "s$number" "echo 'down s$number' >> ran"
+    done
+    "$program" compile tree > many
+    cat > full.sh <<'END'
+mount -t tmpfs -o size=256k,mode=755 tmpfs disk
+"$1" change -b many -l disk/live
+head -c 1000000 /dev/zero > disk/filler 2> /dev/null
+for room in 4 8 12 16 20 24 28 32 64; do
+    for words in "change $(seq -s ' ' -f s%g 60)" undo; do
+        rm -f ran
+        head -c "$((room * 1024))" /dev/zero > rest
+        truncate -s "$((256 * 1024 - 8192 - room * 1024))" disk/filler
+        status=0
+        "$1" $words -w 4 -b many -l disk/live > said 2>> err || status=$?
+        touch ran
+        echo "$status ran $(wc -l < ran) live $("$1" live -b many -l disk/live | head -n 1 | wc -w)"
+    done
+done
+END
+    unshare -m sh full.sh "$program" < /dev/null > told 2>&1
+    grep '^[0-9]* ran' told | sort | uniq -c | sed 's/^ *//' > counted
+    sed 's/^[0-9]* //' counted > out
+    wants '0 ran 60 live 1\n0 ran 60 live 61\n111 ran 0 live 1\n' ''
+    : > err
+    echo 0 > status
+    judge 'commands on a disk with little room' 0
+    rm told counted
 else
     skip 'a disk that fills in the midst of a change, which takes root and unshare'
 fi

@@ -14,7 +14,7 @@ use rc_set::NoMem;
 use rc_streams::Noted;
 use rc_streams::live_lock::{LiveLock, LockFault};
 use rc_streams::messages::Messages;
-use rc_streams::run_file::RunFile;
+use rc_streams::run_file::{Room, RunFile};
 use std::alloc::{AllocError, AllocGlobal};
 use std::io::ErrorKind;
 use std::sync::Wait;
@@ -143,7 +143,7 @@ pub(crate) fn is_gate(rt: &HostRuntime, db: &Db, words: &[String]) -> Result<boo
         .with_log(&log);
     // The log is opened between the two parts, where no growth is refused.
     let _ = print!(rt; "done; ");
-    match RunFile::open(rt, "live") {
+    match RunFile::open(rt, "live", Room::of(0, 0)) {
         Ok(file) => {
             let is_logging = is_logging(rt, db, gate, &file);
             drop(file);
