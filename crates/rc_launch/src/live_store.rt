@@ -16,7 +16,7 @@ use rc_cli::sessions::{KeptText, Store, keep_fault};
 use rc_serve::KeepFault;
 use rc_streams::live_lock::LockFault;
 use rc_streams::replaced_file::{probe, replace};
-use rc_streams::run_file::give_room;
+use rc_streams::run_file::{Room, give_room};
 use std::io;
 
 /// A file by its path, which may lead through links, and to nothing yet; its lock, which is held
@@ -116,12 +116,12 @@ impl<'a> LiveStore<'a> {
     }
 
     /// Makes the files of the runs of a session that is to start programs: those beside the file of
-    /// `-l`, where that is locked. The database has this text, and the session serves the lines of
-    /// an input or not.
+    /// `-l`, where that is locked, with this room for a run. The session serves the lines of an
+    /// input or not.
     pub(crate) fn runs(
         &self,
         making: &Making<'_>,
-        base: &[u8],
+        room: Room,
         is_of_lines: bool,
     ) -> Result<Option<Runs<'a>>, RunsFault>
         ensures made { IfOk result (AreRunsOf (making_ask_of making.now) self.now) }
@@ -131,7 +131,7 @@ impl<'a> LiveStore<'a> {
             (Making::Programs(_), Some(lock)) if lock.is_held() => Ok(Some(Runs::open(
                 self.rt,
                 lock.path(),
-                base,
+                room,
                 is_of_lines,
             )?)),
             _ => Ok(None),

@@ -8,7 +8,15 @@ use crate::texts::FileText;
 use rc_args::{Making, Once, SessionCommand, SessionRequest};
 use rc_cli::sessions::moves;
 use rc_script::SessionLine;
+use rc_select::Mode;
 use rc_session::Command;
+use rc_streams::run_file::Room;
+
+/// How the line of a service begins in the text of a database.
+const SERVICE: &[u8] = b"service ";
+
+/// How the line of a bundle begins there.
+const BUNDLE: &[u8] = b"bundle ";
 
 /// A command on the file of a session, with the databases that it names.
 #[derive(Drop)]
@@ -33,6 +41,17 @@ impl<'a> Loaded<'a> {
         ensures { IsTrue result ↔ IsOfLines self.now }
     {
         matches!(&self.command, SessionCommand::Lines(_))
+    }
+
+    /// The room in a run log for the runs of it. What brings no service up goes on without, and a
+    /// session finds for each line whether there is room.
+    pub fn room(&self) -> Room {
+        let room = room_for(bytes_of(&self.base), bytes_of(&self.new));
+        match &self.command {
+            SessionCommand::Line(request) if may_raise(&request.once) => room,
+            SessionCommand::Restart(_) | SessionCommand::Update(_) => room,
+            _ => room.if_there(),
+        }
     }
 
     /// Whether scripts may be run for it: a lone edit runs none, and neither does a seal.
@@ -62,6 +81,41 @@ impl<'a> Loaded<'a> {
 // Whether transitions are made by programs that are started.
 fn starts(making: &Making<'_>) -> bool {
     matches!(making, Making::Programs(_))
+}
+
+// Whether a line may bring services up.
+fn may_raise(once: &Once) -> bool {
+    match once {
+        Once::Line(SessionLine::Command(Command::Change(request))) => request.mode == Mode::Up,
+        Once::Line(SessionLine::Command(Command::Undo(_) | Command::Redo(_))) => true,
+        _ => false,
+    }
+}
+
+// The room for the runs on the databases of these texts. Beside the lines of a run it is for what a
+// log begins with and a file may grow by: a text of which no file is there yet, the line of the
+// step, and the state that the first of two steps adds.
+fn room_for(base: &[u8], new: &[u8]) -> Room {
+    let (services, names) = size_of(base);
+    let (more, others) = size_of(new);
+    let services = services.saturating_add(more).saturating_add(4);
+    let names = names.saturating_add(others);
+    Room::of(services.saturating_mul(4), names.saturating_mul(4))
+}
+
+// How many services the text of a database has, and how many bytes the lines of these and of its
+// bundles have: each line that may be one counts.
+fn size_of(base: &[u8]) -> (u64, u64) {
+    let (mut services, mut names): (u64, u64) = (0, 0);
+    for line in base.split(|byte| *byte == b'\n') {
+        if line.starts_with(SERVICE) {
+            services = services.saturating_add(1);
+        }
+        if line.starts_with(SERVICE) || line.starts_with(BUNDLE) {
+            names = names.saturating_add(line.len() as u64);
+        }
+    }
+    (services, names)
 }
 
 // Whether a line alters bundles, and moves nothing.

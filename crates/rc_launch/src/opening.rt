@@ -97,8 +97,11 @@ fn open_locked<'a>(
             return Err(fault);
         }
     };
-    let base = base_in(&loaded);
-    match store.runs(&loaded.session().making, base, loaded.is_of_lines()) {
+    match store.runs(
+        &loaded.session().making,
+        loaded.room(),
+        loaded.is_of_lines(),
+    ) {
         Ok(runs) => Ok(Opened {
             loaded: loaded.with_again(again),
             live: LiveText::read(rt, live),
@@ -110,14 +113,6 @@ fn open_locked<'a>(
             drop((loaded, note));
             Err(runs_fault(live.unwrap_or(""), fault))
         }
-    }
-}
-
-// The text of the database of a command, if it names one.
-fn base_in<'b>(loaded: &'b Loaded<'_>) -> &'b [u8] {
-    match loaded.base() {
-        Some(base) => base.bytes(),
-        None => &[],
     }
 }
 

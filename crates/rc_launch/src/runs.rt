@@ -6,9 +6,6 @@ use rc_streams::run_file::{Room, RunFile};
 use rc_streams::stop_file::StopFile;
 use std::io;
 
-/// How the line of a service begins in the text of a database.
-const SERVICE: &[u8] = b"service ";
-
 /// Why the files of the runs of a session can't be used.
 #[derive(Debug, Drop)]
 pub(crate) enum RunsFault {
@@ -25,17 +22,17 @@ pub struct Runs<'a> {
 }
 
 impl<'a> Runs<'a> {
-    /// The files beside that of a session that is locked, with room for a run on the database of
-    /// this text. The session serves the lines of an input or not.
+    /// The files beside that of a session that is locked, with this room for a run. The session
+    /// serves the lines of an input or not.
     pub(crate) fn open(
         rt: &HostRuntime,
         path: &'a str,
-        base: &[u8],
+        room: Room,
         is_of_lines: bool,
     ) -> Result<Runs<'a>, RunsFault>
         ensures { IfOk result (λ runs. runs.path ≡ path.entry) }
     {
-        let log = match RunFile::open(rt, path, room_for(base)) {
+        let log = match RunFile::open(rt, path, room) {
             Ok(log) => log,
             Err(error) => return Err(RunsFault::Log(error)),
         };
@@ -70,16 +67,4 @@ impl<'a> Runs<'a> {
     pub fn remove(&self, rt: &HostRuntime) {
         self.files.remove(rt, self.path);
     }
-}
-
-// The room for a run on the database of a text: each line that may be that of a service counts.
-fn room_for(base: &[u8]) -> Room {
-    let (mut services, mut names): (u64, u64) = (0, 0);
-    for line in base.split(|byte| *byte == b'\n') {
-        if line.starts_with(SERVICE) {
-            services = services.saturating_add(1);
-            names = names.saturating_add(line.len() as u64);
-        }
-    }
-    Room::of(services, names)
 }

@@ -107,7 +107,10 @@ impl<'a> LogText<'a> {
         ensures { IfOk result (λ log. log.path ≡ path.entry) }
     {
         match run_file::read(rt, path) {
-            Ok(Some(bytes)) => Ok(LogText { path, bytes }),
+            Ok(Some(mut bytes)) => {
+                blank_holes(&mut bytes);
+                Ok(LogText { path, bytes })
+            }
             Ok(None) => Ok(LogText {
                 path,
                 bytes: Vec::new(rt.alloc()),
@@ -128,6 +131,16 @@ impl<'a> LogText<'a> {
         ensures { result.now ≡ self.now.bytes.items }
     {
         &self.bytes
+    }
+}
+
+/// Puts blanks where a log has a hole: a worker that was killed had taken the place of a line and
+/// not written it.
+fn blank_holes(bytes: &mut [u8]) {
+    for place in 0..bytes.len() {
+        if bytes[place] == 0 {
+            bytes[place] = b' ';
+        }
     }
 }
 

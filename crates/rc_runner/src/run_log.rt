@@ -6,6 +6,7 @@ use crate::copy::table_of;
 use rc_core::Event;
 use rc_db::{Db, NoMem};
 use rc_livetext::write_live;
+use rc_model::Mode;
 use rc_names::Names;
 use rc_script::{event_line, step_line};
 use rc_session::{Command, Session};
@@ -31,13 +32,13 @@ impl<'a> RunLog<'a> {
         Ok(RunLog { alloc, file, names })
     }
 
-    /// Begins the log of a command from where a session stands, with room for all of its lines. An
-    /// edit has no run, and no log.
+    /// Begins the log of a command from where a session stands, with room for all of its lines. A
+    /// change that only lowers goes on without that room. An edit has no run, and no log.
     pub(crate) fn begin(&self, session: &Session, command: &Command)
         requires { session.now.begun ≡ false }
     {
         if let Ok(Some(head)) = head_of(self.alloc, session, command) {
-            self.file.begin(&head, room_of(&self.names));
+            self.file.begin(&head, room_for(command, &self.names));
             drop(head);
         }
     }
@@ -57,6 +58,24 @@ impl<'a> RunLog<'a> {
     /// Empties the log of a run that is over.
     pub(crate) fn end(&self) {
         let _ = self.file.clear();
+    }
+}
+
+/// The room for the run of a command on services of these names.
+fn room_for(command: &Command, names: &Names) -> Room {
+    let room = room_of(names);
+    if only_lowers(command) {
+        room.if_there()
+    } else {
+        room
+    }
+}
+
+/// Whether a command brings no service up: a machine must go down on a full disk, too.
+fn only_lowers(command: &Command) -> bool {
+    match command {
+        Command::Change(request) => matches!(request.mode, Mode::Down | Mode::DownAll),
+        _ => false,
     }
 }
 

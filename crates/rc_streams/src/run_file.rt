@@ -28,6 +28,9 @@ const PAGE: u64 = 4096;
 /// How many bytes the two lines of a service have at most, without its name.
 const LINES: u64 = 32;
 
+/// The end of a log without room: its lines stand one behind the other, as far as they fit.
+const UNBOUND: u64 = u64::MAX;
+
 /// How many bytes a file is read or filled by at once.
 const PIECE: usize = 4096;
 
@@ -36,6 +39,8 @@ const PIECE: usize = 4096;
 pub struct Room {
     lines: u64,
     names: u64,
+    /// Whether a run is refused without it.
+    is_needed: bool,
 }
 
 impl Room {
@@ -48,6 +53,25 @@ impl Room {
             // A line that does not fit on a page any more begins the next one.
             lines: lines.saturating_add(lines / 10).saturating_add(PAGE),
             names: names.saturating_add(services),
+            is_needed: true,
+        }
+    }
+
+    /// The same for a run that goes on without it, as far as its lines can be written.
+    pub fn if_there(self) -> Room {
+        Room {
+            lines: self.lines,
+            names: self.names,
+            is_needed: false,
+        }
+    }
+
+    /// How many bytes a disk must have for it beside a text.
+    fn needed(self, text: u64) -> u64 {
+        if self.is_needed {
+            text.saturating_add(self.behind(text))
+        } else {
+            PAGE
         }
     }
 
@@ -77,16 +101,16 @@ pub struct RunFile {
 }
 
 impl RunFile {
-    /// The run log of the session that is kept in the file of this path, where a disk has this
-    /// room for a run of it. It may be read by whom that file may be read by, or would be, where it
-    /// is not there yet.
+    /// The run log of the session that is kept in the file of this path, where a disk has the room
+    /// that a run of it needs. It may be read by whom that file may be read by, or would be, where
+    /// it is not there yet.
     pub fn open(rt: &HostRuntime, path: &str, room: Room) -> io::Result<RunFile> {
         let file = open_to_write(rt, path, ENDING)?;
         let (rights, length) = match fs::metadata(rt, path) {
             Ok(found) => (found.permissions(), found.len()),
             Err(_) => (new_rights(rt), 0),
         };
-        if let Err(error) = check_room(&file, length.saturating_add(room.behind(length))) {
+        if let Err(error) = check_room(&file, room.needed(length)) {
             drop(file);
             return Err(error);
         }
@@ -107,24 +131,26 @@ impl RunFile {
 
     /// Begins anew with these bytes, the text of a session and a step, and reserves room. Where the
     /// log of an earlier run can't be emptied, nothing is written: the next recovery would find the
-    /// new run behind the earlier one, and enter neither. Where there is no room, nothing stays,
-    /// and no line is written.
+    /// new run behind the earlier one, and enter neither. Where there is no room that is needed,
+    /// nothing stays, and no line is written.
     pub fn begin(&self, head: &[u8], room: Room) {
-        let length = head.len() as u64;
-        let end = length.saturating_add(room.behind(length));
         if !self.clear() || self.file.write_all_at(head, 0).is_err() {
             self.fail();
             return;
         }
         self.has_run.store(true, Ordering::SeqCst);
-        if fill(&self.file, length, end).is_err() {
-            let _ = self.clear();
-            self.fail();
-            return;
+        let length = head.len() as u64;
+        match reserve(&self.file, length, room) {
+            Ok(end) => {
+                self.place.store(length, Ordering::SeqCst);
+                self.end.store(end, Ordering::SeqCst);
+                self.is_open.store(true, Ordering::SeqCst);
+            }
+            Err(_) => {
+                let _ = self.clear();
+                self.fail();
+            }
         }
-        self.place.store(length, Ordering::SeqCst);
-        self.end.store(end, Ordering::SeqCst);
-        self.is_open.store(true, Ordering::SeqCst);
     }
 
     /// Writes a line behind those before it, and returns whether all of it was written. After a
@@ -153,9 +179,14 @@ impl RunFile {
     fn take_place(&self, length: u64) -> Option<u64> {
         for _ in 0..u64::MAX {
             let now = self.place.load(Ordering::SeqCst);
-            let place = place_from(now, length);
+            let end = self.end.load(Ordering::SeqCst);
+            let place = if end == UNBOUND {
+                now
+            } else {
+                place_from(now, length)
+            };
             let behind = place.saturating_add(length);
-            if behind > self.end.load(Ordering::SeqCst) {
+            if behind > end {
                 return None;
             }
             let (taken, failed) = (Ordering::SeqCst, Ordering::SeqCst);
@@ -213,6 +244,19 @@ fn check_room(file: &File, room: u64) -> io::Result<()> {
     let filled = fill(file, 0, room);
     file.set_len(0)?;
     filled
+}
+
+/// Reserves room behind so many bytes of a log, and returns where it ends.
+fn reserve(file: &File, length: u64, room: Room) -> io::Result<u64> {
+    let end = length.saturating_add(room.behind(length));
+    match fill(file, length, end) {
+        Ok(()) => Ok(end),
+        Err(error) if room.is_needed => Err(error),
+        Err(_) => {
+            file.set_len(length)?;
+            Ok(UNBOUND)
+        }
+    }
 }
 
 /// Fills a file with blanks, from a place to its new end.

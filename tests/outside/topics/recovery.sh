@@ -145,6 +145,11 @@ uniq states > out
 echo 0 > status
 judge 'each front of a run log with room behind it' 0
 
+# A hole that a killed worker left in a log without room is as blank as room.
+cp before live
+{ sed '$d' whole; head -c 100 /dev/zero; tail -n 1 whole; } > live.run
+expect 0 'ok\n' 'undorc: Recovered\n' '' change -b base -l live
+
 # A log of another text is removed, and never entered later.
 cp before live
 cp whole live.run
@@ -573,6 +578,15 @@ for room in 4 8 12 16 20 24 28 32 64; do
         echo "$status ran $(wc -l < ran) live $("$1" live -b many -l disk/live | head -n 1 | wc -w)"
     done
 done
+# With two pages left all of them come down.
+truncate -s 0 disk/filler
+"$1" change $(seq -s ' ' -f s%g 60) -w 4 -b many -l disk/live
+head -c 1000000 /dev/zero > disk/filler 2> /dev/null
+truncate -s "$((256 * 1024 - 16384))" disk/filler
+rm -f ran
+status=0
+"$1" change -D $(seq -s ' ' -f s%g 60) -w 4 -b many -l disk/live > said 2>> err || status=$?
+echo "lowered: $status ran $(wc -l < ran) live $("$1" live -b many -l disk/live | head -n 1 | wc -w)"
 END
     unshare -m sh full.sh "$program" < /dev/null > told 2>&1
     grep '^[0-9]* ran' told | sort | uniq -c | sed 's/^ *//' > counted
@@ -581,6 +595,43 @@ END
     : > err
     echo 0 > status
     judge 'commands on a disk with little room' 0
+    sed -n 's/^lowered: //p' told > out
+    wants '0 ran 60 live 1\n' ''
+    judge 'a change that only lowers, on a disk with too little room to raise' 0
+    # Either both steps of a restart, and of an update to more services, have room, or neither is begun.
+    begin_tree
+    for number in $(seq 20); do
+        oneshot "s$number" "echo 'up s$number' >> ran"
+        down "s$number" "echo 'down s$number' >> ran"
+    done
+    "$program" compile tree > few
+    cat > full.sh <<'END'
+mount -t tmpfs -o size=256k,mode=755 tmpfs disk
+"$1" change $(seq -s ' ' -f s%g 20) -b few -l disk/live
+head -c 1000000 /dev/zero > disk/filler 2> /dev/null
+for room in $(seq 4 4 64); do
+    head -c 1000000 /dev/zero >> disk/filler 2> /dev/null
+    truncate -s "$((256 * 1024 - 8192 - room * 1024))" disk/filler
+    status=0
+    "$1" restart s1 s2 s3 -b few -l disk/live > said 2>> err || status=$?
+    echo "restart: $status live $("$1" live -b few -l disk/live | head -n 1 | wc -w)"
+    "$1" add both s1 s2 -f -b few -l disk/live > said 2>> err || echo "edit: $?"
+done
+for room in $(seq 4 4 64); do
+    head -c 1000000 /dev/zero >> disk/filler 2> /dev/null
+    truncate -s "$((256 * 1024 - 8192 - room * 1024))" disk/filler
+    status=0
+    "$1" update -R s1 -b few -B many -l disk/live > said 2>> err || status=$?
+    echo "update: $status"
+    [ "$status" -ne 0 ] || break
+done
+END
+    unshare -m sh full.sh "$program" < /dev/null > told 2>&1
+    grep -e '^restart' -e '^update' -e '^edit' told | sort -u > out
+    wants 'restart: 0 live 21\nrestart: 111 live 21\nupdate: 0\nupdate: 111\n' ''
+    : > err
+    echo 0 > status
+    judge 'restarts, edits and updates on a disk with little room' 0
     rm told counted
 else
     skip 'a disk that fills in the midst of a change, which takes root and unshare'
