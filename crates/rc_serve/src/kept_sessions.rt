@@ -29,8 +29,8 @@ use std::thread::Threads;
 /// The most workers of a session.
 const MAX_WORKERS: u8 = 64;
 
-/// Runs a session as `serve` does, and keeps it: a line that alters the line of states is kept
-/// before it is answered, so no answer is written of what is not kept.
+/// Runs a session as `serve` does, and keeps it: what a line alters is kept before its answer is
+/// written.
 ///
 /// An answer is written whole and flushed. A refused command is answered too, and the session goes
 /// on. It ends with the input, or with a fault: then the lines before were done and answered whole.
@@ -121,8 +121,8 @@ pub fn serve_kept<T: Threads + Wait + Sync, R: Read, W: Write, K: Keeper, G: Gat
     ensures sound { OnOk result ((HasFailed reader.new → ⊥) × (HasFailed writer.new → ⊥)) }
     ensures read { result ≡ Err ServeFault.Read → HasFailed reader.new }
 
-    // Where the reader has failed that is what is told: no read is made before the
-    // lines that were read are answered.
+    // If the reader has failed, the fault is Read: all lines that were read are answered before
+    // the next read.
     ensures told { HasFailed reader.new → result ≡ Err ServeFault.Read }
     ensures written { result ≡ Err ServeFault.Write → HasFailed writer.new }
 

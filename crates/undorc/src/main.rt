@@ -54,8 +54,7 @@ fn main(rt: HostRuntime) -> ExitCode {
     ExitCode::from(status)
 }
 
-/// What the command line asks for, by these defaults. Where it asks for nothing, that is told, and
-/// the status returned.
+/// Reads the command line with these defaults. If it is wrong, prints why and returns the status.
 fn asked<'a>(
     rt: &HostRuntime,
     words: &'a [String],
