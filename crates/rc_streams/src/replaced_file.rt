@@ -3,13 +3,23 @@
 //! its owner alone.
 use crate::beside_file::{RIGHTS, refused};
 use crate::umask::new_rights;
-use std::fs::{self, File, OpenFile, Permissions};
+use std::fs::{self, File, Metadata, OpenFile, Permissions};
 use std::io::{self, ErrorKind, Write};
-use std::os::unix::fs::OpenOptionsExt;
+use std::os::fd::AsRawFd;
+use std::os::unix::fs::{FileExt, MetadataExt, OpenOptionsExt};
 use std::path::PathBuf;
 
 /// How many bytes a disk must have room for before anything is done.
 const ROOM: usize = 4096;
+
+/// The mark of a directory in which only the owner of a file may remove it.
+const STICKY: u32 = 0o1000;
+
+/// Where the system says what is known of an open file, and what stands there before the number of
+/// its mount.
+const DESCRIBED: &str = "/proc/self/fdinfo/";
+
+const MOUNT: &[u8] = b"mnt_id:";
 
 /// The most links that are followed from a path to a file.
 const MAX_LINKS: usize = 40;
@@ -33,10 +43,14 @@ pub fn replace(rt: &HostRuntime, path: &str, bytes: &[u8]) -> io::Result<()> {
     }
 }
 
-/// Tests whether the file at a path can be replaced: the file beside it is made, with some bytes,
-/// and removed.
+/// Tests whether the file at a path can be replaced: nothing forbids it that can be seen, and the
+/// file beside it is made, with some bytes, and removed.
 pub fn probe(rt: &HostRuntime, path: &str) -> io::Result<()> {
     let place = place(rt, path)?;
+    if let Err(error) = check_replaceable(rt, &place) {
+        drop(place);
+        return Err(error);
+    }
     let beside = beside(rt, &place, ".new");
     drop(place);
     let beside = beside?;
@@ -45,6 +59,86 @@ pub fn probe(rt: &HostRuntime, path: &str) -> io::Result<()> {
     drop(beside);
     made?;
     cleared
+}
+
+/// Fails where no file may be renamed over the one at a place: it is mounted there, or can't be
+/// altered, or belongs to another user in a directory that is sticky.
+fn check_replaceable(rt: &HostRuntime, place: &PathBuf) -> io::Result<()> {
+    let found = match fs::symlink_metadata(rt, place) {
+        Ok(found) => found,
+        Err(error) if error.kind() == ErrorKind::NotFound => return Ok(()),
+        Err(error) => return Err(error),
+    };
+    let folder = fs::metadata(rt, folder_of(place))?;
+    if is_sticky_for(&folder, &found) {
+        return Err(refused("it belongs to another user, and its directory is sticky"));
+    }
+    if is_unalterable(rt, place) {
+        return Err(refused("it is immutable, or can only be appended to"));
+    }
+    if is_mounted(rt, place) {
+        return Err(refused("it is mounted by itself; mount its directory"));
+    }
+    Ok(())
+}
+
+/// Whether a directory is sticky, and neither it nor what stands there belongs to the user who runs
+/// the program, who is not root.
+fn is_sticky_for(folder: &Metadata, found: &Metadata) -> bool {
+    let user = libc::geteuid();
+    folder.mode() & STICKY != 0 && user != 0 && folder.uid() != user && found.uid() != user
+}
+
+/// Whether a file can't be written at all, or only at its end, by an attribute of its own: not by
+/// its rights, which do not count where it is replaced.
+fn is_unalterable(rt: &HostRuntime, place: &PathBuf) -> bool {
+    match File::options().write(true).open(rt, place) {
+        Ok(file) => {
+            drop(file);
+            false
+        }
+        Err(error) => error.raw_os_error() == Some(libc::EPERM),
+    }
+}
+
+/// Whether a file stands on another mount than the directory that it is in. Where the system does
+/// not say so, it does not.
+fn is_mounted(rt: &HostRuntime, place: &PathBuf) -> bool {
+    match (mount_at(rt, place.as_str()), mount_at(rt, folder_of(place))) {
+        (Some(file), Some(folder)) => file != folder,
+        _ => false,
+    }
+}
+
+/// The number of the mount on which a file or a directory stands.
+fn mount_at(rt: &HostRuntime, path: &str) -> Option<u64> {
+    let file = File::open(rt, path).ok()?;
+    let mount = mount_of(rt, &file);
+    drop(file);
+    mount
+}
+
+/// The same of one that is open, by what the system says of its number.
+fn mount_of(rt: &HostRuntime, file: &File) -> Option<u64> {
+    let number = file.as_raw_fd();
+    let path = format!(in rt.alloc(); "{DESCRIBED}{number}").ok()?;
+    let opened = File::open(rt, path.as_str());
+    drop(path);
+    let described = opened.ok()?;
+    let mut buffer = [0; 1024];
+    let count = described.read_at(&mut buffer, 0);
+    drop(described);
+    mount_in(&buffer[..count.ok()?.min(1024)])
+}
+
+/// The number of a mount in what the system says of an open file.
+fn mount_in(text: &[u8]) -> Option<u64> {
+    for line in text.split(|byte| *byte == b'\n') {
+        if let Some(number) = line.strip_prefix(MOUNT) {
+            return str::from_utf8(number).ok()?.trim().parse().ok();
+        }
+    }
+    None
 }
 
 /// Makes a file of some bytes in place of what stands there.

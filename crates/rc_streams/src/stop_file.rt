@@ -3,14 +3,17 @@
 //!
 //! The line names the program that it means, as the lock of the session does, and where that serves
 //! lines the number of the run. So no later command and no later line is called off by it, and it
-//! may be written before the program looks for it.
+//! may be written before the program looks for it. It begins by a newline, so that a part of a line
+//! that stands before it does not spoil it.
 
 use crate::beside_file::{
-    Access, above_streams, open_there, open_to_append, path_beside, stands_at,
+    Access, above_streams, open_own, open_there, open_to_append, path_beside, stands_at,
 };
 use crate::live_lock::{Owner, owner_at};
+use crate::messages::{MESSAGE, Messages};
 use crate::replaced_file::clear;
 use crate::umask::STATUS;
+use log::info;
 use std::fs::File;
 use std::io::{self, ErrorKind, Write};
 use std::os::unix::fs::FileExt;
@@ -40,6 +43,9 @@ const CALLING_OFF: u64 = 0x4003;
 /// program was started with it blocked.
 #[derive(Drop)]
 pub struct StopFile {
+    rt: HostRuntime,
+    /// Where the file stands. Another one stands there where somebody has removed it.
+    path: String,
     file: File,
     status: Option<File>,
     owner: Owner,
@@ -52,13 +58,21 @@ impl StopFile {
     /// The file for the session that is kept in the file of this path. The program has the lock of
     /// that session, and serves the lines of an input or not.
     pub fn open(rt: &HostRuntime, path: &str, is_of_lines: bool) -> io::Result<StopFile> {
-        let file = open_to_append(rt, path, ENDING)?;
-        Ok(StopFile {
-            file,
-            status: account(rt).ok(),
-            owner: Owner::own(rt, is_of_lines),
-            run: AtomicU64::new(0),
-        })
+        let path = path_beside(rt, path, ENDING)?;
+        match open_own(rt, path.as_str(), Access::Append) {
+            Ok(file) => Ok(StopFile {
+                rt: *rt,
+                path,
+                file,
+                status: account(rt).ok(),
+                owner: Owner::own(rt, is_of_lines),
+                run: AtomicU64::new(0),
+            }),
+            Err(error) => {
+                drop(path);
+                Err(error)
+            }
+        }
     }
 
     /// Says which run is under way, where lines are served: it begins.
@@ -66,15 +80,28 @@ impl StopFile {
         if self.owner.is_of_lines {
             let run = self.run.load(Ordering::SeqCst).saturating_add(1);
             self.run.store(run, Ordering::SeqCst);
-            let _ = self.file.set_len(0);
-            let _ = write_line(&self.file, RUN, &self.owner, run);
+            match self.other() {
+                Some(file) => {
+                    tell_run(&self.rt, &file, &self.owner, run);
+                    drop(file);
+                }
+                None => tell_run(&self.rt, &self.file, &self.owner, run),
+            }
         }
     }
 
     /// Says that no run is under way, where lines are served.
     pub fn end(&self) {
         if self.owner.is_of_lines {
-            let _ = self.file.set_len(0);
+            match self.other() {
+                Some(file) => {
+                    let _ = file.set_len(0);
+                    drop(file);
+                }
+                None => {
+                    let _ = self.file.set_len(0);
+                }
+            }
         }
     }
 
@@ -85,9 +112,34 @@ impl StopFile {
 
     /// Whether a line of the file calls the run off.
     fn is_named(&self) -> bool {
-        match number_in(&self.file, STOP, &self.owner) {
+        match self.other() {
+            Some(file) => {
+                let is_named = self.is_named_in(&file);
+                drop(file);
+                is_named
+            }
+            None => self.is_named_in(&self.file),
+        }
+    }
+
+    /// The same by one file.
+    fn is_named_in(&self, file: &File) -> bool {
+        match number_in(file, STOP, &self.owner) {
             Some(run) => run == self.run.load(Ordering::SeqCst),
             None => false,
+        }
+    }
+
+    /// The file that stands there now, where that is another one, since somebody has removed the
+    /// first one. Where lines are served, it is made: without it no run is under way.
+    fn other(&self) -> Option<File> {
+        let path = self.path.as_str();
+        if stands_at(&self.rt, path, &self.file) {
+            None
+        } else if self.owner.is_of_lines {
+            open_own(&self.rt, path, Access::Append).ok()
+        } else {
+            open_there(&self.rt, path, Access::Append).ok()
         }
     }
 
@@ -100,11 +152,27 @@ impl StopFile {
     }
 }
 
-/// Writes a line on a run of a program, by one write.
-fn write_line(file: &File, word: &str, owner: &Owner, run: u64) -> io::Result<()> {
+/// Says in a file which run of a program is under way, and nothing else.
+fn tell_run(rt: &HostRuntime, file: &File, owner: &Owner, run: u64) {
+    let _ = file.set_len(0);
+    let _ = write_line(rt, file, RUN, owner, run);
+}
+
+/// Writes a line on a run of a program, by one write, so that lines that are written at once do not
+/// mix. A newline stands before it: what stands there may be a part of a line.
+fn write_line(
+    rt: &HostRuntime,
+    file: &File,
+    word: &str,
+    owner: &Owner,
+    run: u64,
+) -> io::Result<()> {
     let (id, started) = (owner.id, owner.started);
+    let line = format!(in rt.alloc(); "\n{word} {id} {started} {run}\n")?;
     let mut out = file;
-    write!(out, "{word} {id} {started} {run}\n")
+    let written = out.write_all(line.as_bytes());
+    drop(line);
+    written
 }
 
 /// The number of a run in the last line of a file that begins with this word and names this
@@ -222,7 +290,13 @@ fn call_off_at(rt: &HostRuntime, path: &str, beside: &str, owner: &Owner) -> io:
         drop(file);
         return Ok(Called::Idle);
     };
-    let written = write_line(&file, STOP, owner, run);
+    if number_in(&file, STOP, owner) == Some(run) {
+        drop(file);
+        info!(Messages(rt); target: MESSAGE,
+            "{path} is being stopped: what is under way there ends");
+        return Ok(Called::Off);
+    }
+    let written = write_line(rt, &file, STOP, owner, run);
     let stands = stands_at(rt, beside, &file);
     drop(file);
     written?;
@@ -272,7 +346,7 @@ fn clear_unless_named(
     clear(rt, beside)?;
     if number_in(file, STOP, owner) == Some(0) {
         let next = open_to_append(rt, path, ENDING)?;
-        let written = write_line(&next, STOP, owner, 0);
+        let written = write_line(rt, &next, STOP, owner, 0);
         drop(next);
         return written;
     }
