@@ -17,6 +17,7 @@ mod replay_words;
 mod session_command;
 mod session_request;
 mod session_words;
+mod shown;
 mod texts;
 mod transitions;
 mod update_words;

@@ -6,6 +6,7 @@ ghost use Rattle.rc_args.specs.declared.asked.WordsFault.TheVariants.{Memory};
 
 use crate::asked::WordsFault;
 use crate::cmdline::{entered, is_memory, matches_of};
+use crate::shown::shown_fault;
 use clap::ArgMatches;
 use std::alloc::Global;
 
@@ -26,7 +27,7 @@ pub(crate) fn matches_in<'a>(
             if is_memory(&error) {
                 return Err(WordsFault::Memory);
             }
-            Err(WordsFault::Found(error))
+            Err(shown_fault(alloc, words, error))
         }
     }
 }

@@ -361,7 +361,7 @@ pub(crate) const ALTERING: [ToldCommand; 5] = [
     },
     ToldCommand {
         name: "update",
-        about: "Carries what is up over to another database, whose journal begins anew",
+        about: "Carries what is up over to another database, and undo takes that back",
         args: &UPDATE,
     },
     ToldCommand {
