@@ -4,6 +4,7 @@ ghost use Rattle.rc_source.specs.TreeFaults.{IsCallFault};
 use crate::tree::{MAX_FILE, Tree, TreeFault, first_part, path_to};
 use rc_names::NoMem;
 use std::alloc::Global;
+use std::fs::Metadata;
 use std::io::{ErrorKind, Read};
 use std::rt::Files;
 use std::{fs, io};
@@ -14,12 +15,14 @@ const MAX_READS: u64 = 16;
 /// A tree in a file system: the subdirectories of a directory. No contract can say what it holds.
 ///
 /// A service directory is listed once, and what is not in it is not asked for. Where it can't be
-/// listed, each of its files is.
+/// listed, each of its files is. What stands at a path is asked once, and once more where that is a
+/// link.
 #[derive(Drop)]
 pub struct FolderTree<R: Files + AllocGlobal + Clone + Drop> {
     rt: R,
     root: String,
     failures: u64,
+    has_links: bool,
     seen: Option<Seen>,
 }
 
@@ -39,8 +42,14 @@ impl<R: Files + AllocGlobal + Clone + Drop> FolderTree<R> {
             rt,
             root,
             failures: 0,
+            has_links: false,
             seen: None,
         })
+    }
+
+    /// Whether a link stands in the place of a service directory or a file that was read.
+    pub fn has_links(&self) -> bool {
+        self.has_links
     }
 
     // The path of a file of a service directory.
@@ -59,7 +68,7 @@ impl<R: Files + AllocGlobal + Clone + Drop> Tree for FolderTree<R> {
     fn entries(&mut self, alloc: Global) -> Result<Vec<String>, TreeFault> {
         noted(
             &mut self.failures,
-            subdirectories(&self.rt, alloc, self.root.as_str()),
+            subdirectories(&self.rt, alloc, self.root.as_str(), &mut self.has_links),
         )
     }
 
@@ -102,7 +111,7 @@ impl<R: Files + AllocGlobal + Clone + Drop> Tree for FolderTree<R> {
         let path = self.path(alloc, service, file)?;
         let bytes = noted(
             &mut self.failures,
-            if_there(first_bytes(&self.rt, alloc, path.as_str())),
+            if_there(first_bytes(&self.rt, alloc, path.as_str(), &mut self.has_links)),
         )?;
         match bytes {
             Some(bytes) if bytes.len() > MAX_FILE => Err(TreeFault::TooLong),
@@ -124,7 +133,7 @@ impl<R: Files + AllocGlobal + Clone + Drop> Tree for FolderTree<R> {
         let path = self.path(alloc, service, file)?;
         let found = noted(
             &mut self.failures,
-            if_there(self.rt.metadata(path.as_str())),
+            if_there(metadata_at(&self.rt, path.as_str(), &mut self.has_links)),
         )?;
         Ok(found.is_some())
     }
@@ -230,6 +239,16 @@ fn leads_nowhere(kind: ErrorKind) -> bool {
     )
 }
 
+// What stands at a path, or where a link does, what it leads to; a link is noted.
+fn metadata_at<R: Files>(rt: &R, path: &str, has_links: &mut bool) -> io::Result<Metadata> {
+    let found = rt.symlink_metadata(path)?;
+    if !found.is_symlink() {
+        return Ok(found);
+    }
+    *has_links = true;
+    rt.metadata(path)
+}
+
 // The names in a directory, if something is there. A file there is a fault.
 fn names_at<R: Files + AllocGlobal + Clone + Drop>(
     rt: &R,
@@ -262,10 +281,11 @@ fn subdirectories<R: Files + AllocGlobal + Clone + Drop>(
     rt: &R,
     alloc: Global,
     path: &str,
+    has_links: &mut bool,
 ) -> io::Result<Vec<String>> {
     let mut names = Vec::new(alloc);
     for name in names_in(rt, alloc, path)? {
-        if !name.starts_with('.') && is_directory(rt, alloc, path, name.as_str())? {
+        if !name.starts_with('.') && is_directory(rt, alloc, path, name.as_str(), has_links)? {
             names.push(name)?;
         }
     }
@@ -273,9 +293,15 @@ fn subdirectories<R: Files + AllocGlobal + Clone + Drop>(
 }
 
 // Whether a name in a directory leads to a directory. A link that leads nowhere does not.
-fn is_directory<R: Files>(rt: &R, alloc: Global, path: &str, name: &str) -> io::Result<bool> {
+fn is_directory<R: Files>(
+    rt: &R,
+    alloc: Global,
+    path: &str,
+    name: &str,
+    has_links: &mut bool,
+) -> io::Result<bool> {
     let path = path_to(alloc, path, name)?;
-    Ok(match if_there(rt.metadata(path.as_str()))? {
+    Ok(match if_there(metadata_at(rt, path.as_str(), has_links))? {
         Some(metadata) => metadata.is_dir(),
         None => false,
     })
@@ -283,8 +309,13 @@ fn is_directory<R: Files>(rt: &R, alloc: Global, path: &str, name: &str) -> io::
 
 // The bytes at the beginning of a file, one more than it may have. What is no plain file is a
 // fault: to open a pipe would be to wait for whoever writes into it.
-fn first_bytes<R: Files>(rt: &R, alloc: Global, path: &str) -> io::Result<Vec<u8>> {
-    if !rt.metadata(path)?.is_file() {
+fn first_bytes<R: Files>(
+    rt: &R,
+    alloc: Global,
+    path: &str,
+    has_links: &mut bool,
+) -> io::Result<Vec<u8>> {
+    if !metadata_at(rt, path, has_links)?.is_file() {
         return Err(io::Error::from(ErrorKind::InvalidInput));
     }
     let mut bytes = Vec::new(alloc);

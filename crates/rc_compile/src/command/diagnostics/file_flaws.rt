@@ -1,5 +1,5 @@
 //! What helps where a file of an entry is not what it is to be.
-use crate::command::diagnostics::entries::{Entry, without_end};
+use crate::command::diagnostics::entries::{Entry, without_end, without_slash};
 use crate::command::diagnostics::listed::{name_on, text_of};
 use crate::command::diagnostics::places::{line_at, offset_of};
 use crate::command::diagnostics::said::Said;
@@ -62,7 +62,13 @@ fn add_unread(search: &mut Search<'_>, path: &str, is_folder: bool) {
         Found::Directory if !is_folder => "is a directory, where a file is due",
         Found::Other if !is_folder => "is a pipe, a socket or a device, where a file is due",
         _ => match opened(search, path, is_folder) {
-            None | Some(ErrorKind::NotFound | ErrorKind::FilesystemLoop) => return,
+            None => {
+                if is_folder {
+                    search.add_unread_name(path);
+                }
+                return;
+            }
+            Some(ErrorKind::NotFound | ErrorKind::FilesystemLoop) => return,
             Some(kind) => word_of(kind).unwrap_or(UNREADABLE),
         },
     };
@@ -200,7 +206,8 @@ fn add_bad_byte(said: &mut Said, path: &str, bytes: &[u8]) {
     said.add(why);
 }
 
-/// Adds which source directory can't be listed, and why.
+/// Adds which source directory can't be listed, and why: it can't be opened, or has a name that is
+/// not UTF-8.
 pub(crate) fn add_root(search: &mut Search<'_>) {
     for root in search.roots {
         let root = root.as_str();
@@ -208,6 +215,9 @@ pub(crate) fn add_root(search: &mut Search<'_>) {
             search
                 .said
                 .add_row(root, ": ", word_of(kind).unwrap_or(UNREADABLE));
+            return;
+        }
+        if search.add_unread_name(without_slash(root)) {
             return;
         }
     }

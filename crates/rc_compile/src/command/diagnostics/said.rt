@@ -84,6 +84,20 @@ impl Said {
         self.note(added);
     }
 
+    /// Adds the bytes of a name: those that are no ASCII characters of text as escapes, such as
+    /// `\xff`.
+    pub(crate) fn add_bytes(&mut self, bytes: &[u8]) {
+        for byte in bytes {
+            let byte = *byte;
+            let added = if byte.is_ascii_graphic() || byte == b' ' {
+                self.text.push(char::from(byte))
+            } else {
+                write!(self.text, "\\x{byte:02x}")
+            };
+            self.note(added);
+        }
+    }
+
     /// Adds what is wrong with a name.
     pub(crate) fn add_wrong(&mut self, wrong: WrongName) {
         match wrong {

@@ -169,6 +169,44 @@ impl<'a> Search<'a> {
         drop(bytes);
     }
 
+    /// Whether a directory has an entry. Names are looked at up to the first one.
+    pub(crate) fn has_entry(&mut self, directory: &str) -> bool {
+        let path = self.said.path(directory, "");
+        let mut listing = Vec::new(self.said.alloc);
+        if let Err(error) = read_folder(self.rt, path.as_str(), &mut listing) {
+            self.said.note_error(&error);
+        }
+        drop(path);
+        let has_entry = self.is_entry_listed(directory, &listing);
+        drop(listing);
+        has_entry
+    }
+
+    /// Whether a listing gives the name of an entry of a directory.
+    fn is_entry_listed(&mut self, directory: &str, listing: &[u8]) -> bool {
+        for name in listing.split(|byte| *byte == 0) {
+            let name = text_of(name);
+            if !name.is_empty() && self.is_shown(directory, name) {
+                return true;
+            }
+        }
+        false
+    }
+
+    /// Adds the first name in a directory that is not UTF-8, if there is one, and returns whether
+    /// there is.
+    pub(crate) fn add_unread_name(&mut self, directory: &str) -> bool {
+        let path = self.said.path(directory, "");
+        let mut listing = Vec::new(self.said.alloc);
+        if let Err(error) = read_folder(self.rt, path.as_str(), &mut listing) {
+            self.said.note_error(&error);
+        }
+        drop(path);
+        let is_there = add_bad_name(&mut self.said, directory, &listing);
+        drop(listing);
+        is_there
+    }
+
     /// Adds the names of what an entry has.
     pub(crate) fn add_files(&mut self, entry: &Entry<'_, '_>, names: &mut Vec<String>) {
         let path = self.said.path(entry.root, entry.name);
@@ -215,6 +253,20 @@ fn read_file(rt: &HostRuntime, path: &str, bytes: &mut Vec<u8>) -> io::Result<us
 fn read_folder(rt: &HostRuntime, path: &str, bytes: &mut Vec<u8>) -> io::Result<usize> {
     let mut listing = rt.open_dir(path)?;
     listing.read_to_end(bytes)
+}
+
+/// Adds the path of the first name of a listing that is not UTF-8, if there is one, and returns
+/// whether there is.
+fn add_bad_name(said: &mut Said, directory: &str, listing: &[u8]) -> bool {
+    for name in listing.split(|byte| *byte == 0) {
+        if std::str::from_utf8(name).is_err() {
+            said.add_row(directory, "/", "");
+            said.add_bytes(name);
+            said.add(": the name is to be UTF-8");
+            return true;
+        }
+    }
+    false
 }
 
 /// Adds a name, but for those of a directory itself and of the one above it.

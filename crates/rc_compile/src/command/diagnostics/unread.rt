@@ -38,11 +38,7 @@ pub fn looks_like_entry(sources: &Sources<'_>) -> Hint {
     let mut search = sources.search();
     for root in search.roots {
         let root = root.as_str();
-        let mut names = Vec::new(search.said.alloc);
-        search.add_names(without_slash(root), true, &mut names);
-        let has_entry = !names.is_empty();
-        drop(names);
-        if !has_entry && add_mistaken(&mut search, root) {
+        if !search.has_entry(without_slash(root)) && add_mistaken(&mut search, root) {
             break;
         }
     }
