@@ -317,6 +317,7 @@ fn serve_both<T: Threads + Wait + Sync, W: Write, G: Gate, S: Store, L>(
 {
     match line_once(host, request, from, &gates.lowers, &ahead.lowering, outputs) {
         Ok(Ending::Done) => {
+            outputs.keeper.enter();
             let to = &mut ahead.to;
             behind(line_once(host, request, to, &gates.raises, &ahead.raising, outputs))
         }

@@ -4,5 +4,3 @@
 mod ServingLemmas
 -- What comes of a run log that was read.
 mod RecoveryLemmas
--- What is found beside the file of a session, by whether that is locked.
-mod NotedLemmas

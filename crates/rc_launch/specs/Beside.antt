@@ -2,7 +2,7 @@
 use Rattle.std.specs.Prelude.{◌≡◌, ℕ, List, Option, None, Some, IsSome, option_map}
 use Rattle.std.specs.Borrow.{Bor}
 use Rattle.rc_args.specs.Programs.{MakingAsk, StartsBy}
-use Rattle.rc_launch.specs.Recovered.{GoesOn, IsRecovered}
+use Rattle.rc_launch.specs.Recovered.{IsRecovered}
 use Rattle.rc_launch.specs.declared.live_store.LiveStore.{LiveStore}
 use Rattle.rc_launch.specs.declared.loading.Loaded.{Loaded}
 use Rattle.rc_args.specs.declared.session_command.SessionCommand.{SessionCommand}
@@ -25,30 +25,31 @@ abbrev pub IsLogOf : Bor (List ℕ) → Note → Type 0
 IsLogOf path (note.Logged log) = log.path ≡ path
 IsLogOf path other = ⊥
 
--- where the file is locked, its run log was read and dealt with; and where it is not, it was only
--- looked at
-abbrev pub IsFoundBy : Loaded → Bor (List ℕ) → (locked : Type 0) → Note → Type 0
-IsFoundBy loaded path locked (note.Locked recovery) = locked × IsRecovered loaded path recovery
-IsFoundBy loaded path locked note.Nothing = locked → ⊥
-IsFoundBy loaded path locked note.UnderWay = locked → ⊥
-IsFoundBy loaded path locked note.Cut = locked → ⊥
-IsFoundBy loaded path locked (note.Logged log) = ⊥
+-- what is found beside a file that is not locked: where it is shown where services stand its log
+-- was read, and else it was only looked at
+abbrev pub IsLookedBy : SessionCommand → Bor (List ℕ) → Note → Type 0
+IsLookedBy (Status request) path note = IsLogOf path note
+IsLookedBy other path note = IsSeen note
 
--- what was found beside the file of a session; where it is to be shown where services stand, the
--- run log was read
-abbrev pub IsNotedFor : SessionCommand → Loaded → Bor (List ℕ) → (locked : Type 0) → Note → Type 0
-IsNotedFor (Status request) loaded path locked note = IsLogOf path note
-IsNotedFor other loaded path locked note = IsFoundBy loaded path locked note
+abbrev pub IsLookedAt : SessionCommand → (live : Option (Bor (List ℕ))) → Note → Type 0
+IsLookedAt command None note = IsSeen note
+IsLookedAt command (Some path) note = IsLookedBy command path note
 
--- the same, if one is named
-abbrev pub IsNoted : Loaded → (live : Option (Bor (List ℕ))) → (locked : Type 0) → Note → Type 0
-IsNoted loaded None locked note = IsSeen note
-IsNoted loaded (Some path) locked note = IsNotedFor loaded.command loaded path locked note
+-- what comes first of a command whose file is locked: the run log was read and dealt with
+abbrev pub IsEntered : Loaded → Bor (List ℕ) → Note → Type 0
+IsEntered loaded path (note.Locked recovery) = IsRecovered loaded path recovery
+IsEntered loaded path other = ⊥
 
--- the command goes on with an update that was cut short
-abbrev pub GoesOnBy : Loaded → Note → Type 0
-GoesOnBy loaded (note.Locked recovery) = GoesOn loaded recovery
-GoesOnBy loaded other = ⊥
+abbrev pub IsEnteredFirst : Loaded → (live : Option (Bor (List ℕ))) → Note → Type 0
+IsEnteredFirst loaded None note = IsSeen note
+IsEnteredFirst loaded (Some path) note = IsEntered loaded path note
+
+-- what was found beside the file of a session: where that is locked its run log was dealt with, and
+-- where it is not it was only looked at
+pub record IsNoted (loaded : Loaded) (live : Option (Bor (List ℕ))) (locked : Type 0) (note : Note)
+    : Type 0 where
+  pub entered : locked → IsEnteredFirst loaded live note
+  pub looked : (locked → ⊥) → IsLookedAt loaded.command live note
 
 -- a lock was asked for, and is held
 abbrev pub IsHeld : Option TriedLock → Type 0

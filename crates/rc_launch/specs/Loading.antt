@@ -1,16 +1,17 @@
 -- What is read for a command on the file of a session.
-use Rattle.std.specs.Prelude.{◌≡◌, ℕ, Bool, List, [], Option, None, Some, false, option_map}
+use Rattle.std.specs.Prelude.{◌≡◌, ℕ, List, [], Option, None, Some, false, option_map}
 use Rattle.std.specs.Prelude.{unwrap_or}
 use Rattle.std.specs.Borrow.{Bor}
 use Rattle.rc_args.specs.Invocation.{command_session}
 use Rattle.rc_args.specs.OnceAsked.{once_saying_of}
-use Rattle.rc_args.specs.UpdateAsked.{update_ask_of}
 use Rattle.rc_args.specs.declared.session_command.SessionCommand.{SessionCommand}
 use Rattle.rc_args.specs.declared.session_command.SessionCommand.TheVariants as command
 use Rattle.rc_args.specs.declared.session_request.SessionRequest.{SessionRequest}
 use Rattle.rc_cli.specs.Deciding.{Moves}
 use Rattle.rc_launch.specs.declared.loading.Loaded.{Loaded}
 use Rattle.rc_launch.specs.declared.texts.FileText.{FileText}
+use Rattle.rc_launch.specs.declared.texts.FoundHistory.{FoundHistory}
+use Rattle.rc_launch.specs.declared.texts.LiveText.{LiveText}
 
 -- something is to be done, and not only shown
 abbrev pub MovesBy : SessionCommand → Type 0
@@ -49,34 +50,19 @@ AreLines other = ⊥
 abbrev pub IsOfLines : Loaded → Type 0
 IsOfLines loaded = AreLines loaded.command
 
--- it is an update
-abbrev pub IsUpdate : SessionCommand → Type 0
-IsUpdate (command.Update request) = Unit {0}
-IsUpdate other = ⊥
+-- the file of the database of a command: that of its session, where it has a database, and else the
+-- one that is named
+abbrev pub file_by : Option FoundHistory → (live file : Option (Bor (List ℕ)))
+    → Option (Bor (List ℕ))
+file_by (Some history) (Some path) file = Some path
+file_by (Some history) None file = file
+file_by None live file = file
 
-abbrev pub IsUpdating : Loaded → Type 0
-IsUpdating loaded = IsUpdate loaded.command
+abbrev pub base_file : LiveText → (file : Option (Bor (List ℕ))) → Option (Bor (List ℕ))
+base_file live file = file_by live.history live.path file
 
--- an update was begun before, and was cut short
-abbrev pub is_again : SessionCommand → Bool
-is_again (command.Update request) = request.again
-is_again other = false
-
-abbrev pub again_in : Loaded → Bool
-again_in loaded = is_again loaded.command
-
--- a command with the files that it names, read
-abbrev pub IsLoaded : SessionCommand → (file : Option (Bor (List ℕ))) → Loaded → Type 0
-IsLoaded command file loaded = (loaded.command ≡ command)
-    × (option_map path_of loaded.base ≡ file) × (option_map path_of loaded.new ≡ new_file command)
-
--- what is asked is the same, but for whether an update was begun before
-abbrev pub IsSameCommand : SessionCommand → SessionCommand → Type 0
-IsSameCommand (command.Update request) (command.Update same) =
-    update_ask_of same ≡ record (update_ask_of request) { again = same.again }
-IsSameCommand one other = other ≡ one
-
--- the same command, with the same files
-abbrev pub IsAsLoaded : Loaded → Loaded → Type 0
-IsAsLoaded one other = IsSameCommand one.command other.command
-    × (other.base ≡ one.base) × (other.new ≡ one.new)
+-- a command with the databases that were read for it
+abbrev pub IsLoaded : SessionCommand → (file : Option (Bor (List ℕ))) → LiveText → Loaded → Type 0
+IsLoaded command file live loaded = (loaded.command ≡ command)
+    × (option_map path_of loaded.base ≡ base_file live file)
+    × (option_map path_of loaded.new ≡ new_file command)

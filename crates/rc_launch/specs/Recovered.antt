@@ -1,5 +1,5 @@
 -- What came of a run log beside the file of a session that is locked.
-use Rattle.std.specs.Prelude.{◌≡◌, ◌⊎◌, ◌++◌, ℕ, List, [], Option, None, Some, codes, option_map}
+use Rattle.std.specs.Prelude.{◌≡◌, ℕ, List, [], Option, None, Some, option_map}
 use Rattle.std.specs.Prelude.{unwrap_or}
 use Rattle.std.specs.Borrow.{Bor}
 use Rattle.rc_recovery.specs.Files.{Files}
@@ -7,7 +7,7 @@ use Rattle.rc_update.specs.Conversions.{conversions_of}
 use Rattle.rc_cli.specs.Begun.{BeginsUpdate}
 use Rattle.rc_launch.specs.Held.{files_held}
 use Rattle.rc_launch.specs.Logs.{IsCutBy}
-use Rattle.rc_launch.specs.Recovering.{IsNoBase, Leaves, LeavesNothing, LeavesUnfit}
+use Rattle.rc_launch.specs.Recovering.{IsNoBase, Leaves, LeavesNothing}
 use Rattle.rc_launch.specs.Loading.{bytes_in, bytes_of}
 use Rattle.rc_launch.specs.declared.held_files.HeldFiles.{HeldFiles}
 use Rattle.rc_launch.specs.declared.loading.Loaded.{Loaded}
@@ -41,20 +41,16 @@ ComesBy base old new (Entered report) = Leaves base old new report.items
 ComesBy base old new Nothing = LeavesNothing base old new
 ComesBy base old new NoDatabase = IsNoBase base × (new ≡ old)
 
--- what comes of it by the first of two databases that it fits; without any nothing does
-abbrev pub Comes : (base other : Option (List ℕ)) → (old new : Files) → Came → Type 0
-Comes None other old new came = ⊥
-Comes (Some base) None old new came = ComesBy base old new came
-Comes (Some base) (Some other) old new came = ComesBy base old new came
-    ⊎ (LeavesUnfit base old old × ComesBy other old new came)
+-- what comes of it by the database of a session; without one nothing does
+abbrev pub Comes : (base : Option (List ℕ)) → (old new : Files) → Came → Type 0
+Comes None old new came = ⊥
+Comes (Some base) old new came = ComesBy base old new came
 
--- what comes of it by the databases of a command
 abbrev pub ComesFor : Loaded → (old new : Files) → Came → Type 0
-ComesFor loaded old new came = Comes (option_map bytes_in loaded.base)
-    (option_map bytes_in loaded.new) old new came
+ComesFor loaded old new came = Comes (option_map bytes_in loaded.base) old new came
 
 -- a log that is not empty was dealt with: it is removed where it is of another text, and else
--- recovered by the databases of the command
+-- recovered by the database of the session
 abbrev pub IsMade : Loaded → ReadFiles → HeldFiles → Came → Type 0
 IsMade loaded read held Stale = (IsCut read → ⊥)
     × (files_held held ≡ record { file = (files_read read).file; log = [] })
@@ -73,11 +69,6 @@ report_of (recovery.Bare log) = None
 report_of (recovery.Made read held (Entered report)) = Some report.items
 report_of (recovery.Made read held other) = None
 
--- what was entered has lowered something
-abbrev pub HasLowered : Came → Type 0
-HasLowered (Entered report) = (rest : List ℕ) × (report.items ≡ codes "lowered " ++ rest)
-HasLowered other = ⊥
-
 -- the log that was read is that of the first step of the update that is asked for
 abbrev pub IsFirstStepOf : SessionCommand → (old new : Option FileText) → ReadFiles → Type 0
 IsFirstStepOf (Update request) old new read = BeginsUpdate (bytes_of old) (bytes_of new)
@@ -86,9 +77,3 @@ IsFirstStepOf other old new read = ⊥
 
 abbrev pub IsFirstStep : Loaded → ReadFiles → Type 0
 IsFirstStep loaded read = IsFirstStepOf loaded.command loaded.base loaded.new read
-
--- the command goes on with an update that was cut short in its first step, which had lowered
--- something: where it had not, the last entry of the session is that of an earlier command
-abbrev pub GoesOn : Loaded → Recovery → Type 0
-GoesOn loaded (recovery.Bare log) = ⊥
-GoesOn loaded (recovery.Made read held came) = IsFirstStep loaded read × HasLowered came

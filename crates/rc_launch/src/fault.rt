@@ -1,4 +1,5 @@
 //! Why the files of a command are not opened.
+use rc_historytext::HistoryFault;
 use rc_streams::inherited::Unfit;
 use std::io;
 use thiserror::Error;
@@ -12,6 +13,9 @@ pub enum OpenFault<'a> {
     /// This file can't be read.
     #[error("a file can't be read")]
     File(&'a str, io::Error),
+    /// The text of this file is to be a history, and is none.
+    #[error("a file is no history")]
+    History(&'a str, HistoryFault),
     /// Another program goes on with the session of this file, of this process id where that is
     /// known.
     #[error("another program goes on with the session")]

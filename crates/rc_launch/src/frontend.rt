@@ -18,7 +18,7 @@ pub use crate::frontend::answers::Answers;
 pub use crate::frontend::compiling::compile;
 pub use crate::frontend::fault_lines::Told;
 pub use crate::frontend::hints::{
-    Seen, ToldErrors, behind_session, tell_failure, tell_file, told_errors,
+    Seen, ToldErrors, behind_session, tell_failure, tell_file, tell_no_history, told_errors,
 };
 pub use crate::frontend::moves::{tell_moves, tell_renames};
 pub use crate::frontend::querying::query;

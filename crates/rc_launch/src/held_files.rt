@@ -2,11 +2,14 @@
 ghost use Rattle.std.specs.Prelude.{◌≡◌, IfOk, IsSome, option_map, unwrap_or, []};
 ghost use Rattle.rc_launch.specs.Held.{IsUnwritten, WasLeft, files_held};
 
+use crate::fronts::behind;
 use crate::texts::ReadFiles;
+use rc_historytext::{HistoryFault, Keeping, keep_session, standing_of};
 use rc_recovery::{FileFault, TwoFiles};
 use rc_streams::replaced_file::replace;
 use rc_streams::run_file;
 use std::alloc::{AllocError, Global};
+use std::io::ErrorKind;
 use std::{io, mem};
 
 /// A write that was begun, with what tells what the files held before it, or what a failed one may
@@ -36,16 +39,22 @@ pub struct HeldFiles<'a> {
     path: &'a str,
     file: Vec<u8>,
     log: Vec<u8>,
+    /// The text of the history that the file is, if it is one.
+    history: Option<Vec<u8>>,
+    /// What the command of the log does to the states of the session.
+    keeping: Keeping,
     /// The last one stands last.
     begun: Vec<Begun>,
     error: Option<io::Error>,
 }
 
 impl<'a> HeldFiles<'a> {
-    /// The files of which this was read, while they were locked.
+    /// The files of which this was read, while they were locked: whether the log is that of the
+    /// first step of the update that is asked for.
     pub(crate) fn new(
         rt: &'a HostRuntime,
         read: &ReadFiles<'a>,
+        is_first_step: bool,
     ) -> Result<HeldFiles<'a>, AllocError>
         ensures path { IfOk result (λ held. held.path ≡ read.now.logged.path) }
         ensures file { IfOk result (λ held. held.file.items
@@ -53,18 +62,23 @@ impl<'a> HeldFiles<'a> {
         ensures log { IfOk result (λ held. held.log.items ≡ read.now.logged.bytes.items) }
         ensures unwritten { IfOk result IsUnwritten }
     {
-        let file = Vec::from_slice(rt.alloc(), read.text())?;
-        match Vec::from_slice(rt.alloc(), read.log()) {
-            Ok(log) => Ok(HeldFiles {
+        let history = match read.history() {
+            Some(text) => Some(Vec::from_slice(rt.alloc(), text)?),
+            None => None,
+        };
+        match copies(rt.alloc(), read) {
+            Ok((file, log)) => Ok(HeldFiles {
                 rt,
                 path: read.path(),
                 file,
                 log,
+                history,
+                keeping: keeping_of(rt.alloc(), read, is_first_step),
                 begun: Vec::new(rt.alloc()),
                 error: None,
             }),
             Err(short) => {
-                drop(file);
+                drop(history);
                 Err(short)
             }
         }
@@ -75,6 +89,73 @@ impl<'a> HeldFiles<'a> {
         ensures { result ≡ self.entry.error }
     {
         self.error
+    }
+}
+
+// Copies of what was read of both files.
+fn copies(alloc: Global, read: &ReadFiles<'_>) -> Result<(Vec<u8>, Vec<u8>), AllocError>
+    ensures file { IfOk result (λ both. both.0.items
+        ≡ unwrap_or (option_map (λ bytes. bytes.items) read.now.found) []) }
+    ensures log { IfOk result (λ both. both.1.items ≡ read.now.logged.bytes.items) }
+{
+    let file = Vec::from_slice(alloc, read.text())?;
+    match Vec::from_slice(alloc, read.log()) {
+        Ok(log) => Ok((file, log)),
+        Err(short) => {
+            drop(file);
+            Err(short)
+        }
+    }
+}
+
+// What the command of a log does to the states of the session. The first step of the update that is
+// asked for leaves a state that is passed, and so does what began on one. An undo or a redo drops
+// none, also where it goes on from a state that is passed.
+fn keeping_of(alloc: Global, read: &ReadFiles<'_>, is_first_step: bool) -> Keeping {
+    let is_passed = match read.history() {
+        Some(history) => match standing_of(alloc, history) {
+            Ok(standing) => standing.is_passed,
+            Err(_) => false,
+        },
+        None => false,
+    };
+    let rest = behind(read.text(), read.log()).unwrap_or(&[]);
+    if is_way(rest) {
+        Keeping::Way
+    } else if is_first_step || is_passed {
+        Keeping::Step
+    } else {
+        Keeping::Command
+    }
+}
+
+// Whether the line of a command is an undo or a redo. Its limit may stand before it.
+fn is_way(line: &[u8]) -> bool {
+    let mut before: u32 = if line.starts_with(b"-t ") { 2 } else { 0 };
+    for word in line.split(|byte| *byte == b' ' || *byte == b'\n') {
+        if before == 0 {
+            return word == b"undo".as_slice() || word == b"redo".as_slice();
+        }
+        before = before.saturating_sub(1);
+    }
+    false
+}
+
+impl HeldFiles<'_> {
+    // Puts a text into the file, in the place of the present session where that is a history.
+    fn put(&self, text: &[u8]) -> io::Result<()> {
+        let Some(history) = &self.history else {
+            return replace(self.rt, self.path, text);
+        };
+        match keep_session(self.rt.alloc(), history, text, self.keeping) {
+            Ok(whole) => {
+                let put = replace(self.rt, self.path, &whole);
+                drop(whole);
+                put
+            }
+            Err(HistoryFault::Memory) => Err(io::Error::from(ErrorKind::OutOfMemory)),
+            Err(_) => Err(io::Error::from(ErrorKind::InvalidData)),
+        }
     }
 }
 
@@ -130,7 +211,7 @@ impl TwoFiles for HeldFiles<'_> {
             drop(copy);
             return Err(FileFault::Memory);
         }
-        if let Err(error) = replace(self.rt, self.path, text) {
+        if let Err(error) = self.put(text) {
             self.begun.push_reserved(Begun::FailedReplace(copy));
             self.error = Some(error);
             return Err(FileFault::Io);

@@ -1,8 +1,10 @@
-//! Runs commands on their files. `open` reads the databases, locks the file of the session, enters
-//! what a killed command moved, and then reads that file. `serve` carries the command out on what
-//! `open` read. The module `frontend` runs the commands without a session, and prints hints.
+//! Runs commands on their files. `open` locks the file of the session, reads it and the databases,
+//! and enters what a killed command moved. `serve` carries the command out on what `open` read, and
+//! `carry_out` leads it across the borders of a history. The module `frontend` runs the commands
+//! without a session, and prints hints.
 #![tactic(auto)]
 
+mod borders;
 mod fault;
 pub mod frontend;
 mod fronts;
@@ -17,6 +19,7 @@ mod recovery;
 mod runs;
 mod serving;
 mod texts;
+mod travel;
 mod tried_lock;
 
 pub use crate::fault::OpenFault;
@@ -29,3 +32,4 @@ pub use crate::recovering::{Unrecovered, left_report, recover_by};
 pub use crate::runs::Runs;
 pub use crate::serving::{Status, serve};
 pub use crate::texts::{FileText, LiveText, LogText, ReadFiles};
+pub use crate::travel::carry_out;

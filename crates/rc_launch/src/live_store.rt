@@ -1,23 +1,57 @@
-//! The file in which a session is kept, and its lock. Its text is replaced whole. A text that
-//! stands there already is not written again: that it could be is found out by a file beside it.
-ghost use Rattle.std.specs.Prelude.{◌≡◌, ◌≢◌, ◌↔◌, None, Some, option_map, if◌then◌else◌, IfOk};
+//! The file in which a session is kept, and its lock: the text of a session alone, or a history in
+//! which it is the present one. It is replaced whole. What stands there already is not written
+//! again: that it could be is found out by a file beside it.
+ghost use Rattle.std.specs.Prelude.{◌≡◌, ◌≢◌, ◌↔◌, None, option_map, if◌then◌else◌, IfErr, IfOk};
 ghost use Rattle.std.specs.Prelude.{true, IsSome, IsTrue, OnErr};
 ghost use Rattle.rc_args.specs.Making.{making_ask_of};
 ghost use Rattle.rc_args.specs.Programs.{StartsBy};
 ghost use Rattle.rc_launch.specs.Beside.{AreRunsOf, IsLocked};
-ghost use Rattle.rc_launch.specs.Logs.{text_in};
+ghost use Rattle.rc_launch.specs.Loading.{session_in};
 ghost use Rattle.rc_launch.specs.Opening.{LocksFor, Replaces};
 
+use crate::loading::Loaded;
+use crate::opened::Opened;
 use crate::runs::{Runs, RunsFault};
-use crate::texts::LiveText;
 use crate::tried_lock::TriedLock;
-use rc_args::Making;
+use rc_args::{Making, Once, SessionCommand};
 use rc_cli::sessions::{KeptText, Store, keep_fault};
+use rc_historytext::{
+    HistoryFault, Keeping, cross_border, enter_generation, keep_session, new_history, settle_state,
+};
+use rc_script::SessionLine;
 use rc_serve::KeepFault;
+use rc_session::Command;
 use rc_streams::live_lock::LockFault;
 use rc_streams::replaced_file::{probe, replace};
-use rc_streams::run_file::{Room, give_room};
-use std::io;
+use rc_streams::run_file::give_room;
+use rc_update::Conversion;
+use std::alloc::{AllocError, Global};
+use std::fs::{self, Permissions};
+use std::io::{self, ErrorKind};
+use std::os::unix::fs::PermissionsExt;
+
+/// The rights of a group and of others to read.
+const READ: u32 = 0o044;
+
+/// What the text of a session is kept in.
+#[derive(Drop)]
+enum Frame<'a> {
+    /// Nothing: it is alone. This stands there, where that was read since it was locked.
+    Alone(Option<&'a [u8]>),
+    /// A history that is to begin with this database.
+    Begins(&'a [u8]),
+    /// The history of this text, which stands there.
+    History(Vec<u8>),
+}
+
+/// The generation that an update begins: its database, the conversions that lead to it, and the
+/// file that the database was read from.
+#[derive(Clone, Copy, Drop)]
+struct Next<'a> {
+    database: &'a [u8],
+    list: &'a [Conversion<'a>],
+    source: &'a str,
+}
 
 /// A file by its path, which may lead through links, and to nothing yet; its lock, which is held
 /// until the store is dropped; and why it could not be written.
@@ -26,8 +60,14 @@ pub struct LiveStore<'a> {
     rt: &'a HostRuntime,
     path: &'a str,
     lock: Option<TriedLock<'a>>,
-    /// The text that stands there, where that was read since it was locked.
-    text: Option<&'a [u8]>,
+    frame: Frame<'a>,
+    /// What the command does to the states of the session.
+    keeping: Keeping,
+    /// Where an update leads, and whether it has come there.
+    next: Option<Next<'a>>,
+    is_entering: bool,
+    /// The file of a database that is taken over: who may not read it may not read this one.
+    source: Option<&'a str>,
     /// Why the file could not be written, if it could not.
     error: Option<io::Error>,
 }
@@ -59,32 +99,48 @@ impl<'a> LiveStore<'a> {
             rt,
             path,
             lock,
-            text: None,
+            frame: Frame::Alone(None),
+            keeping: Keeping::Command,
+            next: None,
+            is_entering: false,
+            source: None,
             error: None,
         })
     }
 
-    /// The same store, in whose file this text was found since it was locked.
-    pub fn with_text(self, text: &'a LiveText<'_>) -> LiveStore<'a>
-        ensures path { result.path ≡ self.entry.path }
-        ensures lock { result.lock ≡ self.entry.lock }
-        ensures error { result.error ≡ self.entry.error }
-        ensures text { option_map (λ bytes. bytes.now) result.text
-            ≡ text_in (λ bytes. bytes.items) text.now.found }
+    /// The same store for a command, of what was found in its file since it was locked.
+    pub fn of(self, opened: &'a Opened<'_>) -> Result<LiveStore<'a>, AllocError>
+        ensures path { IfOk result (λ store. store.path ≡ self.entry.path) }
+        ensures lock { IfOk result (λ store. store.lock ≡ self.entry.lock) }
+        ensures error { IfOk result (λ store. store.error ≡ self.entry.error) }
     {
         let LiveStore {
             rt,
             path,
             lock,
-            text: _,
+            frame: _,
+            keeping: _,
+            next: _,
+            is_entering: _,
+            source: _,
             error,
         } = self;
-        LiveStore {
-            rt,
-            path,
-            lock,
-            text: text.bytes(),
-            error,
+        match frame_of(rt.alloc(), opened) {
+            Ok(frame) => Ok(LiveStore {
+                rt,
+                path,
+                lock,
+                frame,
+                keeping: keeping_of(opened.command()),
+                next: next_of(opened),
+                is_entering: false,
+                source: source_of(opened),
+                error,
+            }),
+            Err(short) => {
+                drop((lock, error));
+                Err(short)
+            }
         }
     }
 
@@ -95,13 +151,133 @@ impl<'a> LiveStore<'a> {
         self.error.as_ref()
     }
 
-    /// Whether this text stands there already.
-    fn has(&self, bytes: &[u8]) -> bool
-        ensures { IsTrue result ↔ (option_map (λ text. text.now) self.now.text ≡ Some bytes.now) }
+    /// The text of the history that stands in the file, if one does.
+    pub(crate) fn history(&self) -> Option<&[u8]> {
+        match &self.frame {
+            Frame::History(text) => Some(text),
+            _ => None,
+        }
+    }
+
+    /// Crosses a border of the history, as one write.
+    pub(crate) fn cross(&mut self, is_on: bool) -> Result<(), KeepFault> {
+        let Frame::History(text) = &self.frame else {
+            return Ok(());
+        };
+        let crossed = cross_border(self.rt.alloc(), text, is_on);
+        self.put_made(crossed)
+    }
+
+    /// Makes the current state of the history a stop, if it is none, as one write.
+    pub(crate) fn settle(&mut self) -> Result<(), KeepFault> {
+        let Frame::History(text) = &self.frame else {
+            return Ok(());
+        };
+        let settled = settle_state(self.rt.alloc(), text);
+        self.put_made(settled)
+    }
+
+    /// What is kept from now on is what a command does to the states of the session.
+    pub(crate) fn keep_as(&mut self, keeping: Keeping) {
+        self.keeping = keeping;
+    }
+
+    // Puts a history there that was made, and notes why that fails.
+    fn put_made(&mut self, made: Result<Vec<u8>, HistoryFault>) -> Result<(), KeepFault> {
+        let put = match made {
+            Ok(whole) => self.put_history(whole),
+            Err(fault) => Err(history_error(fault)),
+        };
+        self.noted(put)
+    }
+
+    // Puts a history there, unless it stands there.
+    fn put_history(&mut self, whole: Vec<u8>) -> io::Result<()> {
+        let stands = match &self.frame {
+            Frame::History(text) => text == &whole,
+            _ => false,
+        };
+        if stands {
+            drop(whole);
+            return probe(self.rt, self.path);
+        }
+        let _ = give_room(self.rt, self.path);
+        if let Some(source) = self.source {
+            if let Err(error) = self.narrow(source) {
+                drop(whole);
+                return Err(error);
+            }
+        }
+        match replace(self.rt, self.path, &whole) {
+            Ok(()) => {
+                self.frame = Frame::History(whole);
+                Ok(())
+            }
+            Err(error) => {
+                drop(whole);
+                Err(error)
+            }
+        }
+    }
+
+    // Takes the rights to read from the file that the file of a database does not give, of which
+    // bytes are taken over. A file that is not there yet is made first, with the text of the
+    // session.
+    fn narrow(&self, source: &str) -> io::Result<()> {
+        let (Ok(found), Ok(from)) = (
+            fs::metadata(self.rt, self.path),
+            fs::metadata(self.rt, source),
+        ) else {
+            return Ok(());
+        };
+        let (has, gives) = (found.permissions().mode(), from.permissions().mode());
+        let rights = has & (gives | !READ);
+        if found.is_file() && from.is_file() && rights != has {
+            return fs::set_permissions(self.rt, self.path, Permissions::from_mode(rights));
+        }
+        Ok(())
+    }
+
+    // Puts the text of a session there, alone.
+    fn put_alone(&mut self, text: &[u8]) -> io::Result<()> {
+        let stands = match &self.frame {
+            Frame::Alone(Some(found)) => *found == text,
+            _ => false,
+        };
+        if stands {
+            return probe(self.rt, self.path);
+        }
+        self.frame = Frame::Alone(None);
+        let _ = give_room(self.rt, self.path);
+        replace(self.rt, self.path, text)
+    }
+
+    // The text of the history in which this session is the present one. None: it is kept alone.
+    fn framed(&self, text: &[u8]) -> Option<Result<Vec<u8>, HistoryFault>> {
+        let alloc = self.rt.alloc();
+        match (&self.frame, self.next) {
+            (Frame::Alone(_), _) => None,
+            (Frame::Begins(database), _) => Some(new_history(alloc, database, text)),
+            (Frame::History(history), Some(next)) if self.is_entering => {
+                Some(enter_generation(alloc, history, next.database, text, next.list))
+            }
+            (Frame::History(history), _) => {
+                Some(keep_session(alloc, history, text, self.keeping))
+            }
+        }
+    }
+
+    // Notes why a write failed.
+    fn noted(&mut self, put: io::Result<()>) -> Result<(), KeepFault>
+        ensures { IfErr result (λ fault. fault ≡ KeepFault.Io → IsSome self.new.error) }
     {
-        match self.text {
-            Some(text) => text == bytes,
-            None => false,
+        match put {
+            Ok(()) => Ok(()),
+            Err(error) => {
+                let fault = keep_fault(&error);
+                self.error = Some(error);
+                Err(fault)
+            }
         }
     }
 
@@ -115,25 +291,18 @@ impl<'a> LiveStore<'a> {
         }
     }
 
-    /// Makes the files of the runs of a session that is to start programs: those beside the file of
-    /// `-l`, where that is locked, with this room for a run. The session serves the lines of an
-    /// input or not.
-    pub(crate) fn runs(
-        &self,
-        making: &Making<'_>,
-        room: Room,
-        is_of_lines: bool,
-    ) -> Result<Option<Runs<'a>>, RunsFault>
-        ensures made { IfOk result (AreRunsOf (making_ask_of making.now) self.now) }
-        ensures unasked { OnErr result (StartsBy (making_ask_of making.now) × IsLocked self.now) }
+    /// Makes the files of the runs of a command that is to start programs: those beside the file of
+    /// `-l`, where that is locked.
+    pub(crate) fn runs(&self, loaded: &Loaded<'_>) -> Result<Option<Runs<'a>>, RunsFault>
+        ensures made { IfOk result
+            (AreRunsOf (making_ask_of (session_in loaded.now).making) self.now) }
+        ensures unasked { OnErr result
+            (StartsBy (making_ask_of (session_in loaded.now).making) × IsLocked self.now) }
     {
-        match (making, &self.lock) {
-            (Making::Programs(_), Some(lock)) if lock.is_held() => Ok(Some(Runs::open(
-                self.rt,
-                lock.path(),
-                room,
-                is_of_lines,
-            )?)),
+        match (&loaded.session().making, &self.lock) {
+            (Making::Programs(_), Some(lock)) if lock.is_held() => {
+                Ok(Some(Runs::open(self.rt, lock.path(), loaded)?))
+            }
             _ => Ok(None),
         }
     }
@@ -145,21 +314,105 @@ impl Store for LiveStore<'_> {
     ghost failed = { λ s. IsSome s.error };
 
     fn replace(&mut self, text: KeptText<'_>) -> Result<(), KeepFault> {
-        let put = if self.has(text.bytes()) {
-            probe(self.rt, self.path)
-        } else {
-            self.text = None;
-            let _ = give_room(self.rt, self.path);
-            replace(self.rt, self.path, text.bytes())
+        let put = match self.framed(text.bytes()) {
+            None => self.put_alone(text.bytes()),
+            Some(Ok(whole)) => match self.made_first(text.bytes()) {
+                Ok(()) => self.put_entered(whole),
+                Err(error) => {
+                    drop(whole);
+                    Err(error)
+                }
+            },
+            Some(Err(fault)) => Err(history_error(fault)),
         };
-        match put {
-            Ok(()) => Ok(()),
-            Err(error) => {
-                let fault = keep_fault(&error);
-                self.error = Some(error);
-                Err(fault)
+        self.noted(put)
+    }
+
+    fn enter(&mut self) {
+        self.is_entering = self.next.is_some();
+    }
+}
+
+impl LiveStore<'_> {
+    // Makes a file that is not there yet, in which a history is to begin: it is then nobody's but
+    // those who may read the database.
+    fn made_first(&self, text: &[u8]) -> io::Result<()> {
+        match fs::metadata(self.rt, self.path) {
+            Err(error) if error.kind() == ErrorKind::NotFound => {
+                replace(self.rt, self.path, text)
             }
+            _ => Ok(()),
         }
+    }
+
+    // Puts a history there that an update has entered or not. The next session that is kept is of
+    // the generation that it has entered.
+    fn put_entered(&mut self, whole: Vec<u8>) -> io::Result<()> {
+        let source = match self.next {
+            Some(next) if self.is_entering => Some(next.source),
+            _ => self.source,
+        };
+        self.source = source;
+        let put = self.put_history(whole);
+        if put.is_ok() && self.is_entering {
+            self.is_entering = false;
+            self.next = None;
+        }
+        put
+    }
+}
+
+// Why a history was not made, as a fault of its file.
+fn history_error(fault: HistoryFault) -> io::Error {
+    match fault {
+        HistoryFault::Memory => io::Error::from(ErrorKind::OutOfMemory),
+        _ => io::Error::from(ErrorKind::InvalidData),
+    }
+}
+
+// What the session of a command is kept in: the history that its file has, or a new one with the
+// database of the command where an update begins it.
+fn frame_of<'a>(alloc: Global, opened: &'a Opened<'_>) -> Result<Frame<'a>, AllocError> {
+    if let Some(history) = opened.live().history() {
+        return Ok(Frame::History(Vec::from_slice(alloc, history)?));
+    }
+    match (opened.command(), opened.base()) {
+        (SessionCommand::Update(_), Some(base)) => Ok(Frame::Begins(base.bytes())),
+        _ => Ok(Frame::Alone(opened.live().bytes())),
+    }
+}
+
+// What a command does to the states of the session.
+fn keeping_of(command: &SessionCommand<'_>) -> Keeping {
+    match command {
+        SessionCommand::Update(_) => Keeping::Step,
+        SessionCommand::Restart(_) => Keeping::Command,
+        SessionCommand::Seal(_) => Keeping::Seal,
+        SessionCommand::Line(request) => match &request.once {
+            Once::Line(SessionLine::Command(Command::Undo(_) | Command::Redo(_))) => Keeping::Way,
+            _ => Keeping::Command,
+        },
+        SessionCommand::Lines(_) | SessionCommand::Status(_) => Keeping::Way,
+    }
+}
+
+// The generation that an update begins.
+fn next_of<'a>(opened: &'a Opened<'_>) -> Option<Next<'a>> {
+    match (opened.command(), opened.new_base()) {
+        (SessionCommand::Update(request), Some(new)) => Some(Next {
+            database: new.bytes(),
+            list: &request.conversions,
+            source: new.path(),
+        }),
+        _ => None,
+    }
+}
+
+// The file of the database that a history is to begin with.
+fn source_of<'a>(opened: &'a Opened<'_>) -> Option<&'a str> {
+    match (opened.live().history(), opened.base()) {
+        (None, Some(base)) => Some(base.path()),
+        _ => None,
     }
 }
 

@@ -1,10 +1,10 @@
 //! The databases of a command are read.
-ghost use Rattle.std.specs.Prelude.{◌≡◌, ◌↔◌, true, option_map, IfOk, IsTrue};
-ghost use Rattle.rc_launch.specs.Loading.{IsAsLoaded, IsLoaded, IsOfLines, IsUpdating, MovesBy};
-ghost use Rattle.rc_launch.specs.Loading.{again_in, bytes_of, new_file, path_of, session_in};
+ghost use Rattle.std.specs.Prelude.{◌≡◌, ◌↔◌, option_map, IfOk, IsTrue};
+ghost use Rattle.rc_launch.specs.Loading.{IsLoaded, IsOfLines, MovesBy, base_file};
+ghost use Rattle.rc_launch.specs.Loading.{bytes_of, new_file, path_of, session_in};
 
 use crate::fault::OpenFault;
-use crate::texts::FileText;
+use crate::texts::{FileText, LiveText};
 use rc_args::{Making, Once, SessionCommand, SessionRequest};
 use rc_cli::sessions::moves;
 use rc_script::SessionLine;
@@ -22,10 +22,12 @@ const BUNDLE: &[u8] = b"bundle ";
 #[derive(Drop)]
 pub(crate) struct Loaded<'a> {
     pub command: SessionCommand<'a>,
-    /// The file of `-b`, if one is named.
+    /// The database of the session, if its file has one, else the file of `-b`, if one is named.
     pub base: Option<FileText<'a>>,
     /// The file of the new database of an update.
     pub new: Option<FileText<'a>>,
+    /// The file of `-b`, where it has another database than that of the session.
+    pub other: Option<&'a str>,
 }
 
 impl<'a> Loaded<'a> {
@@ -53,28 +55,15 @@ impl<'a> Loaded<'a> {
             _ => room.if_there(),
         }
     }
+}
 
-    /// Whether scripts may be run for it: a lone edit runs none, and neither does a seal.
-    pub fn runs_scripts(&self) -> bool {
-        let making = &self.session().making;
-        match &self.command {
-            SessionCommand::Line(request) => starts(making) && !is_edit(&request.once),
-            SessionCommand::Seal(_) | SessionCommand::Status(_) => false,
-            _ => starts(making),
-        }
-    }
-
-    /// The same, of an update that was begun before or not.
-    pub fn with_again(self, again: bool) -> Loaded<'a>
-        ensures same { IsAsLoaded self.entry result }
-        ensures again { (again_in result ≡ true) ↔ (IsUpdating self.entry × IsTrue again) }
-    {
-        let Loaded { command, base, new } = self;
-        let command = match command {
-            SessionCommand::Update(request) => SessionCommand::Update(request.with_again(again)),
-            other => other,
-        };
-        Loaded { command, base, new }
+/// Whether scripts may be run for a command: a lone edit runs none, and neither does a seal.
+pub(crate) fn runs_scripts(command: &SessionCommand<'_>) -> bool {
+    let making = &command.session().making;
+    match command {
+        SessionCommand::Line(request) => starts(making) && !is_edit(&request.once),
+        SessionCommand::Seal(_) | SessionCommand::Status(_) => false,
+        _ => starts(making),
     }
 }
 
@@ -149,17 +138,28 @@ pub(crate) fn bytes_of<'b>(text: &'b Option<FileText<'_>>) -> &'b [u8]
     }
 }
 
-/// Reads the databases of a command: that of this file, and the new one of an update.
+/// Reads the databases of a command: that of its session or of this file, and the new one of an
+/// update.
 pub(crate) fn load<'a>(
     rt: &HostRuntime,
     command: SessionCommand<'a>,
     file: Option<&'a str>,
+    live: &LiveText<'a>,
 ) -> Result<Loaded<'a>, OpenFault<'a>>
-    ensures loaded { IfOk result (IsLoaded command.entry file.entry) }
+    ensures loaded { IfOk result (IsLoaded command.entry file.entry live.now) }
 {
     let new = new_file(&command);
-    match (read_at(rt, file), read_at(rt, new)) {
-        (Ok(base), Ok(new)) => Ok(Loaded { command, base, new }),
+    let other = match (live.database(), file) {
+        (Some(database), Some(path)) if new.is_none() && !has(rt, path, database) => Some(path),
+        _ => None,
+    };
+    match (base_of(rt, live, file), read_at(rt, new)) {
+        (Ok(base), Ok(new)) => Ok(Loaded {
+            command,
+            base,
+            new,
+            other,
+        }),
         (Err(fault), new) => {
             drop((command, new));
             Err(fault)
@@ -168,6 +168,36 @@ pub(crate) fn load<'a>(
             drop((command, base));
             Err(fault)
         }
+    }
+}
+
+// Whether the database in a file is this one. Of a file that can't be read that is not known.
+fn has(rt: &HostRuntime, path: &str, database: &[u8]) -> bool {
+    match FileText::read(rt, path) {
+        Ok(text) => {
+            let is_same = text.bytes() == database;
+            drop(text);
+            is_same
+        }
+        Err(_) => true,
+    }
+}
+
+// The database that stands in the file of the session, and else the one in this file.
+fn base_of<'a>(
+    rt: &HostRuntime,
+    live: &LiveText<'a>,
+    file: Option<&'a str>,
+) -> Result<Option<FileText<'a>>, OpenFault<'a>>
+    ensures { IfOk result (λ text. option_map path_of text ≡ base_file live.now file.entry) }
+{
+    let base = live.base_path(file);
+    let (Some(path), Some(database)) = (base, live.database()) else {
+        return read_at(rt, base);
+    };
+    match FileText::inside(rt.alloc(), path, database) {
+        Ok(text) => Ok(Some(text)),
+        Err(fault) => Err(fault),
     }
 }
 

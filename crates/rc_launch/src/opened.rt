@@ -2,11 +2,13 @@
 ghost use Rattle.std.specs.Prelude.{◌≡◌, option_map};
 ghost use Rattle.rc_launch.specs.Loading.{session_in};
 
+use crate::borders::goes_on_behind;
 use crate::loading::Loaded;
 use crate::recovered::Recovery;
 use crate::runs::Runs;
 use crate::texts::{FileText, LiveText, LogText};
 use rc_args::{SessionCommand, SessionRequest};
+use std::alloc::Global;
 
 /// What was found beside the file of a session.
 #[derive(Drop)]
@@ -57,11 +59,27 @@ impl<'a> Opened<'a> {
         &self.loaded.command
     }
 
-    /// The file of `-b`, if one is named.
+    /// The database of the session, or the file of `-b`, if one is named.
     pub fn base(&self) -> Option<&FileText<'a>>
         ensures { option_map (λ text. text.now) result ≡ self.now.loaded.base }
     {
         self.loaded.base.as_ref()
+    }
+
+    /// The file of `-b`, where the session has another database.
+    pub fn unused_base(&self) -> Option<&'a str>
+        ensures { result ≡ self.now.loaded.other }
+    {
+        self.loaded.other
+    }
+
+    /// Whether the session stands on a state from which an undo goes on: an update was cut short
+    /// there.
+    pub fn is_passed(&self, alloc: Global) -> bool {
+        match self.live.history() {
+            Some(history) => goes_on_behind(alloc, history, false).unwrap_or(false),
+            None => false,
+        }
     }
 
     /// The file of the new database of an update.

@@ -1,23 +1,27 @@
-//! The files of a command are opened: its databases are read, the file of its session is locked,
+//! The files of a command are opened: the file of its session is locked, its databases are read,
 //! what a command that was cut short has moved is entered, and what stands in the file is read. A
 //! command that may run scripts is refused before that where the program can't run them.
-ghost use Rattle.std.specs.Prelude.{IfOk};
-ghost use Rattle.rc_launch.specs.Opening.{AreOpened, IsOpenedAs, LocksFor, Replaces};
+ghost use Rattle.std.specs.Prelude.{◌≡◌, IfOk};
+ghost use Rattle.rc_args.specs.Making.{making_ask_of};
+ghost use Rattle.rc_launch.specs.Beside.{AreRunsOf, IsLocked, IsNoted};
 ghost use Rattle.rc_launch.specs.Loading.{IsLoaded, session_in};
+ghost use Rattle.rc_launch.specs.Opening.{AreOpened, IsOpenedAs, LocksFor, Replaces};
 
 use crate::fault::OpenFault;
 use crate::live_store::LiveStore;
-use crate::loading::{Loaded, load, moves_by};
-use crate::opened::Opened;
-use crate::recovery::note_of;
+use crate::loading::{Loaded, load, moves_by, runs_scripts};
+use crate::opened::{Note, Opened};
+use crate::recovered::Recovery;
+use crate::recovery::{look, recover_first};
 use crate::runs::RunsFault;
 use crate::texts::LiveText;
 use rc_args::SessionCommand;
 use rc_streams::inherited::unfit_for_scripts;
 use rc_streams::live_lock::LockFault;
 
-/// Opens the files of a command, whose database is that of this file. The file of its session is
-/// locked where something is to be done, and not where that is only shown.
+/// Opens the files of a command, whose database is that of this file where its session has none.
+/// The file of its session is locked where something is to be done, and not where that is only
+/// shown.
 pub fn open<'a>(
     rt: &'a HostRuntime,
     command: SessionCommand<'a>,
@@ -26,47 +30,16 @@ pub fn open<'a>(
     ensures { IfOk result (λ opened. AreOpened command.entry file.entry opened.0 opened.1) }
 {
     let moves = moves_by(&command);
-    match load_fit(rt, command, file, moves) {
-        Ok(loaded) => open_loaded(rt, loaded, moves),
-        Err(fault) => Err(fault),
-    }
-}
-
-// Reads the databases of a command that can do what it may have to.
-fn load_fit<'a>(
-    rt: &'a HostRuntime,
-    command: SessionCommand<'a>,
-    file: Option<&'a str>,
-    moves: bool,
-) -> Result<Loaded<'a>, OpenFault<'a>>
-    ensures loaded { IfOk result (IsLoaded command.entry file.entry) }
-{
-    let loaded = match load(rt, command, file) {
-        Ok(loaded) => loaded,
-        Err(fault) => return Err(fault),
-    };
-    if moves && loaded.runs_scripts() {
+    if moves && runs_scripts(&command) {
         if let Some(unfit) = unfit_for_scripts(rt) {
-            drop(loaded);
+            drop(command);
             return Err(OpenFault::Unfit(unfit));
         }
     }
-    Ok(loaded)
-}
-
-// Locks the file of the session, and goes on.
-fn open_loaded<'a>(
-    rt: &'a HostRuntime,
-    loaded: Loaded<'a>,
-    moves: bool,
-) -> Result<(Opened<'a>, LiveStore<'a>), OpenFault<'a>>
-    ensures { IfOk result (λ opened. IsOpenedAs loaded.entry moves opened.1 opened.0
-        × LocksFor moves (session_in loaded.entry).live opened.1
-        × Replaces (session_in loaded.entry).live opened.1) }
-{
-    let (live, waits) = (loaded.session().live, loaded.session().waits);
-    match LiveStore::open(rt, live, moves, waits, loaded.is_of_lines()) {
-        Ok(store) => match open_locked(rt, loaded, &store, moves) {
+    let (live, waits) = (command.session().live, command.session().waits);
+    let is_of_lines = matches!(&command, SessionCommand::Lines(_));
+    match LiveStore::open(rt, live, moves, waits, is_of_lines) {
+        Ok(store) => match open_on(rt, command, file, &store, moves) {
             Ok(opened) => Ok((opened, store)),
             Err(fault) => {
                 drop(store);
@@ -74,44 +47,159 @@ fn open_loaded<'a>(
             }
         },
         Err(fault) => {
-            drop(loaded);
+            drop(command);
             Err(lock_fault(live.unwrap_or(""), fault))
         }
     }
 }
 
-// Enters what a command that was cut short has moved, where the file is locked, and reads it.
-fn open_locked<'a>(
+// Opens the other files, where that of the session is locked or not.
+fn open_on<'a>(
     rt: &'a HostRuntime,
-    loaded: Loaded<'a>,
+    command: SessionCommand<'a>,
+    file: Option<&'a str>,
     store: &LiveStore<'a>,
     moves: bool,
 ) -> Result<Opened<'a>, OpenFault<'a>>
-    ensures { IfOk result (IsOpenedAs loaded.entry moves store.now) }
+    ensures { IfOk result (IsOpenedAs command.entry file.entry moves store.now) }
 {
-    let live = loaded.session().live;
-    let (note, again) = match note_of(rt, live, &loaded, store.is_locked()) {
-        Ok(found) => found,
+    if store.is_locked() {
+        open_to_move(rt, command, file, store, moves)
+    } else {
+        open_to_look(rt, command, file, store, moves)
+    }
+}
+
+// The same where the file of the session is locked: what a command that was cut short has moved is
+// entered first.
+fn open_to_move<'a>(
+    rt: &'a HostRuntime,
+    command: SessionCommand<'a>,
+    file: Option<&'a str>,
+    store: &LiveStore<'a>,
+    moves: bool,
+) -> Result<Opened<'a>, OpenFault<'a>>
+    requires locked { IsLocked store.now }
+    ensures { IfOk result (IsOpenedAs command.entry file.entry moves store.now) }
+{
+    let (loaded, seen) = match load_on(rt, command, file) {
+        Ok(loaded) => loaded,
+        Err(fault) => return Err(fault),
+    };
+    let note = match recover_first(rt, loaded.session().live, &loaded) {
+        Ok(note) => note,
         Err(fault) => {
-            drop(loaded);
+            drop((loaded, seen));
             return Err(fault);
         }
     };
-    match store.runs(
-        &loaded.session().making,
-        loaded.room(),
-        loaded.is_of_lines(),
-    ) {
+    match read_behind(rt, seen, &note) {
+        Ok(live) => with_runs(store, loaded, live, note, moves),
+        Err(fault) => {
+            drop((loaded, note));
+            Err(fault)
+        }
+    }
+}
+
+// The same where it is not: what stands beside it is read before it.
+fn open_to_look<'a>(
+    rt: &'a HostRuntime,
+    command: SessionCommand<'a>,
+    file: Option<&'a str>,
+    store: &LiveStore<'a>,
+    moves: bool,
+) -> Result<Opened<'a>, OpenFault<'a>>
+    requires free { IsLocked store.now → ⊥ }
+    ensures { IfOk result (IsOpenedAs command.entry file.entry moves store.now) }
+{
+    let note = match look(rt, command.session().live, &command) {
+        Ok(note) => note,
+        Err(fault) => {
+            drop(command);
+            return Err(fault);
+        }
+    };
+    match load_on(rt, command, file) {
+        Ok((loaded, live)) => with_runs(store, loaded, live, note, moves),
+        Err(fault) => {
+            drop(note);
+            Err(fault)
+        }
+    }
+}
+
+// Reads the file of the session of a command, and its databases.
+fn load_on<'a>(
+    rt: &'a HostRuntime,
+    command: SessionCommand<'a>,
+    file: Option<&'a str>,
+) -> Result<(Loaded<'a>, LiveText<'a>), OpenFault<'a>>
+    ensures loaded { IfOk result (λ read.
+        IsLoaded command.entry file.entry read.1 read.0) }
+    ensures path { IfOk result (λ read. read.1.path ≡ (session_in read.0).live) }
+{
+    let seen = match LiveText::read(rt, command.session().live) {
+        Ok(seen) => seen,
+        Err(fault) => {
+            drop(command);
+            return Err(fault);
+        }
+    };
+    match load(rt, command, file, &seen) {
+        Ok(loaded) => Ok((loaded, seen)),
+        Err(fault) => {
+            drop(seen);
+            Err(fault)
+        }
+    }
+}
+
+// What stands in the file of a session after a recovery, which may have replaced it.
+fn read_behind<'a>(
+    rt: &'a HostRuntime,
+    seen: LiveText<'a>,
+    note: &Note<'_>,
+) -> Result<LiveText<'a>, OpenFault<'a>>
+    ensures { IfOk result (λ live. live.path ≡ seen.entry.path) }
+{
+    match note {
+        Note::Locked(Recovery::Made(..)) => {
+            let path = seen.path();
+            drop(seen);
+            LiveText::read(rt, path)
+        }
+        _ => Ok(seen),
+    }
+}
+
+// A command whose files are read, with those of its runs.
+fn with_runs<'a>(
+    store: &LiveStore<'a>,
+    loaded: Loaded<'a>,
+    live: LiveText<'a>,
+    note: Note<'a>,
+    moves: bool,
+) -> Result<Opened<'a>, OpenFault<'a>>
+    ensures loaded { IfOk result (λ opened. opened.loaded ≡ loaded.entry) }
+    ensures live { IfOk result (λ opened. opened.live ≡ live.entry) }
+    ensures note { IfOk result (λ opened. opened.note ≡ note.entry) }
+    ensures moves { IfOk result (λ opened. opened.moves ≡ moves) }
+    ensures runs { IfOk result (λ opened. AreRunsOf
+        (making_ask_of (session_in loaded.entry).making) store.now opened.runs) }
+{
+    match store.runs(&loaded) {
         Ok(runs) => Ok(Opened {
-            loaded: loaded.with_again(again),
-            live: LiveText::read(rt, live),
+            loaded,
+            live,
             note,
             runs,
             moves,
         }),
         Err(fault) => {
-            drop((loaded, note));
-            Err(runs_fault(live.unwrap_or(""), fault))
+            let path = live.path().unwrap_or("");
+            drop((loaded, live, note));
+            Err(runs_fault(path, fault))
         }
     }
 }

@@ -1,13 +1,12 @@
 //! What a command that was cut short has moved is entered.
-ghost use Rattle.std.specs.Prelude.{◌≡◌, ◌↔◌, IfOk, IsErrOf, IsTrue};
-ghost use Rattle.rc_launch.specs.Beside.{GoesOnBy, IsNoted, IsSeen};
-ghost use Rattle.rc_launch.specs.Recovered.{ComesBy, ComesFor, GoesOn, HasLowered, IsCut};
+ghost use Rattle.std.specs.Prelude.{◌≡◌, ◌↔◌, IfOk, IsTrue};
+ghost use Rattle.rc_launch.specs.Beside.{IsEnteredFirst, IsLookedAt, IsSeen};
+ghost use Rattle.rc_launch.specs.Recovered.{ComesBy, ComesFor, IsCut, IsFirstStep, IsRecovered};
+ghost use Rattle.rc_launch.specs.Recovered.{files_read};
 ghost use Rattle.rc_launch.specs.Held.{IsUnwritten, files_held};
-ghost use Rattle.rc_launch.specs.Recovered.{IsFirstStep, IsRecovered, files_read};
-ghost use Rattle.rc_launch.specs.Recovering.{LeavesUnfit};
 
 use crate::fault::OpenFault;
-use crate::fronts::{behind, is_of};
+use crate::fronts::is_of;
 use crate::held_files::HeldFiles;
 use crate::loading::{Loaded, bytes_of};
 use crate::opened::Note;
@@ -20,45 +19,52 @@ use rc_names::NoMem;
 use rc_recovery::TwoFiles;
 use rc_streams::{live_lock, run_file, stop_file};
 
-/// What is found beside the file of a session: where it is locked, what a command that was cut
-/// short has moved is entered; and where it is shown where services stand, the run log is read. The
-/// second value: whether what was entered is the first step of the update that is asked for.
-pub(crate) fn note_of<'a>(
+/// What is found beside the file of a session that is not locked: where it is shown where services
+/// stand, the run log is read.
+pub(crate) fn look<'a>(
+    rt: &'a HostRuntime,
+    live: Option<&'a str>,
+    command: &SessionCommand<'_>,
+) -> Result<Note<'a>, OpenFault<'a>>
+    ensures { IfOk result (IsLookedAt command.now live.entry) }
+{
+    let Some(path) = live else {
+        return Ok(Note::Nothing);
+    };
+    match command {
+        SessionCommand::Status(_) => match LogText::read(rt, path) {
+            Ok(log) => Ok(Note::Logged(log)),
+            Err(fault) => Err(fault),
+        },
+        _ => Ok(cut_note(rt, path)),
+    }
+}
+
+/// Enters what a command that was cut short has moved, where the file of a session is locked.
+pub(crate) fn recover_first<'a>(
     rt: &'a HostRuntime,
     live: Option<&'a str>,
     loaded: &Loaded<'_>,
-    is_locked: bool,
-) -> Result<(Note<'a>, bool), OpenFault<'a>>
-    ensures noted { IfOk result (λ found.
-        IsNoted loaded.now live.entry (IsTrue is_locked) found.0) }
-    ensures again { IfOk result (λ found. IsTrue found.1 ↔ GoesOnBy loaded.now found.0) }
+) -> Result<Note<'a>, OpenFault<'a>>
+    ensures { IfOk result (IsEnteredFirst loaded.now live.entry) }
 {
     let Some(path) = live else {
-        return Ok((Note::Nothing, false));
+        return Ok(Note::Nothing);
     };
-    match &loaded.command {
-        SessionCommand::Status(_) => match LogText::read(rt, path) {
-            Ok(log) => Ok((Note::Logged(log), false)),
-            Err(fault) => Err(fault),
-        },
-        _ if is_locked => match recover(rt, path, loaded) {
-            Ok((recovery, again)) => Ok((Note::Locked(recovery), again)),
-            Err(fault) => Err(fault),
-        },
-        _ => Ok((cut_note(rt, path), false)),
+    match recover(rt, path, loaded) {
+        Ok(recovery) => Ok(Note::Locked(recovery)),
+        Err(fault) => Err(fault),
     }
 }
 
 // Reads the run log of a session, and enters what it leaves. The room that is reserved in it is
-// given back, and what calls off other commands is removed. The second value: whether that was the
-// first step of the update that is asked for.
+// given back, and what calls off other commands is removed.
 fn recover<'a>(
     rt: &'a HostRuntime,
     path: &'a str,
     loaded: &Loaded<'_>,
-) -> Result<(Recovery<'a>, bool), OpenFault<'a>>
-    ensures recovered { IfOk result (λ found. IsRecovered loaded.now path.entry found.0) }
-    ensures again { IfOk result (λ found. IsTrue found.1 ↔ GoesOn loaded.now found.0) }
+) -> Result<Recovery<'a>, OpenFault<'a>>
+    ensures { IfOk result (IsRecovered loaded.now path.entry) }
 {
     let _ = run_file::give_room(rt, path);
     let log = match LogText::read(rt, path) {
@@ -67,7 +73,7 @@ fn recover<'a>(
     };
     let _ = stop_file::clear_others(rt, path, loaded.is_of_lines());
     if log.bytes().is_empty() {
-        return Ok((Recovery::Bare(log), false));
+        return Ok(Recovery::Bare(log));
     }
     match ReadFiles::read(rt, log) {
         Ok(read) => recover_read(rt, loaded, read),
@@ -81,12 +87,10 @@ fn recover_read<'a>(
     rt: &'a HostRuntime,
     loaded: &Loaded<'_>,
     read: ReadFiles<'a>,
-) -> Result<(Recovery<'a>, bool), OpenFault<'a>>
-    ensures recovered { IfOk result (λ found.
-        IsRecovered loaded.now read.entry.logged.path found.0) }
-    ensures again { IfOk result (λ found. IsTrue found.1 ↔ GoesOn loaded.now found.0) }
+) -> Result<Recovery<'a>, OpenFault<'a>>
+    ensures { IfOk result (IsRecovered loaded.now read.entry.logged.path) }
 {
-    let Ok(mut held) = HeldFiles::new(rt, &read) else {
+    let Ok(mut held) = held_for(rt, loaded, &read) else {
         drop(read);
         return Err(OpenFault::Memory);
     };
@@ -94,36 +98,22 @@ fn recover_read<'a>(
         return recover_cut(rt, loaded, read, held);
     }
     match held.empty_log() {
-        Ok(()) => Ok((Recovery::Made(read, held, Came::Stale), false)),
+        Ok(()) => Ok(Recovery::Made(read, held, Came::Stale)),
         Err(_) => Err(log_fault(read, held)),
     }
 }
 
-// The same with the log of a command that was cut short.
-fn recover_cut<'a>(
-    rt: &HostRuntime,
+// Both files, for what the command of the log has done to the states of the session.
+fn held_for<'a>(
+    rt: &'a HostRuntime,
     loaded: &Loaded<'_>,
-    read: ReadFiles<'a>,
-    mut held: HeldFiles<'a>,
-) -> Result<(Recovery<'a>, bool), OpenFault<'a>>
-    requires cut { IsCut read }
-    requires held { files_held held ≡ files_read read }
-    requires unwritten { IsUnwritten held }
-    ensures recovered { IfOk result (λ found.
-        IsRecovered loaded.now read.entry.logged.path found.0) }
-    ensures again { IfOk result (λ found. IsTrue found.1 ↔ GoesOn loaded.now found.0) }
+    read: &ReadFiles<'a>,
+) -> Result<HeldFiles<'a>, NoMem>
+    ensures held { IfOk result (λ held. files_held held ≡ files_read read.now) }
+    ensures unwritten { IfOk result IsUnwritten }
 {
-    let Ok(is_first) = is_first_step(rt, loaded, &read) else {
-        drop((read, held));
-        return Err(OpenFault::Memory);
-    };
-    match recovered(rt, loaded, &mut held) {
-        Ok(came) => {
-            let again = is_first && has_lowered(&came);
-            Ok((Recovery::Made(read, held, came), again))
-        }
-        Err(fault) => Err(unrecovered(read, held, fault)),
-    }
+    let is_first = is_first_step(rt, loaded, read)?;
+    HeldFiles::new(rt, read, is_first)
 }
 
 // Whether a log is that of the first step of the update that is asked for.
@@ -140,19 +130,25 @@ fn is_first_step(rt: &HostRuntime, loaded: &Loaded<'_>, read: &ReadFiles<'_>) ->
     }
 }
 
-// Whether what was entered has lowered something. Where it has not, the last entry of the session
-// is that of an earlier command.
-fn has_lowered(came: &Came) -> bool
-    ensures { IsTrue result ↔ HasLowered came.now }
+// The same with the log of a command that was cut short.
+fn recover_cut<'a>(
+    rt: &HostRuntime,
+    loaded: &Loaded<'_>,
+    read: ReadFiles<'a>,
+    mut held: HeldFiles<'a>,
+) -> Result<Recovery<'a>, OpenFault<'a>>
+    requires cut { IsCut read }
+    requires held { files_held held ≡ files_read read }
+    requires unwritten { IsUnwritten held }
+    ensures { IfOk result (IsRecovered loaded.now read.entry.logged.path) }
 {
-    match came {
-        Came::Entered(report) => behind(b"lowered ", report).is_some(),
-        _ => false,
+    match recovered(rt, loaded, &mut held) {
+        Ok(came) => Ok(Recovery::Made(read, held, came)),
+        Err(fault) => Err(unrecovered(read, held, fault)),
     }
 }
 
-// Recovers the files by the first database that their log fits. The fault is none where there is
-// no database.
+// Recovers the files by the database of the session. The fault is none where there is no database.
 fn recovered(
     rt: &HostRuntime,
     loaded: &Loaded<'_>,
@@ -166,18 +162,11 @@ fn recovered(
     };
     match recovered_by(rt, base.bytes(), held) {
         Ok(came) => Ok(came),
-        Err(Unrecovered::Log) => match &loaded.new {
-            Some(other) => match recovered_by(rt, other.bytes(), held) {
-                Ok(came) => Ok(came),
-                Err(fault) => Err(Some(fault)),
-            },
-            None => Err(Some(Unrecovered::Log)),
-        },
         Err(fault) => Err(Some(fault)),
     }
 }
 
-// Recovers them by the text of one database.
+// Recovers them by the text of a database.
 fn recovered_by(
     rt: &HostRuntime,
     base: &[u8],
@@ -185,9 +174,6 @@ fn recovered_by(
 ) -> Result<Came, Unrecovered>
     requires { IsUnwritten held.old }
     ensures came { IfOk result (ComesBy base.now (files_held held.old) (files_held held.new)) }
-    ensures unfit { IsErrOf result Unrecovered.Log →
-        LeavesUnfit base.now (files_held held.old) (files_held held.new) }
-    ensures same { IsErrOf result Unrecovered.Log → held.new ≡ held.old }
 {
     match recover_by(rt.alloc(), base, held) {
         Ok(Some(report)) => Ok(Came::Entered(report)),
@@ -228,14 +214,18 @@ fn log_fault<'a>(read: ReadFiles<'a>, held: HeldFiles<'a>) -> OpenFault<'a> {
 fn cut_note<'a>(rt: &HostRuntime, path: &str) -> Note<'a>
     ensures { IsSeen result }
 {
-    let (Ok(Some(text)), Ok(Some(log))) = (
-        LiveText::read(rt, Some(path)).into_found(),
-        run_file::read(rt, path),
-    ) else {
+    let Ok(log) = LogText::read(rt, path) else {
         return Note::Nothing;
     };
-    let is_cut = is_of(&text, &log);
-    drop((text, log));
+    let Ok(live) = LiveText::read(rt, Some(path)) else {
+        drop(log);
+        return Note::Nothing;
+    };
+    let is_cut = match live.bytes() {
+        Some(text) => is_of(text, log.bytes()),
+        None => false,
+    };
+    drop((live, log));
     if !is_cut {
         return Note::Nothing;
     }

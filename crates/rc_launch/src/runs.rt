@@ -1,8 +1,9 @@
 //! The files of the runs of a session.
 ghost use Rattle.std.specs.Prelude.{◌≡◌, IfOk};
 
+use crate::loading::Loaded;
 use rc_cli::sessions::RunFiles;
-use rc_streams::run_file::{Room, RunFile};
+use rc_streams::run_file::RunFile;
 use rc_streams::stop_file::StopFile;
 use std::io;
 
@@ -22,21 +23,19 @@ pub struct Runs<'a> {
 }
 
 impl<'a> Runs<'a> {
-    /// The files beside that of a session that is locked, with this room for a run. The session
-    /// serves the lines of an input or not.
+    /// The files beside that of a session that is locked, for the runs of a command.
     pub(crate) fn open(
         rt: &HostRuntime,
         path: &'a str,
-        room: Room,
-        is_of_lines: bool,
+        loaded: &Loaded<'_>,
     ) -> Result<Runs<'a>, RunsFault>
         ensures { IfOk result (λ runs. runs.path ≡ path.entry) }
     {
-        let log = match RunFile::open(rt, path, room) {
+        let log = match RunFile::open(rt, path, loaded.room()) {
             Ok(log) => log,
             Err(error) => return Err(RunsFault::Log(error)),
         };
-        match StopFile::open(rt, path, is_of_lines) {
+        match StopFile::open(rt, path, loaded.is_of_lines()) {
             Ok(stop) => Ok(Runs {
                 path,
                 files: RunFiles { log, stop },

@@ -13,7 +13,7 @@ use crate::loading::{Loaded, bytes_of};
 use crate::opened::{Note, Opened};
 use crate::texts::FileText;
 use log::Logged;
-use rc_args::SessionCommand;
+use rc_args::{SessionCommand, UpdateRequest};
 use rc_cli::sessions::{Devices, Host, LiveFile, Service, Store, launch, live_file, log_for};
 use rc_cli::{seal_as_asked, status_as_asked, update_as_asked};
 use rc_streams::messages::Messages;
@@ -59,7 +59,12 @@ pub fn serve<'x, T: Threads + Wait + Sync, R: Read, W: Write, F: Write, S: Store
     let log = log_of(&*rt, opened);
     let host = host_of(&*rt, &*threads, &log, &*opened);
     let live = read_of(opened);
-    let Loaded { command, base, new } = &opened.loaded;
+    let Loaded {
+        command,
+        base,
+        new,
+        other: _,
+    } = &opened.loaded;
     let code = match command {
         SessionCommand::Lines(request) => {
             launch(&host, request, Service::Lines, base_in(base), live, devices)
@@ -84,6 +89,60 @@ pub fn serve<'x, T: Threads + Wait + Sync, R: Read, W: Write, F: Write, S: Store
         }
     };
     Status { code }
+}
+
+/// The status of a command that was carried out in several steps.
+pub(crate) fn status_of(code: u8) -> Status
+    ensures { result.code ≡ code }
+{
+    Status { code }
+}
+
+/// Serves the line or the restart of a command on these texts of a database and of a session, in
+/// the place of those that were opened for it, and returns the status.
+pub(crate) fn serve_on<'x, T: Threads + Wait + Sync, R: Read, W: Write, F: Write, S: Store>(
+    rt: &'x HostRuntime,
+    threads: &'x T,
+    opened: &'x Opened<'_>,
+    service: Service<'_>,
+    base: &[u8],
+    live: LiveFile<'_>,
+    devices: &mut Devices<R, W, F, S>,
+) -> u8
+    requires reader { HasFailed devices.old.reader → ⊥ }
+    requires writer { HasFailed devices.old.outputs.writer → ⊥ }
+{
+    let log = log_of(&*rt, opened);
+    let host = host_of(&*rt, &*threads, &log, &*opened);
+    launch(&host, opened.session(), service, Some(base), live, devices)
+}
+
+/// Carries out an update from these texts of a database and of a session, in the place of those
+/// that were opened for it, and returns the status.
+pub(crate) fn serve_update<'x, T: Threads + Wait + Sync, R: Read, W: Write, F: Write, S: Store>(
+    rt: &'x HostRuntime,
+    threads: &'x T,
+    opened: &'x Opened<'_>,
+    request: &UpdateRequest<'_>,
+    place: Option<(&[u8], &[u8])>,
+    devices: &mut Devices<R, W, F, S>,
+) -> u8
+    requires writer { HasFailed devices.old.outputs.writer → ⊥ }
+{
+    let log = log_of(&*rt, opened);
+    let host = host_of(&*rt, &*threads, &log, &*opened);
+    let (base, live) = match place {
+        Some((base, session)) => (base, LiveFile::Text(session)),
+        None => (bytes_of(&opened.loaded.base), read_of(opened)),
+    };
+    update_as_asked(
+        &host,
+        request,
+        base,
+        bytes_of(&opened.loaded.new),
+        live,
+        devices,
+    )
 }
 
 // What stood in the file of its session.

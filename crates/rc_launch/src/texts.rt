@@ -1,11 +1,14 @@
 //! What was read of files. Nothing but a read makes these values: what is carried out on them is
 //! carried out on what the files had.
 ghost use Rattle.std.specs.Prelude.{◌≡◌, ◌↔◌, IfOk, IsTrue, option_map, unwrap_or, []};
+ghost use Rattle.rc_launch.specs.Loading.{base_file};
 ghost use Rattle.rc_launch.specs.Logs.{IsCutBy, text_in};
 
 use crate::fault::OpenFault;
 use crate::fronts::is_of;
+use rc_historytext::{HistoryFault, is_history, standing_of};
 use rc_streams::{run_file, whole_file};
+use std::alloc::Global;
 use std::io;
 
 /// The path of a file, and its bytes.
@@ -26,6 +29,21 @@ impl<'a> FileText<'a> {
         }
     }
 
+    /// The database that stands in the file of a session.
+    pub(crate) fn inside(
+        alloc: Global,
+        path: &'a str,
+        database: &[u8],
+    ) -> Result<FileText<'a>, OpenFault<'a>>
+        ensures path { IfOk result (λ text. text.path ≡ path.entry) }
+        ensures bytes { IfOk result (λ text. text.bytes.items ≡ database.now) }
+    {
+        match Vec::from_slice(alloc, database) {
+            Ok(bytes) => Ok(FileText { path, bytes }),
+            Err(_) => Err(OpenFault::Memory),
+        }
+    }
+
     /// Its path.
     pub fn path(&self) -> &'a str
         ensures { result ≡ self.now.path }
@@ -41,22 +59,43 @@ impl<'a> FileText<'a> {
     }
 }
 
-/// The path of the file of a session, if one is named, and what stood there: a text, nothing, or
-/// what can't be read.
+/// A history that stood in the file of a session: its text, and the database of its present
+/// generation.
+#[derive(Drop)]
+pub struct FoundHistory {
+    text: Vec<u8>,
+    database: Vec<u8>,
+}
+
+/// The path of the file of a session, if one is named, and what stood there: the text of a session,
+/// alone or in a history, nothing, or what can't be read.
 #[derive(Drop)]
 pub struct LiveText<'a> {
     path: Option<&'a str>,
     found: io::Result<Option<Vec<u8>>>,
+    history: Option<FoundHistory>,
 }
 
 impl<'a> LiveText<'a> {
     /// Reads it.
-    pub fn read(rt: &HostRuntime, path: Option<&'a str>) -> LiveText<'a>
-        ensures { result.path ≡ path.entry }
+    pub fn read(rt: &HostRuntime, path: Option<&'a str>) -> Result<LiveText<'a>, OpenFault<'a>>
+        ensures { IfOk result (λ live. live.path ≡ path.entry) }
     {
-        LiveText {
-            path,
-            found: whole_file::read_optional(rt, path),
+        match whole_file::read_optional(rt, path) {
+            Ok(Some(bytes)) if is_history(&bytes) => match split(rt.alloc(), bytes) {
+                Ok((session, history)) => Ok(LiveText {
+                    path,
+                    found: Ok(Some(session)),
+                    history: Some(history),
+                }),
+                Err(HistoryFault::Memory) => Err(OpenFault::Memory),
+                Err(fault) => Err(OpenFault::History(path.unwrap_or(""), fault)),
+            },
+            found => Ok(LiveText {
+                path,
+                found,
+                history: None,
+            }),
         }
     }
 
@@ -67,21 +106,14 @@ impl<'a> LiveText<'a> {
         self.path
     }
 
-    /// What was read.
+    /// What was read of the session.
     pub fn found(&self) -> &io::Result<Option<Vec<u8>>>
         ensures { result.now ≡ self.now.found }
     {
         &self.found
     }
 
-    /// The same, where nothing else is wanted.
-    pub(crate) fn into_found(self) -> io::Result<Option<Vec<u8>>>
-        ensures { result ≡ self.entry.found }
-    {
-        self.found
-    }
-
-    /// The text that was found.
+    /// The text of the session that was found.
     pub fn bytes(&self) -> Option<&[u8]>
         ensures { option_map (λ bytes. bytes.now) result
             ≡ text_in (λ bytes. bytes.items) self.now.found }
@@ -89,6 +121,63 @@ impl<'a> LiveText<'a> {
         match &self.found {
             Ok(Some(bytes)) => Some(bytes),
             _ => None,
+        }
+    }
+
+    /// The text of the history that was found, if it was one.
+    pub fn history(&self) -> Option<&[u8]> {
+        match &self.history {
+            Some(history) => Some(&history.text),
+            None => None,
+        }
+    }
+
+    /// The file of the database of a command: this one, if a history stood there, and else that
+    /// file.
+    pub(crate) fn base_path(&self, file: Option<&'a str>) -> Option<&'a str>
+        ensures { result ≡ base_file self.now file.entry }
+    {
+        match (&self.history, self.path) {
+            (Some(_), Some(path)) => Some(path),
+            (Some(_), None) => file,
+            (None, _) => file,
+        }
+    }
+
+    /// The database of its present generation.
+    pub fn database(&self) -> Option<&[u8]> {
+        match &self.history {
+            Some(history) => Some(&history.database),
+            None => None,
+        }
+    }
+}
+
+// The text of the session that is the present one of a history, and that history.
+fn split(alloc: Global, text: Vec<u8>) -> Result<(Vec<u8>, FoundHistory), HistoryFault> {
+    match copies(alloc, &text) {
+        Ok((session, database)) => Ok((session, FoundHistory { text, database })),
+        Err(fault) => {
+            drop(text);
+            Err(fault)
+        }
+    }
+}
+
+// Copies of the session and the database of the present generation.
+fn copies(alloc: Global, text: &[u8]) -> Result<(Vec<u8>, Vec<u8>), HistoryFault> {
+    let standing = match standing_of(alloc, text) {
+        Ok(standing) => standing,
+        Err(fault) => return Err(fault),
+    };
+    let Ok(session) = Vec::from_slice(alloc, standing.session) else {
+        return Err(HistoryFault::Memory);
+    };
+    match Vec::from_slice(alloc, standing.database) {
+        Ok(database) => Ok((session, database)),
+        Err(_) => {
+            drop(session);
+            Err(HistoryFault::Memory)
         }
     }
 }
@@ -144,11 +233,12 @@ fn blank_holes(bytes: &mut [u8]) {
     }
 }
 
-/// The two files of a session: the text that stood in its own, if there is one, and its run log,
-/// which was read before it.
+/// The two files of a session: the text that stood in its own, alone or in a history, if there is
+/// one, and its run log, which was read before it.
 #[derive(Drop)]
 pub struct ReadFiles<'a> {
     found: Option<Vec<u8>>,
+    history: Option<FoundHistory>,
     logged: LogText<'a>,
 }
 
@@ -161,12 +251,36 @@ impl<'a> ReadFiles<'a> {
         ensures { IfOk result (λ read. read.logged ≡ logged.entry) }
     {
         let path = logged.path();
-        match LiveText::read(rt, Some(path)).into_found() {
-            Ok(found) => Ok(ReadFiles { found, logged }),
-            Err(error) => {
+        let live = match LiveText::read(rt, Some(path)) {
+            Ok(live) => live,
+            Err(fault) => {
                 drop(logged);
+                return Err(fault);
+            }
+        };
+        let LiveText {
+            path: _,
+            found,
+            history,
+        } = live;
+        match found {
+            Ok(found) => Ok(ReadFiles {
+                found,
+                history,
+                logged,
+            }),
+            Err(error) => {
+                drop((logged, history));
                 Err(OpenFault::File(path, error))
             }
+        }
+    }
+
+    /// The text of the history that stood there, if it was one.
+    pub(crate) fn history(&self) -> Option<&[u8]> {
+        match &self.history {
+            Some(history) => Some(&history.text),
+            None => None,
         }
     }
 

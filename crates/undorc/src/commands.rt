@@ -3,14 +3,16 @@
 ghost use Rattle.rc_streams.specs.Noting.{HasFailed};
 
 use crate::history;
-use crate::notes::{tell_left, tell_note, tell_opening};
+use crate::notes::{tell_left, tell_note, tell_opening, tell_session};
 use crate::updates::tell_why;
 use crate::workers::tell_workers;
 use log::warn;
 use rc_args::{Once, SessionCommand, Verbosity};
 use rc_cli::sessions::{Devices, Outputs, Store, TextKeeper};
-use rc_launch::frontend::{Answers, Seen, ToldErrors, Typed, behind_session, told_errors};
-use rc_launch::{LiveStore, Opened, open, serve};
+use rc_launch::frontend::{
+    Answers, Seen, ToldErrors, Typed, behind_session, tell_failure, told_errors,
+};
+use rc_launch::{LiveStore, Opened, open};
 use rc_names::NoMem;
 use rc_script::SessionLine;
 use rc_streams::Noted;
@@ -30,6 +32,7 @@ pub fn carry_out<'a, T: Threads + Wait + Sync>(
     match open(rt, command, file) {
         Ok((opened, store)) => {
             tell_note(rt, opened.note());
+            tell_session(rt, &opened);
             let status = carry_out_on(rt, threads, &opened, store);
             drop(opened);
             status
@@ -41,15 +44,17 @@ pub fn carry_out<'a, T: Threads + Wait + Sync>(
 /// The same on the files that were opened for it.
 fn carry_out_on<'x, T: Threads + Wait + Sync>(
     rt: &'x HostRuntime,
-    threads: &T,
+    threads: &'x T,
     opened: &'x Opened<'x>,
     store: LiveStore<'x>,
 ) -> u8 {
+    let Ok(store) = store.of(opened) else {
+        return tell_failure(rt, "Memory");
+    };
     let mut typed = Typed::new(rt, reads(opened));
     let mut answers = Answers::new(rt, base_in(opened));
-    let store = store.with_text(opened.live());
     let mut devices = devices_of(rt, &mut typed, &mut answers, store);
-    let status = serve(rt, threads, opened, &mut devices).code();
+    let status = rc_launch::carry_out(rt, threads, opened, &mut devices).code();
     close(rt, opened);
     let Devices {
         reader: _,

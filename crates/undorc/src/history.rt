@@ -14,7 +14,9 @@ use std::io::{self, Write};
 /// Appends a line for this command, which ends with this status, where the log is there and the
 /// text of the session is another one than before. Tells why a line can't be written.
 pub fn enter(rt: &HostRuntime, path: &str, before: Option<&[u8]>, status: u8) {
-    let live = LiveText::read(rt, Some(path));
+    let Ok(live) = LiveText::read(rt, Some(path)) else {
+        return;
+    };
     match live.bytes() {
         Some(after) if before != Some(after) => enter_at(rt, path, status, current_of(after)),
         _ => {}

@@ -1,7 +1,10 @@
 //! Messages about the lock and the run log beside the file of a session.
 use log::info;
-use rc_launch::frontend::{tell_failure, tell_file};
+use rc_args::{Once, SessionCommand};
+use rc_launch::frontend::{tell_failure, tell_file, tell_no_history};
 use rc_launch::{FileText, LiveText, Note, OpenFault, Opened, left_report};
+use rc_script::SessionLine;
+use rc_session::Command;
 use rc_streams::inherited::Unfit;
 use rc_streams::messages::{HINT, MESSAGE, Messages};
 use rc_streams::run_file;
@@ -23,6 +26,33 @@ pub fn tell_note(rt: &HostRuntime, note: &Note<'_>) {
     }
 }
 
+/// Reports a file of `-b` that is not used, since the session has a database of its own, and an
+/// update that was cut short, where the command takes nothing of it back.
+pub fn tell_session(rt: &HostRuntime, opened: &Opened<'_>) {
+    if let Some(path) = opened.unused_base() {
+        info!(Messages(rt); target: MESSAGE,
+            "{path} is not the database of this session: undorc update carries it over");
+    }
+    if opened.moves() && opened.is_passed(rt.alloc()) && goes_on_from(opened.command()) {
+        info!(Messages(rt); target: MESSAGE,
+            "an update was not finished: undorc undo takes it back");
+    }
+}
+
+/// Whether a command goes on from a state that is passed, and makes it one to stop at.
+fn goes_on_from(command: &SessionCommand<'_>) -> bool {
+    match command {
+        SessionCommand::Line(request) => matches!(
+            &request.once,
+            Once::Line(SessionLine::Command(
+                Command::Change(_) | Command::Add(..) | Command::Delete(..)
+            ))
+        ),
+        SessionCommand::Lines(_) | SessionCommand::Restart(_) | SessionCommand::Seal(_) => true,
+        SessionCommand::Update(_) | SessionCommand::Status(_) => false,
+    }
+}
+
 /// Tells what was moved of which the session does not know, since its file could not be written or
 /// memory ran out.
 pub fn tell_left(rt: &HostRuntime, opened: &Opened<'_>) {
@@ -35,7 +65,9 @@ pub fn tell_left(rt: &HostRuntime, opened: &Opened<'_>) {
 
 /// Tells what a run log leaves for the next command to enter.
 fn tell_log(rt: &HostRuntime, path: &str, base: &FileText<'_>) {
-    let live = LiveText::read(rt, Some(path));
+    let Ok(live) = LiveText::read(rt, Some(path)) else {
+        return;
+    };
     if let (Some(text), Ok(Some(log))) = (live.bytes(), run_file::read(rt, path)) {
         if let Ok(Some(report)) = left_report(rt.alloc(), base.bytes(), text, &log) {
             info!(Messages(rt); target: MESSAGE, "the next command enters what was moved");
@@ -61,6 +93,7 @@ pub fn tell_opening(rt: &HostRuntime, fault: &OpenFault<'_>) -> u8 {
     match fault {
         OpenFault::Unfit(unfit) => tell_inherited(rt, *unfit),
         OpenFault::File(path, error) => tell_file(rt, path, error),
+        OpenFault::History(path, fault) => tell_no_history(rt, path, *fault),
         OpenFault::Busy(path, owner) => {
             let status = tell_failure(rt, "Busy");
             if let Some(owner) = owner {

@@ -53,12 +53,17 @@ pub trait Store {
         ensures left { OnErr result ((holds self.new ≡ holds self.old)
             ⊎ IfSome (holds self.new) (λ held. held ≡ kept_bytes text.entry)) }
         ensures io { IfErr result (λ fault. fault ≡ KeepFault.Io → failed self.new) };
+
+    /// What is put there from now on is the text of a session on the new database of an update.
+    /// What stands there stays until then.
+    fn enter(&mut self)
+        ensures same { holds self.new ≡ holds self.old };
 }
 
 /// Keeps the text of a session in a store.
 #[derive(Drop)]
 pub struct TextKeeper<S> {
-    store: S,
+    pub store: S,
 }
 
 impl<S: Store> TextKeeper<S> {
@@ -67,6 +72,13 @@ impl<S: Store> TextKeeper<S> {
         ensures { store_of result ≡ store }
     {
         TextKeeper { store }
+    }
+
+    /// What is kept from now on is the session on the new database of an update.
+    pub(crate) fn enter(&mut self)
+        ensures same { S.holds (store_of self.new) ≡ S.holds (store_of self.old) }
+    {
+        self.store.enter();
     }
 
     /// The store.

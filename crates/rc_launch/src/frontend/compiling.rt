@@ -7,7 +7,12 @@ use rc_names::NoMem;
 use rc_source::FolderTree;
 use rc_streams::Noted;
 use rc_streams::replaced_file::replace;
-use std::{fs, io};
+use std::fs::{self, File};
+use std::io;
+use std::os::unix::fs::FileExt;
+
+/// What a database begins with.
+const FRONT: &[u8] = b"undorc-db ";
 
 /// Compiles source directories, and answers the status.
 pub fn compile(rt: &HostRuntime, request: &CompileRequest<'_>) -> u8 {
@@ -33,11 +38,16 @@ fn compile_trees(
         None => compile_run(rt.alloc(), trees, &mut Noted::new(rt.stdout()), &mut told),
     };
     hints::behind_compile(rt, request, &told);
-    if status == 0 && libc::geteuid() == 0 {
+    if status == 0 && libc::geteuid() == 0 && have_links(trees) {
         let _ = warn_of_links(rt, &request.sources);
     }
     drop(told);
     status
+}
+
+/// Whether a link was read in one of the trees.
+fn have_links(trees: &[FolderTree<HostRuntime>]) -> bool {
+    trees.iter().any(|tree| tree.has_links())
 }
 
 /// Puts the database into a file, which is left alone where there is none, and may be read by
@@ -49,6 +59,11 @@ fn compile_into(
     path: &str,
     told: &mut hints::ToldErrors,
 ) -> u8 {
+    match may_replace(rt, path) {
+        Ok(true) => {}
+        Ok(false) => return hints::tell_not_database(rt, path),
+        Err(error) => return hints::tell_file(rt, path, &error),
+    }
     match text_of(rt.alloc(), trees) {
         Ok(text) => {
             let replaced = replace_restricted(rt, request, path, &text);
@@ -60,6 +75,24 @@ fn compile_into(
         }
         Err(fault) => tell_trees(rt.alloc(), told, &fault),
     }
+}
+
+/// Whether a database may take the place of what stands at a path: a database, an empty file, what
+/// is no plain file, or nothing.
+fn may_replace(rt: &HostRuntime, path: &str) -> io::Result<bool> {
+    match fs::metadata(rt, path) {
+        Ok(found) if found.is_file() && found.len() > 0 => begins_a_database(rt, path),
+        _ => Ok(true),
+    }
+}
+
+/// Whether a file begins as a database does.
+fn begins_a_database(rt: &HostRuntime, path: &str) -> io::Result<bool> {
+    let file = File::open(rt, path)?;
+    let mut front = [0; FRONT.len()];
+    let count = file.read_at(&mut front, 0);
+    drop(file);
+    Ok(count? == FRONT.len() && front.as_slice() == FRONT)
 }
 
 /// Replaces the file, which may be read by nobody who may not read the sources.

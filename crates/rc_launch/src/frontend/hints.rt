@@ -8,9 +8,10 @@ use rc_cli::queries::{self, query_hint, run_query};
 use rc_compile::command::diagnostics::{
     Hint, Sources, compile_hint, looks_like_entry, unread_files, word_of,
 };
+use rc_historytext::HistoryFault;
 use rc_names::NoMem;
 use rc_streams::Noted;
-use rc_streams::ending::FAILED;
+use rc_streams::ending::{FAILED, REFUSED};
 use rc_streams::escaping::{Escaped, Shown};
 use rc_streams::messages::{HINT, MESSAGE, Messages};
 use std::alloc::AllocError;
@@ -207,6 +208,26 @@ pub fn tell_file(rt: &HostRuntime, path: &str, error: &io::Error) -> u8 {
     let reason = Reason(error);
     info!(Messages(rt); target: HINT, "{path}: {reason}");
     status
+}
+
+/// Reports that a file is no database, which is not replaced by one, and returns the status.
+pub fn tell_not_database(rt: &HostRuntime, path: &str) -> u8 {
+    error!(Messages(rt); target: MESSAGE, "NotDatabase {path}");
+    info!(Messages(rt); target: HINT,
+        "-o replaces databases alone: remove {path}, or name another");
+    REFUSED
+}
+
+/// Reports why the text of a file is no history, and returns the status.
+pub fn tell_no_history(rt: &HostRuntime, path: &str, fault: HistoryFault) -> u8 {
+    match fault {
+        HistoryFault::Memory => return tell_failure(rt, "Memory"),
+        HistoryFault::Version => error!(Messages(rt); target: MESSAGE, "Version"),
+        HistoryFault::Bad(place) => error!(Messages(rt); target: MESSAGE, "Bad {place}"),
+    }
+    info!(Messages(rt); target: HINT,
+        "{path} is no history: restore it, or remove it to begin anew");
+    REFUSED
 }
 
 /// Reports a failure by its word, and returns the status.

@@ -1,19 +1,46 @@
 //! Runs `db`, `plan` and `replay` on the database of `-b` or at the front of standard input.
+use crate::fault::OpenFault;
 use crate::frontend::files::base_at;
-use crate::frontend::hints::{Seen, behind_session, tell_file, told_errors};
+use crate::frontend::hints::{
+    Seen, behind_session, tell_failure, tell_file, tell_no_history, told_errors,
+};
 use crate::frontend::terminal::Typed;
+use crate::texts::LiveText;
 use rc_cli::queries::{Query, run_query};
-use rc_streams::{Noted, whole_file};
+use rc_streams::Noted;
 use std::io;
 
 /// Runs a query on the file of `-b`, and returns its status: 0, 1 for a refusal, or 111 for a
 /// failure. A picture shows the session in the file of `-l`; if that is missing, no service is up.
+/// If that has a database of its own, the query is on it.
 pub fn query(rt: &HostRuntime, query: Query<'_, '_>, file: Option<&str>) -> u8 {
+    match LiveText::read(rt, live_of(query)) {
+        Ok(live) => {
+            let status = match live.database() {
+                Some(base) => query_on(rt, query, live_of(query), Some(base), live.found()),
+                None => query_in(rt, query, file, live.found()),
+            };
+            drop(live);
+            status
+        }
+        Err(OpenFault::History(path, fault)) => tell_no_history(rt, path, fault),
+        Err(fault) => {
+            drop(fault);
+            tell_failure(rt, "Memory")
+        }
+    }
+}
+
+/// Runs a query on the file of `-b`.
+fn query_in(
+    rt: &HostRuntime,
+    query: Query<'_, '_>,
+    file: Option<&str>,
+    live: &io::Result<Option<Vec<u8>>>,
+) -> u8 {
     match base_at(rt, file) {
         Ok(base) => {
-            let live = whole_file::read_optional(rt, live_of(query));
-            let status = query_on(rt, query, file, base.as_deref(), &live);
-            drop(live);
+            let status = query_on(rt, query, file, base.as_deref(), live);
             drop(base);
             status
         }

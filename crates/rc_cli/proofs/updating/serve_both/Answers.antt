@@ -1,10 +1,11 @@
-use Rattle.std.proofs.Common.{inl}
+use Rattle.std.proofs.Common.{ℕ, List, Option, inl, subst}
 use Rattle.rc_streams.specs.Noting.{inner_of}
 use Rattle.rc_script.specs.Says.{saying_of}
 use Rattle.rc_serve.specs.Ending.{IsDoneAs}
 use Rattle.rc_serve.specs.declared.ending.Ending.TheVariants.{Refused, Hindered}
 use Rattle.rc_args.specs.OnceAsked.{Said}
 use Rattle.rc_args.specs.SessionAsked.{session_ask_of}
+use Rattle.rc_cli.specs.Once.{ServedOnce}
 use Rattle.rc_cli.specs.Storing.{store_of}
 use Rattle.rc_cli.proofs.UpdateLemmas.{both_served, fault_behind, first_alone}
 use Rattle.rc_cli.proofs.updating.serve_both.Goals as goal
@@ -43,7 +44,16 @@ returns-in-Ok-Done-clause-served g c =
     (g.W.Write.contents (inner_of c.line_once-in-Ok-Done.new.outputs.writer)) c.args.from.now
     c.line_once.new.session c.args.ahead.now.to c.line_once-in-Ok-Done.new.session
     c.behind.result c.line_once-in-Ok-Done.result c.in-Ok-Done.field-0 c.in-Ok-Done.field-0-is
-    c.behind.ensures c.in-Ok-Done.ensures.served c.line_once-in-Ok-Done.ensures.served
+    c.behind.ensures c.in-Ok-Done.ensures.served
+    (subst (λ (was : Option (List ℕ)). ServedOnce c.line_once-in-Ok-Done.result
+    (session_ask_of c.args.request.now).live was
+    (g.S.Store.holds (store_of c.line_once-in-Ok-Done.new.outputs.keeper))
+    (IsDoneAs c.args.request.now.workers (g.G.Gate.answers c.args.gates.now.raises)
+    (g.G.Gate.gives c.args.gates.now.raises)) (Said (saying_of c.args.ahead.now.raising))
+    (g.W.Write.contents (inner_of c.line_once.new.outputs.writer))
+    (g.W.Write.contents (inner_of c.line_once-in-Ok-Done.new.outputs.writer))
+    c.args.ahead.now.to c.line_once-in-Ok-Done.new.session)
+    c.enter.ensures.same c.line_once-in-Ok-Done.ensures.served)
 
 pub returns-in-Ok-Done-clause-fault : goal.returns-in-Ok-Done-clause-fault
 returns-in-Ok-Done-clause-fault g c =

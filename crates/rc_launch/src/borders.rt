@@ -1,0 +1,195 @@
+//! Where the steps of an undo or a redo lead, and whether the borders on the way are borders: that
+//! no service has to move where one is crossed.
+
+use rc_db::Db;
+use rc_dbtext::database_of;
+use rc_historytext::{
+    GenerationForm, HistoryFault, HistoryForm, RenameForm, Standing, read_history, standing_of,
+    state_spans,
+};
+use rc_livetext::read_live;
+use rc_set::{NoMem, Set};
+use rc_update::{Conversion, are_carried};
+use std::alloc::Global;
+
+/// Whether an undo or a redo goes on from the state on which a history stands: it is passed, and
+/// there is one behind it.
+pub(crate) fn goes_on_behind(
+    alloc: Global,
+    history: &[u8],
+    is_on: bool,
+) -> Result<bool, HistoryFault> {
+    match standing_of(alloc, history) {
+        Ok(standing) => Ok(standing.is_passed && standing.has_next(is_on)),
+        Err(fault) => Err(fault),
+    }
+}
+
+/// The first border on the way of an undo or a redo that is none, by the place of the generation
+/// behind it.
+pub(crate) fn first_unjoined(
+    alloc: Global,
+    history: &[u8],
+    is_on: bool,
+) -> Result<Option<usize>, HistoryFault> {
+    let form = match read_history(alloc, history) {
+        Ok(form) => form,
+        Err(fault) => return Err(fault),
+    };
+    let found = match standing_of(alloc, history) {
+        Ok(standing) => unjoined_from(alloc, &form, standing, is_on),
+        Err(fault) => Err(fault),
+    };
+    drop(form);
+    found
+}
+
+// The same from where it stands.
+fn unjoined_from(
+    alloc: Global,
+    form: &HistoryForm<'_>,
+    standing: Standing<'_>,
+    is_on: bool,
+) -> Result<Option<usize>, HistoryFault> {
+    let count = form.generations.len();
+    let mut place = standing.earlier;
+    let mut crosses = standing.crosses_behind(is_on)
+        && (!standing.has_inside(is_on) || standing.passes_inside(is_on));
+    for _ in 0..count {
+        if !crosses {
+            break;
+        }
+        let border = if is_on {
+            place.saturating_add(1)
+        } else {
+            place
+        };
+        let (Some(old), Some(new)) = (
+            form.generations.get(border.saturating_sub(1)),
+            form.generations.get(border),
+        ) else {
+            break;
+        };
+        if !is_joined(alloc, old, new)? {
+            return Ok(Some(border));
+        }
+        place = if is_on {
+            border
+        } else {
+            border.saturating_sub(1)
+        };
+        crosses = match form.generations.get(place) {
+            Some(reached) => reached_goes_on(reached, is_on),
+            None => false,
+        };
+    }
+    Ok(None)
+}
+
+// Whether an undo or a redo that has crossed into a generation crosses the border behind it, too:
+// the state that it reaches is passed, and is its only one or leads to one that is passed.
+fn reached_goes_on(reached: &GenerationForm<'_>, is_on: bool) -> bool {
+    let spans = state_spans(reached.session);
+    let states = spans.before.saturating_add(spans.after);
+    let (near, far) = if is_on {
+        (reached.first_passed, reached.last_passed)
+    } else {
+        (reached.last_passed, reached.first_passed)
+    };
+    near && far && states <= 1
+}
+
+// Whether what is live at the end of a generation is what is live at the beginning of the next.
+fn is_joined(
+    alloc: Global,
+    old: &GenerationForm<'_>,
+    new: &GenerationForm<'_>,
+) -> Result<bool, HistoryFault> {
+    let list = match conversions(alloc, &new.renames) {
+        Ok(list) => list,
+        Err(_) => return Err(HistoryFault::Memory),
+    };
+    let joined = is_joined_by(alloc, old, new, &list);
+    drop(list);
+    match joined {
+        Ok(joined) => Ok(joined),
+        Err(_) => Err(HistoryFault::Memory),
+    }
+}
+
+// The same with these conversions.
+fn is_joined_by(
+    alloc: Global,
+    old: &GenerationForm<'_>,
+    new: &GenerationForm<'_>,
+    list: &[Conversion<'_>],
+) -> Result<bool, NoMem> {
+    let Some((from, left)) = state_at(alloc, old, true)? else {
+        return Ok(false);
+    };
+    let reached = match state_at(alloc, new, false) {
+        Ok(Some(reached)) => reached,
+        Ok(None) => {
+            drop((from, left));
+            return Ok(false);
+        }
+        Err(short) => {
+            drop((from, left));
+            return Err(short);
+        }
+    };
+    let (to, entered) = reached;
+    let fits = left.bound() == from.names().len() && entered.bound() == to.names().len();
+    let carried = if fits {
+        are_carried(alloc, &from, &to, list, &left, &entered)
+    } else {
+        Ok(false)
+    };
+    drop((from, left, to, entered));
+    carried
+}
+
+// The database of a generation, and what is live in its last state or its first. None: its texts
+// are none of a database and a session.
+fn state_at(
+    alloc: Global,
+    generation: &GenerationForm<'_>,
+    is_last: bool,
+) -> Result<Option<(Db, Set)>, NoMem> {
+    let Ok((db, _none)) = database_of(alloc, Some(generation.database), &[]) else {
+        return Ok(None);
+    };
+    let Ok((line, states)) = read_live(alloc, generation.session, &db) else {
+        drop(db);
+        return Ok(None);
+    };
+    let place = if is_last { line.states() - 1 } else { 0 };
+    let state = line.state(alloc, place);
+    drop(line);
+    match state {
+        Ok((live, table)) => {
+            drop(table);
+            Ok(Some((db, live)))
+        }
+        Err(short) => {
+            drop(db);
+            Err(short)
+        }
+    }
+}
+
+// Renames as conversions.
+fn conversions<'b>(
+    alloc: Global,
+    renames: &'b [RenameForm<'_>],
+) -> Result<Vec<Conversion<'b>>, NoMem> {
+    let mut list = Vec::new(alloc);
+    for rename in renames {
+        list.push(Conversion {
+            old: rename.old.text().as_bytes(),
+            new: rename.new.text().as_bytes(),
+            restart: false,
+        })?;
+    }
+    Ok(list)
+}

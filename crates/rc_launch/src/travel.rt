@@ -1,0 +1,425 @@
+//! Commands on a history: an undo and a redo go on from states that are passed, across borders; and
+//! an update takes back what was cut short before it begins.
+ghost use Rattle.rc_streams.specs.Noting.{HasFailed};
+
+use crate::borders::{first_unjoined, goes_on_behind};
+use crate::live_store::LiveStore;
+use crate::opened::Opened;
+use crate::serving::{Status, serve, serve_on, serve_update, status_of};
+use rc_args::{Once, SessionCommand, UpdateRequest};
+use rc_cli::sessions::{Devices, LiveFile, Service};
+use rc_historytext::{HistoryFault, Keeping, cross_border, standing_of};
+use rc_script::SessionLine;
+use rc_serve::KeepFault;
+use rc_session::Command;
+use rc_streams::ending::{DONE, FAILED, REFUSED};
+use rc_streams::writing::write_answer;
+use rc_streams::{Failure, tell};
+use std::alloc::Global;
+use std::io::{Read, Write};
+use std::sync::Wait;
+use std::thread::Threads;
+
+/// Something was carried out, and not all of it is done.
+const HINDERED: u8 = 2;
+
+/// The most steps of an undo: inside each generation, and across each border.
+const MAX_STEPS: usize = 16;
+
+/// An undo or a redo.
+#[derive(Clone, Copy)]
+struct Way<'a> {
+    /// Its line, or that it is only shown.
+    once: &'a Once,
+    is_on: bool,
+    is_dry: bool,
+}
+
+/// The texts of a generation.
+#[derive(Drop)]
+struct Texts {
+    database: Vec<u8>,
+    session: Vec<u8>,
+}
+
+/// Carries a command out on the files that were opened for it, and returns the status, as `serve`.
+/// On a history it goes on as far as the command leads. The devices must not have failed before.
+pub fn carry_out<'x, T: Threads + Wait + Sync, R: Read, W: Write, F: Write>(
+    rt: &'x HostRuntime,
+    threads: &'x T,
+    opened: &'x Opened<'_>,
+    devices: &mut Devices<R, W, F, LiveStore<'x>>,
+) -> Status
+    requires reader { HasFailed devices.old.reader → ⊥ }
+    requires writer { HasFailed devices.old.outputs.writer → ⊥ }
+{
+    match opened.command() {
+        SessionCommand::Line(request) => match way_of(&request.once) {
+            Some(way) if opened.live().history().is_some() => {
+                status_of(travel(rt, threads, opened, way, devices))
+            }
+            _ => serve(rt, threads, opened, devices),
+        },
+        SessionCommand::Update(request) if !request.dry => {
+            status_of(update(rt, threads, opened, request, devices))
+        }
+        _ => serve(rt, threads, opened, devices),
+    }
+}
+
+// An undo or a redo, if it is one.
+fn way_of(once: &Once) -> Option<Way<'_>> {
+    let (is_on, is_dry) = match once {
+        Once::DryUndo => (false, true),
+        Once::DryRedo => (true, true),
+        Once::Line(SessionLine::Command(Command::Undo(_))) => (false, false),
+        Once::Line(SessionLine::Command(Command::Redo(_))) => (true, false),
+        Once::Line(_) => return None,
+    };
+    Some(Way {
+        once,
+        is_on,
+        is_dry,
+    })
+}
+
+// Carries out an undo or a redo, whose borders are all tested first.
+fn travel<'x, T: Threads + Wait + Sync, R: Read, W: Write, F: Write>(
+    rt: &'x HostRuntime,
+    threads: &'x T,
+    opened: &'x Opened<'_>,
+    way: Way<'_>,
+    devices: &mut Devices<R, W, F, LiveStore<'x>>,
+) -> u8
+    requires reader { HasFailed devices.old.reader → ⊥ }
+    requires writer { HasFailed devices.old.outputs.writer → ⊥ }
+{
+    let alloc = rt.alloc();
+    match first_unjoined(alloc, history_in(devices), way.is_on) {
+        Ok(None) => {}
+        Ok(Some(border)) => return tell_unjoined(alloc, border, devices),
+        Err(_) => return fail_on(b"Memory", devices),
+    }
+    if way.is_dry {
+        return show(rt, threads, opened, way, devices);
+    }
+    let mut has_run = false;
+    for _ in 0..MAX_STEPS {
+        if devices.reader.failed() || devices.outputs.writer.failed() {
+            return FAILED;
+        }
+        let Ok(is_border) = is_border(alloc, history_in(devices), way.is_on) else {
+            return fail_on(b"Memory", devices);
+        };
+        if is_border {
+            if let Err(fault) = devices.outputs.keeper.store.cross(way.is_on) {
+                return fail_on(word_of(fault), devices);
+            }
+        } else {
+            let code = run_inside(rt, threads, opened, way, devices);
+            if code != DONE {
+                return if has_run { hindered(code) } else { code };
+            }
+            has_run = true;
+        }
+        match goes_on_behind(alloc, history_in(devices), way.is_on) {
+            Ok(true) => {}
+            Ok(false) => break,
+            Err(_) => return fail_on(b"Memory", devices),
+        }
+    }
+    if has_run {
+        DONE
+    } else {
+        say_done(b"ok\n", devices)
+    }
+}
+
+// Shows what an undo or a redo would do: the plan of each of its runs, as if the earlier ones were
+// done.
+fn show<'x, T: Threads + Wait + Sync, R: Read, W: Write, F: Write>(
+    rt: &'x HostRuntime,
+    threads: &'x T,
+    opened: &'x Opened<'_>,
+    way: Way<'_>,
+    devices: &mut Devices<R, W, F, LiveStore<'x>>,
+) -> u8
+    requires reader { HasFailed devices.old.reader → ⊥ }
+    requires writer { HasFailed devices.old.outputs.writer → ⊥ }
+{
+    let alloc = rt.alloc();
+    let Ok(mut history) = Vec::from_slice(alloc, history_in(devices)) else {
+        return fail_on(b"Memory", devices);
+    };
+    let mut has_run = false;
+    let mut code = DONE;
+    for _ in 0..MAX_STEPS {
+        if devices.reader.failed() || devices.outputs.writer.failed() {
+            code = FAILED;
+            break;
+        }
+        let Ok(standing) = standing_of(alloc, &history) else {
+            code = fail_on(b"Memory", devices);
+            break;
+        };
+        let goes_inside = standing.has_inside(way.is_on) || !standing.has_next(way.is_on);
+        let goes_on = if goes_inside {
+            let service = Service::Line(way.once);
+            let live = LiveFile::Text(standing.session);
+            code = serve_on(
+                rt,
+                threads,
+                opened,
+                service,
+                standing.database,
+                live,
+                devices,
+            );
+            has_run = true;
+            code == DONE && standing.passes_inside(way.is_on)
+        } else {
+            true
+        };
+        let crosses = standing.crosses_behind(way.is_on);
+        if !goes_on || !crosses {
+            break;
+        }
+        match cross_border(alloc, &history, way.is_on) {
+            Ok(crossed) => {
+                drop(history);
+                history = crossed;
+            }
+            Err(_) => {
+                code = fail_on(b"Memory", devices);
+                break;
+            }
+        }
+        let Ok(standing) = standing_of(alloc, &history) else {
+            code = fail_on(b"Memory", devices);
+            break;
+        };
+        if !standing.is_passed {
+            break;
+        }
+    }
+    drop(history);
+    if has_run || code != DONE {
+        code
+    } else {
+        say_done(b"ok\n", devices)
+    }
+}
+
+// Carries out an update: what was cut short before is taken back first, and once all is done its
+// state is a stop.
+fn update<'x, T: Threads + Wait + Sync, R: Read, W: Write, F: Write>(
+    rt: &'x HostRuntime,
+    threads: &'x T,
+    opened: &'x Opened<'_>,
+    request: &UpdateRequest<'_>,
+    devices: &mut Devices<R, W, F, LiveStore<'x>>,
+) -> u8
+    requires reader { HasFailed devices.old.reader → ⊥ }
+    requires writer { HasFailed devices.old.outputs.writer → ⊥ }
+{
+    let taken = take_back(rt, threads, opened, devices);
+    if let Some(code) = taken {
+        if code != DONE {
+            return code;
+        }
+    }
+    if devices.reader.failed() || devices.outputs.writer.failed() {
+        return FAILED;
+    }
+    let code = carry_over(rt, threads, opened, request, devices);
+    if taken.is_some() {
+        hindered(code)
+    } else {
+        code
+    }
+}
+
+// Carries over to the new database. One that the history stands in already is not entered.
+fn carry_over<'x, T: Threads + Wait + Sync, R: Read, W: Write, F: Write>(
+    rt: &'x HostRuntime,
+    threads: &'x T,
+    opened: &'x Opened<'_>,
+    request: &UpdateRequest<'_>,
+    devices: &mut Devices<R, W, F, LiveStore<'x>>,
+) -> u8
+    requires reader { HasFailed devices.old.reader → ⊥ }
+    requires writer { HasFailed devices.old.outputs.writer → ⊥ }
+{
+    let Some(texts) = texts_in(rt.alloc(), devices) else {
+        return settled(
+            serve_update(rt, threads, opened, request, None, devices),
+            devices,
+        );
+    };
+    let Ok(texts) = texts else {
+        return fail_on(b"Memory", devices);
+    };
+    let is_same = match opened.new_base() {
+        Some(new) => new.bytes() == texts.database.as_slice(),
+        None => false,
+    };
+    if is_same && request.conversions.is_empty() {
+        drop(texts);
+        return say_done(b"ok\nok\n", devices);
+    }
+    let place = Some((texts.database.as_slice(), texts.session.as_slice()));
+    let code = serve_update(rt, threads, opened, request, place, devices);
+    drop(texts);
+    settled(code, devices)
+}
+
+// Undoes what was cut short, if the current state is passed, and returns the status of that.
+fn take_back<'x, T: Threads + Wait + Sync, R: Read, W: Write, F: Write>(
+    rt: &'x HostRuntime,
+    threads: &'x T,
+    opened: &'x Opened<'_>,
+    devices: &mut Devices<R, W, F, LiveStore<'x>>,
+) -> Option<u8>
+    requires reader { HasFailed devices.old.reader → ⊥ }
+    requires writer { HasFailed devices.old.outputs.writer → ⊥ }
+{
+    if history_in(devices).is_empty() {
+        return None;
+    }
+    match goes_on_behind(rt.alloc(), history_in(devices), false) {
+        Ok(true) => {}
+        Ok(false) => return None,
+        Err(_) => return Some(fail_on(b"Memory", devices)),
+    }
+    let once = Once::Line(SessionLine::Command(Command::Undo(u32::MAX)));
+    let way = Way {
+        once: &once,
+        is_on: false,
+        is_dry: false,
+    };
+    devices.outputs.keeper.store.keep_as(Keeping::Way);
+    let code = if devices.reader.failed() || devices.outputs.writer.failed() {
+        FAILED
+    } else {
+        travel(rt, threads, opened, way, devices)
+    };
+    devices.outputs.keeper.store.keep_as(Keeping::Step);
+    drop(once);
+    Some(code)
+}
+
+// Serves the line of an undo or a redo in the present generation.
+fn run_inside<'x, T: Threads + Wait + Sync, R: Read, W: Write, F: Write>(
+    rt: &'x HostRuntime,
+    threads: &'x T,
+    opened: &'x Opened<'_>,
+    way: Way<'_>,
+    devices: &mut Devices<R, W, F, LiveStore<'x>>,
+) -> u8
+    requires reader { HasFailed devices.old.reader → ⊥ }
+    requires writer { HasFailed devices.old.outputs.writer → ⊥ }
+{
+    match texts_in(rt.alloc(), devices) {
+        Some(Ok(texts)) => {
+            let (service, live) = (Service::Line(way.once), LiveFile::Text(&texts.session));
+            let code = serve_on(rt, threads, opened, service, &texts.database, live, devices);
+            drop(texts);
+            code
+        }
+        Some(Err(_)) | None => fail_on(b"Memory", devices),
+    }
+}
+
+// The texts of the present generation. None: there is no history.
+fn texts_in<R, W, F>(
+    alloc: Global,
+    devices: &Devices<R, W, F, LiveStore<'_>>,
+) -> Option<Result<Texts, HistoryFault>> {
+    let history = devices.outputs.keeper.store.history()?;
+    Some(texts_of(alloc, history))
+}
+
+// The texts of the present generation of a history.
+fn texts_of(alloc: Global, history: &[u8]) -> Result<Texts, HistoryFault> {
+    let standing = match standing_of(alloc, history) {
+        Ok(standing) => standing,
+        Err(fault) => return Err(fault),
+    };
+    let Ok(database) = Vec::from_slice(alloc, standing.database) else {
+        return Err(HistoryFault::Memory);
+    };
+    match Vec::from_slice(alloc, standing.session) {
+        Ok(session) => Ok(Texts { database, session }),
+        Err(_) => {
+            drop(database);
+            Err(HistoryFault::Memory)
+        }
+    }
+}
+
+// The text of the history that is kept: none, where there is none.
+fn history_in<'d, R, W, F>(devices: &'d Devices<R, W, F, LiveStore<'_>>) -> &'d [u8] {
+    devices.outputs.keeper.store.history().unwrap_or(&[])
+}
+
+// Whether the next step of an undo or a redo crosses a border.
+fn is_border(alloc: Global, history: &[u8], is_on: bool) -> Result<bool, HistoryFault> {
+    match standing_of(alloc, history) {
+        Ok(standing) => Ok(!standing.has_inside(is_on) && standing.has_next(is_on)),
+        Err(fault) => Err(fault),
+    }
+}
+
+// Makes the state that a command of several steps has come to a stop, if all is done.
+fn settled<R, W, F: Write>(code: u8, devices: &mut Devices<R, W, F, LiveStore<'_>>) -> u8 {
+    if code != DONE {
+        return code;
+    }
+    match devices.outputs.keeper.store.settle() {
+        Ok(()) => DONE,
+        Err(fault) => fail_on(word_of(fault), devices),
+    }
+}
+
+// The status of a command of which something was carried out before it ended so.
+fn hindered(code: u8) -> u8 {
+    if code == REFUSED { HINDERED } else { code }
+}
+
+// Answers a command that moved nothing.
+fn say_done<R, W: Write, F: Write, S>(answer: &[u8], devices: &mut Devices<R, W, F, S>) -> u8 {
+    match write_answer(&mut devices.outputs.writer, answer) {
+        Ok(()) => DONE,
+        Err(_) => fail_on(b"Write", devices),
+    }
+}
+
+// Tells that a border is none, and returns the status. Nothing has moved.
+fn tell_unjoined<R, W, F: Write, S>(
+    alloc: Global,
+    border: usize,
+    devices: &mut Devices<R, W, F, S>,
+) -> u8 {
+    match format!(in alloc; "NotJoined {border}") {
+        Ok(text) => {
+            tell(&mut devices.faults, text.as_bytes());
+            drop(text);
+            REFUSED
+        }
+        Err(_) => fail_on(b"Memory", devices),
+    }
+}
+
+// Tells a failure, and returns the status.
+fn fail_on<R, W, F: Write, S>(word: &[u8], devices: &mut Devices<R, W, F, S>) -> u8 {
+    tell(&mut devices.faults, word);
+    FAILED
+}
+
+// Why a write failed, in a word.
+fn word_of(fault: KeepFault) -> &'static [u8] {
+    match fault {
+        KeepFault::Io => b"Io",
+        KeepFault::Memory => b"Memory",
+    }
+}
