@@ -4,7 +4,8 @@ refusals.py makes the runs.
 
 What a whole run writes stands in `whole.none`, and the file of its session after so many commands in
 `text.none.NUMBER`; in place of `none` stand the transitions that can't be started, as `-x` takes them.
-Where the file has another text before the next command has done anything, that is `text.none.NUMBER.then`.
+Where the file has another text before the next command has done anything, or before all is settled after the last one,
+that is `text.none.NUMBER.then`.
 The status is 0, or the one in `status.none`.
 """
 
@@ -176,13 +177,19 @@ class Rules:
                 return "other scripts ran"
         if fault == "undorc: Write" and not moved:
             return "what was to be answered was not done"
-        if not self.options["kept"] or (moved and texts[1:] and run.live == texts[1][0]):
+        if not self.options["kept"] or (moved and run.live in self.kept_next(texts)):
             return ""
         if fault == "undorc: Write":
             return "what was to be answered was not kept"
         if self.options["fresh"] and not answers and not run.live:
             return ""
-        return self.file(run, texts[0])
+        return self.file(run, texts[0] if fault else texts[0][:1])
+
+    @staticmethod
+    def kept_next(texts):
+        """What the file may have once the next line is done and not answered: after the last one that may
+        not be settled."""
+        return texts[1] if len(texts) == 2 else texts[1][:1] if texts[1:] else []
 
     def are_moves(self, run, key, answers):
         """Whether what scripts noted are the moves that these answers tell, each once. Notes of

@@ -239,6 +239,15 @@ skip() {
     echo "skipped: $1"
 }
 
+# may_be_unchecked WHAT: whether the program is one without checks of each access to memory, as `make program` compiles them
+# in. With them it has an allocator of its own, needs far more room, and takes ten times as long, so WHAT is skipped
+may_be_unchecked() {
+    if grep -q __asan_init "$program"; then
+        skip "$1, which takes a program without checks of memory (make build)"
+        return 1
+    fi
+}
+
 # may_be_nobody WHAT: whether the program can be run as another user; where it can't, WHAT is skipped
 may_be_nobody() {
     if [ "$(id -u)" -ne 0 ] || ! command -v setpriv > /dev/null; then

@@ -6,10 +6,10 @@
 Scripts of 40 services record what they did. Each round begins a change, an undo, a redo, an update, or a session of
 three lines, and kills it, or the recovery of an earlier one, at a random moment. After the next command the file of the
 session agrees with what the scripts recorded, but for what was under way; what is live is closed; nothing is refused as
-unfit; and an undo takes the entry back. The last line is 'N passed, M failed'.
+unfit; and an undo takes the entry back. An update that was killed is now and then given again, which leaves up what it
+found up; or it is undone, which restores that and the database. The last line is 'N passed, M failed'.
 """
 
-import ctypes
 import os
 import random
 import signal
@@ -18,14 +18,12 @@ import sys
 import tempfile
 import time
 
+sys.dont_write_bytecode = True
+sys.path.insert(0, os.path.join(os.path.dirname(os.path.realpath(__file__)), "..", "lib"))
+from cuts import Wrong, adopt_orphans, read, recorded, standing, under_way, wait_for_orphans
+
 SERVICES = 40
 KILLS = [signal.SIGKILL, signal.SIGKILL, signal.SIGTERM, signal.SIGINT]
-# Of <linux/prctl.h>.
-PR_SET_CHILD_SUBREAPER = 36
-
-
-class Wrong(Exception):
-    """What the program did is not what is promised."""
 
 
 class Machine:
@@ -44,12 +42,20 @@ class Machine:
             for base, needs in zip(self.bases, (needs, others if number % 5 == 0 else needs)):
                 self.needs[base][name] = needs
         self.base = self.bases[0]
-        failing = set(draw.sample(self.names, 2))
+        self.failing = failing = set(draw.sample(self.names, 2))
         for base in self.bases:
             self.compile(base, failing)
 
     def path(self, name):
         return os.path.join(self.folder, name)
+
+    def hindered(self):
+        """The services that fail, and what needs one of them, by the present database."""
+        found = set(self.failing)
+        for name in self.names:
+            if found.intersection(self.needs[self.base][name]):
+                found.add(name)
+        return found
 
     def compile(self, base, failing):
         """A database; in the second one some services need others, so that an update moves them."""
@@ -68,6 +74,20 @@ class Machine:
                     file.write(f"sleep 0.0{pause}; {fails}echo {way} {name} >> {self.path('done')}\n")
         self.run("compile", "-o", base, tree)
 
+    def present(self):
+        """The database of the session: the one in its file, or where that is a live text alone the one that is named."""
+        return self.standing()[0]
+
+    def standing(self):
+        """The same, and whether an undo goes on from the state on which the session stands."""
+        found = standing(read(self.live_file))
+        if found is None:
+            return self.base, False
+        for base in self.bases:
+            if read(base) == found[0]:
+                return base, found[1]
+        raise Wrong("the database of the session is none of both")
+
     def environment(self):
         return dict(os.environ, UNDORC_DB=self.base, UNDORC_LIVE=self.live_file)
 
@@ -85,13 +105,7 @@ class Machine:
 
     def done(self):
         """The names that are up by what the scripts did."""
-        up = set()
-        if os.path.exists(self.path("done")):
-            with open(self.path("done")) as file:
-                for line in file:
-                    way, name = line.split()
-                    (up.add if way == "up" else up.discard)(name)
-        return up
+        return recorded(read(self.path("done")))
 
     def agree(self, up):
         """The scripts are taken to have done what is up now: an administrator would see to it."""
@@ -100,17 +114,7 @@ class Machine:
 
     def under_way(self):
         """The names whose transitions the run log begins and does not end."""
-        names = set()
-        log = self.path("live.run")
-        if os.path.exists(log):
-            with open(log, errors="replace") as file:
-                for line in file.read().split("\n")[:-1]:
-                    words = line.split()
-                    if words[:1] == ["take"]:
-                        names.add(words[2])
-                    if words[:1] == ["done"]:
-                        names.discard(words[2])
-        return names
+        return under_way(read(self.path("live.run")))
 
     def cut_short(self, words, lines, pause):
         """A command that is killed after a pause, if it has not ended by then."""
@@ -124,21 +128,6 @@ class Machine:
         time.sleep(pause)
         process.send_signal(self.draw.choice(KILLS))
         process.wait()
-
-
-def adopt_orphans():
-    """What a killed command started becomes a child of this process, also where it has yet to run its program."""
-    if ctypes.CDLL(None, use_errno=True).prctl(PR_SET_CHILD_SUBREAPER, 1, 0, 0, 0) != 0:
-        raise OSError(ctypes.get_errno(), "prctl")
-
-
-def wait_for_orphans():
-    """Waits until nothing goes on that a killed command started."""
-    try:
-        while True:
-            os.wait()
-    except ChildProcessError:
-        pass
 
 
 def command(machine):
@@ -161,25 +150,23 @@ def command(machine):
     return ["session", "-w", workers], lines
 
 
-def settle(machine, words):
-    """The next command, a change of nothing, by the database that the file is of; returns what it told."""
+def settle(machine):
+    """The next command, a change of nothing; returns what it told."""
+    machine.base = machine.present()
     said = machine.run("change")
-    if words[0] == "update" and (said.returncode != 0 or "Unrecovered" in said.stderr):
-        machine.base = machine.bases[1 - machine.bases.index(machine.base)]
-        said = machine.run("change")
     if said.returncode != 0:
         raise Wrong(f"the next command: {said.stdout}{said.stderr}")
     return said.stderr
 
 
-def judge(machine, words, under_way):
+def judge(machine, words, unended):
     """What the file has now, beside what the scripts did."""
     up = machine.live()
     for name in up:
         for need in machine.needs[machine.base][name]:
             if need not in up:
                 raise Wrong(f"{name} is up without {need}")
-    lost = (machine.done() ^ up) - under_way
+    lost = (machine.done() ^ up) - unended
     if lost:
         raise Wrong(f"{' '.join(words)}: forgotten: {' '.join(sorted(lost))}")
     machine.agree(up)
@@ -194,21 +181,54 @@ def undo(machine, before):
         raise Wrong(f"an undo left {' '.join(sorted(up ^ before))}: {said.stdout}{said.stderr}")
 
 
+def repeat(machine, words, base, before):
+    """An update that was killed, given again: what was up before it is up, with what it needs in the other database, but
+    for what needs a service there that fails."""
+    machine.base = base
+    said = machine.run(*words)
+    machine.base = machine.present()
+    up = machine.live()
+    machine.agree(up)
+    lost = before - up
+    if said.returncode != (2 if lost else 0) or lost - machine.hindered() or machine.base == base:
+        raise Wrong(f"the update again, status {said.returncode}: {' '.join(sorted(lost))}: {said.stdout}{said.stderr}")
+
+
+def take_back(machine, base, before):
+    """An undo of an update that was killed: what was up before it is up, by the database of then."""
+    undo(machine, before)
+    if machine.present() != base:
+        raise Wrong("an undo left the database of an update")
+    machine.base = base
+
+
 def round_of(machine):
     """One command that is killed, and the next one; returns whether it was recovered."""
     words, lines = command(machine)
     before = machine.live()
+    text = read(machine.live_file)
+    base, is_passed = machine.standing()
     machine.cut_short(words, lines, machine.draw.uniform(0.005, 0.5))
-    under_way = machine.under_way()
-    # A recovery that is killed itself, now and then.
-    if machine.draw.random() < 0.3:
+    unended = machine.under_way()
+    # A recovery that is killed itself, now and then. An update that another command has entered is not finished by
+    # the same update any more.
+    is_next = machine.draw.random() >= 0.3
+    if not is_next:
         machine.cut_short(["change"], "", machine.draw.uniform(0.0, 0.01))
     wait_for_orphans()
-    told = settle(machine, words)
-    judge(machine, words, under_way)
+    if words[0] == "update" and is_next and not is_passed and machine.draw.random() < 0.4:
+        machine.agree(machine.done())
+        repeat(machine, words, base, before)
+        return False
+    told = settle(machine)
+    judge(machine, words, unended)
     is_entered = "Recovered" in told
-    if is_entered and words[0] == "change" and machine.live() != before and machine.draw.random() < 0.3:
+    # A change on a passed state that was cut leaves one, and an undo goes on from that.
+    if is_entered and words[0] == "change" and not is_passed and machine.live() != before and machine.draw.random() < 0.3:
         undo(machine, before)
+    was_history = text.startswith(b"undorc-history ")
+    if words[0] == "update" and was_history and not is_passed and read(machine.live_file) != text and machine.draw.random() < 0.6:
+        take_back(machine, base, before)
     return is_entered
 
 

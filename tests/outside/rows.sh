@@ -1,6 +1,7 @@
 #!/bin/sh
-# Runs rows of text on the built program: tests/outside/rows.sh PROGRAM [TOPIC..]. A topic is a file rows/TOPIC.rows;
-# without one, all are run. The last line is 'N passed, M failed, K skipped', and the status is 0 where none failed.
+# Runs rows of text on the built program: tests/outside/rows.sh PROGRAM [TOPIC..] [-r NAME]. A topic is a file
+# rows/TOPIC.rows; without one, all are run. With -r only the rows are run whose title has NAME in it. The last line
+# is 'N passed, M failed, K skipped', and the status is 0 where none failed.
 #
 # A row reads like a terminal session. Rows are separated by empty lines; each line begins with a mark and a space:
 #
@@ -28,10 +29,21 @@ here=$(realpath "$(dirname "$0")")
 program=$(realpath "$1")
 shift
 . "$here/../lib/library.sh"
+only=
+topics=
+while [ $# -gt 0 ]; do
+    if [ "$1" = -r ] && [ $# -gt 1 ]; then
+        only=$2
+        shift
+    else
+        topics="$topics $1"
+    fi
+    shift
+done
 
 # translate TOPIC FILE: rows as shell, which makes what is given and wanted of each run, and runs it.
 translate() {
-    awk -v topic="$1" '
+    ONLY=$only awk -v topic="$1" '
     function quoted(text) {
         gsub(/\047/, "\047\\\\\047\047", text)
         return "\047" text "\047"
@@ -39,16 +51,24 @@ translate() {
     function prints(text) { return "printf \047%b\\n\047 " quoted(text) "\n" }
     function written(parts, name) { print parts == "" ? ": > " name : "{\n" parts "} > " name }
     function amiss(what) { print "amiss " quoted(topic ":" NR ": " what) }
+    # Whether the row that is read is one of those that are asked for; what stands in no row is for all.
+    function is_wanted() { return title == "" || index(title, ENVIRON["ONLY"]) }
 
     function close_file() {
         if (path == "") return
-        print "file " quoted(path) " " quoted(text)
-        if (own != "") print "{\n" own "} >> \"$made\""
-        if (title != "") kept = kept " " quoted(path)
+        if (is_wanted()) {
+            print "file " quoted(path) " " quoted(text)
+            if (own != "") print "{\n" own "} >> \"$made\""
+            if (title != "") kept = kept " " quoted(path)
+        }
         path = own = ""
     }
     function close_run() {
         if (words == "") return
+        if (is_wanted()) print_run()
+        words = own = ""
+    }
+    function print_run() {
         written(piped ? own : common own, "in")
         written(wanted, "out.wanted")
         written(told, "err.wanted")
@@ -56,7 +76,6 @@ translate() {
         place = quoted(topic ":" begun ": " title)
         if (piped) print "talk() {\n:\n" talk "}\nsession " place " " quoted(words) " " quoted(front)
         else print "run " place " " status + 0 " " quoted(words)
-        words = own = ""
     }
     function close_row() {
         close_file()
@@ -167,14 +186,14 @@ session() {
     ends "$1 (\$ $2 -b $3 -w 1, through pipes)" 0
 }
 
-if [ $# -eq 0 ]; then
+if [ -z "$topics" ]; then
     for rows in "$here"/rows/*.rows; do
         topic=${rows##*/}
-        set -- "$@" "${topic%.rows}"
+        topics="$topics ${topic%.rows}"
     done
 fi
 lacking=
-for topic in "$@"; do
+for topic in $topics; do
     whole=
     mkdir "$topic"
     cd "$topic"
@@ -188,4 +207,5 @@ for topic in "$@"; do
     [ "$whole" = "$topic" ] || amiss "$topic: the rows can't be read"
     cd ..
 done
+[ -z "$only" ] || [ $((passed + failed)) -gt 0 ] || amiss "no row of$topics has a title with: $only"
 tally

@@ -172,10 +172,10 @@ def edit(base, line, command):
     return b"ok\n"
 
 
-def first_missing(base, failing):
-    """Each transition of a list is one of a service."""
+def first_missing(bases, failing):
+    """Each transition of a list is one of a service of these databases."""
     for _, name in failing:
-        if name not in base.services:
+        if not any(name in base.services for base in bases):
             raise Refusal("Unknown", name)
 
 

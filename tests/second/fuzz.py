@@ -1,7 +1,8 @@
 """Draws cases, and compares the built program with the plain one: fuzz.py PROGRAM SECONDS SEED.
 
-The last line is 'N passed, M failed'. A case that differs is made smaller, and printed with its seed;
-fuzz.py PROGRAM 0 SEED runs the one case of that seed. Fewer than LEAST cases a second are a failure.
+With the word `histories` a case is commands in a row on one file, which are compared after each. The last line is
+'N passed, M failed'. A case that differs is made smaller, and printed with its seed; fuzz.py PROGRAM 0 SEED runs the one
+case of that seed. Fewer than LEAST commands a second are a failure.
 """
 
 import os
@@ -15,6 +16,7 @@ import time
 
 import program
 from draw import Drawer
+from draw_histories import HistoryDrawer
 from shrink import shrunk
 
 PATIENCE = 60000
@@ -142,32 +144,53 @@ def show(seed, case, lines):
         print(f"  {line}", flush=True)
 
 
-def try_seed(bench, seed):
-    """Whether both agree on the case of a seed; one that differs is shown as small as it gets."""
+def try_history(bench, seed):
+    """The commands of a seed on one file, and whether both agree on each of them."""
+    drawer, words = HistoryDrawer(random.Random(seed)), []
+    kept, many = drawer.begin()
+    for _ in range(many):
+        case = drawer.next_case(kept)
+        words.append(case.word)
+        if not agrees(bench, case, seed):
+            return words, False
+        kept = program.run(case).kept if case.kept == kept else kept
+    return words, True
+
+
+def try_case(bench, seed):
+    """The command of a seed, and whether both agree on it."""
     case = Drawer(random.Random(seed)).case()
+    return [case.word], agrees(bench, case, seed)
+
+
+def agrees(bench, case, seed):
+    """Whether both agree on a case; one that differs is shown as small as it gets."""
     if not difference(bench, case):
-        return case, True
+        return True
     case = shrunk(case, lambda smaller: difference(bench, smaller))
     show(seed, case, difference(bench, case) or ["it did not differ again"])
-    return case, False
+    return False
 
 
 def main():
-    built, seconds, seed = sys.argv[1], int(sys.argv[2]), int(sys.argv[3])
+    built, seconds, seed, kind = sys.argv[1], int(sys.argv[2]), int(sys.argv[3]), (sys.argv[4:] or ["cases"])[0]
+    try_it = {"cases": try_case, "histories": try_history}[kind]
     bench = Bench(built)
     end = time.monotonic() + seconds
     counts, failed, tried = {}, 0, 0
     while failed < 10 and (tried == 0 or time.monotonic() < end):
-        case, agree = try_seed(bench, seed + tried)
-        counts[case.word] = counts.get(case.word, 0) + 1
+        words, agree = try_it(bench, seed + tried)
+        for word in words:
+            counts[word] = counts.get(word, 0) + 1
         tried += 1
         failed += not agree
     bench.close()
     told = ", ".join(f"{many} of {word}" for word, many in sorted(counts.items()))
-    print(f"drawn cases from seed {seed}: {told}")
+    print(f"{tried} drawn {kind} from seed {seed}: {told}")
     passed = tried - failed
-    if failed == 0 and tried < LEAST * seconds:
-        print(f"FAILED: only {tried} cases were tried, of at least {LEAST * seconds}")
+    commands = sum(counts.values())
+    if failed == 0 and commands < LEAST * seconds:
+        print(f"FAILED: only {commands} commands were tried, of at least {LEAST * seconds}")
         failed = 1
     print(f"{passed} passed, {failed} failed")
     sys.exit(failed > 0)

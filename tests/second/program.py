@@ -7,6 +7,7 @@ It is plain and slow, and reads no wrong command line.
 import re
 
 import database
+import histories
 import live
 import plans
 import queries
@@ -14,7 +15,7 @@ import replay
 import sources
 import updates
 from case import EDITS, LOOKS as ONCE_LOOKS, ON_FILES, ONE_SHOTS
-from commands import Command, do, fail_by_list, first_missing, has_failed, is_silent, read_command, task_of
+from commands import Command, fail_by_list, first_missing, has_failed, is_silent, read_command
 from forms import Failure, Refusal
 
 LONGEST_LINE = 65536
@@ -66,16 +67,24 @@ def read_live(base, text):
     return some
 
 
-def begun(case):
-    """The database, the rest of the input, and the line with which a session begins."""
+def begun(case, answer):
+    """The history with which a session begins, and the rest of the input. The database is that of the history."""
+    if histories.is_history(case.kept):
+        history = histories.read(case.kept)
+        if case.base != history.now().text:
+            answer.fault = histories.NOT_THIS
+        elif case.locks and case.word not in ("undo", "redo") and history.now().is_passed():
+            answer.fault = histories.NOT_FINISHED
+        first_missing(history.bases(case.word.encode()), case.failing)
+        return history, case.input
     base, text = base_and_input(case)
-    first_missing(base, case.failing)
-    return base, text, live.begun(base, case.kept, case.bound)
+    first_missing([base], case.failing)
+    return histories.plain(base, case.base, live.begun(base, case.kept, case.bound)), text
 
 
 def session(case, answer):
-    base, text, line = begun(case)
-    keeps = lambda: live.text_of(base, line) if case.keeps else None
+    history, text = begun(case, answer)
+    keeps = lambda: history.written() if case.keeps else None
     answer.kept = keeps()
     for words in lines_of(text):
         if len(words) > LONGEST_LINE:
@@ -84,7 +93,7 @@ def session(case, answer):
             continue
         try:
             command = read_command(words, LOOKS)
-            said = do(base, line, command, fail_by_list(case.failing))
+            said = history.do(command, fail_by_list(case.failing))
         except Refusal as refusal:
             said = b"refused " + refusal.text + b"\n"
         answer.out += said
@@ -92,28 +101,37 @@ def session(case, answer):
 
 
 def one_shot(case, answer):
-    """A session of one line; what only shows something leaves the file alone."""
-    base, _, line = begun(case)
+    """A session of one line; what only shows something leaves the file alone. An undo or a redo crosses borders."""
+    history, _ = begun(case, answer)
     command = Command(case.word.encode(), case.limit, case.ask, case.force, case.words)
-    was = set(line.now().live)
     if case.locks:
-        answer.kept = live.text_of(base, line)
+        answer.kept = history.written()
     try:
         if case.dry and case.word == "change":
             command.word = b"dry"
-        if case.dry and case.word != "change":
-            answer.out = plans.told(task_of(base, line, command)[0]) + b"ok\n"
+        if case.word in ("undo", "redo"):
+            answer.out = history.shown(command) if case.dry else history.travel(command, doing(case, answer))
         else:
-            answer.out = do(base, line, command, fail_by_list(case.failing))
+            answer.out = doing(case, answer)(history, command)
     except Refusal as refusal:
         answer.out = b"refused " + refusal.text + b"\n"
         answer.status = 1
     if case.locks:
-        answer.kept = live.text_of(base, line)
+        answer.kept = history.written()
     if has_failed(answer.out):
         answer.status = 2
-    if not case.dry:
-        answer.reports = reports_of(lambda name: b"down" if name in was else b"up", answer.out)
+
+
+def doing(case, answer):
+    """What does one line of a session, and reports what fails."""
+
+    def do_one(history, command):
+        was = set(history.now().line.now().live)
+        said = history.do(command, fail_by_list(case.failing))
+        answer.reports += reports_of(lambda name: b"down" if name in was else b"up", said)
+        return said
+
+    return do_one
 
 
 def reports_of(way_of, text):
@@ -124,35 +142,34 @@ def reports_of(way_of, text):
 
 def restart(case, answer):
     """What is named and up goes down, with all that needs it, and what went down comes up."""
-    base, _, line = begun(case)
-    was = set(line.now().live)
-    carry_out = fail_by_list(case.failing)
-    answer.kept = live.text_of(base, line)
+    history, _ = begun(case, answer)
+    was = set(history.now().line.now().live)
+    do_one = doing(case, answer)
+    answer.kept = history.written()
     try:
-        fall = do(base, line, Command(b"change", ask=plans.Ask("D", 0, case.words)), carry_out)
+        answer.out = do_one(history, Command(b"change", ask=plans.Ask("D", 0, case.words)))
     except Refusal as refusal:
         answer.out = b"refused " + refusal.text + b"\n"
         answer.status = 1
         return
-    again = sorted(was - line.now().live)
-    rise = do(base, line, Command(b"change", ask=plans.Ask("u", 0, again)), carry_out)
-    answer.reports = reports_of(lambda _: b"down", fall) + reports_of(lambda _: b"up", rise)
-    answer.out = fall + rise
-    answer.kept = live.text_of(base, line)
+    again = sorted(was - history.now().line.now().live)
+    answer.out += do_one(history, Command(b"change", ask=plans.Ask("u", 0, again)))
+    answer.kept = history.written()
     answer.status = 2 if has_failed(answer.out) else 0
 
 
 def seal(case, answer):
     """The current state alone is kept."""
-    base, _, line = begun(case)
-    answer.kept = live.text_of(base, live.Line([line.now()], 0, line.bound))
+    history, _ = begun(case, answer)
+    history.seal()
+    answer.kept = history.written()
     answer.out = b"ok\n"
 
 
 def status(case, answer):
     """Where services stand: those that are named, or all."""
-    base, _, line = begun(case)
-    now = line.now()
+    history, _ = begun(case, answer)
+    base, now = history.now().base, history.now().line.now()
     try:
         plans.first_unknown(base, now.bundles, case.words)
     except Refusal as refusal:
@@ -179,10 +196,7 @@ def run_of(case, answer):
         {"restart": restart, "seal": seal, "status": status}[case.word](case, answer)
         return
     if case.word == "update":
-        updates.update(case, answer)
-        if not case.dry:
-            lowering, _, raising = answer.out.partition(b"ok\n")
-            answer.reports = reports_of(lambda _: b"down", lowering) + reports_of(lambda _: b"up", raising)
+        updates.update(case, answer, doing(case, answer))
         return
     base, text = base_and_input(case)
     if case.word == "db" and case.query == b"dot":
@@ -207,6 +221,6 @@ def run(case):
         run_of(case, answer)
     except Refusal as refusal:
         answer.status = 111 if isinstance(refusal, Failure) else 1
-        answer.fault = b"undorc: " + shown(refusal.text) + b"\n"
+        answer.fault = answer.fault or b"undorc: " + shown(refusal.text) + b"\n"
         answer.circle = getattr(refusal, "steps", None)
     return answer

@@ -6,6 +6,7 @@ import database
 import live
 from case import EDITS, ON_FILES
 from forms import Refusal
+from histories import is_history
 
 # Commands that want a file, and those that want a name.
 KEEPING = ("update",) + ON_FILES
@@ -73,6 +74,8 @@ def with_part(case, part, value):
 def smaller(case):
     parts = [("kept", None), ("bound", None), ("keeps", False), ("failing", []), ("restarts", []), ("renames", None)]
     for part, less in parts + [("workers", None), ("limit", 0), ("force", False)]:
+        if part in ("kept", "keeps") and is_history(case.kept):
+            continue
         if getattr(case, part) != less and not (part == "keeps" and (case.kept or case.word in KEEPING)):
             yield with_part(case, part, less)
     for text in parts_of_lines(case.own):
@@ -86,7 +89,7 @@ def smaller(case):
     if case.other is not None:
         for text in smaller_bases(case.other):
             yield with_part(case, "other", text)
-    if case.kept is not None:
+    if case.kept is not None and not is_history(case.kept):
         for text in parts_of_lines(case.kept):
             yield with_part(case, "kept", text)
     for part in ("failing", "words") if case.query not in (b"list", b"type") else ("failing",):

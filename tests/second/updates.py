@@ -1,8 +1,9 @@
 """Carries what is live over from one database to another."""
 
 import database
+import histories
 import live
-from commands import Command, do, fail_by_list, first_missing, has_failed
+from commands import Command, first_missing, has_failed
 from forms import Refusal
 from plans import Ask, plan, told
 
@@ -38,7 +39,7 @@ class Passage:
     """The way from one database to another."""
 
     def __init__(self, old, new, found):
-        self.old, self.new = old, new
+        self.old, self.new, self.found = old, new, found
         self.names = {one[0]: one[1] for one in found}
         self.restarts = {one[0] for one in found if one[2]}
         for name in old.services:
@@ -70,38 +71,81 @@ class Passage:
             yield b"undorc: %s moves: %s\n" % (name, why)
 
 
-def carried(old, new, line, up):
-    """The line of the new database: one state, of what was not lowered."""
-    return live.Line([live.State(up, new.bundles)], 0, line.bound)
+def begun(case, old):
+    """The history that an update begins on; that of a live text alone has the old database."""
+    if histories.is_history(case.kept):
+        return histories.read(case.kept)
+    return histories.plain(old, case.base, live.begun(old, case.kept, None))
 
 
-def update(case, answer):
+def update(case, answer, do_one):
     case.early = True
     found = conversions(case)
     case.early = False
-    old, new = (database.read(text, True)[0] for text in (case.base, case.other))
+    is_history = histories.is_history(case.kept)
+    old = histories.read(case.kept).now().base if is_history else database.read(case.base, True)[0]
+    new = database.read(case.other, True)[0]
     for one in found:
-        first_missing(old, [(b"", one[0])])
-        first_missing(new, [(b"", one[1])])
-    way = Passage(old, new, found)
+        first_missing([old], [(b"", one[0])])
+        first_missing([new], [(b"", one[1])])
     for side, base in ((b"down", old), (b"up", new)):
-        first_missing(base, [one for one in case.failing if one[0] == side])
-    line = live.begun(old, case.kept, None)
-    up = set(line.now().live)
-    down = Ask("D", 0, sorted(s for s in up if way.difference(s)))
-    on = lambda names: {way.names[s] for s in names if s in way.names}
-    again = Ask("u", 0, sorted(on(up)))
+        first_missing([base], [one for one in case.failing if one[0] == side])
+    history = begun(case, old)
     if case.dry:
-        first = plan(old, {}, up, down)
-        second = plan(new, {}, on(up - first.lower), again)
-        answer.out = told(first) + b"ok\n" + told(second) + b"ok\n"
-        answer.reports = list(way.reasons(first.lower))
+        show(case, answer, Passage(old, new, found), history)
         return
-    carry_out = fail_by_list(case.failing)
-    answer.out = do(old, line, Command(b"change", ask=down), carry_out)
-    answer.kept = live.text_of(old, line)
-    if not has_failed(answer.out):
-        line = carried(old, new, line, on(line.now().live))
-        answer.out += do(new, line, Command(b"change", ask=again), carry_out)
-        answer.kept = live.text_of(new, line)
+    if history.now().is_passed() and history.can_step(-1):
+        answer.out = history.travel(Command(b"undo"), do_one)
+    was_same = is_history and case.other == history.now().text and not found
+    if has_failed(answer.out):
+        answer.status = 2
+    elif was_same:
+        answer.out += b"ok\nok\n"
+    else:
+        carry_over(case, answer, do_one, Passage(history.now().base, new, found), history)
+    answer.kept = history.written()
+
+
+def asks(way, up):
+    """What the first change lowers, what these services go on as, and what the second change raises."""
+    on = lambda names: {way.names[s] for s in names if s in way.names}
+    return Ask("D", 0, sorted(s for s in up if way.difference(s))), on, Ask("u", 0, sorted(on(up)))
+
+
+def show(case, answer, way, history):
+    """The plans of both changes."""
+    up = set(history.now().line.now().live)
+    down, on, again = asks(way, up)
+    first = plan(way.old, {}, up, down)
+    second = plan(way.new, {}, on(up - first.lower), again)
+    answer.out = told(first) + b"ok\n" + told(second) + b"ok\n"
+    answer.reports = list(way.reasons(first.lower))
+
+
+def carry_over(case, answer, do_one, way, history):
+    """Both changes, and the border between them."""
+    was, line = history.now(), history.now().line
+    history.is_plain = False
+    down, on, again = asks(way, set(line.now().live))
+    text = was.written()
+    lowered = do_one(history, Command(b"change", ask=down))
+    answer.out += lowered
+    has_moved = was.written() != text
+    was.is_last_passed = has_moved or was.is_last_passed
+    if not has_failed(lowered):
+        del line.states[line.cursor + 1 :]
+        was.is_last_passed = has_moved
+        renames = [one[:2] for one in way.found if not one[2]]
+        session = live.Line([live.State(on(line.now().live), way.new.bundles)], 0, line.bound)
+        behind = histories.Generation(case.other, session, renames=renames)
+        history.generations[history.at + 1 :] = [behind]
+        history.at += 1
+        if len(history.generations) > histories.GREATEST:
+            del history.generations[0]
+            history.at -= 1
+            history.generations[0].renames = []
+        raised = do_one(history, Command(b"change", ask=again))
+        answer.out += raised
+        behind.is_last_passed = has_failed(raised)
+        behind.is_first_passed = len(session.states) > 1 or has_failed(raised)
     answer.status = 2 if has_failed(answer.out) else 0

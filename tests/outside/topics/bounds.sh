@@ -126,7 +126,7 @@ if may_be_nobody 'files of somebody else'; then
     # Who owns a file in a folder that others may write keeps it.
     mkdir common
     chmod 1777 common
-    echo precious > common/db
+    cp base common/db
     chmod 666 common/db
     cp common/db before
     echo 0 > status

@@ -380,6 +380,22 @@ fails 1 TooMany many
 printf b1000 > many/q/pipeline-name
 fails 1 'PipelineName q' many
 
+# What stands at a path is asked once of each file, and of each entry but one, which shows that there is any.
+if command -v strace > /dev/null; then
+    tree asked
+    for name in a b c d; do oneshot_at "asked/$name"; done
+    ASAN_OPTIONS=detect_leaks=0 strace -f -o trace -e trace=statx,stat,lstat,newfstatat "$program" compile asked > out
+    sed -n 's/.*"\(asked\/[a-d][^"]*\)".*/\1/p' trace | sort > paths
+    uniq -d paths | sed 1d > out
+    [ "$(sort -u paths | wc -l)" -eq 12 ] || echo 'not all are asked' >> out
+    wants '' ''
+    : > err
+    echo 0 > status
+    judge 'compile asks once what stands at a path' 0
+else
+    skip 'how often compile asks what stands at a path, which takes strace'
+fi
+
 # Wrong command lines, and devices that fail.
 wrong compile
 wrong compile -x

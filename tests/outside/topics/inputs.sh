@@ -127,6 +127,8 @@ wants 'raised root\nok\nlive root\nok\n' 'undorc: TooLong\n'
 runs session -b base -x none -l kept
 stays 'what is up after a line of 65,537 bytes'
 
+may_be_unchecked 'inputs of 16,777,216 bytes' || return 0
+
 # bounded STATUS OUTPUT FAULT WORDS..: an input at its bound is the one in `whole`. One byte more is the last that is taken,
 # and what is not read is left.
 bounded() {

@@ -1,5 +1,6 @@
 # Memory that is refused, growth after growth, and threads that can't be started. program.sh
 # reads this file; tests/lib/refuse.c refuses.
+may_be_unchecked 'each allocation and thread refused' || return 0
 works_in memory
 printf '%b' "$sample" > base
 preloads refuse
@@ -66,7 +67,7 @@ from=0
 "$program" compile -v tree > text.none.1 2> whole.err
 : > whole.none
 cp text.none.1 text.none.0.then
-echo older > text.none.0
+cp base text.none.0
 each 150 "$ample$memory" 'alone kept notes keeps=-o' compile -v tree
 file=''
 rm -r tree text.*
@@ -239,11 +240,19 @@ echo 'change b' > in
 expects none
 each 20 "$ample$memory" 'answers kept scripts' session -b base -P -w 1
 
-# An update that lowers a service and raises it again. On file is one of the texts in turn: that before, by
-# the old database without the service, by the new one without it, and with it.
+# An update that lowers a service and raises it again. On file is one of the texts in turn: that before, alone and in a
+# history; by the old database without the service; by the new one without it, and with it, at first as a state that is passed.
 rm text.* whole.*
 sed '/^service b /{n;s/^needs a$/needs/;}' base > new
 : > in
+# begun MARK SESSION: the text of a history of the old database
+begun() {
+    printf 'undorc-history 1\nat 0 of 1\ngeneration stop %s\ndatabase %d\n' "$1" "$(wc -c < base)"
+    cat base
+    printf 'session %d\n' "$(wc -c < "$2")"
+    cat "$2"
+    printf 'renames 0\nend\n'
+}
 for at in 0 1 1.then 2; do
     [ "$at" = 0 ] || cp text.none.0 live
     case $at in
@@ -254,7 +263,10 @@ for at in 0 1 1.then 2; do
     esac > made
     cp live "text.none.$at"
 done
-rm live
+begun stop text.none.0 > text.none.0.then
+begun passed text.none.1 > live
+mv live text.none.1
+sed 's/^generation passed stop$/generation passed passed/' text.none.2 > text.none.2.then
 each 200 "$ample$memory" 'answers kept' update -b base -B new -x none
 
 # The same by scripts. Where the one that lowers can't be started nothing is done by the new database.
@@ -262,6 +274,7 @@ for key in down:b up:b; do
     cp text.none.0 live
     "$program" update -b base -B new -x "$key" -l live > "whole.$key" || echo $? > "status.$key"
     cp text.none.0 "text.$key.0"
+    cp text.none.0.then "text.$key.0.then"
     mv live "text.$key.1"
 done
 mv text.up:b.1 text.up:b.2

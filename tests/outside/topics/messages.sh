@@ -222,6 +222,16 @@ expect 0 '' '' '' compile -o linked services
 [ -L linked ] && [ "$(stat -c %a db)" = 640 ] || echo 'the link or the rights are gone' > out
 wants '' ''
 judge 'a link is followed, and rights stay' 0
+# What is no database is not replaced by one; an empty file is.
+echo notes > notes
+expect 1 '' 'undorc: NotDatabase notes\n' '' compile -o notes services
+: > notes.empty
+expect 0 '' '' '' compile -o notes.empty services
+{ cat notes; head -c 10 notes.empty; } > out
+echo 0 > status
+: > err
+wants 'notes\nundorc-db ' ''
+judge 'what compile -o replaces' 0
 cp whole db
 
 # It is written beside the file and renamed over it, so who has the file open, or a name of it, has the old one.
@@ -340,6 +350,16 @@ if may_be_nobody 'a file without the right to read'; then
     judge 'which file, and that permission is denied' 0
 fi
 
+# A name that is not UTF-8 is shown with escapes.
+mkdir "services/$(printf 'b\377\033[1m')"
+helps 111 'undorc: Io\n' 'services/b\xff\x1b[1m: the name is to be UTF-8' -- compile services
+helps 111 'undorc: Io\n' 'services/b\xff\x1b[1m: the name is to be UTF-8' -- compile services/
+rmdir "services/$(printf 'b\377\033[1m')"
+mkdir services/web/dependencies.d
+: > "services/web/dependencies.d/$strange"
+helps 111 'undorc: Io web\n' 'services/web/dependencies.d/\xff: the name is to be UTF-8' -- compile services
+rm -r services/web/dependencies.d
+
 # Words with control characters do nothing to a terminal, and make no line of their own: they are written as escapes.
 control=$(printf 'x\033[31m\a\302\233y\nundorc: z')
 newcomer
@@ -370,6 +390,15 @@ rmdir "services/$control"
 ln -s db "$control"
 "$program" undo -b "$control" -l state -x none < /dev/null > out
 rm "$control"
+# The message about a wrong command line has the newlines that it has without them, and no others.
+"$program" change --foo -b db -l state < /dev/null > out 2> err.plain || true
+for word in "$(printf -- '--foo\nundorc: x')" "$(printf -- '--foo\033[31m\nundorc: x')"; do
+    "$program" change "$word" -b db -l state < /dev/null > out 2> err || true
+    says '^error: .*--foo.*\\nundorc: x'
+    holds 'a wrong command line makes no line of its own' sh -c '! grep -q "^undorc: x" err'
+    holds 'and its message has no other control characters' sh -c '! LC_ALL=C grep -q "[[:cntrl:]]" err'
+    holds 'and as many lines as with another word' test "$(wc -l < err)" -eq "$(wc -l < err.plain)"
+done
 holds 'the log of commands has escapes' grep -q -F 'x\u{1b}[31m\u{7}\u{9b}y\nundorc: z' state.log
 holds 'the log of commands has no control characters' sh -c '! LC_ALL=C grep -q "[[:cntrl:]]" state.log'
 cd ..

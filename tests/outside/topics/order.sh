@@ -75,15 +75,24 @@ else
     traced change net -b base -x none -l link
     { calls_kept other/place other; calls_kept other/place other; echo 'write answer'; } > calls.wanted
     ordered 'a one-shot command whose file stands behind a link'
-    # An update writes it before each answer, too: what is lowered, the new text, and what is raised.
+    # An update writes it before each answer, too: the history that begins, what is lowered, the new
+    # database, and what is raised; and at last that its state is one to stop at.
     sed '/^service net /{n;s/ root$//;}' base > new
     traced update -b base -B new -x none -l live
-    { calls_kept live .; echo 'write answer'; calls_kept live .; calls_kept live .; echo 'write answer'; } > calls.wanted
+    {
+        calls_kept live .
+        calls_kept live .
+        echo 'write answer'
+        calls_kept live .
+        calls_kept live .
+        echo 'write answer'
+        calls_kept live .
+    } > calls.wanted
     ordered 'an update, and the calls by which its file is kept'
     traced compile -o db "$samples/source"
     calls_kept db . > calls.wanted
     ordered 'a database, and the calls by which it is written'
-    traced live -b base -l live
+    traced live -b new -l live
     echo 'write answer' > calls.wanted
     ordered 'a look writes nothing'
     # A run is logged before it happens: a take before its program is started, an end before the next take. Before that the

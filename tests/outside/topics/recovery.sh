@@ -256,13 +256,14 @@ killed_update() {
 half next base
 expect 0 'at 1 of 2\n0 +a +b +slow\nok\n' 'undorc: Recovered\n' 'journal\n' session -b next -l live -x none
 half base next
-expect 0 'live a b\nok\n' 'undorc: Recovered\n' 'live\n' session -b next -l live -x none
-# An update that is given again enters it by the old database, or by the new one.
+told='undorc: Recovered\nundorc: an update was not finished: undorc undo takes it back\n'
+expect 0 'live a b\nok\n' "$told" 'live\n' session -b next -l live -x none
+# An update that is given again enters it, takes it back, and carries over.
 half next base
 expect 0 'lowered a slow\nok\nraised a slow\nok\n' 'undorc: Recovered\n' '' update -b next -B base -l live
-# What its first half has lowered comes up, too, where the update is the very next command.
+# So what its first half has lowered comes up, too, where the update is the very next command.
 half next base top
-expect 0 'lowered a slow\nok\nraised a slow top\nok\n' 'undorc: Recovered\n' '' update -b next -B base -l live
+expect 0 'raised top\nok\nlowered a slow top\nok\nraised a slow top\nok\n' 'undorc: Recovered\n' '' update -b next -B base -l live
 half next base top
 expect 0 'ok\n' 'undorc: Recovered\n' '' change -b next -l live
 expect 0 'lowered a slow\nok\nraised a slow\nok\n' '' '' update -b next -B base -l live
@@ -273,7 +274,7 @@ rm -f live ran begun
 "$program" change -d top -b next -l live < /dev/null > /dev/null
 killed_update next base
 expect 0 'lowered a slow\nok\nraised a slow\nok\n' 'undorc: Recovered\n' '' update -b next -B base -l live
-# Where it renames or restarts services, the same command goes on, and one without that is another update.
+# Where it renames or restarts services, the same command does so, and one without that is another update.
 mv tree/top tree/tip
 rm -r tree/a
 oneshot a 'echo up a >> ran'
@@ -287,11 +288,11 @@ cut_short() {
     killed_update "$@"
 }
 cut_short next named -f renames
-expect 0 'lowered a slow\nok\nraised a slow tip\nok\n' 'undorc: Recovered\n' '' update -b next -B named -l live -f renames
+expect 0 'raised top\nok\nlowered a slow top\nok\nraised a slow tip\nok\n' 'undorc: Recovered\n' '' update -b next -B named -l live -f renames
 cut_short next named -f renames
 expect 0 'lowered a slow\nok\nraised a slow\nok\n' 'undorc: Recovered\n' '' update -b next -B named -l live
 cut_short next next -R slow
-expect 0 'lowered slow\nok\nraised slow top\nok\n' 'undorc: Recovered\n' '' update -b next -B next -l live -R slow
+expect 0 'raised top\nok\nlowered slow top\nok\nraised slow top\nok\n' 'undorc: Recovered\n' '' update -b next -B next -l live -R slow
 cut_short next next -R slow
 expect 0 'ok\nok\n' 'undorc: Recovered\n' '' update -b next -B next -l live
 half base next
@@ -309,6 +310,7 @@ called=$!
 until_begun
 expect 0 'live\nok\n' 'undorc: a command is under way\n' '' live -b base -l live
 expect 0 '' '' '' stop -l live
+expect 0 '' 'undorc: live is being stopped: what is under way there ends\n' '' stop -l live
 : > go
 echo 0 > status
 wait "$called" || echo $? > status
@@ -342,7 +344,7 @@ for signal in stop TERM INT HUP; do
 done
 
 # ^C at a terminal goes to the scripts, too. It ends the program, and the next command recovers it; under `orderly` the
-# program ends in order.
+# script that is under way ends well, and the program in order.
 cat > press.py <<'END'
 import os, pty, signal, sys, time
 
@@ -353,6 +355,8 @@ if child == 0:
 while not os.path.exists("begun") or os.path.getsize("begun") == 0:
     time.sleep(0.02)
 os.write(terminal, b"\x03")
+time.sleep(0.5)
+open("go", "w").close()
 try:
     while os.read(terminal, 4096):
         pass
@@ -373,7 +377,35 @@ wants '2\n' ''
 : > err
 echo 0 > status
 judge '^C at a terminal under orderly' 0
-expect 0 'at 1 of 2\n0 +a +b\nok\n' '' 'journal\n' session -b base -l live -x none
+scripts_ran 'what ^C at a terminal under orderly lets end' 'up a\nup b\nup slow\n'
+expect 0 'at 1 of 2\n0 +a +b +slow\nok\n' '' 'journal\n' session -b base -l live -x none
+
+# There orderly hands on what it reads, and says where setsid is missing.
+cat > terminal.py <<'END'
+import os, pty, sys
+
+sys.exit(os.waitstatus_to_exitcode(pty.spawn(sys.argv[1:])))
+END
+rm -f live ran go begun
+printf 'change a\nchange b\n' > in
+: > err
+echo 0 > status
+# shellcheck disable=SC2016 # the inner shell reads it
+UNDORC_PROGRAM=$program python3 terminal.py sh -c '"$0" session -b base -l live < in > out 2> err' "$top/contrib/orderly" \
+    < /dev/null > seen || echo $? > status
+wants 'raised a\nok\nraised b\nok\n' ''
+judge 'orderly reads lines at a terminal' 0
+mkdir few
+for name in sh env; do ln -s "$(command -v "$name")" "few/$name"; done
+rm -f live ran
+echo 0 > status
+UNDORC_PROGRAM=$program python3 terminal.py env "PATH=$PWD/few" "$top/contrib/orderly" change a -b base -l live \
+    < /dev/null > seen || echo $? > status
+tr -d '\r' < seen > out
+: > err
+wants 'orderly: setsid is missing, so ^C at a terminal ends scripts, too\nraised a\nok\n' ''
+judge 'orderly without setsid at a terminal' 0
+rm -r few
 
 # Where env can't block signals, orderly calls the command off by `undorc stop`.
 mkdir plain
@@ -454,6 +486,58 @@ printf 'stop 1 1 0\nstop\n' > live.stop
 expect 0 'lowered a b slow top\nok\n' '' '' undo -b base -l live
 holds 'what called others off is removed' test ! -e live.stop
 
+# A command is called off also where FILE.stop was removed by hand after the command had opened it, and where a part of a
+# line stands there.
+for what in 'rm live.stop' 'printf "stop 1" >> live.stop'; do
+    rm -f live ran go begun
+    echo 0 > status
+    "$program" change -w 1 top -b base -l live < /dev/null > out 2> err &
+    called=$!
+    until_begun
+    sh -c "$what"
+    expect 0 '' '' '' stop -l live
+    : > go
+    echo 0 > status
+    wait "$called" || echo $? > status
+    "$program" live -b base -l live > out
+    wants 'live a b slow\nok\n' ''
+    : > err
+    judge "a command that is called off after: $what" 2
+done
+
+# The line goes there by one write, so that those of two programs do not mix.
+if command -v strace > /dev/null; then
+    rm -f live ran go begun
+    "$program" change -w 1 top -b base -l live < /dev/null > out 2> err &
+    called=$!
+    until_begun
+    ASAN_OPTIONS=detect_leaks=0 strace -f -o trace -e trace=write "$program" stop -l live
+    : > go
+    wait "$called" || true
+    grep -c 'write(.*stop' trace > out || true
+    grep -c 'write(.*\\nstop [0-9]* [0-9]* 0\\n"' trace >> out || true
+    : > err
+    echo 0 > status
+    wants '1\n1\n' ''
+    judge 'one write of a stop' 0
+else
+    skip 'one write of a stop, which takes strace'
+fi
+
+# A line of a session is called off where FILE.stop was removed by hand before it.
+rm -f live ran go begun
+begins -b base -l live -w 1
+tell 'dry top'
+hear
+rm live.stop
+tell '-t 60000 change top'
+until_begun
+"$program" stop -l live || echo "$?" >> out
+: > go
+hear
+wants 'raise a b slow top\nok\nraised a b slow\nuntried top\nok\n' ''
+ends 'a line of a session that is called off after its file was removed' 0
+
 # A line of a session is called off, and no later one. Between two lines there is none.
 rm -f live ran go begun
 begins -b base -l live -w 1
@@ -493,7 +577,10 @@ until_begun
 echo 0 > status
 env --block-signal=INT "$program" change b -W -b base -l live < /dev/null > out 2> err &
 waiting=$!
-sleep 1.5
+for turn in $(seq 500); do
+    ! grep -q waits err || break
+    sleep 0.02
+done
 kill -INT "$waiting"
 wait "$waiting" || echo $? > status
 wants '' 'undorc: waits for the command that has live\nundorc: Busy\n'

@@ -110,6 +110,43 @@ if may_be_nobody 'files of other users'; then
     rm -r open
 fi
 
+# A FILE that no other may be renamed over is refused at once.
+rm -f live live.*
+"$program" change a -b base -l live -x none < /dev/null > /dev/null
+no_other="live can't be replaced by live.new"
+for attribute in i a; do
+    if chattr "+$attribute" live 2> /dev/null; then
+        refuses_file "a FILE with the attribute $attribute" "$no_other: it is immutable, or can only be appended to" change b -b base -l live
+        chattr "-$attribute" live
+    else
+        skip "a FILE with the attribute $attribute, which takes chattr and a file system that has it"
+    fi
+done
+if mount --bind live live 2> /dev/null; then
+    refuses_file 'a FILE that is mounted' "$no_other: it is mounted by itself; mount its directory" change b -b base -l live
+    umount live
+else
+    skip 'a FILE that is mounted, which takes root'
+fi
+expect 0 'raised b\nok\n' '' '' change b -b base -l live -x none
+if may_be_nobody 'a FILE of another user in a sticky directory'; then
+    mkdir sticky
+    cp live sticky/live
+    chown 0:65534 sticky
+    chmod 1770 sticky
+    cp "$program" sticky/undorc
+    chmod 755 sticky/undorc
+    rm -f ran
+    echo 0 > status
+    setpriv --reuid 65534 --regid 65534 --clear-groups sticky/undorc undo -b base -l sticky/live < /dev/null > out 2> err || echo $? > status
+    cp err all
+    wants '' 'undorc: Io\n'
+    judge 'a FILE of another user in a sticky directory' 111
+    holds 'and why' grep -q -x -F "  sticky/live can't be replaced by sticky/live.new: it belongs to another user, and its directory is sticky" all
+    holds 'and nothing is started' test ! -e ran
+    rm -r sticky
+fi
+
 # The log of commands is a plain file beside FILE, and not beside a link to it. What is no plain file is not waited for.
 rm -f live live.*
 mkdir -p elsewhere

@@ -333,6 +333,7 @@ ends 'a session that starts scripts, whose answers nobody reads' 111
 
 # Where a worker can't be started no script is run: an address space has room for some of 64 stacks.
 # No more workers work than there are services to move, and the session is one of them.
+may_be_unchecked 'memory for few workers' || return 0
 begin_tree
 all=$(seq 64 | sed 's/^/s/' | LC_ALL=C sort | tr '\n' ' ')
 all=${all% }

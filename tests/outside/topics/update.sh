@@ -4,6 +4,8 @@ mkdir updates
 cd updates
 : > in
 
+# What is told where `-b` has another database than the session.
+unused='is not the database of this session: undorc update carries it over'
 # service NAME NEEDS..: a oneshot in the folder `tree` whose scripts note what they do in `log`
 service() {
     mkdir -p "tree/$1"
@@ -273,7 +275,7 @@ rm -f live
 printf 'change c e\n' | "$program" session -b old -x none -l live -n 7 > out
 update 0 'lowered b c\nok\nraised b c\nok\n' '' -x none
 grep '^bound' live > out
-wants 'bound 7\n' ''
+wants 'bound 7\nbound 7\n' ''
 : > err
 echo 0 > status
 judge 'the bound is carried over' 0
@@ -411,12 +413,12 @@ compiled new
 fresh
 update 2 'lowered c e\nfailed b\nok\n' '' -x down:b
 expect 0 'live a b d\nok\n' '' '' live -b old -l live
-expect 1 '' 'undorc: OtherDb\n' '' live -b new -l live
+expect 0 'live a b d\nok\n' "undorc: new $unused\n" '' live -b new -l live
 expect 0 'at 2 of 3\n0 +a +b +c +d +e\n1 -c -e\nok\n' '' '' journal -b old -l live
-# The same command again lowers the rest; an undo first brings back what the first one lowered.
+# The same command again takes back what stands, and so does an undo.
 cp live live.half
-update 0 'lowered b\nok\nraised b\nok\n' '' -x none
-kept ' a b d' 'at 1 of 2\n0 +b'
+update 0 'raised c e\nok\nlowered b c e\nok\nraised b c\nok\n' '' -x none
+kept ' a b c d' "$back"
 cp live.half live
 expect 0 'raised c e\nok\n' '' '' undo -b old -x none -l live
 update 0 'lowered b c e\nok\nraised b c\nok\n' '' -x none
@@ -429,11 +431,11 @@ expect 0 'live a b c d\nok\n' '' '' live -b old -l live
 fresh
 update 2 'lowered b c e\nok\nfailed b\nblocked c\nok\n' '' -x up:b
 kept ' a d' "$all"
-expect 0 'raised b c\nok\n' '' '' change c -b new -x none -l live
+expect 0 'raised b c\nok\n' 'undorc: an update was not finished: undorc undo takes it back\n' '' change c -b new -x none -l live
 fresh
 update 2 'lowered b c e\nok\nraised b\nfailed c\nok\n' '' -x up:c
 kept ' a b d' 'at 1 of 2\n0 +b'
-expect 0 'lowered b\nok\n' '' '' undo -b new -x none -l live
+expect 0 'lowered b\nok\nraised b c e\nok\n' '' '' undo -b new -x none -l live
 fresh
 update 2 'lowered b c e\nok\nraised b\nfailed c\nok\n' '' -x up:c,down:f,down:a,up:a
 kept ' a b d' 'at 1 of 2\n0 +b'

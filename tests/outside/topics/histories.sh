@@ -1,0 +1,226 @@
+# The history of a session across updates: that an update is undone and redone, which database a command uses, and what
+# is refused of the file. program.sh reads this file.
+mkdir histories
+cd histories
+: > in
+
+# tree_service TREE NAME NEEDS..: a oneshot whose scripts note what they do in `log`, with the name of the tree
+tree_service() {
+    tree=$1 name=$2
+    shift 2
+    mkdir -p "$tree/$name"
+    echo oneshot > "$tree/$name/type"
+    echo "echo up $name $tree >> log" > "$tree/$name/up"
+    echo "echo down $name $tree >> log" > "$tree/$name/down"
+    printf '%s\n' "$@" > "$tree/$name/dependencies"
+}
+# tree_databases TREE..: the database of each tree in a file of its name
+tree_databases() {
+    for tree; do
+        "$program" compile "$tree" > "$tree.db"
+    done
+}
+# scripts_moved LINES: the scripts that were run since this was last asked, in any order
+scripts_moved() {
+    printf '%b' "$1" > out.wanted
+    sort log > out
+    : > log
+    : > err
+    : > err.wanted
+    echo 0 > status
+    judge "the scripts of $said" 0
+}
+# does STATUS OUTPUT LOG WORDS..: a command on the session, what it prints, and the scripts that it runs
+does() {
+    ends=$1 output=$2 scripts=$3
+    shift 3
+    said="undorc $*"
+    expect "$ends" "$output" "$told" '' "$@" -l live
+    scripts_moved "$scripts"
+    told=''
+}
+# stands_on DATABASE NAMES: the database of the session, and what is up
+stands_on() {
+    expect 0 "live$2\nok\n" '' '' live -b "$1.db" -l live
+}
+# places: where the history stands, and its marks
+places() {
+    printf '%b' "$1" > out.wanted
+    grep -a '^at \|^generation ' live > out
+    : > err
+    : > err.wanted
+    echo 0 > status
+    judge "the place and the marks after $said" 0
+}
+told=''
+unused='is not the database of this session: undorc update carries it over\n'
+tree_service one a
+tree_service one b a
+tree_service one c
+tree_service two a
+tree_service two b a c
+tree_service two c
+tree_service two d c
+tree_databases one two
+
+# An update is undone by one undo: what it raised goes down by the new scripts, and what it lowered comes up by the old.
+# A redo makes it again. Each is one step of the history, and the database is that of the state.
+does 0 'raised a b\nok\n' 'up a one\nup b one\n' change b -b one.db
+does 0 'lowered b\nok\nraised b c\nok\n' 'down b one\nup b two\nup c two\n' update -b one.db -B two.db
+places 'at 1 of 2\ngeneration stop passed\ngeneration passed stop\n'
+stands_on two ' a b c'
+does 0 'lowered b c\nok\nraised b\nok\n' 'down b two\ndown c two\nup b one\n' undo -b two.db
+places 'at 0 of 2\ngeneration stop passed\ngeneration passed stop\n'
+stands_on one ' a b'
+does 0 'lower b\nok\nraise b c\nok\n' '' redo -n -b one.db
+does 0 'lowered b\nok\nraised b c\nok\n' 'down b one\nup b two\nup c two\n' redo -b one.db
+places 'at 1 of 2\ngeneration stop passed\ngeneration passed stop\n'
+stands_on two ' a b c'
+does 0 'lower b c\nok\nraise b\nok\n' '' undo -n -b two.db
+stands_on two ' a b c'
+
+# A change after it is undone first; one after its undo cuts off what comes later.
+does 0 'raised d\nok\n' 'up d two\n' change d -b two.db
+does 0 'lowered d\nok\n' 'down d two\n' undo -b two.db
+stands_on two ' a b c'
+does 0 'lowered b c\nok\nraised b\nok\n' 'down b two\ndown c two\nup b one\n' undo -b two.db
+does 0 'raised c\nok\n' 'up c one\n' change c -b one.db
+places 'at 0 of 1\ngeneration stop stop\n'
+does 1 'refused NothingToRedo\n' '' redo -b one.db
+does 0 'lowered c\nok\n' 'down c one\n' undo -b one.db
+does 0 'lowered a b\nok\n' 'down a one\ndown b one\n' undo -b one.db
+does 1 'refused NothingToUndo\n' '' undo -b one.db
+does 0 'raised a b\nok\n' 'up a one\nup b one\n' redo -b one.db
+
+# The database of the session is the one in its file: another one that is named is told of, and not used.
+told="undorc: two.db $unused"
+does 0 'raised c\nok\n' 'up c one\n' change c -b two.db
+does 0 'lowered c\nok\n' 'down c one\n' undo -b nowhere.db
+does 0 'raised c\nok\n' 'up c one\n' redo
+does 0 'lowered c\nok\n' 'down c one\n' undo
+cp one.db kept.db
+"$program" compile -o one.db two
+told="undorc: one.db $unused"
+does 0 'raised c\nok\n' 'up c one\n' change c -b one.db
+mv kept.db one.db
+does 0 'lowered c\nok\n' 'down c one\n' undo -b one.db
+told="undorc: two.db $unused"
+does 0 'a up\nb up\nc down\n' '' status -b two.db
+
+# A picture shows the database of the session, and what is up.
+"$program" db -l live dot > out
+grep -c 'style=filled' out > filled
+: > err
+echo 0 > status
+mv filled out
+wants '2\n' ''
+judge 'the services that a picture of the session fills' 0
+
+
+# Several updates are undone in turn, and redone in turn.
+tree_service three a
+tree_service three e a
+tree_databases three
+does 0 'lowered b\nok\nraised b c\nok\n' 'down b one\nup b two\nup c two\n' update -b one.db -B two.db
+does 0 'lowered b c\nok\nok\n' 'down b two\ndown c two\n' update -b two.db -B three.db
+places 'at 2 of 3\ngeneration stop passed\ngeneration passed passed\ngeneration stop stop\n'
+stands_on three ' a'
+does 0 'raised b c\nok\n' 'up b two\nup c two\n' undo -b three.db
+stands_on two ' a b c'
+does 0 'lowered b c\nok\nraised b\nok\n' 'down b two\ndown c two\nup b one\n' undo -b two.db
+stands_on one ' a b'
+does 0 'lowered b\nok\nraised b c\nok\n' 'down b one\nup b two\nup c two\n' redo -b one.db
+does 0 'lowered b c\nok\n' 'down b two\ndown c two\n' redo -b two.db
+stands_on three ' a'
+does 1 'refused NothingToRedo\n' '' redo -b three.db
+
+# An update that moves nothing is undone by crossing the border alone, and one to the same database enters nothing.
+cp three.db same.db
+does 0 'ok\nok\n' '' update -b three.db -B same.db
+places 'at 2 of 3\ngeneration stop passed\ngeneration passed passed\ngeneration stop stop\n'
+echo 5000 > three/e/timeout-up
+tree_databases three
+does 0 'ok\nok\n' '' update -b same.db -B three.db
+places 'at 3 of 4\ngeneration stop passed\ngeneration passed passed\ngeneration stop stop\ngeneration stop stop\n'
+does 0 'ok\n' '' undo -n -b three.db
+does 0 'ok\n' '' undo -b three.db
+places 'at 2 of 4\ngeneration stop passed\ngeneration passed passed\ngeneration stop stop\ngeneration stop stop\n'
+does 0 'ok\n' '' redo -b same.db
+stands_on three ' a'
+
+# A rename is undone without a restart, and what was restarted is restarted by the old scripts.
+rm -rf four
+tree_service four z
+tree_service four e z
+tree_databases four
+echo 'a -> z' > renames
+does 0 'ok\nok\n' '' update -b three.db -B four.db -f renames
+stands_on four ' z'
+does 0 'ok\n' '' undo -b four.db
+stands_on three ' a'
+cp three.db again.db
+does 0 'lowered a\nok\nraised a\nok\n' 'down a three\nup a three\n' update -b three.db -B again.db -R a
+does 0 'lowered a\nok\nraised a\nok\n' 'down a three\nup a three\n' undo -b three.db
+stands_on three ' a'
+
+# At most 8 generations are kept: the oldest goes.
+for number in 1 2 3 4 5 6 7; do
+    echo "$number" > three/e/timeout-up
+    tree_databases three
+    "$program" update -b three.db -B three.db -l live > out 2>&1 || true
+done
+: > log
+said='seven updates'
+places "at 7 of 8\n$(printf 'generation %s\\n' 'stop stop' 'stop stop' 'stop stop' 'stop stop' 'stop stop' 'stop stop' 'stop stop' 'stop stop')"
+for number in 1 2 3 4 5 6 7; do
+    "$program" undo -b three.db -l live > out 2>&1 || true
+done
+said='seven undos'
+places "at 0 of 8\n$(printf 'generation %s\\n' 'stop stop' 'stop stop' 'stop stop' 'stop stop' 'stop stop' 'stop stop' 'stop stop' 'stop stop')"
+
+
+# What is refused of the file: another version, another form, and a border that is none. It is left alone.
+# history_refused FAULT COMMAND..: a command that is refused, and leaves the file as it was
+history_refused() {
+    fault=$1
+    shift
+    cp live before
+    expect 1 '' "$fault" '' "$@"
+    cmp -s live before || echo altered > out
+    : > out.wanted
+    : > err
+    : > err.wanted
+    echo 0 > status
+    judge "what undorc $* leaves" 0
+}
+cp live good
+sed '1s/1$/2/' good > live
+history_refused 'undorc: Version\n' change a -l live
+history_refused 'undorc: Version\n' live -l live
+head -c 100 good > live
+history_refused 'undorc: Bad 48\n' change a -l live
+{ cat good; echo more; } > live
+history_refused "undorc: Bad $(wc -c < good)\n" status -b three.db -l live
+rm -f live
+: > log
+"$program" change b -b one.db -l live > out 2>&1
+"$program" update -b one.db -B two.db -l live > out 2>&1
+length=$(sed -n 's/^session //p' live | head -n 1)
+awk '/^now a$/ && !done { print "now"; done = 1; next } { print }' live |
+    sed "s/^session $length\$/session $((length - 2))/" > other
+mv other live
+history_refused 'undorc: NotJoined 1\n' undo -l live
+history_refused 'undorc: NotJoined 1\n' undo -n -l live
+
+# Nobody may read a history who may not read its database.
+rm -f live
+chmod 600 two.db
+chmod 644 one.db
+"$program" change b -b one.db -l live > out 2>&1
+"$program" update -b one.db -B two.db -l live > out 2>&1
+stat -c %a live > out
+: > err
+echo 0 > status
+wants '600\n' ''
+judge 'the rights of a history of a private database' 0
+cd ..

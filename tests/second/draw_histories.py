@@ -1,0 +1,120 @@
+"""Draws commands in a row on one file: changes, edits, updates, and undos and redos across them."""
+
+import copy
+
+import plans
+from case import EDITS, LOOKS, RUNS, Case
+from database import read, text_of
+from draw import NAMES, Drawer
+from histories import history_of
+from live import Line, State
+from live import text_of as live_text_of
+from plans import Ask
+
+
+class HistoryDrawer(Drawer):
+    def first_kept(self, base):
+        """The file of a session of few states at most."""
+        return live_text_of(base, self.right_line(base, self.pick([3, 3, 4, 5, 6, 8])))
+
+    def right_line(self, base, bound):
+        """A line of states, in form."""
+        states = []
+        for _ in range(self.random.randrange(1, 4)):
+            some = plans.up_closure(base, set(self.some(sorted(base.services), 2)))
+            names = [name for name in self.some(NAMES, 12) if name not in base.services]
+            state = State(some, {name: frozenset(self.some(sorted(base.services))) for name in names})
+            if not states or not state.same(states[-1]):
+                states.append(state)
+        return Line(states[:bound], self.random.randrange(min(len(states), bound)), bound)
+
+    def begin(self):
+        """The file with which a history begins, how many commands follow, and how many updates there are beside 20 others."""
+        base = self.base()
+        while len(base.services) < 3:
+            base = self.base()
+        self.texts = [text_of(base)]
+        self.updates = self.pick([3, 3, 5, 12])
+        return self.first_kept(base), self.pick([6, 8, 12, 24])
+
+    def next_case(self, kept):
+        """The next command on a file."""
+        history = history_of(self.texts[0], kept)
+        while True:
+            case = self.drawn_case(history, kept)
+            if history.places and self.one_in(25):
+                return self.spoiled(case, history)
+            if not self.is_left_out(case, history):
+                return case
+
+    def spoiled(self, case, history):
+        """A command on a file in which a line beside the texts has another form, mostly."""
+        begin, end = self.pick(history.places)
+        line = self.mutated_line(case.kept[begin : end - 1], self.pick([5, 6, 8, 9])) + b"\n" * (not self.one_in(20))
+        other = Case(self.pick(("change",) + LOOKS + ("status",)))
+        other.base, other.keeps, other.ask = case.base, True, Ask("u", 0, [])
+        other.failing, other.workers = [], None
+        other.kept = case.kept[:begin] + line + case.kept[end:]
+        return other
+
+    def drawn_case(self, history, kept):
+        base = copy.copy(history.now().base)
+        base.bundles = history.now().line.now().bundles
+        words = ["change"] * 4 + ["add", "delete", "restart", "session"] + ["update"] * self.updates
+        words += ["undo"] * (6 if history.can_step(-1) else 1) + ["redo"] * (6 if history.can_step(1) else 0)
+        case = Case(self.pick(words) if not self.one_in(15) else self.pick(LOOKS + ("status", "seal", "redo")))
+        case.base, case.keeps, case.kept = history.now().text, True, kept
+        if not history.is_plain and self.one_in(12):
+            case.base = self.pick(self.texts)
+        self.filled(case, base)
+        return case
+
+    def is_left_out(self, case, history):
+        """Whether the program does otherwise in such a case than the documents say."""
+        now = history.now()
+        # Names of -x, -R and RENAMES are looked for at each database on the way, where something may have moved.
+        if case.word in ("undo", "redo") or now.is_passed():
+            unknown = [one for one in case.failing if not all(one[1] in other.base.services for other in history.generations)]
+            if unknown or case.word == "update" and (case.restarts or case.renames is not None):
+                return True
+        # A session that goes on from a passed state leaves it one, if it began on another, or the state was the only one.
+        if case.word == "session" and (now.is_first_passed or now.is_last_passed):
+            return now.is_passed() or b"undo" in case.own or b"redo" in case.own
+        # A redo that ends on a passed state is shown as one that is refused.
+        return case.word == "redo" and case.dry and history.generations[-1].is_last_passed
+
+    def filled(self, case, base):
+        """What else a command is given."""
+        if case.word in RUNS + ("restart", "session", "update"):
+            case.failing = self.failing(base) if self.one_in(2) else []
+            case.workers = self.workers()
+        case.dry = case.word in RUNS + ("update",) and self.one_in(10)
+        if case.word == "change":
+            case.ask = self.ask(base)
+            case.ask.words = [word for word in case.ask.words if word in base.services or word in base.bundles or self.one_in(8)]
+            case.ask.limit = self.pick([0, 0, 7])
+        elif case.word in EDITS:
+            case.force = self.one_in(2)
+            case.words = [self.fitting(self.bundle_word(base))] + self.fits(base, 3 if case.word == "add" else 1)
+        elif case.word in ("restart", "status"):
+            case.words = self.fits(base, 3) or [self.fitting(self.word(base))][: case.word == "restart"]
+        elif case.word == "session":
+            case.own = self.ended(self.lines(base, 5))
+        elif case.word == "update":
+            self.passage(case, base)
+
+    def passage(self, case, base):
+        """Another database, which may be one of before."""
+        new = self.next_base(base)
+        if self.one_in(3):
+            case.renames = self.renames(base, new)
+        if self.one_in(5):
+            case.restarts = self.some(sorted(set(base.services) & set(new.services)), 3)
+        case.other = self.pick(self.texts) if self.one_in(5) else text_of(new)
+        if case.other in self.texts and not self.one_in(3):
+            case.renames, case.restarts = None, []
+        if case.failing:
+            new = read(case.other, True)[0]
+            case.failing = [one for one in case.failing if one[0] == b"down"] if self.one_in(2) else []
+            case.failing += [one for one in self.failing(new) if one[0] == b"up"]
+        self.texts.append(case.other)
