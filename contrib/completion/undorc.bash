@@ -1,7 +1,7 @@
 # shellcheck shell=bash
-# Completion of undorc for bash, which reads it by `.`; it needs no other package. Commands, options
-# and queries are those that the program's help has, names those of the database that -b or
-# UNDORC_DB names.
+# Completion of undorc and undorc-machine for bash, which reads it by `.`; it needs no other package.
+# Commands, options and queries are those that the program's help has, names those of the database
+# that -b or UNDORC_DB names, or that undorc-machine knows.
 
 # Splits the line up to the cursor as the shell does, without expanding anything: the array `words`,
 # of which the last is the one that is completed, and `quote`, the quote that is open there.
@@ -66,7 +66,7 @@ _undorc_names() {
     done
     # shellcheck disable=SC2088
     [[ $base != '~/'* ]] || base=$HOME/${base#'~/'}
-    [[ ! $base ]] || _undorc_run db -b "$base" list "$1" 2> /dev/null
+    _undorc_run db ${base:+-b "$base"} list "$1" 2> /dev/null
 }
 
 # Puts into `quoted` how a word is to stand on the line.
@@ -161,7 +161,7 @@ _undorc_words() {
                 esac
             fi
             ;;
-        plan | change | add | restart | status) _undorc_offer < <(_undorc_names all) ;;
+        plan | change | add | restart | status | boot) _undorc_offer < <(_undorc_names all) ;;
         delete) _undorc_offer < <(_undorc_names bundles) ;;
         help) [[ ${#found[@]} -gt 0 ]] || _undorc_commands ;;
     esac
@@ -211,4 +211,4 @@ _undorc() {
     _undorc_cut
 }
 
-complete -F _undorc undorc
+complete -F _undorc undorc undorc-machine

@@ -38,7 +38,9 @@ function __undorc_names
         end
     end
     set base (string replace -r -- '^~/' $HOME/ $base)
-    test -n "$base"; and command $words[1] db -b $base list $argv[1] 2>/dev/null </dev/null
+    set -l from
+    test -n "$base"; and set from -b $base
+    command $words[1] db $from list $argv[1] 2>/dev/null </dev/null
 end
 
 # The words that may stand behind a query, any name where it is none that is listed here; the query

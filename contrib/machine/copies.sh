@@ -1,11 +1,26 @@
 # shellcheck shell=sh
-# Copies of service directories. In the directory UNDORC_PLACE stand
+# Service directories. In the directory UNDORC_PLACE stand
 #
-#   NAME           the copy that the supervisor uses
-#   .next/NAME     the copy that takes its place at the next start: the source has changed
-#   .prints/NAME   the fingerprint of the source of the newer of the two
+#   NAME           the copy that the supervisor uses; or a link to the copy of another name, which a
+#                  longrun that an update has renamed has until it restarts
+#   .sets/N/NAME   the directory that NAME starts from while the session is one of the Nth database.
+#                  Its `.undorc-print` is the fingerprint of the source. Sets and copies share
+#                  files by hard links, and the copy is that directory if its `.undorc-renewed` is
+#                  that `.undorc-print`.
+#   .sets/new      the set of an update that is under way
+#   .set           a link to the set of the present database
 #   .pipes/NAME    the fifo that the consumer NAME reads
 #   .holder        the service directory of the process that holds the fifos open
+#
+# updates.sh describes the other files.
+
+# find_set: sets `set` to the set that longruns start from now
+find_set() {
+    set=$UNDORC_PLACE/.set
+    if [ -e "$UNDORC_PLACE/.from" ]; then
+        read -r _ _ _ set _ < "$UNDORC_PLACE/.from" && set=$UNDORC_PLACE/.sets/$set
+    fi
+}
 
 # find_entry NAME: sets `entry` to its source directory
 find_entry() {
@@ -17,10 +32,9 @@ find_entry() {
     return 1
 }
 
-# fingerprints NAME..: prints the fingerprints of the sources of these longruns, sorted. Each line
-# begins with NAME and has a file's rights, owners and name, or the checksum of its content. Times
-# are left out. One `find` serves all, since a machine may have a thousand longruns. An entry may be
-# a link to a directory.
+# fingerprints NAME..: prints the fingerprints of the sources of these longruns, sorted. Each line is
+# NAME, and a file's rights, owners and name, or the checksum of its content. Times are left out. One
+# `find` serves all, since a machine may have a thousand longruns. An entry may be a link to a directory.
 fingerprints() {
     for source in $UNDORC_SOURCE; do
         (
@@ -33,38 +47,76 @@ fingerprints() {
             [ $# -gt 0 ] || exit 0
             find "$@" \( -name supervise -o -name event \) -prune -o \
                 -exec ls -dln {} + -type f -exec cksum {} + | awk '
-                /^[0-9]/ { split($3, part, "/") }
-                /^[^0-9]/ { split($9, part, "/"); $2 = $5 = $6 = $7 = $8 = "" }
-                { print part[2], $0 }'
+                /^[0-9]/ { path = $3 }
+                /^[^0-9]/ { path = $9; $2 = $5 = $6 = $7 = $8 = "" }
+                {
+                    split(path, part, "/")
+                    at = index($0, " ./" part[2] "/")
+                    print part[2], substr($0, 1, at) substr($0, at + length(part[2]) + 4)
+                }'
         )
     done | LC_ALL=C sort
 }
 
-# changed: reads fingerprints and prints the names whose recorded fingerprint differs, also names
+# changed: reads fingerprints and prints the names whose fingerprint in the set differs, also names
 # that were not asked for
 changed() {
     {
         cat
-        cat "$UNDORC_PLACE"/.prints/* 2> /dev/null
-    } | LC_ALL=C sort | uniq -u | cut -d ' ' -f 1 | uniq
+        (
+            cd "$set" 2> /dev/null || exit 0
+            set +f
+            set -- ./*/.undorc-print
+            [ ! -e "$1" ] || awk '{ split(FILENAME, part, "/"); print part[2], $0 }' "$@"
+        )
+    } | LC_ALL=C sort | uniq -u | cut -d ' ' -f 1 | uniq | tr '\n' ' '
 }
 
-# record NAME..: reads fingerprints and records those of the names
+# is_renewed NAME: whether its copy is as the set has it
+is_renewed() {
+    # The shells of Linux have it.
+    # shellcheck disable=SC3013
+    [ "$UNDORC_PLACE/$1/.undorc-renewed" -ef "$set/$1/.undorc-print" ]
+}
+
+# tell_old NAME: says that the copy differs from the set. A longrun that is down gets a new one when it
+# starts.
+tell_old() {
+    if [ ! -d "$UNDORC_PLACE/$1" ] || is_renewed "$1"; then return 0; fi
+    case $(state_of "$UNDORC_SCAN/$1") in
+        up*) echo "$1: has its old copy until it starts again" ;;
+    esac
+}
+
+# differing_copies NAME..: prints a line for each longrun whose copy differs from its source
+differing_copies() {
+    find_set
+    others=" $(fingerprints "$@" | changed)"
+    for name; do
+        case $others in
+            *" $name "*)
+                echo "$name: its source has changed since init was called"
+                continue
+                ;;
+        esac
+        tell_old "$name"
+    done
+}
+
+# record NAME..: reads fingerprints and puts those of the names into their directories in the set
 record() {
-    mkdir -p "$UNDORC_PLACE/.prints" &&
-        names="$*" folder=$UNDORC_PLACE/.prints awk '
-            BEGIN {
-                count = split(ENVIRON["names"], names, " ")
-                for (i = 1; i <= count; i++) is_asked[names[i]] = 1
-            }
-            !(($1 "") in is_asked) { next }
-            ($1 "") != name {
-                if (name != "") close(file)
-                name = $1 ""
-                file = ENVIRON["folder"] "/" name
-                printf "" > file
-            }
-            { print > file }'
+    names="$*" set=$set awk '
+        BEGIN {
+            count = split(ENVIRON["names"], names, " ")
+            for (i = 1; i <= count; i++) is_asked[names[i]] = 1
+        }
+        !(($1 "") in is_asked) { next }
+        ($1 "") != name {
+            if (name != "") close(file)
+            name = $1 ""
+            file = ENVIRON["set"] "/" name "/.undorc-print"
+        }
+        { print substr($0, length(name) + 2) > file }'
 }
 
 # names_in FILE: prints the names in a file of names
@@ -74,7 +126,7 @@ names_in() {
     fi
 }
 
-# join_pipes NAME DIR: gives a copy the fifos of its pipeline
+# join_pipes NAME DIR: gives a directory the fifos of its pipeline
 join_pipes() {
     consumer=$(names_in "$2/producer-for")
     producers=$(names_in "$2/consumer-for")
@@ -94,10 +146,12 @@ give_readiness() {
     : > "$1/wrapped-notification" || return
     [ ! -e "$1/check" ] || return 0
     printf '#!/bin/sh\nread -r pid < supervise/pid && test -s "ready.$pid"\n' > "$1/check" &&
-        chmod 755 "$1/check"
+        chmod 755 "$1/check" || return
+    # That of s6 asks s6-supervise.
+    ! grep -q s6-notifyoncheck "$1/run" || ln -s "$here/carried" "$1/wrapped-path"
 }
 
-# wrap_run NAME DIR: lets a copy's run begin with wrapped-run, where that has something to do
+# wrap_run NAME DIR: lets a directory's run begin with wrapped-run, where that has something to do
 wrap_run() {
     [ -x "$2/run" ] || return 0
     is_wrapped=
@@ -113,33 +167,53 @@ wrap_run() {
     mv "$2/run" "$2/run.own" && cp "$here/wrapped-run" "$2/run" && chmod 755 "$2/run"
 }
 
-# copy_entry NAME DIR: makes DIR a copy of the source. It starts few programs, since a machine may
-# have a thousand longruns.
+# carry_over DIR: gives runit what s6 reads in a service directory: down-signal is sent by control/t,
+# and the status of a run that ends is kept by wrapped-finish. timeout-kill is for the controller.
+carry_over() {
+    if [ -e "$1/down-signal" ] && [ ! -e "$1/control/t" ]; then
+        mkdir -p "$1/control" && read -r signal < "$1/down-signal" || return
+        printf '#!/bin/sh\nread -r pid < supervise/pid && kill -%s "$pid"\n' "${signal#SIG}" \
+            > "$1/control/t" && chmod 755 "$1/control/t" || return
+    fi
+    [ ! -x "$1/finish" ] || mv "$1/finish" "$1/finish.own" || return
+    cp "$here/wrapped-finish" "$1/finish" && chmod 755 "$1/finish"
+}
+
+# copy_entry NAME: makes the directory of NAME in the set anew. It starts few programs, since a machine
+# may have a thousand longruns. A directory without fingerprint is made again by the next init.
 copy_entry() {
     find_entry "$1" || return
-    [ ! -e "$2" ] || rm -rf "$2" || return
-    mkdir "$2" && cp -RPp "$entry/." "$2" || return
+    new=$set/$1
+    if [ -e "$new" ]; then
+        new=$UNDORC_PLACE/.sets/.entry
+        rm -rf "$new" || return
+    fi
+    cp -RPp "$entry/." "$new" || return
     for own in supervise event down; do
-        [ ! -e "$2/$own" ] || rm -rf "${2:?}/$own" || return
+        [ ! -e "$new/$own" ] || rm -rf "${new:?}/$own" || return
     done
-    wrap_run "$1" "$2"
+    # s6-rc-compile gives it this right, too.
+    [ ! -f "$new/run" ] || [ -x "$new/run" ] || chmod u+x "$new/run" || return
+    [ "$UNDORC_SUPERVISOR" != runit ] || carry_over "$new" || return
+    wrap_run "$1" "$new" || return
+    [ "$new" = "$set/$1" ] || { rm -rf "${set:?}/$1" && mv "$new" "$set/$1"; }
 }
 
-# add_copy NAME: makes a copy that is down, and links it where the supervisor finds it
+# fill_copy NAME: links the files of the set into a copy that has none
+fill_copy() {
+    cp -RPpl "$set/$1/." "$UNDORC_PLACE/$1" &&
+        ln -f "$set/$1/.undorc-print" "$UNDORC_PLACE/$1/.undorc-renewed"
+}
+
+# link_copy NAME: puts a copy that is down where the supervisor finds it
+link_copy() {
+    : > "$UNDORC_PLACE/$1/down" && ln -sfn "$UNDORC_PLACE/$1" "$UNDORC_SCAN/$1"
+}
+
+# add_copy NAME: makes a copy of the directory in the set, and puts it there
 add_copy() {
-    [ ! -e "$UNDORC_PLACE/.next/$1" ] || rm -rf "$UNDORC_PLACE/.next/$1" || return
-    copy_entry "$1" "$UNDORC_PLACE/$1" &&
-        : > "$UNDORC_PLACE/$1/down" &&
-        ln -sfn "$UNDORC_PLACE/$1" "$UNDORC_SCAN/$1"
-}
-
-# stage_copy NAME: makes the copy that takes the old one's place at the next start
-stage_copy() {
-    new=$UNDORC_PLACE/.next/.new.$$
-    mkdir -p "$UNDORC_PLACE/.next" &&
-        copy_entry "$1" "$new" &&
-        rm -rf "$UNDORC_PLACE/.next/$1" &&
-        mv "$new" "$UNDORC_PLACE/.next/$1"
+    [ ! -e "$UNDORC_PLACE/$1" ] || rm -rf "${UNDORC_PLACE:?}/$1" || return
+    fill_copy "$1" && link_copy "$1"
 }
 
 # empty_copy DIR: removes all but the files of the supervisor
@@ -160,55 +234,38 @@ has_log() {
 
 # relink NAME: puts a copy that is down under a new supervisor, and waits ten seconds for that
 relink() {
-    : > "$UNDORC_PLACE/$1/down" &&
-        ln -sfn "$UNDORC_PLACE/$1" "$UNDORC_SCAN/$1" &&
-        rescan || return
-    turn=0
-    until has_supervisor "$UNDORC_SCAN/$1"; do
-        turn=$((turn + 1))
-        [ "$turn" -le 100 ] || return 1
-        sleep 0.1
-    done
+    link_copy "$1" && rescan && within 100 has_supervisor "$UNDORC_SCAN/$1"
 }
 
-# renew_copy NAME: puts the staged copy in place; the longrun must be down. After an interruption
-# the next call starts over. A scanner starts a logger only with the supervisor, so a logger that is
-# new or gone needs another supervisor.
+# renew_copy NAME: makes the copy what the set has; the longrun must be down. After an interruption the
+# next call starts over. A scanner starts a logger only with the supervisor, so a logger that is new or
+# gone needs another supervisor.
 renew_copy() {
-    new=$UNDORC_PLACE/.next/$1
-    copy=$UNDORC_PLACE/$1
-    [ -d "$new" ] || return 0
-    relinks=
-    if [ "$(has_log "$new")" != "$(has_log "$copy")" ]; then
+    copy=$UNDORC_PLACE/$1 relinks=
+    if [ ! -d "$set/$1" ] || is_renewed "$1"; then return 0; fi
+    if [ "$(has_log "$set/$1")" != "$(has_log "$copy")" ]; then
         remove_supervisor "$1" && rm -rf "$copy/log" || return
         relinks=yes
     fi
-    empty_copy "$copy" &&
-        cp -RPp "$new/." "$copy" &&
-        rm -rf "$new" || return
+    rm -f "$copy/.undorc-renewed" && empty_copy "$copy" && fill_copy "$1" || return
     [ -z "$relinks" ] || relink "$1"
 }
 
-# remove_copy NAME: ends the supervisor and removes all that is kept of NAME
+# remove_copy NAME: ends the supervisor and removes the copy
 remove_copy() {
-    remove_supervisor "$1" &&
-        rm -rf "${UNDORC_PLACE:?}/$1" "$UNDORC_PLACE/.next/$1" "$UNDORC_PLACE/.prints/$1" \
-            "$UNDORC_PLACE/.pipes/$1"
+    remove_supervisor "$1" && rm -rf "${UNDORC_PLACE:?}/$1" "$UNDORC_PLACE/.pipes/$1"
 }
 
-# repair_pipes NAME..: makes fifos that are missing again
-repair_pipes() {
-    for name; do
-        for end in "$UNDORC_PLACE/$name/pipe-in" "$UNDORC_PLACE/$name/pipe-out"; do
-            if [ -L "$end" ] && [ ! -p "$end" ]; then
-                mkfifo -m 600 "$UNDORC_PLACE/.pipes/$(basename "$(readlink "$end")")" || return
-            fi
-        done
-    done
-}
-
-# hold_pipes: starts the process that holds the fifos open, or makes it look for new ones
+# hold_pipes: makes fifos that are missing, and starts the process that holds all of them open, or makes
+# it look for new ones
 hold_pipes() {
+    [ -d "$UNDORC_PLACE/.pipes" ] || return 0
+    set +f
+    for end in "$UNDORC_PLACE"/*/pipe-*; do
+        if [ -L "$end" ] && [ ! -p "$end" ]; then
+            mkfifo -m 600 "$UNDORC_PLACE/.pipes/$(basename "$(readlink "$end")")" || return
+        fi
+    done
     holder=$UNDORC_PLACE/.holder
     if [ -d "$UNDORC_SCAN/undorc-pipes" ]; then
         hang_up "$UNDORC_SCAN/undorc-pipes" || true
@@ -234,6 +291,6 @@ boot_id() {
 # is_of_this_boot: whether the file of the session is
 is_of_this_boot() {
     recorded=
-    [ ! -e "$UNDORC_LIVE.boot" ] || read -r recorded < "$UNDORC_LIVE.boot"
+    [ ! -e "$UNDORC_LIVE.boot" ] || read -r recorded _ < "$UNDORC_LIVE.boot"
     [ "$recorded" = "$(boot_id)" ]
 }

@@ -1,6 +1,8 @@
 # shellcheck shell=sh
 # Functions that ask runit. s6.sh has the same ones. DIR is a service directory, by its link in the
 # directory of runsvdir.
+# shellcheck source=processes.sh
+. "$here/processes.sh"
 
 # is_installed: whether the tools are there
 is_installed() {
@@ -9,12 +11,7 @@ is_installed() {
 
 # find_scanner: waits for the directory of runsvdir, which can't be asked itself; fails after 5 s
 find_scanner() {
-    turn=0
-    until [ -d "$UNDORC_SCAN" ]; do
-        turn=$((turn + 1))
-        [ "$turn" -le 50 ] || return 1
-        sleep 0.1
-    done
+    within 50 test -d "$UNDORC_SCAN"
 }
 
 # rescan: runsvdir looks for new service directories every five seconds
@@ -24,7 +21,7 @@ rescan() {
 
 # has_supervisor DIR
 has_supervisor() {
-    sv status "$1" > /dev/null
+    sv status "$1" > /dev/null 2>&1
 }
 
 # state_of DIR: prints `up` or `down`, followed by `wanted` where the supervisor wants it up; or
@@ -52,92 +49,87 @@ remove_supervisor() {
     copy=$UNDORC_PLACE/$1
     [ -L "$UNDORC_SCAN/$1" ] || return 0
     rm -f "$UNDORC_SCAN/$1"
-    sv -w 7 exit "$copy" > /dev/null 2>&1
-    turn=0
-    while sv status "$copy" > /dev/null 2>&1; do
-        turn=$((turn + 1))
-        [ "$turn" -le 100 ] || return 1
+    sv exit "$copy" > /dev/null 2>&1
+    within 150 is_gone "$copy"
+}
+
+# has_ended DIR: whether the daemon that was started is gone; sets `end` to its status, which
+# wrapped-finish has written
+has_ended() {
+    end=
+    if [ -e "$1/ended" ]; then read -r end < "$1/ended"; else [ "$(pid_of "$1")" != "$started" ]; fi
+}
+
+# is_ready DIR SECONDS: whether its check succeeds; waits a moment where it does not
+is_ready() {
+    attend timeout -k 1 "$2" ./check > /dev/null 2>&1 && return
+    attend sleep 0.1
+    return 1
+}
+
+# has_started DIR: whether there is a process
+has_started() {
+    [ -s "$1/supervise/pid" ] || [ -e "$1/ended" ]
+}
+
+# bring_up DIR MS: `sv` itself would wait by a clock that jumps
+bring_up() {
+    rm -f "$1/down" "$1/ended"
+    sv up "$1" || give_up 'runsv is gone' 1
+    within 20 has_started "$1" || give_up 'not started' 1
+    started=$(pid_of "$1")
+    if [ -x "$1/check" ]; then
+        cd "$1" && rise "$2"
+    else
+        attend sleep "$UNDORC_SETTLE"
+        if has_ended "$1"; then give_up_ended; fi
+    fi
+}
+
+# fall DIR MS: waits until it is down, for MS at most, or for ever if that is 0. It is killed after
+# its timeout-kill, which runit does not know.
+fall() {
+    fatal=
+    [ ! -e "$1/timeout-kill" ] || read -r fatal < "$1/timeout-kill" || true
+    case $fatal in *[!0-9]*) fatal= ;; esac
+    clock
+    last=$((now + $2 / 10)) fatal=${fatal:+$((now + fatal / 10))}
+    until is_down "$1"; do
+        clock
+        [ "$2" -eq 0 ] || [ "$now" -lt "$last" ] || return 1
+        if [ "$now" -ge "${fatal:-$((now + 1))}" ]; then
+            kill -KILL "$(pid_of "$1")" 2> /dev/null
+            fatal=
+        fi
         sleep 0.1
     done
-}
-
-# to_seconds MS: prints MS rounded up to seconds, as `sv` takes them
-to_seconds() {
-    echo "$((($1 + 999) / 1000))"
-}
-
-# bound_of MS: prints the seconds that `sv` waits: longer than undorc does where undorc has a timeout
-bound_of() {
-    if [ "$1" -gt 0 ]; then to_seconds "$1"; else echo "$(($(to_seconds "$UNDORC_LIMIT") + 60))"; fi
-}
-
-# has_started DIR: waits 2 s for a process
-has_started() {
-    turn=0
-    until [ -s "$1/supervise/pid" ]; do
-        turn=$((turn + 1))
-        [ "$turn" -le 20 ] || return 1
-        attend sleep 0.1
-    done
-}
-
-# bring_up DIR MS: `timeout` is for a `check` that hangs, for which `sv` waits
-bring_up() {
-    rm -f "$1/down"
-    seconds=$(bound_of "$2")
-    if [ -x "$1/check" ]; then
-        attend timeout -k 1 "$seconds" sv -w "$seconds" up "$1" > /dev/null || give_up 'not ready' 1
-    else
-        sv up "$1" || give_up 'runsv is gone' 1
-        has_started "$1" || give_up 'not started' 1
-        settled || give_up 'it did not stay up' 1
-    fi
 }
 
 # bring_down DIR MS
 bring_down() {
     : > "$1/down"
-    attend sv -w "$(bound_of "$2")" down "$1" > /dev/null
+    sv down "$1" > /dev/null && fall "$1" "$2"
 }
 
-# becomes DIR PATTERN: waits until the state matches and nothing else is wanted. runsv reads no
-# command during its pause after a crash.
-becomes() {
-    turn=0
-    while [ "$turn" -lt 15 ]; do
-        # PATTERN is a pattern of the shell.
-        # shellcheck disable=SC2254
-        case $(sv status "$1") in
-            *', want '*) ;;
-            $2) return ;;
-        esac
-        turn=$((turn + 1))
-        sleep 0.1
-    done
-    return 1
-}
-
-# want_down DIR: makes the supervisor want it down
-want_down() {
-    : > "$1/down"
-    supervised && sv -w 2 down "$1" > /dev/null && becomes "$1" 'down:*'
+# is_up DIR: whether it is up, and runsv, which reads no command during its pause after a crash, wants that
+is_up() {
+    [ "$(state_of "$1")" = 'up wanted' ]
 }
 
 # want_up DIR: makes the supervisor want it up
 want_up() {
     rm -f "$1/down"
-    supervised && sv up "$1" && becomes "$1" 'run:*'
+    supervised && sv up "$1" && within 15 is_up "$1"
 }
 
 # force_down DIR MS: brings it down; sends KILL to it and its descendants if it is not down after MS
 force_down() {
-    : > "$1/down"
-    attend sv -w "$(to_seconds "$2")" down "$1" > /dev/null && return
+    bring_down "$1" "$2" && return
     echo "down $name: killed" >&2
-    all=$(stop_family "$(pid_of "$1")")
-    sv kill "$1"
-    kill_family "$all"
-    becomes "$1" 'down:*'
+    # Not by `sv kill`: runsv takes a daemon that has just ended for one that is down then, and never
+    # runs its finish.
+    kill_family "$(stop_family "$(pid_of "$1")")"
+    fall "$1" 2000
 }
 
 # hang_up DIR: sends the daemon HUP

@@ -1,6 +1,8 @@
 # shellcheck shell=sh
 # Functions that ask s6. runit.sh has the same ones. DIR is a service directory, by its link in the
 # scan directory.
+# shellcheck source=processes.sh
+. "$here/processes.sh"
 
 # is_installed: whether the tools are there
 is_installed() {
@@ -9,12 +11,7 @@ is_installed() {
 
 # find_scanner: waits for s6-svscan, which may have been started a moment ago; fails after 5 s
 find_scanner() {
-    turn=0
-    until s6-svscanctl -a "$UNDORC_SCAN" 2> /dev/null; do
-        turn=$((turn + 1))
-        [ "$turn" -le 50 ] || return 1
-        sleep 0.1
-    done
+    within 50 s6-svscanctl -a "$UNDORC_SCAN" 2> /dev/null
 }
 
 # rescan: makes the scanner look for new service directories
@@ -44,38 +41,44 @@ pid_of() {
     s6-svstat -o pid "$1"
 }
 
-# remove_supervisor NAME: ends the supervisor and removes the link in the scan directory
+# remove_supervisor NAME: ends the supervisor and removes the link in the scan directory. s6-svunlink
+# returns a moment before the supervisor has ended.
 remove_supervisor() {
-    if [ -L "$UNDORC_SCAN/$1" ]; then s6-svunlink -t 10000 "$UNDORC_SCAN" "$1"; fi
+    [ -L "$UNDORC_SCAN/$1" ] || return 0
+    s6-svunlink -t 10000 "$UNDORC_SCAN" "$1" && within 100 is_gone "$UNDORC_PLACE/$1"
 }
 
-# bring_up DIR MS
+# is_ready DIR: whether the daemon becomes ready within 0.3 s
+is_ready() {
+    attend s6-svwait -U -t 300 "$1" 2> /dev/null
+}
+
+# has_ended DIR: whether the daemon that was started is gone; sets `end` to its status
+has_ended() {
+    end=
+    # Words of s6-svstat are separated by spaces.
+    # shellcheck disable=SC2046
+    set -- $(s6-svstat -o up,pid,exitcode,signum "$1")
+    [ "${1:-}.${2:-}" != "true.$started" ] || return 1
+    [ "${1:-}" != false ] || end=${3:-}
+    [ "$end" != -1 ] || end=$((128 + $4))
+}
+
+# bring_up DIR MS: s6-svc returns once the daemon has started, also where it has ended again
 bring_up() {
+    attend s6-svc -wu -T "$2" -U "$1" || give_up 'not started' 1
+    started=$(pid_of "$1")
     if [ -e "$1/notification-fd" ]; then
-        attend s6-svc -wU -T "$2" -U "$1" || give_up 'not ready' 1
+        rise "$2"
     else
-        attend s6-svc -wu -T "$2" -U "$1" || give_up 'not started' 1
-        settled || give_up 'it did not stay up' 1
+        attend timeout "$UNDORC_SETTLE" s6-svwait -d "$1"
+        if has_ended "$1"; then give_up_ended; fi
     fi
 }
 
 # bring_down DIR MS
 bring_down() {
     attend s6-svc -wD -T "$2" -D "$1"
-}
-
-# want_down DIR: makes the supervisor want it down. While a daemon crashes again and again, s6-svc
-# returns before s6-supervise has read the command, and the daemon may start once more. So this
-# waits until s6-svstat shows both down.
-want_down() {
-    : > "$1/down"
-    supervised && s6-svc -wD -T 2000 -D "$1"
-    turn=0
-    until [ "$(state_of "$1")" = down ]; do
-        turn=$((turn + 1))
-        [ "$turn" -le 20 ] || return
-        sleep 0.1
-    done
 }
 
 # want_up DIR: makes the supervisor want it up
@@ -86,7 +89,7 @@ want_up() {
 
 # force_down DIR MS: brings it down; sends KILL to it and its descendants if it is not down after MS
 force_down() {
-    attend s6-svc -wD -T "$2" -D "$1" && return
+    bring_down "$1" "$2" && return
     echo "down $name: killed" >&2
     all=$(stop_family "$(pid_of "$1")")
     # To the whole process group, where this version of s6 can.

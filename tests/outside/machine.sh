@@ -10,9 +10,9 @@ set -eu
 tests=$(realpath "$(dirname "$0")")
 program=$(realpath "$1")
 shift
-[ $# -gt 0 ] || set -- set contained first container update renames pipes force other flaky
+[ $# -gt 0 ] || set -- set contained first container update renames undone pipes force other flaky full hung settings clock carried edited oneshots rescue command overlay
 cases=$*
-limit=480
+limit=900
 
 # skip WHY COUNT: says so, and that nothing failed
 skip() {
@@ -21,15 +21,18 @@ skip() {
     exit 0
 }
 
-# inner: in the namespaces: all cases side by side
+# inner: in the namespaces: all cases, twenty machines side by side
 inner() {
     room=$UNDORC_ROOM
     mount -t tmpfs room "$room"
+    started=0
     for supervisor in $UNDORC_SUPERVISORS; do
         for case in $cases; do
             mkdir "$room/$supervisor.$case"
             sh "$tests/machine/case.sh" "$program" "$supervisor" "$case" \
                 "$room/$supervisor.$case" > "$room/$supervisor.$case.said" 2>&1 &
+            started=$((started + 1))
+            [ $((started % 20)) -ne 0 ] || wait
         done
     done
     wait

@@ -10,9 +10,41 @@ mount_kernel() {
     mountpoint -q /sys || mount -t sysfs sysfs /sys
     mountpoint -q /dev || mount -t devtmpfs dev /dev
     mountpoint -q /run || mount -t tmpfs -o mode=755,nosuid,nodev tmpfs /run
+    # A file system of its own keeps its room and its inodes where others fill /run.
     mkdir -p /run/undorc
-    # Where /run is kept, the end of an earlier boot is not one of this.
-    rm -rf /run/undorc/ending
+    mountpoint -q /run/undorc || mount -t tmpfs -o mode=755,nosuid,nodev undorc /run/undorc
+    # The end of the machine takes this directory. The end of an earlier boot is not one of this.
+    rm -rf /run/undorc/ending /run/undorc/reserved /run/undorc/settings
+    mkdir /run/undorc/reserved
+    : > /run/undorc/reserved/log
+    : > /run/undorc/reserved/reboot
+}
+
+# begins s6|runit: reads the settings of a machine with this supervisor. Its other scripts find that in
+# /run/undorc/settings.
+begins() {
+    if [ -d /run/undorc ] && [ ! -e /run/undorc/settings ]; then
+        echo "UNDORC_SUPERVISOR=$1" > /run/undorc/settings
+    fi
+    unset UNDORC_SUPERVISOR
+    UNDORC_SUPERVISOR=$1
+    # shellcheck source=../settings
+    . "$here/settings"
+}
+
+# forget_settings: gives the environment back that was there before. What scans runs for long, and each
+# script below it reads the settings of its own moment.
+forget_settings() {
+    # The names are separated by spaces.
+    # shellcheck disable=SC2086
+    unset $settings
+    eval "$given"
+}
+
+# becomes COMMAND..: becomes the scanner
+becomes() {
+    forget_settings
+    exec "$@" 0< /dev/null 1<> /run/undorc/caught-fifo 2>&1
 }
 
 # catch_all LOGGER: puts a logger of all that no longrun logs under the supervisor. It reads a fifo
@@ -26,13 +58,36 @@ catch_all() {
 }
 
 # boot_beside: boots once the scanner is there. What boot prints is in /run/undorc/boot.log; its
-# status also goes to the catch-all logger.
+# status, and a line for each failure, also go to the catch-all logger and to the console.
 boot_beside() {
     status=0
     "$here/boot" > /run/undorc/boot.log 2>&1 || status=$?
     echo "boot: status $status" >> /run/undorc/boot.log
     # Opening the fifo for reading as well waits for nobody.
-    echo "boot: status $status" 1<> /run/undorc/caught-fifo
+    grep '^boot: ' /run/undorc/boot.log | tee "$console" 1<> /run/undorc/caught-fifo
+}
+
+# begin_end halt|poweroff|reboot: says how the machine ends; fails if another end has begun. It needs
+# neither room nor inodes: it renames what was reserved.
+begin_end() {
+    if mv /run/undorc/reserved /run/undorc/ending 2> /dev/null; then
+        [ "$1" = reboot ] || mv /run/undorc/ending/reboot "/run/undorc/ending/$1"
+    elif [ -d /run/undorc/ending ]; then
+        return 1
+    else
+        mkdir -p /run/undorc/ending && : > "/run/undorc/ending/$1"
+        return 0
+    fi
+}
+
+# lower_all: brings all services down. What the shutdown prints is in /run/undorc/ending/log, or on the
+# console where that file can't be made.
+lower_all() {
+    log=/run/undorc/ending/log
+    (: >> "$log") 2> /dev/null || log=$console
+    status=0
+    "$here/shutdown" > "$log" 2>&1 || status=$?
+    echo "shutdown: status $status" | tee -a "$log"
 }
 
 # kill_all: ends all processes but this one and the first

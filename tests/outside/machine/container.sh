@@ -25,7 +25,7 @@ contain() {
         undorc compile -o db services
         exec machine/first/container "$@" > /var/keep/out 2> /var/keep/err' sh "$@"
     if [ -n "$signal" ]; then
-        within 30 'grep -qs -e "^raised" /var/keep/err' || true
+        within 30 'grep -qs -e "^raised" /var/keep/err && ! pgrep -f machine/boot' || true
         sleep 1
         kill "-$signal" "$first"
     fi

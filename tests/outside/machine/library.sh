@@ -62,7 +62,8 @@ start() {
 start_scanner() {
     case $supervisor in
         s6) scanner='exec s6-svscan /run/service' ;;
-        runit) scanner='while :; do runsvdir -P /run/service & wait; done' ;;
+        # A shell makes its background jobs ignore INT.
+        runit) scanner='while :; do env --default-signal=INT runsvdir -P /run/service & wait; done' ;;
     esac
     start "$1" env UNDORC_SUPERVISOR="$supervisor" PATH="$path" \
         sh -c "mount -t proc proc /proc; mkdir -p /run/service; exec 2> /run/caught; $scanner"
@@ -98,7 +99,10 @@ daemon() {
 daemon_text() {
     case $supervisor in
         s6) echo "s6-svstat -o pid /run/service/$1" ;;
-        runit) echo "cat /run/service/$1/supervise/pid" ;;
+        # While a finish runs, that is the process there.
+        runit)
+            echo "grep -q ^run /run/service/$1/supervise/stat && cat /run/service/$1/supervise/pid"
+            ;;
     esac
 }
 
@@ -131,6 +135,24 @@ wait_end() {
     [ -z "$machine" ] || wait "$machine" 2> "$room/said" || status=$?
     machine=''
     first=''
+}
+
+# end_within SECONDS: the same, for a machine that may never end: it is killed then
+end_within() {
+    ending=$first
+    (sleep "$1" && kill -KILL "$ending") 2> /dev/null &
+    killer=$!
+    wait_end
+    kill "$killer" 2> /dev/null || true
+}
+
+# ask_end halt|reboot: asks the first process of a machine, or of a container, to end
+ask_end() {
+    case ${kind:-$supervisor}.$1 in
+        s6.halt) kill -USR1 "$first" ;;
+        runit.halt) ask_runit 0 ;;
+        *) kill -TERM "$first" ;;
+    esac
 }
 
 # within SECONDS TEXT: waits until TEXT succeeds in the machine

@@ -51,16 +51,20 @@ status 1' machine/drift
 step 'what is live has its new names' 'live alpha logger low p1 top
 status 0' 'machine/manage live | head -n 1'
 
+# another NAME PID: prints a script: whether its daemon is another process than this one
+another() {
+    echo "pid=\$($(daemon_text "$1")); [ \"\${pid:-0}\" -gt 0 ] && [ \"\$pid\" != $2 ]"
+}
 # A crash and the death of a supervisor, while the directory has its old name.
 case $supervisor in s6) supervised='s6-supervise' ;; runit) supervised='runsv' ;; esac
 was=$(daemon alpha)
 script "kill -KILL $was"
 is 'a daemon that crashes comes up again' yes \
-    "$(within 10 "[ \$($(daemon_text alpha)) -gt 0 ] && [ \$($(daemon_text alpha)) != $was ]" && echo yes)"
+    "$(within 10 "$(another alpha "$was")" && echo yes)"
 was=$(daemon alpha)
 is 'its supervisor is killed' yes "$(script "kill -KILL \$(pgrep -f '^$supervised a\$') && echo yes")"
 is 'the scanner starts another one' yes "$(within 15 \
-    "[ \$($(daemon_text alpha)) -gt 0 ] && [ \$($(daemon_text alpha)) != $was ]" && echo yes)"
+    "$(another alpha "$was")" && echo yes)"
 script "kill -KILL $was"
 step 'the session is right behind it' 'p1: has its old copy until it starts again
 top: has its old copy until it starts again

@@ -70,7 +70,9 @@ case ${kind:-$supervisor} in
         cp -a "$contrib"/machine/first/runit/* "$disk/upper/etc/runit/"
         ;;
     container)
-        begin="env UNDORC_SUPERVISOR=$supervisor machine/first/container > /run/said 2>&1"
+        # Its daemons get the time that they get on a machine.
+        begin="env UNDORC_SUPERVISOR=$supervisor UNDORC_PATIENCE=30000 UNDORC_GRACE=5000 \\
+            machine/first/container > /run/said 2>&1"
         ;;
 esac
 

@@ -91,7 +91,9 @@ status 0' 'rm -r services/b/log; machine/init; machine/manage change -d b && mac
 is 'nothing of it is left' no "$(script 'ls -d /run/service/b/log 2> /dev/null || echo no')"
 
 # An update that was killed behind undorc, and before it renamed NEW.
-step 'an update after one that was killed' 'status 0' 'rm -r services/below
+step 'an update after one that was killed' 'ok
+ok
+status 0' 'rm -r services/below
     undorc compile -o new services
     undorc update -b db -B new -l /run/undorc/live -c machine/controller > /run/x
     machine/manage update -Bnew | grep -v ^refused; test ! -e new'

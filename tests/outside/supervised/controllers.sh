@@ -6,8 +6,11 @@ ready_after slow 1
 never_ready never
 longrun crash 'exit 7'
 longrun late 'sleep 0.3; exit 7'
+ready_after early 100
+printf '#!/bin/sh\nexit 9\n' > services/early/run
 deaf deaf
 shut shut
+lame lame
 [ "$supervisor" = s6 ] || checked hangs 'exec sleep 1000' 'exec sleep 30'
 compiles
 find services | sort > before
@@ -51,9 +54,15 @@ controls 0 up slow up
 UNDORC_BOUND=1500
 controls 1 up never down
 UNDORC_BOUND=20000
-controls 1 up crash down
-controls 1 up late down
-controls 126 up shut down
+# What ends at once fails at once, with its own status.
+begun=$(date +%s)
+controls 7 up crash down
+controls 7 up late down
+controls 9 up early down
+controls 127 up lame down
+holds 'they are not waited for' test $(($(date +%s) - begun)) -lt 12
+controls 0 up shut up
+controls 0 down shut down
 controls 0 up deaf up
 UNDORC_BOUND=1500
 [ "$supervisor" = s6 ] || controls 1 up hangs down

@@ -17,10 +17,10 @@ never_ready never
 echo 1000 > services/never/timeout-up
 longrun crash 'exit 7'
 longrun late 'sleep 0.3; exit 7'
-shut shut
+lame lame
 longrun above 'exec sleep 1000' crash
 longrun spare 'exec sleep 1000' root
-bundle broken above late never shut spare
+bundle broken above lame late never spare
 deaf deaf
 echo 3000 > services/deaf/timeout-down
 compiles
@@ -33,7 +33,7 @@ does 0 'lowered app web\nok\nraised app web\nok\n' "$folder/manage" restart app
 does 0 'app up\nweb up\n' "$folder/manage" status web app
 
 # What fails is down and is not tried again; an undo takes back what came up beside it, and a redo brings that up again.
-does 2 'raised spare\nfailed crash late never shut\nblocked above\nok\n' "$folder/manage" change broken
+does 2 'raised spare\nfailed crash lame late never\nblocked above\nok\n' "$folder/manage" change broken
 grep -q 'up never: timed out$' told || echo 'no time-out was told' >> told
 holds 'a limit is told as one' grep -q 'up never: timed out$' told
 does 0 'lowered spare\nok\n' "$folder/manage" undo
@@ -87,7 +87,7 @@ commands() {
 # called_off SIGNAL PATH
 called_off() {
     does 0 'lowered slow web\nok\n' "$folder/manage" change -d slow
-    PATH=$2 "$folder/manage" change web > out 2> told &
+    PATH=$2 UNDORC_PATH=$2 "$folder/manage" change web > out 2> told &
     session=$!
     until_so is_state slow up
     kill "-$1" "$session"
@@ -100,7 +100,7 @@ called_off() {
     does 0 'raised web\nok\n' "$folder/manage" change web
 }
 mkdir plain
-printf '#!/bin/sh\nexit 1\n' > plain/env
+printf '#!/bin/sh\ncase $1 in --*) exit 1 ;; esac\nexec %s "$@"\n' "$(command -v env)" > plain/env
 chmod +x plain/env
 for signal in TERM INT HUP; do called_off "$signal" "$PATH"; done
 called_off TERM "$room/plain:$PATH"

@@ -42,10 +42,15 @@ bundle() {
 deaf() {
     longrun "$1" "trap 'if [ -e $room/hears ]; then exit 0; fi' TERM; while :; do sleep 0.1; done"
 }
-# shut NAME: one whose run may not be run
+# shut NAME: one whose run may not be run, as init sees it
 shut() {
     longrun "$1" 'exec sleep 1000'
     chmod -x "services/$1/run"
+}
+# lame NAME: one whose run has no interpreter
+lame() {
+    longrun "$1" ''
+    echo '#!/nowhere' > "services/$1/run"
 }
 
 # compiles: the database of the services, and its names

@@ -1,0 +1,55 @@
+# shellcheck shell=sh
+# undorc-machine: every command of undorc, with all its words, and none else.
+disk m
+longrun d 'exec sleep 1000'
+oneshot o true ''
+bundle default d o
+ln -s /etc/undorc/machine/manage "$disk/upper/usr/local/bin/undorc-machine"
+start_scanner m
+step 'a database of the sources' 'status 0' 'undorc-machine compile -o db'
+step 'boot' 'raised d o
+ok
+status 0' 'undorc-machine boot'
+is 'each command of undorc is one of its own, but help' '' "$(script "
+    undorc -h | sed -n '/^Commands:/,/^\$/s/^  \\([a-z][a-z]*\\)  .*/\\1/p' | grep -vx help > /run/all
+    undorc-machine -h | sed -n 's/^  \\([a-z][a-z]*\\)  .*/\\1/p' > /run/own
+    grep -vxFf /run/own /run/all")"
+is 'each of them has options of its own to describe' '' "$(script 'while read -r name; do
+        undorc "$name" -h < /dev/null > /run/wanted 2>&1
+        undorc-machine "$name" -h < /dev/null 2>&1 | cmp -s - /run/wanted || echo "$name"
+    done < /run/all')"
+is 'each of its own commands is in its page' '' "$(script 'cat /run/own' | while read -r name; do
+    grep -q "^\.It Cm .*\\b$name\\b" "$contrib/../man/undorc-machine.1" || echo "$name"
+done)"
+step 'what it does not know is refused' 'status 100' 'undorc-machine start d'
+is 'it says so' 'undorc-machine: no such command: start; -h lists them' "$(told)"
+step 'no command is refused' 'status 100' undorc-machine
+step 'words are passed on to journal' 'at 1 of 2
+1
+status 0' 'touch /run/undorc/live.log; undorc-machine change -d o > /run/x; undorc-machine journal -v > /run/x
+    head -n 1 /run/x; grep -c "status 0: change" /run/x'
+step 'an undo' 'raised o
+ok
+status 0' 'undorc-machine undo'
+step 'words that undorc does not know are refused' 'status 100' 'undorc-machine live --nosuch'
+step 'a query' 'longrun
+status 0' 'undorc-machine db type d'
+step 'a plan goes by what is live' 'lower d
+status 0' 'undorc-machine plan -d d'
+step 'a session' 'live d o
+ok
+status 0' 'echo live | undorc-machine session'
+step 'a command that is not under way is not called off' 'status 1' 'undorc-machine stop'
+step 'where the supervisor stands' 'd up wanted
+status 0' 'undorc-machine says'
+step 'lint takes the sources of the machine' 'status 1' 'undorc-machine lint > /run/x'
+is 'it finds what it finds' 'services/d: no readiness' "$(script 'sed "s|.*/services|services|" /run/x')"
+step 'version' 'status 0' 'undorc-machine version > /run/x && undorc version | cmp - /run/x'
+
+# A user who may not ask the supervisor.
+for name in says drift; do
+    step "$name of another user" 'status 111' \
+        "setpriv --reuid 65534 --clear-groups undorc-machine $name"
+    is "$name says why" 'says: no right to ask the supervisor in /run/service/d' "$(told)"
+done
+stop
