@@ -1,13 +1,15 @@
 #!/bin/sh
 # Proves what the program stands on, as many crates side by side as processors and memory allow, and
-# builds the program. A crate begins once all that it stands on is proved, and of those that may begin
-# first the one with the most to prove after it. A line tells when each begins and when it has ended.
+# builds the program: tests/gate/build.sh PROGRAM. Nothing is done if PROGRAM is the one that was proved, and
+# no source has changed since. A crate begins once all that it stands on is proved, and of those that may
+# begin first the one with the most to prove after it. A line tells when each begins and when it has ended.
 set -eu
 cd "$(dirname "$0")/../.."
-if ! command -v rt > /dev/null; then
-    echo 'rt is not on PATH. It is the command of the Rattle kit, which README.md names.' >&2
-    exit 127
-fi
+program=$1
+# shellcheck source=../lib/kit.sh
+. tests/lib/kit.sh
+if is_current "$program" && tests/gate/proved.sh "$program"; then exit; fi
+needs_kit
 mkdir -p crates/undorc/out
 room=$(mktemp -d "$PWD/.build.XXXXXX")
 
@@ -173,5 +175,8 @@ while [ -n "$left$running" ]; do
     left="$left$waiting"
     [ -z "$running" ] || sleep 0.2
 done
-[ "$status" -ne 0 ] || touch crates/undorc/out/undorc
+if [ "$status" -eq 0 ]; then
+    touch crates/undorc/out/undorc
+    tests/gate/proved.sh -w crates/undorc/out/undorc
+fi
 exit "$status"

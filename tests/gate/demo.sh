@@ -1,52 +1,30 @@
 #!/bin/sh
 # Shows the main job on the sample: a query, a plan, a session with a failure and its undo, a replay.
-#   tests/gate/demo.sh PROGRAM
-# The proved program is run where it is there and no source is newer. Else the program is compiled
-# as it stands, with nothing proved, which takes a minute or two.
+#   tests/gate/demo.sh PROGRAM UNPROVED
+# PROGRAM is run if it is the one that was proved, and no source has changed since. Else the program is
+# compiled as it stands to UNPROVED, and that one is run.
 set -eu
 cd "$(dirname "$0")/../.."
 program=$1
+unproved=$2
 cases=docs/samples/demo
 base=docs/samples/sample.txt
+# shellcheck source=../lib/kit.sh
+. tests/lib/kit.sh
+
+if is_current "$program" && tests/gate/proved.sh "$program"; then
+    said="This was the proved program, $program."
+else
+    tests/gate/unproved.sh "$unproved"
+    program=$unproved
+    said="This was $program, of which nothing is proved. \`make build\` proves the program, and builds it."
+fi
+built=$(realpath "$program")
 room=$(mktemp -d)
 trap 'rm -rf "$room"' EXIT
+cp "$base" "$room/sample.txt"
 
-newer() {
-    find crates crates.txt -name out -prune -o -type f -newer "$program" -print 2> /dev/null | head -n 1
-}
-
-# Runs every case, and leaves what it wrote in the room.
-run_proved() {
-    cp "$base" "$room/sample.txt"
-    for words in "$cases"/*.args; do
-        name=$(basename "$words" .args)
-        (
-            built=$(realpath "$program")
-            input=$(realpath "$cases/$name")
-            set --
-            while IFS= read -r word; do set -- "$@" "$word"; done < "$words"
-            cd "$room"
-            "$built" "$@" < "$input" > "$name.out"
-        )
-    done
-}
-
-run_unproved() {
-    status=0
-    (cd crates/undorc && rt try --cases "../../$cases" --data "sample.txt=../../$base") \
-        > "$room/said" 2>&1 || status=$?
-    for words in "$cases"/*.args; do
-        name=$(basename "$words" .args)
-        if ! grep -q "^case=$name run=ended status=0 " "$room/said"; then status=1; fi
-        sed -n "/^== $name\$/,/^case=$name /p" "$room/said" | sed '1d;$d' > "$room/$name.out"
-    done
-    if [ "$status" -ne 0 ]; then
-        cat "$room/said"
-        exit "$status"
-    fi
-}
-
-# show CASE TITLE: the words, the input and what was written
+# show CASE TITLE: the arguments, the input, and what the program writes
 show() {
     echo
     echo "# $2"
@@ -58,28 +36,16 @@ show() {
     else
         echo "\$ undorc ${words% }"
     fi
-    cat "$room/$1.out"
+    case=$(realpath "$cases/$1")
+    set --
+    while IFS= read -r word; do set -- "$@" "$word"; done < "$case.args"
+    (cd "$room" && "$built" "$@" < "$case")
 }
 
-if [ -x "$program" ] && [ -z "$(newer)" ]; then
-    proved=yes
-    run_proved
-elif ! command -v rt > /dev/null; then
-    echo 'rt is not on PATH. It is the command of the Rattle kit, which README.md names.' >&2
-    exit 127
-else
-    proved=no
-    echo 'Compiling the program as it stands, with nothing proved: a minute or two ..'
-    run_unproved
-fi
-echo "sample.txt is the database $base, of the directories docs/samples/source."
+echo "Running $program. sample.txt is the database $base, which \`undorc compile\` made of docs/samples/source."
 show query 'All that web needs, directly or through others.'
 show plan 'What bringing up the bundle site would do where root is up.'
 show session 'The bundle comes up; its undo fails at log; the journal keeps what is left; redo.'
 show undone 'A script of transitions: net fails on its way up, and the change is undone.'
 echo
-if [ "$proved" = yes ]; then
-    echo "This was the proved program, $program."
-else
-    echo 'Nothing of this was proved. `make build` proves the program, and builds it.'
-fi
+echo "$said"
