@@ -2,7 +2,8 @@
 # tests/bench/compile.sh [PROGRAM [ROUNDS]]: how much processor time `undorc compile` takes on 4,096 services as
 # directories, as a multiple of `ninja -n` and of `make -n` on the same graph as one file each, and the most memory
 # that each of them takes. A round runs each of the three ten times, one after another, and each time is the least of
-# ROUNDS rounds (5 without ROUNDS), since other work disturbs them. graph.sh has the graphs.
+# ROUNDS rounds (5 without ROUNDS), since other work disturbs them. Then its instructions as a multiple of those of
+# plain_compiler.rs on the same directories, which valgrind counts. graph.sh has the graphs.
 set -eu
 here=$(realpath "$(dirname "$0")")
 # shellcheck source=lib.sh
@@ -59,6 +60,17 @@ measure() {
     rm -r "$1" "$1".*
 }
 
+# counted KIND: the line of a graph, with instructions
+counted() {
+    graph ninja "$1" > "$1.ninja"
+    folders "$1.ninja" "$1"
+    ours=$(count nothing "$program" compile "$1")
+    plain=$(count nothing ./plain "$1")
+    awk -v graph="$1" -v ours="$ours" -v plain="$plain" '
+        BEGIN { printf "| %s | %.2f | %.1f | %.1f |\n", graph, ours / plain, ours / 1000000, plain / 1000000 }'
+    rm -r "$1" "$1".*
+}
+
 titles Graph 'Times `ninja -n`' 'Times `make -n`' 'Peak memory' 'Peak of ninja' 'Peak of make'
 measure none 'none needs another'
 measure next 'each needs the next'
@@ -66,3 +78,9 @@ measure before 'each needs the one before'
 measure fan 'a fan: one needs all others'
 measure layers '64 layers of 64, each service needing the whole layer below (258,048 pairs)'
 measure random 'random, some four needs each'
+echo
+rustc --edition 2024 -O -o plain "$here/plain_compiler.rs"
+titles 'Graph of 4,096' 'Instructions, times the plain program' 'Millions of instructions' 'of the plain program'
+for kind in none next before fan layers random; do
+    counted $kind
+done

@@ -8,7 +8,7 @@ cd "$(dirname "$0")/../.."
 document=docs/FIGURES.md
 room=$(mktemp -d)
 trap 'rm -rf "$room"' EXIT
-all='instructions lines reading plans compile scripts changes session live bounds gate'
+all='instructions lines reading plans compile scripts changes session live histories bounds gate'
 
 # says NAME: what the figures are
 says() {
@@ -45,10 +45,11 @@ END
 END
             ;;
         compile) cat <<'END'
-# The compiler: processor time
+# The compiler: processor time and instructions
 
 `compile` on 4,096 services as directories, compared with `ninja -n` and `make -n` on one file each.
-The compiler opens each file of a service; the others do not.
+The compiler opens each file of a service; the others do not. Instructions are compared with a plain
+Rust program that reads the same directories (`tests/bench/plain_compiler.rs`).
 END
             ;;
         scripts) cat <<'END'
@@ -76,6 +77,14 @@ END
 
 A file that is read once and written once by a session without lines. Time and bytes are multiples of
 the first row, so time is linear where both grow alike.
+END
+            ;;
+        histories) cat <<'END'
+# Histories: instructions and processor time
+
+A command on a history of 8 databases with a session each, beside the same on a live text alone, in
+millions of instructions. Each command but `live` writes FILE whole. The change moves one service; the
+update and the undo across a border move none.
 END
             ;;
         bounds) cat <<'END'

@@ -59,14 +59,15 @@ first() {
         within 1800 tests/outside/program.sh crates/undorc/out/undorc
         within 900 tests/outside/wrong.sh crates/undorc/out/undorc
         within 900 tests/outside/kills.py crates/undorc/out/undorc 200 "$seed"
-        within 300 tests/gate/pages.sh crates/undorc/out/undorc
-        within 300 tests/gate/packaging.sh crates/undorc/out/undorc
-        within 300 tests/gate/tutorial.sh crates/undorc/out/undorc
+        within 2400 tests/outside/calls.py crates/undorc/out/undorc
+        within 900 tests/gate/pages.sh crates/undorc/out/undorc
+        within 900 tests/gate/packaging.sh crates/undorc/out/undorc
+        within 900 tests/gate/tutorial.sh crates/undorc/out/undorc
     fi
     if built crates/scenarios/out/scenarios; then
         within 900 tests/outside/growths.sh crates/scenarios/out/scenarios
     fi
-    within 300 tests/gate/shells.sh
+    within 900 tests/gate/shells.sh
     within 60 tests/gate/codes.sh
 }
 
@@ -79,7 +80,10 @@ second() {
     if built crates/scenarios/out/scenarios.by-rattle; then
         within 900 tests/outside/growths.sh crates/scenarios/out/scenarios.by-rattle
     fi
-    ! built crates/undorc/out/undorc || within 600 tests/outside/fuzz.sh 30 "$seed" crates/undorc/out/undorc
+    if built crates/undorc/out/undorc; then
+        within 600 tests/outside/fuzz.sh 30 "$seed" crates/undorc/out/undorc
+        within 600 tests/outside/fuzz.sh 20 "$seed" crates/undorc/out/undorc histories
+    fi
 }
 
 # Whether each crate that has mutants is proved, as far as the proofs have come.
@@ -94,6 +98,8 @@ are_proved() {
 # costs a fifth more.
 {
     count env RT_JOBS="$(lanes)" rt ci
+    # The program that was just proved, by its sum.
+    [ "$failed" -ne 0 ] || tests/gate/proved.sh -w crates/undorc/out/undorc || true
     : > "$room/ended"
 } &
 proofs=$!
@@ -123,7 +129,7 @@ wait "$second"
 cat "$room/second"
 if [ -f crates/undorc/out/undorc ]; then
     within 600 tests/outside/supervised.sh crates/undorc/out/undorc
-    within 900 tests/outside/machine.sh crates/undorc/out/undorc
+    within 1200 tests/outside/machine.sh crates/undorc/out/undorc
 fi
 
 # What it cost: the clock, and of the processors user and system time of the last line of `times`.

@@ -1,6 +1,6 @@
 # What the documents say of the sources: each crate of crates.txt stands in the tree of docs/ARCHITECTURE.md and in the
 # tables of docs/PROOF.md, and each definition and call that docs/MODEL.md names is there, each call that
-# docs/ARCHITECTURE.md counts, and each file that any names.
+# docs/ARCHITECTURE.md counts, each call, clause and definition of docs/COMMAND.md, and each file that any names.
 # pages.sh reads this file.
 
 # The crates of the product, and those that test.
@@ -78,12 +78,12 @@ for document in README.md docs/TUTORIAL.md docs/S6RC.md contrib/machine/README.m
 done
 equals 'the scripts of samples, which can run twice'
 
-# Lengths of paragraphs, sentences, cells and documents, and what scripts make.
+# Lengths of paragraphs, sentences and cells, and what scripts make.
 if python3 "$top/tests/gate/prose.py"; then
     passed=$((passed + 1))
 else
     failed=$((failed + 1))
-    echo 'FAILED: documents are too long, or not what is made (make crates; tests/bench/figures.sh)'
+    echo 'FAILED: documents have parts that are too long, or are not what is made (make crates; tests/bench/figures.sh)'
 fi
 
 # Lines of sources and proofs have at most 100 columns.
@@ -100,11 +100,13 @@ sed -n 's/^## `rc_model`: `\(.*\)`/\1/p' words.md > found
 sed -n 's/^pub mod //p' "$top/crates/rc_model/specs/Lib.antt" > wanted
 holds 'the list of make model'
 
-# What docs/PROOF.md shows of the sources stands there.
-awk '/^```/ { inside = !inside; next } inside { sub(/^ */, ""); print }' "$top/docs/PROOF.md" > wanted
+# What docs/PROOF.md and docs/COMMAND.md show of the sources stands there.
 find "$top"/crates/*/src -name '*.rt' -exec cat {} + > sources
-cat sources "$top"/crates/*/specs/*.antt | sed 's/^ *//' > found
-holds 'the sources, of what docs/PROOF.md shows,'
+for document in PROOF COMMAND; do
+    awk '/^```/ { inside = !inside; next } inside { sub(/^ */, ""); print }' "$top/docs/$document.md" > wanted
+    cat sources "$top"/crates/*/specs/*.antt | sed 's/^ *//' > found
+    holds "the sources, of what docs/$document.md shows,"
+done
 
 # The definitions of a crate's modules, and the variants of their types, as lines `CRATE MODULE NAME`; and what calls, types
 # and clauses of the sources are named.
@@ -118,8 +120,14 @@ grep -o -E '((fn|struct|enum|trait|type|mod|ensures|ghost invariant|ghost) [A-Za
     sed -e 's/[(,]$//' -e 's/.* //' > called
 sed 's/.* //' defined >> called
 cat called crates > found
-grep -o '`[A-Za-z_:]*`' "$top/docs/ARCHITECTURE.md" | tr -d '`' | sed 's/.*:://' | grep -E '^.{4,}$' > wanted
-holds 'the sources, of the names in docs/ARCHITECTURE.md,'
+for document in ARCHITECTURE COMMAND; do
+    grep -o '`[A-Za-z_:]*`' "$top/docs/$document.md" | tr -d '`' | sed 's/.*:://' | grep -E '^.{4,}$' > wanted
+    holds "the sources, of the names in docs/$document.md,"
+done
+# The clauses of the calls in the first table of docs/COMMAND.md stand in the contracts of these calls.
+echo held > wanted
+{ "$top/tests/gate/clauses.py" && echo held; } > found
+equals 'the clauses of docs/COMMAND.md'
 # Those of docs/MODEL.md: after a module, up to the next semicolon, stand its definitions. The crate is the one that was named
 # last in the paragraph, else one of those of the heading.
 awk '
