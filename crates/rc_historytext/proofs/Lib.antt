@@ -30,3 +30,9 @@ mod Kept
 mod Changed
 -- The texts of a generation stand in the text of a history.
 mod Standings
+-- The lines of a session, as they are written.
+mod SessionLines
+-- The present generation of a history is one.
+mod Presents
+-- The marks of the present generation, once it is left or its state is a stop.
+mod Marked

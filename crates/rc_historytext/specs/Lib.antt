@@ -10,6 +10,16 @@ pub mod Offsets
 pub mod HistoryFaultWord
 -- The moves of a history, on what its text gives.
 pub mod Moves
+-- What the session of a generation says, by names.
+pub mod States
+-- The present generation of a history, and where it stands.
+pub mod Present
+-- The marks of the ends of the present generation after a command, and which ends are still there.
+pub mod Marking
+-- What a command makes of the text of a history.
+pub mod Keeping
+-- What an update makes of the text of a history, step by step.
+pub mod Updating
 -- Which history a text tells.
 pub mod Telling
 -- Which line is due where, for reading alone: that it is what the texts say is a lemma.

@@ -11,19 +11,22 @@ mod forms;
 mod keeping;
 pub mod laws;
 mod lines;
+mod marks;
 pub mod move_laws;
 mod moves;
 mod offsets;
 mod read;
-mod spans;
+mod session_text;
+mod standing;
+mod states;
+mod updating;
 mod write;
 
 pub use crate::fault::{HistoryFault, history_word};
 pub use crate::forms::{GenerationForm, HistoryForm, RenameForm};
-pub use crate::keeping::{
-    Keeping, Standing, cross_border, enter_generation, is_history, keep_session, new_history,
-    settle_state, standing_of,
-};
+pub use crate::keeping::{Keeping, keep_session};
 pub use crate::read::read_history;
-pub use crate::spans::{StateSpans, state_spans};
+pub use crate::standing::{Present, Standing, is_history, present_of, standing_of};
+pub use crate::states::states_around;
+pub use crate::updating::{cross_border, enter_generation, new_history, settle_state};
 pub use crate::write::write_history;

@@ -1,7 +1,7 @@
 //! The moves of a history, on what its text gives: crossing a border, beginning a generation,
 //! dropping some.
 ghost use Rattle.std.specs.Prelude.{◌≡◌, ◌+◌, ◌<◌, ◌≤◌, [], length, IfOk};
-ghost use Rattle.rc_historytext.specs.Text.{IsHistoryText};
+ghost use Rattle.rc_historytext.specs.Text.{IsHistoryText, IsShort};
 ghost use Rattle.rc_historytext.specs.Moves.{begun, crossed_back, crossed_on, with_room};
 ghost use Rattle.rc_historytext.specs.Moves.{with_session, without_earlier, without_later};
 ghost use Rattle.rc_historytext.specs.Moves.{without_oldest};
@@ -49,7 +49,8 @@ impl<'a> HistoryForm<'a> {
     /// Gives the present generation another session, and other marks.
     pub fn replace(&mut self, session: &'a [u8], first_passed: bool, last_passed: bool)
         requires { self.old.present < length self.old.generations }
-        ensures { self.new ≡ with_session self.old session.now first_passed last_passed }
+        ensures put { self.new ≡ with_session self.old session.now first_passed last_passed }
+        ensures text { IsHistoryText self.old → IsShort session.now → IsHistoryText self.new }
     {
         let present = self.present as usize;
         put_session(

@@ -5,7 +5,7 @@ use rc_db::Db;
 use rc_dbtext::database_of;
 use rc_historytext::{
     GenerationForm, HistoryFault, HistoryForm, RenameForm, Standing, read_history, standing_of,
-    state_spans,
+    states_around,
 };
 use rc_livetext::read_live;
 use rc_set::{NoMem, Set};
@@ -20,7 +20,7 @@ pub(crate) fn goes_on_behind(
     is_on: bool,
 ) -> Result<bool, HistoryFault> {
     match standing_of(alloc, history) {
-        Ok(standing) => Ok(standing.is_passed && standing.has_next(is_on)),
+        Ok(standing) => Ok(standing.is_passed() && standing.has_next(is_on)),
         Err(fault) => Err(fault),
     }
 }
@@ -37,7 +37,7 @@ pub(crate) fn first_unjoined(
         Err(fault) => return Err(fault),
     };
     let found = match standing_of(alloc, history) {
-        Ok(standing) => unjoined_from(alloc, &form, standing, is_on),
+        Ok(standing) => unjoined_from(alloc, &form, &standing, is_on),
         Err(fault) => Err(fault),
     };
     drop(form);
@@ -48,7 +48,7 @@ pub(crate) fn first_unjoined(
 fn unjoined_from(
     alloc: Global,
     form: &HistoryForm<'_>,
-    standing: Standing<'_>,
+    standing: &Standing<'_>,
     is_on: bool,
 ) -> Result<Option<usize>, HistoryFault> {
     let count = form.generations.len();
@@ -79,7 +79,7 @@ fn unjoined_from(
             border.saturating_sub(1)
         };
         crosses = match form.generations.get(place) {
-            Some(reached) => reached_goes_on(reached, is_on),
+            Some(reached) => reached_goes_on(alloc, reached, is_on)?,
             None => false,
         };
     }
@@ -88,15 +88,18 @@ fn unjoined_from(
 
 // Whether an undo or a redo that has crossed into a generation crosses the border behind it, too:
 // the state that it reaches is passed, and is its only one or leads to one that is passed.
-fn reached_goes_on(reached: &GenerationForm<'_>, is_on: bool) -> bool {
-    let spans = state_spans(reached.session);
-    let states = spans.before.saturating_add(spans.after);
+fn reached_goes_on(
+    alloc: Global,
+    reached: &GenerationForm<'_>,
+    is_on: bool,
+) -> Result<bool, HistoryFault> {
+    let (before, after) = states_around(alloc, reached.session)?;
     let (near, far) = if is_on {
         (reached.first_passed, reached.last_passed)
     } else {
         (reached.last_passed, reached.first_passed)
     };
-    near && far && states <= 1
+    Ok(near && far && before.saturating_add(after) <= 1)
 }
 
 // Whether what is live at the end of a generation is what is live at the beginning of the next.

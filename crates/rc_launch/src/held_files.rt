@@ -114,7 +114,7 @@ fn copies(alloc: Global, read: &ReadFiles<'_>) -> Result<(Vec<u8>, Vec<u8>), All
 fn keeping_of(alloc: Global, read: &ReadFiles<'_>, is_first_step: bool) -> Keeping {
     let is_passed = match read.history() {
         Some(history) => match standing_of(alloc, history) {
-            Ok(standing) => standing.is_passed,
+            Ok(standing) => standing.is_passed(),
             Err(_) => false,
         },
         None => false,

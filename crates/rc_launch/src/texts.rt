@@ -6,7 +6,7 @@ ghost use Rattle.rc_launch.specs.Logs.{IsCutBy, text_in};
 
 use crate::fault::OpenFault;
 use crate::fronts::is_of;
-use rc_historytext::{HistoryFault, is_history, standing_of};
+use rc_historytext::{HistoryFault, is_history, present_of};
 use rc_streams::{run_file, whole_file};
 use std::alloc::Global;
 use std::io;
@@ -166,14 +166,14 @@ fn split(alloc: Global, text: Vec<u8>) -> Result<(Vec<u8>, FoundHistory), Histor
 
 // Copies of the session and the database of the present generation.
 fn copies(alloc: Global, text: &[u8]) -> Result<(Vec<u8>, Vec<u8>), HistoryFault> {
-    let standing = match standing_of(alloc, text) {
-        Ok(standing) => standing,
+    let present = match present_of(alloc, text) {
+        Ok(present) => present,
         Err(fault) => return Err(fault),
     };
-    let Ok(session) = Vec::from_slice(alloc, standing.session) else {
+    let Ok(session) = Vec::from_slice(alloc, present.session) else {
         return Err(HistoryFault::Memory);
     };
-    match Vec::from_slice(alloc, standing.database) {
+    match Vec::from_slice(alloc, present.database) {
         Ok(database) => Ok((session, database)),
         Err(_) => {
             drop(session);

@@ -8,7 +8,7 @@ use crate::opened::Opened;
 use crate::serving::{Status, serve, serve_on, serve_update, status_of};
 use rc_args::{Once, SessionCommand, UpdateRequest};
 use rc_cli::sessions::{Devices, LiveFile, Service};
-use rc_historytext::{HistoryFault, Keeping, cross_border, standing_of};
+use rc_historytext::{HistoryFault, Keeping, cross_border, present_of, standing_of};
 use rc_script::SessionLine;
 use rc_serve::KeepFault;
 use rc_session::Command;
@@ -198,7 +198,7 @@ fn show<'x, T: Threads + Wait + Sync, R: Read, W: Write, F: Write>(
             code = fail_on(b"Memory", devices);
             break;
         };
-        if !standing.is_passed {
+        if !standing.is_passed() {
             break;
         }
     }
@@ -341,14 +341,11 @@ fn texts_in<R, W, F>(
 
 // The texts of the present generation of a history.
 fn texts_of(alloc: Global, history: &[u8]) -> Result<Texts, HistoryFault> {
-    let standing = match standing_of(alloc, history) {
-        Ok(standing) => standing,
-        Err(fault) => return Err(fault),
-    };
-    let Ok(database) = Vec::from_slice(alloc, standing.database) else {
+    let present = present_of(alloc, history)?;
+    let Ok(database) = Vec::from_slice(alloc, present.database) else {
         return Err(HistoryFault::Memory);
     };
-    match Vec::from_slice(alloc, standing.session) {
+    match Vec::from_slice(alloc, present.session) {
         Ok(session) => Ok(Texts { database, session }),
         Err(_) => {
             drop(database);

@@ -1,0 +1,49 @@
+use Rattle.std.proofs.Common.{◌≡◌, ◌∙◌, ◌<◌, Some, ap, length, refl, slice_get, subst, sym}
+use Rattle.std.proofs.lemmas.Option.{slice_get_read}
+use Rattle.rc_historytext.specs.Text.{GenerationText, HistoryText, IsHistoryText, IsShort}
+use Rattle.rc_historytext.specs.Text.{history_text}
+use Rattle.rc_historytext.specs.States.{IsSession}
+use Rattle.rc_historytext.specs.Present.{IsAt}
+use Rattle.rc_historytext.specs.Updating.{settled}
+use Rattle.rc_historytext.proofs.Marked.{session_short, settled_marked}
+use Rattle.rc_historytext.proofs.updating.settle_state.Goals as goal
+
+pub returns : goal.returns
+returns c =
+    let inside : GenerationText = record {
+      first_passed = c.generation.inside.first_passed;
+      last_passed = c.generation.inside.last_passed;
+      database = c.generation.inside.database.now;
+      session = c.generation.inside.session.now;
+      renames = c.generation.inside.renames.items;
+    } in
+    let form = c.in_ok-form.form in
+    let read = c.in_ok-form.ensures.ok in
+    let g = c.index-generation.result.now in
+    let around = c.in-Ok.ensures in
+    let low : c.form.inside.present < length c.form.inside.generations.items =
+    subst (λ (t : HistoryText). t.present < length t.generations) (sym c.form.view_is)
+    read.0.present in
+    let at : IsAt c.args.history.now form g = record {
+      is = read.0;
+      spelled = read.1;
+      there =
+          subst (λ (t : HistoryText). slice_get t.generations t.present ≡ Some g) c.form.view_is
+          (slice_get_read c.form.inside.generations.items _ c.form.inside.present g refl low
+          c.index-generation.ensures);
+    } in
+    let same : c.replace.new.self ≡ settled form g around.0 =
+    settled_marked form inside g around.0 c.in-Ok.around.0 c.in-Ok.around.1 c.stays.result
+    c.stays-2.result c.replace.new.self c.generation.view_is around.2 around.3 c.stays.ensures
+    c.stays-2.ensures c.replace.ensures.put in (
+      form,
+      g,
+      around.0,
+      at,
+      subst (λ (x : GenerationText). IsSession x.session around.0) c.generation.view_is around.1,
+      subst IsHistoryText same
+          (c.replace.ensures.text read.0
+          (subst (λ (x : GenerationText). IsShort x.session) (sym c.generation.view_is)
+          (session_short c.args.history.now form g at))),
+      c.in_ok-text.ensures ∙ ap history_text same,
+    )
