@@ -6,6 +6,8 @@ set -eu
 here=$(realpath "$(dirname "$0")")
 program=$(realpath "$1")
 . "$here/../lib/library.sh"
+# Where a make runs this script, the makes below would tell their folders.
+unset MAKEFLAGS MAKELEVEL MFLAGS MAKEOVERRIDES
 
 # told WHAT: the files `out` and `out.wanted` agree, and nothing went wrong.
 told() {
@@ -122,7 +124,7 @@ told 'the settings name the program by its full path'
 cp -R copied removed
 echo mine > removed/usr/share/undorc/machine/mine
 removes() {
-    DESTDIR=$room/removed PREFIX=/usr MAKEFLAGS='' make -s -C "$top" uninstall
+    DESTDIR=$room/removed PREFIX=/usr make -s -C "$top" uninstall
 }
 installs removes > out
 (cd removed && find . -type f) >> out
@@ -139,7 +141,7 @@ told 'a second make uninstall says that nothing is installed'
 # of `bin`.
 mkdir bin
 makes() {
-    PATH=$room/bin:/usr/bin:/bin MAKEFLAGS='' timeout 120 make -s -C "$top" "PROGRAM=$room/$2/undorc" \
+    PATH=$room/bin:/usr/bin:/bin timeout 120 make -s -C "$top" "PROGRAM=$room/$2/undorc" \
         "UNPROVED=$room/$2/unproved" "$1"
 }
 # ends_with TEXT TARGET: what make says of a machine on which something is missing, at once
@@ -250,8 +252,8 @@ told 'an archive of another program has no file PROVED'
 : > out
 (
     cd "$unpacked"
-    PATH=/usr/bin:/bin MAKEFLAGS='' make DESTDIR="$room/plain" PREFIX=/usr | sed 's/ .*//'
-    PATH=/usr/bin:/bin MAKEFLAGS='' make check DESTDIR="$room/plain" PREFIX=/usr | tail -n 1
+    PATH=/usr/bin:/bin make DESTDIR="$room/plain" PREFIX=/usr | sed 's/ .*//'
+    PATH=/usr/bin:/bin make check DESTDIR="$room/plain" PREFIX=/usr | tail -n 1
     find "$room/plain" 2> /dev/null || true
 ) > out
 passes=$("$to/share/undorc/check" | tail -n 1)
@@ -259,13 +261,13 @@ printf '%s\n' make make make "$passes" > out.wanted
 told 'make alone, and make check, in an archive'
 (
     cd "$unpacked"
-    PATH=/usr/bin:/bin MAKEFLAGS='' installs make install DESTDIR="$room/from" PREFIX=/usr
+    PATH=/usr/bin:/bin installs make install DESTDIR="$room/from" PREFIX=/usr
 ) > out
 tree copied > out.wanted
 tree from >> out
 told 'what an archive installs'
 echo more >> "$unpacked/man/undorc.1"
-if (cd "$unpacked" && MAKEFLAGS='' make install DESTDIR="$room/other" PREFIX=/usr) > said 2>&1; then
+if (cd "$unpacked" && make install DESTDIR="$room/other" PREFIX=/usr) > said 2>&1; then
     echo 'it is installed' > out
 else
     find other > out 2> /dev/null || true
@@ -352,7 +354,7 @@ scans() {
 PREFIX=$machine/usr DESTDIR='' installs sh "$top/packaging/install.sh" "$program" > out
 mkdir -p "$machine/etc/undorc/services/web" "$machine/etc/undorc/services/default"
 echo longrun > "$machine/etc/undorc/services/web/type"
-printf '#!/bin/sh\nenv | grep -c UNDORC_ > "%s/settings"\nexec sleep 1000\n' "$machine" > "$machine/etc/undorc/services/web/run"
+printf '#!/bin/sh\nenv | grep UNDORC_ | grep -c -v NO_SKIPS > "%s/settings"\nexec sleep 1000\n' "$machine" > "$machine/etc/undorc/services/web/run"
 chmod +x "$machine/etc/undorc/services/web/run"
 echo bundle > "$machine/etc/undorc/services/default/type"
 echo web > "$machine/etc/undorc/services/default/contents"
